@@ -1,1 +1,2 @@
 mod Order
+pub mod Sinks

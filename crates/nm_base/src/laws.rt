@@ -2,13 +2,15 @@
 
 ghost use Rattle.std.specs.Prelude.{◌≡◌, ℕ};
 ghost use Rattle.std.specs.Ordering.{nat_cmp};
+ghost use Rattle.std.specs.Cmp.{IsTotalOrder};
 ghost use Rattle.std.specs.Cmp.Lexicographic.{slice_cmp};
 ghost use Rattle.nm_base.specs.declared.key.Key.{Key};
 ghost use Rattle.nm_base.specs.Key.{key_cmp, key_numbers, IsPlaceOf};
 
-/// In a network of so many interfaces, keys are in the lexicographic order of (time, place, number), where arrivals at
+/// Keys are in a total order: in a network of so many interfaces the lexicographic order of (time, place, number), where arrivals at
 /// interface i stand at place 2i, completions of interface i at 2i + 1, and source j at 2 * ifaces + j.
 pub fn key_order()
-    ensures { (ifaces : ℕ) (a b : Key) → IsPlaceOf ifaces a.place → IsPlaceOf ifaces b.place
+    ensures total { IsTotalOrder key_cmp }
+    ensures lexicographic { (ifaces : ℕ) (a b : Key) → IsPlaceOf ifaces a.place → IsPlaceOf ifaces b.place
         → key_cmp a b ≡ slice_cmp nat_cmp (key_numbers ifaces a) (key_numbers ifaces b) }
 {}

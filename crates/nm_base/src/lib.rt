@@ -2,17 +2,24 @@
 #![tactic(auto)]
 
 pub mod event;
+pub mod failures;
 pub mod key;
 pub mod laws;
 pub mod limits;
+pub mod mem_sink;
 pub mod number;
 pub mod packet;
 pub mod record;
+pub mod sink;
+pub mod std_sink;
 pub mod time;
 
 pub use event::{Event, Origin};
 pub use key::{Key, Place};
+pub use mem_sink::MemSink;
 pub use number::{ChanNo, IfaceNo, NodeNo, PartNo, SourceNo};
 pub use packet::{Packet, Twin};
 pub use record::{Dir, Record};
+pub use sink::{Sink, SinkFault};
+pub use std_sink::StdSink;
 pub use time::Time;

@@ -1,0 +1,28 @@
+# make        proves and builds bin/nullsim
+# make run    builds it and runs it on examples/duo.toml
+# make test   proves everything from nothing and runs every test; its last line is 'N passed, M failed'
+
+.PHONY: all run test clean toolchain
+
+all: bin/nullsim
+
+toolchain:
+	@command -v rt >/dev/null 2>&1 || { echo "nullsim: the Rattle toolchain is missing: put its command rt on PATH" >&2; exit 1; }
+
+# `rt run` proves, links and runs the program; without words the program only says how it is used.
+bin/nullsim: toolchain
+	@mkdir -p bin crates/nullsim/out
+	@rm -f crates/nullsim/out/nullsim
+	@cd crates/nullsim && rt run </dev/null >out/build.log 2>&1; test -x out/nullsim || { tail -n 20 out/build.log >&2; exit 1; }
+	@cp crates/nullsim/out/nullsim bin/nullsim
+
+.PHONY: bin/nullsim
+
+run: bin/nullsim
+	@bin/nullsim onehex examples/duo.toml || echo "nullsim ended with status $$?"
+
+test: toolchain
+	@rt ci
+
+clean:
+	@rm -rf bin crates/*/out

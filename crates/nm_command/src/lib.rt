@@ -1,0 +1,8 @@
+//! The command line of nullsim: its words, its statuses and its fault lines.
+#![tactic(auto)]
+
+pub mod command;
+pub mod status;
+
+pub use command::{refuse, run};
+pub use status::Status;

@@ -1,0 +1,5 @@
+//! Tests of `nm_command`.
+#![tactic(auto)]
+
+#[cfg(test)]
+mod statuses;
