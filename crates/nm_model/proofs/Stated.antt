@@ -1,0 +1,60 @@
+-- The laws as the functions state them.
+use Rattle.std.proofs.Common.{◌≡◌, ℕ, ◌≤◌, true, List, [], length, Some, sym, ◌∙◌, arith, true≢false, ⊎_elim}
+use Rattle.std.proofs.lemmas.Bool.{cases_lt}
+use Rattle.nm_base.specs.declared.key.Place.TheVariants.{Arrive, Fire}
+use Rattle.nm_base.specs.declared.key.Key.{Key}
+use Rattle.nm_model.specs.EventList.{least}
+use Rattle.nm_model.specs.Replica.{inbox_events, from_scratch, safe_time, IsWithin, Agrees}
+use Rattle.nm_model.specs.Knowledge.{Know}
+use Rattle.nm_model.specs.Partition.{in_part}
+use Rattle.nm_model.specs.Promise.{Promising, promise}
+use Rattle.nm_model.specs.Lists.{nth, IsPrefix, IsRising}
+use Rattle.nm_model.specs.Network.{Net, IsNet}
+use Rattle.nm_model.specs.Before.{events_at, IsBefore, IsCount, IsKnowledge, history, trace}
+use Rattle.nm_model.specs.Run.{one_list, start}
+use Rattle.nm_model.proofs.Invariants.{arrival_number}
+use Rattle.nm_model.proofs.Runs.{sourced_start, good_run}
+use Rattle.nm_model.proofs.Begin.{inbox_at}
+use Rattle.nm_model.proofs.Ends.{drains}
+use Rattle.nm_model.proofs.CutLaw.{cut_of, meets, trace_prefix, trace_exact, out_prefix}
+use Rattle.nm_model.proofs.Promises.{out_later}
+use Rattle.nm_base.specs.declared.event.Event.{Event}
+
+module _ {P N : Type 0} (net : Net P N) (ok : IsNet net) where
+  pub before : (t : ℕ) → (n : ℕ) × IsBefore net t n
+  before t = drains net ok (λ q. true) (start net (λ q. true) []) (sourced_start net (λ q. true) [] (λ q j x pl a. a)) t
+
+  pub times : (n c : ℕ) → IsRising ((one_list net n).sent c)
+  times n c = (good_run net ok n).1.rising c
+
+  pub numbers : (n c : ℕ) (e : Key × Event P) → least (one_list net n).pending ≡ Some e → e.0.place ≡ Arrive c → e.0.number ≡ (one_list net n).arrived c
+  numbers n c e m pl = let g = good_run net ok n in (arrival_number net ok (one_list net n) g.0 g.1 e.0 e.1 m c pl).2
+
+  module _ (p : ℕ) (K : List (Know P)) where
+    pub count : (k : ℕ) × IsCount net p K k
+    count = drains net ok (in_part net p) (start net (in_part net p) (inbox_events net p 0 K)) (sourced_start net (in_part net p) (inbox_events net p 0 K) (λ q j x pl a. let r = (inbox_at net p K q x a).1 in let e : Fire j ≡ Arrive _ = sym pl ∙ r in cc)) (safe_time net p K)
+
+    pub within : (j k : ℕ) → IsCount net p K k → j ≤ k → IsWithin net p K j
+    within j k c le m lt = c.first m (omega arith)
+
+    pub within_only : (j k : ℕ) → IsCount net p K k → IsWithin net p K j → j ≤ k
+    within_only j k c w = ⊎_elim (λ lt. absurd (true≢false (sym (w k lt) ∙ c.over))) (λ le. le) (cases_lt k j)
+
+    module _ (valid : IsKnowledge net p K) where
+      pub agrees : (k n : ℕ) → IsWithin net p K k → events_at net (in_part net p) n ≡ k → Agrees net p (one_list net n) (from_scratch net p K k)
+      agrees k n w e = let l = before net.stop in (cut_of net ok p K l.0 l.1.over (valid l.0 l.1) n k w e).agrees
+
+      pub reached : (k last : ℕ) → IsWithin net p K k → IsBefore net net.stop last → (n : ℕ) × (n ≤ last) × (events_at net (in_part net p) n ≡ k)
+      reached k last w b = meets net ok p K last b.over (valid last b) k w
+
+      pub prefix : (k last : ℕ) → IsWithin net p K k → IsBefore net net.stop last → IsPrefix (from_scratch net p K k).records (trace net p last)
+      prefix k last w b = trace_prefix net ok p K last b.over (valid last b) k w
+
+      pub exact : (k n : ℕ) → IsCount net p K k → IsBefore net (safe_time net p K) n → (from_scratch net p K k).records ≡ trace net p n
+      exact k n c b = let l = before net.stop in trace_exact net ok p K l.0 l.1.over (valid l.0 l.1) k n c.first c.over b.over b.first
+
+      pub out_begins : (k last c : ℕ) → IsWithin net p K k → IsBefore net net.stop last → in_part net p (Arrive (net.peer c)) ≡ true → IsPrefix ((from_scratch net p K k).sent c) (history net last c)
+      out_begins k last c w b mc = out_prefix net ok p K last b.over (valid last b) k c w mc
+
+      pub out_goes_on : (k last c : ℕ) → IsWithin net p K k → IsBefore net net.stop last → in_part net p (Arrive (net.peer c)) ≡ true → (i : ℕ) (b : ℕ × P) → length ((from_scratch net p K k).sent c) ≤ i → nth (history net last c) i ≡ Some b → (kind : Promising) → promise net kind p K k c ≤ b.0
+      out_goes_on k last c w d mc i b le e kind = out_later net ok p K last d.over (valid last d) k c w mc i b le e kind

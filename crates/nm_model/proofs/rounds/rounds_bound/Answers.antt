@@ -1,0 +1,11 @@
+use Rattle.nm_model.proofs.RoundLemmas.{rounds_there, enough, finished, whole_traces}
+use Rattle.nm_model.proofs.rounds.rounds_bound.Goals as goal
+
+pub returns-clause-there : goal.returns-clause-there
+returns-clause-there g c = λ net ok same kind. rounds_there net ok same kind
+
+pub returns-clause-done : goal.returns-clause-done
+returns-clause-done g c = λ net ok same eq kind b rounds lead leads j p last le e. (enough net ok same eq last e kind b rounds lead leads j p le, finished net ok same eq last e kind b rounds lead leads j p le)
+
+pub returns-clause-traces : goal.returns-clause-traces
+returns-clause-traces g c = λ net ok same eq kind b rounds lead leads j p last le e. whole_traces net ok same eq kind b rounds lead leads j p last le e

@@ -1,0 +1,48 @@
+-- How two replicas' knowledge of one channel is joined, and when it cannot be.
+use Rattle.std.specs.Prelude.{ℕ, suc, max, Bool, cond, ltb, leb, length, List, [], ◌∷◌, Option, Some, None}
+use Rattle.nm_model.specs.Lists.{nth}
+use Rattle.nm_model.specs.Knowledge.{Know}
+use Rattle.nm_model.specs.Accept.{Answer, Differs, Late, same_message}
+
+-- the longer list and the greater clock
+abbrev pub join : {P : Type 0} → Know P → Know P → Know P
+join a b = record { list = cond (leb (length a.list) (length b.list)) b.list a.list; clock = max a.clock b.clock }
+
+abbrev pub join_all : {P : Type 0} → List (Know P) → List (Know P) → List (Know P)
+join_all [] J = J
+join_all (a ∷ K) [] = a ∷ K
+join_all (a ∷ K) (b ∷ J) = join a b ∷ join_all K J
+
+-- the first number at which both have a message and these differ, counted from n
+abbrev pub first_differs : {P : Type 0} → (P → P → Bool) → ℕ → List (ℕ × P) → List (ℕ × P) → Option ℕ
+first_differs same n [] l = None
+first_differs same n (x ∷ k) [] = None
+first_differs same n (x ∷ k) (y ∷ l) = cond (same_message same x y) (first_differs same (suc n) k l) (Some n)
+
+abbrev pub or_else : {A : Type 0} → Option A → Option A → Option A
+or_else None p = p
+or_else (Some x) p = Some x
+
+abbrev pub differs_at : Option ℕ → Option Answer
+differs_at None = None
+differs_at (Some n) = Some (Differs n)
+
+abbrev pub late_past : {P : Type 0} → ℕ → Option (ℕ × P) → Option Answer
+late_past t None = None
+late_past t (Some m) = cond (ltb m.0 t) (Some (Late t)) None
+
+-- why two can't be joined: messages of one number differ, or the first that one has past the other's end is before the other's clock
+abbrev pub join_fault : {P : Type 0} → (P → P → Bool) → Know P → Know P → Option Answer
+join_fault same a b =
+    or_else (differs_at (first_differs same 0 a.list b.list))
+    (or_else (late_past a.clock (nth b.list (length a.list))) (late_past b.clock (nth a.list (length b.list))))
+
+abbrev pub at_channel : ℕ → Option Answer → Option (ℕ × Answer)
+at_channel c None = None
+at_channel c (Some f) = Some (c, f)
+
+-- the first fault of the channels, counted from c, with its channel
+abbrev pub join_faults : {P : Type 0} → (P → P → Bool) → ℕ → List (Know P) → List (Know P) → Option (ℕ × Answer)
+join_faults same c [] J = None
+join_faults same c (a ∷ K) [] = None
+join_faults same c (a ∷ K) (b ∷ J) = or_else (at_channel c (join_fault same a b)) (join_faults same (suc c) K J)

@@ -1,0 +1,16 @@
+pub mod Lists
+pub mod EventList
+pub mod Port
+pub mod Network
+pub mod Run
+pub mod Knowledge
+pub mod Accept
+pub mod Join
+pub mod Partition
+pub mod Replica
+pub mod Promise
+pub mod Before
+pub mod Trace
+pub mod World
+pub mod Rounds
+pub mod Certificate
