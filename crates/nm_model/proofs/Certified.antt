@@ -29,7 +29,7 @@ use Rattle.nm_model.proofs.CutLaw.{quiet, least_busy}
 use Rattle.nm_base.specs.declared.event.Event.{Event}
 
 module _ {P N : Type 0} (net : Net P N) (ok : IsNet net) (p : ℕ) (K : List (Know P)) where
-  from_sourced : (k : ℕ) → Sourced net (from_scratch net p K k)
+  pub from_sourced : (k : ℕ) → Sourced net (from_scratch net p K k)
   from_sourced k = sourced_run net ok (in_part net p) k _ (sourced_start net (in_part net p) (inbox_events net p 0 K) (λ q j x pl a. let r = (inbox_at net p K q x a).1 in let e : Fire j ≡ Arrive _ = sym pl ∙ r in cc))
 
   pub from_since : (j k t : ℕ) → j ≤ k → ((q : Key) (y : Event P) → get (from_scratch net p K j).pending q ≡ Some y → t ≤ q.time) → Since net (from_scratch net p K j) t (from_scratch net p K k)

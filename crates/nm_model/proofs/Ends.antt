@@ -11,7 +11,8 @@ use Rattle.nm_base.specs.Key.{key_cmp, key_cmp_total}
 use Rattle.nm_model.specs.EventList.{least, schedule}
 use Rattle.nm_model.specs.Network.{Net, IsNet}
 use Rattle.nm_model.specs.Before.{Drains}
-use Rattle.nm_model.specs.Run.{State, Effect, effect, apply, new_events, start_events, next_events, step_at, run, start, source_events, pends_before}
+use Rattle.nm_model.specs.Lists.{nth}
+use Rattle.nm_model.specs.Run.{State, Effect, effect, apply, new_events, start_events, next_events, made, step_at, run, start, source_events, pends_before}
 use Rattle.nm_model.proofs.Keys.{get_empty, key_decides, same_events, insert_same, insert_other, remove_same, remove_other, least_has}
 use Rattle.nm_model.proofs.Scheduling.{IsAmong, put_from}
 use Rattle.nm_model.proofs.NewEvents.{IsNew, Ends, Comes, GoesOn, fire_inj, made_among, pending_case}
@@ -162,3 +163,20 @@ module _ {P N : Type 0} (net : Net P N) where
       (λ ge. omega arith)
       (cases_lt n m))
       (cases_lt m n)
+
+-- an event makes at most three, and each is strictly later
+module _ {P N : Type 0} (net : Net P N) where
+  pub made_few : (s : State P N) (e : Key × Event P) → length (made net s e) ≤ 3
+  made_few s e =
+      let does = effect net s.node s.port e.0.time e.0.place e.0.number e.1 in
+      let a = few_start net e.0.time s.sent does.start in
+      let b = few_next e.0.place e.0.number does.follows in
+      let c = length-append (start_events net e.0.time s.sent does.start) (next_events e.0.place e.0.number does.follows) in omega arith
+
+  nth_among : (es : List (Key × Event P)) (m : ℕ) (f : Key × Event P) → nth es m ≡ Some f → IsAmong f.0 f.1 es
+  nth_among [] m f e = absurd (cc)
+  nth_among (x ∷ es) zero f e = let g : x ≡ f = cc in inl (ap (λ z. z.0) (sym g), ap (λ z. z.1) (sym g))
+  nth_among (x ∷ es) (suc m) f e = inr (nth_among es m f e)
+
+  pub made_after : IsNet net → (here : Place → Bool) (s : State P N) → Sourced net s → (e : Key × Event P) → least s.pending ≡ Some e → (m : ℕ) (f : Key × Event P) → nth (made net s e) m ≡ Some f → e.0.time < f.0.time
+  made_after ok here s h e l m f a = makes_later net ok here s h e (least_has s.pending e l) f.0 f.1 (made_among net e.0 s.sent (effect net s.node s.port e.0.time e.0.place e.0.number e.1) f.0 f.1 (nth_among _ m f a))

@@ -18,3 +18,5 @@ mod Promises
 mod Stated
 mod RoundLemmas
 mod Worlds
+mod Traces
+mod Numbers

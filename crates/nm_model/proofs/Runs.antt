@@ -31,7 +31,7 @@ module _ {P N : Type 0} (net : Net P N) where
       (λ b. source_among j q y b)
       (among-append q y (first_event j (net.source j 0)) (source_events net j) a)
 
-  start_pending : (q : Key) (y : Event P) → get (start net (λ p. true) []).pending q ≡ Some y → (i : ℕ) × (q.place ≡ Fire i) × (q.number ≡ 0) × (z : P) × (y ≡ Delivery z) × (net.source i 0 ≡ Some (q.time, z))
+  pub start_pending : (q : Key) (y : Event P) → get (start net (λ p. true) []).pending q ≡ Some y → (i : ℕ) × (q.place ≡ Fire i) × (q.number ≡ 0) × (z : P) × (y ≡ Delivery z) × (net.source i 0 ≡ Some (q.time, z))
   start_pending q y e = ⊎_elim
       (λ a. source_among net.sources q y a)
       (λ f. let none = get_empty {X = Event P} q in absurd (cc))

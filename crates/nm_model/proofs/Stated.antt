@@ -1,5 +1,5 @@
 -- The laws as the functions state them.
-use Rattle.std.proofs.Common.{◌≡◌, ℕ, ◌≤◌, true, List, [], length, Some, sym, ◌∙◌, arith, true≢false, ⊎_elim}
+use Rattle.std.proofs.Common.{◌≡◌, ℕ, ◌<◌, ◌≤◌, true, List, [], length, Some, sym, ◌∙◌, arith, true≢false, ⊎_elim}
 use Rattle.std.proofs.lemmas.Bool.{cases_lt}
 use Rattle.nm_base.specs.declared.key.Place.TheVariants.{Arrive, Fire}
 use Rattle.nm_base.specs.declared.key.Key.{Key}
@@ -11,11 +11,14 @@ use Rattle.nm_model.specs.Promise.{Promising, promise}
 use Rattle.nm_model.specs.Lists.{nth, IsPrefix, IsRising}
 use Rattle.nm_model.specs.Network.{Net, IsNet}
 use Rattle.nm_model.specs.Before.{events_at, IsBefore, IsCount, IsKnowledge, history, trace}
-use Rattle.nm_model.specs.Run.{one_list, start}
+use Rattle.nm_model.specs.Run.{one_list, start, made}
 use Rattle.nm_model.proofs.Invariants.{arrival_number}
-use Rattle.nm_model.proofs.Runs.{sourced_start, good_run}
+use Rattle.nm_model.proofs.Runs.{sourced_start, sourced_one, good_run}
+use Rattle.nm_model.proofs.Certified.{from_sourced}
+use Rattle.nm_model.proofs.Traces.{ordered_run}
+use Rattle.nm_base.specs.declared.record.Record.{Record}
 use Rattle.nm_model.proofs.Begin.{inbox_at}
-use Rattle.nm_model.proofs.Ends.{drains}
+use Rattle.nm_model.proofs.Ends.{drains, made_after}
 use Rattle.nm_model.proofs.CutLaw.{cut_of, meets, trace_prefix, trace_exact, out_prefix}
 use Rattle.nm_model.proofs.Promises.{out_later}
 use Rattle.nm_base.specs.declared.event.Event.{Event}
@@ -30,7 +33,19 @@ module _ {P N : Type 0} (net : Net P N) (ok : IsNet net) where
   pub numbers : (n c : ℕ) (e : Key × Event P) → least (one_list net n).pending ≡ Some e → e.0.place ≡ Arrive c → e.0.number ≡ (one_list net n).arrived c
   numbers n c e m pl = let g = good_run net ok n in (arrival_number net ok (one_list net n) g.0 g.1 e.0 e.1 m c pl).2
 
+  pub makes_later : (n : ℕ) (e : Key × Event P) → least (one_list net n).pending ≡ Some e → (m : ℕ) (f : Key × Event P) → nth (made net (one_list net n) e) m ≡ Some f → e.0.time < f.0.time
+  makes_later n e l m f a = made_after net ok (λ q. true) (one_list net n) (sourced_one net ok n) e l m f a
+
+  pub in_order : (n m k : ℕ) (a b : Record P) → m ≤ k → nth (one_list net n).records m ≡ Some a → nth (one_list net n).records k ≡ Some b → a.time ≤ b.time
+  in_order n m k a b le e f = (ordered_run net ok (λ q. true) n [] (sourced_start net (λ q. true) [] (λ q j x pl i. i))).order m k a b le e f
+
   module _ (p : ℕ) (K : List (Know P)) where
+    pub makes_later_there : (k : ℕ) (e : Key × Event P) → least (from_scratch net p K k).pending ≡ Some e → (m : ℕ) (f : Key × Event P) → nth (made net (from_scratch net p K k) e) m ≡ Some f → e.0.time < f.0.time
+    makes_later_there k e l m f a = made_after net ok (in_part net p) (from_scratch net p K k) (from_sourced net ok p K k) e l m f a
+
+    pub in_order_there : (k m n : ℕ) (a b : Record P) → m ≤ n → nth (from_scratch net p K k).records m ≡ Some a → nth (from_scratch net p K k).records n ≡ Some b → a.time ≤ b.time
+    in_order_there k m n a b le e f = (ordered_run net ok (in_part net p) k (inbox_events net p 0 K) (from_sourced net ok p K 0)).order m n a b le e f
+
     pub count : (k : ℕ) × IsCount net p K k
     count = drains net ok (in_part net p) (start net (in_part net p) (inbox_events net p 0 K)) (sourced_start net (in_part net p) (inbox_events net p 0 K) (λ q j x pl a. let r = (inbox_at net p K q x a).1 in let e : Fire j ≡ Arrive _ = sym pl ∙ r in cc)) (safe_time net p K)
 

@@ -1,6 +1,7 @@
 -- The network before a time, its traces and histories, and what a partition can know and do.
-use Rattle.std.specs.Prelude.{◌≡◌, ℕ, zero, suc, ◌<◌, Bool, true, false, cond, List, [], Option, Some, None}
+use Rattle.std.specs.Prelude.{◌≡◌, ℕ, zero, suc, ◌<◌, Bool, true, false, cond, ◌==◌, List, [], Option, Some, None}
 use Rattle.nm_base.specs.declared.key.Place.{Place}
+use Rattle.nm_base.specs.declared.key.Place.TheVariants.{Arrive, Complete, Fire}
 use Rattle.nm_base.specs.declared.key.Key.{Key}
 use Rattle.nm_base.specs.declared.event.Event.{Event}
 use Rattle.nm_base.specs.declared.record.Record.{Record}
@@ -20,6 +21,17 @@ pub record Drains {P N : Type 0} (net : Net P N) (here : Place → Bool) (s : St
 abbrev pub is_at : {P : Type 0} → (Place → Bool) → Option (Key × Event P) → Bool
 is_at here None = false
 is_at here (Some e) = here e.0.place
+
+abbrev pub same_place : Place → Place → Bool
+same_place (Arrive i) (Arrive j) = i == j
+same_place (Arrive i) (Complete j) = false
+same_place (Arrive i) (Fire j) = false
+same_place (Complete i) (Arrive j) = false
+same_place (Complete i) (Complete j) = i == j
+same_place (Complete i) (Fire j) = false
+same_place (Fire i) (Arrive j) = false
+same_place (Fire i) (Complete j) = false
+same_place (Fire i) (Fire j) = i == j
 
 module _ {P N : Type 0} (net : Net P N) where
   -- the whole network before t is one_list after n events

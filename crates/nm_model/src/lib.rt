@@ -11,4 +11,5 @@ pub mod promise;
 pub mod replica;
 pub mod rounds;
 pub mod run;
+pub mod trace;
 pub mod world;

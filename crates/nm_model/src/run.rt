@@ -5,13 +5,13 @@ ghost use Rattle.std.specs.FinMap.{get};
 ghost use Rattle.nm_base.specs.declared.key.Key.{Key};
 ghost use Rattle.nm_base.specs.declared.key.Place.TheVariants.{Arrive};
 ghost use Rattle.nm_base.specs.declared.event.Event.{Event};
-ghost use Rattle.nm_model.specs.Lists.{IsRising};
+ghost use Rattle.nm_model.specs.Lists.{nth, IsRising};
 ghost use Rattle.nm_model.specs.EventList.{least, IsUpTo};
 ghost use Rattle.nm_model.specs.Network.{Net, IsNet};
-ghost use Rattle.nm_model.specs.Run.{one_list};
+ghost use Rattle.nm_model.specs.Run.{State, one_list, made};
 ghost use Rattle.nm_model.specs.Knowledge.{Know};
-ghost use Rattle.nm_model.specs.Replica.{IsWithin};
-ghost use Rattle.nm_model.specs.Before.{IsBefore, IsCount};
+ghost use Rattle.nm_model.specs.Replica.{from_scratch, IsWithin};
+ghost use Rattle.nm_model.specs.Before.{IsBefore, IsCount, same_place, events_at};
 
 /// Each time is passed after some number of events, of the whole network and of a partition over what it knows.
 pub fn times_pass<P, N>()
@@ -28,8 +28,8 @@ pub fn times_pass<P, N>()
         → IsCount net p K k → IsWithin net p K j → j ≤ k }
 {}
 
-/// The keys taken strictly rise, arrivals are taken in the order of their numbers, and what is put on an interface has
-/// strictly rising times.
+/// The keys taken strictly rise, the events of a place are taken in the order of their numbers 0, 1, 2 and so on, and
+/// what is put on an interface has strictly rising times.
 pub fn keys_rise<P, N>()
     ensures keys { (net : Net P N) → IsNet net → (n : ℕ) (e f : Key × Event P)
         → least (one_list net n).pending ≡ Some e → least (one_list net (suc n)).pending ≡ Some f
@@ -38,4 +38,20 @@ pub fn keys_rise<P, N>()
     ensures numbers { (net : Net P N) → IsNet net → (n c : ℕ) (e : Key × Event P)
         → least (one_list net n).pending ≡ Some e → e.0.place ≡ Arrive c
         → e.0.number ≡ (one_list net n).arrived c }
+    ensures consecutive { (net : Net P N) → IsNet net → (n : ℕ) (e : Key × Event P)
+        → least (one_list net n).pending ≡ Some e
+        → e.0.number ≡ events_at net (same_place e.0.place) n }
+{}
+
+/// An event makes at most three others, all strictly later: in the whole network and in a partition over anything that
+/// it was told.
+pub fn events_make_later_ones<P, N>()
+    ensures few { (net : Net P N) (s : State P N) (e : Key × Event P) → length (made net s e) ≤ 3 }
+    ensures later { (net : Net P N) → IsNet net → (n : ℕ) (e : Key × Event P)
+        → least (one_list net n).pending ≡ Some e → (m : ℕ) (f : Key × Event P)
+        → nth (made net (one_list net n) e) m ≡ Some f → e.0.time < f.0.time }
+    ensures later_in_part { (net : Net P N) → IsNet net → (p : ℕ) (K : List (Know P)) (k : ℕ)
+        (e : Key × Event P) → least (from_scratch net p K k).pending ≡ Some e
+        → (m : ℕ) (f : Key × Event P)
+        → nth (made net (from_scratch net p K k) e) m ≡ Some f → e.0.time < f.0.time }
 {}
