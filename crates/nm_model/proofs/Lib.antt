@@ -20,3 +20,4 @@ mod RoundLemmas
 mod Worlds
 mod Traces
 mod Numbers
+mod Faults

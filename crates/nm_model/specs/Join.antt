@@ -1,8 +1,8 @@
 -- How two replicas' knowledge of one channel is joined, and when it cannot be.
-use Rattle.std.specs.Prelude.{ℕ, suc, max, Bool, cond, ltb, leb, length, List, [], ◌∷◌, Option, Some, None}
+use Rattle.std.specs.Prelude.{◌≡◌, ◌≢◌, ◌⊎◌, ℕ, suc, ◌<◌, max, Bool, cond, ltb, leb, length, List, [], ◌∷◌, Option, Some, None}
 use Rattle.nm_model.specs.Lists.{nth}
 use Rattle.nm_model.specs.Knowledge.{Know}
-use Rattle.nm_model.specs.Accept.{Answer, Differs, Late, same_message}
+use Rattle.nm_model.specs.Accept.{Answer, New, Raised, Known, Gap, Differs, Late, NotRising, Contrary, same_message}
 
 -- the longer list and the greater clock
 abbrev pub join : {P : Type 0} → Know P → Know P → Know P
@@ -36,6 +36,20 @@ abbrev pub join_fault : {P : Type 0} → (P → P → Bool) → Know P → Know 
 join_fault same a b =
     or_else (differs_at (first_differs same 0 a.list b.list))
     (or_else (late_past a.clock (nth b.list (length a.list))) (late_past b.clock (nth a.list (length b.list))))
+
+-- what a fault of a and b shows: other messages of this number, the first such; or one of the two clocks and the message before it
+abbrev pub Shows : {P : Type 0} → Know P → Know P → Answer → Type 0
+Shows {P} a b (Differs n) =
+    (x : ℕ × P) × (y : ℕ × P) × (nth a.list n ≡ Some x) × (nth b.list n ≡ Some y) × (x ≢ y) × ((m : ℕ) → m < n → nth a.list m ≡ nth b.list m)
+Shows {P} a b (Late t) =
+    ((x : ℕ × P) × (t ≡ a.clock) × (nth b.list (length a.list) ≡ Some x) × (x.0 < t))
+    ⊎ ((x : ℕ × P) × (t ≡ b.clock) × (nth a.list (length b.list) ≡ Some x) × (x.0 < t))
+Shows a b New = ⊥
+Shows a b Raised = ⊥
+Shows a b Known = ⊥
+Shows a b (Gap n) = ⊥
+Shows a b NotRising = ⊥
+Shows a b (Contrary n) = ⊥
 
 abbrev pub at_channel : ℕ → Option Answer → Option (ℕ × Answer)
 at_channel c None = None

@@ -10,6 +10,11 @@ pub record Know (P : Type 0) : Type 0 where
 abbrev pub nothing_known : {P : Type 0} → Know P
 nothing_known = record { list = []; clock = 0 }
 
+-- knowledge that was come by: the times of its messages strictly rise, up to the clock
+pub record IsKnow {P : Type 0} (a : Know P) : Type 0 where
+  pub rising : IsRising a.list
+  pub last : (n : ℕ) (b : ℕ × P) → nth a.list n ≡ Some b → b.0 ≤ a.clock
+
 -- of each channel, by the number of its receiving interface
 abbrev pub know : {P : Type 0} → List (Know P) → ℕ → Know P
 know [] c = nothing_known

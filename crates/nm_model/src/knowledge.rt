@@ -1,9 +1,29 @@
-//! Laws of knowledge of a channel, and of joining it.
+//! Laws of knowledge of a channel: taking messages and null messages, and joining.
 
-ghost use Rattle.std.specs.Prelude.{◌≡◌, ℕ, Bool, List, None};
-ghost use Rattle.nm_model.specs.Knowledge.{Know, IsValid, IsUnder};
-ghost use Rattle.nm_model.specs.Accept.{IsReflexive};
-ghost use Rattle.nm_model.specs.Join.{join, join_fault};
+ghost use Rattle.std.specs.Prelude.{◌≡◌, ℕ, ◌+◌, ◌<◌, ◌≤◌, Bool, length, List, Option, Some, None};
+ghost use Rattle.nm_model.specs.Lists.{nth, IsRising};
+ghost use Rattle.nm_model.specs.Knowledge.{Know, IsKnow, nothing_known, know, IsValid, IsUnder, IsCompatible};
+ghost use Rattle.nm_model.specs.Accept.{Answer, IsReflexive, TellsApart, accept_data, accept_null};
+ghost use Rattle.nm_model.specs.Join.{join, join_all, join_fault, join_faults, Shows};
+ghost use Rattle.nm_model.specs.World.{IsFine};
+
+/// Taking a message or a null message only adds to what is known, keeps it in order, and keeps what is true of the
+/// channel's history so, where the message is; then only a gap is refused.
+pub fn accept_laws<P>()
+    ensures data_adds { (same : P → P → Bool) (a : Know P) (n : ℕ) (b : ℕ × P)
+        → IsUnder a (accept_data same a n b).after }
+    ensures null_adds { (a : Know P) (n t : ℕ) → IsUnder a (accept_null a n t).after }
+    ensures opens { IsKnow (nothing_known {P = P}) }
+    ensures data_keeps { (same : P → P → Bool) (a : Know P) (n : ℕ) (b : ℕ × P)
+        → IsKnow a → IsKnow (accept_data same a n b).after }
+    ensures null_keeps { (a : Know P) (n t : ℕ) → IsKnow a → IsKnow (accept_null a n t).after }
+    ensures true_data { (same : P → P → Bool) → IsReflexive same → (a : Know P) (H : List (ℕ × P))
+        → IsRising H → IsValid a H → (n : ℕ) (b : ℕ × P) → nth H n ≡ Some b
+        → IsFine (accept_data same a n b).answer × IsValid (accept_data same a n b).after H }
+    ensures true_null { (a : Know P) (H : List (ℕ × P)) → IsValid a H → (n t : ℕ)
+        → ((i : ℕ) (x : ℕ × P) → n ≤ i → nth H i ≡ Some x → t ≤ x.0)
+        → IsFine (accept_null a n t).answer × IsValid (accept_null a n t).after H }
+{}
 
 /// The join of knowledge that is valid for one history is the least that both are under.
 pub fn join_laws<P>()
@@ -21,4 +41,28 @@ pub fn join_laws<P>()
         → IsValid (join a b) H }
     ensures no_fault { (same : P → P → Bool) → IsReflexive same → (H : List (ℕ × P)) (a b : Know P)
         → IsValid a H → IsValid b H → join_fault same a b ≡ None }
+    ensures keeps { (a b : Know P) → IsKnow a → IsKnow b → IsKnow (join a b) }
+    ensures all { (K J : List (Know P)) (c : ℕ)
+        → know (join_all K J) c ≡ join (know K c) (know J c) }
+{}
+
+/// Two are joined exactly where they are compatible, which is where both are under something; a fault shows that they
+/// are not, by its number or clock. Of several channels the first with a fault is named.
+pub fn join_faults_are_right<P>()
+    ensures none { (same : P → P → Bool) → IsReflexive same → (a b : Know P) → IsCompatible a b
+        → join_fault same a b ≡ None }
+    ensures only { (same : P → P → Bool) → IsReflexive same → TellsApart same → (a b : Know P)
+        → IsKnow a → IsKnow b → join_fault same a b ≡ None → IsCompatible a b }
+    ensures shown { (same : P → P → Bool) → IsReflexive same → TellsApart same → (a b : Know P)
+        (f : Answer) → join_fault same a b ≡ Some f → Shows a b f }
+    ensures above { (a b d : Know P) → IsUnder a d → IsUnder b d → IsRising d.list
+        → IsCompatible a b }
+    ensures joined { (a b : Know P) → IsCompatible a b
+        → IsUnder a (join a b) × IsUnder b (join a b) × (join a b ≡ join b a) }
+    ensures first { (same : P → P → Bool) (n : ℕ) (K J : List (Know P)) (c : ℕ) (f : Answer)
+        → join_faults same n K J ≡ Some (c, f)
+        → (d : ℕ) × (c ≡ n + d) × (join_fault same (know K d) (know J d) ≡ Some f)
+        × ((e : ℕ) → e < d → join_fault same (know K e) (know J e) ≡ None) }
+    ensures faultless { (same : P → P → Bool) (n : ℕ) (K J : List (Know P))
+        → join_faults same n K J ≡ None → (c : ℕ) → join_fault same (know K c) (know J c) ≡ None }
 {}

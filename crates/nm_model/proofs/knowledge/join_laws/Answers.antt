@@ -1,4 +1,5 @@
 use Rattle.nm_model.proofs.Joins as joins
+use Rattle.nm_model.proofs.Faults.{join_is_know}
 use Rattle.nm_model.proofs.knowledge.join_laws.Goals as goal
 
 pub returns-clause-idempotent : goal.returns-clause-idempotent
@@ -24,3 +25,9 @@ returns-clause-valid g c = λ H a b u v. joins.join_valid H a b u v
 
 pub returns-clause-no_fault : goal.returns-clause-no_fault
 returns-clause-no_fault g c = λ same eq H a b u v. joins.join_faultless H same eq a b u v
+
+pub returns-clause-keeps : goal.returns-clause-keeps
+returns-clause-keeps g c = λ a b u v. join_is_know a b u v
+
+pub returns-clause-all : goal.returns-clause-all
+returns-clause-all g c = λ K J d. joins.know_join K J d
