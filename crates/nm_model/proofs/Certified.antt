@@ -7,7 +7,7 @@ use Rattle.nm_base.specs.declared.key.Place.{Place}
 use Rattle.nm_base.specs.declared.key.Place.TheVariants.{Arrive, Fire}
 use Rattle.nm_base.specs.declared.key.Key.{Key}
 use Rattle.nm_model.specs.EventList.{least, is_before}
-use Rattle.nm_model.specs.Certificate.{IsCertified}
+use Rattle.nm_model.specs.Certificate.{AreFinished, is_done}
 use Rattle.nm_model.specs.Replica.{inbox_events, from_scratch, safe_time}
 use Rattle.nm_model.specs.Knowledge.{Know, know}
 use Rattle.nm_model.specs.Partition.{in_part, comes_in}
@@ -19,12 +19,12 @@ use Rattle.nm_model.specs.Partition.{sender_of}
 use Rattle.nm_model.specs.Rounds.{given}
 use Rattle.nm_model.specs.World.{Replica}
 use Rattle.nm_model.proofs.Keys.{least_has, least_min, least_none, least_is, up_to_time}
-use Rattle.nm_model.proofs.ListLemmas.{number_tied, below_nth, nth_below, nth_push, nth_prefix, prefix_nth, prefix_self, prefix_trans}
+use Rattle.nm_model.proofs.ListLemmas.{number_is, number_tied, below_nth, nth_below, nth_push, nth_prefix, prefix_nth, prefix_self, prefix_trans}
 use Rattle.nm_model.proofs.NewEvents.{sent_case, sent_prefix, pending_case}
 use Rattle.nm_model.proofs.Invariants.{nth_cong, made_later}
 use Rattle.nm_model.proofs.Runs.{Since, Sourced, sourced_run, sourced_start, since, good_run, run_add}
 use Rattle.nm_model.proofs.Begin.{cut_start, inbox_at}
-use Rattle.nm_model.proofs.Cut.{Cut, Told, origin_at, origin, bound, present, cut_other, cut_mine, safe_clock, channel_inside}
+use Rattle.nm_model.proofs.Cut.{and_both, not_true, Cut, Told, origin_at, origin, bound, present, cut_other, cut_mine, safe_clock, channel_inside}
 use Rattle.nm_model.proofs.CutLaw.{quiet, least_busy}
 use Rattle.nm_base.specs.declared.event.Event.{Event}
 
@@ -38,7 +38,14 @@ module _ {P N : Type 0} (net : Net P N) (ok : IsNet net) (p : ℕ) (K : List (Kn
       subst (Since net (from_scratch net p K j) t) (sym (run_add net (in_part net p) (k - j) j (start net (in_part net p) (inbox_events net p 0 K))) ∙ ap (from_scratch net p K) e)
       (since net ok (in_part net p) (k - j) (from_scratch net p K j) t (from_sourced j) h)
 
-module _ {P N : Type 0} (net : Net P N) (ok : IsNet net) (books : ℕ → Replica P) (cert : IsCertified net books) where
+module _ {P N : Type 0} (net : Net P N) where
+  pub done_safe : (p : ℕ) (x : Replica P) → is_done net p x ≡ true → safe_time net p x.knowledge ≡ net.stop
+  done_safe p x h = number_is (safe_time net p x.knowledge) net.stop (and_both _ _ h).0
+
+  pub done_over : (p : ℕ) (x : Replica P) → is_done net p x ≡ true → pends_before net.stop (from_scratch net p x.knowledge x.ran) ≡ false
+  done_over p x h = not_true _ (and_both _ _ h).1
+
+module _ {P N : Type 0} (net : Net P N) (ok : IsNet net) (books : ℕ → Replica P) (cert : AreFinished net books) where
   abbrev known : ℕ → List (Know P)
   known p = (books p).knowledge
 
@@ -101,7 +108,7 @@ module _ {P N : Type 0} (net : Net P N) (ok : IsNet net) (books : ℕ → Replic
         let x = nth_below ((one_list net n).sent c) (length (know (known p) c).list) (omega arith) in
         let clock = cert.next p c x.0 ch (prefix_nth _ _ _ x.0 (line_begins c) x.1) in
         let safe = safe_clock net p (known p) c net.ifaces (channel_inside net p ok c ch) ch in
-        let stop = cert.safe p in
+        let stop = done_safe net p (books p) (cert.done p) in
         let order = in_order x.0 x.1 le in omega arith))
         (cases_lt i (length (know (known p) c).list))
       where
@@ -128,7 +135,7 @@ module _ {P N : Type 0} (net : Net P N) (ok : IsNet net) (books : ℕ → Replic
               (λ more. more)
               (λ le. absurd (
               let same : events_at net (in_part net p) n ≡ (books p).ran = let i = f.inside p in omega arith in
-              let h = quiet net.stop (from_scratch net p (known p) (books p).ran) (cert.over p) e.0 e.1 (ap (λ k. get (from_scratch net p (known p) k).pending e.0) (sym same) ∙ least_has _ e l) in
+              let h = quiet net.stop (from_scratch net p (known p) (books p).ran) (done_over net p (books p) (cert.done p)) e.0 e.1 (ap (λ k. get (from_scratch net p (known p) k).pending e.0) (sym same) ∙ least_has _ e l) in
               omega arith))
               (cases_lt (events_at net (in_part net p) n) (books p).ran),
         )
@@ -155,7 +162,7 @@ module _ {P N : Type 0} (net : Net P N) (ok : IsNet net) (books : ℕ → Replic
       let x = least_busy (safe_time net p (known p)) (from_scratch net p (known p) (events_at net (in_part net p) last)) (cert.within p (events_at net (in_part net p) last) lt) in
       let g = good_run net ok last in
       let from = quiet net.stop (one_list net last) b.over in
-      let stop = cert.safe p in
+      let stop = done_safe net p (books p) (cert.done p) in
       ⊎_elim
       (λ h. let i = from x.0.0 x.0.1 h in omega (arith, x.2))
       (λ h. omega (arith, x.2))

@@ -6,24 +6,21 @@ use Rattle.nm_model.specs.Lists.{nth, IsPrefix, IsRising}
 use Rattle.nm_model.specs.Knowledge.{Know, IsKnow, nothing_known, know, IsValid, IsUnder, IsCompatible}
 use Rattle.nm_model.specs.Accept.{Answer, New, Raised, Known, Gap, Differs, Late, NotRising, Contrary, Accepted, IsReflexive, TellsApart, same_message, last_from, data_at, accept_data, null_at, accept_null}
 use Rattle.nm_model.specs.Join.{first_differs, late_past, or_else, differs_at, join_fault, Shows, at_channel, join_faults, join}
-use Rattle.nm_model.proofs.ListLemmas.{below_nth, nth_below, nth_push, prefix_self, prefix_nth}
+use Rattle.nm_model.proofs.ListLemmas.{number_is, below_nth, nth_below, nth_push, prefix_self, prefix_nth}
 use Rattle.nm_model.proofs.Invariants.{rising_push}
 use Rattle.nm_model.proofs.Cut.{and_both}
 use Rattle.nm_model.proofs.Accepting.{same_self, under_self}
 use Rattle.nm_model.proofs.Joins.{join_case, join_faultless, left_under, right_under, join_least}
 
-number_is : (i j : ℕ) → (i == j) ≡ true → i ≡ j
-number_is i j h = grind (arith, nat_tests)
-
 differs_none : (o : Option ℕ) → differs_at o ≡ None → o ≡ None
 differs_none None e = refl
 differs_none (Some n) e = absurd (cc)
 
-left_none : {A : Type 0} (o p : Option A) → or_else o p ≡ None → o ≡ None
+pub left_none : {A : Type 0} (o p : Option A) → or_else o p ≡ None → o ≡ None
 left_none None p e = refl
 left_none (Some x) p e = absurd (cc)
 
-right_none : {A : Type 0} (o p : Option A) → or_else o p ≡ None → p ≡ None
+pub right_none : {A : Type 0} (o p : Option A) → or_else o p ≡ None → p ≡ None
 right_none None p e = e
 right_none (Some x) p e = absurd (cc)
 
@@ -49,7 +46,7 @@ module _ {P : Type 0} where
 
   -- only what differs is told apart
   module _ (same : P → P → Bool) (eq : IsReflexive same) (tells : TellsApart same) where
-    same_is : (x y : ℕ × P) → same_message same x y ≡ true → x ≡ y
+    pub same_is : (x y : ℕ × P) → same_message same x y ≡ true → x ≡ y
     same_is x y h = let b = and_both _ _ h in let t = number_is x.0 y.0 b.0 in let p = tells x.1 y.1 b.1 in λ i. (t i, p i)
 
     agree : (n : ℕ) (k l : List (ℕ × P)) → first_differs same n k l ≡ None → length k ≤ length l → IsPrefix k l

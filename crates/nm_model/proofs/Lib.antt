@@ -21,3 +21,4 @@ mod Worlds
 mod Traces
 mod Numbers
 mod Faults
+mod Certifying

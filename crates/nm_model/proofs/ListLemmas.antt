@@ -20,6 +20,9 @@ number_apart i j h = grind (arith, nat_tests)
 pub number_tied : (i : ℕ) → (i == i) ≡ true
 number_tied i = grind (arith, nat_tests)
 
+pub number_is : (i j : ℕ) → (i == j) ≡ true → i ≡ j
+number_is i j h = grind (arith, nat_tests)
+
 module _ {A : Type 0} where
   pub set_here : (f : ℕ → A) (i : ℕ) (v : A) → set_at f i v i ≡ v
   unfolding set_at

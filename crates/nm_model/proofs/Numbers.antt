@@ -13,7 +13,7 @@ use Rattle.nm_model.specs.Port.{Busy, Port}
 use Rattle.nm_model.specs.Run.{State, Effect, effect, turned, step_at, one_list}
 use Rattle.nm_model.specs.Before.{same_place, is_at, events_at}
 use Rattle.nm_model.proofs.Keys.{same_key, least_has}
-use Rattle.nm_model.proofs.ListLemmas.{number_tied, option_cases}
+use Rattle.nm_model.proofs.ListLemmas.{number_is, number_tied, option_cases}
 use Rattle.nm_model.proofs.Effects.{EffectIs, effect_is}
 use Rattle.nm_model.proofs.NewEvents.{fire_inj, turned_case, sent_case, IsNew, Ends, Comes, GoesOn, pending_case}
 use Rattle.nm_model.proofs.Invariants.{Good, key_at, peer_inj, what, arrival_number, came_case, same_time}
@@ -23,9 +23,6 @@ pub place_tied : (q : Place) → same_place q q ≡ true
 place_tied (Arrive i) = number_tied i
 place_tied (Complete i) = number_tied i
 place_tied (Fire j) = number_tied j
-
-number_is : (i j : ℕ) → (i == j) ≡ true → i ≡ j
-number_is i j h = grind (arith, nat_tests)
 
 pub place_same : (p q : Place) → same_place p q ≡ true → p ≡ q
 place_same (Arrive i) (Arrive j) h = ap Arrive (number_is i j h)

@@ -41,6 +41,11 @@ pub record IsNet {P N : Type 0} (net : Net P N) : Type 0 where
   -- a source's packets come at strictly rising times
   pub rises : (j n : ℕ) (a b : ℕ × P) → net.source j n ≡ Some a → net.source j (suc n) ≡ Some b → a.0 < b.0
 
+-- the interfaces and sources that there are lie in the partitions that there are
+pub record IsParted {P N : Type 0} (net : Net P N) : Type 0 where
+  pub ifaces : (i : ℕ) → i < net.ifaces → net.part (net.owner i) < net.parts
+  pub sources : (j : ℕ) → j < net.sources → net.part (net.source_node j) < net.parts
+
 -- the node at which an event happens
 abbrev pub node_of : {P N : Type 0} → Net P N → Place → ℕ
 node_of net (Arrive i) = net.owner i
