@@ -30,6 +30,7 @@ use Rattle.nm_model.proofs.CutLaw.{not_busy}
 use Rattle.nm_model.proofs.Accepting.{same_self}
 use Rattle.nm_model.proofs.Faults.{left_none, right_none, same_is}
 use Rattle.nm_model.proofs.Certified.{certified}
+use Rattle.nm_model.proofs.Stated.{exact}
 
 none_both : {A : Type 0} (o p : Option A) → o ≡ None → p ≡ None → or_else o p ≡ None
 none_both None p e f = f
@@ -231,6 +232,9 @@ module _ {P N : Type 0} (net : Net P N) (ok : IsNet net) (parted : IsParted net)
       let a : (safe_time net p [] == net.stop) ≡ true = ap (λ z. z == net.stop) (empty_safe net.ifaces) ∙ number_tied net.stop in
       let b : not (pends_before net.stop (from_scratch net p [] 0)) ≡ true = ap not (empty_quiet net.stop) in
       ap₂ (λ x y. x && y) a b
+
+  pub empty_trace : (last : ℕ) → IsBefore net net.stop last → trace net p last ≡ []
+  empty_trace last b = sym (exact net ok p [] (λ l e c ch. absurd (no_channel c ch)) 0 last (record { over = empty_quiet (safe_time net p []); first = λ m lt. absurd (omega arith) }) (subst (λ t. IsBefore net t last) (sym (empty_safe net.ifaces)) b))
 
 -- a certified list of books tells of the whole network
 module _ {P : Type 0} where

@@ -22,3 +22,4 @@ mod Traces
 mod Numbers
 mod Faults
 mod Certifying
+mod SameKnowledge

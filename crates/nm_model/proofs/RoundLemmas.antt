@@ -1,5 +1,5 @@
 -- After so many rounds every partition is done.
-use Rattle.std.proofs.Common.{◌≡◌, ℕ, zero, suc, ◌+◌, ◌*◌, ◌<◌, ◌≤◌, ◌==◌, min, Bool, true, false, cond, ltb, List, [], ◌∷◌, ◌++◌, length, drop, Option, Some, None, refl, sym, ap, ap₂, ◌∙◌, subst, arith, ⊎_elim, append_assoc, append-nil, length-append}
+use Rattle.std.proofs.Common.{◌≡◌, ℕ, zero, suc, ◌+◌, ◌*◌, ◌<◌, ◌≤◌, ◌==◌, min, Bool, true, false, cond, ltb, List, [], ◌∷◌, ◌++◌, length, drop, Option, Some, None, refl, sym, ap, ap₂, ◌∙◌, subst, arith, ⊎_elim, append_assoc, append-nil, length-append, mul_comm, ◌-◌, ◌/◌}
 use Rattle.std.proofs.lemmas.Bool.{cases_lt}
 use Rattle.std.proofs.lemmas.Bool.Decides.{nat_tests}
 use Rattle.std.proofs.Math.Seq.{drop-append_seam}
@@ -14,7 +14,7 @@ use Rattle.nm_model.specs.Lists.{nth, IsPrefix, IsRising}
 use Rattle.nm_model.specs.Network.{Net, IsNet}
 use Rattle.nm_model.specs.Before.{IsBefore, history, trace}
 use Rattle.nm_model.specs.Run.{pends_before}
-use Rattle.nm_model.specs.Rounds.{given, hear_list, hear, tabulate, promised, heard_on, heard, IsRounds}
+use Rattle.nm_model.specs.Rounds.{round_count, given, hear_list, hear, tabulate, promised, heard_on, heard, IsRounds}
 use Rattle.nm_model.specs.World.{Replica}
 use Rattle.nm_model.proofs.Keys.{least_has}
 use Rattle.nm_model.proofs.ListLemmas.{number_tied, nth_prefix, prefix_nth}
@@ -117,8 +117,8 @@ module _ {P : Type 0} (same : P → P → Bool) where
   know_past f c (suc n) zero h = absurd (omega arith)
   know_past f c (suc n) (suc d) h = know_past f (suc c) n d (omega arith)
 
-module _ {P N : Type 0} (net : Net P N) (ok : IsNet net) (same : P → P → Bool) (eq : (x : P) → same x x ≡ true) (last : ℕ) (ends : IsBefore net net.stop last) (kind : Promising) (b : ℕ → ℕ → Replica P) (rounds : IsRounds net same kind b) (lead : ℕ) (leads : (p c : ℕ) → comes_in net p c ≡ true → lead ≤ lookahead net kind c) where
-  safe_at_least : (p : ℕ) (K : List (Know P)) (t n : ℕ) → t ≤ net.stop → ((c : ℕ) → comes_in net p c ≡ true → t ≤ (know K c).clock) → t ≤ safe_among net p K n
+module _ {P N : Type 0} (net : Net P N) where
+  pub safe_at_least : (p : ℕ) (K : List (Know P)) (t n : ℕ) → t ≤ net.stop → ((c : ℕ) → comes_in net p c ≡ true → t ≤ (know K c).clock) → t ≤ safe_among net p K n
   safe_at_least p K t zero h f = h
   safe_at_least p K t (suc n) h f = go (comes_in net p n) refl (safe_at_least p K t n h f)
     where
@@ -126,6 +126,11 @@ module _ {P N : Type 0} (net : Net P N) (ok : IsNet net) (same : P → P → Boo
       go true e r = let c = f n e in omega arith
       go false e r = r
 
+  -- a partition with no channel is never held up
+  pub alone_safe : (p : ℕ) → ((c : ℕ) → comes_in net p c ≡ true → ⊥) → (K : List (Know P)) → safe_time net p K ≡ net.stop
+  alone_safe p none K = let h = safe_at_least p K net.stop net.ifaces (omega arith) (λ c ch. absurd (none c ch)) in let s = safe_stop net p K net.ifaces in omega arith
+
+module _ {P N : Type 0} (net : Net P N) (ok : IsNet net) (same : P → P → Bool) (eq : (x : P) → same x x ≡ true) (last : ℕ) (ends : IsBefore net net.stop last) (kind : Promising) (b : ℕ → ℕ → Replica P) (rounds : IsRounds net same kind b) (lead : ℕ) (leads : (p c : ℕ) → comes_in net p c ≡ true → lead ≤ lookahead net kind c) where
   -- what holds after round j
   record After (j : ℕ) : Type 0 where
     valid : (p c : ℕ) → comes_in net p c ≡ true → IsValid (know (b j p).knowledge c) (history net last c)
@@ -205,7 +210,7 @@ module _ {P N : Type 0} (net : Net P N) (ok : IsNet net) (same : P → P → Boo
       valid = λ p c ch. subst (λ z. IsValid z (history net last c)) (sym (is_heard p c ch)) (now p c ch).2;
       within = λ p. within_more net ok p (K p) (b (suc j) p).knowledge (under p) (k p) (ran_within p);
       told = λ p c ch. ap (λ z. z.list) (is_heard p c ch) ∙ (now p c ch).0 ∙ sym (ap (λ s. s.sent c) (books net ok (sender_of net c) (K (sender_of net c)) (b (suc j) (sender_of net c)).knowledge (under (sender_of net c)) (k (sender_of net c)) (ran_within (sender_of net c))));
-      far = λ p. safe_at_least p (b (suc j) p).knowledge (min net.stop (suc j * lead)) net.ifaces (omega arith) (λ c ch.
+      far = λ p. safe_at_least net p (b (suc j) p).knowledge (min net.stop (suc j * lead)) net.ifaces (omega arith) (λ c ch.
           let e = ap (λ z. z.clock) (is_heard p c ch) in
           let f = (now p c ch).1 in
           let g = promised_far c in
@@ -253,3 +258,9 @@ module _ {P N : Type 0} (net : Net P N) (ok : IsNet net) (same : P → P → Boo
   whole_traces j p last le e =
       exact net ok p (b j p).knowledge (λ l d c ch. rounds_valid net ok same eq l d kind b rounds lead leads j p c ch) (b (suc j) p).ran last (rounds.runs j p)
       (subst (λ t. IsBefore net t last) (sym (enough net ok same eq last e kind b rounds lead leads j p le)) e)
+
+-- rounds are enough once they reach stop
+pub ceil_reaches : (stop lead : ℕ) → 1 ≤ lead → stop ≤ round_count stop lead * lead
+ceil_reaches stop lead h =
+    let q = (stop + (lead - 1)) / lead in
+    let r : (stop + (lead - 1)) / lead * lead ≡ lead * ((stop + (lead - 1)) / lead) = mul_comm _ _ in omega arith

@@ -1,5 +1,5 @@
 -- Rounds: all partitions run what is safe, and then each hears all that the others have for it.
-use Rattle.std.specs.Prelude.{◌≡◌, ℕ, zero, suc, Bool, cond, length, drop, List, [], ◌∷◌}
+use Rattle.std.specs.Prelude.{◌≡◌, ℕ, zero, suc, ◌+◌, ◌-◌, ◌/◌, Bool, cond, length, drop, List, [], ◌∷◌}
 use Rattle.nm_model.specs.Network.{Net}
 use Rattle.nm_model.specs.Knowledge.{Know, know}
 use Rattle.nm_model.specs.Accept.{accept_data, accept_null}
@@ -21,6 +21,10 @@ hear same a out t = (accept_null (hear_list same a (length a.list) (drop (length
 abbrev pub tabulate : {A : Type 0} → (ℕ → A) → ℕ → ℕ → List A
 tabulate f c zero = []
 tabulate f c (suc n) = f c ∷ tabulate f (suc c) n
+
+-- stop divided by the least lookahead, rounded up
+abbrev pub round_count : ℕ → ℕ → ℕ
+round_count stop lead = (stop + (lead - 1)) / lead
 
 module _ {P N : Type 0} (net : Net P N) (books : ℕ → Replica P) where
   -- what the book of the channel's sender put on it

@@ -1,18 +1,19 @@
 //! Laws of rounds.
 
-ghost use Rattle.std.specs.Prelude.{◌≡◌, ℕ, suc, ◌*◌, ◌≤◌, Bool, true, false};
+ghost use Rattle.std.specs.Prelude.{◌≡◌, ℕ, suc, ◌*◌, ◌≤◌, Bool, List, true, false};
 ghost use Rattle.nm_model.specs.Network.{Net, IsNet};
 ghost use Rattle.nm_model.specs.Run.{pends_before};
+ghost use Rattle.nm_model.specs.Knowledge.{Know};
 ghost use Rattle.nm_model.specs.Accept.{IsReflexive};
 ghost use Rattle.nm_model.specs.Partition.{comes_in};
 ghost use Rattle.nm_model.specs.Replica.{from_scratch, safe_time};
 ghost use Rattle.nm_model.specs.Promise.{Promising, lookahead};
 ghost use Rattle.nm_model.specs.Before.{IsBefore, trace};
 ghost use Rattle.nm_model.specs.World.{Replica};
-ghost use Rattle.nm_model.specs.Rounds.{IsRounds};
+ghost use Rattle.nm_model.specs.Rounds.{IsRounds, round_count};
 
 /// Where each channel's lookahead is at least `lead`, all is done in the round after `j` of them, once `j * lead` reaches
-/// stop; with either promise.
+/// stop; with either promise. So `round_count stop lead` rounds and one more are enough, and one where there is no channel.
 pub fn rounds_bound<P, N>()
     ensures there { (net : Net P N) → IsNet net → (same : P → P → Bool) (kind : Promising)
         → (b : ℕ → ℕ → Replica P) × IsRounds net same kind b }
@@ -27,4 +28,7 @@ pub fn rounds_bound<P, N>()
         → ((p c : ℕ) → comes_in net p c ≡ true → lead ≤ lookahead net kind c)
         → (j p last : ℕ) → net.stop ≤ j * lead → IsBefore net net.stop last
         → (from_scratch net p (b j p).knowledge (b (suc j) p).ran).records ≡ trace net p last }
+    ensures enough { (stop lead : ℕ) → 1 ≤ lead → stop ≤ round_count stop lead * lead }
+    ensures alone { (net : Net P N) (p : ℕ) → ((c : ℕ) → comes_in net p c ≡ true → ⊥)
+        → (K : List (Know P)) → safe_time net p K ≡ net.stop }
 {}

@@ -1,10 +1,12 @@
 //! Laws over every list of steps of the world.
 
-ghost use Rattle.std.specs.Prelude.{◌≡◌, ℕ, ◌+◌, ◌≤◌, min, Bool, List};
+ghost use Rattle.std.specs.Prelude.{◌≡◌, ℕ, ◌+◌, ◌≤◌, min, Bool, true, List};
 ghost use Rattle.nm_model.specs.Lists.{IsPrefix};
 ghost use Rattle.nm_model.specs.Network.{Net, IsNet};
-ghost use Rattle.nm_model.specs.Knowledge.{Know};
+ghost use Rattle.nm_model.specs.Knowledge.{Know, know};
 ghost use Rattle.nm_model.specs.Accept.{IsReflexive};
+ghost use Rattle.nm_model.specs.Partition.{comes_in};
+ghost use Rattle.nm_model.specs.Promise.{Promising, promise};
 ghost use Rattle.nm_model.specs.Replica.{safe_time, IsWithin};
 ghost use Rattle.nm_model.specs.Before.{IsBefore, IsCount, IsKnowledge, trace};
 ghost use Rattle.nm_model.specs.World.{Step, opening, advance, answers, state_of, replica_after, AllFine};
@@ -29,4 +31,24 @@ pub fn worlds<P, N>()
         → (state_of net p x).records ≡ trace net p n }
     ensures runs { (net : Net P N) → IsNet net → (p : ℕ) (K : List (Know P)) (count n k : ℕ)
         → IsCount net p K count → k ≤ count → advance net p K n k ≡ min (k + n) count }
+{}
+
+/// Replicas of a partition, in one world or in two, that know the same of each incoming channel and have done as many
+/// events have equal states, so equal traces, outgoing lists and ports, and make equal promises; and where both have run
+/// all that is safe, they have done as many.
+pub fn equal_knowledge_gives_equal_replicas<P, N>()
+    ensures states { (net : Net P N) → IsNet net → (same : P → P → Bool) → IsReflexive same
+        → (steps others : List Step) (p r s : ℕ)
+        → let x = replica_after net same steps p r in let y = replica_after net same others p s in
+        ((c : ℕ) → comes_in net p c ≡ true → know x.knowledge c ≡ know y.knowledge c)
+        → x.ran ≡ y.ran → state_of net p x ≡ state_of net p y }
+    ensures promises { (net : Net P N) → IsNet net → (same : P → P → Bool) → IsReflexive same
+        → (steps others : List Step) (p r s : ℕ)
+        → let x = replica_after net same steps p r in let y = replica_after net same others p s in
+        ((c : ℕ) → comes_in net p c ≡ true → know x.knowledge c ≡ know y.knowledge c)
+        → x.ran ≡ y.ran → (kind : Promising) (c : ℕ)
+        → promise net kind p x.knowledge x.ran c ≡ promise net kind p y.knowledge y.ran c }
+    ensures counts { (net : Net P N) → IsNet net → (p : ℕ) (K J : List (Know P))
+        → ((c : ℕ) → comes_in net p c ≡ true → know K c ≡ know J c)
+        → (j k : ℕ) → IsCount net p K j → IsCount net p J k → j ≡ k }
 {}

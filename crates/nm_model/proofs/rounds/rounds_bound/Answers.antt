@@ -1,4 +1,4 @@
-use Rattle.nm_model.proofs.RoundLemmas.{rounds_there, enough, finished, whole_traces}
+use Rattle.nm_model.proofs.RoundLemmas.{rounds_there, enough, finished, whole_traces, ceil_reaches, alone_safe}
 use Rattle.nm_model.proofs.rounds.rounds_bound.Goals as goal
 
 pub returns-clause-there : goal.returns-clause-there
@@ -9,3 +9,9 @@ returns-clause-done g c = λ net ok same eq kind b rounds lead leads j p last le
 
 pub returns-clause-traces : goal.returns-clause-traces
 returns-clause-traces g c = λ net ok same eq kind b rounds lead leads j p last le e. whole_traces net ok same eq kind b rounds lead leads j p last le e
+
+pub returns-clause-enough : goal.returns-clause-enough
+returns-clause-enough g c = λ stop lead h. ceil_reaches stop lead h
+
+pub returns-clause-alone : goal.returns-clause-alone
+returns-clause-alone g c = λ net p none K. alone_safe net p none K
