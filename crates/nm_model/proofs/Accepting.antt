@@ -30,9 +30,6 @@ module _ {P : Type 0} where
   pub under_self : (a : Know P) → IsUnder a a
   under_self a = record { begins = prefix_self a.list; later = λ n x le e. absurd (let lt = below_nth a.list n x e in omega arith); clock = omega arith }
 
-  none_past : (l : List (ℕ × P)) (n : ℕ) → nth l n ≡ None → length l ≤ n
-  none_past l n e = ⊎_elim (λ lt. let x = nth_below l n lt in let f = x.1 in absurd (cc)) (λ le. le) (cases_lt n (length l))
-
   pub valid_next : (a : Know P) (H : List (ℕ × P)) → IsRising H → IsValid a H → (b : ℕ × P) → nth H (length a.list) ≡ Some b → IsValid (record { list = a.list ++ b ∷ []; clock = b.0 }) H
   valid_next a H rising v b e = record {
     begins = prefix_push a.list H b v.begins e;

@@ -1,9 +1,8 @@
 -- Books that certify one another are the whole network's.
-use Rattle.std.proofs.Common.{◌≡◌, ◌⊎◌, inl, inr, ℕ, zero, suc, ◌+◌, ◌-◌, ◌<◌, ◌≤◌, Bool, true, false, cond, List, length, Option, Some, None, refl, sym, ap, ap₂, ◌∙◌, subst, arith, true≢false, ⊎_elim}
+use Rattle.std.proofs.Common.{◌≡◌, ◌⊎◌, inl, inr, ℕ, zero, suc, ◌+◌, ◌-◌, ◌<◌, ◌≤◌, Bool, true, false, cond, List, length, Option, Some, None, refl, sym, ap, ◌∙◌, subst, arith, true≢false, ⊎_elim}
 use Rattle.std.proofs.lemmas.Bool.{cases_lt}
 use Rattle.std.proofs.lemmas.Bool.Decides.{nat_tests}
 use Rattle.std.specs.FinMap.{get}
-use Rattle.nm_base.specs.declared.key.Place.{Place}
 use Rattle.nm_base.specs.declared.key.Place.TheVariants.{Arrive, Fire}
 use Rattle.nm_base.specs.declared.key.Key.{Key}
 use Rattle.nm_model.specs.EventList.{least, is_before}
@@ -14,14 +13,12 @@ use Rattle.nm_model.specs.Partition.{in_part, comes_in}
 use Rattle.nm_model.specs.Lists.{nth, IsPrefix}
 use Rattle.nm_model.specs.Network.{Net, IsNet}
 use Rattle.nm_model.specs.Before.{is_at, events_at, IsBefore, trace}
-use Rattle.nm_model.specs.Run.{State, Effect, effect, step_at, run, start, one_list, pends_before}
+use Rattle.nm_model.specs.Run.{State, step_at, start, one_list, pends_before}
 use Rattle.nm_model.specs.Partition.{sender_of}
 use Rattle.nm_model.specs.Rounds.{given}
 use Rattle.nm_model.specs.World.{Replica}
 use Rattle.nm_model.proofs.Keys.{least_has, least_min, least_none, least_is, up_to_time}
-use Rattle.nm_model.proofs.ListLemmas.{number_is, number_tied, below_nth, nth_below, nth_push, nth_prefix, prefix_nth, prefix_self, prefix_trans}
-use Rattle.nm_model.proofs.NewEvents.{sent_case, sent_prefix, pending_case}
-use Rattle.nm_model.proofs.Invariants.{nth_cong, made_later}
+use Rattle.nm_model.proofs.ListLemmas.{number_is, number_tied, below_nth, nth_below, nth_prefix, prefix_nth}
 use Rattle.nm_model.proofs.Runs.{Since, Sourced, sourced_run, sourced_start, since, good_run, run_add}
 use Rattle.nm_model.proofs.Begin.{cut_start, inbox_at}
 use Rattle.nm_model.proofs.Cut.{and_both, not_true, Cut, Told, origin_at, origin, bound, present, cut_other, cut_mine, safe_clock, channel_inside}

@@ -1,17 +1,15 @@
 -- The certificate's first fault: there is none exactly where the books are certified.
-use Rattle.std.proofs.Common.{◌≡◌, ◌≢◌, ◌⊎◌, inl, inr, ℕ, zero, suc, ◌+◌, ◌<◌, ◌≤◌, ◌==◌, ◌&&◌, ◌||◌, not, min, Bool, true, false, cond, ltb, List, [], ◌∷◌, ◌++◌, length, Option, Some, None, refl, sym, ap, ap₂, ◌∙◌, subst, arith, true≢false, ⊎_elim}
+use Rattle.std.proofs.Common.{◌≡◌, ◌≢◌, ◌⊎◌, inl, inr, ℕ, zero, suc, ◌<◌, ◌≤◌, ◌==◌, ◌&&◌, ◌||◌, not, min, Bool, true, false, cond, ltb, List, [], ◌∷◌, ◌++◌, length, Option, Some, None, refl, sym, ap, ap₂, ◌∙◌, subst, arith, true≢false, ⊎_elim}
 use Rattle.std.proofs.lemmas.Bool.{cases_lt}
 use Rattle.std.proofs.lemmas.Bool.Decides.{nat_tests}
 use Rattle.std.specs.FinMap.{get, empty}
-use Rattle.nm_base.specs.declared.key.Place.{Place}
-use Rattle.nm_base.specs.declared.key.Place.TheVariants.{Arrive, Complete, Fire}
+use Rattle.nm_base.specs.declared.key.Place.TheVariants.{Arrive, Fire}
 use Rattle.nm_base.specs.declared.key.Key.{Key}
 use Rattle.nm_base.specs.declared.event.Event.{Event}
 use Rattle.nm_model.specs.Lists.{nth, IsPrefix}
-use Rattle.nm_model.specs.EventList.{schedule}
 use Rattle.nm_model.specs.Network.{Net, IsNet, IsParted}
-use Rattle.nm_model.specs.Run.{start, source_events, first_event, pends_before}
-use Rattle.nm_model.specs.Knowledge.{Know, know}
+use Rattle.nm_model.specs.Run.{source_events, first_event, pends_before}
+use Rattle.nm_model.specs.Knowledge.{know}
 use Rattle.nm_model.specs.Accept.{IsReflexive, TellsApart, same_message, last_from}
 use Rattle.nm_model.specs.Join.{or_else}
 use Rattle.nm_model.specs.Partition.{in_part, comes_in, sender_of}
@@ -24,8 +22,7 @@ use Rattle.nm_model.specs.Certificate.{Book, Fault, MissingPart, UnfinishedPart,
 use Rattle.nm_model.proofs.Keys.{get_empty}
 use Rattle.nm_model.proofs.ListLemmas.{number_is, bool_cases, number_tied, number_apart, same_number}
 use Rattle.nm_model.proofs.Scheduling.{IsAmong, put_from, put_elsewhere, among-append}
-use Rattle.nm_model.proofs.Runs.{source_among}
-use Rattle.nm_model.proofs.Cut.{and_both, not_true, both_ways, channel_inside}
+use Rattle.nm_model.proofs.Cut.{and_both, not_true, channel_inside}
 use Rattle.nm_model.proofs.CutLaw.{not_busy}
 use Rattle.nm_model.proofs.Accepting.{same_self}
 use Rattle.nm_model.proofs.Faults.{left_none, right_none, same_is}

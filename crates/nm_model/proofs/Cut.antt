@@ -121,7 +121,7 @@ module _ {P N : Type 0} (net : Net P N) (p : ℕ) where
           at_channel (Complete i) f ch = absurd (true≢false (sym ch))
           at_channel (Fire j) f ch = absurd (true≢false (sym ch))
           at_channel (Arrive c) f ch =
-              let mc = (and_both _ _ ch).0 in
+              let mc : in_part net p (Arrive c) ≡ true = (and_both _ (not (in_part net p (Arrive (net.peer c)))) ch).0 in
               let a = good.arrival_is c k.time k.number x (ap (get g.pending) (sym (key_at k (Arrive c) f)) ∙ least_has g.pending (k, x) m) in
               let i = full c k.number (k.time, a.0) ch a.3 (omega arith) in
               ap (get s.pending) (key_at k (Arrive c) f) ∙ h.inbox_has c k.time k.number a.0 ch (let w = h.agrees.arrived c mc in let z = a.2 in omega arith) i ∙ ap Some (sym a.1)

@@ -5,7 +5,7 @@ use Rattle.nm_base.specs.declared.key.Place.TheVariants.{Arrive, Complete, Fire}
 use Rattle.nm_base.specs.declared.event.Event.{Event}
 use Rattle.nm_base.specs.declared.event.Event.TheVariants.{Delivery, Completion}
 use Rattle.nm_base.specs.declared.event.Origin.TheVariants.{Arrival, Source}
-use Rattle.nm_model.specs.Port.{Busy, Port, offered, started, next_started, completed}
+use Rattle.nm_model.specs.Port.{Busy, Port, offered, next_started, completed}
 use Rattle.nm_model.specs.Network.{Net, IsNet, node_of}
 use Rattle.nm_model.specs.Run.{Effect, at_iface, turned_by, sent_on, reacted, effect}
 

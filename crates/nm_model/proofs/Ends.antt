@@ -1,23 +1,20 @@
 -- Each time is passed after some number of steps.
-use Rattle.std.proofs.Common.{◌≡◌, ◌⊎◌, inl, inr, ℕ, zero, suc, ◌+◌, ◌-◌, ◌*◌, ◌<◌, ◌≤◌, Bool, true, false, cond, List, [], ◌∷◌, ◌++◌, length, Option, Some, None, refl, sym, ap, ap₂, ◌∙◌, subst, arith, true≢false, ⊎_elim, length-append, Ordering, Less, Equal, Greater}
+use Rattle.std.proofs.Common.{◌≡◌, ◌⊎◌, inl, inr, ℕ, zero, suc, ◌+◌, ◌-◌, ◌*◌, ◌<◌, ◌≤◌, Bool, true, false, cond, List, [], ◌∷◌, ◌++◌, length, Option, Some, None, refl, sym, ap, ◌∙◌, subst, arith, true≢false, ⊎_elim, length-append, Ordering, Less, Equal, Greater}
 use Rattle.std.specs.Ordering.{is_eq}
-use Rattle.std.specs.FinMap.{FinMap, get, insert, remove, empty, entries, entries-insert, put, find, get-entries}
+use Rattle.std.specs.FinMap.{FinMap, get, insert, remove, entries, entries-insert, put, find, get-entries}
 use Rattle.std.specs.FinMap.Entries.{by_order}
 use Rattle.std.proofs.lemmas.Bool.{cases_lt}
 use Rattle.nm_base.specs.declared.key.Place.{Place}
-use Rattle.nm_base.specs.declared.key.Place.TheVariants.{Arrive, Complete, Fire}
 use Rattle.nm_base.specs.declared.key.Key.{Key}
 use Rattle.nm_base.specs.Key.{key_cmp, key_cmp_total}
 use Rattle.nm_model.specs.EventList.{least, schedule}
 use Rattle.nm_model.specs.Network.{Net, IsNet}
 use Rattle.nm_model.specs.Before.{Drains}
 use Rattle.nm_model.specs.Lists.{nth}
-use Rattle.nm_model.specs.Run.{State, Effect, effect, apply, new_events, start_events, next_events, made, step_at, run, start, source_events, pends_before}
-use Rattle.nm_model.proofs.Keys.{get_empty, key_decides, same_events, insert_same, insert_other, remove_same, remove_other, least_has}
-use Rattle.nm_model.proofs.Scheduling.{IsAmong, put_from}
-use Rattle.nm_model.proofs.NewEvents.{IsNew, Ends, Comes, GoesOn, fire_inj, made_among, pending_case}
-use Rattle.nm_model.proofs.Effects.{effect_is}
-use Rattle.nm_model.proofs.Invariants.{made_later}
+use Rattle.nm_model.specs.Run.{State, effect, new_events, start_events, next_events, made, step_at, run, pends_before}
+use Rattle.nm_model.proofs.Keys.{key_decides, same_events, insert_same, insert_other, remove_same, remove_other, least_has}
+use Rattle.nm_model.proofs.Scheduling.{IsAmong}
+use Rattle.nm_model.proofs.NewEvents.{made_among}
 use Rattle.nm_model.proofs.Runs.{Sourced, sourced_run, makes_later}
 use Rattle.nm_model.proofs.CutLaw.{least_busy}
 use Rattle.nm_base.specs.declared.event.Event.{Event}

@@ -1,16 +1,16 @@
 -- What a fault of two knowledges shows, and that there is none where they have a history in common.
-use Rattle.std.proofs.Common.{◌≡◌, ◌≢◌, ◌⊎◌, inl, inr, ℕ, zero, suc, ◌+◌, ◌<◌, ◌≤◌, ◌==◌, ◌&&◌, Bool, true, false, cond, ltb, List, [], ◌∷◌, ◌++◌, length, Option, Some, None, refl, sym, ap, ap₂, ◌∙◌, subst, arith, true≢false, ⊎_elim}
+use Rattle.std.proofs.Common.{◌≡◌, ◌≢◌, inl, inr, ℕ, zero, suc, ◌+◌, ◌<◌, ◌≤◌, ◌==◌, Bool, true, false, cond, ltb, List, [], ◌∷◌, ◌++◌, length, Option, Some, None, refl, sym, ap, ap₂, ◌∙◌, subst, arith, true≢false, ⊎_elim}
 use Rattle.std.proofs.lemmas.Bool.{cases_lt}
 use Rattle.std.proofs.lemmas.Bool.Decides.{nat_tests}
 use Rattle.nm_model.specs.Lists.{nth, IsPrefix, IsRising}
 use Rattle.nm_model.specs.Knowledge.{Know, IsKnow, nothing_known, know, IsValid, IsUnder, IsCompatible}
-use Rattle.nm_model.specs.Accept.{Answer, New, Raised, Known, Gap, Differs, Late, NotRising, Contrary, Accepted, IsReflexive, TellsApart, same_message, last_from, data_at, accept_data, null_at, accept_null}
+use Rattle.nm_model.specs.Accept.{Answer, New, Raised, Known, Gap, Differs, Late, NotRising, Accepted, IsReflexive, TellsApart, same_message, last_from, data_at, accept_data, null_at, accept_null}
 use Rattle.nm_model.specs.Join.{first_differs, late_past, or_else, differs_at, join_fault, Shows, at_channel, join_faults, join}
-use Rattle.nm_model.proofs.ListLemmas.{number_is, below_nth, nth_below, nth_push, prefix_self, prefix_nth}
+use Rattle.nm_model.proofs.ListLemmas.{number_is, below_nth, nth_below, nth_push, prefix_self}
 use Rattle.nm_model.proofs.Invariants.{rising_push}
 use Rattle.nm_model.proofs.Cut.{and_both}
-use Rattle.nm_model.proofs.Accepting.{same_self, under_self}
-use Rattle.nm_model.proofs.Joins.{join_case, join_faultless, left_under, right_under, join_least}
+use Rattle.nm_model.proofs.Accepting.{same_self}
+use Rattle.nm_model.proofs.Joins.{join_case}
 
 differs_none : (o : Option ℕ) → differs_at o ≡ None → o ≡ None
 differs_none None e = refl

@@ -192,6 +192,10 @@ module _ {P N : Type 0} (net : Net P N) (ok : IsNet net) where
           (λ h. least_time q y h.1)
           (pending_case net k s.sent what here s.pending q y e)
 
+      -- what starts is put on the far end
+      grown : (u : ℕ × P) → what.start ≡ Some u → nth (after.sent (net.peer u.0)) (length (s.sent (net.peer u.0))) ≡ Some (k.time + net.tx u.0 u.1 + net.delay u.0, u.1)
+      grown u h = ap (λ l. nth l (length (s.sent (net.peer u.0)))) (ap (λ o. sent_after net k.time s.sent o (net.peer u.0)) h ∙ set_here s.sent (net.peer u.0) _) ∙ nth_last (s.sent (net.peer u.0)) _
+
       arrival_is_after : (c t n : ℕ) (y : Event P) → get after.pending (key_of t (Arrive c) n) ≡ Some y → (z : P) × (y ≡ Delivery z) × (after.arrived c ≤ n) × (nth (after.sent c) n ≡ Some (t, z))
       arrival_is_after c t n y e = ⊎_elim new (λ h. old h.0 h.1) (pending_case net k s.sent what here s.pending (key_of t (Arrive c) n) y e)
         where
@@ -202,16 +206,8 @@ module _ {P N : Type 0} (net : Net P N) (ok : IsNet net) where
               let pc : c ≡ net.peer u.0 = arrive_inj _ _ (ap (λ r. r.place) f) in
               let pn : n ≡ length (s.sent c) = ap (λ r. r.number) f ∙ ap (λ d. length (s.sent d)) (sym pc) in
               let pt : t ≡ k.time + net.tx u.0 u.1 + net.delay u.0 = ap (λ r. r.time) f in
-              let le = counted_at c in (
-                u.1,
-                i,
-                omega arith,
-                ⊎_elim
-                    (λ g. let same : g.0 ≡ u = let a = g.1 in cc in
-                    ap (λ l. nth l n) g.3 ∙ ap (λ d. nth (s.sent c ++ (k.time + net.tx g.0.0 g.0.1 + net.delay g.0.0, g.0.1) ∷ []) d) pn ∙ nth_last (s.sent c) _ ∙ ap (λ (z : ℕ × P). Some (k.time + net.tx z.0 z.1 + net.delay z.0, z.1)) same ∙ ap (λ a. Some (a, u.1)) (sym pt))
-                    (λ g. absurd (g.0 u h pc))
-                    (sent_case net k.time s.sent what.start c),
-              )
+              let le = counted_at c in
+              (u.1, i, omega arith, ap₂ (λ d m. nth (after.sent d) m) pc (ap (λ r. r.number) f) ∙ grown u h ∙ ap (λ a. Some (a, u.1)) (sym pt))
 
           old : key_of t (Arrive c) n ≢ k → get s.pending (key_of t (Arrive c) n) ≡ Some y → (z : P) × (y ≡ Delivery z) × (after.arrived c ≤ n) × (nth (after.sent c) n ≡ Some (t, z))
           old ne h =
@@ -307,9 +303,6 @@ module _ {P N : Type 0} (net : Net P N) (ok : IsNet net) where
               line : after.sent (net.peer u.0) ≡ s.sent (net.peer u.0) ++ (k.time + net.tx u.0 u.1 + net.delay u.0, u.1) ∷ []
               line = ap (λ o. sent_after net k.time s.sent o (net.peer u.0)) h ∙ set_here s.sent (net.peer u.0) _
 
-              last : (l : List (ℕ × P)) (b : ℕ × P) (v : ℕ × P) → n ≡ length l → b ≡ v → nth (l ++ b ∷ []) n ≡ Some v
-              last l b v e1 e2 = ap (nth (l ++ b ∷ [])) e1 ∙ nth_last l b ∙ ap Some e2
-
               at_u : (v : P) × (y ≡ Completion) × (suc n ≡ length (after.sent (net.peer u.0))) × (nth (after.sent (net.peer u.0)) n ≡ Some (t + net.delay u.0, v)) × ((after.port u.0).busy ≢ None)
               at_u =
                   let d = what_is.start_turn u h in
@@ -318,7 +311,7 @@ module _ {P N : Type 0} (net : Net P N) (ok : IsNet net) where
                     u.1,
                     z,
                     omega (arith, l1, l2, pn),
-                    ap (λ l. nth l n) line ∙ last _ _ (t + net.delay u.0, u.1) pn (ap (λ a. (a + net.delay u.0, u.1)) (sym pt)),
+                    ap (nth (after.sent (net.peer u.0))) pn ∙ grown u h ∙ ap (λ a. Some (a + net.delay u.0, u.1)) (sym pt),
                     λ q. d.2 (ap (λ w. w.busy) (sym (ap (λ o. turned s.port o u.0) d.1 ∙ set_here s.port u.0 d.0)) ∙ q),
                   )
 
@@ -405,7 +398,7 @@ module _ {P N : Type 0} (net : Net P N) (ok : IsNet net) where
                 length (s.sent (net.peer i)),
                 y,
                 omega (arith, l1, l2),
-                ap (λ l. nth l (length (s.sent (net.peer i)))) line ∙ nth_last (s.sent (net.peer i)) _ ∙ ap (λ u. Some (u + net.delay i, y)) (sym t),
+                grown (i, y) h ∙ ap (λ u. Some (u + net.delay i, y)) (sym t),
                 ap (λ u. get after.pending (key_of u (Complete i) (length (s.sent (net.peer i))))) t
                     ∙ put_has here (new_events net k s.sent what) (remove s.pending k) _ Completion (all (Complete i)) (among_ends net k s.sent what (i, y) h) (λ w a. only w (made_among net k s.sent what _ w a)),
               )

@@ -4,7 +4,7 @@ use Rattle.std.proofs.lemmas.Bool.{cases_lt}
 use Rattle.std.proofs.lemmas.Bool.Decides.{nat_tests}
 use Rattle.std.proofs.Common.{Ordering, Less, Equal, Greater}
 use Rattle.std.specs.Ordering.{nat_cmp, is_gt, is_lt, is_eq, eq_by_cmp, ordering_then, ordering_reverse}
-use Rattle.std.specs.Cmp.{IsTotalOrder, upto, tied_itself}
+use Rattle.std.specs.Cmp.{upto, tied_itself}
 use Rattle.std.specs.Cmp.Lexicographic.{slice_cmp}
 use Rattle.std.specs.FinMap.{FinMap, IsAntisymmetric, nat_cmp-IsAntisymmetric, slice_cmp-IsAntisymmetric, entries, entries_sorted, get, insert, remove, empty, find, is_sorted, get-entries, get-empty, get-insert, get-remove, same_map}
 use Rattle.std.specs.FinMap.Entries.{below_all}
@@ -95,10 +95,6 @@ two_ways Greater s e h k = absurd (true≢false h)
 pub up_to_both : (a b : Key) → IsUpTo a b → IsUpTo b a → a ≡ b
 unfolding IsUpTo
 up_to_both a b h k = key_antisymmetric a b (two_ways (key_cmp a b) (key_cmp b a) (key_cmp_total.antisymm a b) h k)
-
-pub up_to_trans : (a b c : Key) → IsUpTo a b → IsUpTo b c → IsUpTo a c
-unfolding IsUpTo
-up_to_trans a b c h k = upto key_cmp_total a b c h k
 
 pub up_to_self : (a : Key) → IsUpTo a a
 unfolding IsUpTo

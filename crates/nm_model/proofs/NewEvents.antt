@@ -112,6 +112,3 @@ module _ {P N : Type 0} (net : Net P N) where
 
       pub pending_other : (q : Key) → q ≢ k → ((y : Event P) → ¬ (IsNew net k sent e q y)) → get (schedule here (new_events net k sent e) (remove m k)) q ≡ get m q
       pending_other q g h = put_absent here (new_events net k sent e) (remove m k) q (absent_unless q _ (λ v a. h v (made_among q v a))) ∙ remove_other m k q g
-
-      pub pending_done : ((y : Event P) → ¬ (IsNew net k sent e k y)) → get (schedule here (new_events net k sent e) (remove m k)) k ≡ None
-      pending_done h = put_absent here (new_events net k sent e) (remove m k) k (absent_unless k _ (λ v a. h v (made_among k v a))) ∙ remove_same m k

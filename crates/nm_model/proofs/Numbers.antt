@@ -1,6 +1,5 @@
 -- The events of a place have the numbers 0, 1, 2 and so on.
-use Rattle.std.proofs.Common.{◌≡◌, ◌≢◌, ◌⊎◌, inl, inr, ℕ, zero, suc, ◌+◌, ◌<◌, ◌≤◌, ◌==◌, Bool, true, false, cond, List, [], ◌∷◌, ◌++◌, length, Option, Some, None, refl, sym, ap, ap₂, ◌∙◌, subst, arith, true≢false, ⊎_elim, length-append}
-use Rattle.std.proofs.lemmas.Bool.Decides.{nat_tests}
+use Rattle.std.proofs.Common.{◌≡◌, ◌≢◌, ◌⊎◌, inl, inr, ℕ, zero, suc, ◌+◌, Bool, true, false, cond, [], ◌∷◌, length, Option, Some, None, refl, sym, ap, ◌∙◌, arith, true≢false, ⊎_elim, length-append}
 use Rattle.std.specs.FinMap.{get}
 use Rattle.nm_base.specs.declared.key.Place.{Place}
 use Rattle.nm_base.specs.declared.key.Place.TheVariants.{Arrive, Complete, Fire}
@@ -10,14 +9,14 @@ use Rattle.nm_base.specs.declared.event.Event.{Event}
 use Rattle.nm_model.specs.EventList.{least}
 use Rattle.nm_model.specs.Network.{Net, IsNet}
 use Rattle.nm_model.specs.Port.{Busy, Port}
-use Rattle.nm_model.specs.Run.{State, Effect, effect, turned, step_at, one_list}
+use Rattle.nm_model.specs.Run.{State, Effect, effect, step_at, one_list}
 use Rattle.nm_model.specs.Before.{same_place, is_at, events_at}
 use Rattle.nm_model.proofs.Keys.{same_key, least_has}
 use Rattle.nm_model.proofs.ListLemmas.{number_is, number_tied, option_cases}
 use Rattle.nm_model.proofs.Effects.{EffectIs, effect_is}
-use Rattle.nm_model.proofs.NewEvents.{fire_inj, turned_case, sent_case, IsNew, Ends, Comes, GoesOn, pending_case}
-use Rattle.nm_model.proofs.Invariants.{Good, key_at, peer_inj, what, arrival_number, came_case, same_time}
-use Rattle.nm_model.proofs.Runs.{source_among, good_run, start_pending}
+use Rattle.nm_model.proofs.NewEvents.{turned_case, sent_case, IsNew, Ends, Comes, GoesOn, pending_case}
+use Rattle.nm_model.proofs.Invariants.{Good, key_at, peer_inj, arrival_number, came_case, same_time}
+use Rattle.nm_model.proofs.Runs.{good_run, start_pending}
 
 pub place_tied : (q : Place) → same_place q q ≡ true
 place_tied (Arrive i) = number_tied i

@@ -3,7 +3,7 @@ use Rattle.std.proofs.Common.{◌≡◌, ◌⊎◌, inl, inr, refl, ℕ, ◌+◌
 use Rattle.nm_base.specs.declared.key.Place.TheVariants.{Arrive}
 use Rattle.nm_model.specs.Lists.{nth}
 use Rattle.nm_model.specs.Network.{Net, IsNet}
-use Rattle.nm_model.specs.Port.{Busy, Port, busy_until}
+use Rattle.nm_model.specs.Port.{Busy, busy_until}
 use Rattle.nm_model.specs.Run.{one_list, pends_before}
 use Rattle.nm_model.specs.Knowledge.{Know, know, IsValid}
 use Rattle.nm_model.specs.Partition.{in_part, comes_in}

@@ -21,8 +21,7 @@ use Rattle.nm_model.proofs.ListLemmas.{number_tied, nth_prefix, prefix_nth}
 use Rattle.nm_model.proofs.Cut.{safe_stop, channel_inside}
 use Rattle.nm_model.proofs.CutLaw.{quiet, out_prefix}
 use Rattle.nm_model.proofs.Promises.{out_later}
-use Rattle.nm_model.specs.Promise.{Promising, Plain, Tight, lookahead, next_start}
-use Rattle.nm_model.specs.Port.{busy_until}
+use Rattle.nm_model.specs.Promise.{Promising, Plain, Tight, lookahead}
 use Rattle.nm_model.proofs.Books.{books, within_more}
 use Rattle.nm_model.proofs.Accepting.{last_is, under_self, data_under, null_under, null_valid, valid_next}
 use Rattle.nm_model.proofs.Certified.{from_since}

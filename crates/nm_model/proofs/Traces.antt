@@ -1,26 +1,23 @@
 -- What the records of a run say.
-use Rattle.std.proofs.Common.{◌≡◌, ◌≢◌, ◌⊎◌, inl, inr, ℕ, zero, suc, ◌+◌, ◌<◌, ◌≤◌, ◌==◌, ◌&&◌, Bool, true, false, cond, List, [], ◌∷◌, ◌++◌, length, Option, Some, None, refl, sym, ap, ap₂, ◌∙◌, subst, arith, ⊎_elim, append_assoc, append-nil, length-append}
+use Rattle.std.proofs.Common.{◌≡◌, ◌≢◌, ◌⊎◌, inl, inr, ℕ, zero, suc, ◌+◌, ◌<◌, ◌≤◌, Bool, true, false, cond, List, [], ◌∷◌, ◌++◌, length, Option, Some, None, refl, sym, ap, ap₂, ◌∙◌, subst, arith, ⊎_elim, append-nil, length-append}
 use Rattle.std.proofs.lemmas.Bool.{cases_lt}
 use Rattle.std.specs.FinMap.{get}
 use Rattle.nm_base.specs.declared.key.Place.{Place}
-use Rattle.nm_base.specs.declared.key.Place.TheVariants.{Arrive}
 use Rattle.nm_base.specs.declared.key.Key.{Key}
-use Rattle.nm_base.specs.Key.{key_of}
 use Rattle.nm_base.specs.declared.event.Event.{Event}
-use Rattle.nm_base.specs.declared.event.Event.TheVariants.{Delivery}
 use Rattle.nm_base.specs.declared.record.Dir.{Dir}
 use Rattle.nm_base.specs.declared.record.Dir.TheVariants.{In, Out}
 use Rattle.nm_base.specs.declared.record.Record.{Record}
 use Rattle.nm_model.specs.Lists.{nth, IsPrefix}
 use Rattle.nm_model.specs.EventList.{least}
 use Rattle.nm_model.specs.Network.{Net, IsNet}
-use Rattle.nm_model.specs.Run.{State, Effect, effect, in_record, out_record, arrived_after, step_at, run, start, one_list, pends_before}
+use Rattle.nm_model.specs.Run.{State, Effect, effect, in_record, out_record, step_at, run, start, one_list, pends_before}
 use Rattle.nm_model.specs.Trace.{passed}
 use Rattle.nm_model.proofs.Keys.{least_has, least_min, up_to_time}
-use Rattle.nm_model.proofs.ListLemmas.{same_number, number_tied, number_apart, set_here, set_there, below_nth, nth_push, nth_prefix, prefix_nth, prefix_self, prefix_trans}
+use Rattle.nm_model.proofs.ListLemmas.{number_tied, number_apart, nth_prefix, prefix_nth, prefix_trans}
 use Rattle.nm_model.proofs.Effects.{effect_is}
-use Rattle.nm_model.proofs.NewEvents.{arrive_inj, arrived_case, sent_case, sent_prefix, pending_case}
-use Rattle.nm_model.proofs.Invariants.{Good, peer_inj, arrival_number, nth_cong}
+use Rattle.nm_model.proofs.NewEvents.{arrived_case, sent_case, sent_prefix, pending_case}
+use Rattle.nm_model.proofs.Invariants.{Good, peer_inj, arrival_number}
 use Rattle.nm_model.proofs.Runs.{Sourced, sourced_run, makes_later, good_run}
 use Rattle.nm_model.proofs.CutLaw.{quiet}
 use Rattle.nm_model.proofs.Accepting.{prefix_push}

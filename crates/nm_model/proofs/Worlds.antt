@@ -1,11 +1,10 @@
 -- What holds of replicas over every schedule.
 use Rattle.std.proofs.Common.{◌≡◌, ◌⊎◌, inl, inr, ℕ, zero, suc, ◌+◌, ◌<◌, ◌≤◌, min, Bool, true, false, cond, ◌&&◌, leb, ◌-◌, drop, List, [], ◌∷◌, ◌++◌, length, Option, Some, None, refl, sym, ap, ◌∙◌, subst, arith, ⊎_elim}
 use Rattle.std.proofs.lemmas.Bool.{cases_lt}
-use Rattle.nm_base.specs.declared.key.Place.TheVariants.{Arrive}
 use Rattle.nm_model.specs.Accept.{Answer, accept_data, accept_null}
 use Rattle.nm_model.specs.Replica.{from_scratch, safe_time, IsWithin}
 use Rattle.nm_model.specs.Knowledge.{Know, know, IsValid, IsUnder, set_know}
-use Rattle.nm_model.specs.Partition.{comes_in, goes_out, receiver_of}
+use Rattle.nm_model.specs.Partition.{goes_out, receiver_of}
 use Rattle.nm_model.specs.Promise.{promise}
 use Rattle.nm_model.specs.Join.{join_faults, join_all}
 use Rattle.nm_model.specs.Lists.{nth, set_at}

@@ -1,5 +1,5 @@
 -- What is known of a channel: the messages that came, and the channel clock (Misra, section 2).
-use Rattle.std.specs.Prelude.{◌≡◌, ℕ, zero, suc, ◌≤◌, length, List, [], ◌∷◌, Option, Some}
+use Rattle.std.specs.Prelude.{◌≡◌, ℕ, zero, suc, ◌≤◌, length, List, [], ◌∷◌, Some}
 use Rattle.nm_model.specs.Lists.{nth, IsPrefix, IsRising}
 
 -- the first messages of a channel, each with its time of arrival, and that all later ones have times from the clock on
