@@ -23,3 +23,4 @@ mod Numbers
 mod Faults
 mod Certifying
 mod SameKnowledge
+mod Orders

@@ -7,6 +7,7 @@ pub mod Knowledge
 pub mod Accept
 pub mod Join
 pub mod Partition
+pub mod Orderly
 pub mod Replica
 pub mod Promise
 pub mod Before
