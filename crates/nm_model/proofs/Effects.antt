@@ -7,6 +7,7 @@ use Rattle.nm_base.specs.declared.event.Event.TheVariants.{Delivery, Completion}
 use Rattle.nm_base.specs.declared.event.Origin.TheVariants.{Arrival, Source}
 use Rattle.nm_model.specs.Port.{Busy, Port, offered, next_started, completed}
 use Rattle.nm_model.specs.Network.{Net, IsNet, node_of}
+use Rattle.nm_model.proofs.ListLemmas.{some_inj, not_some}
 use Rattle.nm_model.specs.Run.{Effect, at_iface, turned_by, sent_on, reacted, effect}
 
 pub record EffectIs {P N : Type 0} (net : Net P N) (ports : ℕ → Port P) (time : ℕ) (place : Place) (number : ℕ) (event : Event P) (e : Effect P N) : Type 0 where
@@ -21,8 +22,8 @@ pub record EffectIs {P N : Type 0} (net : Net P N) (ports : ℕ → Port P) (tim
   pub came_is : (a : ℕ × P) → e.came ≡ Some a → (place ≡ Arrive a.0) × (event ≡ Delivery a.1)
   pub came_has : (i : ℕ) (x : P) → place ≡ Arrive i → event ≡ Delivery x → e.came ≡ Some (i, x)
 
-pub some_none : {A : Type 0} (x : A) → Some x ≢ None
-some_none x e = cc
+some_none : {A : Type 0} (x : A) → Some x ≢ None
+some_none x e = not_some x (sym e)
 
 module _ {A : Type 0} where
   some_first : (i : ℕ) (v : A) (w : ℕ × A) → Some (i, v) ≡ Some w → i ≡ w.0
@@ -30,9 +31,6 @@ module _ {A : Type 0} where
 
   some_second : (i : ℕ) (v : A) (w : ℕ × A) → Some (i, v) ≡ Some w → v ≡ w.1
   some_second i v w e = let f : (i, v) ≡ w = cc in ap (λ z. z.1) f
-
-  some_same : (x y : A) → Some x ≡ Some y → x ≡ y
-  some_same x y e = cc
 
   at_iface_is : (i : ℕ) (o : Option A) (s : ℕ × A) → at_iface i o ≡ Some s → (i ≡ s.0) × (o ≡ Some s.1)
   at_iface_is i None s e = absurd (cc)
@@ -56,12 +54,12 @@ module _ {P : Type 0} (room : List P → P → Bool) (tx : P → ℕ) (now : ℕ
       go false f = absurd (cc)
 
   offered_keeps : (x : P) (d : ℕ) (q : Option (Busy P)) (b : Busy P) → (offered room tx now x d q).0.busy ≡ Some b → ((y : P) × ((offered room tx now x d q).1 ≡ Some y) × (b.completes ≡ now + tx y)) ⊎ ((c : Busy P) × ((offered room tx now x d q).1 ≡ None) × (q ≡ Some c) × (b.completes ≡ c.completes))
-  offered_keeps x d None b e = inl (x, refl, ap (λ z. z.completes) (sym (some_same _ b e)))
+  offered_keeps x d None b e = inl (x, refl, ap (λ z. z.completes) (sym (some_inj _ b e)))
   offered_keeps x d (Some c) b e = inr (go (room c.waiting x) e)
     where
       go : (z : Bool) → (cond {A = Port P × Option P} z (record { busy = Some (record { completes = c.completes; waiting = c.waiting ++ x ∷ [] }); dropped = d }, None) (record { busy = Some c; dropped = d + 1 }, None)).0.busy ≡ Some b → (c' : Busy P) × ((cond {A = Port P × Option P} z (record { busy = Some (record { completes = c.completes; waiting = c.waiting ++ x ∷ [] }); dropped = d }, None) (record { busy = Some c; dropped = d + 1 }, None)).1 ≡ None) × (Some c ≡ Some c') × (b.completes ≡ c'.completes)
-      go true f = (c, refl, refl, ap (λ z. z.completes) (sym (some_same _ b f)))
-      go false f = (c, refl, refl, ap (λ z. z.completes) (sym (some_same _ b f)))
+      go true f = (c, refl, refl, ap (λ z. z.completes) (sym (some_inj _ b f)))
+      go false f = (c, refl, refl, ap (λ z. z.completes) (sym (some_inj _ b f)))
 
   next_starts : (d : ℕ) (q : List P) (y : P) → (next_started tx now d q).1 ≡ Some y → (next_started tx now d q).0.busy ≢ None
   next_starts d [] y e = absurd (cc)
@@ -73,7 +71,7 @@ module _ {P : Type 0} (room : List P → P → Bool) (tx : P → ℕ) (now : ℕ
 
   next_keeps : (d : ℕ) (q : List P) (b : Busy P) → (next_started tx now d q).0.busy ≡ Some b → (y : P) × ((next_started tx now d q).1 ≡ Some y) × (b.completes ≡ now + tx y)
   next_keeps d [] b e = absurd (cc)
-  next_keeps d (x ∷ q) b e = (x, refl, ap (λ z. z.completes) (sym (some_same _ b e)))
+  next_keeps d (x ∷ q) b e = (x, refl, ap (λ z. z.completes) (sym (some_inj _ b e)))
 
   completed_keeps : (d : ℕ) (q : Option (Busy P)) (b : Busy P) → (completed tx now d q).0.busy ≡ Some b → (y : P) × ((completed tx now d q).1 ≡ Some y) × (b.completes ≡ now + tx y)
   completed_keeps d None b e = absurd (cc)

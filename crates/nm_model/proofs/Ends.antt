@@ -14,7 +14,7 @@ use Rattle.nm_model.specs.Lists.{nth}
 use Rattle.nm_model.specs.Run.{State, effect, new_events, start_events, next_events, made, step_at, run, pends_before}
 use Rattle.nm_model.proofs.Keys.{key_decides, same_events, insert_same, insert_other, remove_same, remove_other, least_has}
 use Rattle.nm_model.proofs.Scheduling.{IsAmong}
-use Rattle.nm_model.proofs.NewEvents.{made_among}
+use Rattle.nm_model.proofs.NewEvents.{IsNew, made_among}
 use Rattle.nm_model.proofs.Runs.{Sourced, sourced_run, makes_later}
 use Rattle.nm_model.proofs.CutLaw.{least_busy}
 use Rattle.nm_base.specs.declared.event.Event.{Event}
@@ -175,5 +175,8 @@ module _ {P N : Type 0} (net : Net P N) where
   nth_among (x ∷ es) zero f e = let g : x ≡ f = cc in inl (ap (λ z. z.0) (sym g), ap (λ z. z.1) (sym g))
   nth_among (x ∷ es) (suc m) f e = inr (nth_among es m f e)
 
+  pub made_new : (s : State P N) (e : Key × Event P) (m : ℕ) (f : Key × Event P) → nth (made net s e) m ≡ Some f → IsNew net e.0 s.sent (effect net s.node s.port e.0.time e.0.place e.0.number e.1) f.0 f.1
+  made_new s e m f a = made_among net e.0 s.sent (effect net s.node s.port e.0.time e.0.place e.0.number e.1) f.0 f.1 (nth_among _ m f a)
+
   pub made_after : IsNet net → (here : Place → Bool) (s : State P N) → Sourced net s → (e : Key × Event P) → least s.pending ≡ Some e → (m : ℕ) (f : Key × Event P) → nth (made net s e) m ≡ Some f → e.0.time < f.0.time
-  made_after ok here s h e l m f a = makes_later net ok here s h e (least_has s.pending e l) f.0 f.1 (made_among net e.0 s.sent (effect net s.node s.port e.0.time e.0.place e.0.number e.1) f.0 f.1 (nth_among _ m f a))
+  made_after ok here s h e l m f a = makes_later net ok here s h e (least_has s.pending e l) f.0 f.1 (made_new s e m f a)

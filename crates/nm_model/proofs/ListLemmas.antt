@@ -11,6 +11,12 @@ pub option_cases : {A : Type 0} (o : Option A) → (o ≡ None) ⊎ ((x : A) × 
 option_cases None = inl refl
 option_cases (Some x) = inr (x, refl)
 
+pub some_inj : {A : Type 0} (x y : A) → Some x ≡ Some y → x ≡ y
+some_inj x y e = cc
+
+pub not_some : {A : Type 0} (x : A) → None ≡ Some x → ⊥
+not_some x e = cc
+
 pub same_number : (i j : ℕ) → (i ≡ j) ⊎ (i ≢ j)
 same_number i j = grind (arith, nat_tests)
 

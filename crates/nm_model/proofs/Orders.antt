@@ -14,12 +14,24 @@ use Rattle.nm_model.specs.Port.{Busy, Port}
 use Rattle.nm_model.specs.Run.{State, Effect, effect, sent_after, new_events, start_events, next_events, made, step_at, step, run, start, source_events, first_event}
 use Rattle.nm_model.specs.Orderly.{IsByNode, IsOrderly}
 use Rattle.nm_model.proofs.Keys.{get_empty, same_key, key_decides, insert_same, insert_other, remove_other, remove_same, least_has}
-use Rattle.nm_model.proofs.ListLemmas.{bool_cases, option_cases, set_here, prefix_length}
+use Rattle.nm_model.proofs.ListLemmas.{some_inj, not_some, bool_cases, option_cases, set_here, prefix_length}
 use Rattle.nm_model.proofs.Scheduling.{IsAmong, put_from, put_has, put_elsewhere, among-append}
 use Rattle.nm_model.proofs.Effects.{EffectIs, effect_is}
 use Rattle.nm_model.proofs.NewEvents.{arrive_inj, complete_inj, fire_inj, turned_case, sent_case, sent_prefix, IsNew, Ends, Comes, GoesOn, made_among, among_ends, pending_case, pending_other}
 use Rattle.nm_model.proofs.Invariants.{key_at, peer_inj, same_time}
 use Rattle.nm_model.proofs.Runs.{source_among}
+
+complete_fire : (i j : ℕ) → Complete i ≡ Fire j → ⊥
+complete_fire i j e = cc
+
+complete_arrive : (i j : ℕ) → Complete i ≡ Arrive j → ⊥
+complete_arrive i j e = cc
+
+arrive_fire : (i j : ℕ) → Arrive i ≡ Fire j → ⊥
+arrive_fire i j e = cc
+
+fire_arrive : (i j : ℕ) → Fire i ≡ Arrive j → ⊥
+fire_arrive i j e = cc
 
 module _ {P N : Type 0} (net : Net P N) (ok : IsNet net) (here : Place → Bool) (by_node : IsByNode net here) where
   -- messages by channels
@@ -50,17 +62,6 @@ module _ {P N : Type 0} (net : Net P N) (ok : IsNet net) (here : Place → Bool)
       one_source = λ j t u m n y z e f. first j t m y e ∙ sym (first j u n z f);
     }
       where
-        complete_fire : (i j : ℕ) → Complete i ≡ Fire j → ⊥
-        complete_fire i j e = cc
-
-        complete_arrive : (i j : ℕ) → Complete i ≡ Arrive j → ⊥
-        complete_arrive i j e = cc
-
-        arrive_fire : (i j : ℕ) → Arrive i ≡ Fire j → ⊥
-        arrive_fire i j e = cc
-
-        fire_arrive : (i j : ℕ) → Fire i ≡ Arrive j → ⊥
-        fire_arrive i j e = cc
 
         first : (j t m : ℕ) (y : Event P) → get (start net here messages).pending (key_of t (Fire j) m) ≡ Some y → m ≡ 0
         first j t m y e = ⊎_elim (λ r. r.2) (λ r. absurd (fire_arrive j r.0 r.2)) (begun_from (key_of t (Fire j) m) y e)
@@ -98,10 +99,7 @@ module _ {P N : Type 0} (net : Net P N) (ok : IsNet net) (here : Place → Bool)
     start_here u h = let d = is.start_turn u h in by_node (Arrive u.0) e.0.place (is.turn_owner (u.0, d.0) d.1) ∙ is_here
 
     same_start : (u v : ℕ × P) → does.start ≡ Some u → does.start ≡ Some v → u ≡ v
-    same_start u v f g = some_same u v (sym f ∙ g)
-      where
-        some_same : (u v : ℕ × P) → ◌≡◌ {A = Option (ℕ × P)} (Some u) (Some v) → u ≡ v
-        some_same u v z = cc
+    same_start u v f g = some_inj u v (sym f ∙ g)
 
     -- what is put on the far end
     line : (u : ℕ × P) → does.start ≡ Some u → length (after.sent (net.peer u.0)) ≡ suc (length (s.sent (net.peer u.0)))
@@ -123,11 +121,8 @@ module _ {P N : Type 0} (net : Net P N) (ok : IsNet net) (here : Place → Bool)
     one_completion i t n y g pl =
         let a = o.completion i t n y g in
         let b = o.completion i e.0.time e.0.number e.1 (has_at (Complete i) pl) in
-        let same : a.0 ≡ b.0 = some_busy a.0 b.0 (sym a.2 ∙ b.2) in
+        let same : a.0 ≡ b.0 = some_inj a.0 b.0 (sym a.2 ∙ b.2) in
         same_key _ _ (sym a.3 ∙ ap (λ z. z.completes) same ∙ b.3) (sym pl) (omega (arith, a.4, b.4))
-      where
-        some_busy : (b c : Busy P) → Some b ≡ Some c → b ≡ c
-        some_busy b c z = cc
 
     -- an interface at which nothing starts and no transmission completes
     going_on : (i : ℕ) (b : Busy P) → (s.port i).busy ≡ Some b → (e.0.place ≢ Complete i) → (c : Busy P) × ((after.port i).busy ≡ Some c) × (c.completes ≡ b.completes) × (after.sent (net.peer i) ≡ s.sent (net.peer i))
@@ -135,18 +130,12 @@ module _ {P N : Type 0} (net : Net P N) (ok : IsNet net) (here : Place → Bool)
         (λ t. ⊎_elim
         (λ z. absurd (ne (is.turn_idle (i, t.0) t.1 z)))
         (λ z. ⊎_elim
-        (λ a. absurd (⊎_elim (λ free. none_some b (sym free ∙ f)) ne (is.start_free (i, a.0) a.1)))
-        (λ a. (z.0, ap (λ w. w.busy) t.2 ∙ z.1, a.3 ∙ ap (λ c. c.completes) (some_busy a.0 b (sym a.2 ∙ f)), ap (λ v. sent_after net e.0.time s.sent v (net.peer i)) a.1))
+        (λ a. absurd (⊎_elim (λ free. not_some b (sym free ∙ f)) ne (is.start_free (i, a.0) a.1)))
+        (λ a. (z.0, ap (λ w. w.busy) t.2 ∙ z.1, a.3 ∙ ap (λ c. c.completes) (some_inj a.0 b (sym a.2 ∙ f)), ap (λ v. sent_after net e.0.time s.sent v (net.peer i)) a.1))
         (is.turn_busy (i, t.0) t.1 z.0 z.1))
         (option_cases t.0.busy))
         (λ t. (b, ap (λ w. w.busy) t.1 ∙ f, refl, unstarted i (unturned i t.0)))
         (turned_case s.port does.turn i)
-      where
-        none_some : (b : Busy P) → None ≡ Some b → ⊥
-        none_some b z = cc
-
-        some_busy : (b c : Busy P) → Some b ≡ Some c → b ≡ c
-        some_busy b c z = cc
 
     completion_after : (i t n : ℕ) (y : Event P) → get after.pending (key_of t (Complete i) n) ≡ Some y → (b : Busy P) × (y ≡ Completion) × ((after.port i).busy ≡ Some b) × (b.completes ≡ t) × (suc n ≡ length (after.sent (net.peer i)))
     completion_after i t n y g = ⊎_elim new (λ h. old h.0 h.1) (pending_case net e.0 s.sent does here s.pending (key_of t (Complete i) n) y g)
@@ -164,10 +153,7 @@ module _ {P N : Type 0} (net : Net P N) (ok : IsNet net) (here : Place → Bool)
             (turned_case s.port does.turn j)
           where
             same_port : (v : Port P) → does.turn ≡ Some (j, v) → v ≡ w
-            same_port v f = let z : ◌≡◌ {A = Option (ℕ × Port P)} (Some (j, v)) (Some (j, w)) = sym f ∙ h in some_second v z
-              where
-                some_second : (v : Port P) → ◌≡◌ {A = Option (ℕ × Port P)} (Some (j, v)) (Some (j, w)) → v ≡ w
-                some_second v z = let g : ◌≡◌ {A = ℕ × Port P} (j, v) (j, w) = cc in ap (λ q. q.1) g
+            same_port v f = ap (λ z. z.1) (some_inj {A = ℕ × Port P} (j, v) (j, w) (sym f ∙ h))
 
         at_start : (u : ℕ × P) → does.start ≡ Some u → (b : Busy P) × ((after.port u.0).busy ≡ Some b) × (b.completes ≡ e.0.time + net.tx u.0 u.1)
         at_start u h =
@@ -176,12 +162,9 @@ module _ {P N : Type 0} (net : Net P N) (ok : IsNet net) (here : Place → Bool)
             (λ z. absurd (d.2 z))
             (λ z. ⊎_elim
             (λ a. (z.0, ap (λ w. w.busy) (turned_to u.0 d.0 d.1) ∙ z.1, a.2 ∙ ap (λ (v : ℕ × P). e.0.time + net.tx u.0 v.1) (same_start (u.0, a.0) u a.1 h)))
-            (λ a. absurd (some_none u (sym h ∙ a.1)))
+            (λ a. absurd (not_some u (sym a.1 ∙ h)))
             (is.turn_busy (u.0, d.0) d.1 z.0 z.1))
             (option_cases d.0.busy)
-          where
-            some_none : (u : ℕ × P) → ◌≡◌ {A = Option (ℕ × P)} (Some u) None → ⊥
-            some_none u z = cc
 
         new : IsNew net e.0 s.sent does (key_of t (Complete i) n) y → (b : Busy P) × (y ≡ Completion) × ((after.port i).busy ≡ Some b) × (b.completes ≡ t) × (suc n ≡ length (after.sent (net.peer i)))
         new (Comes u h q z) = absurd (let w = ap (λ r. r.place) q in cc)
@@ -213,10 +196,7 @@ module _ {P N : Type 0} (net : Net P N) (ok : IsNet net) (here : Place → Bool)
             not_done : (n : ℕ) (c : Busy P) → get s.pending (key_of c.completes (Complete i) n) ≡ Some Completion → key_of c.completes (Complete i) n ≢ e.0
             not_done n c h eq =
                 let g' : get s.pending e.0 ≡ Some Completion = ap (get s.pending) (sym eq) ∙ h in
-                still (sym (ap (λ r. r.place) eq)) (some_event e.1 Completion (sym has ∙ g'))
-              where
-                some_event : (x y : Event P) → Some x ≡ Some y → x ≡ y
-                some_event x y z = cc
+                still (sym (ap (λ r. r.place) eq)) (some_inj e.1 Completion (sym has ∙ g'))
 
             not_new : (n : ℕ) (c : Busy P) → suc n ≡ length (s.sent (net.peer i)) → (z : Event P) → ¬ (IsNew net e.0 s.sent does (key_of c.completes (Complete i) n) z)
             not_new n c m z (Comes u h q i') = absurd (let w = ap (λ r. r.place) q in cc)
@@ -305,14 +285,11 @@ module _ {P N : Type 0} (net : Net P N) (ok : IsNet net) (here : Place → Bool)
     fresh_key q y new = ⊎_elim
         (λ f. f)
         (λ f. absurd (⊎_elim
-        (λ h. let g = remove_same s.pending e.0 in let z : get (remove s.pending e.0) e.0 ≡ Some f.0 = ap (get (remove s.pending e.0)) (sym h) ∙ f.1 in none_some f.0 (sym g ∙ z))
+        (λ h. let g = remove_same s.pending e.0 in let z : get (remove s.pending e.0) e.0 ≡ Some f.0 = ap (get (remove s.pending e.0)) (sym h) ∙ f.1 in not_some f.0 (sym g ∙ z))
         (λ h. taken q f.0 h (sym (remove_other s.pending e.0 q h) ∙ f.1) new)
         (key_decides q e.0)))
         (option_cases (get (remove s.pending e.0) q))
       where
-        none_some : (x : Event P) → None ≡ Some x → ⊥
-        none_some x z = cc
-
         taken : (q : Key) (z : Event P) → q ≢ e.0 → get s.pending q ≡ Some z → IsNew net e.0 s.sent does q y → ⊥
         taken q z ne g (Ends u h f i) =
             let a = o.completion u.0 (e.0.time + net.tx u.0 u.1) (length (s.sent (net.peer u.0))) z (ap (get s.pending) (sym f) ∙ g) in omega (arith, a.4)
@@ -332,6 +309,7 @@ module _ {P N : Type 0} (net : Net P N) (ok : IsNet net) (here : Place → Bool)
   orderly_run zero s h = h
   orderly_run (suc n) s h = orderly_step (run net here n s) (orderly_run n s h) _ refl
 
+module _ {P N : Type 0} (net : Net P N) (here : Place → Bool) where
   -- a message that comes by a channel
   pub orderly_put : (s : State P N) → IsOrderly net here s → (c t n : ℕ) (x : P) → here (Arrive c) ≡ true → here (Arrive (net.peer c)) ≡ false → IsOrderly net here (record s { pending = insert s.pending (key_of t (Arrive c) n) (Delivery x) })
   orderly_put s h c t n x mn far = record {
@@ -339,7 +317,7 @@ module _ {P N : Type 0} (net : Net P N) (ok : IsNet net) (here : Place → Bool)
     busy = λ i b f g. let a = h.busy i b f g in (a.0, a.1, other (key_of b.completes (Complete i) a.0) (λ e. let z = ap (λ r. r.place) e in complete_arrive i c z) ∙ a.2);
     completion = λ i u m y e. h.completion i u m y (sym (other (key_of u (Complete i) m) (λ f. let z = ap (λ r. r.place) f in complete_arrive i c z)) ∙ e);
     arrival = λ d u m y e. ⊎_elim
-        (λ f. (x, some_event y (Delivery x) (sym (ap (get (insert s.pending (key_of t (Arrive c) n) (Delivery x))) (sym f) ∙ e) ∙ insert_same s.pending (key_of t (Arrive c) n) (Delivery x))))
+        (λ f. (x, some_inj y (Delivery x) (sym (ap (get (insert s.pending (key_of t (Arrive c) n) (Delivery x))) (sym f) ∙ e) ∙ insert_same s.pending (key_of t (Arrive c) n) (Delivery x))))
         (λ f. h.arrival d u m y (sym (other (key_of u (Arrive d) m) f) ∙ e))
         (key_decides (key_of u (Arrive d) m) (key_of t (Arrive c) n));
     inner = λ d u m y g e. h.inner d u m y g (sym (other (key_of u (Arrive d) m) (λ f. let z = arrive_inj d c (ap (λ r. r.place) f) in true≢false (sym g ∙ ap (λ j. here (Arrive (net.peer j))) z ∙ far))) ∙ e);
@@ -350,11 +328,25 @@ module _ {P N : Type 0} (net : Net P N) (ok : IsNet net) (here : Place → Bool)
       other : (q : Key) → q ≢ key_of t (Arrive c) n → get (insert s.pending (key_of t (Arrive c) n) (Delivery x)) q ≡ get s.pending q
       other q f = insert_other s.pending (key_of t (Arrive c) n) (Delivery x) q f
 
-      complete_arrive : (i j : ℕ) → Complete i ≡ Arrive j → ⊥
-      complete_arrive i j e = cc
+-- the events that an event makes are at different places
+module _ {P N : Type 0} (net : Net P N) where
+  apart : (k : Key) (sent : ℕ → List (ℕ × P)) (begins follows : Option (ℕ × P)) → ((f : ℕ × P) → follows ≡ Some f → (j : ℕ) × (k.place ≡ Fire j)) → (m n : ℕ) (f g : Key × Event P) → m < n → nth (start_events net k.time sent begins ++ next_events k.place k.number follows) m ≡ Some f → nth (start_events net k.time sent begins ++ next_events k.place k.number follows) n ≡ Some g → f.0.place ≢ g.0.place
+  apart k sent None None h m n f g lt a b = absurd (cc)
+  apart k sent None (Some v) h m zero f g lt a b = absurd (omega arith)
+  apart k sent None (Some v) h m (suc n) f g lt a b = absurd (cc)
+  apart k sent (Some u) None h m zero f g lt a b = absurd (omega arith)
+  apart k sent (Some u) None h zero (suc zero) f g lt a b = λ e. complete_arrive u.0 (net.peer u.0) (ap (λ z. z.0.place) (some_inj _ f a) ∙ e ∙ ap (λ z. z.0.place) (sym (some_inj _ g b)))
+  apart k sent (Some u) None h (suc m) (suc zero) f g lt a b = absurd (omega arith)
+  apart k sent (Some u) None h m (suc (suc n)) f g lt a b = absurd (cc)
+  apart k sent (Some u) (Some v) h m zero f g lt a b = absurd (omega arith)
+  apart k sent (Some u) (Some v) h zero (suc zero) f g lt a b = λ e. complete_arrive u.0 (net.peer u.0) (ap (λ z. z.0.place) (some_inj _ f a) ∙ e ∙ ap (λ z. z.0.place) (sym (some_inj _ g b)))
+  apart k sent (Some u) (Some v) h (suc m) (suc zero) f g lt a b = absurd (omega arith)
+  apart k sent (Some u) (Some v) h zero (suc (suc zero)) f g lt a b = λ e. let j = h v refl in complete_fire u.0 j.0 (ap (λ z. z.0.place) (some_inj _ f a) ∙ e ∙ ap (λ z. z.0.place) (sym (some_inj _ g b)) ∙ j.1)
+  apart k sent (Some u) (Some v) h (suc zero) (suc (suc zero)) f g lt a b = λ e. let j = h v refl in arrive_fire (net.peer u.0) j.0 (ap (λ z. z.0.place) (some_inj _ f a) ∙ e ∙ ap (λ z. z.0.place) (sym (some_inj _ g b)) ∙ j.1)
+  apart k sent (Some u) (Some v) h (suc (suc m)) (suc (suc zero)) f g lt a b = absurd (omega arith)
+  apart k sent (Some u) (Some v) h m (suc (suc (suc n))) f g lt a b = absurd (cc)
 
-      fire_arrive : (i j : ℕ) → Fire i ≡ Arrive j → ⊥
-      fire_arrive i j e = cc
-
-      some_event : (x y : Event P) → Some x ≡ Some y → x ≡ y
-      some_event x y z = cc
+  pub made_apart : IsNet net → (s : State P N) (e : Key × Event P) (m n : ℕ) (f g : Key × Event P) → m < n → nth (made net s e) m ≡ Some f → nth (made net s e) n ≡ Some g → f.0 ≢ g.0
+  made_apart ok s e m n f g lt a b h =
+      let does = effect net s.node s.port e.0.time e.0.place e.0.number e.1 in
+      apart e.0 s.sent does.start does.follows (λ v q. let r = (effect_is net ok s.node s.port e.0.time e.0.place e.0.number e.1).follows_is v q in (r.0, r.1)) m n f g lt a b (ap (λ z. z.place) h)

@@ -1,5 +1,5 @@
 -- The laws as the functions state them.
-use Rattle.std.proofs.Common.{◌≡◌, ℕ, ◌<◌, ◌≤◌, true, List, [], length, Some, sym, ◌∙◌, arith, true≢false, ⊎_elim}
+use Rattle.std.proofs.Common.{◌≡◌, ℕ, ◌<◌, ◌≤◌, ◌==◌, Bool, true, not, refl, ap, None, List, [], length, Some, sym, ◌∙◌, arith, true≢false, ⊎_elim}
 use Rattle.std.proofs.lemmas.Bool.{cases_lt}
 use Rattle.nm_base.specs.declared.key.Place.TheVariants.{Arrive, Fire}
 use Rattle.nm_base.specs.declared.key.Key.{Key}
@@ -11,14 +11,20 @@ use Rattle.nm_model.specs.Promise.{Promising, promise}
 use Rattle.nm_model.specs.Lists.{nth, IsPrefix, IsRising}
 use Rattle.nm_model.specs.Network.{Net, IsNet}
 use Rattle.nm_model.specs.Before.{events_at, IsBefore, IsCount, IsKnowledge, history, trace}
-use Rattle.nm_model.specs.Run.{one_list, start, made}
+use Rattle.nm_model.specs.Run.{State, step, one_list, start, made}
 use Rattle.nm_model.proofs.Invariants.{arrival_number}
 use Rattle.nm_model.proofs.Runs.{sourced_start, sourced_one, good_run}
 use Rattle.nm_model.proofs.Certified.{from_sourced}
 use Rattle.nm_model.proofs.Traces.{ordered_run}
 use Rattle.nm_base.specs.declared.record.Record.{Record}
+use Rattle.nm_base.specs.declared.key.Place.{Place}
+use Rattle.std.specs.FinMap.{get, remove}
+use Rattle.nm_model.specs.Orderly.{IsByNode, IsOrderly}
+use Rattle.nm_model.proofs.Keys.{least_has}
+use Rattle.nm_model.proofs.Cut.{and_both, not_true}
+use Rattle.nm_model.proofs.Orders.{orderly_start, orderly_run, orderly_step, fresh_key}
 use Rattle.nm_model.proofs.Begin.{inbox_at}
-use Rattle.nm_model.proofs.Ends.{drains, made_after}
+use Rattle.nm_model.proofs.Ends.{drains, made_after, made_new}
 use Rattle.nm_model.proofs.CutLaw.{cut_of, meets, trace_prefix, trace_exact, out_prefix}
 use Rattle.nm_model.proofs.Promises.{out_later}
 use Rattle.nm_base.specs.declared.event.Event.{Event}
@@ -73,3 +79,27 @@ module _ {P N : Type 0} (net : Net P N) (ok : IsNet net) where
 
       pub out_goes_on : (k last c : ℕ) → IsWithin net p K k → IsBefore net net.stop last → in_part net p (Arrive (net.peer c)) ≡ true → (i : ℕ) (b : ℕ × P) → length ((from_scratch net p K k).sent c) ≤ i → nth (history net last c) i ≡ Some b → (kind : Promising) → promise net kind p K k c ≤ b.0
       out_goes_on k last c w d mc i b le e kind = out_later net ok p K last d.over (valid last d) k c w mc i b le e kind
+
+-- every state is orderly
+module _ {P N : Type 0} (net : Net P N) where
+  pub part_by_node : (p : ℕ) → IsByNode net (in_part net p)
+  part_by_node p q r e = ap (λ v. net.part v == p) e
+
+  pub all_by_node : IsByNode net (λ q. true)
+  all_by_node q r e = refl
+
+  module _ (ok : IsNet net) where
+    pub orderly_whole : (n : ℕ) → IsOrderly net (λ q. true) (one_list net n)
+    orderly_whole n = orderly_run net ok (λ q. true) all_by_node n _ (orderly_start net ok (λ q. true) all_by_node [] (λ q y a. absurd a))
+
+    pub orderly_part : (p : ℕ) (K : List (Know P)) (k : ℕ) → IsOrderly net (in_part net p) (from_scratch net p K k)
+    orderly_part p K k = orderly_run net ok (in_part net p) (part_by_node p) k _ (orderly_start net ok (in_part net p) (part_by_node p) (inbox_events net p 0 K) (λ q y a.
+        let r = inbox_at net p K q y a in
+        let b = and_both _ (not (in_part net p (Arrive (net.peer r.0)))) r.2 in
+        (r.0, r.3, r.1, r.4, b.0, not_true _ b.1)))
+
+    pub orderly_next : (here : Place → Bool) → IsByNode net here → (s : State P N) → IsOrderly net here s → IsOrderly net here (step net here s)
+    orderly_next here by s h = orderly_step net ok here by s h (least s.pending) refl
+
+    pub made_fresh : (here : Place → Bool) → IsByNode net here → (s : State P N) → IsOrderly net here s → (e : Key × Event P) → least s.pending ≡ Some e → (m : ℕ) (f : Key × Event P) → nth (made net s e) m ≡ Some f → get (remove s.pending e.0) f.0 ≡ None
+    made_fresh here by s h e l m f a = fresh_key net ok here by s h e (least_has s.pending e l) f.0 f.1 (made_new net s e m f a)

@@ -7,6 +7,7 @@
 
 pub mod certificate;
 pub mod knowledge;
+pub mod orderly;
 pub mod promise;
 pub mod replica;
 pub mod rounds;
