@@ -24,3 +24,4 @@ mod Faults
 mod Certifying
 mod SameKnowledge
 mod Orders
+mod TwoHosts

@@ -62,7 +62,6 @@ module _ {P N : Type 0} (net : Net P N) (ok : IsNet net) (here : Place → Bool)
       one_source = λ j t u m n y z e f. first j t m y e ∙ sym (first j u n z f);
     }
       where
-
         first : (j t m : ℕ) (y : Event P) → get (start net here messages).pending (key_of t (Fire j) m) ≡ Some y → m ≡ 0
         first j t m y e = ⊎_elim (λ r. r.2) (λ r. absurd (fire_arrive j r.0 r.2)) (begun_from (key_of t (Fire j) m) y e)
 
@@ -148,7 +147,7 @@ module _ {P N : Type 0} (net : Net P N) (ok : IsNet net) (here : Place → Bool)
 
         turned_to : (j : ℕ) (w : Port P) → does.turn ≡ Some (j, w) → after.port j ≡ w
         turned_to j w h = ⊎_elim
-            (λ t. t.2 ∙ same_port t.0 (t.1) )
+            (λ t. t.2 ∙ same_port t.0 (t.1))
             (λ t. absurd (t.0 w h))
             (turned_case s.port does.turn j)
           where
@@ -208,11 +207,11 @@ module _ {P N : Type 0} (net : Net P N) (ok : IsNet net) (here : Place → Bool)
 
         begins : (x : P) → does.start ≡ Some (i, x) → b.completes ≡ e.0.time + net.tx i x → (n : ℕ) × (suc n ≡ length (after.sent (net.peer i))) × (get after.pending (key_of b.completes (Complete i) n) ≡ Some Completion)
         begins x h t = (
-            length (s.sent (net.peer i)),
-            sym (line (i, x) h),
-            ap (λ u. get after.pending (key_of u (Complete i) (length (s.sent (net.peer i))))) t
-                ∙ put_has here (new_events net e.0 s.sent does) (remove s.pending e.0) _ Completion mn (among_ends net e.0 s.sent does (i, x) h) (λ w a. only w (made_among net e.0 s.sent does _ w a)),
-          )
+          length (s.sent (net.peer i)),
+          sym (line (i, x) h),
+          ap (λ u. get after.pending (key_of u (Complete i) (length (s.sent (net.peer i))))) t
+              ∙ put_has here (new_events net e.0 s.sent does) (remove s.pending e.0) _ Completion mn (among_ends net e.0 s.sent does (i, x) h) (λ w a. only w (made_among net e.0 s.sent does _ w a)),
+        )
           where
             only : (w : Event P) → IsNew net e.0 s.sent does (key_of (e.0.time + net.tx i x) (Complete i) (length (s.sent (net.peer i)))) w → w ≡ Completion
             only w (Ends v h' q z) = z

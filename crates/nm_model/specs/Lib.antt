@@ -15,3 +15,4 @@ pub mod Trace
 pub mod World
 pub mod Rounds
 pub mod Certificate
+pub mod Example

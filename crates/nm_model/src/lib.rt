@@ -6,6 +6,7 @@
 #![tactic(auto)]
 
 pub mod certificate;
+pub mod example;
 pub mod knowledge;
 pub mod orderly;
 pub mod promise;

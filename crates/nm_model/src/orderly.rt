@@ -31,7 +31,7 @@ pub fn every_state_is_orderly<P, N>()
     ensures told { (net : Net P N) (here : Place → Bool) (s : State P N) → IsOrderly net here s
         → (c t n : ℕ) (x : P) → here (Arrive c) ≡ true → here (Arrive (net.peer c)) ≡ false
         → IsOrderly net here
-            (record s { pending = insert s.pending (key_of t (Arrive c) n) (Delivery x) }) }
+        (record s { pending = insert s.pending (key_of t (Arrive c) n) (Delivery x) }) }
     ensures parts { (net : Net P N) (p : ℕ) → IsByNode net (in_part net p) }
 {}
 
