@@ -79,7 +79,7 @@ module _ {P N : Type 0} (net : Net P N) (ok : IsNet net) (p : ℕ) where
     among_new : (c n t : ℕ) (y : P) → comes_in net p c ≡ true → length (know K c).list ≤ n → nth (know J c).list n ≡ Some (t, y) → IsAmong (key_of t (Arrive c) n) (Delivery y) (new_messages net p K J)
     among_new c n t y ch le e = kept_among (λ e. is_past K e.0.place e.0.number) (key_of t (Arrive c) n) (Delivery y) _ (at_inbox net p J c n t y ch e) (grind (arith, nat_tests))
 
-    new_later : (q : Key) (y : Event P) → IsAmong q y (new_messages net p K J) → safe_time net p K ≤ q.time
+    pub new_later : (q : Key) (y : Event P) → IsAmong q y (new_messages net p K J) → safe_time net p K ≤ q.time
     new_later q y a =
         let r = new_among q y a in
         let l = (under r.0 r.2).later q.number (q.time, r.4) r.3 r.6 in
@@ -207,7 +207,7 @@ module _ {P N : Type 0} (net : Net P N) (ok : IsNet net) (p : ℕ) where
         is_own : (e : Key × Event P) → get (from_scratch net p K k).pending e.0 ≡ Some e.1 → in_part net p e.0.place ≡ true
         is_own e h = ⊎_elim (λ t. t) (λ f. let none = alien K k e.0 f in absurd (cc)) (bool_cases (in_part net p e.0.place))
 
-    safe_rises : (n : ℕ) → n ≤ net.ifaces → safe_among net p K n ≤ safe_among net p J n
+    pub safe_rises : (n : ℕ) → n ≤ net.ifaces → safe_among net p K n ≤ safe_among net p J n
     safe_rises zero h = omega arith
     safe_rises (suc n) h = go (comes_in net p n) refl (safe_rises n (omega arith))
       where

@@ -24,7 +24,7 @@ use Rattle.nm_base.specs.declared.event.Event.{Event}
 kept_prefix : {A : Type 0} (f : A → Bool) (xs ys : List A) → IsPrefix xs ys → IsPrefix (keep_where f xs) (keep_where f ys)
 kept_prefix f xs ys a = (keep_where f a.0, sym (kept-append f xs a.0) ∙ ap (keep_where f) a.1)
 
-until_at_most : {P : Type 0} (t : ℕ) (o : Option (Key × Event P)) → next_time t o ≤ t
+pub until_at_most : {P : Type 0} (t : ℕ) (o : Option (Key × Event P)) → next_time t o ≤ t
 until_at_most t None = omega arith
 until_at_most t (Some e) = omega arith
 

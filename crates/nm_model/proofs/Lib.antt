@@ -25,3 +25,4 @@ mod Certifying
 mod SameKnowledge
 mod Orders
 mod TwoHosts
+mod NeverFalling

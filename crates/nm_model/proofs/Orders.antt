@@ -124,7 +124,7 @@ module _ {P N : Type 0} (net : Net P N) (ok : IsNet net) (here : Place → Bool)
         same_key _ _ (sym a.3 ∙ ap (λ z. z.completes) same ∙ b.3) (sym pl) (omega (arith, a.4, b.4))
 
     -- an interface at which nothing starts and no transmission completes
-    going_on : (i : ℕ) (b : Busy P) → (s.port i).busy ≡ Some b → (e.0.place ≢ Complete i) → (c : Busy P) × ((after.port i).busy ≡ Some c) × (c.completes ≡ b.completes) × (after.sent (net.peer i) ≡ s.sent (net.peer i))
+    pub going_on : (i : ℕ) (b : Busy P) → (s.port i).busy ≡ Some b → (e.0.place ≢ Complete i) → (c : Busy P) × ((after.port i).busy ≡ Some c) × (c.completes ≡ b.completes) × (after.sent (net.peer i) ≡ s.sent (net.peer i))
     going_on i b f ne = ⊎_elim
         (λ t. ⊎_elim
         (λ z. absurd (ne (is.turn_idle (i, t.0) t.1 z)))

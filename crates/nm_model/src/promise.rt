@@ -6,7 +6,7 @@ ghost use Rattle.nm_model.specs.Lists.{nth, IsPrefix};
 ghost use Rattle.nm_model.specs.Network.{Net, IsNet};
 ghost use Rattle.nm_model.specs.Knowledge.{Know};
 ghost use Rattle.nm_model.specs.Partition.{in_part};
-ghost use Rattle.nm_model.specs.Replica.{from_scratch, IsWithin};
+ghost use Rattle.nm_model.specs.Replica.{from_scratch, safe_time, IsWithin, IsUnderAll};
 ghost use Rattle.nm_model.specs.Promise.{Promising, Plain, Tight, promise};
 ghost use Rattle.nm_model.specs.Before.{IsBefore, IsKnowledge, history};
 
@@ -24,4 +24,13 @@ pub fn promises_kept<P, N>()
         → (kind : Promising) → promise net kind p K k c ≤ b.0 }
     ensures tighter { (net : Net P N) (p : ℕ) (K : List (Know P)) (k c : ℕ)
         → promise net Plain p K k c ≤ promise net Tight p K k c }
+{}
+
+/// The safe time and the promises never fall, whatever is done and whatever more is known.
+pub fn promises_never_fall<P, N>()
+    ensures safe { (net : Net P N) → IsNet net → (p : ℕ) (K J : List (Know P))
+        → IsUnderAll net p K J → safe_time net p K ≤ safe_time net p J }
+    ensures promised { (net : Net P N) → IsNet net → (p : ℕ) (K J : List (Know P))
+        → IsUnderAll net p K J → (k m : ℕ) → k ≤ m → IsWithin net p K k → IsWithin net p J m
+        → (kind : Promising) (c : ℕ) → promise net kind p K k c ≤ promise net kind p J m c }
 {}
