@@ -1,23 +1,24 @@
 -- A partition and the whole network at the start.
-use Rattle.std.proofs.Common.{◌≡◌, ◌⊎◌, inl, inr, ℕ, zero, suc, ◌+◌, Bool, true, false, cond, List, [], ◌∷◌, Some, None, refl, sym, ap, ◌∙◌, subst, arith, ⊎_elim}
+use Rattle.std.proofs.Common.{◌≡◌, ◌⊎◌, inl, inr, ℕ, zero, suc, ◌+◌, Bool, true, false, cond, not, List, [], ◌∷◌, Some, None, refl, sym, ap, ◌∙◌, subst, arith, ⊎_elim}
 use Rattle.std.specs.FinMap.{FinMap, get, empty}
 use Rattle.nm_base.specs.declared.key.Place.{Place}
 use Rattle.nm_base.specs.declared.key.Place.TheVariants.{Arrive, Fire}
 use Rattle.nm_base.specs.declared.key.Key.{Key}
 use Rattle.nm_base.specs.Key.{key_of, key_cmp}
 use Rattle.nm_model.specs.EventList.{schedule}
-use Rattle.nm_model.specs.Replica.{message_events, inbox_events}
+use Rattle.nm_model.specs.Replica.{from_scratch, message_events, inbox_events}
 use Rattle.nm_model.specs.Knowledge.{Know, know}
 use Rattle.nm_model.specs.Partition.{in_part, comes_in, is_inbox}
 use Rattle.nm_model.specs.Lists.{nth}
-use Rattle.nm_model.specs.Network.{Net}
+use Rattle.nm_model.specs.Network.{Net, IsNet}
 use Rattle.nm_model.specs.Run.{start, source_events}
 use Rattle.nm_base.specs.declared.event.Event.TheVariants.{Delivery}
 use Rattle.nm_model.proofs.Keys.{same_key, get_empty}
 use Rattle.nm_model.proofs.Scheduling.{IsAmong, put_from, put_has, put_absent, put_alike, put_elsewhere, among-append}
-use Rattle.nm_model.proofs.NewEvents.{arrive_inj, absent_unless, among_left, among_right}
-use Rattle.nm_model.proofs.Runs.{source_among}
-use Rattle.nm_model.proofs.Cut.{Cut, and_both, both_ways}
+use Rattle.nm_model.proofs.NewEvents.{source_among, arrive_inj, absent_unless, among_left, among_right}
+use Rattle.nm_model.specs.Orderly.{IsOrderly}
+use Rattle.nm_model.proofs.Orders.{orderly_start, orderly_run, part_by_node}
+use Rattle.nm_model.proofs.Cut.{Cut, and_both, not_true, both_ways}
 use Rattle.nm_base.specs.declared.event.Event.{Event}
 
 module _ {P N : Type 0} (net : Net P N) (p : ℕ) where
@@ -110,3 +111,13 @@ module _ {P N : Type 0} (net : Net P N) (p : ℕ) where
     inbox_has = λ c t n x ch le e. no_source (key_of t (Arrive c) n) c refl (in_part net p) _ ∙ messages_have K c t n x ch e;
     alien = λ q mq. put_elsewhere (in_part net p) (source_events net net.sources) _ q mq ∙ messages_only K q (λ c pl ch. both_ways (in_part net p q.place) (ap (in_part net p) pl ∙ (and_both _ _ ch).0) mq);
   }
+
+  -- every state over K is orderly
+  pub orderly_begun : IsNet net → (K : List (Know P)) → IsOrderly net (in_part net p) (start net (in_part net p) (inbox_events net p 0 K))
+  orderly_begun ok K = orderly_start net ok (in_part net p) (part_by_node net p) (inbox_events net p 0 K) (λ q y a.
+      let r = inbox_at K q y a in
+      let b = and_both _ (not (in_part net p (Arrive (net.peer r.0)))) r.2 in
+      (r.0, r.3, r.1, r.4, b.0, not_true _ b.1))
+
+pub orderly_part : {P N : Type 0} (net : Net P N) → IsNet net → (p : ℕ) (K : List (Know P)) (k : ℕ) → IsOrderly net (in_part net p) (from_scratch net p K k)
+orderly_part net ok p K k = orderly_run net ok (in_part net p) (part_by_node net p) k _ (orderly_begun net p ok K)

@@ -15,14 +15,13 @@ use Rattle.nm_model.specs.Lists.{nth, keep_where}
 use Rattle.nm_model.specs.Network.{Net, IsNet, node_of}
 use Rattle.nm_model.specs.Run.{State, Effect, effect, apply, new_events, step, step_at, start, source_events}
 use Rattle.nm_base.specs.declared.event.Event.TheVariants.{Delivery}
-use Rattle.nm_model.proofs.Keys.{key_decides, same_events, remove_same, remove_other, least_has, least_min, least_is, up_to_earlier}
+use Rattle.nm_model.proofs.Keys.{key_at, key_decides, same_events, remove_same, remove_other, least_has, least_min, least_is, up_to_earlier}
 use Rattle.nm_model.proofs.ListLemmas.{bool_cases, nth_prefix, prefix_nth}
 use Rattle.nm_model.proofs.Scheduling.{IsAmong, put_from, put_has, put_absent, put_alike, put_elsewhere}
 use Rattle.nm_model.proofs.Effects.{effect_is}
 use Rattle.nm_model.proofs.NewEvents.{arrive_inj, absent_unless, IsNew, Ends, Comes, GoesOn, made_among}
 use Rattle.nm_model.proofs.Cut.{and_both, not_true, both_ways, safe_clock, channel_inside}
 use Rattle.nm_model.proofs.Begin.{inbox_at, at_inbox, messages_are, messages_have, messages_only, no_source}
-use Rattle.nm_model.proofs.Invariants.{key_at}
 use Rattle.nm_model.proofs.CutLaw.{least_busy}
 use Rattle.nm_base.specs.declared.event.Event.{Event}
 

@@ -3,7 +3,6 @@ use Rattle.std.proofs.Common.{◌≡◌, ◌⊎◌, inl, inr, ℕ, zero, suc, �
 use Rattle.std.proofs.lemmas.Bool.{cases_lt}
 use Rattle.std.proofs.lemmas.Bool.Decides.{nat_tests}
 use Rattle.std.specs.FinMap.{get}
-use Rattle.nm_base.specs.declared.key.Place.TheVariants.{Arrive, Fire}
 use Rattle.nm_base.specs.declared.key.Key.{Key}
 use Rattle.nm_model.specs.EventList.{least, is_before}
 use Rattle.nm_model.specs.Certificate.{AreFinished, is_done}
@@ -19,21 +18,19 @@ use Rattle.nm_model.specs.Rounds.{given}
 use Rattle.nm_model.specs.World.{Replica}
 use Rattle.nm_model.proofs.Keys.{least_has, least_min, least_none, least_is, up_to_time}
 use Rattle.nm_model.proofs.ListLemmas.{number_is, number_tied, below_nth, nth_below, nth_prefix, prefix_nth}
-use Rattle.nm_model.proofs.Runs.{Since, Sourced, sourced_run, sourced_start, since, good_run, run_add}
-use Rattle.nm_model.proofs.Begin.{cut_start, inbox_at}
+use Rattle.nm_model.proofs.Runs.{Since, since, good_run, run_add}
+use Rattle.nm_model.proofs.Orders.{part_by_node}
+use Rattle.nm_model.proofs.Begin.{cut_start, orderly_part}
 use Rattle.nm_model.proofs.Cut.{and_both, not_true, Cut, Told, origin_at, origin, bound, present, cut_other, cut_mine, safe_clock, channel_inside}
 use Rattle.nm_model.proofs.CutLaw.{quiet, least_busy}
 use Rattle.nm_base.specs.declared.event.Event.{Event}
 
 module _ {P N : Type 0} (net : Net P N) (ok : IsNet net) (p : ℕ) (K : List (Know P)) where
-  pub from_sourced : (k : ℕ) → Sourced net (from_scratch net p K k)
-  from_sourced k = sourced_run net ok (in_part net p) k _ (sourced_start net (in_part net p) (inbox_events net p 0 K) (λ q j x pl a. let r = (inbox_at net p K q x a).1 in let e : Fire j ≡ Arrive _ = sym pl ∙ r in cc))
-
   pub from_since : (j k t : ℕ) → j ≤ k → ((q : Key) (y : Event P) → get (from_scratch net p K j).pending q ≡ Some y → t ≤ q.time) → Since net (from_scratch net p K j) t (from_scratch net p K k)
   from_since j k t le h =
       let e : k - j + j ≡ k = omega arith in
       subst (Since net (from_scratch net p K j) t) (sym (run_add net (in_part net p) (k - j) j (start net (in_part net p) (inbox_events net p 0 K))) ∙ ap (from_scratch net p K) e)
-      (since net ok (in_part net p) (k - j) (from_scratch net p K j) t (from_sourced j) h)
+      (since net ok (in_part net p) (part_by_node net p) (k - j) (from_scratch net p K j) t (orderly_part net ok p K j) h)
 
 module _ {P N : Type 0} (net : Net P N) where
   pub done_safe : (p : ℕ) (x : Replica P) → is_done net p x ≡ true → safe_time net p x.knowledge ≡ net.stop

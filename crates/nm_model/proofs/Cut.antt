@@ -16,12 +16,12 @@ use Rattle.nm_model.specs.Lists.{nth, keep_where}
 use Rattle.nm_model.specs.Network.{Net, IsNet, node_of}
 use Rattle.nm_model.specs.Run.{State, Effect, effect, turned, sent_after, new_events, start_events, next_events, arrived_after, apply, in_record, out_record}
 use Rattle.nm_base.specs.declared.event.Event.TheVariants.{Delivery, Completion}
-use Rattle.nm_model.proofs.Keys.{key_decides, same_key, remove_same, remove_other, least_has, least_min, up_to_earlier}
-use Rattle.nm_model.proofs.ListLemmas.{bool_cases, same_number, set_there, set_both, kept-append}
+use Rattle.nm_model.proofs.Keys.{key_at, key_decides, same_key, remove_same, remove_other, least_has, least_min, up_to_earlier}
+use Rattle.nm_model.proofs.ListLemmas.{same_time, bool_cases, same_number, set_there, set_both, kept-append}
 use Rattle.nm_model.proofs.Scheduling.{put_alike, put_elsewhere}
 use Rattle.nm_model.proofs.Effects.{EffectIs, effect_is, effect_local}
 use Rattle.nm_model.proofs.NewEvents.{arrive_inj, turned_case, sent_case, IsNew, Ends, Comes, GoesOn, pending_case, pending_other}
-use Rattle.nm_model.proofs.Invariants.{Good, same_time, key_at, arrival_number, came_case}
+use Rattle.nm_model.proofs.Invariants.{Good, arrival_number, came_case}
 use Rattle.nm_base.specs.declared.event.Event.{Event}
 
 pub and_both : (a b : Bool) → (a && b) ≡ true → (a ≡ true) × (b ≡ true)

@@ -16,7 +16,8 @@ use Rattle.nm_model.specs.Run.{State, step_at, run, start, one_list, pends_befor
 use Rattle.nm_model.proofs.Keys.{least_has, least_min, least_none, least_is, up_to_time}
 use Rattle.nm_model.proofs.ListLemmas.{below_nth, nth_prefix, prefix_nth, prefix_self, prefix_trans, kept-append}
 use Rattle.nm_model.proofs.Invariants.{Good}
-use Rattle.nm_model.proofs.Runs.{Since, since, sourced_one, good_run, run_add}
+use Rattle.nm_model.proofs.Orders.{all_by_node, orderly_whole}
+use Rattle.nm_model.proofs.Runs.{Since, since, good_run, run_add}
 use Rattle.nm_model.proofs.Cut.{Cut, Told, origin, bound, present, cut_other, cut_mine, safe_stop, safe_clock, channel_inside, both_ways}
 use Rattle.nm_model.proofs.Begin.{cut_start}
 use Rattle.nm_base.specs.declared.event.Event.{Event}
@@ -85,7 +86,7 @@ module _ {P N : Type 0} (net : Net P N) (ok : IsNet net) (p : ℕ) where
 
   -- from a state at which nothing below t is pending
   pub since_run : (m n t : ℕ) → n ≤ m → ((q : Key) (y : Event P) → get (one_list net n).pending q ≡ Some y → t ≤ q.time) → Since net (one_list net n) t (one_list net m)
-  since_run m n t h from = subst (Since net (one_list net n) t) (rest_of_run m n h) (since net ok (λ q. true) (m - n) (one_list net n) t (sourced_one net ok n) from)
+  since_run m n t h from = subst (Since net (one_list net n) t) (rest_of_run m n h) (since net ok (λ q. true) (all_by_node net) (m - n) (one_list net n) t (orderly_whole net ok n) from)
 
   -- K is valid for what the whole network puts on the channels before stop, which it reaches after last steps
   module _ (K : List (Know P)) (last : ℕ) (ends : pends_before net.stop (one_list net last) ≡ false) (valid : (c : ℕ) → comes_in net p c ≡ true → IsValid (know K c) ((one_list net last).sent c)) where

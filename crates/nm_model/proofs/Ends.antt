@@ -1,5 +1,5 @@
 -- Each time is passed after some number of steps.
-use Rattle.std.proofs.Common.{◌≡◌, ◌⊎◌, inl, inr, ℕ, zero, suc, ◌+◌, ◌-◌, ◌*◌, ◌<◌, ◌≤◌, Bool, true, false, cond, List, [], ◌∷◌, ◌++◌, length, Option, Some, None, refl, sym, ap, ◌∙◌, subst, arith, true≢false, ⊎_elim, length-append, Ordering, Less, Equal, Greater}
+use Rattle.std.proofs.Common.{◌≡◌, inl, inr, ℕ, zero, suc, ◌+◌, ◌-◌, ◌*◌, ◌<◌, ◌≤◌, Bool, true, false, cond, List, [], ◌∷◌, ◌++◌, length, Option, Some, None, refl, sym, ap, ◌∙◌, subst, arith, true≢false, ⊎_elim, length-append, Ordering, Less, Equal, Greater}
 use Rattle.std.specs.Ordering.{is_eq}
 use Rattle.std.specs.FinMap.{FinMap, get, insert, remove, entries, entries-insert, put, find, get-entries}
 use Rattle.std.specs.FinMap.Entries.{by_order}
@@ -12,10 +12,12 @@ use Rattle.nm_model.specs.Network.{Net, IsNet}
 use Rattle.nm_model.specs.Before.{Drains}
 use Rattle.nm_model.specs.Lists.{nth}
 use Rattle.nm_model.specs.Run.{State, effect, new_events, start_events, next_events, made, step_at, run, pends_before}
+use Rattle.nm_model.proofs.ListLemmas.{below_or_at}
 use Rattle.nm_model.proofs.Keys.{key_decides, same_events, insert_same, insert_other, remove_same, remove_other, least_has}
 use Rattle.nm_model.proofs.Scheduling.{IsAmong}
 use Rattle.nm_model.proofs.NewEvents.{IsNew, made_among}
-use Rattle.nm_model.proofs.Runs.{Sourced, sourced_run, makes_later}
+use Rattle.nm_model.specs.Orderly.{IsByNode, IsOrderly}
+use Rattle.nm_model.proofs.Orders.{makes_later, orderly_run}
 use Rattle.nm_model.proofs.CutLaw.{least_busy}
 use Rattle.nm_base.specs.declared.event.Event.{Event}
 
@@ -111,8 +113,8 @@ module _ {P N : Type 0} (net : Net P N) where
   few_start time sent None = omega arith
   few_start time sent (Some u) = omega arith
 
-  module _ (ok : IsNet net) (here : Place → Bool) where
-    falls : (t : ℕ) (s : State P N) → Sourced net s → (e : Key × Event P) → least s.pending ≡ Some e → e.0.time < t → weight t (step_at net here s (Some e)).pending < weight t s.pending
+  module _ (ok : IsNet net) (here : Place → Bool) (by_node : IsByNode net here) where
+    falls : (t : ℕ) (s : State P N) → IsOrderly net here s → (e : Key × Event P) → least s.pending ≡ Some e → e.0.time < t → weight t (step_at net here s (Some e)).pending < weight t s.pending
     falls t s h e m lt =
         let k = e.0 in
         let has = least_has s.pending e m in
@@ -121,7 +123,7 @@ module _ {P N : Type 0} (net : Net P N) where
         let q = pow4 (t - suc e.0.time) in
         let four : pow4 (t - e.0.time) ≡ 4 * q = ap pow4 (let z : t - e.0.time ≡ suc (t - suc e.0.time) = omega arith in z) in
         let each : (r : Key) (y : Event P) → IsAmong r y es → heft t r ≤ q = λ r y a.
-        let later = makes_later net ok here s h e has r y (made_among net e.0 s.sent does r y a) in
+        let later = makes_later net ok here by_node s h e has r y (made_among net e.0 s.sent does r y a) in
         pow4_mono (t - r.time) (t - suc e.0.time) (omega arith) in
         let sum = light t q es each in
         let few = few_start e.0.time s.sent does.start in
@@ -132,7 +134,7 @@ module _ {P N : Type 0} (net : Net P N) where
         let rem = weight_removed t s.pending e.0 e.1 has in
         omega arith
 
-    module _ (s : State P N) (h : Sourced net s) (t : ℕ) where
+    module _ (s : State P N) (h : IsOrderly net here s) (t : ℕ) where
       find_end : (fuel n : ℕ) → weight t (run net here n s).pending < fuel → ((m : ℕ) → m < n → pends_before t (run net here m s) ≡ true) → (m : ℕ) × Drains net here s t m
       find_end zero n lt first = absurd (omega arith)
       find_end (suc fuel) n lt first = go (pends_before t (run net here n s)) refl (λ f g. find_end fuel (suc n) f g)
@@ -141,12 +143,9 @@ module _ {P N : Type 0} (net : Net P N) where
           go false e rest = (n, record { over = e; first = first })
           go true e rest =
               let x = least_busy t (run net here n s) e in
-              let f = falls t (run net here n s) (sourced_run net ok here n s h) x.0 x.1 x.2 in
+              let f = falls t (run net here n s) (orderly_run net ok here by_node n s h) x.0 x.1 x.2 in
               let next = ap (λ o. weight t (step_at net here (run net here n s) o).pending) x.1 in
-              rest (omega (arith, next)) (λ m i. ⊎_elim (λ j. first m j) (λ j. subst (λ z. pends_before t (run net here z s) ≡ true) (sym j) e) (below_or m n i))
-            where
-              below_or : (a b : ℕ) → a < suc b → (a < b) ⊎ (a ≡ b)
-              below_or a b i = grind arith
+              rest (omega (arith, next)) (λ m i. ⊎_elim (λ j. first m j) (λ j. subst (λ z. pends_before t (run net here z s) ≡ true) (sym j) e) (below_or_at m n i))
 
       pub drains : (n : ℕ) × Drains net here s t n
       drains = find_end (suc (weight t s.pending)) 0 (omega arith) (λ m i. absurd (omega arith))
@@ -178,5 +177,5 @@ module _ {P N : Type 0} (net : Net P N) where
   pub made_new : (s : State P N) (e : Key × Event P) (m : ℕ) (f : Key × Event P) → nth (made net s e) m ≡ Some f → IsNew net e.0 s.sent (effect net s.node s.port e.0.time e.0.place e.0.number e.1) f.0 f.1
   made_new s e m f a = made_among net e.0 s.sent (effect net s.node s.port e.0.time e.0.place e.0.number e.1) f.0 f.1 (nth_among _ m f a)
 
-  pub made_after : IsNet net → (here : Place → Bool) (s : State P N) → Sourced net s → (e : Key × Event P) → least s.pending ≡ Some e → (m : ℕ) (f : Key × Event P) → nth (made net s e) m ≡ Some f → e.0.time < f.0.time
-  made_after ok here s h e l m f a = makes_later net ok here s h e (least_has s.pending e l) f.0 f.1 (made_new s e m f a)
+  pub made_after : IsNet net → (here : Place → Bool) → IsByNode net here → (s : State P N) → IsOrderly net here s → (e : Key × Event P) → least s.pending ≡ Some e → (m : ℕ) (f : Key × Event P) → nth (made net s e) m ≡ Some f → e.0.time < f.0.time
+  made_after ok here by_node s h e l m f a = makes_later net ok here by_node s h e (least_has s.pending e l) f.0 f.1 (made_new s e m f a)

@@ -4,14 +4,14 @@ use Rattle.std.proofs.lemmas.Bool.{cases_lt}
 use Rattle.std.proofs.lemmas.Bool.Decides.{nat_tests}
 use Rattle.std.proofs.Common.{Ordering, Less, Equal, Greater}
 use Rattle.std.specs.Ordering.{nat_cmp, is_gt, is_lt, is_eq, eq_by_cmp, ordering_then, ordering_reverse}
-use Rattle.std.specs.Cmp.{upto, tied_itself}
+use Rattle.std.specs.Cmp.{tied_itself}
 use Rattle.std.specs.Cmp.Lexicographic.{slice_cmp}
 use Rattle.std.specs.FinMap.{FinMap, IsAntisymmetric, nat_cmp-IsAntisymmetric, slice_cmp-IsAntisymmetric, entries, entries_sorted, get, insert, remove, empty, find, is_sorted, get-entries, get-empty, get-insert, get-remove, same_map}
 use Rattle.std.specs.FinMap.Entries.{below_all}
 use Rattle.nm_base.specs.declared.key.Place.{Place}
 use Rattle.nm_base.specs.declared.key.Place.TheVariants.{Arrive, Complete, Fire}
 use Rattle.nm_base.specs.declared.key.Key.{Key}
-use Rattle.nm_base.specs.Key.{class_of, index_of, end_of, key_code, key_cmp, key_cmp_total}
+use Rattle.nm_base.specs.Key.{key_of, class_of, index_of, end_of, key_code, key_cmp, key_cmp_total}
 use Rattle.nm_model.specs.EventList.{IsUpTo, first_of_list, least}
 
 abbrev place_code : Place → List ℕ → List ℕ
@@ -30,6 +30,9 @@ same_place (Fire i) (Fire j) m n e = (cc, cc)
 
 pub same_key : (a b : Key) → a.time ≡ b.time → a.place ≡ b.place → a.number ≡ b.number → a ≡ b
 same_key a b e f g = λ i. record { time = e i; place = f i; number = g i }
+
+pub key_at : (q : Key) (p : Place) → q.place ≡ p → q ≡ key_of q.time p q.number
+key_at q p e = λ i. record { time = q.time; place = e i; number = q.number }
 
 code_time : (s t : ℕ) (xs ys : List ℕ) → s ∷ xs ≡ t ∷ ys → (s ≡ t) × (xs ≡ ys)
 code_time s t xs ys e = (cc, cc)

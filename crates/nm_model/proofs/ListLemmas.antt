@@ -20,6 +20,12 @@ not_some x e = cc
 pub same_number : (i j : ℕ) → (i ≡ j) ⊎ (i ≢ j)
 same_number i j = grind (arith, nat_tests)
 
+pub below_or_at : (i j : ℕ) → i < suc j → (i < j) ⊎ (i ≡ j)
+below_or_at i j h = grind arith
+
+pub equal_or_less : (i j : ℕ) → i ≤ j → (i ≡ j) ⊎ (i < j)
+equal_or_less i j h = grind arith
+
 pub number_apart : (i j : ℕ) → i ≢ j → (i == j) ≡ false
 number_apart i j h = grind (arith, nat_tests)
 
@@ -113,3 +119,9 @@ module _ {A : Type 0} where
   kept-append p (x ∷ xs) ys =
       let r = kept-append p xs ys in
       elim (p x) as (λ b. cond b (x ∷ keep_where p (xs ++ ys)) (keep_where p (xs ++ ys)) ≡ cond b (x ∷ keep_where p xs) (keep_where p xs) ++ keep_where p ys) [ true ↦ ap (λ l. x ∷ l) r | false ↦ r ]
+
+  pub nth_cong : (l k : List A) (n : ℕ) (b : A) → l ≡ k → nth l n ≡ Some b → nth k n ≡ Some b
+  nth_cong l k n b e h = ap (λ z. nth z n) (sym e) ∙ h
+
+pub same_time : {P : Type 0} (t u : ℕ) (x y : P) (o : Option (ℕ × P)) → o ≡ Some (t, x) → o ≡ Some (u, y) → (t ≡ u) × (x ≡ y)
+same_time {P} t u x y o e f = let g = some_inj {A = ℕ × P} (t, x) (u, y) (sym e ∙ f) in (ap (λ z. z.0) g, ap (λ z. z.1) g)

@@ -1,6 +1,5 @@
 -- Promises never fall: neither when events are done nor when more is known.
-use Rattle.std.proofs.Common.{◌≡◌, ◌⊎◌, ℕ, zero, suc, ◌+◌, ◌-◌, ◌<◌, ◌≤◌, min, max, true, List, Option, Some, None, refl, sym, ap, ◌∙◌, subst, arith, true≢false, ⊎_elim}
-use Rattle.std.proofs.lemmas.Bool.{cases_lt}
+use Rattle.std.proofs.Common.{◌≡◌, ℕ, zero, suc, ◌+◌, ◌-◌, ◌<◌, ◌≤◌, min, max, true, List, Option, Some, None, refl, sym, ap, ◌∙◌, subst, arith, true≢false, ⊎_elim}
 use Rattle.std.specs.FinMap.{get}
 use Rattle.nm_base.specs.declared.key.Place.TheVariants.{Complete}
 use Rattle.nm_base.specs.declared.key.Key.{Key}
@@ -12,19 +11,18 @@ use Rattle.nm_model.specs.Run.{State, step_at}
 use Rattle.nm_model.specs.Knowledge.{Know}
 use Rattle.nm_model.specs.Partition.{in_part}
 use Rattle.nm_model.specs.Replica.{from_scratch, safe_time, new_messages, IsWithin, IsUnderAll}
-use Rattle.nm_model.specs.Promise.{Promising, Plain, Tight, next_cause, next_start, promise, lookahead}
+use Rattle.nm_model.specs.Promise.{Promising, Plain, Tight, next_cause, promise}
 use Rattle.nm_model.specs.Before.{same_place}
-use Rattle.nm_model.proofs.Keys.{least_has, least_min, least_none, up_to_time}
+use Rattle.nm_model.proofs.Keys.{key_at, least_has, least_min, least_none, up_to_time}
 use Rattle.nm_model.proofs.ListLemmas.{some_inj, bool_cases}
 use Rattle.nm_model.proofs.Scheduling.{put_from}
-use Rattle.nm_model.proofs.Invariants.{key_at}
 use Rattle.nm_model.proofs.Cut.{safe_stop}
 use Rattle.nm_model.proofs.CutLaw.{least_busy, until_at_most}
-use Rattle.nm_model.proofs.Books.{new_later, books, safe_rises, within_more}
+use Rattle.nm_model.proofs.Books.{new_later, books, safe_rises}
 use Rattle.nm_model.proofs.Certified.{from_since}
 use Rattle.nm_model.proofs.Numbers.{place_same, place_tied}
-use Rattle.nm_model.proofs.Orders.{going_on}
-use Rattle.nm_model.proofs.Stated.{part_by_node, orderly_part}
+use Rattle.nm_model.proofs.Orders.{going_on, part_by_node}
+use Rattle.nm_model.proofs.Begin.{orderly_part}
 
 module _ {P N : Type 0} where
   -- the next time is up to all that is pending, and the greatest such

@@ -1,5 +1,5 @@
 -- The parts of a state after an event.
-use Rattle.std.proofs.Common.{◌≡◌, ◌≢◌, ◌⊎◌, inl, inr, ℕ, suc, ◌+◌, Bool, List, [], ◌∷◌, ◌++◌, length, Option, Some, None, refl, sym, ap, ◌∙◌, subst, ⊎_elim, append-nil}
+use Rattle.std.proofs.Common.{◌≡◌, ◌≢◌, ◌⊎◌, inl, inr, ℕ, zero, suc, ◌+◌, Bool, true, List, [], ◌∷◌, ◌++◌, length, Option, Some, None, refl, sym, ap, ◌∙◌, subst, ⊎_elim, append-nil}
 use Rattle.std.specs.FinMap.{FinMap, get, remove}
 use Rattle.nm_base.specs.declared.key.Place.{Place}
 use Rattle.nm_base.specs.declared.key.Place.TheVariants.{Arrive, Complete, Fire}
@@ -10,9 +10,9 @@ use Rattle.nm_base.specs.declared.event.Event.TheVariants.{Delivery, Completion}
 use Rattle.nm_model.specs.Port.{Port}
 use Rattle.nm_model.specs.EventList.{schedule}
 use Rattle.nm_model.specs.Lists.{IsPrefix, set_at}
-use Rattle.nm_model.specs.Network.{Net}
-use Rattle.nm_model.specs.Run.{Effect, turned, sent_after, start_events, next_events, new_events, arrived_after}
-use Rattle.nm_model.proofs.Keys.{key_decides, remove_same, remove_other}
+use Rattle.nm_model.specs.Network.{Net, IsNet}
+use Rattle.nm_model.specs.Run.{Effect, start, source_events, first_event, turned, sent_after, start_events, next_events, new_events, arrived_after}
+use Rattle.nm_model.proofs.Keys.{get_empty, key_decides, remove_same, remove_other}
 use Rattle.nm_model.proofs.ListLemmas.{same_number, set_here, set_there}
 use Rattle.nm_model.proofs.Scheduling.{IsAbsent, IsAmong, put_absent, put_from, among-append}
 
@@ -112,3 +112,25 @@ module _ {P N : Type 0} (net : Net P N) where
 
       pub pending_other : (q : Key) → q ≢ k → ((y : Event P) → ¬ (IsNew net k sent e q y)) → get (schedule here (new_events net k sent e) (remove m k)) q ≡ get m q
       pending_other q g h = put_absent here (new_events net k sent e) (remove m k) q (absent_unless q _ (λ v a. h v (made_among q v a))) ∙ remove_other m k q g
+
+module _ {P N : Type 0} (net : Net P N) where
+  first_among : (j : ℕ) (o : Option (ℕ × P)) → net.source j 0 ≡ o → (q : Key) (y : Event P) → IsAmong q y (first_event j o) → (i : ℕ) × (q.place ≡ Fire i) × (q.number ≡ 0) × (z : P) × (y ≡ Delivery z) × (net.source i 0 ≡ Some (q.time, z))
+  first_among j None h q y a = absurd a
+  first_among j (Some f) h q y (inr a) = absurd a
+  first_among j (Some f) h q y (inl a) = (j, ap (λ r. r.place) a.0, ap (λ r. r.number) a.0, f.1, a.1, h ∙ ap (λ t. Some (t, f.1)) (ap (λ r. r.time) (sym a.0)))
+
+  pub source_among : (j : ℕ) (q : Key) (y : Event P) → IsAmong q y (source_events net j) → (i : ℕ) × (q.place ≡ Fire i) × (q.number ≡ 0) × (z : P) × (y ≡ Delivery z) × (net.source i 0 ≡ Some (q.time, z))
+  source_among zero q y a = absurd a
+  source_among (suc j) q y a = ⊎_elim
+      (λ b. first_among j (net.source j 0) refl q y b)
+      (λ b. source_among j q y b)
+      (among-append q y (first_event j (net.source j 0)) (source_events net j) a)
+
+  pub start_pending : (q : Key) (y : Event P) → get (start net (λ p. true) []).pending q ≡ Some y → (i : ℕ) × (q.place ≡ Fire i) × (q.number ≡ 0) × (z : P) × (y ≡ Delivery z) × (net.source i 0 ≡ Some (q.time, z))
+  start_pending q y e = ⊎_elim
+      (λ a. source_among net.sources q y a)
+      (λ f. let none = get_empty {X = Event P} q in absurd (cc))
+      (put_from (λ p. true) (source_events net net.sources) _ q y e)
+
+pub peer_inj : {P N : Type 0} (net : Net P N) → IsNet net → (i j : ℕ) → net.peer i ≡ net.peer j → i ≡ j
+peer_inj net ok i j e = sym (ok.twice i) ∙ ap net.peer e ∙ ok.twice j

@@ -11,12 +11,13 @@ use Rattle.nm_model.specs.Network.{Net, IsNet}
 use Rattle.nm_model.specs.Port.{Busy, Port}
 use Rattle.nm_model.specs.Run.{State, Effect, effect, step_at, one_list}
 use Rattle.nm_model.specs.Before.{same_place, is_at, events_at}
-use Rattle.nm_model.proofs.Keys.{same_key, least_has}
-use Rattle.nm_model.proofs.ListLemmas.{number_is, number_tied, option_cases}
+use Rattle.nm_model.proofs.Keys.{key_at, same_key, least_has}
+use Rattle.nm_model.proofs.ListLemmas.{same_time, number_is, number_tied, option_cases}
 use Rattle.nm_model.proofs.Effects.{EffectIs, effect_is}
-use Rattle.nm_model.proofs.NewEvents.{turned_case, sent_case, IsNew, Ends, Comes, GoesOn, pending_case}
-use Rattle.nm_model.proofs.Invariants.{Good, key_at, peer_inj, arrival_number, came_case, same_time}
-use Rattle.nm_model.proofs.Runs.{good_run, start_pending}
+use Rattle.nm_model.proofs.NewEvents.{peer_inj, start_pending, turned_case, sent_case, IsNew, Ends, Comes, GoesOn, pending_case}
+use Rattle.nm_model.proofs.Invariants.{Good, arrival_number, came_case}
+use Rattle.nm_model.proofs.Orders.{unstarted, all_by_node}
+use Rattle.nm_model.proofs.Runs.{good_run}
 
 pub place_tied : (q : Place) → same_place q q ≡ true
 place_tied (Arrive i) = number_tied i
@@ -121,12 +122,6 @@ module _ {P N : Type 0} (net : Net P N) where
           port_same : (i : ℕ) (v w : Port P) → ◌≡◌ {A = Option (ℕ × Port P)} (Some (i, v)) (Some (i, w)) → v ≡ w
           port_same i v w f = let g : ◌≡◌ {A = ℕ × Port P} (i, v) (i, w) = cc in ap (λ z. z.1) g
 
-      unstarted : (i : ℕ) → ((x : P) → does.start ≢ Some (i, x)) → next.sent (net.peer i) ≡ (one_list net n).sent (net.peer i)
-      unstarted i none = ⊎_elim
-          (λ a. absurd (none a.0.1 (a.1 ∙ ap (λ j. Some (j, a.0.1)) (sym (peer_inj net ok i a.0.0 a.2)))))
-          (λ a. a.1)
-          (sent_case net e.0.time (one_list net n).sent does.start (net.peer i))
-
       starts_at : (i : ℕ) → ((x : P) × (does.start ≡ Some (i, x))) ⊎ ((x : P) → does.start ≢ Some (i, x))
       starts_at i = ⊎_elim
           (λ a. inl (a.0.1, a.1 ∙ ap (λ j. Some (j, a.0.1)) (sym (peer_inj net ok i a.0.0 a.2))))
@@ -136,8 +131,8 @@ module _ {P N : Type 0} (net : Net P N) where
       -- a completion: the port was busy
       completes : (i : ℕ) → e.0.place ≡ Complete i → events_at net (same_place (Complete i)) n + 1 ≡ length ((one_list net n).sent (net.peer i))
       completes i pl =
-          let a = good.1.completion i e.0.time e.0.number e.1 (has (Complete i) pl) in
-          let l = load_full ((one_list net n).port i).busy a.4 in
+          let a = good.1.orderly.completion i e.0.time e.0.number e.1 (has (Complete i) pl) in
+          let l = ap load a.2 in
           let c = h.completions i in omega arith
 
       -- a port that is idle after: its transmission was completed; one that is busy with no start goes on
@@ -148,13 +143,13 @@ module _ {P N : Type 0} (net : Net P N) where
           (λ z. ⊎_elim
           (λ a. absurd (none a.0 a.1))
           (λ a. inr (
-            (λ pl. let c = good.1.completion i e.0.time e.0.number e.1 (has (Complete i) pl) in a.4 pl c.1),
+            (λ pl. let c = good.1.orderly.completion i e.0.time e.0.number e.1 (has (Complete i) pl) in a.4 pl c.1),
             ap (λ w. load w.busy) t.2 ∙ ap load z.1 ∙ sym (ap load a.2),
           ))
           (is.turn_busy (i, t.0) t.1 z.0 z.1))
           (option_cases t.0.busy))
           (λ t. inr (
-            (λ pl. let c = good.1.completion i e.0.time e.0.number e.1 (has (Complete i) pl) in let w = is.completes i pl c.1 in t.0 w.0 w.1),
+            (λ pl. let c = good.1.orderly.completion i e.0.time e.0.number e.1 (has (Complete i) pl) in let w = is.completes i pl c.1 in t.0 w.0 w.1),
             ap (λ w. load w.busy) t.1,
           ))
           (turned_case (one_list net n).port does.turn i)
@@ -167,7 +162,7 @@ module _ {P N : Type 0} (net : Net P N) where
           (λ b. let free : load ((one_list net n).port i).busy ≡ 0 = ⊎_elim (λ f. ap load f) (λ pl. absurd (b.0 pl)) (is.start_free (i, x.0) x.1) in
           let c = h.completions i in omega (arith, b.1, s1.0, s1.1))
           (at_place (Complete i) n e m))
-          (λ none. let l = ap length (unstarted i none) in
+          (λ none. let l = ap length (unstarted net ok (λ q. true) (all_by_node net) (one_list net n) good.1.orderly e (least_has (one_list net n).pending e m) i none) in
           ⊎_elim
           (λ b. ⊎_elim
           (λ r. let c = completes i b.0 in omega (arith, b.1, r.1))
@@ -199,8 +194,8 @@ module _ {P N : Type 0} (net : Net P N) where
               (λ b.
               let mine = h.sources j e.0.time e.0.number e.1 (has (Fire j) b.0) in
               let kn : k ≡ e.0.number = num ∙ sym mine in
-              let a = good.1.sourced j t k y g in
-              let c = good.1.sourced j e.0.time e.0.number e.1 (has (Fire j) b.0) in
+              let a = good.1.orderly.source j t k y g in
+              let c = good.1.orderly.source j e.0.time e.0.number e.1 (has (Fire j) b.0) in
               let w = same_time t e.0.time a.0 c.0 (net.source j k) a.2 (ap (net.source j) kn ∙ c.2) in
               absurd (ne (same_key _ _ w.0 (sym b.0) kn)))
               (λ b. num ∙ sym b.1)
@@ -234,7 +229,7 @@ module _ {P N : Type 0} (net : Net P N) where
         go (Arrive c) pl = let g = good_run net ok n in (arrival_number net ok (one_list net n) g.0 g.1 e.0 e.1 m c pl).2 ∙ h.arrivals c
         go (Complete i) pl =
             let g = good_run net ok n in
-            let a = g.1.completion i e.0.time e.0.number e.1 (has n h e m (Complete i) pl) in
-            let l = load_full ((one_list net n).port i).busy a.4 in
-            let c = h.completions i in omega (arith, a.2)
+            let a = g.1.orderly.completion i e.0.time e.0.number e.1 (has n h e m (Complete i) pl) in
+            let l = ap load a.2 in
+            let c = h.completions i in omega (arith, a.4)
         go (Fire j) pl = h.sources j e.0.time e.0.number e.1 (has n h e m (Fire j) pl)

@@ -1,5 +1,5 @@
 -- Every state of a run is orderly.
-use Rattle.std.proofs.Common.{◌≡◌, ◌≢◌, ◌⊎◌, inl, inr, ℕ, zero, suc, ◌+◌, ◌<◌, ◌≤◌, Bool, true, false, List, [], ◌∷◌, ◌++◌, length, Option, Some, None, refl, sym, ap, ap₂, ◌∙◌, subst, arith, true≢false, ⊎_elim, length-append}
+use Rattle.std.proofs.Common.{◌≡◌, ◌≢◌, ◌⊎◌, inl, inr, ℕ, zero, suc, ◌+◌, ◌<◌, ◌==◌, Bool, true, false, List, [], ◌∷◌, ◌++◌, length, Option, Some, None, refl, sym, ap, ap₂, ◌∙◌, subst, arith, true≢false, ⊎_elim, length-append}
 use Rattle.std.specs.FinMap.{get, insert, remove, empty}
 use Rattle.nm_base.specs.declared.key.Place.{Place}
 use Rattle.nm_base.specs.declared.key.Place.TheVariants.{Arrive, Complete, Fire}
@@ -9,17 +9,16 @@ use Rattle.nm_base.specs.declared.event.Event.TheVariants.{Delivery, Completion}
 use Rattle.nm_base.specs.Key.{key_of}
 use Rattle.nm_model.specs.Lists.{nth}
 use Rattle.nm_model.specs.EventList.{least, schedule}
-use Rattle.nm_model.specs.Network.{Net, IsNet, node_of}
+use Rattle.nm_model.specs.Network.{Net, IsNet}
 use Rattle.nm_model.specs.Port.{Busy, Port}
-use Rattle.nm_model.specs.Run.{State, Effect, effect, sent_after, new_events, start_events, next_events, made, step_at, step, run, start, source_events, first_event}
+use Rattle.nm_model.specs.Run.{one_list, State, Effect, effect, sent_after, new_events, start_events, next_events, made, step_at, run, start, source_events}
+use Rattle.nm_model.specs.Partition.{in_part}
 use Rattle.nm_model.specs.Orderly.{IsByNode, IsOrderly}
-use Rattle.nm_model.proofs.Keys.{get_empty, same_key, key_decides, insert_same, insert_other, remove_other, remove_same, least_has}
-use Rattle.nm_model.proofs.ListLemmas.{some_inj, not_some, bool_cases, option_cases, set_here, prefix_length}
-use Rattle.nm_model.proofs.Scheduling.{IsAmong, put_from, put_has, put_elsewhere, among-append}
+use Rattle.nm_model.proofs.Keys.{key_at, get_empty, same_key, key_decides, insert_same, insert_other, remove_other, remove_same, least_has}
+use Rattle.nm_model.proofs.ListLemmas.{same_time, some_inj, not_some, bool_cases, option_cases, set_here, prefix_length}
+use Rattle.nm_model.proofs.Scheduling.{IsAmong, put_from, put_has, put_elsewhere}
 use Rattle.nm_model.proofs.Effects.{EffectIs, effect_is}
-use Rattle.nm_model.proofs.NewEvents.{arrive_inj, complete_inj, fire_inj, turned_case, sent_case, sent_prefix, IsNew, Ends, Comes, GoesOn, made_among, among_ends, pending_case, pending_other}
-use Rattle.nm_model.proofs.Invariants.{key_at, peer_inj, same_time}
-use Rattle.nm_model.proofs.Runs.{source_among}
+use Rattle.nm_model.proofs.NewEvents.{source_among, peer_inj, arrive_inj, complete_inj, fire_inj, turned_case, sent_case, sent_prefix, IsNew, Ends, Comes, GoesOn, made_among, among_ends, pending_case, pending_other}
 
 complete_fire : (i j : ℕ) → Complete i ≡ Fire j → ⊥
 complete_fire i j e = cc
@@ -106,14 +105,15 @@ module _ {P N : Type 0} (net : Net P N) (ok : IsNet net) (here : Place → Bool)
         let l = ap length (ap (λ z. sent_after net e.0.time s.sent z (net.peer u.0)) h ∙ set_here s.sent (net.peer u.0) _) in
         let m = length-append (s.sent (net.peer u.0)) ((e.0.time + net.tx u.0 u.1 + net.delay u.0, u.1) ∷ []) in omega arith
 
-    unstarted : (i : ℕ) → ((x : P) → does.start ≢ Some (i, x)) → after.sent (net.peer i) ≡ s.sent (net.peer i)
+    pub unstarted : (i : ℕ) → ((x : P) → does.start ≢ Some (i, x)) → after.sent (net.peer i) ≡ s.sent (net.peer i)
     unstarted i none = ⊎_elim
         (λ a. absurd (none a.0.1 (a.1 ∙ ap (λ j. Some (j, a.0.1)) (sym (peer_inj net ok i a.0.0 a.2)))))
         (λ a. a.1)
         (sent_case net e.0.time s.sent does.start (net.peer i))
 
-    unturned : (i : ℕ) → ((w : Port P) → does.turn ≢ Some (i, w)) → (x : P) → does.start ≢ Some (i, x)
-    unturned i none x h = let d = is.start_turn (i, x) h in none d.0 d.1
+    -- nothing starts at an interface whose port doesn't change
+    pub unturned : (i : ℕ) → ((w : Port P) → does.turn ≢ Some (i, w)) → after.sent (net.peer i) ≡ s.sent (net.peer i)
+    unturned i none = unstarted i (λ x h. let d = is.start_turn (i, x) h in none d.0 d.1)
 
     -- two completions of an interface are one
     one_completion : (i t n : ℕ) (y : Event P) → get s.pending (key_of t (Complete i) n) ≡ Some y → e.0.place ≡ Complete i → key_of t (Complete i) n ≡ e.0
@@ -133,7 +133,7 @@ module _ {P N : Type 0} (net : Net P N) (ok : IsNet net) (here : Place → Bool)
         (λ a. (z.0, ap (λ w. w.busy) t.2 ∙ z.1, a.3 ∙ ap (λ c. c.completes) (some_inj a.0 b (sym a.2 ∙ f)), ap (λ v. sent_after net e.0.time s.sent v (net.peer i)) a.1))
         (is.turn_busy (i, t.0) t.1 z.0 z.1))
         (option_cases t.0.busy))
-        (λ t. (b, ap (λ w. w.busy) t.1 ∙ f, refl, unstarted i (unturned i t.0)))
+        (λ t. (b, ap (λ w. w.busy) t.1 ∙ f, refl, unturned i t.0))
         (turned_case s.port does.turn i)
 
     completion_after : (i t n : ℕ) (y : Event P) → get after.pending (key_of t (Complete i) n) ≡ Some y → (b : Busy P) × (y ≡ Completion) × ((after.port i).busy ≡ Some b) × (b.completes ≡ t) × (suc n ≡ length (after.sent (net.peer i)))
@@ -181,7 +181,7 @@ module _ {P N : Type 0} (net : Net P N) (ok : IsNet net) (here : Place → Bool)
         (λ a. begins a.0 a.1 a.2)
         (λ a. stays a.0 a.2 a.3 (ap (λ v. sent_after net e.0.time s.sent v (net.peer i)) a.1) a.4)
         (is.turn_busy (i, t.0) t.1 b (ap (λ w. w.busy) (sym t.2) ∙ f)))
-        (λ t. stays b (ap (λ w. w.busy) (sym t.1) ∙ f) refl (unstarted i (unturned i t.0)) (λ pl ev. let w = is.completes i pl ev in t.0 w.0 w.1))
+        (λ t. stays b (ap (λ w. w.busy) (sym t.1) ∙ f) refl (unturned i t.0) (λ pl ev. let w = is.completes i pl ev in t.0 w.0 w.1))
         (turned_case s.port does.turn i)
       where
         stays : (c : Busy P) → (s.port i).busy ≡ Some c → b.completes ≡ c.completes → after.sent (net.peer i) ≡ s.sent (net.peer i) → (e.0.place ≡ Complete i → e.1 ≡ Completion → ⊥) → (n : ℕ) × (suc n ≡ length (after.sent (net.peer i))) × (get after.pending (key_of b.completes (Complete i) n) ≡ Some Completion)
@@ -279,6 +279,16 @@ module _ {P N : Type 0} (net : Net P N) (ok : IsNet net) (here : Place → Bool)
           (pending_case net e.0 s.sent does here s.pending (key_of t (Fire j) m) y f);
     }
 
+    -- the events that an event makes are strictly later
+    pub makes_later : (q : Key) (y : Event P) → IsNew net e.0 s.sent does q y → e.0.time < q.time
+    makes_later q y (Ends t h f g) = let z = ok.takes_time t.0 t.1 in let w = ap (λ r. r.time) f in omega arith
+    makes_later q y (Comes t h f g) = let z = ok.takes_time t.0 t.1 in let w = ap (λ r. r.time) f in omega arith
+    makes_later q y (GoesOn f h g i) =
+        let a = is.follows_is f h in
+        let b = o.source a.0 e.0.time e.0.number e.1 (has_at (Fire a.0) a.1) in
+        let r = ok.rises a.0 e.0.number (e.0.time, b.0) f b.2 a.2 in
+        let w = ap (λ r. r.time) g in omega arith
+
     -- the keys of the events that an event makes are new
     pub fresh_key : (q : Key) (y : Event P) → IsNew net e.0 s.sent does q y → get (remove s.pending e.0) q ≡ None
     fresh_key q y new = ⊎_elim
@@ -349,3 +359,13 @@ module _ {P N : Type 0} (net : Net P N) where
   made_apart ok s e m n f g lt a b h =
       let does = effect net s.node s.port e.0.time e.0.place e.0.number e.1 in
       apart e.0 s.sent does.start does.follows (λ v q. let r = (effect_is net ok s.node s.port e.0.time e.0.place e.0.number e.1).follows_is v q in (r.0, r.1)) m n f g lt a b (ap (λ z. z.place) h)
+
+module _ {P N : Type 0} (net : Net P N) where
+  pub part_by_node : (p : ℕ) → IsByNode net (in_part net p)
+  part_by_node p q r e = ap (λ v. net.part v == p) e
+
+  pub all_by_node : IsByNode net (λ q. true)
+  all_by_node q r e = refl
+
+  pub orderly_whole : IsNet net → (n : ℕ) → IsOrderly net (λ q. true) (one_list net n)
+  orderly_whole ok n = orderly_run net ok (λ q. true) all_by_node n _ (orderly_start net ok (λ q. true) all_by_node [] (λ q y a. absurd a))

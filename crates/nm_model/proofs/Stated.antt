@@ -1,7 +1,7 @@
 -- The laws as the functions state them.
-use Rattle.std.proofs.Common.{◌≡◌, ℕ, ◌<◌, ◌≤◌, ◌==◌, Bool, true, not, refl, ap, None, List, [], length, Some, sym, ◌∙◌, arith, true≢false, ⊎_elim}
+use Rattle.std.proofs.Common.{◌≡◌, ℕ, ◌<◌, ◌≤◌, Bool, true, refl, None, List, [], length, Some, sym, ◌∙◌, arith, true≢false, ⊎_elim}
 use Rattle.std.proofs.lemmas.Bool.{cases_lt}
-use Rattle.nm_base.specs.declared.key.Place.TheVariants.{Arrive, Fire}
+use Rattle.nm_base.specs.declared.key.Place.TheVariants.{Arrive}
 use Rattle.nm_base.specs.declared.key.Key.{Key}
 use Rattle.nm_model.specs.EventList.{least}
 use Rattle.nm_model.specs.Replica.{inbox_events, from_scratch, safe_time, IsWithin, Agrees}
@@ -13,17 +13,15 @@ use Rattle.nm_model.specs.Network.{Net, IsNet}
 use Rattle.nm_model.specs.Before.{events_at, IsBefore, IsCount, IsKnowledge, history, trace}
 use Rattle.nm_model.specs.Run.{State, step, one_list, start, made}
 use Rattle.nm_model.proofs.Invariants.{arrival_number}
-use Rattle.nm_model.proofs.Runs.{sourced_start, sourced_one, good_run}
-use Rattle.nm_model.proofs.Certified.{from_sourced}
+use Rattle.nm_model.proofs.Runs.{good_run}
 use Rattle.nm_model.proofs.Traces.{ordered_run}
 use Rattle.nm_base.specs.declared.record.Record.{Record}
 use Rattle.nm_base.specs.declared.key.Place.{Place}
 use Rattle.std.specs.FinMap.{get, remove}
 use Rattle.nm_model.specs.Orderly.{IsByNode, IsOrderly}
 use Rattle.nm_model.proofs.Keys.{least_has}
-use Rattle.nm_model.proofs.Cut.{and_both, not_true}
-use Rattle.nm_model.proofs.Orders.{orderly_start, orderly_run, orderly_step, fresh_key}
-use Rattle.nm_model.proofs.Begin.{inbox_at}
+use Rattle.nm_model.proofs.Orders.{all_by_node, part_by_node, orderly_whole, orderly_step, fresh_key}
+use Rattle.nm_model.proofs.Begin.{orderly_part}
 use Rattle.nm_model.proofs.Ends.{drains, made_after, made_new}
 use Rattle.nm_model.proofs.CutLaw.{cut_of, meets, trace_prefix, trace_exact, out_prefix}
 use Rattle.nm_model.proofs.Promises.{out_later}
@@ -31,7 +29,7 @@ use Rattle.nm_base.specs.declared.event.Event.{Event}
 
 module _ {P N : Type 0} (net : Net P N) (ok : IsNet net) where
   pub before : (t : ℕ) → (n : ℕ) × IsBefore net t n
-  before t = drains net ok (λ q. true) (start net (λ q. true) []) (sourced_start net (λ q. true) [] (λ q j x pl a. a)) t
+  before t = drains net ok (λ q. true) (all_by_node net) (start net (λ q. true) []) (orderly_whole net ok 0) t
 
   pub times : (n c : ℕ) → IsRising ((one_list net n).sent c)
   times n c = (good_run net ok n).1.rising c
@@ -40,20 +38,20 @@ module _ {P N : Type 0} (net : Net P N) (ok : IsNet net) where
   numbers n c e m pl = let g = good_run net ok n in (arrival_number net ok (one_list net n) g.0 g.1 e.0 e.1 m c pl).2
 
   pub makes_later : (n : ℕ) (e : Key × Event P) → least (one_list net n).pending ≡ Some e → (m : ℕ) (f : Key × Event P) → nth (made net (one_list net n) e) m ≡ Some f → e.0.time < f.0.time
-  makes_later n e l m f a = made_after net ok (λ q. true) (one_list net n) (sourced_one net ok n) e l m f a
+  makes_later n e l m f a = made_after net ok (λ q. true) (all_by_node net) (one_list net n) (orderly_whole net ok n) e l m f a
 
   pub in_order : (n m k : ℕ) (a b : Record P) → m ≤ k → nth (one_list net n).records m ≡ Some a → nth (one_list net n).records k ≡ Some b → a.time ≤ b.time
-  in_order n m k a b le e f = (ordered_run net ok (λ q. true) n [] (sourced_start net (λ q. true) [] (λ q j x pl i. i))).order m k a b le e f
+  in_order n m k a b le e f = (ordered_run net ok (λ q. true) (all_by_node net) n [] (orderly_whole net ok 0)).order m k a b le e f
 
   module _ (p : ℕ) (K : List (Know P)) where
     pub makes_later_there : (k : ℕ) (e : Key × Event P) → least (from_scratch net p K k).pending ≡ Some e → (m : ℕ) (f : Key × Event P) → nth (made net (from_scratch net p K k) e) m ≡ Some f → e.0.time < f.0.time
-    makes_later_there k e l m f a = made_after net ok (in_part net p) (from_scratch net p K k) (from_sourced net ok p K k) e l m f a
+    makes_later_there k e l m f a = made_after net ok (in_part net p) (part_by_node net p) (from_scratch net p K k) (orderly_part net ok p K k) e l m f a
 
     pub in_order_there : (k m n : ℕ) (a b : Record P) → m ≤ n → nth (from_scratch net p K k).records m ≡ Some a → nth (from_scratch net p K k).records n ≡ Some b → a.time ≤ b.time
-    in_order_there k m n a b le e f = (ordered_run net ok (in_part net p) k (inbox_events net p 0 K) (from_sourced net ok p K 0)).order m n a b le e f
+    in_order_there k m n a b le e f = (ordered_run net ok (in_part net p) (part_by_node net p) k (inbox_events net p 0 K) (orderly_part net ok p K 0)).order m n a b le e f
 
     pub count : (k : ℕ) × IsCount net p K k
-    count = drains net ok (in_part net p) (start net (in_part net p) (inbox_events net p 0 K)) (sourced_start net (in_part net p) (inbox_events net p 0 K) (λ q j x pl a. let r = (inbox_at net p K q x a).1 in let e : Fire j ≡ Arrive _ = sym pl ∙ r in cc)) (safe_time net p K)
+    count = drains net ok (in_part net p) (part_by_node net p) (start net (in_part net p) (inbox_events net p 0 K)) (orderly_part net ok p K 0) (safe_time net p K)
 
     pub within : (j k : ℕ) → IsCount net p K k → j ≤ k → IsWithin net p K j
     within j k c le m lt = c.first m (omega arith)
@@ -82,22 +80,7 @@ module _ {P N : Type 0} (net : Net P N) (ok : IsNet net) where
 
 -- every state is orderly
 module _ {P N : Type 0} (net : Net P N) where
-  pub part_by_node : (p : ℕ) → IsByNode net (in_part net p)
-  part_by_node p q r e = ap (λ v. net.part v == p) e
-
-  pub all_by_node : IsByNode net (λ q. true)
-  all_by_node q r e = refl
-
   module _ (ok : IsNet net) where
-    pub orderly_whole : (n : ℕ) → IsOrderly net (λ q. true) (one_list net n)
-    orderly_whole n = orderly_run net ok (λ q. true) all_by_node n _ (orderly_start net ok (λ q. true) all_by_node [] (λ q y a. absurd a))
-
-    pub orderly_part : (p : ℕ) (K : List (Know P)) (k : ℕ) → IsOrderly net (in_part net p) (from_scratch net p K k)
-    orderly_part p K k = orderly_run net ok (in_part net p) (part_by_node p) k _ (orderly_start net ok (in_part net p) (part_by_node p) (inbox_events net p 0 K) (λ q y a.
-        let r = inbox_at net p K q y a in
-        let b = and_both _ (not (in_part net p (Arrive (net.peer r.0)))) r.2 in
-        (r.0, r.3, r.1, r.4, b.0, not_true _ b.1)))
-
     pub orderly_next : (here : Place → Bool) → IsByNode net here → (s : State P N) → IsOrderly net here s → IsOrderly net here (step net here s)
     orderly_next here by s h = orderly_step net ok here by s h (least s.pending) refl
 

@@ -16,9 +16,11 @@ use Rattle.nm_model.specs.Trace.{passed}
 use Rattle.nm_model.proofs.Keys.{least_has, least_min, up_to_time}
 use Rattle.nm_model.proofs.ListLemmas.{number_tied, number_apart, nth_prefix, prefix_nth, prefix_trans}
 use Rattle.nm_model.proofs.Effects.{effect_is}
-use Rattle.nm_model.proofs.NewEvents.{arrived_case, sent_case, sent_prefix, pending_case}
-use Rattle.nm_model.proofs.Invariants.{Good, peer_inj, arrival_number}
-use Rattle.nm_model.proofs.Runs.{Sourced, sourced_run, makes_later, good_run}
+use Rattle.nm_model.proofs.NewEvents.{peer_inj, arrived_case, sent_case, sent_prefix, pending_case}
+use Rattle.nm_model.proofs.Invariants.{Good, arrival_number}
+use Rattle.nm_model.proofs.Runs.{good_run}
+use Rattle.nm_model.specs.Orderly.{IsByNode, IsOrderly}
+use Rattle.nm_model.proofs.Orders.{makes_later, orderly_run}
 use Rattle.nm_model.proofs.CutLaw.{quiet}
 use Rattle.nm_model.proofs.Accepting.{prefix_push}
 
@@ -182,7 +184,7 @@ module _ {P N : Type 0} (net : Net P N) (ok : IsNet net) (n : ℕ) where
       omega arith
 
 -- records stand in the order of time
-module _ {P N : Type 0} (net : Net P N) (ok : IsNet net) (here : Place → Bool) where
+module _ {P N : Type 0} (net : Net P N) (ok : IsNet net) (here : Place → Bool) (by_node : IsByNode net here) where
   pub record Ordered (s : State P N) : Type 0 where
     pub before : (m : ℕ) (r : Record P) → nth s.records m ≡ Some r → (q : Key) (y : Event P) → get s.pending q ≡ Some y → r.time ≤ q.time
     pub order : (m n : ℕ) (a b : Record P) → m ≤ n → nth s.records m ≡ Some a → nth s.records n ≡ Some b → a.time ≤ b.time
@@ -202,7 +204,7 @@ module _ {P N : Type 0} (net : Net P N) (ok : IsNet net) (here : Place → Bool)
   either (y ∷ k) l zero x e = inl (omega arith, e)
   either (y ∷ k) l (suc m) x e = ⊎_elim (λ h. inl (omega (arith, h.0), h.1)) (λ h. inr (omega (arith, h.0), h.1)) (either k l m x e)
 
-  ordered_step : (s : State P N) → Sourced net s → Ordered s → (o : Option (Key × Event P)) → least s.pending ≡ o → Ordered (step_at net here s o)
+  ordered_step : (s : State P N) → IsOrderly net here s → Ordered s → (o : Option (Key × Event P)) → least s.pending ≡ o → Ordered (step_at net here s o)
   ordered_step s g h None m = h
   ordered_step s g h (Some e) l = record {
     before = λ m r f q y p. let early = up_to m r f in let late = from q y p in omega arith;
@@ -229,7 +231,7 @@ module _ {P N : Type 0} (net : Net P N) (ok : IsNet net) (here : Place → Bool)
 
       from : (q : Key) (y : Event P) → get (step_at net here s (Some e)).pending q ≡ Some y → e.0.time ≤ q.time
       from q y p = ⊎_elim
-          (λ n. let lt = makes_later net ok here s g e has q y n in omega arith)
+          (λ n. let lt = makes_later net ok here by_node s g e has q y n in omega arith)
           (λ old. up_to_time e.0 q (least_min s.pending e q y l old.1))
           (pending_case net e.0 s.sent does here s.pending q y p)
 
@@ -239,6 +241,6 @@ module _ {P N : Type 0} (net : Net P N) (ok : IsNet net) (here : Place → Bool)
           (λ i. let z = at_once e.0.time does.came does.start i.1.0 r i.1.1 in omega arith)
           (either s.records new m r f)
 
-  pub ordered_run : (n : ℕ) (messages : List (Key × Event P)) → Sourced net (start net here messages) → Ordered (run net here n (start net here messages))
+  pub ordered_run : (n : ℕ) (messages : List (Key × Event P)) → IsOrderly net here (start net here messages) → Ordered (run net here n (start net here messages))
   ordered_run zero messages g = record { before = λ m r f. absurd (cc); order = λ m n a b le e f. absurd (cc) }
-  ordered_run (suc n) messages g = ordered_step (run net here n (start net here messages)) (sourced_run net ok here n _ g) (ordered_run n messages g) _ refl
+  ordered_run (suc n) messages g = ordered_step (run net here n (start net here messages)) (orderly_run net ok here by_node n _ g) (ordered_run n messages g) _ refl

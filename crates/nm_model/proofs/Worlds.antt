@@ -1,5 +1,5 @@
 -- What holds of replicas over every schedule.
-use Rattle.std.proofs.Common.{◌≡◌, ◌⊎◌, inl, inr, ℕ, zero, suc, ◌+◌, ◌<◌, ◌≤◌, min, Bool, true, false, cond, ◌&&◌, leb, ◌-◌, drop, List, [], ◌∷◌, ◌++◌, length, Option, Some, None, refl, sym, ap, ◌∙◌, subst, arith, ⊎_elim}
+use Rattle.std.proofs.Common.{◌≡◌, ◌⊎◌, inl, inr, ℕ, zero, suc, ◌+◌, ◌≤◌, min, Bool, true, false, cond, ◌&&◌, leb, ◌-◌, drop, List, [], ◌∷◌, ◌++◌, length, Option, Some, None, refl, sym, ap, ◌∙◌, subst, arith, ⊎_elim}
 use Rattle.std.proofs.lemmas.Bool.{cases_lt}
 use Rattle.nm_model.specs.Accept.{Answer, accept_data, accept_null}
 use Rattle.nm_model.specs.Replica.{from_scratch, safe_time, IsWithin}
@@ -12,7 +12,7 @@ use Rattle.nm_model.specs.Network.{Net, IsNet}
 use Rattle.nm_model.specs.Before.{IsBefore, IsCount, IsKnowledge, history}
 use Rattle.nm_model.specs.Run.{pends_before}
 use Rattle.nm_model.specs.World.{Frame, DataFrame, NullFrame, Replica, World, Step, Run, Data, Resend, Null, Deliver, Merge, Restart, Outcome, All, Limit, Frames, NoSuch, opening, put_replica, put_frames, sister, advance, is_replica, outgoing, data_frames, sends, told, runs, merges, delivers, happens, world, answers, IsFineOutcome, AllFine}
-use Rattle.nm_model.proofs.ListLemmas.{nth_drop, same_number, set_here, set_there, prefix_nth}
+use Rattle.nm_model.proofs.ListLemmas.{below_or_at, nth_drop, same_number, set_here, set_there, prefix_nth}
 use Rattle.nm_model.proofs.Cut.{and_both}
 use Rattle.nm_model.proofs.CutLaw.{out_prefix}
 use Rattle.nm_model.proofs.Promises.{out_later}
@@ -52,10 +52,7 @@ module _ {P N : Type 0} (net : Net P N) where
     where
       go : (b : Bool) → pends_before (safe_time net p K) (from_scratch net p K k) ≡ b → (IsWithin net p K (suc k) → IsWithin net p K (advance net p K n (suc k))) → IsWithin net p K (cond b (advance net p K n (suc k)) k)
       go false e rest = w
-      go true e rest = rest (λ m lt. ⊎_elim (λ f. w m f) (λ f. subst (λ z. pends_before (safe_time net p K) (from_scratch net p K z) ≡ true) (sym f) e) (below_or m k lt))
-        where
-          below_or : (a b : ℕ) → a < suc b → (a < b) ⊎ (a ≡ b)
-          below_or a b i = grind arith
+      go true e rest = rest (λ m lt. ⊎_elim (λ f. w m f) (λ f. subst (λ z. pends_before (safe_time net p K) (from_scratch net p K z) ≡ true) (sym f) e) (below_or_at m k lt))
 
   -- a run goes on to the lesser of k + n and the count
   pub advance_is : (p : ℕ) (K : List (Know P)) (count : ℕ) → IsCount net p K count → (n k : ℕ) → k ≤ count → advance net p K n k ≡ min (k + n) count

@@ -1,13 +1,14 @@
 use Rattle.std.proofs.Common.{[]}
-use Rattle.nm_model.proofs.Orders.{orderly_start, orderly_put}
+use Rattle.nm_model.proofs.Orders.{orderly_start, orderly_put, orderly_whole, part_by_node}
+use Rattle.nm_model.proofs.Begin.{orderly_part}
 use Rattle.nm_model.proofs.Stated as laws
 use Rattle.nm_model.proofs.orderly.every_state_is_orderly.Goals as goal
 
 pub returns-clause-whole : goal.returns-clause-whole
-returns-clause-whole g c = λ net ok n. laws.orderly_whole net ok n
+returns-clause-whole g c = λ net ok n. orderly_whole net ok n
 
 pub returns-clause-part : goal.returns-clause-part
-returns-clause-part g c = λ net ok p K k. laws.orderly_part net ok p K k
+returns-clause-part g c = λ net ok p K k. orderly_part net ok p K k
 
 pub returns-clause-opens : goal.returns-clause-opens
 returns-clause-opens g c = λ net ok here by. orderly_start net ok here by [] (λ q y a. absurd a)
@@ -19,4 +20,4 @@ pub returns-clause-told : goal.returns-clause-told
 returns-clause-told g c = λ net here s h d t n x mn far. orderly_put net here s h d t n x mn far
 
 pub returns-clause-parts : goal.returns-clause-parts
-returns-clause-parts g c = λ net p. laws.part_by_node net p
+returns-clause-parts g c = λ net p. part_by_node net p
