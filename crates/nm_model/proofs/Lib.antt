@@ -26,3 +26,4 @@ mod SameKnowledge
 mod Orders
 mod TwoHosts
 mod NeverFalling
+mod Queues

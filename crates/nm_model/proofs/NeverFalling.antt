@@ -59,9 +59,6 @@ module _ {P N : Type 0} (net : Net P N) (ok : IsNet net) (p : ℕ) where
     port_goes_on : (i : ℕ) → busy_until ((from_scratch net p K k).port i).busy ≤ max next.0.0.time (busy_until ((from_scratch net p K (suc k)).port i).busy)
     port_goes_on i = go ((from_scratch net p K k).port i).busy refl
       where
-        x : (x : Key × Event P) × (least (from_scratch net p K k).pending ≡ Some x) × (x.0.time < safe_time net p K)
-        x = least_busy (safe_time net p K) (from_scratch net p K k) (w k (omega arith))
-
         has : get (from_scratch net p K k).pending next.0.0 ≡ Some next.0.1
         has = least_has _ next.0 next.1
 

@@ -9,6 +9,7 @@ pub mod certificate;
 pub mod example;
 pub mod knowledge;
 pub mod orderly;
+pub mod port;
 pub mod promise;
 pub mod replica;
 pub mod rounds;
