@@ -44,11 +44,13 @@ pub fn taking_messages()
 pub fn joining_knowledge()
     ensures late { join_fault same_number (knows ((2, 0) ∷ []) 10) (knows ((2, 0) ∷ (5, 0) ∷ []) 5)
         ≡ Some (Late 10) }
-    ensures fine { join_fault same_number (knows ((2, 0) ∷ []) 10) (knows ((2, 0) ∷ (12, 0) ∷ []) 12)
+    ensures fine { join_fault same_number (knows ((2, 0) ∷ []) 10)
+        (knows ((2, 0) ∷ (12, 0) ∷ []) 12)
         ≡ None }
     ensures joined { join (knows ((2, 0) ∷ []) 10) (knows ((2, 0) ∷ (12, 0) ∷ []) 12)
         ≡ knows ((2, 0) ∷ (12, 0) ∷ []) 12 }
-    ensures past_clock { join_fault same_number (knows [] 7) (knows ((6, 0) ∷ []) 6) ≡ Some (Late 7) }
+    ensures past_clock { join_fault same_number (knows [] 7) (knows ((6, 0) ∷ []) 6)
+        ≡ Some (Late 7) }
     ensures past_clock_back { join_fault same_number (knows ((6, 0) ∷ []) 6) (knows [] 7)
         ≡ Some (Late 7) }
     ensures at_clock { join_fault same_number (knows ((6, 0) ∷ []) 6) (knows [] 6) ≡ None }

@@ -21,7 +21,8 @@ ghost use Rattle.nm_model.specs.Orderly.{IsByNode, IsOrderly};
 /// Every state is orderly: at the start, after each event and after each message put by a channel; so of the whole
 /// network, and of a replica over anything that it was told, true or not.
 pub fn every_state_is_orderly<P, N>()
-    ensures whole { (net : Net P N) → IsNet net → (n : ℕ) → IsOrderly net (λ _. true) (one_list net n) }
+    ensures whole { (net : Net P N) → IsNet net → (n : ℕ)
+        → IsOrderly net (λ _. true) (one_list net n) }
     ensures part { (net : Net P N) → IsNet net → (p : ℕ) (K : List (Know P)) (k : ℕ)
         → IsOrderly net (in_part net p) (from_scratch net p K k) }
     ensures opens { (net : Net P N) → IsNet net → (here : Place → Bool) → IsByNode net here
@@ -43,6 +44,7 @@ pub fn new_keys_are_new<P, N>()
         → (m : ℕ) (f : Key × Event P) → nth (made net s e) m ≡ Some f
         → get (remove s.pending e.0) f.0 ≡ None }
     ensures apart { (net : Net P N) → IsNet net → (s : State P N) (e : Key × Event P) (m n : ℕ)
-        (f g : Key × Event P) → m < n → nth (made net s e) m ≡ Some f → nth (made net s e) n ≡ Some g
+        (f g : Key × Event P) → m < n
+        → nth (made net s e) m ≡ Some f → nth (made net s e) n ≡ Some g
         → f.0 ≢ g.0 }
 {}

@@ -11,9 +11,11 @@ pub fn packets_start_in_turn<P>()
         → taken_by room tx events idle_port
         ≡ started_by room tx events idle_port
         ++ waiting_of (port_after room tx events idle_port).busy }
-    ensures from_any { (room : List P → P → Bool) (tx : P → ℕ) (events : List (PortEvent P)) (w : Port P)
+    ensures from_any { (room : List P → P → Bool) (tx : P → ℕ)
+        (events : List (PortEvent P)) (w : Port P)
         → waiting_of w.busy ++ taken_by room tx events w
         ≡ started_by room tx events w ++ waiting_of (port_after room tx events w).busy }
-    ensures dropped { (room : List P → P → Bool) (tx : P → ℕ) (events : List (PortEvent P)) (w : Port P)
+    ensures dropped { (room : List P → P → Bool) (tx : P → ℕ)
+        (events : List (PortEvent P)) (w : Port P)
         → (port_after room tx events w).dropped ≡ w.dropped + dropped_by room tx events w }
 {}

@@ -21,7 +21,8 @@ pub fn cut_law<P, N>()
     ensures agrees { (net : Net P N) → IsNet net → (p : ℕ) (K : List (Know P)) → IsKnowledge net p K
         → (k n : ℕ) → IsWithin net p K k → events_at net (in_part net p) n ≡ k
         → Agrees net p (one_list net n) (from_scratch net p K k) }
-    ensures reached { (net : Net P N) → IsNet net → (p : ℕ) (K : List (Know P)) → IsKnowledge net p K
+    ensures reached { (net : Net P N) → IsNet net → (p : ℕ) (K : List (Know P))
+        → IsKnowledge net p K
         → (k last : ℕ) → IsWithin net p K k → IsBefore net net.stop last
         → (n : ℕ) × (n ≤ last) × (events_at net (in_part net p) n ≡ k) }
     ensures prefix { (net : Net P N) → IsNet net → (p : ℕ) (K : List (Know P)) → IsKnowledge net p K
@@ -34,7 +35,8 @@ pub fn cut_law<P, N>()
 
 /// Over more knowledge a partition is as before, with the new messages pending.
 pub fn law_of_books<P, N>()
-    ensures same { (net : Net P N) → IsNet net → (p : ℕ) (K J : List (Know P)) → IsUnderAll net p K J
+    ensures same { (net : Net P N) → IsNet net → (p : ℕ) (K J : List (Know P))
+        → IsUnderAll net p K J
         → (k : ℕ) → IsWithin net p K k
         → from_scratch net p J k ≡ with_new net p K J (from_scratch net p K k) }
     ensures within { (net : Net P N) → IsNet net → (p : ℕ) (K J : List (Know P))
@@ -44,10 +46,13 @@ pub fn law_of_books<P, N>()
 /// To take one new message is to put one new event, and to raise a clock changes nothing.
 pub fn told_one_more<P, N>()
     ensures new_key { (net : Net P N) → IsNet net → (p : ℕ) (K : List (Know P)) (k : ℕ)
-        → IsWithin net p K k → (c : ℕ) → comes_in net p c ≡ true → (b : ℕ × P) → (know K c).clock ≤ b.0
-        → get (from_scratch net p K k).pending (key_of b.0 (Arrive c) (length (know K c).list)) ≡ None }
+        → IsWithin net p K k → (c : ℕ) → comes_in net p c ≡ true
+        → (b : ℕ × P) → (know K c).clock ≤ b.0
+        → get (from_scratch net p K k).pending (key_of b.0 (Arrive c) (length (know K c).list))
+        ≡ None }
     ensures message { (net : Net P N) → IsNet net → (p : ℕ) (K : List (Know P)) (k : ℕ)
-        → IsWithin net p K k → (c : ℕ) → comes_in net p c ≡ true → (b : ℕ × P) → (know K c).clock ≤ b.0
+        → IsWithin net p K k → (c : ℕ) → comes_in net p c ≡ true
+        → (b : ℕ × P) → (know K c).clock ≤ b.0
         → from_scratch net p
         (set_know K c (record { list = (know K c).list ++ b ∷ []; clock = b.0 })) k
         ≡ record (from_scratch net p K k) {

@@ -15,7 +15,8 @@ pub fn arrivals_are_recorded<P, N>()
     ensures whole { (net : Net P N) (n c : ℕ)
         → (one_list net n).arrived c ≡ length (passed In c (one_list net n).records) }
     ensures part { (net : Net P N) (p : ℕ) (K : List (Know P)) (k c : ℕ)
-        → (from_scratch net p K k).arrived c ≡ length (passed In c (from_scratch net p K k).records) }
+        → (from_scratch net p K k).arrived c
+        ≡ length (passed In c (from_scratch net p K k).records) }
 {}
 
 /// The n-th packet whose transmission starts at an interface is the n-th that arrives at the far end, after its

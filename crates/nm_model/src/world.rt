@@ -16,7 +16,8 @@ ghost use Rattle.nm_model.specs.World.{Step, opening, advance, answers, state_of
 /// that before the safe time once what is safe has run, and only gaps are refused.
 pub fn worlds<P, N>()
     ensures valid { (net : Net P N) → IsNet net → (same : P → P → Bool) → IsReflexive same
-        → (steps : List Step) (p r : ℕ) → IsKnowledge net p (replica_after net same steps p r).knowledge }
+        → (steps : List Step) (p r : ℕ)
+        → IsKnowledge net p (replica_after net same steps p r).knowledge }
     ensures within { (net : Net P N) → IsNet net → (same : P → P → Bool) → IsReflexive same
         → (steps : List Step) (p r : ℕ) → let x = replica_after net same steps p r in
         IsWithin net p x.knowledge x.ran }
