@@ -9,7 +9,7 @@ use Rattle.nm_base.specs.declared.key.Key.{Key}
 use Rattle.nm_base.specs.Key.{key_of, key_cmp}
 use Rattle.nm_model.specs.EventList.{least, schedule, is_before}
 use Rattle.nm_model.specs.Replica.{inbox_events, is_past, new_messages, with_new, from_scratch, safe_time, safe_among, IsWithin, IsUnderAll}
-use Rattle.nm_model.specs.Knowledge.{Know, know}
+use Rattle.nm_model.specs.Knowledge.{Knowledge}
 use Rattle.nm_model.specs.Partition.{in_part, comes_in}
 use Rattle.nm_model.specs.Lists.{nth, keep_where}
 use Rattle.nm_model.specs.Network.{Net, IsNet, node_of}
@@ -60,23 +60,23 @@ module _ {P N : Type 0} (net : Net P N) (ok : IsNet net) (p : ℕ) where
       gone (inl f) = subst (λ z. get (remove s.pending e.0) z ≡ None) (sym f) (remove_same s.pending e.0)
       gone (inr f) = remove_other s.pending e.0 q f ∙ h q mq
 
-  pub alien : (K : List (Know P)) (k : ℕ) (q : Key) → in_part net p q.place ≡ false → get (from_scratch net p K k).pending q ≡ None
+  pub alien : (K : Knowledge P) (k : ℕ) (q : Key) → in_part net p q.place ≡ false → get (from_scratch net p K k).pending q ≡ None
   alien K zero q mq = put_elsewhere (in_part net p) (source_events net net.sources) _ q mq ∙ messages_only net p K q (λ c pl ch. both_ways (in_part net p q.place) (ap (in_part net p) pl ∙ (and_both _ _ ch).0) mq)
   alien K (suc k) q mq = alien_step (from_scratch net p K k) (alien K k) (least (from_scratch net p K k).pending) q mq
 
-  module _ (K J : List (Know P)) (under : IsUnderAll net p K J) where
+  module _ (K J : Knowledge P) (under : IsUnderAll net p K J) where
     abbrev pub more : FinMap key_cmp (Event P) → FinMap key_cmp (Event P)
     more m = schedule (λ q. true) (new_messages net p K J) m
 
-    pub new_among : (q : Key) (y : Event P) → IsAmong q y (new_messages net p K J) → (c : ℕ) × (q.place ≡ Arrive c) × (comes_in net p c ≡ true) × (length (know K c).list ≤ q.number) × (z : P) × (y ≡ Delivery z) × (nth (know J c).list q.number ≡ Some (q.time, z))
+    pub new_among : (q : Key) (y : Event P) → IsAmong q y (new_messages net p K J) → (c : ℕ) × (q.place ≡ Arrive c) × (comes_in net p c ≡ true) × (length (K c).list ≤ q.number) × (z : P) × (y ≡ Delivery z) × (nth (J c).list q.number ≡ Some (q.time, z))
     new_among q y a =
         let b = among_kept (λ e. is_past K e.0.place e.0.number) q y _ a in
         let r = inbox_at net p J q y b.0 in
-        let f : leb (length (know K r.0).list) q.number ≡ true = ap (λ pl. is_past K pl q.number) (sym r.1) ∙ b.1 in
+        let f : leb (length (K r.0).list) q.number ≡ true = ap (λ pl. is_past K pl q.number) (sym r.1) ∙ b.1 in
         (r.0, r.1, r.2, grind (arith, nat_tests), r.3, r.4, r.5)
 
-    among_new : (c n t : ℕ) (y : P) → comes_in net p c ≡ true → length (know K c).list ≤ n → nth (know J c).list n ≡ Some (t, y) → IsAmong (key_of t (Arrive c) n) (Delivery y) (new_messages net p K J)
-    among_new c n t y ch le e = kept_among (λ e. is_past K e.0.place e.0.number) (key_of t (Arrive c) n) (Delivery y) _ (at_inbox net p J c n t y ch e) (grind (arith, nat_tests))
+    among_new : (c n t : ℕ) (y : P) → comes_in net p c ≡ true → length (K c).list ≤ n → nth (J c).list n ≡ Some (t, y) → IsAmong (key_of t (Arrive c) n) (Delivery y) (new_messages net p K J)
+    among_new c n t y ch le e = kept_among (λ e. is_past K e.0.place e.0.number) (key_of t (Arrive c) n) (Delivery y) _ (at_inbox net p ok J c n t y ch e) (grind (arith, nat_tests))
 
     pub new_later : (q : Key) (y : Event P) → IsAmong q y (new_messages net p K J) → safe_time net p K ≤ q.time
     new_later q y a =
@@ -90,43 +90,43 @@ module _ {P N : Type 0} (net : Net P N) (ok : IsNet net) (p : ℕ) where
     more_early : (m : FinMap key_cmp (Event P)) (q : Key) → q.time < safe_time net p K → get (more m) q ≡ get m q
     more_early m q lt = put_absent (λ q. true) (new_messages net p K J) m q (absent_unless q _ (λ v a. let r = new_later q v a in omega arith))
 
-    pub more_has : (m : FinMap key_cmp (Event P)) (c n t : ℕ) (y : P) → comes_in net p c ≡ true → length (know K c).list ≤ n → nth (know J c).list n ≡ Some (t, y) → get (more m) (key_of t (Arrive c) n) ≡ Some (Delivery y)
+    pub more_has : (m : FinMap key_cmp (Event P)) (c n t : ℕ) (y : P) → comes_in net p c ≡ true → length (K c).list ≤ n → nth (J c).list n ≡ Some (t, y) → get (more m) (key_of t (Arrive c) n) ≡ Some (Delivery y)
     more_has m c n t y ch le e = put_has (λ q. true) (new_messages net p K J) m (key_of t (Arrive c) n) (Delivery y) refl (among_new c n t y ch le e) one
       where
         one : (w : Event P) → IsAmong (key_of t (Arrive c) n) w (new_messages net p K J) → w ≡ Delivery y
         one w a =
             let r = new_among _ w a in
-            let f : nth (know J c).list n ≡ Some (t, r.4) = ap (λ d. nth (know J d).list n) (arrive_inj c r.0 r.1) ∙ r.6 in
+            let f : nth (J c).list n ≡ Some (t, r.4) = ap (λ d. nth (J d).list n) (arrive_inj c r.0 r.1) ∙ r.6 in
             let g : ◌≡◌ {A = ℕ × P} (t, r.4) (t, y) = cc in r.5 ∙ ap (λ z. Delivery z.1) g
 
     -- at the start
-    begun_at : (c t n : ℕ) → comes_in net p c ≡ true → get (schedule (λ q. true) (inbox_events net p 0 J) empty) (key_of t (Arrive c) n) ≡ get (more (start net (in_part net p) (inbox_events net p 0 K)).pending) (key_of t (Arrive c) n)
+    begun_at : (c t n : ℕ) → comes_in net p c ≡ true → get (schedule (λ q. true) (inbox_events net p J) empty) (key_of t (Arrive c) n) ≡ get (more (start net (in_part net p) (inbox_events net p K)).pending) (key_of t (Arrive c) n)
     begun_at c t n ch = option_same _ _ to back
       where
-        to : (x : Event P) → get (schedule (λ q. true) (inbox_events net p 0 J) empty) (key_of t (Arrive c) n) ≡ Some x → get (more (start net (in_part net p) (inbox_events net p 0 K)).pending) (key_of t (Arrive c) n) ≡ Some x
+        to : (x : Event P) → get (schedule (λ q. true) (inbox_events net p J) empty) (key_of t (Arrive c) n) ≡ Some x → get (more (start net (in_part net p) (inbox_events net p K)).pending) (key_of t (Arrive c) n) ≡ Some x
         to x e =
             let m = messages_are net p J c t n x e in
             ⊎_elim
             (λ lt.
             let b = nth_prefix _ _ n (t, m.1) (under c ch).begins lt m.3 in
-            put_absent (λ q. true) (new_messages net p K J) _ (key_of t (Arrive c) n) (absent_unless _ _ (λ v z. let r = new_among _ v z in let f = ap (λ d. length (know K d).list) (arrive_inj c r.0 r.1) in omega (arith, r.3)))
-            ∙ no_source net p (key_of t (Arrive c) n) c refl (in_part net p) _ ∙ messages_have net p K c t n m.1 ch b ∙ ap Some (sym m.2))
+            put_absent (λ q. true) (new_messages net p K J) _ (key_of t (Arrive c) n) (absent_unless _ _ (λ v z. let r = new_among _ v z in let f = ap (λ d. length (K d).list) (arrive_inj c r.0 r.1) in omega (arith, r.3)))
+            ∙ no_source net p (key_of t (Arrive c) n) c refl (in_part net p) _ ∙ messages_have net p ok K c t n m.1 ch b ∙ ap Some (sym m.2))
             (λ le. more_has _ c n t m.1 ch le m.3 ∙ ap Some (sym m.2))
-            (cases_lt n (length (know K c).list))
+            (cases_lt n (length (K c).list))
 
-        back : (x : Event P) → get (more (start net (in_part net p) (inbox_events net p 0 K)).pending) (key_of t (Arrive c) n) ≡ Some x → get (schedule (λ q. true) (inbox_events net p 0 J) empty) (key_of t (Arrive c) n) ≡ Some x
+        back : (x : Event P) → get (more (start net (in_part net p) (inbox_events net p K)).pending) (key_of t (Arrive c) n) ≡ Some x → get (schedule (λ q. true) (inbox_events net p J) empty) (key_of t (Arrive c) n) ≡ Some x
         back x e = ⊎_elim
-            (λ a. let r = new_among _ x a in messages_have net p J c t n r.4 ch (ap (λ d. nth (know J d).list n) (arrive_inj c r.0 r.1) ∙ r.6) ∙ ap Some (sym r.5))
-            (λ f. let a = messages_are net p K c t n x (sym (no_source net p (key_of t (Arrive c) n) c refl (in_part net p) _) ∙ f) in messages_have net p J c t n a.1 ch (prefix_nth _ _ n (t, a.1) (under c ch).begins a.3) ∙ ap Some (sym a.2))
+            (λ a. let r = new_among _ x a in messages_have net p ok J c t n r.4 ch (ap (λ d. nth (J d).list n) (arrive_inj c r.0 r.1) ∙ r.6) ∙ ap Some (sym r.5))
+            (λ f. let a = messages_are net p K c t n x (sym (no_source net p (key_of t (Arrive c) n) c refl (in_part net p) _) ∙ f) in messages_have net p ok J c t n a.1 ch (prefix_nth _ _ n (t, a.1) (under c ch).begins a.3) ∙ ap Some (sym a.2))
             (put_from (λ q. true) (new_messages net p K J) _ (key_of t (Arrive c) n) x e)
 
-    begun : (q : Key) → get (start net (in_part net p) (inbox_events net p 0 J)).pending q ≡ get (more (start net (in_part net p) (inbox_events net p 0 K)).pending) q
+    begun : (q : Key) → get (start net (in_part net p) (inbox_events net p J)).pending q ≡ get (more (start net (in_part net p) (inbox_events net p K)).pending) q
     begun q = go q.place refl
       where
-        plain : ((c : ℕ) → q.place ≡ Arrive c → comes_in net p c ≡ true → ⊥) → get (start net (in_part net p) (inbox_events net p 0 J)).pending q ≡ get (more (start net (in_part net p) (inbox_events net p 0 K)).pending) q
+        plain : ((c : ℕ) → q.place ≡ Arrive c → comes_in net p c ≡ true → ⊥) → get (start net (in_part net p) (inbox_events net p J)).pending q ≡ get (more (start net (in_part net p) (inbox_events net p K)).pending) q
         plain h = put_alike (in_part net p) (in_part net p) (source_events net net.sources) _ _ q refl (messages_only net p J q h ∙ sym (messages_only net p K q h)) ∙ sym (more_other _ q h)
 
-        go : (pl : Place) → q.place ≡ pl → get (start net (in_part net p) (inbox_events net p 0 J)).pending q ≡ get (more (start net (in_part net p) (inbox_events net p 0 K)).pending) q
+        go : (pl : Place) → q.place ≡ pl → get (start net (in_part net p) (inbox_events net p J)).pending q ≡ get (more (start net (in_part net p) (inbox_events net p K)).pending) q
         go (Complete i) e = plain (λ c f ch. let z : Complete i ≡ Arrive c = sym e ∙ f in cc)
         go (Fire j) e = plain (λ c f ch. let z : Fire j ≡ Arrive c = sym e ∙ f in cc)
         go (Arrive c) e = ⊎_elim
@@ -135,7 +135,7 @@ module _ {P N : Type 0} (net : Net P N) (ok : IsNet net) (p : ℕ) where
             (bool_cases (comes_in net p c))
           where
             Same : Key → Type 0
-            Same z = get (start net (in_part net p) (inbox_events net p 0 J)).pending z ≡ get (more (start net (in_part net p) (inbox_events net p 0 K)).pending) z
+            Same z = get (start net (in_part net p) (inbox_events net p J)).pending z ≡ get (more (start net (in_part net p) (inbox_events net p K)).pending) z
 
     -- an event of the partition below the safe time
     module _ (s : State P N) (e : Key × Event P) (m : least s.pending ≡ Some e) (mn : in_part net p e.0.place ≡ true) (lt : e.0.time < safe_time net p K) where
@@ -197,7 +197,7 @@ module _ {P N : Type 0} (net : Net P N) (ok : IsNet net) (p : ℕ) where
           a ∙ c ∙ b
 
     pub books : (k : ℕ) → IsWithin net p K k → from_scratch net p J k ≡ with_new net p K J (from_scratch net p K k)
-    books zero w = ap (λ z. record (start net (in_part net p) (inbox_events net p 0 K)) { pending = z }) (same_events (start net (in_part net p) (inbox_events net p 0 J)).pending (more (start net (in_part net p) (inbox_events net p 0 K)).pending) begun)
+    books zero w = ap (λ z. record (start net (in_part net p) (inbox_events net p K)) { pending = z }) (same_events (start net (in_part net p) (inbox_events net p J)).pending (more (start net (in_part net p) (inbox_events net p K)).pending) begun)
     books (suc k) w =
         let r = books k (λ m lt. w m (omega arith)) in
         let x = least_busy (safe_time net p K) (from_scratch net p K k) (w k (omega arith)) in
@@ -210,7 +210,7 @@ module _ {P N : Type 0} (net : Net P N) (ok : IsNet net) (p : ℕ) where
     safe_rises zero h = omega arith
     safe_rises (suc n) h = go (comes_in net p n) refl (safe_rises n (omega arith))
       where
-        go : (b : Bool) → comes_in net p n ≡ b → safe_among net p K n ≤ safe_among net p J n → cond b (min (know K n).clock (safe_among net p K n)) (safe_among net p K n) ≤ cond b (min (know J n).clock (safe_among net p J n)) (safe_among net p J n)
+        go : (b : Bool) → comes_in net p n ≡ b → safe_among net p K n ≤ safe_among net p J n → cond b (min (K n).clock (safe_among net p K n)) (safe_among net p K n) ≤ cond b (min (J n).clock (safe_among net p J n)) (safe_among net p J n)
         go true e r = let c = (under n e).clock in omega arith
         go false e r = r
 

@@ -1,5 +1,5 @@
 -- Books that certify one another are the whole network's.
-use Rattle.std.proofs.Common.{◌≡◌, ◌⊎◌, inl, inr, ℕ, zero, suc, ◌+◌, ◌-◌, ◌<◌, ◌≤◌, Bool, true, false, cond, List, length, Option, Some, None, refl, sym, ap, ◌∙◌, subst, arith, true≢false, ⊎_elim}
+use Rattle.std.proofs.Common.{◌≡◌, ◌⊎◌, inl, inr, ℕ, zero, suc, ◌+◌, ◌-◌, ◌<◌, ◌≤◌, Bool, true, false, cond, length, Option, Some, None, refl, sym, ap, ◌∙◌, subst, arith, true≢false, ⊎_elim}
 use Rattle.std.proofs.lemmas.Bool.{cases_lt}
 use Rattle.std.proofs.lemmas.Bool.Decides.{nat_tests}
 use Rattle.std.specs.FinMap.{get}
@@ -7,7 +7,7 @@ use Rattle.nm_base.specs.declared.key.Key.{Key}
 use Rattle.nm_model.specs.EventList.{least, is_before}
 use Rattle.nm_model.specs.Certificate.{AreFinished, is_done}
 use Rattle.nm_model.specs.Replica.{inbox_events, from_scratch, safe_time}
-use Rattle.nm_model.specs.Knowledge.{Know, know}
+use Rattle.nm_model.specs.Knowledge.{Knowledge}
 use Rattle.nm_model.specs.Partition.{in_part, comes_in}
 use Rattle.nm_model.specs.Lists.{nth, IsPrefix}
 use Rattle.nm_model.specs.Network.{Net, IsNet}
@@ -25,11 +25,11 @@ use Rattle.nm_model.proofs.Cut.{and_both, not_true, Cut, Told, origin_at, origin
 use Rattle.nm_model.proofs.CutLaw.{quiet, least_busy}
 use Rattle.nm_base.specs.declared.event.Event.{Event}
 
-module _ {P N : Type 0} (net : Net P N) (ok : IsNet net) (p : ℕ) (K : List (Know P)) where
+module _ {P N : Type 0} (net : Net P N) (ok : IsNet net) (p : ℕ) (K : Knowledge P) where
   pub from_since : (j k t : ℕ) → j ≤ k → ((q : Key) (y : Event P) → get (from_scratch net p K j).pending q ≡ Some y → t ≤ q.time) → Since net (from_scratch net p K j) t (from_scratch net p K k)
   from_since j k t le h =
       let e : k - j + j ≡ k = omega arith in
-      subst (Since net (from_scratch net p K j) t) (sym (run_add net (in_part net p) (k - j) j (start net (in_part net p) (inbox_events net p 0 K))) ∙ ap (from_scratch net p K) e)
+      subst (Since net (from_scratch net p K j) t) (sym (run_add net (in_part net p) (k - j) j (start net (in_part net p) (inbox_events net p K))) ∙ ap (from_scratch net p K) e)
       (since net ok (in_part net p) (part_by_node net p) (k - j) (from_scratch net p K j) t (orderly_part net ok p K j) h)
 
 module _ {P N : Type 0} (net : Net P N) where
@@ -40,7 +40,7 @@ module _ {P N : Type 0} (net : Net P N) where
   done_over p x h = not_true _ (and_both _ _ h).1
 
 module _ {P N : Type 0} (net : Net P N) (ok : IsNet net) (books : ℕ → Replica P) (cert : AreFinished net books) where
-  abbrev known : ℕ → List (Know P)
+  abbrev known : ℕ → Knowledge P
   known p = (books p).knowledge
 
   -- every partition has done its part of the first n events
@@ -59,7 +59,7 @@ module _ {P N : Type 0} (net : Net P N) (ok : IsNet net) (books : ℕ → Replic
 
     module _ (t : ℕ) (from : (q : Key) (y : Event P) → get (one_list net n).pending q ≡ Some y → t ≤ q.time) where
       -- a message that a book was told of was put on its channel, or comes after t: by induction on its time
-      told_by : (fuel p c i : ℕ) (b : ℕ × P) → b.0 < fuel → comes_in net p c ≡ true → nth (know (known p) c).list i ≡ Some b → (nth ((one_list net n).sent c) i ≡ Some b) ⊎ (t < b.0)
+      told_by : (fuel p c i : ℕ) (b : ℕ × P) → b.0 < fuel → comes_in net p c ≡ true → nth ((known p) c).list i ≡ Some b → (nth ((one_list net n).sent c) i ≡ Some b) ⊎ (t < b.0)
       told_by zero p c i b lt ch e = absurd (omega arith)
       told_by (suc fuel) p c i b lt ch e = ⊎_elim
           (λ less. inl (nth_prefix _ _ i b (line_begins c) less in_given))
@@ -72,7 +72,7 @@ module _ {P N : Type 0} (net : Net P N) (ok : IsNet net) (books : ℕ → Replic
           in_given : nth (given net books c) i ≡ Some b
           in_given = prefix_nth _ _ i b (cert.begins p c ch) e
 
-          unsent : length ((one_list net n).sent c) ≤ i → (o : Option (Key × Event P)) → least (from_scratch net (sender_of net c) (known (sender_of net c)) (events_at net (in_part net (sender_of net c)) n)).pending ≡ o → ((q : Key) (y : P) → q.time < fuel → (d : ℕ) → comes_in net (sender_of net c) d ≡ true → nth (know (known (sender_of net c)) d).list q.number ≡ Some (q.time, y) → (nth ((one_list net n).sent d) q.number ≡ Some (q.time, y)) ⊎ (t < q.time)) → t < b.0
+          unsent : length ((one_list net n).sent c) ≤ i → (o : Option (Key × Event P)) → least (from_scratch net (sender_of net c) (known (sender_of net c)) (events_at net (in_part net (sender_of net c)) n)).pending ≡ o → ((q : Key) (y : P) → q.time < fuel → (d : ℕ) → comes_in net (sender_of net c) d ≡ true → nth ((known (sender_of net c)) d).list q.number ≡ Some (q.time, y) → (nth ((one_list net n).sent d) q.number ≡ Some (q.time, y)) ⊎ (t < q.time)) → t < b.0
           unsent le o m again = go o m
             where
               later : (u : ℕ) → ((q : Key) (y : Event P) → get (from_scratch net (sender_of net c) (known (sender_of net c)) (events_at net (in_part net (sender_of net c)) n)).pending q ≡ Some y → u ≤ q.time) → suc u + net.delay (net.peer c) ≤ b.0
@@ -94,25 +94,25 @@ module _ {P N : Type 0} (net : Net P N) (ok : IsNet net) (books : ℕ → Replic
       told_at p c i b ch e = told_by (suc b.0) p c i b (omega arith) ch e
 
     -- what was put on a channel before stop, the receiver knows
-    full_at : (p c i : ℕ) (b : ℕ × P) → comes_in net p c ≡ true → nth ((one_list net n).sent c) i ≡ Some b → b.0 < net.stop → nth (know (known p) c).list i ≡ Some b
+    full_at : (p c i : ℕ) (b : ℕ × P) → comes_in net p c ≡ true → nth ((one_list net n).sent c) i ≡ Some b → b.0 < net.stop → nth ((known p) c).list i ≡ Some b
     full_at p c i b ch e lt = ⊎_elim
         (λ less. nth_prefix _ _ i b (cert.begins p c ch) less (prefix_nth _ _ i b (line_begins c) e))
         (λ le. absurd (
         let below = below_nth _ i b e in
-        let x = nth_below ((one_list net n).sent c) (length (know (known p) c).list) (omega arith) in
+        let x = nth_below ((one_list net n).sent c) (length ((known p) c).list) (omega arith) in
         let clock = cert.next p c x.0 ch (prefix_nth _ _ _ x.0 (line_begins c) x.1) in
         let safe = safe_clock net p (known p) c net.ifaces (channel_inside net p ok c ch) ch in
         let stop = done_safe net p (books p) (cert.done p) in
         let order = in_order x.0 x.1 le in omega arith))
-        (cases_lt i (length (know (known p) c).list))
+        (cases_lt i (length ((known p) c).list))
       where
-        in_order : (x : ℕ × P) → nth ((one_list net n).sent c) (length (know (known p) c).list) ≡ Some x → length (know (known p) c).list ≤ i → x.0 ≤ b.0
+        in_order : (x : ℕ × P) → nth ((one_list net n).sent c) (length ((known p) c).list) ≡ Some x → length ((known p) c).list ≤ i → x.0 ≤ b.0
         in_order x h le = ⊎_elim
             (λ lt'. let g = good_run net ok n in let r = g.1.rising c _ i x b lt' h e in omega arith)
-            (λ ge. let same : length (know (known p) c).list ≡ i = omega arith in
+            (λ ge. let same : length ((known p) c).list ≡ i = omega arith in
             let f' = ap (nth ((one_list net n).sent c)) (sym same) ∙ h in
             let xb : b ≡ x = cc in let z = ap (λ v. v.0) xb in omega arith)
-            (cases_lt (length (know (known p) c).list) i)
+            (cases_lt (length ((known p) c).list) i)
 
     follows_step : (e : Key × Event P) → least (one_list net n).pending ≡ Some e → e.0.time < net.stop → (p : ℕ) → (v : Bool) → in_part net p e.0.place ≡ v → Cut net p (known p) (step_at net (λ q. true) (one_list net n) (Some e)) (from_scratch net p (known p) (cond v (suc (events_at net (in_part net p) n)) (events_at net (in_part net p) n))) × (cond v (suc (events_at net (in_part net p) n)) (events_at net (in_part net p) n) ≤ (books p).ran)
     follows_step e m lt p false mn = let g = good_run net ok n in (cut_other net p ok (known p) (one_list net n) _ (f.cut p) g.0 g.1 e.0 e.1 m mn, f.inside p)
@@ -142,7 +142,7 @@ module _ {P N : Type 0} (net : Net P N) (ok : IsNet net) (books : ℕ → Replic
       below x y h = grind (arith, nat_tests)
 
   follows : (n : ℕ) → ((m : ℕ) → m < n → pends_before net.stop (one_list net m) ≡ true) → Follows n
-  follows zero first = record { cut = λ p. cut_start net p (known p); inside = λ p. omega arith }
+  follows zero first = record { cut = λ p. cut_start net p ok (known p); inside = λ p. omega arith }
   follows (suc n) first =
       let f = follows n (λ m lt. first m (omega arith)) in
       let g = follows_on n f (least (one_list net n).pending) refl (first n (omega arith)) in

@@ -2,14 +2,14 @@
 use Rattle.std.proofs.Common.{◌≡◌, ◌≢◌, ◌⊎◌, inl, inr, ℕ, zero, suc, ◌<◌, ◌≤◌, ◌==◌, ◌&&◌, ◌||◌, not, min, Bool, true, false, cond, ltb, List, [], ◌∷◌, ◌++◌, length, Option, Some, None, refl, sym, ap, ap₂, ◌∙◌, subst, arith, true≢false, ⊎_elim}
 use Rattle.std.proofs.lemmas.Bool.{cases_lt}
 use Rattle.std.proofs.lemmas.Bool.Decides.{nat_tests}
-use Rattle.std.specs.FinMap.{get, empty}
+use Rattle.std.specs.FinMap.{get}
 use Rattle.nm_base.specs.declared.key.Place.TheVariants.{Arrive, Fire}
 use Rattle.nm_base.specs.declared.key.Key.{Key}
 use Rattle.nm_base.specs.declared.event.Event.{Event}
+use Rattle.nm_model.specs.Knowledge.{no_knowledge}
 use Rattle.nm_model.specs.Lists.{nth, IsPrefix}
 use Rattle.nm_model.specs.Network.{Net, IsNet, IsParted}
 use Rattle.nm_model.specs.Run.{source_events, first_event, pends_before}
-use Rattle.nm_model.specs.Knowledge.{know}
 use Rattle.nm_model.specs.Accept.{IsReflexive, TellsApart, same_message, last_from}
 use Rattle.nm_model.specs.Join.{or_else}
 use Rattle.nm_model.specs.Partition.{in_part, comes_in, sender_of}
@@ -19,10 +19,10 @@ use Rattle.nm_model.specs.Before.{IsBefore, trace}
 use Rattle.nm_model.specs.World.{Replica, fresh, state_of, outgoing}
 use Rattle.nm_model.specs.Rounds.{given}
 use Rattle.nm_model.specs.Certificate.{Book, Fault, MissingPart, UnfinishedPart, PrefixFault, ClockFault, PromiseFault, is_done, AreFinished, Matches, IsCertified, first_of, first_below, has_part, prefix_fault, clock_fault, channel_fault, book_fault, certify}
-use Rattle.nm_model.proofs.Keys.{get_empty}
-use Rattle.nm_model.proofs.ListLemmas.{number_is, bool_cases, number_tied, number_apart, same_number}
+use Rattle.nm_model.proofs.ListLemmas.{not_some, number_is, bool_cases, number_tied, number_apart, same_number}
 use Rattle.nm_model.proofs.Scheduling.{IsAmong, put_from, put_elsewhere, among-append}
 use Rattle.nm_model.proofs.Cut.{and_both, not_true, channel_inside}
+use Rattle.nm_model.proofs.Begin.{messages_only}
 use Rattle.nm_model.proofs.CutLaw.{not_busy}
 use Rattle.nm_model.proofs.Accepting.{same_self}
 use Rattle.nm_model.proofs.Faults.{left_none, right_none, same_is}
@@ -137,7 +137,7 @@ none_promise p t z f (inr h) = ap (λ y. cond (ltb p t && not y) (Some f) None) 
 module _ {P N : Type 0} (net : Net P N) (same : P → P → Bool) (eq : IsReflexive same) (tells : TellsApart same) (kind : Promising) where
   channel_none : (c : ℕ) (r s : Book P) → channel_fault net same kind c r s ≡ None → Matches net kind c r s
   channel_none c r s e =
-      let a = know r.replica.knowledge c in
+      let a = r.replica.knowledge c in
       let out = outgoing net s.part s.replica c in
       let p = promise net kind s.part s.replica.knowledge s.replica.ran c in
       let tail = right_none (prefix_fault same c 0 a.list out) _ e in
@@ -149,7 +149,7 @@ module _ {P N : Type 0} (net : Net P N) (same : P → P → Bool) (eq : IsReflex
 
   none_channel : (c : ℕ) (r s : Book P) → Matches net kind c r s → channel_fault net same kind c r s ≡ None
   none_channel c r s m =
-      let a = know r.replica.knowledge c in
+      let a = r.replica.knowledge c in
       let out = outgoing net s.part s.replica c in
       let p = promise net kind s.part s.replica.knowledge s.replica.ran c in
       none_both _ _ (none_prefix same eq tells c 0 a.list out m.begins)
@@ -187,11 +187,11 @@ module _ {P N : Type 0} (net : Net P N) (ok : IsNet net) (parted : IsParted net)
       let lt = parted.ifaces c (channel_inside net p ok c ch) in
       let e = number_is (net.part (net.owner c)) p (and_both _ _ ch).0 in omega arith
 
-  empty_safe : (n : ℕ) → safe_among net p [] n ≡ net.stop
+  empty_safe : (n : ℕ) → safe_among net p no_knowledge n ≡ net.stop
   empty_safe zero = refl
   empty_safe (suc n) = ⊎_elim
       (λ h. absurd (no_channel n h))
-      (λ h. ap (λ z. cond z (min 0 (safe_among net p [] n)) (safe_among net p [] n)) h ∙ empty_safe n)
+      (λ h. ap (λ z. cond z (min 0 (safe_among net p no_knowledge n)) (safe_among net p no_knowledge n)) h ∙ empty_safe n)
       (bool_cases (comes_in net p n))
 
   source_lies : (j : ℕ) (q : Key) (y : Event P) → IsAmong q y (source_events net j) → j ≤ net.sources → in_part net p q.place ≡ true → ⊥
@@ -212,26 +212,26 @@ module _ {P N : Type 0} (net : Net P N) (ok : IsNet net) (parted : IsParted net)
           (λ b. let r = source_inside j q y b in (r.0, omega (arith, r.1), r.2))
           (among-append q y (first_event j (net.source j 0)) (source_events net j) a)
 
-  empty_quiet : (t : ℕ) → pends_before t (from_scratch net p [] 0) ≡ false
-  empty_quiet t = not_busy t (from_scratch net p [] 0) (λ q y e. absurd (pending q y e))
+  empty_quiet : (t : ℕ) → pends_before t (from_scratch net p no_knowledge 0) ≡ false
+  empty_quiet t = not_busy t (from_scratch net p no_knowledge 0) (λ q y e. absurd (pending q y e))
     where
-      pending : (q : Key) (y : Event P) → get (from_scratch net p [] 0).pending q ≡ Some y → ⊥
+      pending : (q : Key) (y : Event P) → get (from_scratch net p no_knowledge 0).pending q ≡ Some y → ⊥
       pending q y e = ⊎_elim
           (λ mn. ⊎_elim
           (λ a. source_lies net.sources q y a (omega arith) mn)
-          (λ f. let z = get_empty {X = Event P} q in absurd (cc))
+          (λ f. let none = messages_only net p no_knowledge q (λ c pl ch. no_channel c ch) in absurd (not_some y (sym none ∙ f)))
           (put_from (in_part net p) (source_events net net.sources) _ q y e))
-          (λ mn. let z = put_elsewhere (in_part net p) (source_events net net.sources) empty q mn in let w = get_empty {X = Event P} q in absurd (cc))
+          (λ mn. let none = put_elsewhere (in_part net p) (source_events net net.sources) _ q mn ∙ messages_only net p no_knowledge q (λ c pl ch. no_channel c ch) in absurd (not_some y (sym none ∙ e)))
           (bool_cases (in_part net p q.place))
 
   pub empty_done : is_done net p fresh ≡ true
   empty_done =
-      let a : (safe_time net p [] == net.stop) ≡ true = ap (λ z. z == net.stop) (empty_safe net.ifaces) ∙ number_tied net.stop in
-      let b : not (pends_before net.stop (from_scratch net p [] 0)) ≡ true = ap not (empty_quiet net.stop) in
+      let a : (safe_time net p no_knowledge == net.stop) ≡ true = ap (λ z. z == net.stop) (empty_safe net.ifaces) ∙ number_tied net.stop in
+      let b : not (pends_before net.stop (from_scratch net p no_knowledge 0)) ≡ true = ap not (empty_quiet net.stop) in
       ap₂ (λ x y. x && y) a b
 
   pub empty_trace : (last : ℕ) → IsBefore net net.stop last → trace net p last ≡ []
-  empty_trace last b = sym (exact net ok p [] (λ l e c ch. absurd (no_channel c ch)) 0 last (record { over = empty_quiet (safe_time net p []); first = λ m lt. absurd (omega arith) }) (subst (λ t. IsBefore net t last) (sym (empty_safe net.ifaces)) b))
+  empty_trace last b = sym (exact net ok p no_knowledge (λ l e c ch. absurd (no_channel c ch)) 0 last (record { over = empty_quiet (safe_time net p no_knowledge); first = λ m lt. absurd (omega arith) }) (subst (λ t. IsBefore net t last) (sym (empty_safe net.ifaces)) b))
 
 -- a certified list of books tells of the whole network
 module _ {P : Type 0} where
@@ -301,11 +301,11 @@ module _ {P N : Type 0} (net : Net P N) (ok : IsNet net) (parted : IsParted net)
           (choice p);
       begins = λ p c ch.
           let m = pair p c ch in
-          subst (λ x. IsPrefix (know x.knowledge c).list (given net pick c)) (sym m.2) (subst (IsPrefix (know m.0.replica.knowledge c).list) (sym (line p c ch)) m.5.begins);
+          subst (λ x. IsPrefix (x.knowledge c).list (given net pick c)) (sym m.2) (subst (IsPrefix (m.0.replica.knowledge c).list) (sym (line p c ch)) m.5.begins);
       next = λ p c b ch e.
           let m = pair p c ch in
-          let f : nth (outgoing net m.1.part m.1.replica c) (length (know m.0.replica.knowledge c).list) ≡ Some b = ap (λ (x : Replica P). nth (outgoing net m.1.part m.1.replica c) (length (know x.knowledge c).list)) (sym m.2) ∙ ap (λ l. nth l (length (know (pick p).knowledge c).list)) (sym (line p c ch)) ∙ e in
-          subst (λ x. (know x.knowledge c).clock ≤ b.0) (sym m.2) (m.5.next b f);
+          let f : nth (outgoing net m.1.part m.1.replica c) (length (m.0.replica.knowledge c).list) ≡ Some b = ap (λ (x : Replica P). nth (outgoing net m.1.part m.1.replica c) (length (x.knowledge c).list)) (sym m.2) ∙ ap (λ l. nth l (length ((pick p).knowledge c).list)) (sym (line p c ch)) ∙ e in
+          subst (λ x. (x.knowledge c).clock ≤ b.0) (sym m.2) (m.5.next b f);
     }
       where
         line : (p c : ℕ) (ch : comes_in net p c ≡ true) → given net pick c ≡ outgoing net (pair p c ch).1.part (pair p c ch).1.replica c

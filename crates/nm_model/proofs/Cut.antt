@@ -10,7 +10,7 @@ use Rattle.nm_base.specs.declared.record.Dir.TheVariants.{In, Out}
 use Rattle.nm_model.specs.Port.{Port}
 use Rattle.nm_model.specs.EventList.{least, IsUpTo, schedule}
 use Rattle.nm_model.specs.Replica.{safe_among, Agrees}
-use Rattle.nm_model.specs.Knowledge.{Know, know}
+use Rattle.nm_model.specs.Knowledge.{Knowledge}
 use Rattle.nm_model.specs.Partition.{in_part, comes_in, is_inbox, is_own_record}
 use Rattle.nm_model.specs.Lists.{nth, keep_where}
 use Rattle.nm_model.specs.Network.{Net, IsNet, node_of}
@@ -39,34 +39,34 @@ pub both_ways : {A : Type 0} (b : Bool) → b ≡ true → b ≡ false → A
 both_ways b h k = absurd (true≢false (sym h ∙ k))
 
 module _ {P N : Type 0} (net : Net P N) (p : ℕ) where
-  pub safe_stop : (K : List (Know P)) (n : ℕ) → safe_among net p K n ≤ net.stop
+  pub safe_stop : (K : Knowledge P) (n : ℕ) → safe_among net p K n ≤ net.stop
   safe_stop K zero = omega arith
   safe_stop K (suc n) = go (comes_in net p n) (safe_stop K n)
     where
-      go : (b : Bool) → safe_among net p K n ≤ net.stop → cond b (min (know K n).clock (safe_among net p K n)) (safe_among net p K n) ≤ net.stop
+      go : (b : Bool) → safe_among net p K n ≤ net.stop → cond b (min (K n).clock (safe_among net p K n)) (safe_among net p K n) ≤ net.stop
       go true r = omega arith
       go false r = r
 
-  pub safe_clock : (K : List (Know P)) (c n : ℕ) → c < n → comes_in net p c ≡ true → safe_among net p K n ≤ (know K c).clock
+  pub safe_clock : (K : Knowledge P) (c n : ℕ) → c < n → comes_in net p c ≡ true → safe_among net p K n ≤ (K c).clock
   safe_clock K c zero h ch = absurd (omega arith)
   safe_clock K c (suc n) h ch = go (comes_in net p n) refl (same_number c n) (λ lt. safe_clock K c n lt ch)
     where
-      go : (b : Bool) → comes_in net p n ≡ b → (c ≡ n) ⊎ (c ≢ n) → (c < n → safe_among net p K n ≤ (know K c).clock) → cond b (min (know K n).clock (safe_among net p K n)) (safe_among net p K n) ≤ (know K c).clock
-      go true e (inl f) r = let w : (know K n).clock ≡ (know K c).clock = ap (λ i. (know K i).clock) (sym f) in omega arith
+      go : (b : Bool) → comes_in net p n ≡ b → (c ≡ n) ⊎ (c ≢ n) → (c < n → safe_among net p K n ≤ (K c).clock) → cond b (min (K n).clock (safe_among net p K n)) (safe_among net p K n) ≤ (K c).clock
+      go true e (inl f) r = let w : (K n).clock ≡ (K c).clock = ap (λ i. (K i).clock) (sym f) in omega arith
       go false e (inl f) r = both_ways (comes_in net p c) ch (ap (comes_in net p) f ∙ e)
       go true e (inr f) r = let w = r (omega arith) in omega arith
       go false e (inr f) r = r (omega arith)
 
   -- the relation that steps keep
-  pub record Cut (K : List (Know P)) (g s : State P N) : Type 0 where
+  pub record Cut (K : Knowledge P) (g s : State P N) : Type 0 where
     pub agrees : Agrees net p g s
-    pub inbox_is : (c t n : ℕ) (x : Event P) → comes_in net p c ≡ true → get s.pending (key_of t (Arrive c) n) ≡ Some x → (y : P) × (x ≡ Delivery y) × (s.arrived c ≤ n) × (nth (know K c).list n ≡ Some (t, y))
-    pub inbox_has : (c t n : ℕ) (x : P) → comes_in net p c ≡ true → s.arrived c ≤ n → nth (know K c).list n ≡ Some (t, x) → get s.pending (key_of t (Arrive c) n) ≡ Some (Delivery x)
+    pub inbox_is : (c t n : ℕ) (x : Event P) → comes_in net p c ≡ true → get s.pending (key_of t (Arrive c) n) ≡ Some x → (y : P) × (x ≡ Delivery y) × (s.arrived c ≤ n) × (nth (K c).list n ≡ Some (t, y))
+    pub inbox_has : (c t n : ℕ) (x : P) → comes_in net p c ≡ true → s.arrived c ≤ n → nth (K c).list n ≡ Some (t, x) → get s.pending (key_of t (Arrive c) n) ≡ Some (Delivery x)
     pub alien : (q : Key) → in_part net p q.place ≡ false → get s.pending q ≡ None
 
   -- the messages of K were put on their channels, or are later than t
-  abbrev pub Told : List (Know P) → State P N → ℕ → Type 0
-  Told K g t = (c n : ℕ) (b : ℕ × P) → comes_in net p c ≡ true → nth (know K c).list n ≡ Some b → (nth (g.sent c) n ≡ Some b) ⊎ (t < b.0)
+  abbrev pub Told : Knowledge P → State P N → ℕ → Type 0
+  Told K g t = (c n : ℕ) (b : ℕ × P) → comes_in net p c ≡ true → nth (K c).list n ≡ Some b → (nth (g.sent c) n ≡ Some b) ⊎ (t < b.0)
 
   module _ (ok : IsNet net) where
     pub channel_inside : (c : ℕ) → comes_in net p c ≡ true → c < net.ifaces
@@ -78,8 +78,8 @@ module _ {P N : Type 0} (net : Net P N) (p : ℕ) where
         (cases_lt c net.ifaces)
 
     -- what is pending at a partition is pending in the whole network, or will be
-    module _ (K : List (Know P)) (g s : State P N) (h : Cut K g s) (now : ℕ) (good : Good net g now) (t : ℕ) where
-      pub origin_at : (q : Key) (y : Event P) → ((c : ℕ) (z : P) → comes_in net p c ≡ true → nth (know K c).list q.number ≡ Some (q.time, z) → (nth (g.sent c) q.number ≡ Some (q.time, z)) ⊎ (t < q.time)) → get s.pending q ≡ Some y → (get g.pending q ≡ Some y) ⊎ (t < q.time)
+    module _ (K : Knowledge P) (g s : State P N) (h : Cut K g s) (now : ℕ) (good : Good net g now) (t : ℕ) where
+      pub origin_at : (q : Key) (y : Event P) → ((c : ℕ) (z : P) → comes_in net p c ≡ true → nth (K c).list q.number ≡ Some (q.time, z) → (nth (g.sent c) q.number ≡ Some (q.time, z)) ⊎ (t < q.time)) → get s.pending q ≡ Some y → (get g.pending q ≡ Some y) ⊎ (t < q.time)
       origin_at q y told e = ⊎_elim
           (λ mn. ⊎_elim
           (λ ch. at_channel q.place refl ch)
@@ -103,7 +103,7 @@ module _ {P N : Type 0} (net : Net P N) (p : ℕ) where
       origin told q y e = origin_at q y (λ c z ch f. told c q.number (q.time, z) ch f) e
 
     -- a partition's pending events are not before the whole network's least
-    module _ (K : List (Know P)) (g s : State P N) (h : Cut K g s) (now : ℕ) (good : Good net g now) (k : Key) (x : Event P) (m : least g.pending ≡ Some (k, x)) where
+    module _ (K : Knowledge P) (g s : State P N) (h : Cut K g s) (now : ℕ) (good : Good net g now) (k : Key) (x : Event P) (m : least g.pending ≡ Some (k, x)) where
       pub bound : Told K g k.time → (q : Key) (y : Event P) → get s.pending q ≡ Some y → IsUpTo k q
       bound told q y e = ⊎_elim
           (λ f. least_min g.pending (k, x) q y m f)
@@ -111,7 +111,7 @@ module _ {P N : Type 0} (net : Net P N) (p : ℕ) where
           (origin K g s h now good k.time told q y e)
 
       -- what comes before the safe time is known
-      pub present : ((c n : ℕ) (b : ℕ × P) → comes_in net p c ≡ true → nth (g.sent c) n ≡ Some b → b.0 ≤ k.time → nth (know K c).list n ≡ Some b) → in_part net p k.place ≡ true → get s.pending k ≡ Some x
+      pub present : ((c n : ℕ) (b : ℕ × P) → comes_in net p c ≡ true → nth (g.sent c) n ≡ Some b → b.0 ≤ k.time → nth (K c).list n ≡ Some b) → in_part net p k.place ≡ true → get s.pending k ≡ Some x
       present full mn = ⊎_elim
           (λ ch. at_channel k.place refl ch)
           (λ ch. sym (h.agrees.own k mn ch) ∙ least_has g.pending (k, x) m)
@@ -238,7 +238,7 @@ module _ {P N : Type 0} (net : Net P N) (p : ℕ) where
             let there = not_true _ (and_both _ _ ch).1 in
             both_ways (in_part net p (Arrive (net.peer c))) (ap (λ j. in_part net p (Arrive (net.peer j))) pc ∙ far_mine u e ∙ mn) there
 
-        number_here : (c : ℕ) → comes_in net p c ≡ true → k.place ≡ Arrive c → (y : P) × (k.number ≡ s.arrived c) × (nth (know K c).list k.number ≡ Some (k.time, y))
+        number_here : (c : ℕ) → comes_in net p c ≡ true → k.place ≡ Arrive c → (y : P) × (k.number ≡ s.arrived c) × (nth (K c).list k.number ≡ Some (k.time, y))
         number_here c ch pl =
             let a = arrival_number net ok g now good k x m c pl in
             let b = h.inbox_is c k.time k.number x ch (ap (get s.pending) (sym (key_at k (Arrive c) pl)) ∙ has) in
@@ -262,7 +262,7 @@ module _ {P N : Type 0} (net : Net P N) (p : ℕ) where
                 ⊎_elim
                     (λ b. let num = number_here c ch b.0 in
                     ⊎_elim
-                    (λ eq. absurd (z.0 (same_key _ _ (let w = same_time t k.time a.0 num.0 _ a.3 (ap (nth (know K c).list) eq ∙ num.2) in w.0) (sym b.0) eq)))
+                    (λ eq. absurd (z.0 (same_key _ _ (let w = same_time t k.time a.0 num.0 _ a.3 (ap (nth (K c).list) eq ∙ num.2) in w.0) (sym b.0) eq)))
                     (λ d. omega (arith, b.1, num.1, a.2, d))
                     (same_number n k.number))
                     (λ b. omega (arith, b.1, a.2))

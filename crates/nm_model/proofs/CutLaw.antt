@@ -7,7 +7,7 @@ use Rattle.nm_base.specs.declared.key.Place.TheVariants.{Arrive}
 use Rattle.nm_base.specs.declared.key.Key.{Key}
 use Rattle.nm_model.specs.EventList.{least, is_before, next_time}
 use Rattle.nm_model.specs.Replica.{from_scratch, safe_time, IsWithin}
-use Rattle.nm_model.specs.Knowledge.{Know, know, IsValid}
+use Rattle.nm_model.specs.Knowledge.{Knowledge, IsValid}
 use Rattle.nm_model.specs.Partition.{in_part, comes_in, is_own_record}
 use Rattle.nm_model.specs.Lists.{nth, IsPrefix, keep_where}
 use Rattle.nm_model.specs.Network.{Net, IsNet}
@@ -89,8 +89,8 @@ module _ {P N : Type 0} (net : Net P N) (ok : IsNet net) (p : ℕ) where
   since_run m n t h from = subst (Since net (one_list net n) t) (rest_of_run m n h) (since net ok (λ q. true) (all_by_node net) (m - n) (one_list net n) t (orderly_whole net ok n) from)
 
   -- K is valid for what the whole network puts on the channels before stop, which it reaches after last steps
-  module _ (K : List (Know P)) (last : ℕ) (ends : pends_before net.stop (one_list net last) ≡ false) (valid : (c : ℕ) → comes_in net p c ≡ true → IsValid (know K c) ((one_list net last).sent c)) where
-    safe_below : (c : ℕ) → comes_in net p c ≡ true → safe_time net p K ≤ (know K c).clock
+  module _ (K : Knowledge P) (last : ℕ) (ends : pends_before net.stop (one_list net last) ≡ false) (valid : (c : ℕ) → comes_in net p c ≡ true → IsValid (K c) ((one_list net last).sent c)) where
+    safe_below : (c : ℕ) → comes_in net p c ≡ true → safe_time net p K ≤ (K c).clock
     safe_below c ch = safe_clock net p K c net.ifaces (channel_inside net p ok c ch) ch
 
     -- a message of K was put on its channel, or comes later
@@ -109,14 +109,14 @@ module _ {P N : Type 0} (net : Net P N) (ok : IsNet net) (p : ℕ) where
         inl (prefix_nth _ _ i b (s.grows c) (prefix_nth _ _ i b (valid c ch).begins e))
 
     -- what is put on a channel before the safe time is in K
-    full_before : (n : ℕ) → n ≤ last → (c i : ℕ) (b : ℕ × P) → comes_in net p c ≡ true → nth ((one_list net n).sent c) i ≡ Some b → b.0 < safe_time net p K → nth (know K c).list i ≡ Some b
+    full_before : (n : ℕ) → n ≤ last → (c i : ℕ) (b : ℕ × P) → comes_in net p c ≡ true → nth ((one_list net n).sent c) i ≡ Some b → b.0 < safe_time net p K → nth (K c).list i ≡ Some b
     full_before n h c i b ch e lt =
         let s = since_run last n 0 h (λ q y f. omega arith) in
         let f = prefix_nth _ _ i b (s.grows c) e in
         ⊎_elim
         (λ less. nth_prefix _ _ i b (valid c ch).begins less f)
         (λ le. absurd (let w = (valid c ch).later i b le f in let z = safe_below c ch in omega arith))
-        (cases_lt i (length (know K c).list))
+        (cases_lt i (length (K c).list))
 
     -- below the safe time the partition's next event is the whole network's next one there
     same_least : (n k : ℕ) → Cut net p K (one_list net n) (from_scratch net p K k) → n ≤ last → (e : Key × Event P) → least (one_list net n).pending ≡ Some e → is_at (in_part net p) (Some e) ≡ true → e.0.time < safe_time net p K → least (from_scratch net p K k).pending ≡ Some e
@@ -170,7 +170,7 @@ module _ {P N : Type 0} (net : Net P N) (ok : IsNet net) (p : ℕ) where
 
     -- the cut of the whole network after n events is the partition after its own among them
     pub cut_run : (n : ℕ) → IsWithin net p K (events_at net (in_part net p) n) → Cut net p K (one_list net n) (from_scratch net p K (events_at net (in_part net p) n))
-    cut_run zero w = cut_start net p K
+    cut_run zero w = cut_start net p ok K
     cut_run (suc n) w = cut_step n (cut_run n (λ m lt. w m (let r = done_rises n in omega arith))) (least (one_list net n).pending) refl w
 
     pub cut_of : (n k : ℕ) → IsWithin net p K k → events_at net (in_part net p) n ≡ k → Cut net p K (one_list net n) (from_scratch net p K k)

@@ -3,10 +3,10 @@ use Rattle.std.proofs.Common.{◌≡◌, ◌≢◌, inl, inr, ℕ, zero, suc, �
 use Rattle.std.proofs.lemmas.Bool.{cases_lt}
 use Rattle.std.proofs.lemmas.Bool.Decides.{nat_tests}
 use Rattle.nm_model.specs.Lists.{nth, IsPrefix, IsRising}
-use Rattle.nm_model.specs.Knowledge.{Know, IsKnow, nothing_known, know, IsValid, IsUnder, IsCompatible}
+use Rattle.nm_model.specs.Knowledge.{Knowledge, Know, IsKnow, nothing_known, IsValid, IsUnder, IsCompatible}
 use Rattle.nm_model.specs.Accept.{Answer, New, Raised, Known, Gap, Differs, Late, NotRising, Accepted, IsReflexive, TellsApart, same_message, last_from, data_at, accept_data, null_at, accept_null}
 use Rattle.nm_model.specs.Join.{first_differs, late_past, or_else, differs_at, join_fault, Shows, at_channel, join_faults, join}
-use Rattle.nm_model.proofs.ListLemmas.{number_is, below_nth, nth_below, nth_push, prefix_self}
+use Rattle.nm_model.proofs.ListLemmas.{some_inj, below_or_at, number_is, below_nth, nth_below, nth_push, prefix_self}
 use Rattle.nm_model.proofs.Invariants.{rising_push}
 use Rattle.nm_model.proofs.Cut.{and_both}
 use Rattle.nm_model.proofs.Accepting.{same_self}
@@ -131,49 +131,27 @@ module _ {P : Type 0} where
         longer : (x y : Know P) → first_differs same 0 x.list y.list ≡ None → IsRising y.list → length x.list ≤ length y.list → late_past x.clock (nth y.list (length x.list)) ≡ None → IsValid x y.list
         longer x y h r le late = record { begins = agree 0 x.list y.list h le; later = λ n b ge g. rest_later x.clock (length x.list) y.list r (λ z q. on_time x.clock _ late z q) n b ge g }
 
-  late_never : (o : Option (ℕ × P)) → late_past 0 o ≡ None
-  late_never None = refl
-  late_never (Some m) = go (ltb m.0 0) refl
-    where
-      go : (z : Bool) → ltb m.0 0 ≡ z → cond z (Some (Late 0)) None ≡ None
-      go true h = absurd (let lt : m.0 < 0 = grind (arith, nat_tests) in omega arith)
-      go false h = refl
-
-  -- nothing known is at fault with nothing
-  nothing_left : (same : P → P → Bool) (b : Know P) → join_fault same nothing_known b ≡ None
-  nothing_left same b = go b.list
-    where
-      go : (l : List (ℕ × P)) → or_else (late_past 0 (nth b.list 0)) (late_past b.clock (nth {A = ℕ × P} [] (length l))) ≡ None
-      go l = ap (λ o. or_else o (late_past b.clock (nth {A = ℕ × P} [] (length l)))) (late_never (nth b.list 0))
-
-  nothing_right : (same : P → P → Bool) (a : Know P) → join_fault same a nothing_known ≡ None
-  nothing_right same a = go a.list refl
-    where
-      go : (l : List (ℕ × P)) → a.list ≡ l → or_else (differs_at (first_differs same 0 l [])) (or_else (late_past a.clock (nth {A = ℕ × P} [] (length l))) (late_past 0 (nth l 0))) ≡ None
-      go [] e = refl
-      go (x ∷ l) e = late_never (Some x)
-
   -- the first channel with a fault
-  pub first_fault : (same : P → P → Bool) (n : ℕ) (K J : List (Know P)) (c : ℕ) (f : Answer) → join_faults same n K J ≡ Some (c, f) → (d : ℕ) × (c ≡ n + d) × (join_fault same (know K d) (know J d) ≡ Some f) × ((e : ℕ) → e < d → join_fault same (know K e) (know J e) ≡ None)
-  first_fault same n [] J c f h = absurd (cc)
-  first_fault same n (a ∷ K) [] c f h = absurd (cc)
-  first_fault same n (a ∷ K) (b ∷ J) c f h = go (λ r. first_fault same (suc n) K J c f r) (join_fault same a b) refl h
-    where
-      go : (join_faults same (suc n) K J ≡ Some (c, f) → (d : ℕ) × (c ≡ suc n + d) × (join_fault same (know K d) (know J d) ≡ Some f) × ((e : ℕ) → e < d → join_fault same (know K e) (know J e) ≡ None)) → (o : Option Answer) → join_fault same a b ≡ o → or_else (at_channel n o) (join_faults same (suc n) K J) ≡ Some (c, f) → (d : ℕ) × (c ≡ n + d) × (join_fault same (know (a ∷ K) d) (know (b ∷ J) d) ≡ Some f) × ((e : ℕ) → e < d → join_fault same (know (a ∷ K) e) (know (b ∷ J) e) ≡ None)
-      go again (Some g) q r = let s : ◌≡◌ {A = ℕ × Answer} (n, g) (c, f) = cc in let t = ap (λ z. z.0) s in (0, omega arith, q ∙ ap (λ z. Some z.1) s, (λ e lt. absurd (omega arith)))
-      go again None q r =
-          let i = again r in
-          (suc i.0, omega (arith, i.1), i.2, before i.0 i.3)
-        where
-          before : (d : ℕ) → ((e : ℕ) → e < d → join_fault same (know K e) (know J e) ≡ None) → (e : ℕ) → e < suc d → join_fault same (know (a ∷ K) e) (know (b ∷ J) e) ≡ None
-          before d i zero lt = q
-          before d i (suc e) lt = i e (omega arith)
+  pub no_fault_below : (same : P → P → Bool) (K J : Knowledge P) (n : ℕ) → join_faults same K J n ≡ None → (c : ℕ) → c < n → join_fault same (K c) (J c) ≡ None
+  no_fault_below same K J zero h c lt = absurd (omega arith)
+  no_fault_below same K J (suc d) h c lt = ⊎_elim
+      (λ le. no_fault_below same K J d (left_none (join_faults same K J d) (at_channel d (join_fault same (K d) (J d))) h) c le)
+      (λ e. ap (λ z. join_fault same (K z) (J z)) e ∙ at_none d (join_fault same (K d) (J d)) (right_none (join_faults same K J d) (at_channel d (join_fault same (K d) (J d))) h))
+      (below_or_at c d lt)
 
-  pub no_fault_each : (same : P → P → Bool) (n : ℕ) (K J : List (Know P)) → join_faults same n K J ≡ None → (c : ℕ) → join_fault same (know K c) (know J c) ≡ None
-  no_fault_each same n [] J h c = nothing_left same (know J c)
-  no_fault_each same n (a ∷ K) [] h c = nothing_right same (know (a ∷ K) c)
-  no_fault_each same n (a ∷ K) (b ∷ J) h zero = at_none n (join_fault same a b) (left_none (at_channel n (join_fault same a b)) (join_faults same (suc n) K J) h)
-  no_fault_each same n (a ∷ K) (b ∷ J) h (suc c) = no_fault_each same (suc n) K J (right_none (at_channel n (join_fault same a b)) (join_faults same (suc n) K J) h) c
+  pub first_fault : (same : P → P → Bool) (K J : Knowledge P) (n c : ℕ) (f : Answer) → join_faults same K J n ≡ Some (c, f) → (c < n) × (join_fault same (K c) (J c) ≡ Some f) × ((d : ℕ) → d < c → join_fault same (K d) (J d) ≡ None)
+  first_fault same K J zero c f h = absurd (cc)
+  first_fault same K J (suc d) c f h = go (join_faults same K J d) refl h (λ r. first_fault same K J d c f r)
+    where
+      at : (o : Option Answer) → join_fault same (K d) (J d) ≡ o → at_channel d o ≡ Some (c, f) → (d ≡ c) × (join_fault same (K d) (J d) ≡ Some f)
+      at None g r = absurd (cc)
+      at (Some x) g r = let s = some_inj {A = ℕ × Answer} (d, x) (c, f) r in (ap (λ z. z.0) s, g ∙ ap (λ z. Some z.1) s)
+
+      go : (o : Option (ℕ × Answer)) → join_faults same K J d ≡ o → or_else o (at_channel d (join_fault same (K d) (J d))) ≡ Some (c, f) → (join_faults same K J d ≡ Some (c, f) → (c < d) × (join_fault same (K c) (J c) ≡ Some f) × ((e : ℕ) → e < c → join_fault same (K e) (J e) ≡ None)) → (c < suc d) × (join_fault same (K c) (J c) ≡ Some f) × ((e : ℕ) → e < c → join_fault same (K e) (J e) ≡ None)
+      go (Some x) g r again = let i = again (g ∙ r) in (omega (arith, i.0), i.1, i.2)
+      go None g r again =
+          let a = at (join_fault same (K d) (J d)) refl r in
+          (omega (arith, a.0), ap (λ z. join_fault same (K z) (J z)) (sym a.0) ∙ a.1, (λ e lt. no_fault_below same K J d g e (omega (arith, a.0))))
 
   -- what is under something that both are under
   pub under_compatible : (a b d : Know P) → IsUnder a d → IsUnder b d → IsRising d.list → IsCompatible a b

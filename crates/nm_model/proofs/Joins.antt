@@ -1,9 +1,9 @@
 -- Joining knowledge.
-use Rattle.std.proofs.Common.{◌≡◌, ◌≢◌, ◌⊎◌, inl, inr, ℕ, zero, suc, ◌<◌, ◌≤◌, max, Bool, true, false, cond, ltb, leb, List, [], ◌∷◌, ◌++◌, length, Option, Some, None, refl, sym, ap, ap₂, ◌∙◌, subst, arith, ⊎_elim, append-nil, length-append}
+use Rattle.std.proofs.Common.{◌≡◌, ◌⊎◌, inl, inr, ℕ, zero, suc, ◌<◌, ◌≤◌, max, Bool, true, false, cond, ltb, leb, List, [], ◌∷◌, ◌++◌, length, Option, Some, None, refl, sym, ap, ap₂, ◌∙◌, subst, arith, ⊎_elim, append-nil, length-append}
 use Rattle.std.proofs.lemmas.Bool.Decides.{nat_tests}
 use Rattle.nm_model.specs.Accept.{Late}
-use Rattle.nm_model.specs.Knowledge.{Know, know, nothing_known, IsValid, IsUnder, set_know}
-use Rattle.nm_model.specs.Join.{first_differs, late_past, or_else, differs_at, at_channel, join_fault, join_faults, join, join_all}
+use Rattle.nm_model.specs.Knowledge.{Knowledge, Know, IsValid, IsUnder}
+use Rattle.nm_model.specs.Join.{first_differs, late_past, or_else, differs_at, at_channel, join_fault, join_faults, join}
 use Rattle.nm_model.specs.Lists.{nth, IsPrefix}
 use Rattle.nm_model.proofs.ListLemmas.{prefix_nth, prefix_shorter}
 use Rattle.nm_model.proofs.Accepting.{same_self}
@@ -32,18 +32,6 @@ module _ {P : Type 0} where
 
   pub join_self : (a : Know P) → join a a ≡ a
   join_self a = know_same (join a a) a (⊎_elim (λ h. h.1) (λ h. h.1) (join_case a a)) (omega arith)
-
-  pub join_nothing : (a : Know P) → join a nothing_known ≡ a
-  join_nothing a = know_same (join a nothing_known) a
-      (⊎_elim (λ h. h.1 ∙ empty_list a.list h.0) (λ h. h.1) (join_case a nothing_known))
-      (omega arith)
-    where
-      empty_list : (l : List (ℕ × P)) → length l ≤ 0 → [] ≡ l
-      empty_list [] h = refl
-      empty_list (x ∷ l) h = absurd (omega arith)
-
-  pub nothing_join : (a : Know P) → join nothing_known a ≡ a
-  nothing_join a = know_same (join nothing_known a) a (⊎_elim (λ h. h.1) (λ h. absurd (omega (arith, h.0))) (join_case nothing_known a)) (omega arith)
 
   -- it is under whatever both are under
   pub join_least : (a b d : Know P) → IsUnder a d → IsUnder b d → IsUnder (join a b) d
@@ -118,30 +106,7 @@ module _ {P : Type 0} where
           ap (λ o. or_else (differs_at o) (or_else (late_past a.clock (nth b.list (length a.list))) (late_past b.clock (nth a.list (length b.list))))) (differs_none 0 a.list b.list H u.begins v.begins)
           ∙ ap₂ (λ o p. or_else o p) (late_none a b u v _ refl) (late_none b a v u _ refl)
 
-  -- lists of knowledge
-  pub know_join : (K J : List (Know P)) (c : ℕ) → know (join_all K J) c ≡ join (know K c) (know J c)
-  know_join [] J c = sym (nothing_join (know J c))
-  know_join (a ∷ K) [] c = sym (join_nothing (know (a ∷ K) c))
-  know_join (a ∷ K) (b ∷ J) zero = refl
-  know_join (a ∷ K) (b ∷ J) (suc c) = know_join K J c
-
-  pub no_faults : (same : P → P → Bool) (n : ℕ) (K J : List (Know P)) → ((c : ℕ) → join_fault same (know K c) (know J c) ≡ None) → join_faults same n K J ≡ None
-  no_faults same n [] J h = refl
-  no_faults same n (a ∷ K) [] h = refl
-  no_faults same n (a ∷ K) (b ∷ J) h = ap (λ o. or_else (at_channel n o) (join_faults same (suc n) K J)) (h 0) ∙ no_faults same (suc n) K J (λ c. h (suc c))
-
-  pub know_set_same : (K : List (Know P)) (c : ℕ) (a : Know P) → know (set_know K c a) c ≡ a
-  know_set_same [] zero a = refl
-  know_set_same [] (suc c) a = know_set_same [] c a
-  know_set_same (k ∷ K) zero a = refl
-  know_set_same (k ∷ K) (suc c) a = know_set_same K c a
-
-  pub know_set_other : (K : List (Know P)) (c d : ℕ) (a : Know P) → d ≢ c → know (set_know K c a) d ≡ know K d
-  know_set_other [] zero zero a h = absurd (h refl)
-  know_set_other [] zero (suc d) a h = refl
-  know_set_other [] (suc c) zero a h = refl
-  know_set_other [] (suc c) (suc d) a h = know_set_other [] c d a (λ e. h (ap suc e))
-  know_set_other (k ∷ K) zero zero a h = absurd (h refl)
-  know_set_other (k ∷ K) zero (suc d) a h = refl
-  know_set_other (k ∷ K) (suc c) zero a h = refl
-  know_set_other (k ∷ K) (suc c) (suc d) a h = know_set_other K c d a (λ e. h (ap suc e))
+  -- of all channels
+  pub no_faults : (same : P → P → Bool) (K J : Knowledge P) (n : ℕ) → ((c : ℕ) → join_fault same (K c) (J c) ≡ None) → join_faults same K J n ≡ None
+  no_faults same K J zero h = refl
+  no_faults same K J (suc c) h = ap₂ (λ a o. or_else a (at_channel c o)) (no_faults same K J c h) (h c)

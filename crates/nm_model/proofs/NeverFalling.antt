@@ -1,5 +1,5 @@
 -- Promises never fall: neither when events are done nor when more is known.
-use Rattle.std.proofs.Common.{◌≡◌, ℕ, zero, suc, ◌+◌, ◌-◌, ◌<◌, ◌≤◌, min, max, true, List, Option, Some, None, refl, sym, ap, ◌∙◌, subst, arith, true≢false, ⊎_elim}
+use Rattle.std.proofs.Common.{◌≡◌, ℕ, zero, suc, ◌+◌, ◌-◌, ◌<◌, ◌≤◌, min, max, true, Option, Some, None, refl, sym, ap, ◌∙◌, subst, arith, true≢false, ⊎_elim}
 use Rattle.std.specs.FinMap.{get}
 use Rattle.nm_base.specs.declared.key.Place.TheVariants.{Complete}
 use Rattle.nm_base.specs.declared.key.Key.{Key}
@@ -8,7 +8,7 @@ use Rattle.nm_model.specs.EventList.{least, next_time}
 use Rattle.nm_model.specs.Network.{Net, IsNet}
 use Rattle.nm_model.specs.Port.{Busy, busy_until}
 use Rattle.nm_model.specs.Run.{State, step_at}
-use Rattle.nm_model.specs.Knowledge.{Know}
+use Rattle.nm_model.specs.Knowledge.{Knowledge}
 use Rattle.nm_model.specs.Partition.{in_part}
 use Rattle.nm_model.specs.Replica.{from_scratch, safe_time, new_messages, IsWithin, IsUnderAll}
 use Rattle.nm_model.specs.Promise.{Promising, Plain, Tight, next_cause, promise}
@@ -42,7 +42,7 @@ module _ {P N : Type 0} where
 
 module _ {P N : Type 0} (net : Net P N) (ok : IsNet net) (p : ℕ) where
   -- one event
-  module _ (K : List (Know P)) (k : ℕ) (w : IsWithin net p K (suc k)) where
+  module _ (K : Knowledge P) (k : ℕ) (w : IsWithin net p K (suc k)) where
     next : (x : Key × Event P) × (least (from_scratch net p K k).pending ≡ Some x) × (x.0.time < safe_time net p K)
     next = least_busy (safe_time net p K) (from_scratch net p K k) (w k (omega arith))
 
@@ -82,7 +82,7 @@ module _ {P N : Type 0} (net : Net P N) (ok : IsNet net) (p : ℕ) where
     step_rises Tight c = let a = is_now in let b = goes_on in let d = port_goes_on (net.peer c) in omega arith
 
   -- several
-  steps_rise : (K : List (Know P)) (d k : ℕ) → IsWithin net p K (d + k) → (kind : Promising) (c : ℕ) → promise net kind p K k c ≤ promise net kind p K (d + k) c
+  steps_rise : (K : Knowledge P) (d k : ℕ) → IsWithin net p K (d + k) → (kind : Promising) (c : ℕ) → promise net kind p K k c ≤ promise net kind p K (d + k) c
   steps_rise K zero k w kind c = let e : 0 + k ≡ k = omega arith in let f = ap (λ n. promise net kind p K n c) e in omega arith
   steps_rise K (suc d) k w kind c =
       let e : suc d + k ≡ suc (d + k) = omega arith in
@@ -92,7 +92,7 @@ module _ {P N : Type 0} (net : Net P N) (ok : IsNet net) (p : ℕ) where
       let b = step_rises K (d + k) v kind c in omega arith
 
   -- more knowledge
-  module _ (K J : List (Know P)) (under : IsUnderAll net p K J) (k : ℕ) (w : IsWithin net p K k) where
+  module _ (K J : Knowledge P) (under : IsUnderAll net p K J) (k : ℕ) (w : IsWithin net p K k) where
     cause_rises : next_cause net p K k ≤ next_cause net p J k
     cause_rises =
         let e = books net ok p K J under k w in
@@ -109,7 +109,7 @@ module _ {P N : Type 0} (net : Net P N) (ok : IsNet net) (p : ℕ) where
         let a = cause_rises in
         let b = ap (λ (u : State P N). busy_until (u.port (net.peer c)).busy) (books net ok p K J under k w) in omega arith
 
-  pub promise_rises : (kind : Promising) (K J : List (Know P)) → IsUnderAll net p K J → (k m c : ℕ) → k ≤ m → IsWithin net p K k → IsWithin net p J m → promise net kind p K k c ≤ promise net kind p J m c
+  pub promise_rises : (kind : Promising) (K J : Knowledge P) → IsUnderAll net p K J → (k m c : ℕ) → k ≤ m → IsWithin net p K k → IsWithin net p J m → promise net kind p K k c ≤ promise net kind p J m c
   promise_rises kind K J under k m c le w v =
       let e : m - k + k ≡ m = omega arith in
       let a = told_rises K J under k w kind c in

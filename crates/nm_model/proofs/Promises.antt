@@ -1,11 +1,11 @@
 -- Promises are kept: what comes by a channel past what was put on it comes no earlier.
-use Rattle.std.proofs.Common.{◌≡◌, ◌⊎◌, inl, inr, refl, ℕ, ◌+◌, ◌≤◌, List, length, Option, Some, None, sym, ap, ◌∙◌, arith, ⊎_elim, false, true}
+use Rattle.std.proofs.Common.{◌≡◌, ◌⊎◌, inl, inr, refl, ℕ, ◌+◌, ◌≤◌, length, Option, Some, None, sym, ap, ◌∙◌, arith, ⊎_elim, false, true}
 use Rattle.nm_base.specs.declared.key.Place.TheVariants.{Arrive}
 use Rattle.nm_model.specs.Lists.{nth}
 use Rattle.nm_model.specs.Network.{Net, IsNet}
 use Rattle.nm_model.specs.Port.{Busy, busy_until}
 use Rattle.nm_model.specs.Run.{one_list, pends_before}
-use Rattle.nm_model.specs.Knowledge.{Know, know, IsValid}
+use Rattle.nm_model.specs.Knowledge.{Knowledge, IsValid}
 use Rattle.nm_model.specs.Partition.{in_part, comes_in}
 use Rattle.nm_model.specs.Replica.{from_scratch, IsWithin}
 use Rattle.nm_model.specs.Promise.{Promising, Plain, Tight, promise}
@@ -13,7 +13,7 @@ use Rattle.nm_model.proofs.ListLemmas.{prefix_nth}
 use Rattle.nm_model.proofs.Runs.{good_run}
 use Rattle.nm_model.proofs.CutLaw.{cut_of, meets, since_run, out_timed}
 
-module _ {P N : Type 0} (net : Net P N) (ok : IsNet net) (p : ℕ) (K : List (Know P)) (last : ℕ) (ends : pends_before net.stop (one_list net last) ≡ false) (valid : (c : ℕ) → comes_in net p c ≡ true → IsValid (know K c) ((one_list net last).sent c)) where
+module _ {P N : Type 0} (net : Net P N) (ok : IsNet net) (p : ℕ) (K : Knowledge P) (last : ℕ) (ends : pends_before net.stop (one_list net last) ≡ false) (valid : (c : ℕ) → comes_in net p c ≡ true → IsValid (K c) ((one_list net last).sent c)) where
   module _ (k c : ℕ) (w : IsWithin net p K k) (mc : in_part net p (Arrive (net.peer c)) ≡ true) (i : ℕ) (b : ℕ × P) (le : length ((from_scratch net p K k).sent c) ≤ i) (e : nth ((one_list net last).sent c) i ≡ Some b) where
     -- a further transmission starts once the one under way is complete
     after_busy : (o : Option (Busy P)) → ((from_scratch net p K k).port (net.peer c)).busy ≡ o → (busy_until o ≡ 0) ⊎ (busy_until o + net.tx (net.peer c) b.1 + net.delay (net.peer c) ≤ b.0)
@@ -40,5 +40,5 @@ module _ {P N : Type 0} (net : Net P N) (ok : IsNet net) (p : ℕ) (K : List (Kn
         let u = ok.takes_least (net.peer c) b.1 in
         ⊎_elim (λ z. omega arith) (λ z. omega arith) (after_busy ((from_scratch net p K k).port (net.peer c)).busy refl)
 
-pub plain_below : {P N : Type 0} (net : Net P N) (p : ℕ) (K : List (Know P)) (k c : ℕ) → promise net Plain p K k c ≤ promise net Tight p K k c
+pub plain_below : {P N : Type 0} (net : Net P N) (p : ℕ) (K : Knowledge P) (k c : ℕ) → promise net Plain p K k c ≤ promise net Tight p K k c
 plain_below net p K k c = omega arith

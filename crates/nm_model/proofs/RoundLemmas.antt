@@ -1,5 +1,5 @@
 -- After so many rounds every partition is done.
-use Rattle.std.proofs.Common.{◌≡◌, ℕ, zero, suc, ◌+◌, ◌*◌, ◌<◌, ◌≤◌, ◌==◌, min, Bool, true, false, cond, ltb, List, [], ◌∷◌, ◌++◌, length, drop, Option, Some, None, refl, sym, ap, ap₂, ◌∙◌, subst, arith, ⊎_elim, append_assoc, append-nil, length-append, mul_comm, ◌-◌, ◌/◌}
+use Rattle.std.proofs.Common.{◌≡◌, ℕ, zero, suc, ◌+◌, ◌*◌, ◌≤◌, ◌==◌, min, Bool, true, false, cond, ltb, List, [], ◌∷◌, ◌++◌, length, drop, Option, Some, None, refl, sym, ap, ap₂, ◌∙◌, subst, arith, ⊎_elim, append_assoc, append-nil, length-append, mul_comm, ◌-◌, ◌/◌}
 use Rattle.std.proofs.lemmas.Bool.{cases_lt}
 use Rattle.std.proofs.lemmas.Bool.Decides.{nat_tests}
 use Rattle.std.proofs.Math.Seq.{drop-append_seam}
@@ -8,17 +8,17 @@ use Rattle.nm_base.specs.declared.key.Key.{Key}
 use Rattle.nm_model.specs.Accept.{New, Known, Raised, Late, NotRising, Gap, Accepted, last_from, data_at, accept_data, null_at, accept_null}
 use Rattle.nm_model.specs.EventList.{least, next_time}
 use Rattle.nm_model.specs.Replica.{from_scratch, safe_time, safe_among, IsWithin, IsUnderAll}
-use Rattle.nm_model.specs.Knowledge.{Know, know, nothing_known, IsValid, IsUnder}
+use Rattle.nm_model.specs.Knowledge.{Knowledge, Know, IsValid, IsUnder, no_knowledge}
 use Rattle.nm_model.specs.Partition.{in_part, comes_in, sender_of}
 use Rattle.nm_model.specs.Lists.{nth, IsPrefix, IsRising}
 use Rattle.nm_model.specs.Network.{Net, IsNet}
 use Rattle.nm_model.specs.Before.{IsBefore, history, trace}
 use Rattle.nm_model.specs.Run.{pends_before}
-use Rattle.nm_model.specs.Rounds.{round_count, given, hear_list, hear, tabulate, promised, heard_on, heard, IsRounds}
+use Rattle.nm_model.specs.Rounds.{round_count, given, hear_list, hear, promised, heard_on, IsRounds}
 use Rattle.nm_model.specs.World.{Replica}
 use Rattle.nm_model.proofs.Keys.{least_has}
 use Rattle.nm_model.proofs.ListLemmas.{number_tied, nth_prefix, prefix_nth}
-use Rattle.nm_model.proofs.Cut.{safe_stop, channel_inside}
+use Rattle.nm_model.proofs.Cut.{safe_stop}
 use Rattle.nm_model.proofs.CutLaw.{quiet, out_prefix}
 use Rattle.nm_model.proofs.Promises.{out_later}
 use Rattle.nm_model.specs.Promise.{Promising, Plain, Tight, lookahead}
@@ -106,53 +106,43 @@ module _ {P : Type 0} (same : P → P → Bool) where
       let c = null_clock b (length out) t (ap length (sym list)) in
       (c.0 ∙ list, c.1, (null_valid b H l.1 (length out) t later).1, under_trans _ _ _ (list_under a (length a.list) (drop (length a.list) out)) (null_under b (length out) t))
 
-  know_tabulate : (f : ℕ → Know P) (c n d : ℕ) → d < n → know (tabulate f c n) d ≡ f (c + d)
-  know_tabulate f c zero d h = absurd (omega arith)
-  know_tabulate f c (suc n) zero h = let e : c ≡ c + 0 = omega arith in ap f e
-  know_tabulate f c (suc n) (suc d) h = let e : suc c + d ≡ c + suc d = omega arith in know_tabulate f (suc c) n d (omega arith) ∙ ap f e
-
-  know_past : (f : ℕ → Know P) (c n d : ℕ) → n ≤ d → know (tabulate f c n) d ≡ nothing_known
-  know_past f c zero d h = refl
-  know_past f c (suc n) zero h = absurd (omega arith)
-  know_past f c (suc n) (suc d) h = know_past f (suc c) n d (omega arith)
-
 module _ {P N : Type 0} (net : Net P N) where
-  pub safe_at_least : (p : ℕ) (K : List (Know P)) (t n : ℕ) → t ≤ net.stop → ((c : ℕ) → comes_in net p c ≡ true → t ≤ (know K c).clock) → t ≤ safe_among net p K n
+  pub safe_at_least : (p : ℕ) (K : Knowledge P) (t n : ℕ) → t ≤ net.stop → ((c : ℕ) → comes_in net p c ≡ true → t ≤ (K c).clock) → t ≤ safe_among net p K n
   safe_at_least p K t zero h f = h
   safe_at_least p K t (suc n) h f = go (comes_in net p n) refl (safe_at_least p K t n h f)
     where
-      go : (z : Bool) → comes_in net p n ≡ z → t ≤ safe_among net p K n → t ≤ cond z (min (know K n).clock (safe_among net p K n)) (safe_among net p K n)
+      go : (z : Bool) → comes_in net p n ≡ z → t ≤ safe_among net p K n → t ≤ cond z (min (K n).clock (safe_among net p K n)) (safe_among net p K n)
       go true e r = let c = f n e in omega arith
       go false e r = r
 
   -- a partition with no channel is never held up
-  pub alone_safe : (p : ℕ) → ((c : ℕ) → comes_in net p c ≡ true → ⊥) → (K : List (Know P)) → safe_time net p K ≡ net.stop
+  pub alone_safe : (p : ℕ) → ((c : ℕ) → comes_in net p c ≡ true → ⊥) → (K : Knowledge P) → safe_time net p K ≡ net.stop
   alone_safe p none K = let h = safe_at_least p K net.stop net.ifaces (omega arith) (λ c ch. absurd (none c ch)) in let s = safe_stop net p K net.ifaces in omega arith
 
 module _ {P N : Type 0} (net : Net P N) (ok : IsNet net) (same : P → P → Bool) (eq : (x : P) → same x x ≡ true) (last : ℕ) (ends : IsBefore net net.stop last) (kind : Promising) (b : ℕ → ℕ → Replica P) (rounds : IsRounds net same kind b) (lead : ℕ) (leads : (p c : ℕ) → comes_in net p c ≡ true → lead ≤ lookahead net kind c) where
   -- what holds after round j
   record After (j : ℕ) : Type 0 where
-    valid : (p c : ℕ) → comes_in net p c ≡ true → IsValid (know (b j p).knowledge c) (history net last c)
+    valid : (p c : ℕ) → comes_in net p c ≡ true → IsValid ((b j p).knowledge c) (history net last c)
     within : (p : ℕ) → IsWithin net p (b j p).knowledge (b j p).ran
-    told : (p c : ℕ) → comes_in net p c ≡ true → (know (b j p).knowledge c).list ≡ (from_scratch net (sender_of net c) (b j (sender_of net c)).knowledge (b j (sender_of net c)).ran).sent c
+    told : (p c : ℕ) → comes_in net p c ≡ true → ((b j p).knowledge c).list ≡ (from_scratch net (sender_of net c) (b j (sender_of net c)).knowledge (b j (sender_of net c)).ran).sent c
     far : (p : ℕ) → min net.stop (j * lead) ≤ safe_time net p (b j p).knowledge
 
   after_none : After 0
   after_none = record {
-    valid = λ p c ch. subst (λ z. IsValid (know z c) (history net last c)) (sym (empty p)) (record { begins = (history net last c, refl); later = λ n x le e. omega arith });
+    valid = λ p c ch. subst (λ z. IsValid (z c) (history net last c)) (sym (empty p)) (record { begins = (history net last c, refl); later = λ n x le e. omega arith });
     within = λ p m lt. absurd (let e = ap (λ x. x.ran) (rounds.opens p) in omega arith);
-    told = λ p c ch. ap (λ z. (know z c).list) (empty p) ∙ sym (ap (λ (x : Replica P). (from_scratch net (sender_of net c) x.knowledge x.ran).sent c) (rounds.opens (sender_of net c)));
+    told = λ p c ch. ap (λ z. (z c).list) (empty p) ∙ sym (ap (λ (x : Replica P). (from_scratch net (sender_of net c) x.knowledge x.ran).sent c) (rounds.opens (sender_of net c)));
     far = λ p. omega arith;
   }
     where
-      empty : (p : ℕ) → (b 0 p).knowledge ≡ []
+      empty : (p : ℕ) → (b 0 p).knowledge ≡ no_knowledge
       empty p = ap (λ x. x.knowledge) (rounds.opens p)
 
   module _ (j : ℕ) (h : After j) where
     abbrev mid : ℕ → Replica P
     mid q = record { knowledge = (b j q).knowledge; ran = (b (suc j) q).ran }
 
-    abbrev K : ℕ → List (Know P)
+    abbrev K : ℕ → Knowledge P
     K q = (b j q).knowledge
 
     abbrev k : ℕ → ℕ
@@ -170,24 +160,21 @@ module _ {P N : Type 0} (net : Net P N) (ok : IsNet net) (same : P → P → Boo
     given_begins : (c : ℕ) → IsPrefix (given net mid c) (history net last c)
     given_begins c = out_prefix net ok (sender_of net c) (K (sender_of net c)) last ends.over (λ d ch. h.valid (sender_of net c) d ch) (k (sender_of net c)) c (ran_within (sender_of net c)) (own_end c)
 
-    known_begins : (p c : ℕ) → comes_in net p c ≡ true → IsPrefix (know (K p) c).list (given net mid c)
+    known_begins : (p c : ℕ) → comes_in net p c ≡ true → IsPrefix ((K p) c).list (given net mid c)
     known_begins p c ch = subst (λ l. IsPrefix l (given net mid c)) (sym (h.told p c ch))
         ((from_since net ok (sender_of net c) (K (sender_of net c)) (b j (sender_of net c)).ran (k (sender_of net c)) 0 (ran_on (sender_of net c)) (λ q y e. omega arith)).grows c)
 
-    now : (p c : ℕ) → comes_in net p c ≡ true → ((hear same (know (K p) c) (given net mid c) (promised net mid kind c)).list ≡ given net mid c) × (promised net mid kind c ≤ (hear same (know (K p) c) (given net mid c) (promised net mid kind c)).clock) × IsValid (hear same (know (K p) c) (given net mid c) (promised net mid kind c)) (history net last c) × IsUnder (know (K p) c) (hear same (know (K p) c) (given net mid c) (promised net mid kind c))
-    now p c ch = heard_all same (know (K p) c) (history net last c) (times net ok last c) (h.valid p c ch) (given net mid c) (promised net mid kind c) (known_begins p c ch) (given_begins c)
+    now : (p c : ℕ) → comes_in net p c ≡ true → ((hear same ((K p) c) (given net mid c) (promised net mid kind c)).list ≡ given net mid c) × (promised net mid kind c ≤ (hear same ((K p) c) (given net mid c) (promised net mid kind c)).clock) × IsValid (hear same ((K p) c) (given net mid c) (promised net mid kind c)) (history net last c) × IsUnder ((K p) c) (hear same ((K p) c) (given net mid c) (promised net mid kind c))
+    now p c ch = heard_all same ((K p) c) (history net last c) (times net ok last c) (h.valid p c ch) (given net mid c) (promised net mid kind c) (known_begins p c ch) (given_begins c)
         (λ i x le e. out_later net ok (sender_of net c) (K (sender_of net c)) last ends.over (λ d dh. h.valid (sender_of net c) d dh) (k (sender_of net c)) c (ran_within (sender_of net c)) (own_end c) i x le e kind)
 
-    is_heard : (p c : ℕ) → comes_in net p c ≡ true → know (b (suc j) p).knowledge c ≡ hear same (know (K p) c) (given net mid c) (promised net mid kind c)
+    is_heard : (p c : ℕ) → comes_in net p c ≡ true → (b (suc j) p).knowledge c ≡ hear same ((K p) c) (given net mid c) (promised net mid kind c)
     is_heard p c ch =
-        let e : 0 + c ≡ c = omega arith in
-        ap (λ z. know z c) (rounds.hears j p)
-        ∙ know_tabulate same (heard_on net same kind mid p) 0 net.ifaces c (channel_inside net p ok c ch)
-        ∙ ap (heard_on net same kind mid p) e
-        ∙ ap (λ z. cond z (hear same (know (K p) c) (given net mid c) (promised net mid kind c)) (know (K p) c)) ch
+        ap (λ (z : Knowledge P). z c) (rounds.hears j p)
+        ∙ ap (λ z. cond z (hear same (K p c) (given net mid c) (promised net mid kind c)) (K p c)) ch
 
     under : (p : ℕ) → IsUnderAll net p (K p) (b (suc j) p).knowledge
-    under p c ch = subst (IsUnder (know (K p) c)) (sym (is_heard p c ch)) (now p c ch).3
+    under p c ch = subst (IsUnder ((K p) c)) (sym (is_heard p c ch)) (now p c ch).3
 
     -- a partition that has run all that is safe promises more than its safe time
     promised_far : (c : ℕ) → safe_time net (sender_of net c) (K (sender_of net c)) + lookahead net kind c ≤ promised net mid kind c
@@ -229,15 +216,15 @@ module _ {P N : Type 0} (net : Net P N) (ok : IsNet net) (same : P → P → Boo
   pub finished : (j p : ℕ) → net.stop ≤ j * lead → pends_before net.stop (from_scratch net p (b j p).knowledge (b (suc j) p).ran) ≡ false
   finished j p le = subst (λ t. pends_before t (from_scratch net p (b j p).knowledge (b (suc j) p).ran) ≡ false) (enough j p le) (rounds.runs j p).over
 
-  pub rounds_valid : (j p c : ℕ) → comes_in net p c ≡ true → IsValid (know (b j p).knowledge c) (history net last c)
+  pub rounds_valid : (j p c : ℕ) → comes_in net p c ≡ true → IsValid ((b j p).knowledge c) (history net last c)
   rounds_valid j p c ch = (after j).valid p c ch
 
 module _ {P N : Type 0} (net : Net P N) (ok : IsNet net) (same : P → P → Bool) (kind : Promising) where
   -- rounds can be made
   pub book_after : ℕ → ℕ → Replica P
-  book_after zero p = record { knowledge = []; ran = 0 }
+  book_after zero p = record { knowledge = no_knowledge; ran = 0 }
   book_after (suc j) p = record {
-    knowledge = heard net same kind (λ q. record { knowledge = (book_after j q).knowledge; ran = (count net ok q (book_after j q).knowledge).0 }) p;
+    knowledge = heard_on net same kind (λ q. record { knowledge = (book_after j q).knowledge; ran = (count net ok q (book_after j q).knowledge).0 }) p;
     ran = (count net ok p (book_after j p).knowledge).0;
   }
 

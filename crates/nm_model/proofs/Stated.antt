@@ -1,11 +1,11 @@
 -- The laws as the functions state them.
-use Rattle.std.proofs.Common.{◌≡◌, ℕ, ◌<◌, ◌≤◌, Bool, true, refl, None, List, [], length, Some, sym, ◌∙◌, arith, true≢false, ⊎_elim}
+use Rattle.std.proofs.Common.{◌≡◌, ℕ, ◌<◌, ◌≤◌, Bool, true, refl, None, [], length, Some, sym, ◌∙◌, arith, true≢false, ⊎_elim}
 use Rattle.std.proofs.lemmas.Bool.{cases_lt}
 use Rattle.nm_base.specs.declared.key.Place.TheVariants.{Arrive}
 use Rattle.nm_base.specs.declared.key.Key.{Key}
 use Rattle.nm_model.specs.EventList.{least}
 use Rattle.nm_model.specs.Replica.{inbox_events, from_scratch, safe_time, IsWithin, Agrees}
-use Rattle.nm_model.specs.Knowledge.{Know}
+use Rattle.nm_model.specs.Knowledge.{Knowledge}
 use Rattle.nm_model.specs.Partition.{in_part}
 use Rattle.nm_model.specs.Promise.{Promising, promise}
 use Rattle.nm_model.specs.Lists.{nth, IsPrefix, IsRising}
@@ -43,15 +43,15 @@ module _ {P N : Type 0} (net : Net P N) (ok : IsNet net) where
   pub in_order : (n m k : ℕ) (a b : Record P) → m ≤ k → nth (one_list net n).records m ≡ Some a → nth (one_list net n).records k ≡ Some b → a.time ≤ b.time
   in_order n m k a b le e f = (ordered_run net ok (λ q. true) (all_by_node net) n [] (orderly_whole net ok 0)).order m k a b le e f
 
-  module _ (p : ℕ) (K : List (Know P)) where
+  module _ (p : ℕ) (K : Knowledge P) where
     pub makes_later_there : (k : ℕ) (e : Key × Event P) → least (from_scratch net p K k).pending ≡ Some e → (m : ℕ) (f : Key × Event P) → nth (made net (from_scratch net p K k) e) m ≡ Some f → e.0.time < f.0.time
     makes_later_there k e l m f a = made_after net ok (in_part net p) (part_by_node net p) (from_scratch net p K k) (orderly_part net ok p K k) e l m f a
 
     pub in_order_there : (k m n : ℕ) (a b : Record P) → m ≤ n → nth (from_scratch net p K k).records m ≡ Some a → nth (from_scratch net p K k).records n ≡ Some b → a.time ≤ b.time
-    in_order_there k m n a b le e f = (ordered_run net ok (in_part net p) (part_by_node net p) k (inbox_events net p 0 K) (orderly_part net ok p K 0)).order m n a b le e f
+    in_order_there k m n a b le e f = (ordered_run net ok (in_part net p) (part_by_node net p) k (inbox_events net p K) (orderly_part net ok p K 0)).order m n a b le e f
 
     pub count : (k : ℕ) × IsCount net p K k
-    count = drains net ok (in_part net p) (part_by_node net p) (start net (in_part net p) (inbox_events net p 0 K)) (orderly_part net ok p K 0) (safe_time net p K)
+    count = drains net ok (in_part net p) (part_by_node net p) (start net (in_part net p) (inbox_events net p K)) (orderly_part net ok p K 0) (safe_time net p K)
 
     pub within : (j k : ℕ) → IsCount net p K k → j ≤ k → IsWithin net p K j
     within j k c le m lt = c.first m (omega arith)

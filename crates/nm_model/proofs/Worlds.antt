@@ -3,7 +3,7 @@ use Rattle.std.proofs.Common.{◌≡◌, ◌⊎◌, inl, inr, ℕ, zero, suc, �
 use Rattle.std.proofs.lemmas.Bool.{cases_lt}
 use Rattle.nm_model.specs.Accept.{Answer, accept_data, accept_null}
 use Rattle.nm_model.specs.Replica.{from_scratch, safe_time, IsWithin}
-use Rattle.nm_model.specs.Knowledge.{Know, know, IsValid, IsUnder, set_know}
+use Rattle.nm_model.specs.Knowledge.{Knowledge, Know, IsValid, IsUnder}
 use Rattle.nm_model.specs.Partition.{goes_out, receiver_of}
 use Rattle.nm_model.specs.Promise.{promise}
 use Rattle.nm_model.specs.Join.{join_faults, join_all}
@@ -18,7 +18,7 @@ use Rattle.nm_model.proofs.CutLaw.{out_prefix}
 use Rattle.nm_model.proofs.Promises.{out_later}
 use Rattle.nm_model.proofs.Books.{within_more}
 use Rattle.nm_model.proofs.Accepting.{under_self, data_under, data_valid, null_under, null_valid}
-use Rattle.nm_model.proofs.Joins.{join_valid, left_under, join_faultless, know_join, no_faults, know_set_same, know_set_other}
+use Rattle.nm_model.proofs.Joins.{join_valid, left_under, join_faultless, no_faults}
 use Rattle.nm_model.proofs.Stated.{times, before}
 
 module _ {P : Type 0} where
@@ -46,7 +46,7 @@ module _ {P : Type 0} where
   all-append Q (x ∷ k) l h i = (h.0, all-append Q k l h.1 i)
 
 module _ {P N : Type 0} (net : Net P N) where
-  pub advance_within : (p : ℕ) (K : List (Know P)) (n k : ℕ) → IsWithin net p K k → IsWithin net p K (advance net p K n k)
+  pub advance_within : (p : ℕ) (K : Knowledge P) (n k : ℕ) → IsWithin net p K k → IsWithin net p K (advance net p K n k)
   advance_within p K zero k w = w
   advance_within p K (suc n) k w = go (pends_before (safe_time net p K) (from_scratch net p K k)) refl (λ v. advance_within p K n (suc k) v)
     where
@@ -55,7 +55,7 @@ module _ {P N : Type 0} (net : Net P N) where
       go true e rest = rest (λ m lt. ⊎_elim (λ f. w m f) (λ f. subst (λ z. pends_before (safe_time net p K) (from_scratch net p K z) ≡ true) (sym f) e) (below_or_at m k lt))
 
   -- a run goes on to the lesser of k + n and the count
-  pub advance_is : (p : ℕ) (K : List (Know P)) (count : ℕ) → IsCount net p K count → (n k : ℕ) → k ≤ count → advance net p K n k ≡ min (k + n) count
+  pub advance_is : (p : ℕ) (K : Knowledge P) (count : ℕ) → IsCount net p K count → (n k : ℕ) → k ≤ count → advance net p K n k ≡ min (k + n) count
   advance_is p K count c zero k le = omega arith
   advance_is p K count c (suc n) k le = ⊎_elim
       (λ lt. ap (λ b. cond b (advance net p K n (suc k)) k) (c.first k lt) ∙ advance_is p K count c n (suc k) lt ∙ omega arith)
@@ -69,7 +69,7 @@ module _ {P N : Type 0} (net : Net P N) (ok : IsNet net) (same : P → P → Boo
   IsTrueFrame (NullFrame c n t) = (i : ℕ) (x : ℕ × P) → n ≤ i → nth (history net last c) i ≡ Some x → t ≤ x.0
 
   pub record Fair (p : ℕ) (x : Replica P) : Type 0 where
-    pub valid : (c : ℕ) → IsValid (know x.knowledge c) (history net last c)
+    pub valid : (c : ℕ) → IsValid (x.knowledge c) (history net last c)
     pub within : IsWithin net p x.knowledge x.ran
 
   pub record Sound (w : World P) : Type 0 where
@@ -98,15 +98,15 @@ module _ {P N : Type 0} (net : Net P N) (ok : IsNet net) (same : P → P → Boo
   sound_frames w h l a = record { fair = h.fair; truthful = all-append IsTrueFrame w.bag l h.truthful a }
 
   -- knowledge that was told of one channel
-  fair_set : (p : ℕ) (x : Replica P) → Fair p x → (c : ℕ) (a : Know P) → IsUnder (know x.knowledge c) a → IsValid a (history net last c) → Fair p (record { knowledge = set_know x.knowledge c a; ran = x.ran })
+  fair_set : (p : ℕ) (x : Replica P) → Fair p x → (c : ℕ) (a : Know P) → IsUnder (x.knowledge c) a → IsValid a (history net last c) → Fair p (record { knowledge = set_at x.knowledge c a; ran = x.ran })
   fair_set p x f c a u v = record {
     valid = λ d. ⊎_elim
-        (λ e. subst (λ z. IsValid (know (set_know x.knowledge c a) z) (history net last z)) (sym e) (subst (λ z. IsValid z (history net last c)) (sym (know_set_same x.knowledge c a)) v))
-        (λ e. subst (λ z. IsValid z (history net last d)) (sym (know_set_other x.knowledge c d a e)) (f.valid d))
+        (λ e. subst (λ z. IsValid ((set_at x.knowledge c a) z) (history net last z)) (sym e) (subst (λ z. IsValid z (history net last c)) (sym (set_here x.knowledge c a)) v))
+        (λ e. subst (λ z. IsValid z (history net last d)) (sym (set_there x.knowledge c a d e)) (f.valid d))
         (same_number d c);
-    within = within_more net ok p x.knowledge (set_know x.knowledge c a) (λ d ch. ⊎_elim
-        (λ e. subst (λ z. IsUnder (know x.knowledge z) (know (set_know x.knowledge c a) z)) (sym e) (subst (IsUnder (know x.knowledge c)) (sym (know_set_same x.knowledge c a)) u))
-        (λ e. subst (IsUnder (know x.knowledge d)) (sym (know_set_other x.knowledge c d a e)) (under_self (know x.knowledge d)))
+    within = within_more net ok p x.knowledge (set_at x.knowledge c a) (λ d ch. ⊎_elim
+        (λ e. subst (λ z. IsUnder (x.knowledge z) ((set_at x.knowledge c a) z)) (sym e) (subst (IsUnder (x.knowledge c)) (sym (set_here x.knowledge c a)) u))
+        (λ e. subst (IsUnder (x.knowledge d)) (sym (set_there x.knowledge c a d e)) (under_self (x.knowledge d)))
         (same_number d c)) x.ran f.within;
   }
 
@@ -124,26 +124,26 @@ module _ {P N : Type 0} (net : Net P N) (ok : IsNet net) (same : P → P → Boo
       let p = receiver_of net c in
       let x = w.replica p r in
       let f = h.fair p r in
-      let d = data_valid same eq (know x.knowledge c) (history net last c) (times net ok last c) (f.valid c) n b (t (DataFrame c n b) refl) in
-      let s = sound_put w h p r (record { knowledge = set_know x.knowledge c (accept_data same (know x.knowledge c) n b).after; ran = x.ran }) (fair_set p x f c (accept_data same (know x.knowledge c) n b).after (data_under same (know x.knowledge c) n b) d.1) in
-      guarded w h (is_replica net p r) (told w p r c (accept_data same (know x.knowledge c) n b)) (λ z. (s, d.0))
+      let d = data_valid same eq (x.knowledge c) (history net last c) (times net ok last c) (f.valid c) n b (t (DataFrame c n b) refl) in
+      let s = sound_put w h p r (record { knowledge = set_at x.knowledge c (accept_data same (x.knowledge c) n b).after; ran = x.ran }) (fair_set p x f c (accept_data same (x.knowledge c) n b).after (data_under same (x.knowledge c) n b) d.1) in
+      guarded w h (is_replica net p r) (told w p r c (accept_data same (x.knowledge c) n b)) (λ z. (s, d.0))
   delivers_kept w h r (Some (NullFrame c n k)) t =
       let p = receiver_of net c in
       let x = w.replica p r in
       let f = h.fair p r in
-      let d = null_valid (know x.knowledge c) (history net last c) (f.valid c) n k (t (NullFrame c n k) refl) in
-      let s = sound_put w h p r (record { knowledge = set_know x.knowledge c (accept_null (know x.knowledge c) n k).after; ran = x.ran }) (fair_set p x f c (accept_null (know x.knowledge c) n k).after (null_under (know x.knowledge c) n k) d.1) in
-      guarded w h (is_replica net p r) (told w p r c (accept_null (know x.knowledge c) n k)) (λ z. (s, d.0))
+      let d = null_valid (x.knowledge c) (history net last c) (f.valid c) n k (t (NullFrame c n k) refl) in
+      let s = sound_put w h p r (record { knowledge = set_at x.knowledge c (accept_null (x.knowledge c) n k).after; ran = x.ran }) (fair_set p x f c (accept_null (x.knowledge c) n k).after (null_under (x.knowledge c) n k) d.1) in
+      guarded w h (is_replica net p r) (told w p r c (accept_null (x.knowledge c) n k)) (λ z. (s, d.0))
 
-  merges_kept : (w : World P) → Sound w → (p r s : ℕ) (o : Option (ℕ × Answer)) → join_faults same 0 (w.replica p r).knowledge (w.replica p s).knowledge ≡ o → Kept (merges w p r (w.replica p s).knowledge o)
+  merges_kept : (w : World P) → Sound w → (p r s : ℕ) (o : Option (ℕ × Answer)) → join_faults same (w.replica p r).knowledge (w.replica p s).knowledge net.ifaces ≡ o → Kept (merges w p r (w.replica p s).knowledge o)
   merges_kept w h p r s (Some f) e =
-      let none = no_faults same 0 (w.replica p r).knowledge (w.replica p s).knowledge (λ c. join_faultless (history net last c) same eq _ _ ((h.fair p r).valid c) ((h.fair p s).valid c)) in
+      let none = no_faults same (w.replica p r).knowledge (w.replica p s).knowledge net.ifaces (λ c. join_faultless (history net last c) same eq _ _ ((h.fair p r).valid c) ((h.fair p s).valid c)) in
       absurd (cc)
   merges_kept w h p r s None e =
       let x = w.replica p r in let y = w.replica p s in (
         sound_put w h p r (record { knowledge = join_all x.knowledge y.knowledge; ran = x.ran }) (record {
-          valid = λ c. subst (λ z. IsValid z (history net last c)) (sym (know_join x.knowledge y.knowledge c)) (join_valid (history net last c) _ _ ((h.fair p r).valid c) ((h.fair p s).valid c));
-          within = within_more net ok p x.knowledge (join_all x.knowledge y.knowledge) (λ c ch. subst (IsUnder (know x.knowledge c)) (sym (know_join x.knowledge y.knowledge c)) (left_under (history net last c) _ _ ((h.fair p r).valid c) ((h.fair p s).valid c))) x.ran (h.fair p r).within;
+          valid = λ c. join_valid (history net last c) _ _ ((h.fair p r).valid c) ((h.fair p s).valid c);
+          within = within_more net ok p x.knowledge (join_all x.knowledge y.knowledge) (λ c ch. left_under (history net last c) _ _ ((h.fair p r).valid c) ((h.fair p s).valid c)) x.ran (h.fair p r).within;
         }),
         tt,
       )

@@ -9,7 +9,7 @@ use Rattle.nm_model.specs.Lists.{keep_where}
 use Rattle.nm_model.specs.EventList.{least}
 use Rattle.nm_model.specs.Network.{Net}
 use Rattle.nm_model.specs.Run.{State, run, start, one_list, pends_before}
-use Rattle.nm_model.specs.Knowledge.{Know, know, IsValid}
+use Rattle.nm_model.specs.Knowledge.{Knowledge, IsValid}
 use Rattle.nm_model.specs.Partition.{in_part, comes_in, is_own_record}
 use Rattle.nm_model.specs.Replica.{inbox_events, safe_time}
 
@@ -49,12 +49,12 @@ module _ {P N : Type 0} (net : Net P N) where
 
   module _ (p : ℕ) where
     -- K is valid for the histories of the partition's channels
-    abbrev pub IsKnowledge : List (Know P) → Type 0
-    IsKnowledge K = (last : ℕ) → IsBefore net.stop last → (c : ℕ) → comes_in net p c ≡ true → IsValid (know K c) (history last c)
+    abbrev pub IsKnowledge : Knowledge P → Type 0
+    IsKnowledge K = (last : ℕ) → IsBefore net.stop last → (c : ℕ) → comes_in net p c ≡ true → IsValid (K c) (history last c)
 
     -- over K, k events of the partition are before its safe time
-    abbrev pub IsCount : List (Know P) → ℕ → Type 0
-    IsCount K k = Drains net (in_part net p) (start net (in_part net p) (inbox_events net p 0 K)) (safe_time net p K) k
+    abbrev pub IsCount : Knowledge P → ℕ → Type 0
+    IsCount K k = Drains net (in_part net p) (start net (in_part net p) (inbox_events net p K)) (safe_time net p K) k
 
     -- the trace of the partition: the records at its interfaces among the network's first n events
     abbrev pub trace : ℕ → List (Record P)

@@ -3,7 +3,6 @@ use Rattle.std.specs.Prelude.{◌≡◌, ◌⊎◌, ℕ, zero, suc, ◌<◌, ◌
 use Rattle.nm_model.specs.Lists.{nth, IsPrefix}
 use Rattle.nm_model.specs.Network.{Net}
 use Rattle.nm_model.specs.Run.{pends_before}
-use Rattle.nm_model.specs.Knowledge.{know}
 use Rattle.nm_model.specs.Accept.{same_message, last_from}
 use Rattle.nm_model.specs.Join.{or_else}
 use Rattle.nm_model.specs.Partition.{comes_in, sender_of}
@@ -38,16 +37,16 @@ module _ {P N : Type 0} (net : Net P N) where
   pub record AreFinished (books : ℕ → Replica P) : Type 0 where
     pub within : (p : ℕ) → IsWithin net p (books p).knowledge (books p).ran
     pub done : (p : ℕ) → is_done p (books p) ≡ true
-    pub begins : (p c : ℕ) → comes_in net p c ≡ true → IsPrefix (know (books p).knowledge c).list (given net books c)
-    pub next : (p c : ℕ) (b : ℕ × P) → comes_in net p c ≡ true → nth (given net books c) (length (know (books p).knowledge c).list) ≡ Some b → (know (books p).knowledge c).clock ≤ b.0
+    pub begins : (p c : ℕ) → comes_in net p c ≡ true → IsPrefix ((books p).knowledge c).list (given net books c)
+    pub next : (p c : ℕ) (b : ℕ × P) → comes_in net p c ≡ true → nth (given net books c) (length ((books p).knowledge c).list) ≡ Some b → ((books p).knowledge c).clock ≤ b.0
 
   module _ (kind : Promising) where
     -- what book r knows of channel c is what book s says of it
     pub record Matches (c : ℕ) (r s : Book P) : Type 0 where
-      pub begins : IsPrefix (know r.replica.knowledge c).list (outgoing net s.part s.replica c)
-      pub next : (b : ℕ × P) → nth (outgoing net s.part s.replica c) (length (know r.replica.knowledge c).list) ≡ Some b → (know r.replica.knowledge c).clock ≤ b.0
+      pub begins : IsPrefix (r.replica.knowledge c).list (outgoing net s.part s.replica c)
+      pub next : (b : ℕ × P) → nth (outgoing net s.part s.replica c) (length (r.replica.knowledge c).list) ≡ Some b → (r.replica.knowledge c).clock ≤ b.0
       -- a message may raise the clock past a promise that stop bounds, up to its own time
-      pub promised : ((know r.replica.knowledge c).clock ≤ promise net kind s.part s.replica.knowledge s.replica.ran c) ⊎ (last_from (know r.replica.knowledge c).clock (know r.replica.knowledge c).list ≡ true)
+      pub promised : ((r.replica.knowledge c).clock ≤ promise net kind s.part s.replica.knowledge s.replica.ran c) ⊎ (last_from (r.replica.knowledge c).clock (r.replica.knowledge c).list ≡ true)
 
     -- each partition has a book, each book is done, and on each channel each receiving book matches each sending one
     pub record IsCertified (books : List (Book P)) : Type 0 where
@@ -81,7 +80,7 @@ clock_fault c t (Some b) = cond (ltb b.0 t) (Some (ClockFault c)) None
 module _ {P N : Type 0} (net : Net P N) (same : P → P → Bool) (kind : Promising) where
   abbrev pub channel_fault : ℕ → Book P → Book P → Option Fault
   channel_fault c r s =
-      let a = know r.replica.knowledge c in
+      let a = r.replica.knowledge c in
       let out = outgoing net s.part s.replica c in
       or_else (prefix_fault same c 0 a.list out)
       (or_else (clock_fault c a.clock (nth out (length a.list)))

@@ -1,17 +1,15 @@
 -- How two replicas' knowledge of one channel is joined, and when it cannot be.
-use Rattle.std.specs.Prelude.{◌≡◌, ◌≢◌, ◌⊎◌, ℕ, suc, ◌<◌, max, Bool, cond, ltb, leb, length, List, [], ◌∷◌, Option, Some, None}
+use Rattle.std.specs.Prelude.{◌≡◌, ◌≢◌, ◌⊎◌, ℕ, zero, suc, ◌<◌, max, Bool, cond, ltb, leb, length, List, [], ◌∷◌, Option, Some, None}
 use Rattle.nm_model.specs.Lists.{nth}
-use Rattle.nm_model.specs.Knowledge.{Know}
+use Rattle.nm_model.specs.Knowledge.{Knowledge, Know}
 use Rattle.nm_model.specs.Accept.{Answer, New, Raised, Known, Gap, Differs, Late, NotRising, Contrary, same_message}
 
 -- the longer list and the greater clock
 abbrev pub join : {P : Type 0} → Know P → Know P → Know P
 join a b = record { list = cond (leb (length a.list) (length b.list)) b.list a.list; clock = max a.clock b.clock }
 
-abbrev pub join_all : {P : Type 0} → List (Know P) → List (Know P) → List (Know P)
-join_all [] J = J
-join_all (a ∷ K) [] = a ∷ K
-join_all (a ∷ K) (b ∷ J) = join a b ∷ join_all K J
+abbrev pub join_all : {P : Type 0} → Knowledge P → Knowledge P → Knowledge P
+join_all K J c = join (K c) (J c)
 
 -- the first number at which both have a message and these differ, counted from n
 abbrev pub first_differs : {P : Type 0} → (P → P → Bool) → ℕ → List (ℕ × P) → List (ℕ × P) → Option ℕ
@@ -55,8 +53,7 @@ abbrev pub at_channel : ℕ → Option Answer → Option (ℕ × Answer)
 at_channel c None = None
 at_channel c (Some f) = Some (c, f)
 
--- the first fault of the channels, counted from c, with its channel
-abbrev pub join_faults : {P : Type 0} → (P → P → Bool) → ℕ → List (Know P) → List (Know P) → Option (ℕ × Answer)
-join_faults same c [] J = None
-join_faults same c (a ∷ K) [] = None
-join_faults same c (a ∷ K) (b ∷ J) = or_else (at_channel c (join_fault same a b)) (join_faults same (suc c) K J)
+-- the first fault of the channels below a number, with its channel
+abbrev pub join_faults : {P : Type 0} → (P → P → Bool) → Knowledge P → Knowledge P → ℕ → Option (ℕ × Answer)
+join_faults same K J zero = None
+join_faults same K J (suc c) = or_else (join_faults same K J c) (at_channel c (join_fault same (K c) (J c)))

@@ -1,5 +1,5 @@
 -- What is known of a channel: the messages that came, and the channel clock (Misra, section 2).
-use Rattle.std.specs.Prelude.{◌≡◌, ℕ, zero, suc, ◌≤◌, length, List, [], ◌∷◌, Some}
+use Rattle.std.specs.Prelude.{◌≡◌, ℕ, ◌≤◌, length, List, [], Some}
 use Rattle.nm_model.specs.Lists.{nth, IsPrefix, IsRising}
 
 -- the first messages of a channel, each with its time of arrival, and that all later ones have times from the clock on
@@ -15,18 +15,12 @@ pub record IsKnow {P : Type 0} (a : Know P) : Type 0 where
   pub rising : IsRising a.list
   pub last : (n : ℕ) (b : ℕ × P) → nth a.list n ≡ Some b → b.0 ≤ a.clock
 
--- of each channel, by the number of its receiving interface
-abbrev pub know : {P : Type 0} → List (Know P) → ℕ → Know P
-know [] c = nothing_known
-know (k ∷ K) zero = k
-know (k ∷ K) (suc c) = know K c
+-- what is known of each channel, by the number of its receiving interface
+abbrev pub Knowledge : Type 0 → Type 0
+Knowledge P = ℕ → Know P
 
--- K with a at channel c
-abbrev pub set_know : {P : Type 0} → List (Know P) → ℕ → Know P → List (Know P)
-set_know [] zero a = a ∷ []
-set_know [] (suc c) a = nothing_known ∷ set_know [] c a
-set_know (k ∷ K) zero a = a ∷ K
-set_know (k ∷ K) (suc c) a = k ∷ set_know K c a
+abbrev pub no_knowledge : {P : Type 0} → Knowledge P
+no_knowledge c = nothing_known
 
 -- H, all that ever comes by the channel, begins with the list and goes on at or after the clock
 pub record IsValid {P : Type 0} (a : Know P) (H : List (ℕ × P)) : Type 0 where

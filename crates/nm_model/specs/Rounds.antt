@@ -1,7 +1,7 @@
 -- Rounds: all partitions run what is safe, and then each hears all that the others have for it.
-use Rattle.std.specs.Prelude.{◌≡◌, ℕ, zero, suc, ◌+◌, ◌-◌, ◌/◌, Bool, cond, length, drop, List, [], ◌∷◌}
+use Rattle.std.specs.Prelude.{◌≡◌, ℕ, suc, ◌+◌, ◌-◌, ◌/◌, Bool, cond, length, drop, List, [], ◌∷◌}
 use Rattle.nm_model.specs.Network.{Net}
-use Rattle.nm_model.specs.Knowledge.{Know, know}
+use Rattle.nm_model.specs.Knowledge.{Know}
 use Rattle.nm_model.specs.Accept.{accept_data, accept_null}
 use Rattle.nm_model.specs.Partition.{comes_in, sender_of}
 use Rattle.nm_model.specs.Replica.{from_scratch}
@@ -17,10 +17,6 @@ hear_list same a n (b ∷ l) = hear_list same (accept_data same a n b).after (su
 -- all new messages, and then the null message
 abbrev pub hear : {P : Type 0} → (P → P → Bool) → Know P → List (ℕ × P) → ℕ → Know P
 hear same a out t = (accept_null (hear_list same a (length a.list) (drop (length a.list) out)) (length out) t).after
-
-abbrev pub tabulate : {A : Type 0} → (ℕ → A) → ℕ → ℕ → List A
-tabulate f c zero = []
-tabulate f c (suc n) = f c ∷ tabulate f (suc c) n
 
 -- stop divided by the least lookahead, rounded up
 abbrev pub round_count : ℕ → ℕ → ℕ
@@ -43,14 +39,11 @@ module _ {P N : Type 0} (net : Net P N) (same : P → P → Bool) (kind : Promis
   abbrev pub heard_on : (ℕ → Replica P) → ℕ → ℕ → Know P
   heard_on books p c =
       cond (comes_in net p c)
-      (hear same (know (books p).knowledge c) (given net books c) (promised net books kind c))
-      (know (books p).knowledge c)
-
-  abbrev pub heard : (ℕ → Replica P) → ℕ → List (Know P)
-  heard books p = tabulate (heard_on books p) 0 net.ifaces
+      (hear same ((books p).knowledge c) (given net books c) (promised net books kind c))
+      ((books p).knowledge c)
 
   -- the books, by partition, after each round
   pub record IsRounds (b : ℕ → ℕ → Replica P) : Type 0 where
     pub opens : (p : ℕ) → b 0 p ≡ fresh
     pub runs : (j p : ℕ) → IsCount net p (b j p).knowledge (b (suc j) p).ran
-    pub hears : (j p : ℕ) → (b (suc j) p).knowledge ≡ heard (λ q. record { knowledge = (b j q).knowledge; ran = (b (suc j) q).ran }) p
+    pub hears : (j p : ℕ) → (b (suc j) p).knowledge ≡ heard_on (λ q. record { knowledge = (b j q).knowledge; ran = (b (suc j) q).ran }) p

@@ -3,7 +3,7 @@ use Rattle.std.specs.Prelude.{ℕ, zero, suc, ◌-◌, Bool, cond, ◌&&◌, ltb
 use Rattle.nm_model.specs.Lists.{nth, set_at}
 use Rattle.nm_model.specs.Network.{Net}
 use Rattle.nm_model.specs.Run.{State, pends_before}
-use Rattle.nm_model.specs.Knowledge.{Know, know, set_know}
+use Rattle.nm_model.specs.Knowledge.{Knowledge, no_knowledge}
 use Rattle.nm_model.specs.Accept.{Answer, New, Raised, Known, Gap, Differs, Late, NotRising, Contrary, Accepted, accept_data, accept_null}
 use Rattle.nm_model.specs.Join.{join_all, join_faults}
 use Rattle.nm_model.specs.Partition.{goes_out, receiver_of}
@@ -18,11 +18,11 @@ pub data Frame (P : Type 0) : Type 0 where
 
 -- what a replica knows of each channel, and how many events it did
 pub record Replica (P : Type 0) : Type 0 where
-  pub knowledge : List (Know P)
+  pub knowledge : Knowledge P
   pub ran : ℕ
 
 abbrev pub fresh : {P : Type 0} → Replica P
-fresh = record { knowledge = []; ran = 0 }
+fresh = record { knowledge = no_knowledge; ran = 0 }
 
 -- the replicas, by partition and number, and every frame that was ever sent
 pub record World (P : Type 0) : Type 0 where
@@ -88,16 +88,16 @@ sends w c n (Some b) = (put_frames w (DataFrame c n b ∷ []), Frames 1)
 -- a replica that was told of one channel
 abbrev pub told : {P : Type 0} → World P → ℕ → ℕ → ℕ → Accepted P → World P × Outcome
 told w p r c a =
-    (put_replica w p r (record { knowledge = set_know (w.replica p r).knowledge c a.after; ran = (w.replica p r).ran }), Answered a.answer)
+    (put_replica w p r (record { knowledge = set_at (w.replica p r).knowledge c a.after; ran = (w.replica p r).ran }), Answered a.answer)
 
-abbrev pub merges : {P : Type 0} → World P → ℕ → ℕ → List (Know P) → Option (ℕ × Answer) → World P × Outcome
+abbrev pub merges : {P : Type 0} → World P → ℕ → ℕ → Knowledge P → Option (ℕ × Answer) → World P × Outcome
 merges w p r J None =
     (put_replica w p r (record { knowledge = join_all (w.replica p r).knowledge J; ran = (w.replica p r).ran }), Merged)
 merges w p r J (Some f) = (w, MergeRefused f.0 f.1)
 
 module _ {P N : Type 0} (net : Net P N) where
   -- the number of events after at most n further ones before the safe time
-  abbrev pub advance : ℕ → List (Know P) → ℕ → ℕ → ℕ
+  abbrev pub advance : ℕ → Knowledge P → ℕ → ℕ → ℕ
   advance p K zero k = k
   advance p K (suc n) k = cond (pends_before (safe_time net p K) (from_scratch net p K k)) (advance p K n (suc k)) k
 
@@ -122,10 +122,10 @@ module _ {P N : Type 0} (net : Net P N) where
     delivers w r None = (w, NoSuch)
     delivers w r (Some (DataFrame c n b)) =
         let p = receiver_of net c in
-        cond (is_replica p r) (told w p r c (accept_data same (know (w.replica p r).knowledge c) n b)) (w, NoSuch)
+        cond (is_replica p r) (told w p r c (accept_data same ((w.replica p r).knowledge c) n b)) (w, NoSuch)
     delivers w r (Some (NullFrame c count t)) =
         let p = receiver_of net c in
-        cond (is_replica p r) (told w p r c (accept_null (know (w.replica p r).knowledge c) count t)) (w, NoSuch)
+        cond (is_replica p r) (told w p r c (accept_null ((w.replica p r).knowledge c) count t)) (w, NoSuch)
 
     abbrev pub happens : World P → Step → World P × Outcome
     happens w (Run p r n) =
@@ -146,7 +146,7 @@ module _ {P N : Type 0} (net : Net P N) where
     happens w (Deliver i r) = delivers w r (nth w.bag i)
     happens w (Merge p r) =
         let J = (w.replica p (sister r)).knowledge in
-        cond (is_replica p r) (merges w p r J (join_faults same 0 (w.replica p r).knowledge J)) (w, NoSuch)
+        cond (is_replica p r) (merges w p r J (join_faults same (w.replica p r).knowledge J net.ifaces)) (w, NoSuch)
     happens w (Restart p r) = cond (is_replica p r) (put_replica w p r fresh, Emptied) (w, NoSuch)
 
     -- the world after a list of steps, and the answers

@@ -1,10 +1,10 @@
 //! Laws of knowledge of a channel: taking messages and null messages, and joining.
 
-ghost use Rattle.std.specs.Prelude.{◌≡◌, ℕ, ◌+◌, ◌<◌, ◌≤◌, Bool, length, List, Option, Some, None};
+ghost use Rattle.std.specs.Prelude.{◌≡◌, ℕ, ◌<◌, ◌≤◌, Bool, length, List, Option, Some, None};
 ghost use Rattle.nm_model.specs.Lists.{nth, IsRising};
-ghost use Rattle.nm_model.specs.Knowledge.{Know, IsKnow, nothing_known, know, IsValid, IsUnder, IsCompatible};
+ghost use Rattle.nm_model.specs.Knowledge.{Knowledge, Know, IsKnow, nothing_known, IsValid, IsUnder, IsCompatible};
 ghost use Rattle.nm_model.specs.Accept.{Answer, IsReflexive, TellsApart, accept_data, accept_null};
-ghost use Rattle.nm_model.specs.Join.{join, join_all, join_fault, join_faults, Shows};
+ghost use Rattle.nm_model.specs.Join.{join, join_fault, join_faults, Shows};
 ghost use Rattle.nm_model.specs.World.{IsFine};
 
 /// Taking a message or a null message only adds to what is known, keeps it in order, and keeps what is true of the
@@ -42,8 +42,6 @@ pub fn join_laws<P>()
     ensures no_fault { (same : P → P → Bool) → IsReflexive same → (H : List (ℕ × P)) (a b : Know P)
         → IsValid a H → IsValid b H → join_fault same a b ≡ None }
     ensures keeps { (a b : Know P) → IsKnow a → IsKnow b → IsKnow (join a b) }
-    ensures all { (K J : List (Know P)) (c : ℕ)
-        → know (join_all K J) c ≡ join (know K c) (know J c) }
 {}
 
 /// Two are joined exactly where they are compatible, which is where both are under something; a fault shows that they
@@ -59,10 +57,10 @@ pub fn join_faults_are_right<P>()
         → IsCompatible a b }
     ensures joined { (a b : Know P) → IsCompatible a b
         → IsUnder a (join a b) × IsUnder b (join a b) × (join a b ≡ join b a) }
-    ensures first { (same : P → P → Bool) (n : ℕ) (K J : List (Know P)) (c : ℕ) (f : Answer)
-        → join_faults same n K J ≡ Some (c, f)
-        → (d : ℕ) × (c ≡ n + d) × (join_fault same (know K d) (know J d) ≡ Some f)
-        × ((e : ℕ) → e < d → join_fault same (know K e) (know J e) ≡ None) }
-    ensures faultless { (same : P → P → Bool) (n : ℕ) (K J : List (Know P))
-        → join_faults same n K J ≡ None → (c : ℕ) → join_fault same (know K c) (know J c) ≡ None }
+    ensures first { (same : P → P → Bool) (K J : Knowledge P) (n c : ℕ) (f : Answer)
+        → join_faults same K J n ≡ Some (c, f)
+        → (c < n) × (join_fault same (K c) (J c) ≡ Some f)
+        × ((d : ℕ) → d < c → join_fault same (K d) (J d) ≡ None) }
+    ensures faultless { (same : P → P → Bool) (K J : Knowledge P) (n : ℕ)
+        → join_faults same K J n ≡ None → (c : ℕ) → c < n → join_fault same (K c) (J c) ≡ None }
 {}

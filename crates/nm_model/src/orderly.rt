@@ -13,7 +13,7 @@ ghost use Rattle.nm_model.specs.Lists.{nth};
 ghost use Rattle.nm_model.specs.EventList.{least};
 ghost use Rattle.nm_model.specs.Network.{Net, IsNet};
 ghost use Rattle.nm_model.specs.Run.{State, one_list, made, step, start};
-ghost use Rattle.nm_model.specs.Knowledge.{Know};
+ghost use Rattle.nm_model.specs.Knowledge.{Knowledge, Know};
 ghost use Rattle.nm_model.specs.Partition.{in_part};
 ghost use Rattle.nm_model.specs.Replica.{from_scratch};
 ghost use Rattle.nm_model.specs.Orderly.{IsByNode, IsOrderly};
@@ -23,7 +23,7 @@ ghost use Rattle.nm_model.specs.Orderly.{IsByNode, IsOrderly};
 pub fn every_state_is_orderly<P, N>()
     ensures whole { (net : Net P N) → IsNet net → (n : ℕ)
         → IsOrderly net (λ _. true) (one_list net n) }
-    ensures part { (net : Net P N) → IsNet net → (p : ℕ) (K : List (Know P)) (k : ℕ)
+    ensures part { (net : Net P N) → IsNet net → (p : ℕ) (K : Knowledge P) (k : ℕ)
         → IsOrderly net (in_part net p) (from_scratch net p K k) }
     ensures opens { (net : Net P N) → IsNet net → (here : Place → Bool) → IsByNode net here
         → IsOrderly net here (start net here []) }

@@ -3,7 +3,7 @@
 ghost use Rattle.std.specs.Prelude.{◌≡◌, ℕ, suc, ◌*◌, ◌≤◌, Bool, List, true, false};
 ghost use Rattle.nm_model.specs.Network.{Net, IsNet};
 ghost use Rattle.nm_model.specs.Run.{pends_before};
-ghost use Rattle.nm_model.specs.Knowledge.{Know};
+ghost use Rattle.nm_model.specs.Knowledge.{Knowledge, Know};
 ghost use Rattle.nm_model.specs.Accept.{IsReflexive};
 ghost use Rattle.nm_model.specs.Partition.{comes_in};
 ghost use Rattle.nm_model.specs.Replica.{from_scratch, safe_time};
@@ -30,5 +30,5 @@ pub fn rounds_bound<P, N>()
         → (from_scratch net p (b j p).knowledge (b (suc j) p).ran).records ≡ trace net p last }
     ensures enough { (stop lead : ℕ) → 1 ≤ lead → stop ≤ round_count stop lead * lead }
     ensures alone { (net : Net P N) (p : ℕ) → ((c : ℕ) → comes_in net p c ≡ true → ⊥)
-        → (K : List (Know P)) → safe_time net p K ≡ net.stop }
+        → (K : Knowledge P) → safe_time net p K ≡ net.stop }
 {}

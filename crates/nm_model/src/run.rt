@@ -9,7 +9,7 @@ ghost use Rattle.nm_model.specs.Lists.{nth, IsRising};
 ghost use Rattle.nm_model.specs.EventList.{least, IsUpTo};
 ghost use Rattle.nm_model.specs.Network.{Net, IsNet};
 ghost use Rattle.nm_model.specs.Run.{State, one_list, made};
-ghost use Rattle.nm_model.specs.Knowledge.{Know};
+ghost use Rattle.nm_model.specs.Knowledge.{Knowledge, Know};
 ghost use Rattle.nm_model.specs.Replica.{from_scratch, IsWithin};
 ghost use Rattle.nm_model.specs.Before.{IsBefore, IsCount, same_place, events_at};
 
@@ -18,13 +18,13 @@ pub fn times_pass<P, N>()
     ensures before { (net : Net P N) → IsNet net → (t : ℕ) → (n : ℕ) × IsBefore net t n }
     ensures before_once { (net : Net P N) → IsNet net → (t m n : ℕ)
         → IsBefore net t m → IsBefore net t n → m ≡ n }
-    ensures count { (net : Net P N) → IsNet net → (p : ℕ) (K : List (Know P))
+    ensures count { (net : Net P N) → IsNet net → (p : ℕ) (K : Knowledge P)
         → (k : ℕ) × IsCount net p K k }
-    ensures count_once { (net : Net P N) → IsNet net → (p : ℕ) (K : List (Know P)) (j k : ℕ)
+    ensures count_once { (net : Net P N) → IsNet net → (p : ℕ) (K : Knowledge P) (j k : ℕ)
         → IsCount net p K j → IsCount net p K k → j ≡ k }
-    ensures within { (net : Net P N) → IsNet net → (p : ℕ) (K : List (Know P)) (j k : ℕ)
+    ensures within { (net : Net P N) → IsNet net → (p : ℕ) (K : Knowledge P) (j k : ℕ)
         → IsCount net p K k → j ≤ k → IsWithin net p K j }
-    ensures within_only { (net : Net P N) → IsNet net → (p : ℕ) (K : List (Know P)) (j k : ℕ)
+    ensures within_only { (net : Net P N) → IsNet net → (p : ℕ) (K : Knowledge P) (j k : ℕ)
         → IsCount net p K k → IsWithin net p K j → j ≤ k }
 {}
 
@@ -50,7 +50,7 @@ pub fn events_make_later_ones<P, N>()
     ensures later { (net : Net P N) → IsNet net → (n : ℕ) (e : Key × Event P)
         → least (one_list net n).pending ≡ Some e → (m : ℕ) (f : Key × Event P)
         → nth (made net (one_list net n) e) m ≡ Some f → e.0.time < f.0.time }
-    ensures later_in_part { (net : Net P N) → IsNet net → (p : ℕ) (K : List (Know P)) (k : ℕ)
+    ensures later_in_part { (net : Net P N) → IsNet net → (p : ℕ) (K : Knowledge P) (k : ℕ)
         (e : Key × Event P) → least (from_scratch net p K k).pending ≡ Some e
         → (m : ℕ) (f : Key × Event P)
         → nth (made net (from_scratch net p K k) e) m ≡ Some f → e.0.time < f.0.time }

@@ -6,7 +6,7 @@ ghost use Rattle.nm_base.specs.declared.record.Record.{Record};
 ghost use Rattle.nm_model.specs.Lists.{nth};
 ghost use Rattle.nm_model.specs.Network.{Net, IsNet};
 ghost use Rattle.nm_model.specs.Run.{one_list, pends_before};
-ghost use Rattle.nm_model.specs.Knowledge.{Know};
+ghost use Rattle.nm_model.specs.Knowledge.{Knowledge, Know};
 ghost use Rattle.nm_model.specs.Replica.{from_scratch};
 ghost use Rattle.nm_model.specs.Trace.{passed};
 
@@ -14,7 +14,7 @@ ghost use Rattle.nm_model.specs.Trace.{passed};
 pub fn arrivals_are_recorded<P, N>()
     ensures whole { (net : Net P N) (n c : ℕ)
         → (one_list net n).arrived c ≡ length (passed In c (one_list net n).records) }
-    ensures part { (net : Net P N) (p : ℕ) (K : List (Know P)) (k c : ℕ)
+    ensures part { (net : Net P N) (p : ℕ) (K : Knowledge P) (k c : ℕ)
         → (from_scratch net p K k).arrived c
         ≡ length (passed In c (from_scratch net p K k).records) }
 {}
@@ -43,7 +43,7 @@ pub fn records_in_order<P, N>()
     ensures whole { (net : Net P N) → IsNet net → (n j k : ℕ) (a b : Record P) → j ≤ k
         → nth (one_list net n).records j ≡ Some a → nth (one_list net n).records k ≡ Some b
         → a.time ≤ b.time }
-    ensures part { (net : Net P N) → IsNet net → (p : ℕ) (K : List (Know P)) (n j k : ℕ)
+    ensures part { (net : Net P N) → IsNet net → (p : ℕ) (K : Knowledge P) (n j k : ℕ)
         (a b : Record P) → j ≤ k → nth (from_scratch net p K n).records j ≡ Some a
         → nth (from_scratch net p K n).records k ≡ Some b → a.time ≤ b.time }
 {}

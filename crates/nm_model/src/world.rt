@@ -3,7 +3,7 @@
 ghost use Rattle.std.specs.Prelude.{◌≡◌, ℕ, ◌+◌, ◌≤◌, min, Bool, true, List};
 ghost use Rattle.nm_model.specs.Lists.{IsPrefix};
 ghost use Rattle.nm_model.specs.Network.{Net, IsNet};
-ghost use Rattle.nm_model.specs.Knowledge.{Know, know};
+ghost use Rattle.nm_model.specs.Knowledge.{Knowledge, Know};
 ghost use Rattle.nm_model.specs.Accept.{IsReflexive};
 ghost use Rattle.nm_model.specs.Partition.{comes_in};
 ghost use Rattle.nm_model.specs.Promise.{Promising, promise};
@@ -30,7 +30,7 @@ pub fn worlds<P, N>()
         → (steps : List Step) (p r n : ℕ) → let x = replica_after net same steps p r in
         IsCount net p x.knowledge x.ran → IsBefore net (safe_time net p x.knowledge) n
         → (state_of net p x).records ≡ trace net p n }
-    ensures runs { (net : Net P N) → IsNet net → (p : ℕ) (K : List (Know P)) (count n k : ℕ)
+    ensures runs { (net : Net P N) → IsNet net → (p : ℕ) (K : Knowledge P) (count n k : ℕ)
         → IsCount net p K count → k ≤ count → advance net p K n k ≡ min (k + n) count }
 {}
 
@@ -41,15 +41,15 @@ pub fn equal_knowledge_gives_equal_replicas<P, N>()
     ensures states { (net : Net P N) → IsNet net → (same : P → P → Bool) → IsReflexive same
         → (steps others : List Step) (p r s : ℕ)
         → let x = replica_after net same steps p r in let y = replica_after net same others p s in
-        ((c : ℕ) → comes_in net p c ≡ true → know x.knowledge c ≡ know y.knowledge c)
+        ((c : ℕ) → comes_in net p c ≡ true → x.knowledge c ≡ y.knowledge c)
         → x.ran ≡ y.ran → state_of net p x ≡ state_of net p y }
     ensures promises { (net : Net P N) → IsNet net → (same : P → P → Bool) → IsReflexive same
         → (steps others : List Step) (p r s : ℕ)
         → let x = replica_after net same steps p r in let y = replica_after net same others p s in
-        ((c : ℕ) → comes_in net p c ≡ true → know x.knowledge c ≡ know y.knowledge c)
+        ((c : ℕ) → comes_in net p c ≡ true → x.knowledge c ≡ y.knowledge c)
         → x.ran ≡ y.ran → (kind : Promising) (c : ℕ)
         → promise net kind p x.knowledge x.ran c ≡ promise net kind p y.knowledge y.ran c }
-    ensures counts { (net : Net P N) → IsNet net → (p : ℕ) (K J : List (Know P))
-        → ((c : ℕ) → comes_in net p c ≡ true → know K c ≡ know J c)
+    ensures counts { (net : Net P N) → IsNet net → (p : ℕ) (K J : Knowledge P)
+        → ((c : ℕ) → comes_in net p c ≡ true → K c ≡ J c)
         → (j k : ℕ) → IsCount net p K j → IsCount net p J k → j ≡ k }
 {}

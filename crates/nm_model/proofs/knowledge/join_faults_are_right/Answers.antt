@@ -18,7 +18,7 @@ pub returns-clause-joined : goal.returns-clause-joined
 returns-clause-joined g c = λ a b h. (joins.left_under h.history a b h.left h.right, joins.right_under h.history a b h.left h.right, joins.join_comm h.history a b h.left h.right)
 
 pub returns-clause-first : goal.returns-clause-first
-returns-clause-first g c = λ same n K J d f e. faults.first_fault same n K J d f e
+returns-clause-first g c = λ same K J n d f e. faults.first_fault same K J n d f e
 
 pub returns-clause-faultless : goal.returns-clause-faultless
-returns-clause-faultless g c = λ same n K J h d. faults.no_fault_each same n K J h d
+returns-clause-faultless g c = λ same K J n h d lt. faults.no_fault_below same K J n h d lt

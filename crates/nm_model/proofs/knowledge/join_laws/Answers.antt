@@ -28,6 +28,3 @@ returns-clause-no_fault g c = λ same eq H a b u v. joins.join_faultless H same 
 
 pub returns-clause-keeps : goal.returns-clause-keeps
 returns-clause-keeps g c = λ a b u v. join_is_know a b u v
-
-pub returns-clause-all : goal.returns-clause-all
-returns-clause-all g c = λ K J d. joins.know_join K J d

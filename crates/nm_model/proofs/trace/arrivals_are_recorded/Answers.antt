@@ -8,4 +8,4 @@ pub returns-clause-whole : goal.returns-clause-whole
 returns-clause-whole g c = λ net n d. arrived_counts net (λ q. true) d [] n
 
 pub returns-clause-part : goal.returns-clause-part
-returns-clause-part g c = λ net p K k d. arrived_counts net (in_part net p) d (inbox_events net p 0 K) k
+returns-clause-part g c = λ net p K k d. arrived_counts net (in_part net p) d (inbox_events net p K) k
