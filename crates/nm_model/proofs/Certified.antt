@@ -18,7 +18,7 @@ use Rattle.nm_model.specs.Rounds.{given}
 use Rattle.nm_model.specs.World.{Replica}
 use Rattle.nm_model.proofs.Keys.{least_has, least_min, least_none, least_is, up_to_time}
 use Rattle.nm_model.proofs.ListLemmas.{number_is, number_tied, below_nth, nth_below, nth_prefix, prefix_nth}
-use Rattle.nm_model.proofs.Runs.{Since, since, good_run, run_add}
+use Rattle.nm_model.proofs.Runs.{Since, since, invariant_run, run_add}
 use Rattle.nm_model.proofs.Orders.{part_by_node}
 use Rattle.nm_model.proofs.Begin.{cut_start, orderly_part}
 use Rattle.nm_model.proofs.Cut.{and_both, not_true, Cut, Told, origin_at, origin, bound, present, cut_other, cut_mine, safe_clock, channel_inside}
@@ -85,7 +85,7 @@ module _ {P N : Type 0} (net : Net P N) (ok : IsNet net) (books : ℕ → Replic
               go None z = absurd (let l = later b.0 (λ q y g. absurd (let none = least_none _ q z in cc)) in omega arith)
               go (Some x) z =
                   let l = later x.0.time (λ q y g. up_to_time x.0 q (least_min _ x q y z g)) in
-                  let g = good_run net ok n in
+                  let g = invariant_run net ok n in
                   let has = least_has _ x z in
                   let o' = origin_at net (sender_of net c) ok (known (sender_of net c)) (one_list net n) (from_scratch net (sender_of net c) (known (sender_of net c)) (events_at net (in_part net (sender_of net c)) n)) (f.cut (sender_of net c)) g.0 g.1 t x.0 x.1 (λ d z' ch' e'. again x.0 z' (omega arith) d ch' e') has in
                   ⊎_elim (λ h. let w = from x.0 x.1 h in omega arith) (λ h. omega arith) o'
@@ -108,16 +108,16 @@ module _ {P N : Type 0} (net : Net P N) (ok : IsNet net) (books : ℕ → Replic
       where
         in_order : (x : ℕ × P) → nth ((one_list net n).sent c) (length ((known p) c).list) ≡ Some x → length ((known p) c).list ≤ i → x.0 ≤ b.0
         in_order x h le = ⊎_elim
-            (λ lt'. let g = good_run net ok n in let r = g.1.rising c _ i x b lt' h e in omega arith)
+            (λ lt'. let g = invariant_run net ok n in let r = g.1.rising c _ i x b lt' h e in omega arith)
             (λ ge. let same : length ((known p) c).list ≡ i = omega arith in
             let f' = ap (nth ((one_list net n).sent c)) (sym same) ∙ h in
             let xb : b ≡ x = cc in let z = ap (λ v. v.0) xb in omega arith)
             (cases_lt (length ((known p) c).list) i)
 
     follows_step : (e : Key × Event P) → least (one_list net n).pending ≡ Some e → e.0.time < net.stop → (p : ℕ) → (v : Bool) → in_part net p e.0.place ≡ v → Cut net p (known p) (step_at net (λ q. true) (one_list net n) (Some e)) (from_scratch net p (known p) (cond v (suc (events_at net (in_part net p) n)) (events_at net (in_part net p) n))) × (cond v (suc (events_at net (in_part net p) n)) (events_at net (in_part net p) n) ≤ (books p).ran)
-    follows_step e m lt p false mn = let g = good_run net ok n in (cut_other net p ok (known p) (one_list net n) _ (f.cut p) g.0 g.1 e.0 e.1 m mn, f.inside p)
+    follows_step e m lt p false mn = let g = invariant_run net ok n in (cut_other net p ok (known p) (one_list net n) _ (f.cut p) g.0 g.1 e.0 e.1 m mn, f.inside p)
     follows_step e m lt p true mn =
-        let g = good_run net ok n in
+        let g = invariant_run net ok n in
         let from : (q : Key) (y : Event P) → get (one_list net n).pending q ≡ Some y → e.0.time ≤ q.time = λ q y h. up_to_time e.0 q (least_min (one_list net n).pending e q y m h) in
         let s = from_scratch net p (known p) (events_at net (in_part net p) n) in
         let l : least (from_scratch net p (known p) (events_at net (in_part net p) n)).pending ≡ Some e = least_is (from_scratch net p (known p) (events_at net (in_part net p) n)).pending e.0 e.1
@@ -154,7 +154,7 @@ module _ {P N : Type 0} (net : Net P N) (ok : IsNet net) (books : ℕ → Replic
       let same : events_at net (in_part net p) last ≡ (books p).ran = ⊎_elim
       (λ lt. absurd (
       let x = least_busy (safe_time net p (known p)) (from_scratch net p (known p) (events_at net (in_part net p) last)) (cert.within p (events_at net (in_part net p) last) lt) in
-      let g = good_run net ok last in
+      let g = invariant_run net ok last in
       let from = quiet net.stop (one_list net last) b.over in
       let stop = done_safe net p (books p) (cert.done p) in
       ⊎_elim

@@ -21,7 +21,7 @@ use Rattle.nm_model.proofs.ListLemmas.{same_time, bool_cases, same_number, set_t
 use Rattle.nm_model.proofs.Scheduling.{put_alike, put_elsewhere}
 use Rattle.nm_model.proofs.Effects.{EffectIs, effect_is, effect_local}
 use Rattle.nm_model.proofs.NewEvents.{arrive_inj, turned_case, sent_case, IsNew, Ends, Comes, GoesOn, pending_case, pending_other}
-use Rattle.nm_model.proofs.Invariants.{Good, arrival_number, came_case}
+use Rattle.nm_model.proofs.Invariants.{Invariant, arrival_number, came_case}
 use Rattle.nm_base.specs.declared.event.Event.{Event}
 
 pub and_both : (a b : Bool) → (a && b) ≡ true → (a ≡ true) × (b ≡ true)
@@ -78,7 +78,7 @@ module _ {P N : Type 0} (net : Net P N) (p : ℕ) where
         (cases_lt c net.ifaces)
 
     -- what is pending at a partition is pending in the whole network, or will be
-    module _ (K : Knowledge P) (g s : State P N) (h : Cut K g s) (now : ℕ) (good : Good net g now) (t : ℕ) where
+    module _ (K : Knowledge P) (g s : State P N) (h : Cut K g s) (now : ℕ) (good : Invariant net g now) (t : ℕ) where
       pub origin_at : (q : Key) (y : Event P) → ((c : ℕ) (z : P) → comes_in net p c ≡ true → nth (K c).list q.number ≡ Some (q.time, z) → (nth (g.sent c) q.number ≡ Some (q.time, z)) ⊎ (t < q.time)) → get s.pending q ≡ Some y → (get g.pending q ≡ Some y) ⊎ (t < q.time)
       origin_at q y told e = ⊎_elim
           (λ mn. ⊎_elim
@@ -103,7 +103,7 @@ module _ {P N : Type 0} (net : Net P N) (p : ℕ) where
       origin told q y e = origin_at q y (λ c z ch f. told c q.number (q.time, z) ch f) e
 
     -- a partition's pending events are not before the whole network's least
-    module _ (K : Knowledge P) (g s : State P N) (h : Cut K g s) (now : ℕ) (good : Good net g now) (k : Key) (x : Event P) (m : least g.pending ≡ Some (k, x)) where
+    module _ (K : Knowledge P) (g s : State P N) (h : Cut K g s) (now : ℕ) (good : Invariant net g now) (k : Key) (x : Event P) (m : least g.pending ≡ Some (k, x)) where
       pub bound : Told K g k.time → (q : Key) (y : Event P) → get s.pending q ≡ Some y → IsUpTo k q
       bound told q y e = ⊎_elim
           (λ f. least_min g.pending (k, x) q y m f)

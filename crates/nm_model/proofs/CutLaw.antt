@@ -15,9 +15,9 @@ use Rattle.nm_model.specs.Before.{is_at, events_at}
 use Rattle.nm_model.specs.Run.{State, step_at, run, start, one_list, pends_before}
 use Rattle.nm_model.proofs.Keys.{least_has, least_min, least_none, least_is, up_to_time}
 use Rattle.nm_model.proofs.ListLemmas.{below_nth, nth_prefix, prefix_nth, prefix_self, prefix_trans, kept-append}
-use Rattle.nm_model.proofs.Invariants.{Good}
+use Rattle.nm_model.proofs.Invariants.{Invariant}
 use Rattle.nm_model.proofs.Orders.{all_by_node, orderly_whole}
-use Rattle.nm_model.proofs.Runs.{Since, since, good_run, run_add}
+use Rattle.nm_model.proofs.Runs.{Since, since, invariant_run, run_add}
 use Rattle.nm_model.proofs.Cut.{Cut, Told, origin, bound, present, cut_other, cut_mine, safe_stop, safe_clock, channel_inside, both_ways}
 use Rattle.nm_model.proofs.Begin.{cut_start}
 use Rattle.nm_base.specs.declared.event.Event.{Event}
@@ -121,7 +121,7 @@ module _ {P N : Type 0} (net : Net P N) (ok : IsNet net) (p : ℕ) where
     -- below the safe time the partition's next event is the whole network's next one there
     same_least : (n k : ℕ) → Cut net p K (one_list net n) (from_scratch net p K k) → n ≤ last → (e : Key × Event P) → least (one_list net n).pending ≡ Some e → is_at (in_part net p) (Some e) ≡ true → e.0.time < safe_time net p K → least (from_scratch net p K k).pending ≡ Some e
     same_least n k cut h e m mn lt =
-        let g = good_run net ok n in
+        let g = invariant_run net ok n in
         let told = told_before n e.0.time h (λ q y f. up_to_time e.0 q (least_min (one_list net n).pending e q y m f)) in
         least_is (from_scratch net p K k).pending e.0 e.1
         (present net p ok K (one_list net n) (from_scratch net p K k) cut g.0 g.1 e.0 e.1 m (λ c i b ch f le. full_before n h c i b ch f (omega arith)) mn)
@@ -130,7 +130,7 @@ module _ {P N : Type 0} (net : Net P N) (ok : IsNet net) (p : ℕ) where
     -- while something below the safe time is pending at the partition, the whole network's next event is below it too
     least_below : (n k : ℕ) → Cut net p K (one_list net n) (from_scratch net p K k) → pends_before (safe_time net p K) (from_scratch net p K k) ≡ true → (e : Key × Event P) → least (one_list net n).pending ≡ Some e → e.0.time < safe_time net p K
     least_below n k cut b e m =
-        let g = good_run net ok n in
+        let g = invariant_run net ok n in
         let x = least_busy (safe_time net p K) (from_scratch net p K k) b in
         let has = least_has (from_scratch net p K k).pending x.0 x.1 in
         let from : (q : Key) (y : Event P) → get (one_list net n).pending q ≡ Some y → e.0.time ≤ q.time = λ q y f. up_to_time e.0 q (least_min (one_list net n).pending e q y m f) in
@@ -147,8 +147,8 @@ module _ {P N : Type 0} (net : Net P N) (ok : IsNet net) (p : ℕ) where
     cut_step n cut None m w = cut
     cut_step n cut (Some e) m w = go (in_part net p e.0.place) refl w
       where
-        g : (now : ℕ) × Good net (one_list net n) now
-        g = good_run net ok n
+        g : (now : ℕ) × Invariant net (one_list net n) now
+        g = invariant_run net ok n
 
         next : State P N
         next = step_at net (λ q. true) (one_list net n) (Some e)
@@ -181,7 +181,7 @@ module _ {P N : Type 0} (net : Net P N) (ok : IsNet net) (p : ℕ) where
     caught_up n k t w told le from = ⊎_elim
         (λ lt.
         let cut = cut_of n (events_at net (in_part net p) n) (λ m i. w m (omega arith)) refl in
-        let g = good_run net ok n in
+        let g = invariant_run net ok n in
         let x = least_busy (safe_time net p K) (from_scratch net p K (events_at net (in_part net p) n)) (w (events_at net (in_part net p) n) lt) in
         absurd (⊎_elim
         (λ f. let i = from x.0.0 x.0.1 f in omega (arith, x.2))
@@ -272,7 +272,7 @@ module _ {P N : Type 0} (net : Net P N) (ok : IsNet net) (p : ℕ) where
           where
             mine_or : (v : Bool) → in_part net p x.0.place ≡ v → next_time (min net.stop (safe_time net p K)) (least (from_scratch net p K k).pending) + net.tx (net.peer c) b.1 + net.delay (net.peer c) ≤ b.0
             mine_or false mn =
-                let g = good_run net ok n in
+                let g = invariant_run net ok n in
                 rest (subst (λ o. Cut net p K (step_at net (λ q. true) (one_list net n) o) (from_scratch net p K k)) (sym m)
                 (cut_other net p ok K (one_list net n) (from_scratch net p K k) cut g.0 g.1 x.0 x.1 m mn))
             mine_or true mn =

@@ -25,7 +25,7 @@ abbrev pub IsSpaced : {P : Type 0} → (P → ℕ) → List (ℕ × P) → Type 
 IsSpaced {P} tx l = (m n : ℕ) (a b : ℕ × P) → m < n → nth l m ≡ Some a → nth l n ≡ Some b → a.0 + tx b.1 ≤ b.0
 
 -- all that is pending is at now or later
-pub record Good {P N : Type 0} (net : Net P N) (s : State P N) (now : ℕ) : Type 0 where
+pub record Invariant {P N : Type 0} (net : Net P N) (s : State P N) (now : ℕ) : Type 0 where
   pub later : (q : Key) (x : Event P) → get s.pending q ≡ Some x → now ≤ q.time
   pub counted : (c : ℕ) → s.arrived c ≤ length (s.sent c)
   pub arrival_is : (c t n : ℕ) (x : Event P) → get s.pending (key_of t (Arrive c) n) ≡ Some x → (y : P) × (x ≡ Delivery y) × (s.arrived c ≤ n) × (nth (s.sent c) n ≡ Some (t, y))
@@ -62,7 +62,7 @@ module _ {P : Type 0} where
       (nth_push l b y n f)
 
 module _ {P N : Type 0} (net : Net P N) (ok : IsNet net) where
-  module _ (s : State P N) (now : ℕ) (g : Good net s now) (k : Key) (x : Event P) (m : least s.pending ≡ Some (k, x)) where
+  module _ (s : State P N) (now : ℕ) (g : Invariant net s now) (k : Key) (x : Event P) (m : least s.pending ≡ Some (k, x)) where
     abbrev pub what : Effect P N
     what = effect net s.node s.port k.time k.place k.number x
 
@@ -292,8 +292,8 @@ module _ {P N : Type 0} (net : Net P N) (ok : IsNet net) where
     orderly_after : IsOrderly net (λ q. true) after
     orderly_after = orderly_step_at net ok (λ q. true) (all_by_node net) s g.orderly (k, x) is_pending
 
-    pub good_after : Good net after k.time
-    good_after = record {
+    pub invariant_after : Invariant net after k.time
+    invariant_after = record {
       later = later_after;
       counted = counted_after;
       arrival_is = arrival_is_after;

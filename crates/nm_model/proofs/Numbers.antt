@@ -15,9 +15,9 @@ use Rattle.nm_model.proofs.Keys.{key_at, same_key, least_has}
 use Rattle.nm_model.proofs.ListLemmas.{same_time, number_is, number_tied, option_cases}
 use Rattle.nm_model.proofs.Effects.{EffectIs, effect_is}
 use Rattle.nm_model.proofs.NewEvents.{peer_inj, start_pending, turned_case, sent_case, IsNew, Ends, Comes, GoesOn, pending_case}
-use Rattle.nm_model.proofs.Invariants.{Good, arrival_number, came_case}
+use Rattle.nm_model.proofs.Invariants.{Invariant, arrival_number, came_case}
 use Rattle.nm_model.proofs.Orders.{unstarted, all_by_node}
-use Rattle.nm_model.proofs.Runs.{good_run}
+use Rattle.nm_model.proofs.Runs.{invariant_run}
 
 pub place_tied : (q : Place) → same_place q q ≡ true
 place_tied (Arrive i) = number_tied i
@@ -88,8 +88,8 @@ module _ {P N : Type 0} (net : Net P N) where
       is : EffectIs net (one_list net n).port e.0.time e.0.place e.0.number e.1 does
       is = effect_is net ok (one_list net n).node (one_list net n).port e.0.time e.0.place e.0.number e.1
 
-      good : (now : ℕ) × Good net (one_list net n) now
-      good = good_run net ok n
+      good : (now : ℕ) × Invariant net (one_list net n) now
+      good = invariant_run net ok n
 
       has : (q : Place) → e.0.place ≡ q → get (one_list net n).pending (key_of e.0.time q e.0.number) ≡ Some e.1
       has q f = ap (get (one_list net n).pending) (sym (key_at e.0 q f)) ∙ least_has (one_list net n).pending e m
@@ -226,9 +226,9 @@ module _ {P N : Type 0} (net : Net P N) where
         h = numbered n
 
         go : (q : Place) → e.0.place ≡ q → e.0.number ≡ events_at net (same_place q) n
-        go (Arrive c) pl = let g = good_run net ok n in (arrival_number net ok (one_list net n) g.0 g.1 e.0 e.1 m c pl).2 ∙ h.arrivals c
+        go (Arrive c) pl = let g = invariant_run net ok n in (arrival_number net ok (one_list net n) g.0 g.1 e.0 e.1 m c pl).2 ∙ h.arrivals c
         go (Complete i) pl =
-            let g = good_run net ok n in
+            let g = invariant_run net ok n in
             let a = g.1.orderly.completion i e.0.time e.0.number e.1 (has n h e m (Complete i) pl) in
             let l = ap load a.2 in
             let c = h.completions i in omega (arith, a.4)

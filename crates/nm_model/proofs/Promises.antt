@@ -10,7 +10,7 @@ use Rattle.nm_model.specs.Partition.{in_part, comes_in}
 use Rattle.nm_model.specs.Replica.{from_scratch, IsWithin}
 use Rattle.nm_model.specs.Promise.{Promising, Plain, Tight, promise}
 use Rattle.nm_model.proofs.ListLemmas.{prefix_nth}
-use Rattle.nm_model.proofs.Runs.{good_run}
+use Rattle.nm_model.proofs.Runs.{invariant_run}
 use Rattle.nm_model.proofs.CutLaw.{cut_of, meets, since_run, out_timed}
 
 module _ {P N : Type 0} (net : Net P N) (ok : IsNet net) (p : ℕ) (K : Knowledge P) (last : ℕ) (ends : pends_before net.stop (one_list net last) ≡ false) (valid : (c : ℕ) → comes_in net p c ≡ true → IsValid (K c) ((one_list net last).sent c)) where
@@ -21,8 +21,8 @@ module _ {P N : Type 0} (net : Net P N) (ok : IsNet net) (p : ℕ) (K : Knowledg
     after_busy (Some u) f =
         let n = meets net ok p K last ends valid k w in
         let cut = cut_of net ok p K last ends valid n.0 k w n.2 in
-        let g = good_run net ok n.0 in
-        let gl = good_run net ok last in
+        let g = invariant_run net ok n.0 in
+        let gl = invariant_run net ok last in
         let port = cut.agrees.port (net.peer c) mc in
         let a = g.1.underway (net.peer c) u (ap (λ z. z.busy) port ∙ f) in
         let line : (one_list net n.0).sent (net.peer (net.peer c)) ≡ (one_list net n.0).sent c = ap (one_list net n.0).sent (ok.twice c) in

@@ -14,12 +14,12 @@ use Rattle.nm_model.proofs.ListLemmas.{nth_cong, below_nth, nth_push, prefix_sel
 use Rattle.nm_model.proofs.NewEvents.{start_pending, sent_case, sent_prefix, pending_case}
 use Rattle.nm_model.specs.Orderly.{IsByNode, IsOrderly}
 use Rattle.nm_model.proofs.Orders.{makes_later, orderly_start, orderly_run, all_by_node}
-use Rattle.nm_model.proofs.Invariants.{Good, new_later, good_after}
+use Rattle.nm_model.proofs.Invariants.{Invariant, new_later, invariant_after}
 use Rattle.nm_base.specs.declared.event.Event.{Event}
 
 module _ {P N : Type 0} (net : Net P N) where
-  good_start : IsNet net → Good net (start net (λ p. true) []) 0
-  good_start ok = record {
+  invariant_start : IsNet net → Invariant net (start net (λ p. true) []) 0
+  invariant_start ok = record {
     later = λ q x e. omega arith;
     counted = λ c. omega arith;
     arrival_is = λ c t n x e. absurd (let a = (start_pending net (key_of t (Arrive c) n) x e).1 in cc);
@@ -79,20 +79,20 @@ module _ {P N : Type 0} (net : Net P N) where
     since (suc d) s t g h = since_step s (run net here d s) t (orderly_run net ok here by_node d s g) (since d s t g h) _ refl
 
   module _ (ok : IsNet net) where
-    good_step : (s : State P N) (now : ℕ) → Good net s now → (o : Option (Key × Event P)) → least s.pending ≡ o → (later : ℕ) × Good net (step_at net (λ p. true) s o) later
-    good_step s now g None e = (now, g)
-    good_step s now g (Some e) m = (e.0.time, good_after net ok s now g e.0 e.1 m)
+    invariant_step : (s : State P N) (now : ℕ) → Invariant net s now → (o : Option (Key × Event P)) → least s.pending ≡ o → (later : ℕ) × Invariant net (step_at net (λ p. true) s o) later
+    invariant_step s now g None e = (now, g)
+    invariant_step s now g (Some e) m = (e.0.time, invariant_after net ok s now g e.0 e.1 m)
 
-    good_on : (n : ℕ) (s : State P N) (now : ℕ) → Good net s now → (later : ℕ) × Good net (run net (λ p. true) n s) later
-    good_on zero s now g = (now, g)
-    good_on (suc n) s now g = let h = good_on n s now g in good_step _ h.0 h.1 _ refl
+    invariant_on : (n : ℕ) (s : State P N) (now : ℕ) → Invariant net s now → (later : ℕ) × Invariant net (run net (λ p. true) n s) later
+    invariant_on zero s now g = (now, g)
+    invariant_on (suc n) s now g = let h = invariant_on n s now g in invariant_step _ h.0 h.1 _ refl
 
-    pub good_run : (n : ℕ) → (now : ℕ) × Good net (one_list net n) now
-    good_run n = good_on n _ 0 (good_start ok)
+    pub invariant_run : (n : ℕ) → (now : ℕ) × Invariant net (one_list net n) now
+    invariant_run n = invariant_on n _ 0 (invariant_start ok)
 
     pub keys_rise : (n : ℕ) (e f : Key × Event P) → least (one_list net n).pending ≡ Some e → least (one_list net (suc n)).pending ≡ Some f → IsUpTo e.0 f.0 × (f.0 ≢ e.0)
     keys_rise n e f h i =
-        let g = good_run n in
+        let g = invariant_run n in
         let s = one_list net n in
         let does = effect net s.node s.port e.0.time e.0.place e.0.number e.1 in
         let next : step net (λ p. true) s ≡ apply net (λ p. true) e.0 does s = ap (step_at net (λ p. true) s) h in

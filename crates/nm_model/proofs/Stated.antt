@@ -13,7 +13,7 @@ use Rattle.nm_model.specs.Network.{Net, IsNet}
 use Rattle.nm_model.specs.Before.{events_at, IsBefore, IsCount, IsKnowledge, history, trace}
 use Rattle.nm_model.specs.Run.{State, step, one_list, start, made}
 use Rattle.nm_model.proofs.Invariants.{arrival_number}
-use Rattle.nm_model.proofs.Runs.{good_run}
+use Rattle.nm_model.proofs.Runs.{invariant_run}
 use Rattle.nm_model.proofs.Traces.{ordered_run}
 use Rattle.nm_base.specs.declared.record.Record.{Record}
 use Rattle.nm_base.specs.declared.key.Place.{Place}
@@ -32,10 +32,10 @@ module _ {P N : Type 0} (net : Net P N) (ok : IsNet net) where
   before t = drains net ok (λ q. true) (all_by_node net) (start net (λ q. true) []) (orderly_whole net ok 0) t
 
   pub times : (n c : ℕ) → IsRising ((one_list net n).sent c)
-  times n c = (good_run net ok n).1.rising c
+  times n c = (invariant_run net ok n).1.rising c
 
   pub numbers : (n c : ℕ) (e : Key × Event P) → least (one_list net n).pending ≡ Some e → e.0.place ≡ Arrive c → e.0.number ≡ (one_list net n).arrived c
-  numbers n c e m pl = let g = good_run net ok n in (arrival_number net ok (one_list net n) g.0 g.1 e.0 e.1 m c pl).2
+  numbers n c e m pl = let g = invariant_run net ok n in (arrival_number net ok (one_list net n) g.0 g.1 e.0 e.1 m c pl).2
 
   pub makes_later : (n : ℕ) (e : Key × Event P) → least (one_list net n).pending ≡ Some e → (m : ℕ) (f : Key × Event P) → nth (made net (one_list net n) e) m ≡ Some f → e.0.time < f.0.time
   makes_later n e l m f a = made_after net ok (λ q. true) (all_by_node net) (one_list net n) (orderly_whole net ok n) e l m f a

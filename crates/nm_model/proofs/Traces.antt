@@ -17,8 +17,8 @@ use Rattle.nm_model.proofs.Keys.{least_has, least_min, up_to_time}
 use Rattle.nm_model.proofs.ListLemmas.{number_tied, number_apart, nth_prefix, prefix_nth, prefix_trans}
 use Rattle.nm_model.proofs.Effects.{effect_is}
 use Rattle.nm_model.proofs.NewEvents.{peer_inj, arrived_case, sent_case, sent_prefix, pending_case}
-use Rattle.nm_model.proofs.Invariants.{Good, arrival_number}
-use Rattle.nm_model.proofs.Runs.{good_run}
+use Rattle.nm_model.proofs.Invariants.{Invariant, arrival_number}
+use Rattle.nm_model.proofs.Runs.{invariant_run}
 use Rattle.nm_model.specs.Orderly.{IsByNode, IsOrderly}
 use Rattle.nm_model.proofs.Orders.{makes_later, orderly_run}
 use Rattle.nm_model.proofs.CutLaw.{quiet}
@@ -128,7 +128,7 @@ module _ {P N : Type 0} (net : Net P N) (ok : IsNet net) (i : ℕ) where
 
 -- the arrivals of an interface are the first of what was put on it
 module _ {P N : Type 0} (net : Net P N) (ok : IsNet net) (c : ℕ) where
-  came_step : (s : State P N) (now : ℕ) → Good net s now → s.arrived c ≡ length (passed In c s.records) → IsPrefix (passed In c s.records) (s.sent c) → (o : Option (Key × Event P)) → least s.pending ≡ o → IsPrefix (passed In c (step_at net (λ q. true) s o).records) ((step_at net (λ q. true) s o).sent c)
+  came_step : (s : State P N) (now : ℕ) → Invariant net s now → s.arrived c ≡ length (passed In c s.records) → IsPrefix (passed In c s.records) (s.sent c) → (o : Option (Key × Event P)) → least s.pending ≡ o → IsPrefix (passed In c (step_at net (λ q. true) s o).records) ((step_at net (λ q. true) s o).sent c)
   came_step s now g count h None m = h
   came_step s now g count h (Some e) m = prefix_trans _ _ _ longer (sent_prefix net e.0.time s.sent does.start c)
     where
@@ -152,14 +152,14 @@ module _ {P N : Type 0} (net : Net P N) (ok : IsNet net) (c : ℕ) where
 
   pub arrivals_begin : (n : ℕ) → IsPrefix (passed In c (one_list net n).records) ((one_list net n).sent c)
   arrivals_begin zero = ([], refl)
-  arrivals_begin (suc n) = let g = good_run net ok n in came_step (one_list net n) g.0 g.1 (arrived_counts net (λ q. true) c [] n) (arrivals_begin n) _ refl
+  arrivals_begin (suc n) = let g = invariant_run net ok n in came_step (one_list net n) g.0 g.1 (arrived_counts net (λ q. true) c [] n) (arrivals_begin n) _ refl
 
 module _ {P N : Type 0} (net : Net P N) (ok : IsNet net) (n : ℕ) where
   -- what starts arrives
   pub out_then_in : (t : ℕ) → pends_before t (one_list net n) ≡ false → (i m s : ℕ) (x : P) → nth (passed Out i (one_list net n).records) m ≡ Some (s, x) → s + net.tx i x + net.delay i < t → nth (passed In (net.peer i) (one_list net n).records) m ≡ Some (s + net.tx i x + net.delay i, x)
   out_then_in t over i m s x e lt =
       let at : nth ((one_list net n).sent (net.peer i)) m ≡ Some (s + net.tx i x + net.delay i, x) = ap (λ l. nth l m) (starts_are net ok i (λ q. true) [] n) ∙ nth_put_on net ok i _ m (s, x) e in
-      let g = (good_run net ok n).1 in
+      let g = (invariant_run net ok n).1 in
       let count = arrived_counts net (λ q. true) (net.peer i) [] n in
       nth_prefix _ _ m _ (arrivals_begin net ok (net.peer i) n) (⊎_elim
       (λ h. h)
@@ -179,7 +179,7 @@ module _ {P N : Type 0} (net : Net P N) (ok : IsNet net) (n : ℕ) where
       let line = starts_are net ok i (λ q. true) [] n in
       let a = ap (λ l. nth l m) line ∙ nth_put_on net ok i _ m (s, x) e in
       let b = ap (λ l. nth l k) line ∙ nth_put_on net ok i _ k (t, y) f in
-      let g = (good_run net ok n).1.spaced (net.peer i) m k (s + net.tx i x + net.delay i, x) (t + net.tx i y + net.delay i, y) lt a b in
+      let g = (invariant_run net ok n).1.spaced (net.peer i) m k (s + net.tx i x + net.delay i, x) (t + net.tx i y + net.delay i, y) lt a b in
       let z : net.tx (net.peer (net.peer i)) y ≡ net.tx i y = ap (λ j. net.tx j y) (ok.twice i) in
       omega arith
 
