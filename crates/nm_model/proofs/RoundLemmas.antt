@@ -12,7 +12,7 @@ use Rattle.nm_model.specs.Knowledge.{Knowledge, Know, IsValid, IsUnder, no_knowl
 use Rattle.nm_model.specs.Partition.{in_part, comes_in, sender_of}
 use Rattle.nm_model.specs.Lists.{nth, IsPrefix, IsRising}
 use Rattle.nm_model.specs.Network.{Net, IsNet}
-use Rattle.nm_model.specs.Before.{IsBefore, history, trace}
+use Rattle.nm_model.specs.Before.{IsKnowledge, IsBefore, history, trace}
 use Rattle.nm_model.specs.Run.{pends_before}
 use Rattle.nm_model.specs.Rounds.{round_count, given, hear_list, hear, promised, heard_on, IsRounds}
 use Rattle.nm_model.specs.World.{Replica}
@@ -239,11 +239,15 @@ module _ {P N : Type 0} (net : Net P N) (ok : IsNet net) (same : P → P → Boo
     },
   )
 
-module _ {P N : Type 0} (net : Net P N) (ok : IsNet net) (same : P → P → Bool) (eq : (x : P) → same x x ≡ true) (kind : Promising) (b : ℕ → ℕ → Replica P) (rounds : IsRounds net same kind b) (lead : ℕ) (leads : (p c : ℕ) → comes_in net p c ≡ true → lead ≤ lookahead net kind c) where
-  pub whole_traces : (j p last : ℕ) → net.stop ≤ j * lead → IsBefore net net.stop last → (from_scratch net p (b j p).knowledge (b (suc j) p).ran).records ≡ trace net p last
-  whole_traces j p last le e =
-      exact net ok p (b j p).knowledge (λ l d c ch. rounds_valid net ok same eq l d kind b rounds lead leads j p c ch) (b (suc j) p).ran last (rounds.runs j p)
-      (subst (λ t. IsBefore net t last) (sym (enough net ok same eq last e kind b rounds lead leads j p le)) e)
+module _ {P N : Type 0} (net : Net P N) (ok : IsNet net) (same : P → P → Bool) (eq : (x : P) → same x x ≡ true) (kind : Promising) (b : ℕ → ℕ → Replica P) (rounds : IsRounds net same kind b) where
+  pub known_true : (j p : ℕ) → IsKnowledge net p (b j p).knowledge
+  known_true j p last ends c ch = rounds_valid net ok same eq last ends kind b rounds 0 (λ q d dh. omega arith) j p c ch
+
+  pub traces_early : (j p last : ℕ) → safe_time net p (b j p).knowledge ≡ net.stop → IsBefore net net.stop last → (from_scratch net p (b j p).knowledge (b (suc j) p).ran).records ≡ trace net p last
+  traces_early j p last safe e = exact net ok p (b j p).knowledge (known_true j p) (b (suc j) p).ran last (rounds.runs j p) (subst (λ t. IsBefore net t last) (sym safe) e)
+
+  pub whole_traces : (lead : ℕ) → ((p c : ℕ) → comes_in net p c ≡ true → lead ≤ lookahead net kind c) → (j p last : ℕ) → net.stop ≤ j * lead → IsBefore net net.stop last → (from_scratch net p (b j p).knowledge (b (suc j) p).ran).records ≡ trace net p last
+  whole_traces lead leads j p last le e = traces_early j p last (enough net ok same eq last e kind b rounds lead leads j p le) e
 
 -- rounds are enough once they reach stop
 pub ceil_reaches : (stop lead : ℕ) → 1 ≤ lead → stop ≤ round_count stop lead * lead

@@ -1,4 +1,4 @@
-use Rattle.nm_model.proofs.RoundLemmas.{rounds_there, enough, finished, whole_traces, ceil_reaches, alone_safe}
+use Rattle.nm_model.proofs.RoundLemmas.{rounds_there, enough, finished, whole_traces, ceil_reaches, alone_safe, known_true, traces_early}
 use Rattle.nm_model.proofs.rounds.rounds_bound.Goals as goal
 
 pub returns-clause-there : goal.returns-clause-there
@@ -15,3 +15,9 @@ returns-clause-enough g c = λ stop lead h. ceil_reaches stop lead h
 
 pub returns-clause-alone : goal.returns-clause-alone
 returns-clause-alone g c = λ net p none K. alone_safe net p none K
+
+pub returns-clause-valid : goal.returns-clause-valid
+returns-clause-valid g c = λ net ok same eq kind b rounds j p. known_true net ok same eq kind b rounds j p
+
+pub returns-clause-early : goal.returns-clause-early
+returns-clause-early g c = λ net ok same eq kind b rounds j p last safe e. traces_early net ok same eq kind b rounds j p last safe e
