@@ -1,0 +1,3 @@
+pub mod Checksums
+pub mod Numbers
+pub mod Texts

@@ -1,0 +1,3 @@
+pub mod Address
+pub mod Checksum
+pub mod Octets
