@@ -1,3 +1,5 @@
 pub mod Address
 pub mod Checksum
+pub mod Fault
+pub mod Ipv4
 pub mod Octets
