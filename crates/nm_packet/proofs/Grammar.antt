@@ -102,7 +102,7 @@ IsIpv4-fields xs small packet = record {
 }
 
 module _ (h : Header) (payload : List ℕ) (fits : HeaderFits h) where
-  length-header_octets : length (header_octets h) ≡ 4 * h.ihl
+  pub length-header_octets : length (header_octets h) ≡ 4 * h.ihl
   length-header_octets = omega (arith, fits.length)
 
   header_length_of-spelled : header_length_of (header_octets h ++ payload) ≡ 4 * h.ihl

@@ -1,7 +1,8 @@
 -- IPv4 packets (RFC 791, section 3.1).
-use Rattle.std.specs.Prelude.{◌≡◌, ℕ, ◌+◌, ◌*◌, ◌/◌, ◌%◌, ◌<◌, ◌≤◌, ◌||◌, not, ◌==◌, nat_lt, List, ◌∷◌, ◌++◌, length, take, drop, slice_index, Option, Some, None, if◌then◌else◌}
+use Rattle.std.specs.Prelude.{◌≡◌, ℕ, ◌+◌, ◌-◌, ◌*◌, ◌/◌, ◌%◌, ◌<◌, ◌≤◌, ◌||◌, not, ◌==◌, nat_lt, List, [], ◌∷◌, ◌++◌, length, take, drop, slice_index, Option, Some, None, if◌then◌else◌}
 use Rattle.nm_packet.specs.Octets.{word, long_word, word_at, long_word_at}
-use Rattle.nm_packet.specs.Checksum.{word_sum, folded}
+use Rattle.nm_packet.specs.Checksum.{word_sum, folded, checksum_of}
+use Rattle.nm_packet.specs.declared.ipv4.Ipv4Header.{Ipv4Header}
 use Rattle.nm_packet.specs.declared.fault.HeaderFault.{HeaderFault}
 use Rattle.nm_packet.specs.declared.fault.HeaderFault.TheVariants.{Short, Version, Ihl, Checksum, Total}
 
@@ -96,3 +97,37 @@ pub record IsPacket (octets : List ℕ) : Type 0 where
   pub header : header_length_of octets ≤ length octets
   pub header_checksum : folded (word_sum (header_of octets)) ≡ 65535
   pub total_length : word_at octets 2 ≡ length octets
+
+-- the header with the checksum that is written, which is over all its other words
+abbrev pub checked : Header → Header
+checked h = record h { header_checksum = checksum_of (word_sum (header_octets (record h { header_checksum = 0 }))) }
+
+-- the octets of a packet as it is written
+abbrev pub packet_octets : Header → List ℕ → List ℕ
+packet_octets h payload = header_octets (checked h) ++ payload
+
+-- the header that is written before a payload of so many octets: without options, and no fragment
+abbrev pub plain_header : Ipv4Header → ℕ → Header
+plain_header h size = record {
+  ihl = 5;
+  type_of_service = h.type_of_service;
+  total_length = 20 + size;
+  identification = h.identification;
+  flags = 0;
+  fragment_offset = 0;
+  time_to_live = h.time_to_live;
+  protocol = h.protocol;
+  header_checksum = 0;
+  source = h.source;
+  destination = h.destination;
+  options = [];
+}
+
+-- the header one hop on (RFC 791, section 3.2)
+abbrev pub lowered : Header → Header
+lowered h = record h { time_to_live = h.time_to_live - 1 }
+
+-- what an error message quotes of a packet: its header as it came, and the first eight octets of its payload, or all
+-- of them where there are fewer (RFC 792)
+abbrev pub quote_of : List ℕ → List ℕ
+quote_of octets = header_of octets ++ take 8 (payload_of octets)

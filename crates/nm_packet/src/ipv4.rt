@@ -1,16 +1,22 @@
 //! IPv4 packets (RFC 791, section 3.1).
 
-ghost use Rattle.std.specs.Prelude.{IfOk, Ok, ◌++◌, ◌≡◌, ◌==◌, ◌%◌, ◌<◌, ◌≤◌, List, ℕ, length, None, Some, MatchResult};
-ghost use Rattle.nm_packet.specs.Ipv4.{Header, IsIpv4, IsPacket, cut_of, fields_of, header_fault, header_length_of, header_of, payload_of};
+ghost use Rattle.std.specs.Prelude.{IfOk, Ok, ◌++◌, ◌≡◌, ◌==◌, ◌%◌, ◌<◌, ◌≤◌, List, ℕ, length, None, Some, MatchResult, slice_index};
+ghost use Rattle.nm_packet.specs.Ipv4.{Header, IsIpv4, IsPacket, checked, cut_of, fields_of, header_fault, header_length_of, header_octets, header_of, lowered, packet_octets, payload_of, plain_header, quote_of};
 
 use crate::Address;
-use crate::checksum::sum_words;
+use crate::checksum::{checksum_of, sum_words};
 use crate::fault::HeaderFault;
-use crate::octets::{long_word_at, word_at};
+use crate::octets::{long_word_at, word, word_at};
+use bytes::Bytes;
+use nm_base::Packet;
+use std::alloc::{AllocError, Global};
 use std::marker::Model;
 
 /// The octets of a header without options.
 const LEAST_HEADER_OCTETS: usize = 20;
+
+/// The octets of the payload that an error message quotes, at most.
+const QUOTED_PAYLOAD_OCTETS: usize = 8;
 
 /// The protocol IPv4.
 #[derive(Clone, Copy, Debug)]
@@ -192,4 +198,118 @@ impl<'a> Ipv4View<'a> {
     {
         &self.octets[header_length(self.octets)..]
     }
+}
+
+/// The fields that a writer of packets chooses. The rest is plain: no options, no flags, no fragment.
+#[derive(Clone, Copy, Debug)]
+pub struct Ipv4Header {
+    pub type_of_service: u8,
+    pub identification: u16,
+    pub time_to_live: u8,
+    /// The number of the protocol of the payload: 1 is ICMP, 17 is UDP.
+    pub protocol: u8,
+    pub source: Address,
+    pub destination: Address,
+}
+
+impl Ipv4Header {
+    /// The octets of the header with this checksum, before a payload of so many octets.
+    fn octets_with(&self, size: u16, checksum: u16) -> [u8; LEAST_HEADER_OCTETS]
+        requires { size ≤ 65515 }
+        ensures { result ≡ header_octets (record (plain_header self.now size) { header_checksum = checksum }) }
+    {
+        let [l0, l1] = word(20 + size);
+        let [i0, i1] = word(self.identification);
+        let [c0, c1] = word(checksum);
+        let [s0, s1, s2, s3] = self.source.octets();
+        let [d0, d1, d2, d3] = self.destination.octets();
+        let (tos, ttl) = (self.type_of_service, self.time_to_live);
+        [
+            0x45,
+            tos,
+            l0,
+            l1,
+            i0,
+            i1,
+            0,
+            0,
+            ttl,
+            self.protocol,
+            c0,
+            c1,
+            s0,
+            s1,
+            s2,
+            s3,
+            d0,
+            d1,
+            d2,
+            d3,
+        ]
+    }
+
+    /// The octets of the header before a payload of so many octets.
+    fn octets(&self, size: u16) -> [u8; LEAST_HEADER_OCTETS]
+        requires { size ≤ 65515 }
+        ensures { result ≡ header_octets (checked (plain_header self.now size)) }
+    {
+        self.octets_with(size, checksum_of(&self.octets_with(size, 0)))
+    }
+}
+
+/// The packet with this header and this payload.
+pub fn write_ipv4(alloc: Global, header: &Ipv4Header, payload: &[u8]) -> Result<Packet, AllocError>
+    requires { length payload.now ≤ 65515 }
+    ensures { IfOk result (λ p. p ≡ packet_octets (plain_header header.now (length payload.now)) payload.now) }
+{
+    let mut octets = Vec::with_capacity(alloc, LEAST_HEADER_OCTETS + payload.len())?;
+    octets.extend_from_slice(&header.octets(payload.len() as u16))?;
+    octets.extend_from_slice(payload)?;
+    packet_from(octets)
+}
+
+/// The packet of these octets.
+fn packet_from(octets: Vec<u8>) -> Result<Packet, AllocError>
+    requires least { 1 ≤ length octets.items }
+    requires greatest { length octets.items ≤ 65535 }
+    ensures { IfOk result (λ p. p ≡ octets.items) }
+{
+    let octets = Bytes::from_vec(octets)?;
+    Ok(Packet::new(octets).unwrap())
+}
+
+/// What an error message quotes of a packet (RFC 792): its header as it came, with its options, and the first eight
+/// octets of its payload, or all of them where there are fewer. At most 68 octets.
+pub fn quote(alloc: Global, packet: &Ipv4View<'_>) -> Result<Vec<u8>, AllocError>
+    ensures value { IfOk result (λ v. v.items ≡ quote_of packet.now) }
+    ensures greatest { IfOk result (λ v. length v.items ≤ 68) }
+{
+    let octets = packet.octets();
+    let end = header_length(octets) + QUOTED_PAYLOAD_OCTETS;
+    Vec::from_slice(alloc, &octets[..end.min(octets.len())])
+}
+
+/// The packet one hop on: its time to live is one less and its header checksum is computed anew, and nothing else
+/// changes, options and payload included. The router must have seen a time to live of at least 1.
+pub fn lower_ttl(alloc: Global, packet: &Ipv4View<'_>) -> Result<Packet, AllocError>
+    requires { 1 ≤ (fields_of packet.now).time_to_live }
+    ensures { IfOk result (λ p. p ≡ packet_octets (lowered (fields_of packet.now)) (payload_of packet.now)) }
+{
+    let mut octets = Vec::from_slice(alloc, packet.octets())?;
+    lower(octets.as_mut_slice());
+    packet_from(octets)
+}
+
+/// Lowers the time to live by one, and writes the header checksum anew.
+fn lower(octets: &mut [u8])
+    requires packet { IsPacket octets.old }
+    requires live { 1 ≤ slice_index octets.old 8 }
+    ensures { octets.new ≡ packet_octets (lowered (fields_of octets.old)) (payload_of octets.old) }
+{
+    octets[8] -= 1;
+    octets[10] = 0;
+    octets[11] = 0;
+    let [high, low] = word(checksum_of(&octets[..header_length(octets)]));
+    octets[10] = high;
+    octets[11] = low;
 }

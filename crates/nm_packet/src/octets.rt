@@ -1,7 +1,7 @@
 //! Numbers in network byte order, the high octet first (RFC 791, appendix B).
 
 ghost use Rattle.std.specs.Prelude.{◌≡◌, ◌+◌, ◌≤◌, length};
-ghost use Rattle.nm_packet.specs.Octets.{word_at, long_word_at};
+ghost use Rattle.nm_packet.specs.Octets.{long_word_at, word, word_at};
 
 use byteorder::{BigEndian, ByteOrder};
 
@@ -19,4 +19,11 @@ pub(crate) fn long_word_at(octets: &[u8], place: usize) -> u32
     ensures { result ≡ long_word_at octets.now place }
 {
     BigEndian::read_u32(&octets[place..])
+}
+
+/// The two octets of a number of 16 bits.
+pub(crate) fn word(number: u16) -> [u8; 2]
+    ensures { result ≡ word number }
+{
+    number.to_be_bytes()
 }
