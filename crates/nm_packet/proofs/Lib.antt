@@ -2,6 +2,7 @@ pub mod Checksums
 pub mod Datagrams
 pub mod Faults
 pub mod Grammar
+pub mod Messages
 pub mod Numbers
 pub mod Texts
 pub mod Writing
