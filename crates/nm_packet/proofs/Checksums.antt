@@ -1,6 +1,8 @@
 -- Laws of the Internet checksum.
-use Rattle.std.proofs.Common.{◌≡◌, ℕ, zero, suc, ◌+◌, ◌-◌, ◌*◌, ◌/◌, ◌%◌, ◌<◌, ◌≤◌, List, [], ◌∷◌, ◌++◌, length, refl, ap, ◌∙◌, arith}
+use Rattle.std.proofs.Common.{◌≡◌, ℕ, zero, suc, ◌+◌, ◌-◌, ◌*◌, ◌/◌, ◌%◌, ◌<◌, ◌≤◌, ◌⊎◌, inl, inr, ⊎_elim, ◌==◌, List, [], ◌∷◌, ◌++◌, length, refl, sym, ap, ◌∙◌, arith}
 use Rattle.std.proofs.Math.Nat.{mod-add-mod, mod-eq_of_lt, add-mul-mod_self_right}
+use Rattle.std.proofs.lemmas.Bool.{cases_lt, cond_both, eqb-true, eqb-false}
+use Rattle.nm_packet.specs.Udp.{udp_checksum_of}
 use Rattle.nm_packet.specs.Checksum.{word_sum, folded, checksum_of}
 
 -- folding a part first changes nothing
@@ -35,3 +37,37 @@ folded-checksum_of (suc n) =
     let whole : suc n + (65535 - (n % 65535 + 1)) ≡ suc (65534 + n / 65535 * 65535) = omega arith in
     let rest : (65534 + n / 65535 * 65535) % 65535 + 1 ≡ 65535 = ap (λ (x : ℕ). x + 1) (add-mul-mod_self_right 65534 (n / 65535) 65535) in
     ap folded whole ∙ rest
+
+-- no other checksum completes the sum, but for 65535 where 0 is written
+pub one_checksum : (sum c : ℕ) → c ≤ 65535 → folded (sum + c) ≡ 65535 → (c ≡ checksum_of sum) ⊎ ((c ≡ 65535) × (checksum_of sum ≡ 0))
+one_checksum zero c small full =
+    let e : folded c ≡ 65535 = ap folded (let z : c ≡ 0 + c = omega arith in z) ∙ full in
+    inl (omega (arith, folded_small c small))
+one_checksum (suc n) c small full =
+    let e : suc n + c ≡ suc (n + c) = omega arith in
+    let rest : (n + c) % 65535 + 1 ≡ 65535 = ap folded (sym e) ∙ full in
+    ⊎_elim (λ h. inl (omega arith)) (λ h. inr (omega arith, omega arith)) (cases_lt (n % 65535 + c) 65535)
+
+-- where the checksum comes out as 0, 65535 completes the sum too
+folded-add_full : (sum : ℕ) → checksum_of sum ≡ 0 → folded (sum + 65535) ≡ 65535
+folded-add_full zero h = refl
+folded-add_full (suc n) h =
+    let e : suc n + 65535 ≡ suc (n + 65535) = omega arith in
+    let rest : (n + 65535) % 65535 + 1 ≡ 65535 = omega arith in
+    ap folded e ∙ rest
+
+-- UDP's checksum completes the sum, and is not 0
+pub folded-udp_checksum_of : (sum : ℕ) → folded (sum + udp_checksum_of sum) ≡ 65535
+folded-udp_checksum_of sum = cond_both (checksum_of sum == 0) 65535 (checksum_of sum) (λ (c : ℕ). folded (sum + c) ≡ 65535)
+    (λ e. folded-add_full sum (eqb-true _ 0 e))
+    (λ e. folded-checksum_of sum)
+
+pub udp_checksum_of_pos : (sum : ℕ) → 0 < udp_checksum_of sum
+udp_checksum_of_pos sum = cond_both (checksum_of sum == 0) 65535 (checksum_of sum) (λ (c : ℕ). 0 < c)
+    (λ e. omega arith)
+    (λ e. let other = eqb-false (checksum_of sum) 0 e in omega (arith, other))
+
+pub udp_checksum_of_le : (sum : ℕ) → udp_checksum_of sum ≤ 65535
+udp_checksum_of_le sum = cond_both (checksum_of sum == 0) 65535 (checksum_of sum) (λ (c : ℕ). c ≤ 65535)
+    (λ e. omega arith)
+    (λ e. omega arith)

@@ -4,5 +4,6 @@ pub mod Faults
 pub mod Grammar
 pub mod Messages
 pub mod Numbers
+pub mod RoundTrips
 pub mod Texts
 pub mod Writing

@@ -6,6 +6,7 @@ mod checksum;
 pub mod fault;
 pub mod icmp;
 pub mod ipv4;
+pub mod laws;
 mod octets;
 pub mod udp;
 
