@@ -71,3 +71,13 @@ pub udp_checksum_of_le : (sum : ℕ) → udp_checksum_of sum ≤ 65535
 udp_checksum_of_le sum = cond_both (checksum_of sum == 0) 65535 (checksum_of sum) (λ (c : ℕ). c ≤ 65535)
     (λ e. omega arith)
     (λ e. omega arith)
+
+-- A sum without d, where the whole completes with the checksum c, folds as the difference that c gives.
+pub folded-difference : (sum c d : ℕ) → 0 < sum → c ≤ 65535 → d < 65535 → folded (sum + d + c) ≡ 65535 → folded sum ≡ folded (65535 - c + (65535 - d))
+folded-difference zero c d some small less full = absurd (omega arith)
+folded-difference (suc n) c d some small less full =
+    let e : suc n + d + c ≡ suc (n + d + c) = omega arith in
+    let whole : (n + d + c) % 65535 + 1 ≡ 65535 = ap folded (sym e) ∙ full in
+    let f : 65535 - c + (65535 - d) ≡ suc (131069 - c - d) = omega arith in
+    let same : n % 65535 + 1 ≡ (131069 - c - d) % 65535 + 1 = omega arith in
+    same ∙ ap folded (sym f)

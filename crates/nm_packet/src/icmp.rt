@@ -77,7 +77,9 @@ impl Icmp {
         data: &[u8],
     ) -> Result<Vec<u8>, AllocError>
         requires { length «data».now ≤ 65527 }
-        ensures { IfOk result (λ v. v.items ≡ message_octets (icmp_header message_type code rest) «data».now) }
+        ensures value { IfOk result (λ v. v.items ≡ message_octets (icmp_header message_type code rest) «data».now) }
+        ensures grammar { IfOk result (λ v. IsIcmp (icmp_checked (icmp_header message_type code rest) «data».now)
+            «data».now v.items) }
     {
         let mut octets = Vec::with_capacity(alloc, HEADER_OCTETS + data.len())?;
         octets.extend_from_slice(&header(message_type, code, rest, data))?;

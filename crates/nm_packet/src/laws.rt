@@ -1,7 +1,7 @@
 //! Laws of the definitions: each function has an empty body, and its contract is the law.
 
-ghost use Rattle.std.specs.Prelude.{◌≡◌, ℕ, ◌+◌, ◌*◌, ◌<◌, ◌⊎◌, ◌++◌, List, length, None};
-ghost use Rattle.nm_packet.specs.Ipv4.{Header, HeaderFits, IsIpv4, checked, cut_of, fields_of, header_fault, packet_octets, payload_of};
+ghost use Rattle.std.specs.Prelude.{◌≡◌, ℕ, ◌+◌, ◌-◌, ◌*◌, ◌<◌, ◌≤◌, ◌⊎◌, ◌++◌, List, length, None};
+ghost use Rattle.nm_packet.specs.Ipv4.{Header, HeaderFits, IsIpv4, checked, cut_of, fields_of, header_fault, lowered, packet_octets, payload_of, updated_checksum};
 ghost use Rattle.nm_packet.specs.Udp.{IsUdp, UdpFits, UdpHeader, datagram_octets, udp_checked, udp_cut_of, udp_data_of, udp_fault, udp_fields_of};
 ghost use Rattle.nm_packet.specs.Icmp.{IcmpFits, IcmpHeader, IsIcmp, icmp_checked, icmp_data_of, icmp_fault, icmp_fields_of, message_octets};
 
@@ -25,6 +25,14 @@ pub fn ipv4_is_written_well()
 pub fn ipv4_is_what_is_written()
     ensures { (h : Header) (payload octets : List ℕ) → IsIpv4 h payload octets
         → (octets ≡ packet_octets h payload) ⊎ ((h.header_checksum ≡ 65535) × ((checked h).header_checksum ≡ 0)) }
+{}
+
+/// The checksum of the header one hop on, over all its other words, is also the one that RFC 1624 makes of the checksum
+/// that came and the one word that changed.
+pub fn lowered_checksum_by_difference()
+    ensures { (h : Header) (payload octets : List ℕ) → IsIpv4 h payload octets → 1 ≤ h.time_to_live
+        → (checked (lowered h)).header_checksum ≡ updated_checksum h.header_checksum
+        (h.time_to_live * 256 + h.protocol) ((h.time_to_live - 1) * 256 + h.protocol) }
 {}
 
 /// A datagram is read with the fields and the data that it was made of, whatever follows it.

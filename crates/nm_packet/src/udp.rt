@@ -118,8 +118,10 @@ impl Udp {
         data: &[u8],
     ) -> Result<Vec<u8>, AllocError>
         requires { length «data».now ≤ 65527 }
-        ensures { IfOk result (λ v. v.items ≡ datagram_octets source destination
+        ensures value { IfOk result (λ v. v.items ≡ datagram_octets source destination
             (udp_header source_port destination_port (length «data».now)) «data».now) }
+        ensures grammar { IfOk result (λ v. IsUdp source destination (udp_checked source destination
+            (udp_header source_port destination_port (length «data».now)) «data».now) «data».now v.items) }
     {
         let mut octets = Vec::with_capacity(alloc, HEADER_OCTETS + data.len())?;
         octets.extend_from_slice(&header(
