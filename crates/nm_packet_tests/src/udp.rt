@@ -1,0 +1,66 @@
+//! Datagrams at worked values.
+
+use nm_packet::{Address, Udp, UdpFault};
+use std::test::Fail;
+
+fn source() -> Address {
+    Address::from_octets([10, 0, 0, 1])
+}
+
+fn destination() -> Address {
+    Address::from_octets([10, 0, 0, 2])
+}
+
+#[test]
+fn are_written(rt: HostRuntime) -> Result<(), Fail> {
+    for (data, want) in [
+        ("e7e6", "03e80009000affffe7e6"),
+        ("ab", "03e8000900093ce8ab"),
+        ("", "03e800090008e7ea"),
+    ] {
+        let data = hex::decode(rt.alloc(), data)?;
+        let want = hex::decode(rt.alloc(), want)?;
+        assert!(rt; data.len() <= 2);
+        let octets = Udp::write(
+            rt.alloc(),
+            source(),
+            destination(),
+            1000,
+            9,
+            data.as_slice(),
+        )?;
+        assert_eq!(rt; octets.as_slice(), want.as_slice());
+        let view = Udp::read(source(), destination(), octets.as_slice())?;
+        assert_eq!(rt; view.source_port(), 1000);
+        assert_eq!(rt; view.destination_port(), 9);
+        assert_eq!(rt; usize::from(view.length()), octets.len());
+        assert_eq!(rt; view.data(), data.as_slice());
+    }
+    Ok(())
+}
+
+#[test]
+fn are_tested_in_order(rt: HostRuntime) -> Result<(), Fail> {
+    for (octets, want) in [
+        ("03e80009000affffe7e6", Ok(2)),
+        // without a checksum
+        ("03e80009000a0000e7e6", Ok(2)),
+        ("03e8000900093ce8ab", Ok(1)),
+        // what follows the length is left out of the data and of the sum
+        ("03e8000900093ce8abcd", Ok(1)),
+        ("03e80009000b0000aabbcc", Ok(3)),
+        ("03e80009000700", Err(UdpFault::Short)),
+        ("", Err(UdpFault::Short)),
+        ("03e8000900070000", Err(UdpFault::Length)),
+        ("03e80009000a0000", Err(UdpFault::Length)),
+        ("03e8000900093ce8ac", Err(UdpFault::Checksum)),
+        ("03e80009000a3ce8ac", Err(UdpFault::Length)),
+    ] {
+        let octets_read = hex::decode(rt.alloc(), octets)?;
+        let answer = Udp::read(source(), destination(), octets_read.as_slice()).map(|view| view
+            .data()
+            .len());
+        assert_eq!(rt; answer, want, "{octets}");
+    }
+    Ok(())
+}
