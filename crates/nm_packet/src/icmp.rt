@@ -1,12 +1,15 @@
 //! ICMP messages (RFC 792).
 
-ghost use Rattle.std.specs.Prelude.{◌≡◌, ◌<◌, ◌≤◌, List, [], ℕ, length, Some, None, Ok, IfOk, MatchResult};
+ghost use Rattle.std.specs.Prelude.{◌≡◌, ◌+◌, ◌<◌, ◌≤◌, List, [], ℕ, length, Some, None, Ok, IfOk, MatchResult};
+ghost use Rattle.nm_packet.specs.Ipv4.{IsIpv4, checked, packet_octets, plain_header};
 ghost use Rattle.nm_packet.specs.Icmp.{IcmpHeader, IsIcmp, icmp_checked, icmp_data_of, icmp_fault, icmp_fields_of, icmp_header, icmp_octets, message_octets};
 ghost use Rattle.nm_packet.specs.Octets.{word_at};
 
 use crate::checksum::sum_words;
 use crate::fault::IcmpFault;
+use crate::ipv4::{Ipv4Header, write_in_parts};
 use crate::octets::{word, word_at};
+use nm_base::Packet;
 use std::alloc::{AllocError, Global};
 use std::marker::Model;
 
@@ -85,6 +88,25 @@ impl Icmp {
         octets.extend_from_slice(&header(message_type, code, rest, data))?;
         octets.extend_from_slice(data)?;
         Ok(octets)
+    }
+
+    /// A packet with such a message as its payload, in one buffer. The header's protocol should be [`PROTOCOL`].
+    pub fn write_packet(
+        alloc: Global,
+        packet_header: &Ipv4Header,
+        message_type: u8,
+        code: u8,
+        rest: [u8; 4],
+        data: &[u8],
+    ) -> Result<Packet, AllocError>
+        requires { length «data».now ≤ 65507 }
+        ensures value { IfOk result (λ p. p ≡ packet_octets (plain_header packet_header.now (8 + length «data».now))
+            (message_octets (icmp_header message_type code rest) «data».now)) }
+        ensures grammar { IfOk result (IsIpv4 (checked (plain_header packet_header.now (8 + length «data».now)))
+            (message_octets (icmp_header message_type code rest) «data».now)) }
+    {
+        let front = header(message_type, code, rest, data);
+        write_in_parts(alloc, packet_header, &front, data)
     }
 }
 

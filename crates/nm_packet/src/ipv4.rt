@@ -1,6 +1,6 @@
 //! IPv4 packets (RFC 791, section 3.1).
 
-ghost use Rattle.std.specs.Prelude.{IfOk, Ok, ◌++◌, ◌≡◌, ◌==◌, ◌%◌, ◌<◌, ◌≤◌, List, ℕ, length, None, Some, MatchResult, slice_index};
+ghost use Rattle.std.specs.Prelude.{IfOk, Ok, ◌++◌, ◌≡◌, ◌+◌, ◌==◌, ◌%◌, ◌<◌, ◌≤◌, List, ℕ, length, None, Some, MatchResult, slice_index};
 ghost use Rattle.nm_packet.specs.Octets.{IsOctets};
 ghost use Rattle.nm_packet.specs.Ipv4.{Header, HeaderFits, IsIpv4, IsPacket, checked, cut_of, fields_of, header_fault, header_length_of, header_octets, header_of, lowered, packet_octets, payload_of, plain_header, quote_of};
 
@@ -268,9 +268,27 @@ pub fn write_ipv4(alloc: Global, header: &Ipv4Header, payload: &[u8]) -> Result<
     ensures value { IfOk result (λ p. p ≡ packet_octets (plain_header header.now (length payload.now)) payload.now) }
     ensures grammar { IfOk result (IsIpv4 (checked (plain_header header.now (length payload.now))) payload.now) }
 {
-    let mut octets = Vec::with_capacity(alloc, LEAST_HEADER_OCTETS + payload.len())?;
-    octets.extend_from_slice(&header.octets(payload.len() as u16))?;
-    octets.extend_from_slice(payload)?;
+    write_in_parts(alloc, header, &[], payload)
+}
+
+/// The packet with this header and a payload that is given in two parts, in one buffer.
+pub(crate) fn write_in_parts(
+    alloc: Global,
+    header: &Ipv4Header,
+    front: &[u8],
+    back: &[u8],
+) -> Result<Packet, AllocError>
+    requires { length front.now + length back.now ≤ 65515 }
+    ensures value { IfOk result (λ p. p
+        ≡ packet_octets (plain_header header.now (length front.now + length back.now)) (front.now ++ back.now)) }
+    ensures grammar { IfOk result
+        (IsIpv4 (checked (plain_header header.now (length front.now + length back.now))) (front.now ++ back.now)) }
+{
+    let size = front.len() + back.len();
+    let mut octets = Vec::with_capacity(alloc, LEAST_HEADER_OCTETS + size)?;
+    octets.extend_from_slice(&header.octets(size as u16))?;
+    octets.extend_from_slice(front)?;
+    octets.extend_from_slice(back)?;
     packet_from(octets)
 }
 

@@ -1,13 +1,16 @@
 //! UDP datagrams (RFC 768).
 
-ghost use Rattle.std.specs.Prelude.{◌≡◌, ◌++◌, ◌<◌, ◌≤◌, List, [], ℕ, length, Some, None, Ok, IfOk, MatchResult};
+ghost use Rattle.std.specs.Prelude.{◌≡◌, ◌+◌, ◌++◌, ◌<◌, ◌≤◌, List, [], ℕ, length, Some, None, Ok, IfOk, MatchResult};
 ghost use Rattle.nm_packet.specs.Checksum.{folded, word_sum};
+ghost use Rattle.nm_packet.specs.Ipv4.{IsIpv4, checked, packet_octets, plain_header};
 ghost use Rattle.nm_packet.specs.Udp.{IsDatagram, IsUdp, UdpHeader, datagram_octets, udp_checked, pseudo_header, udp_cut_of, udp_data_of, udp_fault, udp_fields_of, udp_header, udp_octets, udp_sum};
 
 use crate::Address;
 use crate::checksum::sum_words;
 use crate::fault::UdpFault;
+use crate::ipv4::{Ipv4Header, write_in_parts};
 use crate::octets::{word, word_at};
+use nm_base::Packet;
 use std::alloc::{AllocError, Global};
 use std::marker::Model;
 
@@ -133,6 +136,27 @@ impl Udp {
         ))?;
         octets.extend_from_slice(data)?;
         Ok(octets)
+    }
+
+    /// A packet with such a datagram as its payload, in one buffer. The header's protocol should be [`PROTOCOL`].
+    pub fn write_packet(
+        alloc: Global,
+        packet_header: &Ipv4Header,
+        source_port: u16,
+        destination_port: u16,
+        data: &[u8],
+    ) -> Result<Packet, AllocError>
+        requires { length «data».now ≤ 65507 }
+        ensures value { let h = packet_header.now in IfOk result (λ p. p ≡ packet_octets
+            (plain_header h (8 + length «data».now)) (datagram_octets h.source h.destination
+            (udp_header source_port destination_port (length «data».now)) «data».now)) }
+        ensures grammar { let h = packet_header.now in IfOk result (IsIpv4
+            (checked (plain_header h (8 + length «data».now))) (datagram_octets h.source h.destination
+            (udp_header source_port destination_port (length «data».now)) «data».now)) }
+    {
+        let (source, destination) = (packet_header.source, packet_header.destination);
+        let front = header(source, destination, source_port, destination_port, data);
+        write_in_parts(alloc, packet_header, &front, data)
     }
 }
 

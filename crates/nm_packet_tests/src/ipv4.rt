@@ -221,6 +221,8 @@ fn are_written(rt: HostRuntime) -> Result<(), Fail> {
         72,
     )?;
     assert_eq!(rt; packet.octets(), want.as_slice());
+    let at_once = Udp::write_packet(rt.alloc(), &header, 1000, 9, &[0; 72])?;
+    assert_eq!(rt; at_once.octets(), want.as_slice());
     let quoted = quote(rt.alloc(), &Ipv4::read(packet.octets())?)?;
     let message = Icmp::write(rt.alloc(), 11, 0, [0; 4], quoted.as_slice())?;
     assert_eq!(rt; message.len(), 36);
@@ -238,5 +240,7 @@ fn are_written(rt: HostRuntime) -> Result<(), Fail> {
         "4500003800000000400166c30a0000020a0000010b000a640000000045000064000000000111a4870a0000010a00010203e800090050e65a",
     )?;
     assert_eq!(rt; error.octets(), want.as_slice());
+    let at_once = Icmp::write_packet(rt.alloc(), &header, 11, 0, [0; 4], quoted.as_slice())?;
+    assert_eq!(rt; at_once.octets(), want.as_slice());
     Ok(())
 }
