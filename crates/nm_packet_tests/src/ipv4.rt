@@ -199,48 +199,58 @@ fn are_quoted(rt: HostRuntime) -> Result<(), Fail> {
     Ok(())
 }
 
-/// A router's answer to a packet that may live no longer.
-#[test]
-fn are_written(rt: HostRuntime) -> Result<(), Fail> {
-    let source = Address::from_octets([10, 0, 0, 1]);
-    let destination = Address::from_octets([10, 0, 1, 2]);
-    let datagram = Udp::write(rt.alloc(), source, destination, 1000, 9, &[0; 72])?;
-    assert_eq!(rt; datagram.len(), 80);
-    let header = Ipv4Header {
+fn header(time_to_live: u8, protocol: u8, source: [u8; 4], destination: [u8; 4]) -> Ipv4Header {
+    Ipv4Header {
         type_of_service: 0,
         identification: 0,
-        time_to_live: 1,
-        protocol: 17,
-        source,
-        destination,
-    };
-    let packet = write_ipv4(rt.alloc(), &header, datagram.as_slice())?;
+        time_to_live,
+        protocol,
+        source: Address::from_octets(source),
+        destination: Address::from_octets(destination),
+    }
+}
+
+#[test]
+fn are_written(rt: HostRuntime) -> Result<(), Fail> {
+    let payload = hex::decode(rt.alloc(), "03e800090050e65a")?;
+    assert!(rt; payload.len() <= 65_515);
+    let header = header(1, 17, [10, 0, 0, 1], [10, 0, 1, 2]);
+    let packet = write_ipv4(rt.alloc(), &header, payload.as_slice())?;
+    let want = hex::decode(
+        rt.alloc(),
+        "4500001c000000000111a4cf0a0000010a00010203e800090050e65a",
+    )?;
+    assert_eq!(rt; packet.octets(), want.as_slice());
+    Ok(())
+}
+
+#[test]
+fn are_written_with_a_datagram(rt: HostRuntime) -> Result<(), Fail> {
+    let header = header(1, 17, [10, 0, 0, 1], [10, 0, 1, 2]);
+    let packet = Udp::write_packet(rt.alloc(), &header, 1000, 9, &[0; 72])?;
     let want = padded(
         rt.alloc(),
         "45000064000000000111a4870a0000010a00010203e800090050e65a",
         72,
     )?;
     assert_eq!(rt; packet.octets(), want.as_slice());
-    let at_once = Udp::write_packet(rt.alloc(), &header, 1000, 9, &[0; 72])?;
-    assert_eq!(rt; at_once.octets(), want.as_slice());
-    let quoted = quote(rt.alloc(), &Ipv4::read(packet.octets())?)?;
-    let message = Icmp::write(rt.alloc(), 11, 0, [0; 4], quoted.as_slice())?;
-    assert_eq!(rt; message.len(), 36);
-    let header = Ipv4Header {
-        type_of_service: 0,
-        identification: 0,
-        time_to_live: 64,
-        protocol: 1,
-        source: Address::from_octets([10, 0, 0, 2]),
-        destination: source,
-    };
-    let error = write_ipv4(rt.alloc(), &header, message.as_slice())?;
+    Ok(())
+}
+
+/// A router's answer to a packet that may live no longer.
+#[test]
+fn are_written_with_a_message(rt: HostRuntime) -> Result<(), Fail> {
+    let quoted = hex::decode(
+        rt.alloc(),
+        "45000064000000000111a4870a0000010a00010203e800090050e65a",
+    )?;
+    assert!(rt; quoted.len() <= 68);
+    let header = header(64, 1, [10, 0, 0, 2], [10, 0, 0, 1]);
+    let error = Icmp::write_packet(rt.alloc(), &header, 11, 0, [0; 4], quoted.as_slice())?;
     let want = hex::decode(
         rt.alloc(),
         "4500003800000000400166c30a0000020a0000010b000a640000000045000064000000000111a4870a0000010a00010203e800090050e65a",
     )?;
     assert_eq!(rt; error.octets(), want.as_slice());
-    let at_once = Icmp::write_packet(rt.alloc(), &header, 11, 0, [0; 4], quoted.as_slice())?;
-    assert_eq!(rt; at_once.octets(), want.as_slice());
     Ok(())
 }
