@@ -1,6 +1,7 @@
 //! Datagrams at worked values.
 
 use nm_packet::{Address, Udp, UdpFault};
+use std::alloc::Global;
 use std::test::Fail;
 
 fn source() -> Address {
@@ -11,6 +12,14 @@ fn destination() -> Address {
     Address::from_octets([10, 0, 0, 2])
 }
 
+fn datagram(alloc: Global, data: &str) -> Result<Vec<u8>, Fail> {
+    let data = hex::decode(alloc, data)?;
+    if data.len() > 65_527 {
+        return Err("too long".into());
+    }
+    Ok(Udp::write(alloc, source(), destination(), 1000, 9, data.as_slice())?)
+}
+
 #[test]
 fn are_written(rt: HostRuntime) -> Result<(), Fail> {
     for (data, want) in [
@@ -18,24 +27,20 @@ fn are_written(rt: HostRuntime) -> Result<(), Fail> {
         ("ab", "03e8000900093ce8ab"),
         ("", "03e800090008e7ea"),
     ] {
-        let data = hex::decode(rt.alloc(), data)?;
+        let octets = datagram(rt.alloc(), data)?;
         let want = hex::decode(rt.alloc(), want)?;
-        assert!(rt; data.len() <= 2);
-        let octets = Udp::write(
-            rt.alloc(),
-            source(),
-            destination(),
-            1000,
-            9,
-            data.as_slice(),
-        )?;
         assert_eq!(rt; octets.as_slice(), want.as_slice());
-        let view = Udp::read(source(), destination(), octets.as_slice())?;
-        assert_eq!(rt; view.source_port(), 1000);
-        assert_eq!(rt; view.destination_port(), 9);
-        assert_eq!(rt; usize::from(view.length()), octets.len());
-        assert_eq!(rt; view.data(), data.as_slice());
     }
+    Ok(())
+}
+
+#[test]
+fn have_fields(rt: HostRuntime) -> Result<(), Fail> {
+    let octets = hex::decode(rt.alloc(), "03e80009000affffe7e6")?;
+    let view = Udp::read(source(), destination(), octets.as_slice())?;
+    assert_eq!(rt; (view.source_port(), view.destination_port()), (1000, 9));
+    assert_eq!(rt; (view.length(), view.checksum()), (10, 0xffff));
+    assert_eq!(rt; view.data(), [0xe7, 0xe6].as_slice());
     Ok(())
 }
 
