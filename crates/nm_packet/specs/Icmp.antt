@@ -41,7 +41,7 @@ icmp_fields_of octets = record {
 abbrev pub icmp_data_of : List ℕ → List ℕ
 icmp_data_of octets = drop 8 octets
 
--- the first test of a message that fails
+-- the first test of a message that fails, None where all pass
 abbrev pub icmp_fault : List ℕ → Option IcmpFault
 icmp_fault octets = if nat_lt (length octets) 8 then Some Short
     else (if not (folded (word_sum octets) == 65535) then Some Checksum else None)

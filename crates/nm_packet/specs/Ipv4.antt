@@ -79,7 +79,7 @@ fields_of octets = record {
 abbrev pub cut_of : List ℕ → List ℕ
 cut_of octets = take (word_at octets 2) octets
 
--- the first test of a header that fails
+-- the first test of a header that fails, None where all pass
 abbrev pub header_fault : List ℕ → Option HeaderFault
 header_fault octets = if nat_lt (length octets) 20 then Some Short
     else (if not (slice_index octets 0 / 16 == 4) then Some Version
@@ -88,7 +88,8 @@ header_fault octets = if nat_lt (length octets) 20 then Some Short
     else (if nat_lt (word_at octets 2) (header_length_of octets) || nat_lt (length octets) (word_at octets 2) then Some Total
     else None))))
 
--- the octets pass the tests, and nothing follows the packet
+-- The octets pass the tests, and nothing follows the packet. This is the grammar as the tests have it: octets are such a
+-- packet where `IsIpv4` holds of the fields and the payload that are read of them.
 pub record IsPacket (octets : List ℕ) : Type 0 where
   pub least : 20 ≤ length octets
   pub greatest : length octets < 65536

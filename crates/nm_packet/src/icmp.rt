@@ -58,7 +58,7 @@ fn header(message_type: u8, code: u8, rest: [u8; 4], data: &[u8]) -> [u8; HEADER
 }
 
 impl Icmp {
-    /// The message that these octets are, all of them.
+    /// The message that these octets are, all of them, lent and not copied.
     pub fn read(octets: &[u8]) -> Result<IcmpView<'_>, IcmpFault>
         // What is read is a message, spelled by its fields and its data.
         ensures found { IfOk result (λ v. IsIcmp (icmp_fields_of v) (icmp_data_of v) v) }
@@ -71,7 +71,7 @@ impl Icmp {
         tested(octets)
     }
 
-    /// The message with this type, code, rest of the header and data.
+    /// The message with this type, code, rest of the header and data. Up to 65,507 octets of data fit a packet.
     pub fn write(
         alloc: Global,
         message_type: u8,

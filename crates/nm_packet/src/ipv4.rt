@@ -74,7 +74,8 @@ fn tested(octets: &[u8]) -> Result<Ipv4View<'_>, HeaderFault>
 }
 
 impl Ipv4 {
-    /// The packet at the front of these octets. What follows its total length is left out.
+    /// The packet at the front of these octets, which are lent and not copied. What follows its total length is left
+    /// out.
     pub fn read(octets: &[u8]) -> Result<Ipv4View<'_>, HeaderFault>
         // What is read is a packet, spelled by its fields and its payload.
         ensures found { IfOk result (λ v. IsIpv4 (fields_of v) (payload_of v) v) }
@@ -262,7 +263,7 @@ impl Ipv4Header {
     }
 }
 
-/// The packet with this header and this payload.
+/// The packet with this header and this payload, which may have up to 65,515 octets.
 pub fn write_ipv4(alloc: Global, header: &Ipv4Header, payload: &[u8]) -> Result<Packet, AllocError>
     requires { length payload.now ≤ 65515 }
     ensures value { IfOk result (λ p. p ≡ packet_octets (plain_header header.now (length payload.now)) payload.now) }
@@ -314,7 +315,7 @@ pub fn quote(alloc: Global, packet: &Ipv4View<'_>) -> Result<Vec<u8>, AllocError
 }
 
 /// The packet one hop on: its time to live is one less and its header checksum is computed anew, and nothing else
-/// changes, options and payload included. The router must have seen a time to live of at least 1.
+/// changes, options and payload included. Asks for a time to live of at least 1; the octets are copied once.
 pub fn lower_ttl(alloc: Global, packet: &Ipv4View<'_>) -> Result<Packet, AllocError>
     requires { 1 ≤ (fields_of packet.now).time_to_live }
     ensures value { IfOk result (λ p. p ≡ packet_octets (lowered (fields_of packet.now)) (payload_of packet.now)) }

@@ -91,8 +91,8 @@ fn header_with(
 }
 
 impl Udp {
-    /// The datagram at the front of the payload of a packet between these addresses. What follows its length is left
-    /// out.
+    /// The datagram at the front of the payload of a packet between these addresses, lent and not copied. What follows
+    /// its length is left out.
     pub fn read(
         source: Address,
         destination: Address,
@@ -111,7 +111,8 @@ impl Udp {
         tested(source, destination, octets)
     }
 
-    /// The datagram with these ports and data, with a checksum, for a packet between these addresses.
+    /// The datagram with these ports and data, with a checksum, for a packet between these addresses. Up to 65,527
+    /// octets of data fit a datagram, and up to 65,507 of them a packet.
     pub fn write(
         alloc: Global,
         source: Address,
