@@ -1,0 +1,9 @@
+pub mod Checksums
+pub mod Datagrams
+pub mod Faults
+pub mod Grammar
+pub mod Messages
+pub mod Numbers
+pub mod RoundTrips
+pub mod Texts
+pub mod Writing
