@@ -1,0 +1,2 @@
+mod Nexts
+mod Differences
