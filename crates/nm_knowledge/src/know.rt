@@ -5,6 +5,7 @@ ghost use Rattle.std.specs.Option.{option_map};
 ghost use Rattle.nm_model.specs.Lists.{nth};
 ghost use Rattle.nm_model.specs.Knowledge.{nothing_known, IsKnow};
 ghost use Rattle.nm_model.specs.Accept.{accept_data, accept_null};
+ghost use Rattle.nm_knowledge.specs.declared.know.TheConstants.{MAX_MESSAGES};
 ghost use Rattle.nm_knowledge.specs.Answers.{answer};
 ghost use Rattle.nm_knowledge.specs.Octets.{same_octets};
 ghost use Rattle.nm_knowledge.specs.Outcome.{Accepts, Joins};
@@ -16,11 +17,12 @@ use nm_model::knowledge::{accept_laws, join_laws};
 use std::alloc::{AllocError, Global};
 use std::marker::Model;
 
-/// More messages of a channel than these are refused as if memory were.
+/// The most messages of a channel. One more is refused as if its memory were.
 pub const MAX_MESSAGES: usize = 1 << 50;
 
 /// What is known of a channel: its first messages, each with its time of arrival, and a clock, at or after which all later
-/// messages arrive. The times of the messages rise, up to the clock. Packets are shared, and no call copies their octets.
+/// messages arrive. The times of the messages rise, up to the clock. Packets are shared, and no call copies their octets. A
+/// clause sees the list of (time, packet) and the clock.
 #[derive(Drop)]
 pub struct Know {
     messages: Vec<(Time, Packet)>,
@@ -49,9 +51,10 @@ impl Know {
         }
     }
 
-    /// How many messages are known, which is the number of the next one.
+    /// How many messages are known, at most 2^50, which is the number of the next one.
     pub fn len(&self) -> usize
-        ensures { result ≡ length self.now.list }
+        ensures value { result ≡ length self.now.list }
+        ensures most { result ≤ MAX_MESSAGES }
     {
         self.messages.len()
     }
@@ -88,7 +91,7 @@ impl Know {
         ensures { IfOk result (λ copy. copy ≡ self.now) }
     {
         let mut messages = Vec::new(alloc);
-        messages.extend_with_clones(self.messages.as_slice())?;
+        messages.extend_with_clones(&self.messages)?;
         Ok(Know {
             messages,
             clock: self.clock,
@@ -127,7 +130,7 @@ impl Know {
                 clock: self.clock.nanoseconds(),
             });
         }
-        if is_at_last(self.messages.as_slice(), time) {
+        if is_at_last(&self.messages, time) {
             return Err(KnowFault::NotRising);
         }
         if self.messages.len() >= MAX_MESSAGES {
@@ -181,25 +184,23 @@ impl Know {
     pub fn merge(&mut self, other: &Know) -> Result<(), KnowFault>
         ensures { Joins self.old self.new other.now result }
     {
-        if let Some(number) = first_difference(
-            self.messages.as_slice(),
-            other.messages.as_slice(),
-        ) {
+        let differing = first_difference(&self.messages, &other.messages);
+        if let Some(number) = differing {
             return Err(KnowFault::Differs {
                 number: number as u64,
             });
         }
-        if is_before(other.messages.as_slice(), self.messages.len(), self.clock) {
+        if is_before(&other.messages, self.messages.len(), self.clock) {
             return Err(KnowFault::Late {
                 clock: self.clock.nanoseconds(),
             });
         }
-        if is_before(self.messages.as_slice(), other.messages.len(), other.clock) {
+        if is_before(&self.messages, other.messages.len(), other.clock) {
             return Err(KnowFault::Late {
                 clock: other.clock.nanoseconds(),
             });
         }
-        take_rest(&mut self.messages, other.messages.as_slice())?;
+        take_rest(&mut self.messages, &other.messages)?;
         // It keeps times rising up to the clock.
         join_laws::<Packet>();
         self.clock = self.clock.max(other.clock);

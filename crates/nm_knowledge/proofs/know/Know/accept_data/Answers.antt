@@ -11,7 +11,7 @@ pub returns-in_err-push : goal.returns-in_err-push
 returns-in_err-push c =
     let next : c.args.number ≡ length c.self.inside.messages.items = omega arith in
     let later : c.self.inside.clock ≤ c.args.time = grind (arith, common_steps, c.if-lt.false, c.lt.ensures) in
-    let rises : last_from c.args.time c.self.inside.messages.items ≡ false = grind (arith, common_steps, c.if-is_at_last.false, c.is_at_last.ensures, c.as_slice.ensures.value) in
+    let rises : last_from c.args.time c.self.inside.messages.items ≡ false = grind (arith, common_steps, c.if-is_at_last.false, c.is_at_last.ensures) in
     let new = data_is_new (record { list = c.self.inside.messages.items; clock = c.self.inside.clock }) c.args.number next same_octets (c.args.time, c.args.packet.now) later rises in
     let items : c.push.new.self.items ≡ c.self.inside.messages.items = search rules in
     let memory : c.from_residual-in_err-push.result ≡ Err Memory = search rules in
@@ -21,7 +21,7 @@ pub invariant_of-self-2 : goal.invariant_of-self-2
 invariant_of-self-2 c =
     let next : c.args.number ≡ length c.self.inside.messages.items = omega arith in
     let later : c.self.inside.clock ≤ c.args.time = grind (arith, common_steps, c.if-lt.false, c.lt.ensures) in
-    let rises : last_from c.args.time c.self.inside.messages.items ≡ false = grind (arith, common_steps, c.if-is_at_last.false, c.is_at_last.ensures, c.as_slice.ensures.value) in
+    let rises : last_from c.args.time c.self.inside.messages.items ≡ false = grind (arith, common_steps, c.if-is_at_last.false, c.is_at_last.ensures) in
     let new = data_is_new (record { list = c.self.inside.messages.items; clock = c.self.inside.clock }) c.args.number next same_octets (c.args.time, c.args.packet.now) later rises in
     let items : c.push.new.self.items ≡ c.self.inside.messages.items ++ (c.args.time, c.args.packet.now) ∷ [] = search rules in
     let kept = c.accept_laws.ensures.data_keeps same_octets (record { list = c.self.inside.messages.items; clock = c.self.inside.clock }) c.args.number (c.args.time, c.args.packet.now) c.self.invariant.0 in
@@ -31,7 +31,7 @@ pub returns : goal.returns
 returns c =
     let next : c.args.number ≡ length c.self.inside.messages.items = omega arith in
     let later : c.self.inside.clock ≤ c.args.time = grind (arith, common_steps, c.if-lt.false, c.lt.ensures) in
-    let rises : last_from c.args.time c.self.inside.messages.items ≡ false = grind (arith, common_steps, c.if-is_at_last.false, c.is_at_last.ensures, c.as_slice.ensures.value) in
+    let rises : last_from c.args.time c.self.inside.messages.items ≡ false = grind (arith, common_steps, c.if-is_at_last.false, c.is_at_last.ensures) in
     let new = data_is_new (record { list = c.self.inside.messages.items; clock = c.self.inside.clock }) c.args.number next same_octets (c.args.time, c.args.packet.now) later rises in
     let items : c.push.new.self.items ≡ c.self.inside.messages.items ++ (c.args.time, c.args.packet.now) ∷ [] = search rules in
     rw (← c.self.view_is) (ap (λ r. Some r.answer) new, (λ i. record { list = items i; clock = c.args.time }) ∙ sym (ap (λ r. r.after) new))
