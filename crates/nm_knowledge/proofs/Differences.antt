@@ -1,5 +1,5 @@
 -- Lists of messages that do not differ.
-use Rattle.std.proofs.Common.{◌≡◌, ℕ, zero, suc, ◌<◌, ◌≤◌, min, get_or, ◌==◌, Bool, true, false, cond, ltb, leb, List, [], ◌∷◌, ◌++◌, length, drop, Option, Some, None, refl, sym, ap, ap₂, ◌∙◌, subst, arith, append-nil}
+use Rattle.std.proofs.Common.{◌≡◌, ℕ, zero, suc, ◌<◌, ◌≤◌, min, get_or, ◌==◌, Bool, true, false, cond, leb, List, [], ◌∷◌, ◌++◌, length, drop, Some, None, refl, sym, ap, ap₂, ◌∙◌, arith, append-nil}
 use Rattle.std.proofs.lemmas.Bool.Decides.{nat_tests}
 use Rattle.std.proofs.Math.Seq.{drop-length}
 use Rattle.std.specs.Cmp.{first_so, second_so}
@@ -7,7 +7,7 @@ use Rattle.std.specs.Cmp.Lexicographic.{bytes_decides}
 use Rattle.nm_model.specs.Lists.{nth}
 use Rattle.nm_model.specs.Knowledge.{Know}
 use Rattle.nm_model.specs.Accept.{same_message, IsReflexive, TellsApart}
-use Rattle.nm_model.specs.Join.{first_differs, late_past, or_else, differs_at, join_fault, join}
+use Rattle.nm_model.specs.Join.{first_differs, late_past, or_else, differs_at, join_fault}
 use Rattle.nm_knowledge.specs.Octets.{same_octets}
 use Rattle.nm_knowledge.specs.Outcome.{longer}
 

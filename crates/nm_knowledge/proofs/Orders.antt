@@ -1,7 +1,7 @@
 -- Knowledge after several messages and null messages is the least in which each is told.
 use Rattle.std.proofs.Common.{◌≡◌, ℕ, zero, suc, ◌<◌, ◌≤◌, ◌⊎◌, max, Bool, List, [], ◌∷◌, ◌++◌, length, get_or, Option, Some, None, refl, sym, ap, ◌∙◌, subst, arith, ⊎_elim, length-append}
 use Rattle.std.specs.List.{Contains}
-use Rattle.nm_model.specs.Lists.{nth, IsPrefix, IsRising}
+use Rattle.nm_model.specs.Lists.{nth}
 use Rattle.nm_model.specs.Knowledge.{Know, IsKnow, IsUnder}
 use Rattle.nm_model.specs.Accept.{TellsApart, accept_data, accept_null}
 use Rattle.nm_knowledge.specs.Order.{Told, Data, Null, accept, IsAccepted, AreAccepted, told_all}

@@ -1,10 +1,10 @@
 -- What was accepted, and what it left.
-use Rattle.std.proofs.Common.{◌≡◌, ℕ, ◌<◌, ◌≤◌, ◌==◌, max, Bool, true, false, cond, ltb, List, [], ◌∷◌, ◌++◌, length, Option, Some, None, refl, sym, ap, ◌∙◌, subst, arith}
+use Rattle.std.proofs.Common.{◌≡◌, ℕ, ◌<◌, ◌≤◌, ◌==◌, max, Bool, true, false, cond, ltb, [], ◌∷◌, ◌++◌, length, Some, None, refl, ap, ◌∙◌, subst, arith}
 use Rattle.std.proofs.lemmas.Bool.Decides.{nat_tests}
 use Rattle.std.specs.Cmp.{first_so, second_so}
 use Rattle.nm_model.specs.Lists.{nth}
 use Rattle.nm_model.specs.Knowledge.{Know}
-use Rattle.nm_model.specs.Accept.{Answer, New, Raised, Known, Gap, Differs, Late, NotRising, Contrary, Accepted, TellsApart, same_message, last_from, data_at, accept_data, null_at, accept_null}
+use Rattle.nm_model.specs.Accept.{New, Raised, Known, Gap, Differs, Late, NotRising, Contrary, Accepted, TellsApart, same_message, last_from, data_at, accept_data, null_at, accept_null}
 use Rattle.nm_knowledge.specs.Order.{IsAccepted}
 
 number_is : (m n : ℕ) → (m == n) ≡ true → m ≡ n

@@ -1,11 +1,11 @@
 -- What a call leaves and answers, by the definitions.
-use Rattle.std.specs.Prelude.{◌≡◌, ℕ, ◌<◌, cond, leb, List, length, Option, Some, None, Result, Ok, Err}
+use Rattle.std.specs.Prelude.{◌≡◌, ℕ, ◌<◌, cond, leb, List, length, Some, None, Result, Ok, Err}
 use Rattle.nm_model.specs.Knowledge.{Know}
 use Rattle.nm_model.specs.Accept as model
 use Rattle.nm_model.specs.Join.{join, join_fault}
 use Rattle.nm_knowledge.specs.declared.answer.Accepted.{Accepted}
 use Rattle.nm_knowledge.specs.declared.answer.KnowFault.{KnowFault}
-use Rattle.nm_knowledge.specs.declared.answer.KnowFault.TheVariants.{Gap, Differs, Late, NotRising, Memory, Contrary}
+use Rattle.nm_knowledge.specs.declared.answer.KnowFault.TheVariants.{Memory}
 use Rattle.nm_knowledge.specs.Answers.{reason, answer}
 use Rattle.nm_knowledge.specs.Octets.{same_octets}
 
