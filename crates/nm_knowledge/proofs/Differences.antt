@@ -41,14 +41,14 @@ octets_same x = (bytes_decides x x).1 refl
 pub octets_tell : TellsApart same_octets
 octets_tell x y e = (bytes_decides x y).0 e
 
-message_is : (x y : ℕ × List ℕ) → same_message same_octets x y ≡ true → x ≡ y
-message_is x y e =
-    let t : x.0 ≡ y.0 = number_is x.0 y.0 (first_so (x.0 == y.0) (same_octets x.1 y.1) e) in
-    let p = octets_tell x.1 y.1 (second_so (x.0 == y.0) (same_octets x.1 y.1) e) in
+pub number_is : (m n : ℕ) → (m == n) ≡ true → m ≡ n
+number_is m n h = grind (arith, nat_tests)
+
+pub message_is : {P : Type 0} (same : P → P → Bool) → TellsApart same → (x y : ℕ × P) → same_message same x y ≡ true → x ≡ y
+message_is same tells x y e =
+    let t = number_is x.0 y.0 (first_so (x.0 == y.0) (same x.1 y.1) e) in
+    let p = tells x.1 y.1 (second_so (x.0 == y.0) (same x.1 y.1) e) in
     λ i. (t i, p i)
-  where
-    number_is : (m n : ℕ) → (m == n) ≡ true → m ≡ n
-    number_is m n h = grind (arith, nat_tests)
 
 -- of two lists that do not differ the longer is the other with its rest
 pub with_rest : (n : ℕ) (k l : List (ℕ × List ℕ)) → first_differs same_octets n k l ≡ None → length k ≤ length l → k ++ drop (length k) l ≡ l
@@ -57,7 +57,7 @@ with_rest n (x ∷ k) [] e h = absurd (omega arith)
 with_rest n (x ∷ k) (y ∷ l) e h = go (same_message same_octets x y) refl e (λ g. with_rest (suc n) k l g (omega arith))
   where
     go : (z : Bool) → same_message same_octets x y ≡ z → cond z (first_differs same_octets (suc n) k l) (Some n) ≡ None → (first_differs same_octets (suc n) k l ≡ None → k ++ drop (length k) l ≡ l) → (x ∷ k) ++ drop (length (x ∷ k)) (y ∷ l) ≡ y ∷ l
-    go true f g r = ap₂ (λ z w. z ∷ w) (message_is x y f) (r g)
+    go true f g r = ap₂ (λ z w. z ∷ w) (message_is same_octets octets_tell x y f) (r g)
     go false f g r = absurd (cc)
 
 pub rest_makes_longer : (k l : List (ℕ × List ℕ)) → first_differs same_octets 0 k l ≡ None → length k ≤ length l → k ++ drop (length k) l ≡ longer k l

@@ -1,31 +1,19 @@
 -- What was accepted, and what it left.
-use Rattle.std.proofs.Common.{◌≡◌, ℕ, ◌<◌, ◌≤◌, ◌==◌, max, Bool, true, false, cond, ltb, [], ◌∷◌, ◌++◌, length, Some, None, refl, ap, ◌∙◌, subst, arith}
+use Rattle.std.proofs.Common.{◌≡◌, ℕ, ◌≤◌, ◌==◌, max, Bool, true, false, cond, ltb, [], ◌∷◌, ◌++◌, length, Some, None, refl, ap, ◌∙◌, subst, arith}
 use Rattle.std.proofs.lemmas.Bool.Decides.{nat_tests}
-use Rattle.std.specs.Cmp.{first_so, second_so}
 use Rattle.nm_model.specs.Lists.{nth}
 use Rattle.nm_model.specs.Knowledge.{Know}
 use Rattle.nm_model.specs.Accept.{New, Raised, Known, Gap, Differs, Late, NotRising, Contrary, Accepted, TellsApart, same_message, last_from, data_at, accept_data, null_at, accept_null}
 use Rattle.nm_knowledge.specs.Order.{IsAccepted}
-
-number_is : (m n : ℕ) → (m == n) ≡ true → m ≡ n
-number_is m n h = grind (arith, nat_tests)
-
-number_apart : (m n : ℕ) → m < n → (m == n) ≡ false
-number_apart m n h = grind (arith, nat_tests)
+use Rattle.nm_knowledge.proofs.Differences.{number_is, message_is}
 
 module _ {P : Type 0} (a : Know P) (n : ℕ) where
   module _ (same : P → P → Bool) (tells : TellsApart same) (b : ℕ × P) where
-    message_is : (m : ℕ × P) → same_message same m b ≡ true → m ≡ b
-    message_is m e =
-        let t = number_is m.0 b.0 (first_so (m.0 == b.0) (same m.1 b.1) e) in
-        let p = tells m.1 b.1 (second_so (m.0 == b.0) (same m.1 b.1) e) in
-        λ i. (t i, p i)
-
     pub known_data : (m : ℕ × P) → nth a.list n ≡ Some m → IsAccepted (accept_data same a n b).answer → (m ≡ b) × ((accept_data same a n b).after ≡ a)
     known_data m e h = (go (same_message same m b) refl (subst (λ o. IsAccepted (data_at same o a n b).answer) e h), ap (λ o. (data_at same o a n b).after) e)
       where
         go : (z : Bool) → same_message same m b ≡ z → IsAccepted (cond z Known (Differs n)) → m ≡ b
-        go true f i = message_is m f
+        go true f i = message_is same tells m b f
         go false f i = absurd i
 
   pub new_data : (same : P → P → Bool) (b : ℕ × P) → nth a.list n ≡ None → IsAccepted (accept_data same a n b).answer → (n ≡ length a.list) × (a.clock ≤ b.0) × ((accept_data same a n b).after ≡ record { list = a.list ++ b ∷ []; clock = b.0 })
@@ -33,15 +21,6 @@ module _ {P : Type 0} (a : Know P) (n : ℕ) where
       let r = counted (n == length a.list) refl (subst (λ o. IsAccepted (data_at same o a n b).answer) e h) in
       (r.0, r.1, ap (λ o. (data_at same o a n b).after) e ∙ r.2)
     where
-      late : Accepted P
-      late = record { answer = Late a.clock; after = a }
-
-      last : Accepted P
-      last = record { answer = NotRising; after = a }
-
-      new : Accepted P
-      new = record { answer = New; after = record { list = a.list ++ b ∷ []; clock = b.0 } }
-
       rises : (z : Bool) → IsAccepted (cond {A = Accepted P} z (record { answer = NotRising; after = a }) (record { answer = New; after = record { list = a.list ++ b ∷ []; clock = b.0 } })).answer → (cond {A = Accepted P} z (record { answer = NotRising; after = a }) (record { answer = New; after = record { list = a.list ++ b ∷ []; clock = b.0 } })).after ≡ record { list = a.list ++ b ∷ []; clock = b.0 }
       rises true i = absurd i
       rises false i = refl

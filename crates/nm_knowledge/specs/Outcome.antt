@@ -21,5 +21,6 @@ Joins old new other (Ok _) = (join_fault same_octets old other ≡ None) × (new
 Joins old new other (Err Memory) = (join_fault same_octets old other ≡ None) × (length old.list < length other.list) × (new ≡ old)
 Joins old new other (Err f) = (join_fault same_octets old other ≡ reason f) × (new ≡ old)
 
+-- the second list where it is as long or longer, else the first
 abbrev pub longer : {A : Type 0} → List A → List A → List A
 longer k l = cond (leb (length k) (length l)) l k
