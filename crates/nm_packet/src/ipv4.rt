@@ -1,0 +1,315 @@
+//! IPv4 packets (RFC 791, section 3.1).
+
+ghost use Rattle.std.specs.Prelude.{IfOk, Ok, ◌++◌, ◌≡◌, ◌==◌, ◌%◌, ◌<◌, ◌≤◌, List, ℕ, length, None, Some, MatchResult, slice_index};
+ghost use Rattle.nm_packet.specs.Ipv4.{Header, IsIpv4, IsPacket, checked, cut_of, fields_of, header_fault, header_length_of, header_octets, header_of, lowered, packet_octets, payload_of, plain_header, quote_of};
+
+use crate::Address;
+use crate::checksum::{checksum_of, sum_words};
+use crate::fault::HeaderFault;
+use crate::octets::{long_word_at, word, word_at};
+use bytes::Bytes;
+use nm_base::Packet;
+use std::alloc::{AllocError, Global};
+use std::marker::Model;
+
+/// The octets of a header without options.
+const LEAST_HEADER_OCTETS: usize = 20;
+
+/// The octets of the payload that an error message quotes, at most.
+const QUOTED_PAYLOAD_OCTETS: usize = 8;
+
+/// The protocol IPv4.
+#[derive(Clone, Copy, Debug)]
+pub struct Ipv4;
+
+/// A packet whose header passed the tests, over the octets up to its total length. A clause sees these octets.
+#[derive(Debug, Drop)]
+pub struct Ipv4View<'a> {
+    octets: &'a [u8],
+}
+
+impl<'a> Model for Ipv4View<'a> {
+    ghost Value = { List ℕ };
+
+    ghost view = { λ v. v.octets.now };
+
+    ghost invariant = { λ v. IsPacket v.octets.now };
+}
+
+/// The octets of the header, as its field says in words of four octets.
+fn header_length(octets: &[u8]) -> usize
+    requires { 0 < length octets.now }
+    ensures { result ≡ header_length_of octets.now }
+{
+    4 * usize::from(octets[0] & 0x0f)
+}
+
+/// The packet at the front of these octets, or the first test that fails.
+fn tested(octets: &[u8]) -> Result<Ipv4View<'_>, HeaderFault>
+    ensures exact { MatchResult result (λ v. (header_fault octets.now ≡ None) × (v ≡ cut_of octets.now))
+        (λ e. header_fault octets.now ≡ Some e) }
+    ensures packet { IfOk result IsPacket }
+{
+    if octets.len() < LEAST_HEADER_OCTETS {
+        return Err(HeaderFault::Short);
+    }
+    if octets[0] >> 4 != 4 {
+        return Err(HeaderFault::Version);
+    }
+    let header_length = header_length(octets);
+    if header_length < LEAST_HEADER_OCTETS || octets.len() < header_length {
+        return Err(HeaderFault::Ihl);
+    }
+    if sum_words(0, &octets[..header_length]) != 0xffff {
+        return Err(HeaderFault::Checksum);
+    }
+    let total_length = usize::from(word_at(octets, 2));
+    if total_length < header_length || octets.len() < total_length {
+        return Err(HeaderFault::Total);
+    }
+    Ok(Ipv4View {
+        octets: &octets[..total_length],
+    })
+}
+
+impl Ipv4 {
+    /// The packet at the front of these octets. What follows its total length is left out.
+    pub fn read(octets: &[u8]) -> Result<Ipv4View<'_>, HeaderFault>
+        // What is read is a packet, spelled by its fields and its payload.
+        ensures found { IfOk result (λ v. IsIpv4 (fields_of v) (payload_of v) v) }
+        // A packet is read, whatever follows it.
+        ensures only { (h : Header) (payload packet rest : List ℕ) → IsIpv4 h payload packet
+            → octets.now ≡ packet ++ rest → result ≡ Ok packet }
+        // Which octets these are, and which fault it is.
+        ensures exact { MatchResult result (λ v. (header_fault octets.now ≡ None) × (v ≡ cut_of octets.now))
+            (λ e. header_fault octets.now ≡ Some e) }
+    {
+        tested(octets)
+    }
+}
+
+impl<'a> Ipv4View<'a> {
+    /// The octets of the packet, header and payload.
+    pub fn octets(&self) -> &'a [u8]
+        ensures value { result.now ≡ self.now }
+        ensures packet { IsPacket self.now }
+    {
+        self.octets
+    }
+
+    /// The length of the header in words of four octets, 5 to 15.
+    pub fn ihl(&self) -> u8
+        ensures { result ≡ (fields_of self.now).ihl }
+    {
+        self.octets[0] & 0x0f
+    }
+
+    pub fn type_of_service(&self) -> u8
+        ensures { result ≡ (fields_of self.now).type_of_service }
+    {
+        self.octets[1]
+    }
+
+    /// The octets of header and payload.
+    pub fn total_length(&self) -> u16
+        ensures { result ≡ (fields_of self.now).total_length }
+    {
+        word_at(self.octets, 2)
+    }
+
+    pub fn identification(&self) -> u16
+        ensures { result ≡ (fields_of self.now).identification }
+    {
+        word_at(self.octets, 4)
+    }
+
+    /// The three bits of the flags: 4 is reserved, 2 is don't fragment, 1 is more fragments.
+    pub fn flags(&self) -> u8
+        ensures { result ≡ (fields_of self.now).flags }
+    {
+        (word_at(self.octets, 6) >> 13) as u8
+    }
+
+    /// Whether the flag is set that says that this is not the last fragment.
+    pub fn more_fragments(&self) -> bool
+        ensures { result ≡ ((fields_of self.now).flags % 2 == 1) }
+    {
+        self.flags() & 1 == 1
+    }
+
+    /// Where the fragment stands in its datagram, in units of eight octets.
+    pub fn fragment_offset(&self) -> u16
+        ensures { result ≡ (fields_of self.now).fragment_offset }
+    {
+        word_at(self.octets, 6) & 0x1fff
+    }
+
+    pub fn time_to_live(&self) -> u8
+        ensures { result ≡ (fields_of self.now).time_to_live }
+    {
+        self.octets[8]
+    }
+
+    /// The number of the protocol of the payload: 1 is ICMP, 17 is UDP.
+    pub fn protocol(&self) -> u8
+        ensures { result ≡ (fields_of self.now).protocol }
+    {
+        self.octets[9]
+    }
+
+    pub fn header_checksum(&self) -> u16
+        ensures { result ≡ (fields_of self.now).header_checksum }
+    {
+        word_at(self.octets, 10)
+    }
+
+    pub fn source(&self) -> Address
+        ensures { result ≡ (fields_of self.now).source }
+    {
+        Address::from_bits(long_word_at(self.octets, 12))
+    }
+
+    pub fn destination(&self) -> Address
+        ensures { result ≡ (fields_of self.now).destination }
+    {
+        Address::from_bits(long_word_at(self.octets, 16))
+    }
+
+    /// The options as they came, with their padding.
+    pub fn options(&self) -> &'a [u8]
+        ensures { result.now ≡ (fields_of self.now).options }
+    {
+        &self.header()[LEAST_HEADER_OCTETS..]
+    }
+
+    /// The octets of the header, with its options.
+    pub fn header(&self) -> &'a [u8]
+        ensures value { result.now ≡ header_of self.now }
+        ensures least { 20 ≤ length result.now }
+        ensures greatest { length result.now ≤ 60 }
+    {
+        &self.octets[..header_length(self.octets)]
+    }
+
+    /// What follows the header.
+    pub fn payload(&self) -> &'a [u8]
+        ensures value { result.now ≡ payload_of self.now }
+        ensures greatest { length result.now ≤ 65515 }
+    {
+        &self.octets[header_length(self.octets)..]
+    }
+}
+
+/// The fields that a writer of packets chooses. The rest is plain: no options, no flags, no fragment.
+#[derive(Clone, Copy, Debug)]
+pub struct Ipv4Header {
+    pub type_of_service: u8,
+    pub identification: u16,
+    pub time_to_live: u8,
+    /// The number of the protocol of the payload: 1 is ICMP, 17 is UDP.
+    pub protocol: u8,
+    pub source: Address,
+    pub destination: Address,
+}
+
+impl Ipv4Header {
+    /// The octets of the header with this checksum, before a payload of so many octets.
+    fn octets_with(&self, size: u16, checksum: u16) -> [u8; LEAST_HEADER_OCTETS]
+        requires { size ≤ 65515 }
+        ensures { result ≡ header_octets (record (plain_header self.now size) { header_checksum = checksum }) }
+    {
+        let [l0, l1] = word(20 + size);
+        let [i0, i1] = word(self.identification);
+        let [c0, c1] = word(checksum);
+        let [s0, s1, s2, s3] = self.source.octets();
+        let [d0, d1, d2, d3] = self.destination.octets();
+        let (tos, ttl) = (self.type_of_service, self.time_to_live);
+        [
+            0x45,
+            tos,
+            l0,
+            l1,
+            i0,
+            i1,
+            0,
+            0,
+            ttl,
+            self.protocol,
+            c0,
+            c1,
+            s0,
+            s1,
+            s2,
+            s3,
+            d0,
+            d1,
+            d2,
+            d3,
+        ]
+    }
+
+    /// The octets of the header before a payload of so many octets.
+    fn octets(&self, size: u16) -> [u8; LEAST_HEADER_OCTETS]
+        requires { size ≤ 65515 }
+        ensures { result ≡ header_octets (checked (plain_header self.now size)) }
+    {
+        self.octets_with(size, checksum_of(&self.octets_with(size, 0)))
+    }
+}
+
+/// The packet with this header and this payload.
+pub fn write_ipv4(alloc: Global, header: &Ipv4Header, payload: &[u8]) -> Result<Packet, AllocError>
+    requires { length payload.now ≤ 65515 }
+    ensures { IfOk result (λ p. p ≡ packet_octets (plain_header header.now (length payload.now)) payload.now) }
+{
+    let mut octets = Vec::with_capacity(alloc, LEAST_HEADER_OCTETS + payload.len())?;
+    octets.extend_from_slice(&header.octets(payload.len() as u16))?;
+    octets.extend_from_slice(payload)?;
+    packet_from(octets)
+}
+
+/// The packet of these octets.
+fn packet_from(octets: Vec<u8>) -> Result<Packet, AllocError>
+    requires least { 1 ≤ length octets.items }
+    requires greatest { length octets.items ≤ 65535 }
+    ensures { IfOk result (λ p. p ≡ octets.items) }
+{
+    let octets = Bytes::from_vec(octets)?;
+    Ok(Packet::new(octets).unwrap())
+}
+
+/// What an error message quotes of a packet (RFC 792): its header as it came, with its options, and the first eight
+/// octets of its payload, or all of them where there are fewer. At most 68 octets.
+pub fn quote(alloc: Global, packet: &Ipv4View<'_>) -> Result<Vec<u8>, AllocError>
+    ensures value { IfOk result (λ v. v.items ≡ quote_of packet.now) }
+    ensures greatest { IfOk result (λ v. length v.items ≤ 68) }
+{
+    let octets = packet.octets();
+    let end = header_length(octets) + QUOTED_PAYLOAD_OCTETS;
+    Vec::from_slice(alloc, &octets[..end.min(octets.len())])
+}
+
+/// The packet one hop on: its time to live is one less and its header checksum is computed anew, and nothing else
+/// changes, options and payload included. The router must have seen a time to live of at least 1.
+pub fn lower_ttl(alloc: Global, packet: &Ipv4View<'_>) -> Result<Packet, AllocError>
+    requires { 1 ≤ (fields_of packet.now).time_to_live }
+    ensures { IfOk result (λ p. p ≡ packet_octets (lowered (fields_of packet.now)) (payload_of packet.now)) }
+{
+    let mut octets = Vec::from_slice(alloc, packet.octets())?;
+    lower(octets.as_mut_slice());
+    packet_from(octets)
+}
+
+/// Lowers the time to live by one, and writes the header checksum anew.
+fn lower(octets: &mut [u8])
+    requires packet { IsPacket octets.old }
+    requires live { 1 ≤ slice_index octets.old 8 }
+    ensures { octets.new ≡ packet_octets (lowered (fields_of octets.old)) (payload_of octets.old) }
+{
+    octets[8] -= 1;
+    octets[10] = 0;
+    octets[11] = 0;
+    let [high, low] = word(checksum_of(&octets[..header_length(octets)]));
+    octets[10] = high;
+    octets[11] = low;
+}

@@ -1,0 +1,14 @@
+//! IPv4, UDP and ICMP, read from octets and written as octets, exactly.
+#![tactic(auto)]
+
+pub mod address;
+mod checksum;
+pub mod fault;
+pub mod ipv4;
+mod octets;
+pub mod udp;
+
+pub use address::Address;
+pub use fault::{HeaderFault, IcmpFault, UdpFault};
+pub use ipv4::{Ipv4, Ipv4Header, Ipv4View, lower_ttl, quote, write_ipv4};
+pub use udp::{Udp, UdpView};

@@ -1,0 +1,203 @@
+//! UDP datagrams (RFC 768).
+
+ghost use Rattle.std.specs.Prelude.{◌≡◌, ◌++◌, ◌<◌, ◌≤◌, List, [], ℕ, length, Some, None, Ok, IfOk, MatchResult};
+ghost use Rattle.nm_packet.specs.Checksum.{folded, word_sum};
+ghost use Rattle.nm_packet.specs.Udp.{IsDatagram, IsUdp, UdpHeader, datagram_octets, udp_checked, pseudo_header, udp_cut_of, udp_data_of, udp_fault, udp_fields_of, udp_header, udp_octets, udp_sum};
+
+use crate::Address;
+use crate::checksum::sum_words;
+use crate::fault::UdpFault;
+use crate::octets::{word, word_at};
+use std::alloc::{AllocError, Global};
+use std::marker::Model;
+
+/// The octets before the data.
+const HEADER_OCTETS: usize = 8;
+
+/// The number of the protocol in an IPv4 header.
+pub const PROTOCOL: u8 = 17;
+
+/// The protocol UDP.
+#[derive(Clone, Copy, Debug)]
+pub struct Udp;
+
+/// A datagram that passed the tests, over the octets up to its length. A clause sees these octets.
+#[derive(Debug, Drop)]
+pub struct UdpView<'a> {
+    octets: &'a [u8],
+}
+
+impl<'a> Model for UdpView<'a> {
+    ghost Value = { List ℕ };
+
+    ghost view = { λ v. v.octets.now };
+
+    ghost invariant = { λ v. IsDatagram v.octets.now };
+}
+
+/// The one's complement sum of the pseudo header and then of these octets, where the datagram has so many octets.
+fn sum_from_pseudo_header(source: Address, destination: Address, size: u16, octets: &[u8]) -> u16
+    ensures { result ≡ folded (word_sum (pseudo_header source destination size ++ octets.now)) }
+{
+    let [s0, s1, s2, s3] = source.octets();
+    let [d0, d1, d2, d3] = destination.octets();
+    let [l0, l1] = word(size);
+    let pseudo_header = [s0, s1, s2, s3, d0, d1, d2, d3, 0, PROTOCOL, l0, l1];
+    sum_words(sum_words(0, &pseudo_header), octets)
+}
+
+/// The datagram at the front of these octets, or the first test that fails.
+fn tested(source: Address, destination: Address, octets: &[u8]) -> Result<UdpView<'_>, UdpFault>
+    ensures exact { MatchResult result
+        (λ v. (udp_fault source destination octets.now ≡ None) × (v ≡ udp_cut_of octets.now))
+        (λ e. udp_fault source destination octets.now ≡ Some e) }
+    ensures whole { IfOk result IsDatagram }
+{
+    if octets.len() < HEADER_OCTETS {
+        return Err(UdpFault::Short);
+    }
+    let length = word_at(octets, 4);
+    let size = usize::from(length);
+    if size < HEADER_OCTETS || octets.len() < size {
+        return Err(UdpFault::Length);
+    }
+    let datagram = &octets[..size];
+    if word_at(octets, 6) != 0
+        && sum_from_pseudo_header(source, destination, length, datagram) != 0xffff
+    {
+        return Err(UdpFault::Checksum);
+    }
+    Ok(UdpView { octets: datagram })
+}
+
+/// The octets of the header with this checksum, before data of so many octets.
+fn header_with(
+    source_port: u16,
+    destination_port: u16,
+    size: u16,
+    checksum: u16,
+) -> [u8; HEADER_OCTETS]
+    requires { size ≤ 65527 }
+    ensures { result ≡ udp_octets (record (udp_header source_port destination_port size) { checksum = checksum }) [] }
+{
+    let [s0, s1] = word(source_port);
+    let [d0, d1] = word(destination_port);
+    let [l0, l1] = word(8 + size);
+    let [c0, c1] = word(checksum);
+    [s0, s1, d0, d1, l0, l1, c0, c1]
+}
+
+impl Udp {
+    /// The datagram at the front of the payload of a packet between these addresses. What follows its length is left
+    /// out.
+    pub fn read(
+        source: Address,
+        destination: Address,
+        octets: &[u8],
+    ) -> Result<UdpView<'_>, UdpFault>
+        // What is read is a datagram, spelled by its fields and its data.
+        ensures found { IfOk result (λ v. IsUdp source destination (udp_fields_of v) (udp_data_of v) v) }
+        // A datagram is read, whatever follows it.
+        ensures only { (h : UdpHeader) (payload datagram rest : List ℕ) → IsUdp source destination h payload datagram
+            → octets.now ≡ datagram ++ rest → result ≡ Ok datagram }
+        // Which octets these are, and which fault it is.
+        ensures exact { MatchResult result
+            (λ v. (udp_fault source destination octets.now ≡ None) × (v ≡ udp_cut_of octets.now))
+            (λ e. udp_fault source destination octets.now ≡ Some e) }
+    {
+        tested(source, destination, octets)
+    }
+
+    /// The datagram with these ports and data, with a checksum, for a packet between these addresses.
+    pub fn write(
+        alloc: Global,
+        source: Address,
+        destination: Address,
+        source_port: u16,
+        destination_port: u16,
+        data: &[u8],
+    ) -> Result<Vec<u8>, AllocError>
+        requires { length «data».now ≤ 65527 }
+        ensures { IfOk result (λ v. v.items ≡ datagram_octets source destination
+            (udp_header source_port destination_port (length «data».now)) «data».now) }
+    {
+        let mut octets = Vec::with_capacity(alloc, HEADER_OCTETS + data.len())?;
+        octets.extend_from_slice(&header(
+            source,
+            destination,
+            source_port,
+            destination_port,
+            data,
+        ))?;
+        octets.extend_from_slice(data)?;
+        Ok(octets)
+    }
+}
+
+/// The octets before these data, with their checksum.
+pub(crate) fn header(
+    source: Address,
+    destination: Address,
+    source_port: u16,
+    destination_port: u16,
+    data: &[u8],
+) -> [u8; HEADER_OCTETS]
+    requires { length «data».now ≤ 65527 }
+    ensures { result ≡ udp_octets (udp_checked source destination
+        (udp_header source_port destination_port (length «data».now)) «data».now) [] }
+{
+    let size = data.len() as u16;
+    let bare = header_with(source_port, destination_port, size, 0);
+    let sum = sum_words(
+        sum_from_pseudo_header(source, destination, 8 + size, &bare),
+        data,
+    );
+    let checksum = match !sum {
+        0 => 0xffff,
+        checksum => checksum,
+    };
+    header_with(source_port, destination_port, size, checksum)
+}
+
+impl<'a> UdpView<'a> {
+    /// The octets of the datagram.
+    pub fn octets(&self) -> &'a [u8]
+        ensures value { result.now ≡ self.now }
+        ensures whole { IsDatagram self.now }
+    {
+        self.octets
+    }
+
+    pub fn source_port(&self) -> u16
+        ensures { result ≡ (udp_fields_of self.now).source_port }
+    {
+        word_at(self.octets, 0)
+    }
+
+    pub fn destination_port(&self) -> u16
+        ensures { result ≡ (udp_fields_of self.now).destination_port }
+    {
+        word_at(self.octets, 2)
+    }
+
+    /// The octets of header and data.
+    pub fn length(&self) -> u16
+        ensures { result ≡ (udp_fields_of self.now).length }
+    {
+        word_at(self.octets, 4)
+    }
+
+    /// The checksum that came, 0 where the sender made none.
+    pub fn checksum(&self) -> u16
+        ensures { result ≡ (udp_fields_of self.now).checksum }
+    {
+        word_at(self.octets, 6)
+    }
+
+    /// What follows the header.
+    pub fn data(&self) -> &'a [u8]
+        ensures { result.now ≡ udp_data_of self.now }
+    {
+        &self.octets[HEADER_OCTETS..]
+    }
+}
