@@ -1,6 +1,8 @@
 -- Fields of tables: which keys a table has, and how a value is read.
 use Rattle.std.specs.Prelude.{ℕ, ℤ, pos, negsuc, Bool, true, ◌&&◌, ◌||◌, false, nat_le, if◌then◌else◌, List, [], ◌∷◌, Option, Some, None, Result, Ok, Err}
-use Rattle.toml.specs.Data.{Data, string, integer, array, table, Items, Members, no_members, member, get_member, same_key}
+use Rattle.toml.specs.Data.{Data, string, integer, array, table, Items, Members, no_members, member, get_member}
+use Rattle.std.specs.List.{list_any}
+use Rattle.std.specs.Str.{bytes_eq}
 use Rattle.nm_topology.specs.declared.fault.Refusal.{Refusal}
 use Rattle.nm_topology.specs.declared.fault.Refusal.TheVariants.{Missing, UnknownKey, Kind, Range}
 use Rattle.nm_topology.specs.Fault.{◌>>=◌}
@@ -27,19 +29,18 @@ abbrev pub in_form : {X : Type 0} → Option X → Result X Refusal
 in_form None = Err Range
 in_form (Some x) = Ok x
 
--- a text in a form, read as what it stands for
-abbrev pub text_in : {X : Type 0} → (List ℕ → Option X) → Data → Result X Refusal
-text_in form (string s) = in_form (form s)
-text_in form _ = Err Kind
-
-abbrev pub is_among : List (List ℕ) → List ℕ → Bool
-is_among [] k = false
-is_among (l ∷ ls) k = same_key k l || is_among ls k
-
 abbrev pub all_among : List (List ℕ) → Members → Bool
 all_among ks no_members = true
-all_among ks (member k d ms) = is_among ks k && all_among ks ms
+all_among ks (member k d ms) = list_any (λ l. bytes_eq l k) ks && all_among ks ms
 
 -- no key but these
 abbrev pub only : List (List ℕ) → Members → Result Unit Refusal
 only ks ms = if all_among ks ms then Ok tt else Err UnknownKey
+
+-- a text, and a text in a form, read as what it stands for
+abbrev pub plain_text : Data → Result (List ℕ) Refusal
+plain_text (string s) = Ok s
+plain_text _ = Err Kind
+
+abbrev pub required_text : {X : Type 0} → (List ℕ → Option X) → Option Data → Result X Refusal
+required_text form value = required plain_text value >>= λ s. in_form (form s)

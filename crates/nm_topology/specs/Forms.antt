@@ -25,6 +25,9 @@ abbrev pub is_name : List ℕ → Bool
 is_name [] = false
 is_name (c ∷ cs) = not (c == 45) && nat_le (length (c ∷ cs)) 32 && list_all is_name_character (c ∷ cs)
 
+abbrev pub name_of : List ℕ → Option (List ℕ)
+name_of text = if is_name text then Some text else None
+
 -- the address that a text writes
 abbrev pub address_of : List ℕ → Option ℕ
 address_of text = least_below (2 ^ 32) (λ a. bytes_eq text (address_text a))

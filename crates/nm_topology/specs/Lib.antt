@@ -1,3 +1,4 @@
+pub mod Arrays
 pub mod Fault
 pub mod Fields
 pub mod Forms
