@@ -1,2 +1,3 @@
 pub mod Keys
+pub mod Members
 pub mod Searches

@@ -26,9 +26,12 @@ abbrev pub each : {X : Type 0} → (Data → Result X Refusal) → Items → Res
 each read no_items = Ok []
 each read (item d ds) = read d >>= λ x. each read ds >>= λ xs. Ok (x ∷ xs)
 
--- an array of members of one type, of which there are at most so many
+-- members of one type, of which there are at most so many
+abbrev pub members_of : {X : Type 0} → (Data → Bool) → ℕ → (Data → Result X Refusal) → Items → Result (List X) Refusal
+members_of fits limit read ds = if all_fit fits ds then (if nat_le (count ds) limit then each read ds else Err TooMany) else Err Kind
+
 abbrev pub array_of : {X : Type 0} → (Data → Bool) → ℕ → (Data → Result X Refusal) → Data → Result (List X) Refusal
-array_of fits limit read (array ds) = if all_fit fits ds then (if nat_le (count ds) limit then each read ds else Err TooMany) else Err Kind
+array_of fits limit read (array ds) = members_of fits limit read ds
 array_of fits limit read _ = Err Kind
 
 -- a member that is a table

@@ -1,6 +1,7 @@
 //! From the topology text to the network, or to the first fault.
 #![tactic(auto)]
 
+mod arrays;
 pub mod fault;
 mod fields;
 mod forms;

@@ -1,0 +1,84 @@
+//! Arrays of a topology text: what each member is read to, in order.
+
+ghost use Rattle.std.specs.Prelude.{◌≡◌, ℕ, Bool, Result};
+ghost use Rattle.toml.specs.Data.{Data};
+ghost use Rattle.toml.specs.View.{view, items_view};
+ghost use Rattle.nm_topology.specs.declared.fault.Refusal.{Refusal as RefusalValue};
+ghost use Rattle.nm_topology.specs.Arrays.{all_fit, each, members_of, array_of};
+ghost use Rattle.nm_topology.specs.Fault.{Gives};
+
+use crate::fault::{Refusal, TopoFault};
+use std::alloc::Global;
+use toml::Value;
+
+/// What a member of an array is read to.
+pub trait Element: Drop {
+    // Whether a value has the TOML type of these members.
+    ghost has_type: { Data → Bool };
+
+    // What a value is read to, where packets have at most so many octets.
+    ghost reads: { ℕ → Data → Result Self RefusalValue };
+
+    /// Whether the value has the TOML type of these members.
+    fn is_of_type(value: &Value) -> bool
+        ensures { result ≡ has_type (view value.now) };
+
+    /// Reads a member. Packets have at most `mtu` octets.
+    fn read(alloc: Global, mtu: u64, value: &Value) -> Result<Self, TopoFault>
+        ensures { Gives (λ x. x) result (reads mtu (view value.now)) };
+}
+
+/// An array of members of one type, of which there are at most `limit`.
+pub fn array<T: Element>(
+    alloc: Global,
+    mtu: u64,
+    limit: usize,
+    value: &Value,
+) -> Result<Vec<T>, TopoFault>
+    ensures { Gives (λ v. v.items) result (array_of T.has_type limit (T.reads mtu) (view value.now)) }
+{
+    match value {
+        Value::Array(items) => members(alloc, mtu, limit, items),
+        _ => Err(TopoFault::Refused(Refusal::Kind)),
+    }
+}
+
+#[tactic(auto, using(crate::proofs::Members::count_view))]
+fn members<T: Element>(
+    alloc: Global,
+    mtu: u64,
+    limit: usize,
+    items: &[Value],
+) -> Result<Vec<T>, TopoFault>
+    ensures { Gives (λ v. v.items) result (members_of T.has_type limit (T.reads mtu) (items_view items.now)) }
+{
+    if !all_fit::<T>(items) {
+        return Err(TopoFault::Refused(Refusal::Kind));
+    }
+    if items.len() > limit {
+        return Err(TopoFault::Refused(Refusal::TooMany));
+    }
+    each(alloc, mtu, items)
+}
+
+fn all_fit<T: Element>(items: &[Value]) -> bool
+    ensures { result ≡ all_fit T.has_type (items_view items.now) }
+{
+    for item in items {
+        if !T::is_of_type(item) {
+            return false;
+        }
+    }
+    true
+}
+
+fn each<T: Element>(alloc: Global, mtu: u64, items: &[Value]) -> Result<Vec<T>, TopoFault>
+    ensures { Gives (λ v. v.items) result (each (T.reads mtu) (items_view items.now)) }
+{
+    let mut members = Vec::new(alloc);
+    for item in items {
+        let member = T::read(alloc, mtu, item)?;
+        members.push(member)?;
+    }
+    Ok(members)
+}
