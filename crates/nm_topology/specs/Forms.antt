@@ -1,8 +1,10 @@
 -- The forms of texts in a topology: names, addresses, prefixes.
-use Rattle.std.specs.Prelude.{ℕ, zero, suc, ◌-◌, ◌%◌, ◌^◌, Bool, true, false, ◌&&◌, ◌||◌, not, ◌==◌, nat_le, if◌then◌else◌, List, [], ◌∷◌, length, Option, Some, None, decimal}
+use Rattle.std.specs.Prelude.{ℕ, zero, suc, ◌-◌, ◌%◌, ◌^◌, Bool, true, false, ◌&&◌, ◌||◌, not, ◌==◌, nat_le, if◌then◌else◌, List, [], ◌∷◌, length, Option, Some, None, codes, decimal}
 use Rattle.std.specs.List.{list_all, before_first, after_first}
 use Rattle.std.specs.Option.{option_and_then}
 use Rattle.std.specs.Str.{bytes_eq}
+use Rattle.nm_topology.specs.declared.node.NodeKind.{NodeKind}
+use Rattle.nm_topology.specs.declared.node.NodeKind.TheVariants.{Host, Router}
 use Rattle.nm_topology.specs.declared.prefix.Prefix.{Prefix}
 use Rattle.nm_packet.specs.Address.{address_text, is_offending}
 
@@ -50,3 +52,6 @@ is_slash c = c == 47
 -- an address, a slash and a length, where the bits of the address past that length are 0
 abbrev pub prefix_of : List ℕ → Option Prefix
 prefix_of text = option_and_then (λ a. option_and_then (λ n. prefix_at a n) (length_of (after_first is_slash text))) (address_of (before_first is_slash text))
+
+abbrev pub node_kind_of : List ℕ → Option NodeKind
+node_kind_of text = if bytes_eq text (codes "host") then Some Host else (if bytes_eq text (codes "router") then Some Router else None)

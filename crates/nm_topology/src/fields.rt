@@ -1,6 +1,6 @@
 //! Fields of a table, each read by its key.
 
-ghost use Rattle.std.specs.Prelude.{◌≡◌, option_map, map, string_bytes};
+ghost use Rattle.std.specs.Prelude.{◌≡◌, ◌≤◌, IfOk, option_map, map, string_bytes};
 ghost use Rattle.std.specs.List.{list_all, list_any};
 ghost use Rattle.std.specs.Str.{bytes_eq};
 ghost use Rattle.std.specs.BTreeMap.{keys};
@@ -8,10 +8,11 @@ ghost use Rattle.toml.specs.Data.{get_member};
 ghost use Rattle.toml.specs.View.{table_view, view};
 ghost use Rattle.nm_topology.specs.Fault.{Gives};
 ghost use Rattle.nm_topology.specs.Fields.{number_in, required, optional, plain_text, required_text, only};
-ghost use Rattle.nm_topology.specs.Forms.{name_of, usable_address_of, prefix_of};
+ghost use Rattle.nm_topology.specs.Forms.{name_of, node_kind_of, usable_address_of, prefix_of};
 
 use crate::fault::{Refusal, TopoFault};
 use crate::forms::{is_name, prefix_of, usable_address_of};
+use crate::node::NodeKind;
 use crate::prefix::Prefix;
 use nm_packet::Address;
 use std::alloc::Global;
@@ -26,7 +27,8 @@ pub fn field<'a>(table: &'a Table, key: &str) -> Option<&'a Value>
 
 /// A whole number from `least` to `greatest`.
 pub fn number(value: &Value, least: u64, greatest: u64) -> Result<u64, TopoFault>
-    ensures { Gives (λ n. n) result (number_in least greatest (view value.now)) }
+    ensures within { IfOk result (λ n. (least ≤ n) × (n ≤ greatest)) }
+    ensures value { Gives (λ n. n) result (number_in least greatest (view value.now)) }
 {
     let Some(found) = value.as_integer() else {
         return Err(TopoFault::Refused(Refusal::Kind));
@@ -44,7 +46,8 @@ pub fn required_number(
     least: u64,
     greatest: u64,
 ) -> Result<u64, TopoFault>
-    ensures { Gives (λ n. n) result (required (number_in least greatest) (get_member key.now (table_view table.now))) }
+    ensures within { IfOk result (λ n. (least ≤ n) × (n ≤ greatest)) }
+    ensures value { Gives (λ n. n) result (required (number_in least greatest) (get_member key.now (table_view table.now))) }
 {
     match field(table, key) {
         Some(value) => number(value, least, greatest),
@@ -60,7 +63,9 @@ pub fn optional_number(
     least: u64,
     greatest: u64,
 ) -> Result<u64, TopoFault>
-    ensures { Gives (λ n. n) result (optional absent (number_in least greatest) (get_member key.now (table_view table.now))) }
+    requires { (least ≤ absent) × (absent ≤ greatest) }
+    ensures within { IfOk result (λ n. (least ≤ n) × (n ≤ greatest)) }
+    ensures value { Gives (λ n. n) result (optional absent (number_in least greatest) (get_member key.now (table_view table.now))) }
 {
     match field(table, key) {
         Some(value) => number(value, least, greatest),
@@ -135,5 +140,16 @@ pub fn only(table: &Table, allowed: &[&str]) -> Result<(), TopoFault>
         Ok(())
     } else {
         Err(TopoFault::Refused(Refusal::UnknownKey))
+    }
+}
+
+/// A required text that names one of a few kinds.
+pub fn required_node_kind(table: &Table, key: &str) -> Result<NodeKind, TopoFault>
+    ensures { Gives (λ k. k) result (required_text node_kind_of (get_member key.now (table_view table.now))) }
+{
+    match required_plain_text(table, key)? {
+        "host" => Ok(NodeKind::Host),
+        "router" => Ok(NodeKind::Router),
+        _ => Err(TopoFault::Refused(Refusal::Range)),
     }
 }

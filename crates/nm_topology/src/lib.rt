@@ -5,7 +5,10 @@ mod arrays;
 pub mod fault;
 mod fields;
 mod forms;
+pub mod node;
 pub mod prefix;
+mod rows;
 
 pub use fault::{Refusal, TopoFault};
+pub use node::NodeKind;
 pub use prefix::Prefix;
