@@ -4,3 +4,6 @@ pub mod Fields
 pub mod Forms
 pub mod Rows
 pub mod Texts
+pub mod RawTexts
+pub mod SourceTexts
+pub mod Sources

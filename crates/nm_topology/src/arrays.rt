@@ -12,26 +12,29 @@ use std::alloc::Global;
 use toml::Value;
 
 /// What a member of an array is read to.
-pub trait Element: Drop {
+pub trait Member: Drop {
     // Whether a value has the TOML type of these members.
     ghost has_type: { Data → Bool };
-
-    // What a value is read to, where packets have at most so many octets.
-    ghost reads: { ℕ → Data → Result Self RefusalValue };
 
     /// Whether the value has the TOML type of these members.
     fn is_of_type(value: &Value) -> bool
         ensures { result ≡ has_type (view value.now) };
+}
+
+/// A member that is read by itself.
+pub trait Element: Member {
+    // What a value is read to, where packets have at most so many octets.
+    ghost reads: { ℕ → Data → Result Self RefusalValue };
 
     /// Reads a member. Packets have at most `mtu` octets.
-    fn read(alloc: Global, mtu: u64, value: &Value) -> Result<Self, TopoFault>
+    fn read(alloc: Global, mtu: u16, value: &Value) -> Result<Self, TopoFault>
         ensures { Gives (λ x. x) result (reads mtu (view value.now)) };
 }
 
 /// An array of members of one type, of which there are at most `limit`.
 pub fn array<T: Element>(
     alloc: Global,
-    mtu: u64,
+    mtu: u16,
     limit: usize,
     value: &Value,
 ) -> Result<Vec<T>, TopoFault>
@@ -46,7 +49,7 @@ pub fn array<T: Element>(
 #[tactic(auto, using(crate::proofs::Members::count_view))]
 fn members<T: Element>(
     alloc: Global,
-    mtu: u64,
+    mtu: u16,
     limit: usize,
     items: &[Value],
 ) -> Result<Vec<T>, TopoFault>
@@ -61,7 +64,7 @@ fn members<T: Element>(
     each(alloc, mtu, items)
 }
 
-fn all_fit<T: Element>(items: &[Value]) -> bool
+pub fn all_fit<T: Member>(items: &[Value]) -> bool
     ensures { result ≡ all_fit T.has_type (items_view items.now) }
 {
     for item in items {
@@ -72,7 +75,7 @@ fn all_fit<T: Element>(items: &[Value]) -> bool
     true
 }
 
-fn each<T: Element>(alloc: Global, mtu: u64, items: &[Value]) -> Result<Vec<T>, TopoFault>
+fn each<T: Element>(alloc: Global, mtu: u16, items: &[Value]) -> Result<Vec<T>, TopoFault>
     ensures { Gives (λ v. v.items) result (each (T.reads mtu) (items_view items.now)) }
 {
     let mut members = Vec::new(alloc);

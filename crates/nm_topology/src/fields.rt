@@ -74,7 +74,7 @@ pub fn optional_number(
 }
 
 /// A required text.
-fn required_plain_text<'a>(table: &'a Table, key: &str) -> Result<&'a str, TopoFault>
+pub fn required_plain_text<'a>(table: &'a Table, key: &str) -> Result<&'a str, TopoFault>
     ensures { Gives (λ s. s.now) result (required plain_text (get_member key.now (table_view table.now))) }
 {
     let Some(value) = field(table, key) else {

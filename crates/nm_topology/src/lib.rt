@@ -8,6 +8,8 @@ mod forms;
 pub mod node;
 pub mod prefix;
 mod rows;
+mod sources;
+pub mod traffic;
 
 pub use fault::{Refusal, TopoFault};
 pub use node::NodeKind;
