@@ -7,3 +7,5 @@ pub mod Texts
 pub mod RawTexts
 pub mod SourceTexts
 pub mod Sources
+pub mod Document
+pub mod DocumentTexts

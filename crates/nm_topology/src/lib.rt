@@ -2,6 +2,7 @@
 #![tactic(auto)]
 
 mod arrays;
+mod document;
 pub mod fault;
 mod fields;
 mod forms;

@@ -1,21 +1,23 @@
 //! The tables of a topology text, each read by itself.
 
+ghost use Rattle.std.specs.Prelude.{◌≤◌};
 ghost use Rattle.toml.specs.View.{table_view};
 ghost use Rattle.nm_topology.specs.Fault.{Gives};
-ghost use Rattle.nm_topology.specs.Rows.{iface_of, link_of, route_of};
+ghost use Rattle.nm_topology.specs.Rows.{node_of, iface_of, link_of, route_of};
 
-use crate::fault::TopoFault;
+use crate::arrays::{Element, Member, optional_array};
+use crate::fault::{Refusal, TopoFault};
 use crate::fields::{
-    only, required_address, required_name, required_number,
+    number, only, required_address, required_name, required_node_kind, required_number,
     required_prefix,
 };
 use crate::node::NodeKind;
 use crate::prefix::Prefix;
-use nm_base::limits::{MAX_DELAY, MAX_QUEUE, MAX_RATE, MIN_RATE};
+use nm_base::limits::{MAX_DELAY, MAX_PORTS_OF_NODE, MAX_QUEUE, MAX_RATE, MIN_RATE};
 use nm_packet::Address;
 use std::alloc::Global;
 use std::marker::Model;
-use toml::Table;
+use toml::{Table, Value};
 
 /// A table of `node`.
 #[derive(Drop)]
@@ -126,4 +128,138 @@ fn route_row(alloc: Global, table: &Table) -> Result<RouteRow, TopoFault>
     let to = required_prefix(table, "to")?;
     let via = required_name(alloc, table, "via")?;
     Ok(RouteRow { node, to, via })
+}
+
+impl Member for u16 {
+    ghost use Rattle.nm_topology.specs.Arrays.{is_integer};
+
+    ghost has_type = { is_integer };
+
+    fn is_of_type(value: &Value) -> bool {
+        matches!(value, Value::Integer(_))
+    }
+}
+
+impl Element for u16 {
+    ghost use Rattle.nm_topology.specs.Fields.{number_in};
+
+    ghost reads = { λ mtu d. number_in 0 65535 d };
+
+    fn read(_alloc: Global, _mtu: u16, value: &Value) -> Result<u16, TopoFault> {
+        Ok(number(value, 0, 65_535)? as u16)
+    }
+}
+
+#[tactic(auto, unfolding(crate::specs::Rows::node_of))]
+fn node_row(alloc: Global, mtu: u16, table: &Table) -> Result<NodeRow, TopoFault>
+    requires { 28 ≤ mtu }
+    ensures { Gives (λ x. x) result (node_of (table_view table.now)) }
+{
+    only(table, &["name", "kind", "partition", "ports"])?;
+    let name = required_name(alloc, table, "name")?;
+    let kind = required_node_kind(table, "kind")?;
+    let partition = required_number(table, "partition", 0, 63)?;
+    let ports = optional_array(alloc, mtu, table, "ports", MAX_PORTS_OF_NODE)?;
+    Ok(NodeRow {
+        name,
+        kind,
+        partition: partition as u8,
+        ports,
+    })
+}
+
+impl Member for NodeRow {
+    ghost use Rattle.nm_topology.specs.Arrays.{is_table};
+
+    ghost has_type = { is_table };
+
+    fn is_of_type(value: &Value) -> bool {
+        matches!(value, Value::Table(_))
+    }
+}
+
+impl Element for NodeRow {
+    ghost use Rattle.nm_topology.specs.Arrays.{in_table};
+    ghost use Rattle.nm_topology.specs.Rows.{node_of};
+
+    ghost reads = { λ mtu d. in_table node_of d };
+
+    fn read(alloc: Global, mtu: u16, value: &Value) -> Result<NodeRow, TopoFault> {
+        match value {
+            Value::Table(table) => node_row(alloc, mtu, table),
+            _ => Err(TopoFault::Refused(Refusal::Kind)),
+        }
+    }
+}
+
+impl Member for IfaceRow {
+    ghost use Rattle.nm_topology.specs.Arrays.{is_table};
+
+    ghost has_type = { is_table };
+
+    fn is_of_type(value: &Value) -> bool {
+        matches!(value, Value::Table(_))
+    }
+}
+
+impl Element for IfaceRow {
+    ghost use Rattle.nm_topology.specs.Arrays.{in_table};
+    ghost use Rattle.nm_topology.specs.Rows.{iface_of};
+
+    ghost reads = { λ mtu d. in_table iface_of d };
+
+    fn read(alloc: Global, _mtu: u16, value: &Value) -> Result<IfaceRow, TopoFault> {
+        match value {
+            Value::Table(table) => iface_row(alloc, table),
+            _ => Err(TopoFault::Refused(Refusal::Kind)),
+        }
+    }
+}
+
+impl Member for LinkRow {
+    ghost use Rattle.nm_topology.specs.Arrays.{is_table};
+
+    ghost has_type = { is_table };
+
+    fn is_of_type(value: &Value) -> bool {
+        matches!(value, Value::Table(_))
+    }
+}
+
+impl Element for LinkRow {
+    ghost use Rattle.nm_topology.specs.Arrays.{in_table};
+    ghost use Rattle.nm_topology.specs.Rows.{link_of};
+
+    ghost reads = { λ mtu d. in_table link_of d };
+
+    fn read(alloc: Global, _mtu: u16, value: &Value) -> Result<LinkRow, TopoFault> {
+        match value {
+            Value::Table(table) => link_row(alloc, table),
+            _ => Err(TopoFault::Refused(Refusal::Kind)),
+        }
+    }
+}
+
+impl Member for RouteRow {
+    ghost use Rattle.nm_topology.specs.Arrays.{is_table};
+
+    ghost has_type = { is_table };
+
+    fn is_of_type(value: &Value) -> bool {
+        matches!(value, Value::Table(_))
+    }
+}
+
+impl Element for RouteRow {
+    ghost use Rattle.nm_topology.specs.Arrays.{in_table};
+    ghost use Rattle.nm_topology.specs.Rows.{route_of};
+
+    ghost reads = { λ mtu d. in_table route_of d };
+
+    fn read(alloc: Global, _mtu: u16, value: &Value) -> Result<RouteRow, TopoFault> {
+        match value {
+            Value::Table(table) => route_row(alloc, table),
+            _ => Err(TopoFault::Refused(Refusal::Kind)),
+        }
+    }
 }

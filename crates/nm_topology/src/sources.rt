@@ -9,7 +9,7 @@ ghost use Rattle.nm_topology.specs.Fault.{Gives};
 ghost use Rattle.nm_topology.specs.Fields.{required, required_text};
 ghost use Rattle.nm_topology.specs.Sources.{octets_of, packet_of, packets_from, packets_of, flow_of, cbr_of, echo_of, raw_of, source_kind_of, source_of};
 
-use crate::arrays::{Member, all_fit};
+use crate::arrays::{Element, Member, all_fit};
 use crate::fault::{Refusal, TopoFault};
 use crate::fields::{
     field, only, optional_number, required_address, required_name, required_number,
@@ -268,7 +268,7 @@ fn required_source_kind(table: &Table, key: &str) -> Result<SourceKind, TopoFaul
 
 /// A table of `source`.
 #[tactic(auto, unfolding(crate::specs::Sources::source_of))]
-pub fn source_row(alloc: Global, mtu: u16, table: &Table) -> Result<SourceRow, TopoFault>
+fn source_row(alloc: Global, mtu: u16, table: &Table) -> Result<SourceRow, TopoFault>
     requires { 28 ≤ mtu }
     ensures { Gives (λ x. x) result (source_of mtu (table_view table.now)) }
 {
@@ -276,5 +276,29 @@ pub fn source_row(alloc: Global, mtu: u16, table: &Table) -> Result<SourceRow, T
         SourceKind::Cbr => cbr_row(alloc, mtu, table),
         SourceKind::Echo => echo_row(alloc, mtu, table),
         SourceKind::Raw => raw_row(alloc, mtu, table),
+    }
+}
+
+impl Member for SourceRow {
+    ghost use Rattle.nm_topology.specs.Arrays.{is_table};
+
+    ghost has_type = { is_table };
+
+    fn is_of_type(value: &Value) -> bool {
+        matches!(value, Value::Table(_))
+    }
+}
+
+impl Element for SourceRow {
+    ghost use Rattle.nm_topology.specs.Arrays.{in_table};
+    ghost use Rattle.nm_topology.specs.Sources.{source_of};
+
+    ghost reads = { λ mtu d. in_table (source_of mtu) d };
+
+    fn read(alloc: Global, mtu: u16, value: &Value) -> Result<SourceRow, TopoFault> {
+        match value {
+            Value::Table(table) => source_row(alloc, mtu, table),
+            _ => Err(TopoFault::Refused(Refusal::Kind)),
+        }
     }
 }
