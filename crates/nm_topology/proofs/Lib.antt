@@ -1,3 +1,4 @@
+pub mod Doubles
 pub mod Keys
 pub mod Members
 pub mod Searches

@@ -9,3 +9,4 @@ pub mod SourceTexts
 pub mod Sources
 pub mod Document
 pub mod DocumentTexts
+pub mod Numbers

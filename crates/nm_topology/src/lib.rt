@@ -6,6 +6,7 @@ mod document;
 pub mod fault;
 mod fields;
 mod forms;
+mod names;
 pub mod node;
 pub mod prefix;
 mod rows;
