@@ -10,3 +10,5 @@ pub mod Sources
 pub mod Document
 pub mod DocumentTexts
 pub mod Numbers
+pub mod Resolving
+pub mod Traffics

@@ -1,7 +1,10 @@
 //! Sources of traffic.
 
-use nm_base::{Packet, Time};
+ghost use Rattle.std.specs.Prelude.{◌≡◌};
+
+use nm_base::{IfaceNo, NodeNo, Packet, Time};
 use nm_packet::Address;
+use std::marker::Model;
 
 /// Packet n of a source, for n from 0 below `count`, is at `start` + n * `interval` nanoseconds.
 #[derive(Clone, Copy, Debug, PartialEq, Eq)]
@@ -41,4 +44,57 @@ pub struct Echo {
 pub struct RawPacket {
     pub at: Time,
     pub packet: Packet,
+}
+
+/// Packets that are handed to an interface as they are, one after another.
+#[derive(Debug, Drop)]
+pub struct Raw {
+    via: IfaceNo,
+    packets: Vec<RawPacket>,
+}
+
+impl Model for Raw {
+    ghost use Rattle.nm_topology.specs.Traffics.{RawTraffic};
+
+    ghost Value = { RawTraffic };
+
+    ghost view = { λ r. record { via = r.via; packets = r.packets.items } };
+}
+
+impl Raw {
+    /// Packets for this interface.
+    pub fn new(via: IfaceNo, packets: Vec<RawPacket>) -> Self
+        ensures { result ≡ record { via = via; packets = packets.items } }
+    {
+        Raw { via, packets }
+    }
+
+    /// The interface.
+    pub fn via(&self) -> IfaceNo
+        ensures { result ≡ self.now.via }
+    {
+        self.via
+    }
+
+    /// The packets, in the order of their times.
+    pub fn packets(&self) -> &[RawPacket]
+        ensures { result.now ≡ self.now.packets }
+    {
+        &self.packets
+    }
+}
+
+/// What a source sends.
+#[derive(Debug, Drop)]
+pub enum Traffic {
+    Cbr(Cbr),
+    Echo(Echo),
+    Raw(Raw),
+}
+
+/// A source of traffic at a node.
+#[derive(Debug, Drop)]
+pub struct Source {
+    pub node: NodeNo,
+    pub traffic: Traffic,
 }
