@@ -12,3 +12,4 @@ pub mod DocumentTexts
 pub mod Numbers
 pub mod Resolving
 pub mod Traffics
+pub mod Checks

@@ -2,6 +2,7 @@
 #![tactic(auto)]
 
 mod arrays;
+mod checks;
 mod document;
 pub mod fault;
 mod fields;
