@@ -2,3 +2,4 @@ pub mod Doubles
 pub mod Keys
 pub mod Members
 pub mod Searches
+pub mod Uses

@@ -1,5 +1,5 @@
 -- The tests of a topology whose names are replaced by numbers.
-use Rattle.std.specs.Prelude.{ℕ, zero, suc, ◌+◌, Bool, ◌&&◌, ◌||◌, not, ◌==◌, nat_eq, nat_le, nat_lt, if◌then◌else◌, List, [], ◌∷◌, ◌++◌, length, map, filter, slice_index, Result, Ok, Err}
+use Rattle.std.specs.Prelude.{ℕ, zero, suc, ◌+◌, Bool, ◌&&◌, ◌||◌, not, ◌==◌, nat_eq, nat_le, nat_lt, if◌then◌else◌, List, [], ◌∷◌, ◌++◌, length, map, filter, slice_index, slice_set, min, Result, Ok, Err}
 use Rattle.std.specs.List.{list_all, list_any}
 use Rattle.nm_topology.specs.declared.fault.Refusal.{Refusal}
 use Rattle.nm_topology.specs.declared.parts.Far.{Far}
@@ -22,6 +22,10 @@ one_if b = if b then 1 else 0
 abbrev pub uses : ℕ → List Link → ℕ
 uses i [] = 0
 uses i (l ∷ ls) = one_if (l.a == i) + one_if (l.b == i) + uses i ls
+
+-- a count of ends, of which one more is the interface a; counts stop at 255
+abbrev pub bump : List ℕ → ℕ → List ℕ
+bump counts a = slice_set counts a (min 255 (slice_index counts a + 1))
 
 abbrev pub are_used_once : ℕ → List Link → Bool
 are_used_once n links = list_all (λ i. uses i links == 1) (numbers_from 0 n)

@@ -1,12 +1,12 @@
 //! The tests of a topology whose names are replaced by numbers.
 
-ghost use Rattle.std.specs.Prelude.{◌≡◌, ◌<◌, ◌≤◌, ◌==◌, All, length, map, nat_eq, nat_le, not, IfOk};
+ghost use Rattle.std.specs.Prelude.{◌≡◌, ℕ, ◌<◌, ◌≤◌, ◌==◌, All, length, map, min, slice_index, nat_eq, nat_le, not, IfOk};
 ghost use Rattle.std.specs.List.{list_all, list_any};
 ghost use Rattle.nm_base.specs.declared.limits.TheConstants.{MAX_ROUTES_OF_NODE};
 ghost use Rattle.nm_topology.specs.declared.fault.Refusal.TheVariants.{IfaceUse, DoubleAddress, DoubleRoute, TooMany, CutDelay};
 ghost use Rattle.nm_topology.specs.Fault.{Gives};
 ghost use Rattle.nm_topology.specs.Numbers.{has_double};
-ghost use Rattle.nm_topology.specs.Checks.{demand, are_used_once, uses, route_key, same_route, is_undelayed_cut, route_tables, routes_at, far_ends, far_end};
+ghost use Rattle.nm_topology.specs.Checks.{demand, are_used_once, bump, uses, route_key, same_route, is_undelayed_cut, route_tables, routes_at, far_ends, far_end};
 
 use crate::fault::{Refusal, TopoFault};
 use crate::names::distinct;
@@ -48,17 +48,44 @@ pub fn check_routes(alloc: Global, routes: &[PlacedRoute]) -> Result<(), TopoFau
     }
 }
 
-/// How many ends of links each interface is, up to 2.
-fn uses(alloc: Global, count: usize, links: &[Link]) -> Result<Vec<u8>, TopoFault>
+/// Counts one end of a link more for an interface, up to 255.
+fn count_use(uses: &mut Vec<u8>, iface: IfaceNo)
+    requires { iface < length uses.old.items }
+    ensures { uses.new.items ≡ bump uses.old.items iface }
+{
+    let place = iface.index();
+    uses[place] = uses[place].saturating_add(1);
+}
+
+/// How many ends of links each of `count` interfaces is, up to 255.
+fn uses_of(alloc: Global, count: usize, links: &[Link]) -> Result<Vec<u8>, AllocError>
     requires { All (λ l. (l.a < count) × (l.b < count)) links.now }
     ensures len { IfOk result (λ v. length v.items ≡ count) }
+    ensures value { IfOk result (λ v. (i : ℕ) → i < count → min 255 (slice_index v.items i) ≡ min 255 (uses i links.now)) }
 {
     let mut uses = vec![in alloc; 0u8; count]?;
     for link in links {
-        let a = link.a.index();
-        uses[a] = uses[a].saturating_add(1);
-        let b = link.b.index();
-        uses[b] = uses[b].saturating_add(1);
+        count_use(&mut uses, link.a);
+        count_use(&mut uses, link.b);
     }
     Ok(uses)
+}
+
+fn are_ones(uses: &[u8]) -> bool
+    ensures { result ≡ list_all (λ u. u == 1) uses.now }
+{
+    uses.iter().all(|u| *u == 1)
+}
+
+/// Refuses an interface that is not exactly one end of one link.
+pub fn check_uses(alloc: Global, count: usize, links: &[Link]) -> Result<(), TopoFault>
+    requires { All (λ l. (l.a < count) × (l.b < count)) links.now }
+    ensures { Gives (λ u. u) result (demand (are_used_once count links.now) IfaceUse) }
+{
+    let uses = uses_of(alloc, count, links)?;
+    if are_ones(&uses) {
+        Ok(())
+    } else {
+        Err(TopoFault::Refused(Refusal::IfaceUse))
+    }
 }
