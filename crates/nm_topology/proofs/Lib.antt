@@ -3,3 +3,4 @@ pub mod Keys
 pub mod Members
 pub mod Searches
 pub mod Uses
+pub mod Wires

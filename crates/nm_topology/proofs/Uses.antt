@@ -5,7 +5,7 @@ use Rattle.std.specs.List.{list_all, list_any}
 use Rattle.nm_topology.specs.declared.parts.Link.{Link}
 use Rattle.nm_topology.specs.Checks.{one_if, bump, uses, numbers_from}
 
-same_or_not : (a i : ℕ) → (a ≡ i) ⊎ (a ≡ i → ⊥)
+pub same_or_not : (a i : ℕ) → (a ≡ i) ⊎ (a ≡ i → ⊥)
 same_or_not a i = grind arith
 
 one_here : (a i : ℕ) → a ≡ i → one_if (a == i) ≡ 1

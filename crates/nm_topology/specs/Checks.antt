@@ -1,5 +1,5 @@
 -- The tests of a topology whose names are replaced by numbers.
-use Rattle.std.specs.Prelude.{ℕ, zero, suc, ◌+◌, Bool, ◌&&◌, ◌||◌, not, ◌==◌, nat_eq, nat_le, nat_lt, if◌then◌else◌, List, [], ◌∷◌, ◌++◌, length, map, filter, slice_index, slice_set, min, Result, Ok, Err}
+use Rattle.std.specs.Prelude.{ℕ, zero, suc, ◌+◌, Bool, ◌&&◌, ◌||◌, not, ◌==◌, nat_eq, nat_le, nat_lt, if◌then◌else◌, List, [], ◌∷◌, ◌++◌, length, map, filter, slice_index, slice_set, set, min, Result, Ok, Err}
 use Rattle.std.specs.List.{list_all, list_any}
 use Rattle.nm_topology.specs.declared.fault.Refusal.{Refusal}
 use Rattle.nm_topology.specs.declared.parts.Far.{Far}
@@ -43,10 +43,6 @@ abbrev pub routes_at : ℕ → List PlacedRoute → List Route
 routes_at j [] = []
 routes_at j (r ∷ rs) = if r.node == j then r.route ∷ routes_at j rs else routes_at j rs
 
--- the routes of each of n nodes
-abbrev pub route_tables : ℕ → List PlacedRoute → List (List Route)
-route_tables n routes = map (λ j. routes_at j routes) (numbers_from 0 n)
-
 -- what interface i is linked to
 abbrev pub far_end : ℕ → List Link → Far
 far_end i [] = record { peer = i; rate = 0; delay = 0 }
@@ -54,8 +50,10 @@ far_end i (l ∷ ls) =
     if l.a == i then record { peer = l.b; rate = l.rate; delay = l.delay }
     else (if l.b == i then record { peer = l.a; rate = l.rate; delay = l.delay } else far_end i ls)
 
-abbrev pub far_ends : ℕ → List Link → List Far
-far_ends n links = map (λ i. far_end i links) (numbers_from 0 n)
+-- the far ends with those of one link set
+abbrev pub joined : List Far → Link → List Far
+joined far l =
+    set (set far l.b (record { peer = l.a; rate = l.rate; delay = l.delay })) l.a (record { peer = l.b; rate = l.rate; delay = l.delay })
 
 -- the partition of an interface, by the partitions of nodes and the owners of interfaces
 abbrev pub part_of : List ℕ → List ℕ → ℕ → ℕ

@@ -6,7 +6,7 @@ ghost use Rattle.nm_base.specs.declared.limits.TheConstants.{MAX_ROUTES_OF_NODE}
 ghost use Rattle.nm_topology.specs.declared.fault.Refusal.TheVariants.{IfaceUse, DoubleAddress, DoubleRoute, TooMany, CutDelay};
 ghost use Rattle.nm_topology.specs.Fault.{Gives};
 ghost use Rattle.nm_topology.specs.Numbers.{has_double};
-ghost use Rattle.nm_topology.specs.Checks.{demand, are_used_once, bump, uses, route_key, same_route, is_undelayed_cut, route_tables, routes_at, far_ends, far_end};
+ghost use Rattle.nm_topology.specs.Checks.{demand, are_used_once, bump, uses, route_key, same_route, is_undelayed_cut};
 
 use crate::fault::{Refusal, TopoFault};
 use crate::names::distinct;

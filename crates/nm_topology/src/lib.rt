@@ -15,6 +15,7 @@ mod resolving;
 mod rows;
 mod sources;
 pub mod traffic;
+mod wiring;
 
 pub use fault::{Refusal, TopoFault};
 pub use node::NodeKind;
