@@ -1,5 +1,5 @@
 -- Counting ends of links, and tests of each number below a bound.
-use Rattle.std.proofs.Common.{◌≡◌, ◌⊎◌, ℕ, zero, suc, ◌+◌, ◌<◌, ◌≤◌, Bool, true, false, ◌&&◌, ◌||◌, ◌==◌, min, List, [], ◌∷◌, length, get_or, set, refl, sym, ap, ◌∙◌, subst, arith, inl, inr, ⊎_elim, add_assoc, add-zero, zero-add, length-set, get_or-set_same, get_or-set_other}
+use Rattle.std.proofs.Common.{◌≡◌, ◌⊎◌, ℕ, zero, suc, ◌+◌, ◌-◌, ◌<◌, ◌≤◌, Bool, true, false, cond, ◌&&◌, ◌||◌, ◌==◌, min, List, [], ◌∷◌, ◌++◌, length, filter, get_or, set, map, refl, sym, ap, ◌∙◌, subst, arith, inl, inr, ⊎_elim, add_assoc, add-one, add-zero, zero-add, append_assoc, length-set, get_or-set_same, get_or-set_other}
 use Rattle.std.proofs.lemmas.Bool.Decides.{nat_tests}
 use Rattle.std.specs.List.{list_all, list_any}
 use Rattle.nm_topology.specs.declared.parts.Link.{Link}
@@ -53,3 +53,31 @@ one_or_not x y h = grind (arith, nat_tests)
 -- counts that agree up to 255 are 1 at the same numbers
 pub ones : (u : List ℕ) (f : ℕ → ℕ) → ((i : ℕ) → i < length u → min 255 (get_or u i 0) ≡ min 255 (f i)) → list_all (λ x. x == 1) u ≡ list_all (λ i. f i == 1) (numbers_from 0 (length u))
 ones u f h = list_all-numbers 0 (λ x. x == 1) (λ i. f i == 1) u 0 (λ i l. one_or_not (get_or u i 0) (f i) (h i l) ∙ ap (λ j. f j == 1) (sym (zero-add i)))
+
+-- a list whose elements are those of f is f of each number
+pub map-numbers : {X : Type 0} (d : X) (f : ℕ → X) (xs : List X) (j : ℕ) → ((i : ℕ) → i < length xs → get_or xs i d ≡ f (j + i)) → xs ≡ map f (numbers_from j (length xs))
+map-numbers d f [] j h = refl
+map-numbers d f (x ∷ xs) j h =
+    ap (λ y. y ∷ xs) (h 0 (omega arith) ∙ ap f (add-zero j))
+    ∙ ap (λ ys. f j ∷ ys) (map-numbers d f xs (suc j) (λ i l. h (suc i) (omega arith) ∙ ap f (omega arith)))
+
+-- the numbers that pass, one number more
+module _ (p : ℕ → Bool) (front : List ℕ) (i n : ℕ) (h : i < n) where
+  numbers-step : numbers_from i (n - i) ≡ i ∷ numbers_from (i + 1) (n - (i + 1))
+  numbers-step =
+      let more : n - i ≡ suc (n - (i + 1)) = omega arith in
+      ap (numbers_from i) more ∙ ap (λ j. i ∷ numbers_from j (n - (i + 1))) (sym (add-one i))
+
+  filter-cons : filter p (i ∷ numbers_from (i + 1) (n - (i + 1))) ≡ cond (p i) (i ∷ filter p (numbers_from (i + 1) (n - (i + 1)))) (filter p (numbers_from (i + 1) (n - (i + 1))))
+  filter-cons = refl
+
+  pub passes-more : p i ≡ true → (front ++ i ∷ []) ++ filter p (numbers_from (i + 1) (n - (i + 1))) ≡ front ++ filter p (numbers_from i (n - i))
+  passes-more e =
+      append_assoc front (i ∷ []) (filter p (numbers_from (i + 1) (n - (i + 1))))
+      ∙ ap (λ b. front ++ cond b (i ∷ filter p (numbers_from (i + 1) (n - (i + 1)))) (filter p (numbers_from (i + 1) (n - (i + 1))))) (sym e)
+      ∙ ap (λ is. front ++ filter p is) (sym numbers-step)
+
+  pub fails-more : p i ≡ false → front ++ filter p (numbers_from (i + 1) (n - (i + 1))) ≡ front ++ filter p (numbers_from i (n - i))
+  fails-more e =
+      ap (λ b. front ++ cond b (i ∷ filter p (numbers_from (i + 1) (n - (i + 1)))) (filter p (numbers_from (i + 1) (n - (i + 1))))) (sym e)
+      ∙ ap (λ is. front ++ filter p is) (sym numbers-step)

@@ -1,7 +1,8 @@
 -- One link more, and the far ends of interfaces.
-use Rattle.std.proofs.Common.{◌≡◌, ◌⊎◌, ℕ, zero, suc, ◌<◌, Bool, true, false, ◌==◌, cond, List, [], ◌∷◌, length, set, Option, Some, refl, sym, ap, ◌∙◌, arith, ⊎_elim, length-set}
+use Rattle.std.proofs.Common.{◌≡◌, All, ◌⊎◌, ℕ, zero, suc, ◌<◌, Bool, true, false, ◌==◌, cond, List, [], ◌∷◌, length, set, Option, Some, refl, sym, ap, ◌∙◌, arith, ⊎_elim, length-set}
 use Rattle.std.specs.Prelude.{slice_get}
 use Rattle.std.proofs.lemmas.Bool.Decides.{nat_tests}
+use Rattle.std.proofs.lemmas.List.Elements.{All-set}
 use Rattle.nm_topology.specs.declared.parts.Far.{Far}
 use Rattle.nm_topology.specs.declared.parts.Link.{Link}
 use Rattle.nm_topology.specs.Checks.{far_end, joined}
@@ -41,3 +42,7 @@ joined-get far l rest i a b h =
       (same_or_not l.b i)
       ∙ ap (λ t. Some (cond t ends_a (cond (l.b == i) ends_b other))) (sym (is_other l.a i e)))
     (same_or_not l.a i)
+
+-- a property of each far end stays
+pub All-joined : (n : ℕ) (far : List Far) (l : Link) → l.a < n → l.b < n → All (λ f. f.peer < n) far → All (λ f. f.peer < n) (joined far l)
+All-joined n far l a b h = All-set (λ f. f.peer < n) (set far l.b (record { peer = l.a; rate = l.rate; delay = l.delay })) l.a (record { peer = l.b; rate = l.rate; delay = l.delay }) b (All-set (λ f. f.peer < n) far l.b (record { peer = l.a; rate = l.rate; delay = l.delay }) a h)

@@ -1,5 +1,5 @@
 -- The tests of a topology whose names are replaced by numbers.
-use Rattle.std.specs.Prelude.{ℕ, zero, suc, ◌+◌, Bool, ◌&&◌, ◌||◌, not, ◌==◌, nat_eq, nat_le, nat_lt, if◌then◌else◌, List, [], ◌∷◌, ◌++◌, length, map, filter, slice_index, slice_set, set, min, Result, Ok, Err}
+use Rattle.std.specs.Prelude.{ℕ, zero, suc, ◌+◌, Bool, ◌&&◌, ◌||◌, not, ◌==◌, nat_eq, nat_le, nat_lt, if◌then◌else◌, List, [], ◌∷◌, ◌++◌, length, map, filter, slice_index_or as get_or, slice_index, slice_set, set, min, Result, Ok, Err}
 use Rattle.std.specs.List.{list_all, list_any}
 use Rattle.nm_topology.specs.declared.fault.Refusal.{Refusal}
 use Rattle.nm_topology.specs.declared.parts.Far.{Far}
@@ -66,3 +66,18 @@ is_cut parts owners l = not (part_of parts owners l.a == part_of parts owners l.
 -- a link between partitions that delays by nothing
 abbrev pub is_undelayed_cut : List ℕ → List ℕ → Link → Bool
 is_undelayed_cut parts owners l = (l.delay == 0) && is_cut parts owners l
+
+-- the far end of each of n interfaces, and the routes of each of n nodes
+abbrev pub far_ends : ℕ → List Link → List Far
+far_ends n links = map (λ i. far_end i links) (numbers_from 0 n)
+
+abbrev pub route_tables : ℕ → List PlacedRoute → List (List Route)
+route_tables n routes = map (λ j. routes_at j routes) (numbers_from 0 n)
+
+-- the interface that interface i is linked to
+abbrev pub peer_at : List Far → ℕ → ℕ
+peer_at far i = (get_or far i (far_end i [])).peer
+
+-- whether the interface, of those with these far ends, receives a channel
+abbrev pub is_receiver : List ℕ → List ℕ → List Far → ℕ → Bool
+is_receiver parts owners far i = not (part_of parts owners i == part_of parts owners (peer_at far i))
