@@ -13,3 +13,4 @@ pub mod Numbers
 pub mod Resolving
 pub mod Traffics
 pub mod Checks
+pub mod Networks

@@ -1,6 +1,6 @@
 //! Arrays of a topology text: what each member is read to, in order.
 
-ghost use Rattle.std.specs.Prelude.{◌≡◌, ℕ, ◌≤◌, Bool, [], Result};
+ghost use Rattle.std.specs.Prelude.{◌≡◌, ℕ, ◌≤◌, Bool, [], length, IfOk, Result};
 ghost use Rattle.toml.specs.Data.{Data, get_member};
 ghost use Rattle.toml.specs.View.{view, items_view, table_view};
 ghost use Rattle.nm_topology.specs.declared.fault.Refusal.{Refusal as RefusalValue};
@@ -43,7 +43,8 @@ pub fn optional_array<T: Element>(
     limit: usize,
 ) -> Result<Vec<T>, TopoFault>
     requires { 28 ≤ mtu }
-    ensures { Gives (λ v. v.items) result (optional [] (array_of T.has_type limit (T.reads mtu)) (get_member key.now (table_view table.now))) }
+    ensures count { IfOk result (λ v. length v.items ≤ limit) }
+    ensures value { Gives (λ v. v.items) result (optional [] (array_of T.has_type limit (T.reads mtu)) (get_member key.now (table_view table.now))) }
 {
     match field(table, key) {
         Some(value) => array(alloc, mtu, limit, value),
@@ -59,7 +60,8 @@ fn array<T: Element>(
     value: &Value,
 ) -> Result<Vec<T>, TopoFault>
     requires { 28 ≤ mtu }
-    ensures { Gives (λ v. v.items) result (array_of T.has_type limit (T.reads mtu) (view value.now)) }
+    ensures count { IfOk result (λ v. length v.items ≤ limit) }
+    ensures value { Gives (λ v. v.items) result (array_of T.has_type limit (T.reads mtu) (view value.now)) }
 {
     match value {
         Value::Array(items) => members(alloc, mtu, limit, items),
@@ -75,7 +77,8 @@ fn members<T: Element>(
     items: &[Value],
 ) -> Result<Vec<T>, TopoFault>
     requires { 28 ≤ mtu }
-    ensures { Gives (λ v. v.items) result (members_of T.has_type limit (T.reads mtu) (items_view items.now)) }
+    ensures count { IfOk result (λ v. length v.items ≤ limit) }
+    ensures value { Gives (λ v. v.items) result (members_of T.has_type limit (T.reads mtu) (items_view items.now)) }
 {
     if !all_fit::<T>(items) {
         return Err(TopoFault::Refused(Refusal::Kind));
@@ -99,7 +102,8 @@ pub fn all_fit<T: Member>(items: &[Value]) -> bool
 
 fn each<T: Element>(alloc: Global, mtu: u16, items: &[Value]) -> Result<Vec<T>, TopoFault>
     requires { 28 ≤ mtu }
-    ensures { Gives (λ v. v.items) result (each (T.reads mtu) (items_view items.now)) }
+    ensures count { IfOk result (λ v. length v.items ≡ length items.now) }
+    ensures value { Gives (λ v. v.items) result (each (T.reads mtu) (items_view items.now)) }
 {
     let mut members = Vec::new(alloc);
     for item in items {
