@@ -14,3 +14,5 @@ pub mod Resolving
 pub mod Traffics
 pub mod Checks
 pub mod Networks
+pub mod Network
+pub mod Wholes

@@ -9,6 +9,7 @@ mod fields;
 mod forms;
 mod names;
 pub mod node;
+mod numbering;
 pub mod parts;
 pub mod prefix;
 mod resolving;
