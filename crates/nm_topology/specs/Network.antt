@@ -1,6 +1,7 @@
 -- A topology text is read to this network, or to its first refusal.
 use Rattle.std.specs.Prelude.{ℕ, ◌+◌, Bool, not, ◌==◌, nat_eq, nat_le, nat_lt, max, if◌then◌else◌, List, [], ◌∷◌, length, map, filter, Option, Some, None, Result, Ok, Err}
 use Rattle.std.specs.List.{list_all, list_any}
+use Rattle.std.specs.Option.{ok_or}
 use Rattle.std.specs.Str.Lossy.{utf8_valid_len}
 use Rattle.toml.specs.Data.{Members}
 use Rattle.toml.specs.Parse.{parse_document}
@@ -83,12 +84,14 @@ network_of digest d = do
     digest = digest;
   })
 
-abbrev pub read_text : Option Members → Result DocumentText Refusal
-read_text None = Err Text
-read_text (Some t) = document_of t
+-- the TOML document of a text of octets
+abbrev pub parsed : List ℕ → Result Members Refusal
+parsed text = if utf8_valid_len text == length text then ok_or (parse_document text) Text else Err Text
 
 -- what a topology text is read to
 unfoldable pub topology_of : List ℕ → Result NetworkValue Refusal
-topology_of text =
-    if nat_lt MAX_TEXT_OCTETS (length text) then Err Range
-    else (if utf8_valid_len text == length text then (read_text (parse_document text) >>= network_of (sha256 text)) else Err Text)
+topology_of text = do
+  short ← demand (nat_le (length text) MAX_TEXT_OCTETS) Range
+  members ← parsed text
+  document ← document_of members
+  network_of (sha256 text) document

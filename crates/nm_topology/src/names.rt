@@ -49,7 +49,8 @@ impl<'a> Names<'a> {
     /// These names, or the refusal of names of which two are the same.
     pub fn new(alloc: Global, names: &[&'a str]) -> Result<Self, TopoFault>
         requires { length names.now ≤ MAX_IFACES }
-        ensures { Gives (λ n. n) result (distinct_names (map (λ k. k.now) names.now)) }
+        ensures len { IfOk result (λ n. length n ≡ length names.now) }
+        ensures value { Gives (λ n. n) result (distinct_names (map (λ k. k.now) names.now)) }
     {
         match distinct(alloc, names)? {
             Some(set) => Ok(Names { set }),

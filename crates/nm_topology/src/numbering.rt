@@ -3,6 +3,7 @@
 ghost use Rattle.std.specs.Prelude.{◌≡◌, ◌<◌, ◌≤◌, All, length, map, IfOk};
 ghost use Rattle.nm_base.specs.declared.limits.TheConstants.{MAX_IFACES};
 ghost use Rattle.nm_topology.specs.Fault.{Gives};
+ghost use Rattle.nm_topology.specs.Network.{numbered};
 
 use crate::fault::TopoFault;
 use crate::names::Names;
@@ -52,4 +53,35 @@ fn iface_names(alloc: Global, rows: &[IfaceRow]) -> Result<Vec<&str>, AllocError
         names.push(row.name.as_str())?;
     }
     Ok(names)
+}
+
+/// The tables, with numbers in place of names.
+#[tactic(auto, unfolding(crate::specs::Network::numbered))]
+pub fn number(
+    alloc: Global,
+    nodes: &[NodeRow],
+    ifaces: &[IfaceRow],
+    links: &[LinkRow],
+    routes: &[RouteRow],
+    sources: Vec<SourceRow>,
+) -> Result<Numbers, TopoFault>
+    requires nodes { length nodes.now ≤ MAX_IFACES }
+    requires ifaces { length ifaces.now ≤ MAX_IFACES }
+    ensures owners { IfOk result (λ n. (length n.owners ≡ length ifaces.now) × All (λ o. o < length nodes.now) n.owners) }
+    ensures links { IfOk result (λ n. All (λ l. (l.a < length ifaces.now) × (l.b < length ifaces.now)) n.links) }
+    ensures routes { IfOk result (λ n. All (λ r. r.node < length nodes.now) n.routes) }
+    ensures value { Gives (λ n. n) result (numbered nodes.now ifaces.now links.now routes.now sources.items) }
+{
+    let node_names = Names::new(alloc, &node_names(alloc, nodes)?)?;
+    let iface_names = Names::new(alloc, &iface_names(alloc, ifaces)?)?;
+    let owners = resolving::owners(alloc, &node_names, ifaces)?;
+    let links = resolving::links(alloc, &iface_names, links)?;
+    let routes = resolving::routes(alloc, &node_names, &iface_names, &owners, routes)?;
+    let sources = resolving::sources(alloc, &node_names, &iface_names, &owners, sources)?;
+    Ok(Numbers {
+        owners,
+        links,
+        routes,
+        sources,
+    })
 }

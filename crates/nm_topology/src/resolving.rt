@@ -17,6 +17,7 @@ use std::alloc::Global;
 
 /// The owner of each interface.
 pub fn owners(alloc: Global, nodes: &Names, rows: &[IfaceRow]) -> Result<Vec<NodeNo>, TopoFault>
+    ensures len { IfOk result (λ v. length v.items ≡ length rows.now) }
     ensures within { IfOk result (λ v. All (λ n. n < length nodes.now) v.items) }
     ensures value { Gives (λ v. v.items) result (all_of (owner_of nodes.now) rows.now) }
 {

@@ -1,4 +1,5 @@
-use Rattle.std.proofs.Common.{◌≡◌, ℕ, Bool, true, false, cond, List, map, Bor, Result, Ok, Err, sym, ap, ◌∙◌}
+use Rattle.std.proofs.lemmas.List.{length-map}
+use Rattle.std.proofs.Common.{length, ◌≡◌, ℕ, Bool, true, false, cond, List, map, Bor, Result, Ok, Err, sym, ap, ◌∙◌}
 use Rattle.std.specs.Str.{bytes_eq}
 use Rattle.nm_topology.specs.declared.fault.Refusal.{Refusal}
 use Rattle.nm_topology.specs.declared.fault.Refusal.TheVariants.{DoubleName}
@@ -15,10 +16,13 @@ pub returns-in-Some : goal.returns-in-Some
 returns-in-Some c =
     let same = has_double-map bytes_eq (λ (k : Bor (List ℕ)). k.now) c.args.names.now in
     let h = rw c.in-Some.is at c.in_ok-set.ensures in
-    ap (answer (texts c.args.names.now)) (same ∙ h.0) ∙ ap (λ names. Ok (texts names)) (sym h.1)
+    record {
+      len = length-map c.in-Some.set.keys (λ (k : Bor (List ℕ)). k.now) ∙ ap length h.1;
+      value = ap (answer (texts c.args.names.now)) (same ∙ h.0) ∙ ap (λ names. Ok (texts names)) (sym h.1);
+    }
 
 pub returns-in-None : goal.returns-in-None
 returns-in-None c =
     let same = has_double-map bytes_eq (λ (k : Bor (List ℕ)). k.now) c.args.names.now in
     let h = rw c.in-None.is at c.in_ok-set.ensures in
-    ap (answer (texts c.args.names.now)) (same ∙ h)
+    record { len = tt; value = ap (answer (texts c.args.names.now)) (same ∙ h) }
