@@ -1,11 +1,11 @@
 -- UDP datagrams as they are written and as they are read.
-use Rattle.std.proofs.Common.{◌≡◌, ℕ, ◌+◌, ◌*◌, ◌/◌, ◌%◌, ◌<◌, ◌≤◌, ◌⊎◌, ◌==◌, not, false, List, ◌∷◌, ◌++◌, length, take, drop, slice_index, Option, Some, None, Result, Ok, Err, refl, sym, ap, ◌∙◌, arith, inl, inr}
+use Rattle.std.proofs.Common.{◌≡◌, ℕ, ◌<◌, ◌≤◌, ◌⊎◌, ◌==◌, not, false, List, ◌++◌, length, take, slice_index, Some, None, Result, Ok, Err, refl, ap, ◌∙◌, arith, inl, inr}
 use Rattle.std.proofs.lemmas.Bool.{le-ltb, eq-eqb, and_right}
 use Rattle.std.proofs.lemmas.List.{get_or_append_left, take_at, length-append}
 use Rattle.std.specs.Result.{MatchResult}
 use Rattle.nm_packet.specs.Octets.{word_at}
-use Rattle.nm_packet.specs.Checksum.{word_sum, folded}
-use Rattle.nm_packet.specs.Udp.{UdpHeader, udp_octets, udp_sum, IsUdp, udp_fields_of, udp_data_of, udp_cut_of, udp_fault, IsDatagram}
+use Rattle.nm_packet.specs.Checksum.{folded}
+use Rattle.nm_packet.specs.Udp.{UdpHeader, udp_octets, udp_sum, IsUdp, udp_fields_of, udp_data_of, udp_cut_of, udp_fault}
 use Rattle.nm_packet.specs.declared.fault.UdpFault.{UdpFault}
 
 module _ (source destination : ℕ) where

@@ -1,17 +1,13 @@
 -- IPv4 packets as they are written and as they are read.
-use Rattle.std.proofs.Common.{◌≡◌, ℕ, ◌+◌, ◌*◌, ◌/◌, ◌%◌, ◌<◌, ◌≤◌, List, ◌∷◌, ◌++◌, length, take, drop, slice_index, Some, None, Result, Ok, Err, refl, sym, ap, ◌∙◌, subst, ⊎_elim, arith}
+use Rattle.std.proofs.Common.{◌≡◌, ℕ, ◌+◌, ◌*◌, ◌/◌, ◌%◌, ◌<◌, ◌≤◌, List, ◌∷◌, ◌++◌, length, take, drop, slice_index, Some, None, Result, Ok, Err, refl, sym, ap, ◌∙◌, ⊎_elim, arith}
 use Rattle.std.proofs.lemmas.List.{get_or-take, get_or_past, get_or_append_left, take_at, drop_at, take-append-le, length-append, length-drop, drop_more, drop-append-le, take-append-drop, length-take, length-take-le}
 use Rattle.std.proofs.lemmas.Bool.{cases_lt}
 use Rattle.std.specs.Result.{MatchResult, IfOk}
-use Rattle.nm_packet.specs.Octets.{word_at, long_word_at}
+use Rattle.nm_packet.specs.Octets.{word_at, long_word_at, IsOctets}
 use Rattle.nm_packet.specs.Checksum.{word_sum, folded}
 use Rattle.nm_packet.specs.Ipv4.{Header, HeaderFits, header_octets, IsIpv4, header_length_of, header_of, payload_of, fields_of, cut_of, header_fault, IsPacket}
 use Rattle.nm_packet.specs.declared.fault.HeaderFault.{HeaderFault}
 use Rattle.nm_packet.proofs.Faults.{no_fault}
-
--- each is an octet
-abbrev pub IsOctets : List ℕ → Type 0
-IsOctets xs = (i : ℕ) → slice_index xs i < 256
 
 -- the first 20 octets and the rest
 pub split20 : (xs : List ℕ) → 20 ≤ length xs → xs ≡ slice_index xs 0 ∷ slice_index xs 1 ∷ slice_index xs 2 ∷ slice_index xs 3 ∷ slice_index xs 4 ∷ slice_index xs 5 ∷ slice_index xs 6 ∷ slice_index xs 7 ∷ slice_index xs 8 ∷ slice_index xs 9 ∷ slice_index xs 10 ∷ slice_index xs 11 ∷ slice_index xs 12 ∷ slice_index xs 13 ∷ slice_index xs 14 ∷ slice_index xs 15 ∷ slice_index xs 16 ∷ slice_index xs 17 ∷ slice_index xs 18 ∷ slice_index xs 19 ∷ drop 20 xs
@@ -199,6 +195,6 @@ packet_read (Ok v) octets xs exact none cut = ap Ok (exact.1 ∙ cut)
 packet_read (Err e) octets xs exact none cut = cc
 
 -- such a reader's packets are in the grammar
-pub grammar_read : (r : Result (List ℕ) HeaderFault) (octets : List ℕ) → IsOctets octets → MatchResult r (λ v. (header_fault octets ≡ None) × (v ≡ cut_of octets)) (λ e. header_fault octets ≡ Some e) → IfOk r IsPacket → IfOk r (λ v. IsIpv4 (fields_of v) (payload_of v) v)
-grammar_read (Ok v) octets small exact packet = IsIpv4-fields v (subst IsOctets (sym exact.1) (IsOctets-take (word_at octets 2) octets small)) packet
-grammar_read (Err e) octets small exact packet = tt
+pub grammar_read : (r : Result (List ℕ) HeaderFault) (octets : List ℕ) → MatchResult r (λ v. (header_fault octets ≡ None) × (v ≡ cut_of octets)) (λ e. header_fault octets ≡ Some e) → IfOk r (λ v. IsPacket v × IsOctets v) → IfOk r (λ v. IsIpv4 (fields_of v) (payload_of v) v)
+grammar_read (Ok v) octets exact packet = IsIpv4-fields v packet.1 packet.0
+grammar_read (Err e) octets exact packet = tt

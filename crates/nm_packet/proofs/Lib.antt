@@ -2,6 +2,8 @@ pub mod Checksums
 pub mod Datagrams
 pub mod Faults
 pub mod Grammar
+pub mod Messages
 pub mod Numbers
+pub mod RoundTrips
 pub mod Texts
 pub mod Writing

@@ -1,10 +1,10 @@
 -- What the writers make of a packet.
-use Rattle.std.proofs.Common.{◌≡◌, ℕ, ◌+◌, ◌-◌, ◌*◌, ◌%◌, ◌<◌, ◌≤◌, List, ◌∷◌, ◌++◌, length, min, take, drop, slice_index, slice_set, refl, sym, ap, ◌∙◌, arith}
+use Rattle.std.proofs.Common.{◌≡◌, ℕ, ◌+◌, ◌-◌, ◌*◌, ◌%◌, List, ◌++◌, length, min, take, drop, slice_index, slice_set, refl, sym, ap, ◌∙◌, arith}
 use Rattle.std.proofs.lemmas.List.{take-take, drop-take, take-append-drop, take_min, take_at}
-use Rattle.nm_packet.specs.Octets.{word}
+use Rattle.nm_packet.specs.Octets.{word, IsOctets}
 use Rattle.nm_packet.specs.Checksum.{word_sum, checksum_of}
-use Rattle.nm_packet.specs.Ipv4.{Header, HeaderFits, header_octets, header_length_of, header_of, payload_of, fields_of, IsPacket, checked, lowered, packet_octets, quote_of, IsIpv4}
-use Rattle.nm_packet.proofs.Grammar.{IsOctets, spelled-fields, IsIpv4-fields, length-header_octets}
+use Rattle.nm_packet.specs.Ipv4.{Header, HeaderFits, header_octets, header_length_of, payload_of, fields_of, IsPacket, lowered, packet_octets, quote_of}
+use Rattle.nm_packet.proofs.Grammar.{spelled-fields, IsIpv4-fields}
 
 take-add : (n m : ℕ) (xs : List ℕ) → take (n + m) xs ≡ take n xs ++ take m (drop n xs)
 take-add n m xs =

@@ -1,5 +1,5 @@
 -- ICMP messages (RFC 792).
-use Rattle.std.specs.Prelude.{◌≡◌, ℕ, ◌+◌, ◌<◌, ◌≤◌, not, ◌==◌, nat_lt, List, ◌∷◌, ◌++◌, length, take, drop, slice_index, Option, Some, None, if◌then◌else◌}
+use Rattle.std.specs.Prelude.{◌≡◌, ℕ, ◌<◌, not, ◌==◌, nat_lt, List, ◌∷◌, ◌++◌, length, take, drop, slice_index, Option, Some, None, if◌then◌else◌}
 use Rattle.nm_packet.specs.Octets.{word, word_at}
 use Rattle.nm_packet.specs.Checksum.{word_sum, folded, checksum_of}
 use Rattle.nm_packet.specs.declared.fault.IcmpFault.{IcmpFault}
@@ -41,10 +41,14 @@ icmp_fields_of octets = record {
 abbrev pub icmp_data_of : List ℕ → List ℕ
 icmp_data_of octets = drop 8 octets
 
--- the first test of a message that fails
+-- the first test of a message that fails, None where all pass
 abbrev pub icmp_fault : List ℕ → Option IcmpFault
 icmp_fault octets = if nat_lt (length octets) 8 then Some Short
     else (if not (folded (word_sum octets) == 65535) then Some Checksum else None)
+
+-- the header that is written, but for the checksum
+abbrev pub icmp_header : ℕ → ℕ → List ℕ → IcmpHeader
+icmp_header message_type code rest = record { message_type = message_type; code = code; checksum = 0; rest = rest }
 
 -- the header with the checksum that is written, which is over all other words
 abbrev pub icmp_checked : IcmpHeader → List ℕ → IcmpHeader

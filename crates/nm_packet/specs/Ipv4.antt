@@ -79,7 +79,7 @@ fields_of octets = record {
 abbrev pub cut_of : List ℕ → List ℕ
 cut_of octets = take (word_at octets 2) octets
 
--- the first test of a header that fails
+-- the first test of a header that fails, None where all pass
 abbrev pub header_fault : List ℕ → Option HeaderFault
 header_fault octets = if nat_lt (length octets) 20 then Some Short
     else (if not (slice_index octets 0 / 16 == 4) then Some Version
@@ -88,7 +88,8 @@ header_fault octets = if nat_lt (length octets) 20 then Some Short
     else (if nat_lt (word_at octets 2) (header_length_of octets) || nat_lt (length octets) (word_at octets 2) then Some Total
     else None))))
 
--- the octets pass the tests, and nothing follows the packet
+-- The octets pass the tests, and nothing follows the packet. This is the grammar as the tests have it: octets are such a
+-- packet where `IsIpv4` holds of the fields and the payload that are read of them.
 pub record IsPacket (octets : List ℕ) : Type 0 where
   pub least : 20 ≤ length octets
   pub greatest : length octets < 65536
@@ -126,6 +127,10 @@ plain_header h size = record {
 -- the header one hop on (RFC 791, section 3.2)
 abbrev pub lowered : Header → Header
 lowered h = record h { time_to_live = h.time_to_live - 1 }
+
+-- the checksum after one word of the octets changed (RFC 1624, equation 3)
+abbrev pub updated_checksum : ℕ → ℕ → ℕ → ℕ
+updated_checksum checksum old new = checksum_of (65535 - checksum + (65535 - old) + new)
 
 -- what an error message quotes of a packet: its header as it came, and the first eight octets of its payload, or all
 -- of them where there are fewer (RFC 792)

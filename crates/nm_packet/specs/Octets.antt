@@ -1,5 +1,5 @@
 -- Numbers in network byte order, the high octet first (RFC 791, appendix B).
-use Rattle.std.specs.Prelude.{ℕ, ◌+◌, ◌*◌, ◌/◌, ◌%◌, List, [], ◌∷◌, slice_index}
+use Rattle.std.specs.Prelude.{ℕ, ◌+◌, ◌*◌, ◌/◌, ◌%◌, ◌<◌, List, [], ◌∷◌, slice_index}
 
 -- the two octets of a number of 16 bits
 abbrev pub word : ℕ → List ℕ
@@ -16,3 +16,7 @@ word_at octets place = slice_index octets place * 256 + slice_index octets (plac
 -- the number of 32 bits in the four octets from this place
 abbrev pub long_word_at : List ℕ → ℕ → ℕ
 long_word_at octets place = word_at octets place * 65536 + word_at octets (place + 2)
+
+-- each is an octet
+abbrev pub IsOctets : List ℕ → Type 0
+IsOctets octets = (place : ℕ) → slice_index octets place < 256

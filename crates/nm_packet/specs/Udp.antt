@@ -55,7 +55,7 @@ udp_data_of octets = drop 8 octets
 abbrev pub udp_cut_of : List ℕ → List ℕ
 udp_cut_of octets = take (word_at octets 4) octets
 
--- the first test of a datagram that fails
+-- the first test of a datagram that fails, None where all pass
 abbrev pub udp_fault : ℕ → ℕ → List ℕ → Option UdpFault
 udp_fault source destination octets = if nat_lt (length octets) 8 then Some Short
     else (if nat_lt (word_at octets 4) 8 || nat_lt (length octets) (word_at octets 4) then Some Length

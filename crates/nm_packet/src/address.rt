@@ -33,7 +33,8 @@ impl Address {
 
     /// The 32 bits.
     pub fn bits(self) -> u32
-        ensures { result ≡ self }
+        ensures value { result ≡ self }
+        ensures fits { self < 2 ^ 32 }
     {
         self.bits
     }
@@ -47,7 +48,8 @@ impl Address {
 
     /// The four octets, in the order in which they are sent.
     pub fn octets(self) -> [u8; 4]
-        ensures { result ≡ long_word self }
+        ensures value { result ≡ long_word self }
+        ensures fits { self < 2 ^ 32 }
     {
         self.bits.to_be_bytes()
     }

@@ -1,7 +1,8 @@
 //! IPv4 packets (RFC 791, section 3.1).
 
-ghost use Rattle.std.specs.Prelude.{IfOk, Ok, ◌++◌, ◌≡◌, ◌==◌, ◌%◌, ◌<◌, ◌≤◌, List, ℕ, length, None, Some, MatchResult, slice_index};
-ghost use Rattle.nm_packet.specs.Ipv4.{Header, IsIpv4, IsPacket, checked, cut_of, fields_of, header_fault, header_length_of, header_octets, header_of, lowered, packet_octets, payload_of, plain_header, quote_of};
+ghost use Rattle.std.specs.Prelude.{IfOk, Ok, ◌++◌, ◌≡◌, ◌+◌, ◌==◌, ◌%◌, ◌<◌, ◌≤◌, List, ℕ, length, None, Some, MatchResult, slice_index};
+ghost use Rattle.nm_packet.specs.Octets.{IsOctets};
+ghost use Rattle.nm_packet.specs.Ipv4.{Header, HeaderFits, IsIpv4, IsPacket, checked, cut_of, fields_of, header_fault, header_length_of, header_octets, header_of, lowered, packet_octets, payload_of, plain_header, quote_of};
 
 use crate::Address;
 use crate::checksum::{checksum_of, sum_words};
@@ -33,7 +34,7 @@ impl<'a> Model for Ipv4View<'a> {
 
     ghost view = { λ v. v.octets.now };
 
-    ghost invariant = { λ v. IsPacket v.octets.now };
+    ghost invariant = { λ v. IsPacket v.octets.now × IsOctets v.octets.now };
 }
 
 /// The octets of the header, as its field says in words of four octets.
@@ -48,7 +49,7 @@ fn header_length(octets: &[u8]) -> usize
 fn tested(octets: &[u8]) -> Result<Ipv4View<'_>, HeaderFault>
     ensures exact { MatchResult result (λ v. (header_fault octets.now ≡ None) × (v ≡ cut_of octets.now))
         (λ e. header_fault octets.now ≡ Some e) }
-    ensures packet { IfOk result IsPacket }
+    ensures packet { IfOk result (λ v. IsPacket v × IsOctets v) }
 {
     if octets.len() < LEAST_HEADER_OCTETS {
         return Err(HeaderFault::Short);
@@ -73,7 +74,8 @@ fn tested(octets: &[u8]) -> Result<Ipv4View<'_>, HeaderFault>
 }
 
 impl Ipv4 {
-    /// The packet at the front of these octets. What follows its total length is left out.
+    /// The packet at the front of these octets, which are lent and not copied. What follows its total length is left
+    /// out.
     pub fn read(octets: &[u8]) -> Result<Ipv4View<'_>, HeaderFault>
         // What is read is a packet, spelled by its fields and its payload.
         ensures found { IfOk result (λ v. IsIpv4 (fields_of v) (payload_of v) v) }
@@ -93,6 +95,7 @@ impl<'a> Ipv4View<'a> {
     pub fn octets(&self) -> &'a [u8]
         ensures value { result.now ≡ self.now }
         ensures packet { IsPacket self.now }
+        ensures small { IsOctets self.now }
     {
         self.octets
     }
@@ -214,9 +217,10 @@ pub struct Ipv4Header {
 
 impl Ipv4Header {
     /// The octets of the header with this checksum, before a payload of so many octets.
-    fn octets_with(&self, size: u16, checksum: u16) -> [u8; LEAST_HEADER_OCTETS]
+    fn octets_with(self, size: u16, checksum: u16) -> [u8; LEAST_HEADER_OCTETS]
         requires { size ≤ 65515 }
-        ensures { result ≡ header_octets (record (plain_header self.now size) { header_checksum = checksum }) }
+        ensures value { result ≡ header_octets (record (plain_header self size) { header_checksum = checksum }) }
+        ensures fits { HeaderFits (record (plain_header self size) { header_checksum = checksum }) }
     {
         let [l0, l1] = word(20 + size);
         let [i0, i1] = word(self.identification);
@@ -251,20 +255,41 @@ impl Ipv4Header {
     /// The octets of the header before a payload of so many octets.
     fn octets(&self, size: u16) -> [u8; LEAST_HEADER_OCTETS]
         requires { size ≤ 65515 }
-        ensures { result ≡ header_octets (checked (plain_header self.now size)) }
+        ensures value { result ≡ header_octets (checked (plain_header self.now size)) }
+        ensures fits { HeaderFits (plain_header self.now size) }
     {
-        self.octets_with(size, checksum_of(&self.octets_with(size, 0)))
+        let others = self.octets_with(size, 0);
+        self.octets_with(size, checksum_of(&others))
     }
 }
 
-/// The packet with this header and this payload.
+/// The packet with this header and this payload, which may have up to 65,515 octets.
 pub fn write_ipv4(alloc: Global, header: &Ipv4Header, payload: &[u8]) -> Result<Packet, AllocError>
     requires { length payload.now ≤ 65515 }
-    ensures { IfOk result (λ p. p ≡ packet_octets (plain_header header.now (length payload.now)) payload.now) }
+    ensures value { IfOk result (λ p. p ≡ packet_octets (plain_header header.now (length payload.now)) payload.now) }
+    ensures grammar { IfOk result (IsIpv4 (checked (plain_header header.now (length payload.now))) payload.now) }
 {
-    let mut octets = Vec::with_capacity(alloc, LEAST_HEADER_OCTETS + payload.len())?;
-    octets.extend_from_slice(&header.octets(payload.len() as u16))?;
-    octets.extend_from_slice(payload)?;
+    write_in_parts(alloc, header, &[], payload)
+}
+
+/// The packet with this header and a payload that is given in two parts, in one buffer.
+pub(crate) fn write_in_parts(
+    alloc: Global,
+    header: &Ipv4Header,
+    front: &[u8],
+    back: &[u8],
+) -> Result<Packet, AllocError>
+    requires { length front.now + length back.now ≤ 65515 }
+    ensures value { IfOk result (λ p. p
+        ≡ packet_octets (plain_header header.now (length front.now + length back.now)) (front.now ++ back.now)) }
+    ensures grammar { IfOk result
+        (IsIpv4 (checked (plain_header header.now (length front.now + length back.now))) (front.now ++ back.now)) }
+{
+    let size = front.len() + back.len();
+    let mut octets = Vec::with_capacity(alloc, LEAST_HEADER_OCTETS + size)?;
+    octets.extend_from_slice(&header.octets(size as u16))?;
+    octets.extend_from_slice(front)?;
+    octets.extend_from_slice(back)?;
     packet_from(octets)
 }
 
@@ -290,10 +315,11 @@ pub fn quote(alloc: Global, packet: &Ipv4View<'_>) -> Result<Vec<u8>, AllocError
 }
 
 /// The packet one hop on: its time to live is one less and its header checksum is computed anew, and nothing else
-/// changes, options and payload included. The router must have seen a time to live of at least 1.
+/// changes, options and payload included. Asks for a time to live of at least 1; the octets are copied once.
 pub fn lower_ttl(alloc: Global, packet: &Ipv4View<'_>) -> Result<Packet, AllocError>
     requires { 1 ≤ (fields_of packet.now).time_to_live }
-    ensures { IfOk result (λ p. p ≡ packet_octets (lowered (fields_of packet.now)) (payload_of packet.now)) }
+    ensures value { IfOk result (λ p. p ≡ packet_octets (lowered (fields_of packet.now)) (payload_of packet.now)) }
+    ensures grammar { IfOk result (IsIpv4 (checked (lowered (fields_of packet.now))) (payload_of packet.now)) }
 {
     let mut octets = Vec::from_slice(alloc, packet.octets())?;
     lower(octets.as_mut_slice());

@@ -4,11 +4,14 @@
 pub mod address;
 mod checksum;
 pub mod fault;
+pub mod icmp;
 pub mod ipv4;
+pub mod laws;
 mod octets;
 pub mod udp;
 
 pub use address::Address;
 pub use fault::{HeaderFault, IcmpFault, UdpFault};
+pub use icmp::{Icmp, IcmpView};
 pub use ipv4::{Ipv4, Ipv4Header, Ipv4View, lower_ttl, quote, write_ipv4};
 pub use udp::{Udp, UdpView};

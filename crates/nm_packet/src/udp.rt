@@ -1,13 +1,16 @@
 //! UDP datagrams (RFC 768).
 
-ghost use Rattle.std.specs.Prelude.{◌≡◌, ◌++◌, ◌<◌, ◌≤◌, List, [], ℕ, length, Some, None, Ok, IfOk, MatchResult};
+ghost use Rattle.std.specs.Prelude.{◌≡◌, ◌+◌, ◌++◌, ◌<◌, ◌≤◌, List, [], ℕ, length, Some, None, Ok, IfOk, MatchResult};
 ghost use Rattle.nm_packet.specs.Checksum.{folded, word_sum};
+ghost use Rattle.nm_packet.specs.Ipv4.{IsIpv4, checked, packet_octets, plain_header};
 ghost use Rattle.nm_packet.specs.Udp.{IsDatagram, IsUdp, UdpHeader, datagram_octets, udp_checked, pseudo_header, udp_cut_of, udp_data_of, udp_fault, udp_fields_of, udp_header, udp_octets, udp_sum};
 
 use crate::Address;
 use crate::checksum::sum_words;
 use crate::fault::UdpFault;
+use crate::ipv4::{Ipv4Header, write_in_parts};
 use crate::octets::{word, word_at};
+use nm_base::Packet;
 use std::alloc::{AllocError, Global};
 use std::marker::Model;
 
@@ -88,8 +91,8 @@ fn header_with(
 }
 
 impl Udp {
-    /// The datagram at the front of the payload of a packet between these addresses. What follows its length is left
-    /// out.
+    /// The datagram at the front of the payload of a packet between these addresses, lent and not copied. What follows
+    /// its length is left out.
     pub fn read(
         source: Address,
         destination: Address,
@@ -108,7 +111,8 @@ impl Udp {
         tested(source, destination, octets)
     }
 
-    /// The datagram with these ports and data, with a checksum, for a packet between these addresses.
+    /// The datagram with these ports and data, with a checksum, for a packet between these addresses. Up to 65,527
+    /// octets of data fit a datagram, and up to 65,507 of them a packet.
     pub fn write(
         alloc: Global,
         source: Address,
@@ -118,8 +122,10 @@ impl Udp {
         data: &[u8],
     ) -> Result<Vec<u8>, AllocError>
         requires { length «data».now ≤ 65527 }
-        ensures { IfOk result (λ v. v.items ≡ datagram_octets source destination
+        ensures value { IfOk result (λ v. v.items ≡ datagram_octets source destination
             (udp_header source_port destination_port (length «data».now)) «data».now) }
+        ensures grammar { IfOk result (λ v. IsUdp source destination (udp_checked source destination
+            (udp_header source_port destination_port (length «data».now)) «data».now) «data».now v.items) }
     {
         let mut octets = Vec::with_capacity(alloc, HEADER_OCTETS + data.len())?;
         octets.extend_from_slice(&header(
@@ -131,6 +137,27 @@ impl Udp {
         ))?;
         octets.extend_from_slice(data)?;
         Ok(octets)
+    }
+
+    /// A packet with such a datagram as its payload, in one buffer. The header's protocol should be [`PROTOCOL`].
+    pub fn write_packet(
+        alloc: Global,
+        packet_header: &Ipv4Header,
+        source_port: u16,
+        destination_port: u16,
+        data: &[u8],
+    ) -> Result<Packet, AllocError>
+        requires { length «data».now ≤ 65507 }
+        ensures value { let h = packet_header.now in IfOk result (λ p. p ≡ packet_octets
+            (plain_header h (8 + length «data».now)) (datagram_octets h.source h.destination
+            (udp_header source_port destination_port (length «data».now)) «data».now)) }
+        ensures grammar { let h = packet_header.now in IfOk result (IsIpv4
+            (checked (plain_header h (8 + length «data».now))) (datagram_octets h.source h.destination
+            (udp_header source_port destination_port (length «data».now)) «data».now)) }
+    {
+        let (source, destination) = (packet_header.source, packet_header.destination);
+        let front = header(source, destination, source_port, destination_port, data);
+        write_in_parts(alloc, packet_header, &front, data)
     }
 }
 

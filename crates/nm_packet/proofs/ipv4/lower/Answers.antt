@@ -1,4 +1,4 @@
-use Rattle.std.proofs.Common.{rules, ap, ◌∙◌, arith}
+use Rattle.std.proofs.Common.{rules, ap, ◌∙◌}
 use Rattle.nm_packet.specs.Octets.{word}
 use Rattle.nm_packet.proofs.Writing.{lowered_is}
 use Rattle.nm_packet.proofs.ipv4.lower.Goals as goal

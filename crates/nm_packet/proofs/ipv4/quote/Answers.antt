@@ -1,4 +1,4 @@
-use Rattle.std.proofs.Common.{◌≡◌, ℕ, List, take, ap, ◌∙◌}
+use Rattle.std.proofs.Common.{◌≡◌, take, ◌∙◌}
 use Rattle.std.proofs.lemmas.Result.{IfOk-weaker}
 use Rattle.nm_packet.proofs.Writing.{quote_is}
 use Rattle.nm_packet.proofs.ipv4.quote.Goals as goal

@@ -1,4 +1,6 @@
 use Rattle.std.proofs.Common.{rules, ℕ, take, ap, ◌∙◌, arith, inl, inr}
+use Rattle.nm_packet.specs.Octets.{word_at}
+use Rattle.nm_packet.proofs.Grammar.{IsOctets-take}
 use Rattle.nm_packet.proofs.Faults.{header_sum, total_fault, no_fault, IsPacket-cut}
 use Rattle.nm_packet.proofs.ipv4.tested.Goals as goal
 use Rattle.nm_packet.proofs.ipv4.tested.Goals.{then-total_length-header_length-via-then-total_length-header_length, then-total_length-header_length-via-else-total_length-header_length+then-octets-total_length}
@@ -14,8 +16,11 @@ returns-then-total_length-header_length c =
 
 pub invariant_of-result : goal.invariant_of-result
 invariant_of-result c =
-    let sum = header_sum c.args.octets.now _ _ c.header_length-header_length.ensures c.sum_words.ensures c.if-sum_words.false in
-    rw (c.from-total_length.ensures ∙ c.word_at.ensures) (IsPacket-cut c.args.octets.now (omega arith) (omega arith) (omega arith) (omega arith) sum (omega arith) (omega arith) (omega arith))
+    let octets = c.args.octets.now in
+    let sum = header_sum octets _ _ c.header_length-header_length.ensures c.sum_words.ensures c.if-sum_words.false in
+    let packet = IsPacket-cut octets (omega arith) (omega arith) (omega arith) (omega arith) sum (omega arith) (omega arith) (omega arith) in
+    let small = IsOctets-take (word_at octets 2) octets (λ i. omega (arith, c.type_inv.octets i)) in
+    rw (c.from-total_length.ensures ∙ c.word_at.ensures) (packet, small)
 
 pub returns : goal.returns
 returns c =

@@ -1,0 +1,22 @@
+use Rattle.std.proofs.Common.{sym, ap, ◌∙◌}
+use Rattle.nm_model.specs.Replica.{from_scratch}
+use Rattle.nm_model.specs.Promise.{promise}
+use Rattle.nm_model.specs.World.{replica_after}
+use Rattle.nm_model.proofs.Worlds.{all_within}
+use Rattle.nm_model.proofs.SameKnowledge.{same_state, same_promise, same_count}
+use Rattle.nm_model.proofs.world.equal_knowledge_gives_equal_replicas.Goals as goal
+
+pub returns-clause-states : goal.returns-clause-states
+returns-clause-states g c = λ net ok same eq steps others p r s know_same ran_same.
+    let x = replica_after net same steps p r in
+    let y = replica_after net same others p s in
+    sym (same_state net p ok x.knowledge y.knowledge know_same x.ran (all_within net ok same eq steps p r)) ∙ ap (from_scratch net p y.knowledge) ran_same
+
+pub returns-clause-promises : goal.returns-clause-promises
+returns-clause-promises g c = λ net ok same eq steps others p r s know_same ran_same kind d.
+    let x = replica_after net same steps p r in
+    let y = replica_after net same others p s in
+    sym (same_promise net p ok x.knowledge y.knowledge know_same kind x.ran d (all_within net ok same eq steps p r)) ∙ ap (λ k. promise net kind p y.knowledge k d) ran_same
+
+pub returns-clause-counts : goal.returns-clause-counts
+returns-clause-counts g c = λ net ok p K J e j k a b. same_count net p ok K J e j k a b

@@ -1,0 +1,99 @@
+-- The certificate: when finished books agree with one another, with no premise on who told them what they know.
+use Rattle.std.specs.Prelude.{◌≡◌, ◌⊎◌, ℕ, zero, suc, ◌<◌, ◌≤◌, Bool, true, false, cond, not, ◌&&◌, ◌||◌, ◌==◌, ltb, length, List, [], ◌∷◌, Option, Some, None}
+use Rattle.nm_model.specs.Lists.{nth, IsPrefix}
+use Rattle.nm_model.specs.Network.{Net}
+use Rattle.nm_model.specs.Run.{pends_before}
+use Rattle.nm_model.specs.Accept.{same_message, last_from}
+use Rattle.nm_model.specs.Join.{or_else}
+use Rattle.nm_model.specs.Partition.{comes_in, sender_of}
+use Rattle.nm_model.specs.Replica.{safe_time, IsWithin}
+use Rattle.nm_model.specs.Promise.{Promising, promise}
+use Rattle.nm_model.specs.World.{Replica, state_of, outgoing}
+use Rattle.nm_model.specs.Rounds.{given}
+
+-- a replica's book, and its partition
+pub record Book (P : Type 0) : Type 0 where
+  pub part : ℕ
+  pub replica : Replica P
+
+pub data Fault : Type 0 where
+  -- this partition has no book
+  MissingPart : ℕ → Fault
+  -- a book of this partition is not done
+  UnfinishedPart : ℕ → Fault
+  -- on this channel the receiver's message of this number isn't the sender's
+  PrefixFault : ℕ → ℕ → Fault
+  -- on this channel the sender's next message is before the receiver's clock
+  ClockFault : ℕ → Fault
+  -- on this channel the receiver's clock is past both the sender's promise and its own last message
+  PromiseFault : ℕ → Fault
+
+module _ {P N : Type 0} (net : Net P N) where
+  abbrev pub is_done : ℕ → Replica P → Bool
+  is_done p x = (safe_time net p x.knowledge == net.stop) && not (pends_before net.stop (state_of net p x))
+
+  -- one finished book for each partition: the receiver's list is the beginning of what the sender put on the channel, and the sender's
+  -- next message is not before the receiver's clock
+  pub record AreFinished (books : ℕ → Replica P) : Type 0 where
+    pub within : (p : ℕ) → IsWithin net p (books p).knowledge (books p).ran
+    pub done : (p : ℕ) → is_done p (books p) ≡ true
+    pub begins : (p c : ℕ) → comes_in net p c ≡ true → IsPrefix ((books p).knowledge c).list (given net books c)
+    pub next : (p c : ℕ) (b : ℕ × P) → comes_in net p c ≡ true → nth (given net books c) (length ((books p).knowledge c).list) ≡ Some b → ((books p).knowledge c).clock ≤ b.0
+
+  module _ (kind : Promising) where
+    -- what book r knows of channel c is what book s says of it
+    pub record Matches (c : ℕ) (r s : Book P) : Type 0 where
+      pub begins : IsPrefix (r.replica.knowledge c).list (outgoing net s.part s.replica c)
+      pub next : (b : ℕ × P) → nth (outgoing net s.part s.replica c) (length (r.replica.knowledge c).list) ≡ Some b → (r.replica.knowledge c).clock ≤ b.0
+      -- a message may raise the clock past a promise that stop bounds, up to its own time
+      pub promised : ((r.replica.knowledge c).clock ≤ promise net kind s.part s.replica.knowledge s.replica.ran c) ⊎ (last_from (r.replica.knowledge c).clock (r.replica.knowledge c).list ≡ true)
+
+    -- each partition has a book, each book is done, and on each channel each receiving book matches each sending one
+    pub record IsCertified (books : List (Book P)) : Type 0 where
+      pub there : (p : ℕ) → p < net.parts → (i : ℕ) × (b : Book P) × (nth books i ≡ Some b) × (b.part ≡ p)
+      pub done : (i : ℕ) (b : Book P) → nth books i ≡ Some b → is_done b.part b.replica ≡ true
+      pub matches : (i j c : ℕ) (r s : Book P) → nth books i ≡ Some r → nth books j ≡ Some s → comes_in net r.part c ≡ true → s.part ≡ sender_of net c → Matches c r s
+
+-- the first fault of a list, and of the numbers below n
+abbrev pub first_of : {A : Type 0} → (A → Option Fault) → List A → Option Fault
+first_of f [] = None
+first_of f (x ∷ l) = or_else (f x) (first_of f l)
+
+abbrev pub first_below : (ℕ → Option Fault) → ℕ → Option Fault
+first_below f zero = None
+first_below f (suc n) = or_else (first_below f n) (f n)
+
+abbrev pub has_part : {P : Type 0} → ℕ → List (Book P) → Bool
+has_part p [] = false
+has_part p (b ∷ l) = (b.part == p) || has_part p l
+
+-- the first number at which the first list's message isn't the second's, counted from n
+abbrev pub prefix_fault : {P : Type 0} → (P → P → Bool) → ℕ → ℕ → List (ℕ × P) → List (ℕ × P) → Option Fault
+prefix_fault same c n [] l = None
+prefix_fault same c n (x ∷ k) [] = Some (PrefixFault c n)
+prefix_fault same c n (x ∷ k) (y ∷ l) = cond (same_message same x y) (prefix_fault same c (suc n) k l) (Some (PrefixFault c n))
+
+abbrev pub clock_fault : {P : Type 0} → ℕ → ℕ → Option (ℕ × P) → Option Fault
+clock_fault c t None = None
+clock_fault c t (Some b) = cond (ltb b.0 t) (Some (ClockFault c)) None
+
+module _ {P N : Type 0} (net : Net P N) (same : P → P → Bool) (kind : Promising) where
+  abbrev pub channel_fault : ℕ → Book P → Book P → Option Fault
+  channel_fault c r s =
+      let a = r.replica.knowledge c in
+      let out = outgoing net s.part s.replica c in
+      or_else (prefix_fault same c 0 a.list out)
+      (or_else (clock_fault c a.clock (nth out (length a.list)))
+      (cond (ltb (promise net kind s.part s.replica.knowledge s.replica.ran c) a.clock && not (last_from a.clock a.list)) (Some (PromiseFault c)) None))
+
+  -- by receiving book, then channel, then sending book
+  abbrev pub book_fault : List (Book P) → Book P → Option Fault
+  book_fault books r =
+      first_below (λ c. cond (comes_in net r.part c) (first_of (λ s. cond (s.part == sender_of net c) (channel_fault c r s) None) books) None) net.ifaces
+
+  -- the certificate's first fault: a partition with no book, a book that isn't done, a channel on which two books don't match
+  abbrev pub certify : List (Book P) → Option Fault
+  certify books =
+      or_else (first_below (λ p. cond (has_part p books) None (Some (MissingPart p))) net.parts)
+      (or_else (first_of (λ (b : Book P). cond (is_done net b.part b.replica) None (Some (UnfinishedPart b.part))) books)
+      (first_of (book_fault books) books))

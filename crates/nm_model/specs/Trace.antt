@@ -1,0 +1,16 @@
+-- What the records of a trace say of an interface.
+use Rattle.std.specs.Prelude.{ℕ, Bool, true, false, cond, ◌&&◌, ◌==◌, List, [], ◌∷◌}
+use Rattle.nm_base.specs.declared.record.Dir.{Dir}
+use Rattle.nm_base.specs.declared.record.Dir.TheVariants.{In, Out}
+use Rattle.nm_base.specs.declared.record.Record.{Record}
+
+abbrev pub same_dir : Dir → Dir → Bool
+same_dir In In = true
+same_dir In Out = false
+same_dir Out In = false
+same_dir Out Out = true
+
+-- the packets that passed interface i in this direction, each with the time of its record: arrivals, or starts of transmissions
+abbrev pub passed : {P : Type 0} → Dir → ℕ → List (Record P) → List (ℕ × P)
+passed d i [] = []
+passed d i (r ∷ l) = cond (same_dir r.dir d && (i == r.iface)) ((r.time, r.packet) ∷ passed d i l) (passed d i l)

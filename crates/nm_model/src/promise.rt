@@ -1,0 +1,36 @@
+//! Laws of what partitions send and promise.
+
+ghost use Rattle.std.specs.Prelude.{◌≡◌, ℕ, ◌≤◌, true, length, List, Some};
+ghost use Rattle.nm_base.specs.declared.key.Place.TheVariants.{Arrive};
+ghost use Rattle.nm_model.specs.Lists.{nth, IsPrefix};
+ghost use Rattle.nm_model.specs.Network.{Net, IsNet};
+ghost use Rattle.nm_model.specs.Knowledge.{Knowledge, Know};
+ghost use Rattle.nm_model.specs.Partition.{in_part};
+ghost use Rattle.nm_model.specs.Replica.{from_scratch, safe_time, IsWithin, IsUnderAll};
+ghost use Rattle.nm_model.specs.Promise.{Promising, Plain, Tight, promise};
+ghost use Rattle.nm_model.specs.Before.{IsBefore, IsKnowledge, history};
+
+/// What a partition sends is the beginning of what the whole network sends, and its promises are kept: the plain one and
+/// the tight one, which is never below the plain one.
+pub fn promises_kept<P, N>()
+    ensures prefix { (net : Net P N) → IsNet net → (p : ℕ) (K : Knowledge P) → IsKnowledge net p K
+        → (k last c : ℕ) → IsWithin net p K k → IsBefore net net.stop last
+        → in_part net p (Arrive (net.peer c)) ≡ true
+        → IsPrefix ((from_scratch net p K k).sent c) (history net last c) }
+    ensures later { (net : Net P N) → IsNet net → (p : ℕ) (K : Knowledge P) → IsKnowledge net p K
+        → (k last c : ℕ) → IsWithin net p K k → IsBefore net net.stop last
+        → in_part net p (Arrive (net.peer c)) ≡ true → (i : ℕ) (b : ℕ × P)
+        → length ((from_scratch net p K k).sent c) ≤ i → nth (history net last c) i ≡ Some b
+        → (kind : Promising) → promise net kind p K k c ≤ b.0 }
+    ensures tighter { (net : Net P N) (p : ℕ) (K : Knowledge P) (k c : ℕ)
+        → promise net Plain p K k c ≤ promise net Tight p K k c }
+{}
+
+/// The safe time and the promises never fall, whatever is done and whatever more is known.
+pub fn promises_never_fall<P, N>()
+    ensures safe { (net : Net P N) → IsNet net → (p : ℕ) (K J : Knowledge P)
+        → IsUnderAll net p K J → safe_time net p K ≤ safe_time net p J }
+    ensures promised { (net : Net P N) → IsNet net → (p : ℕ) (K J : Knowledge P)
+        → IsUnderAll net p K J → (k m : ℕ) → k ≤ m → IsWithin net p K k → IsWithin net p J m
+        → (kind : Promising) (c : ℕ) → promise net kind p K k c ≤ promise net kind p J m c }
+{}
