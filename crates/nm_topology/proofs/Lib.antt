@@ -1,6 +1,7 @@
 pub mod Doubles
 pub mod Keys
 pub mod Members
+pub mod Parsing
 pub mod Searches
 pub mod Uses
 pub mod Wires
