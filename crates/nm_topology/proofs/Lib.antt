@@ -1,4 +1,5 @@
 pub mod Doubles
+pub mod Ends
 pub mod Keys
 pub mod Members
 pub mod Parsing

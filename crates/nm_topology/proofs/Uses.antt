@@ -8,10 +8,10 @@ use Rattle.nm_topology.specs.Checks.{one_if, bump, uses, numbers_from}
 pub same_or_not : (a i : ℕ) → (a ≡ i) ⊎ (a ≡ i → ⊥)
 same_or_not a i = grind arith
 
-one_here : (a i : ℕ) → a ≡ i → one_if (a == i) ≡ 1
+pub one_here : (a i : ℕ) → a ≡ i → one_if (a == i) ≡ 1
 one_here a i e = grind (arith, nat_tests)
 
-one_there : (a i : ℕ) → (a ≡ i → ⊥) → one_if (a == i) ≡ 0
+pub one_there : (a i : ℕ) → (a ≡ i → ⊥) → one_if (a == i) ≡ 0
 one_there a i e = grind (arith, nat_tests)
 
 pub bump-get : (u : List ℕ) (a i rest : ℕ) → a < length u → min 255 (get_or (bump u a) i 0 + rest) ≡ min 255 (get_or u i 0 + (one_if (a == i) + rest))

@@ -8,10 +8,10 @@ use Rattle.nm_topology.specs.declared.parts.Link.{Link}
 use Rattle.nm_topology.specs.Checks.{far_end, joined}
 use Rattle.nm_topology.proofs.Uses.{same_or_not}
 
-is_same : (a i : ℕ) → a ≡ i → (a == i) ≡ true
+pub is_same : (a i : ℕ) → a ≡ i → (a == i) ≡ true
 is_same a i e = grind (arith, nat_tests)
 
-is_other : (a i : ℕ) → (a ≡ i → ⊥) → (a == i) ≡ false
+pub is_other : (a i : ℕ) → (a ≡ i → ⊥) → (a == i) ≡ false
 is_other a i e = grind (arith, nat_tests)
 
 set_same : {X : Type 0} (xs : List X) (a : ℕ) (x : X) → a < length xs → slice_get (set xs a x) a ≡ Some x
