@@ -10,15 +10,15 @@ abbrev toward : Link → ℕ → Far
 toward l p = record { peer = p; rate = l.rate; delay = l.delay }
 
 module _ (l : Link) (ls : List Link) (i : ℕ) where
-  far-a : l.a ≡ i → far_end i (l ∷ ls) ≡ toward l l.b
+  pub far-a : l.a ≡ i → far_end i (l ∷ ls) ≡ toward l l.b
   far-a e = ap (λ t. cond t (toward l l.b) (cond (l.b == i) (toward l l.a) (far_end i ls))) (is_same l.a i e)
 
-  far-b : (l.a ≡ i → ⊥) → l.b ≡ i → far_end i (l ∷ ls) ≡ toward l l.a
+  pub far-b : (l.a ≡ i → ⊥) → l.b ≡ i → far_end i (l ∷ ls) ≡ toward l l.a
   far-b e f =
       ap (λ t. cond t (toward l l.b) (cond (l.b == i) (toward l l.a) (far_end i ls))) (is_other l.a i e)
       ∙ ap (λ t. cond t (toward l l.a) (far_end i ls)) (is_same l.b i f)
 
-  far-on : (l.a ≡ i → ⊥) → (l.b ≡ i → ⊥) → far_end i (l ∷ ls) ≡ far_end i ls
+  pub far-on : (l.a ≡ i → ⊥) → (l.b ≡ i → ⊥) → far_end i (l ∷ ls) ≡ far_end i ls
   far-on e f =
       ap (λ t. cond t (toward l l.b) (cond (l.b == i) (toward l l.a) (far_end i ls))) (is_other l.a i e)
       ∙ ap (λ t. cond t (toward l l.a) (far_end i ls)) (is_other l.b i f)

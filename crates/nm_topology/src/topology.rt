@@ -37,12 +37,20 @@ pub struct Topology {
 
 impl Model for Topology {
     ghost use Rattle.std.specs.Prelude.{◌≤◌, length};
-    ghost use Rattle.nm_base.specs.declared.limits.TheConstants.{MAX_CHANNELS};
+    ghost use Rattle.nm_base.specs.declared.limits.TheConstants.{MAX_CHANNELS, MAX_IFACES, MAX_LINKS, MAX_NODES, MAX_SOURCES};
+    ghost use Rattle.nm_topology.specs.Order.{IsInOrder};
     ghost use Rattle.nm_topology.specs.Wholes.{NetworkValue};
 
     ghost Value = { NetworkValue };
 
-    ghost invariant = { λ t. length t.receivers.items ≤ MAX_CHANNELS };
+    ghost invariant = { λ t.
+        IsInOrder t.nodes.items t.ifaces.items t.links.items
+        × (length t.nodes.items ≤ MAX_NODES)
+        × (length t.ifaces.items ≤ MAX_IFACES)
+        × (length t.links.items ≤ MAX_LINKS)
+        × (length t.sources.items ≤ MAX_SOURCES)
+        × (length t.receivers.items ≤ MAX_CHANNELS)
+    };
 
     ghost view = { λ t. record {
       stop = t.stop;
@@ -80,7 +88,7 @@ fn parse(alloc: Global, text: &[u8]) -> Result<Table, TopoFault>
 }
 
 /// The network that a document says.
-#[tactic(auto, unfolding(crate::specs::Network::network_of))]
+#[tactic(auto, using(crate::proofs::Order::in_order), unfolding(crate::specs::Network::network_of))]
 fn resolve(alloc: Global, document: Document, digest: [u8; 32]) -> Result<Topology, TopoFault>
     ensures { Gives (λ t. t) result (network_of digest document) }
 {
