@@ -1,5 +1,5 @@
 -- Tables that pass the tests make a topology that is in order.
-use Rattle.std.proofs.Common.{◌≡◌, All, ℕ, zero, suc, ◌+◌, ◌<◌, ◌≤◌, ◌==◌, Bool, true, false, not, ◌&&◌, ◌||◌, cond, List, [], ◌∷◌, length, map, get_or, Option, Some, None, Result, Ok, Err, refl, sym, ap, ◌∙◌, subst, arith, add-zero, zero-add, ⊎_elim}
+use Rattle.std.proofs.Common.{◌≡◌, All, ℕ, zero, suc, ◌+◌, ◌<◌, ◌≤◌, ◌==◌, Bool, true, false, not, cond, List, [], ◌∷◌, length, map, Some, Ok, refl, sym, ap, ◌∙◌, subst, arith, add-zero, zero-add, ⊎_elim}
 use Rattle.std.specs.Prelude.{nat_le, nat_eq, slice_get, slice_index}
 use Rattle.std.specs.List.{list_all, list_any}
 use Rattle.std.proofs.lemmas.Bool.Decides.{nat_tests}
@@ -101,7 +101,7 @@ routes-own P j (r ∷ rs) a =
     let rest = routes-own P j rs (λ k d h. a (suc k) d (omega arith)) in
     ⊎_elim
     (λ e. subst (λ b. All (λ r. P (record { node = j; route = r })) (cond b (r.route ∷ routes_at j rs) (routes_at j rs))) (sym (is_same r.node j e))
-      (All-cons (λ r. P (record { node = j; route = r })) r.route (routes_at j rs) (subst (λ k. P (record { node = k; route = r.route })) e (a 0 r (omega arith))) rest))
+    (All-cons (λ r. P (record { node = j; route = r })) r.route (routes_at j rs) (subst (λ k. P (record { node = k; route = r.route })) e (a 0 r (omega arith))) rest))
     (λ e. subst (λ b. All (λ r. P (record { node = j; route = r })) (cond b (r.route ∷ routes_at j rs) (routes_at j rs))) (sym (is_other r.node j e)) rest)
     (same_or_not r.node j)
 
@@ -128,9 +128,9 @@ far-within (l ∷ ls) i n h a =
     ⊎_elim
     (λ e. subst (λ f. f.peer < n) (sym (far-a l ls i e)) ends.1)
     (λ e. ⊎_elim
-      (λ f. subst (λ g. g.peer < n) (sym (far-b l ls i e f)) ends.0)
-      (λ f. subst (λ g. g.peer < n) (sym (far-on l ls i e f)) rest)
-      (same_or_not l.b i))
+    (λ f. subst (λ g. g.peer < n) (sym (far-b l ls i e f)) ends.0)
+    (λ f. subst (λ g. g.peer < n) (sym (far-on l ls i e f)) rest)
+    (same_or_not l.b i))
     (same_or_not l.a i)
 
 pub is_false : (b : Bool) → not b ≡ true → b ≡ false
@@ -148,8 +148,8 @@ passed parts addresses nodes ifaces t e =
     let short : Bool = list_all (λ table. nat_le (length table) MAX_ROUTES_OF_NODE) (route_tables nodes t.routes) in
     let cut : Bool = list_any (is_undelayed_cut parts t.owners) t.links in
     let h = all_met (are_used_once ifaces t.links) (not (has_double nat_eq addresses)) (not (has_double same_route t.routes)) short
-      (nat_le (length (receivers_of parts t.owners (far_ends ifaces t.links))) MAX_CHANNELS) (not cut)
-      IfaceUse DoubleAddress DoubleRoute TooMany TooMany CutDelay e in
+    (nat_le (length (receivers_of parts t.owners (far_ends ifaces t.links))) MAX_CHANNELS) (not cut)
+    IfaceUse DoubleAddress DoubleRoute TooMany TooMany CutDelay e in
     record { used = h.0; short = h.1; cuts = is_false cut h.2 }
 
 module _ (rows : List NodeText) (faces : List IfaceText) (t : Numbered) (addresses : List ℕ)
@@ -158,7 +158,6 @@ module _ (rows : List NodeText) (faces : List IfaceText) (t : Numbered) (address
     (ends : All (λ l. (l.a < length faces) × (l.b < length faces)) t.links)
     (vias : All (λ r. (r.route.via < length faces) × (slice_index t.owners r.route.via ≡ r.node)) t.routes)
     (e : tested (map (λ n. n.partition) rows) addresses (length rows) (length faces) t ≡ Ok tt) where
-
   abbrev tables : List (List Route)
   tables = route_tables (length rows) t.routes
 
@@ -198,7 +197,7 @@ module _ (rows : List NodeText) (faces : List IfaceText) (t : Numbered) (address
         within = subst (λ f. f.peer < length ifaces) (sym far-is) (subst (λ m. (far_end i t.links).peer < m) (sym count-is) peer);
         apart = λ g. apart t.links i once (ap (λ f. f.peer) (sym far-is) ∙ g);
         back = subst (λ f. far_end f.peer t.links ≡ record { peer = i; rate = f.rate; delay = f.delay }) (sym far-is)
-          (back t.links i once (used-once (length faces) t.links (far_end i t.links).peer pass.used peer));
+            (back t.links i once (used-once (length faces) t.links (far_end i t.links).peer pass.used peer));
       }
 
   owners : All (λ x. x.node < length nodes) ifaces
@@ -210,8 +209,8 @@ module _ (rows : List NodeText) (faces : List IfaceText) (t : Numbered) (address
       let table : n.routes ≡ routes_at k t.routes = at.1 ∙ ap (λ j. routes_at j t.routes) (zero-add k) in
       subst (λ rs. All (λ r. (r.via < length ifaces) × (slice_index (owners_of ifaces) r.via ≡ k)) rs) (sym table)
       (subst (λ m. All (λ r. (r.via < m) × (slice_index (owners_of ifaces) r.via ≡ k)) (routes_at k t.routes)) (sym count-is)
-        (subst (λ os. All (λ r. (r.via < length faces) × (slice_index os r.via ≡ k)) (routes_at k t.routes)) (sym owners-are)
-          (routes-own (λ r. (r.route.via < length faces) × (slice_index t.owners r.route.via ≡ r.node)) k t.routes vias)))
+      (subst (λ os. All (λ r. (r.via < length faces) × (slice_index os r.via ≡ k)) (routes_at k t.routes)) (sym owners-are)
+      (routes-own (λ r. (r.route.via < length faces) × (slice_index t.owners r.route.via ≡ r.node)) k t.routes vias)))
 
   short : (k : ℕ) (n : NodeValue) → slice_get nodes k ≡ Some n → length n.routes ≤ MAX_ROUTES_OF_NODE
   short k n h = grind (arith, nat_tests, each-passes (λ table. nat_le (length table) MAX_ROUTES_OF_NODE) tables k n.routes pass.short (node-table rows tables k n h))
@@ -220,7 +219,7 @@ module _ (rows : List NodeText) (faces : List IfaceText) (t : Numbered) (address
   cuts =
       subst (λ ps. All (λ l. is_undelayed_cut ps (owners_of ifaces) l ≡ false) t.links) (sym (nodes-parts rows tables tables-length))
       (subst (λ os. All (λ l. is_undelayed_cut (map (λ n. n.partition) rows) os l ≡ false) t.links) (sym owners-are)
-        (none-passes (is_undelayed_cut (map (λ n. n.partition) rows) t.owners) t.links pass.cuts))
+      (none-passes (is_undelayed_cut (map (λ n. n.partition) rows) t.owners) t.links pass.cuts))
 
   pub in_order : IsInOrder nodes ifaces t.links
   in_order = record { linked = linked; owners = owners; vias = via-own; tables = short; cuts = cuts }

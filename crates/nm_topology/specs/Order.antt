@@ -1,7 +1,6 @@
 -- What every accepted topology has.
 use Rattle.std.specs.Prelude.{◌≡◌, ℕ, ◌<◌, ◌≤◌, All, Some, false, List, length, map, slice_get, slice_index}
 use Rattle.nm_base.specs.declared.limits.TheConstants.{MAX_ROUTES_OF_NODE}
-use Rattle.nm_topology.specs.declared.parts.Far.{Far}
 use Rattle.nm_topology.specs.declared.parts.Link.{Link}
 use Rattle.nm_topology.specs.Checks.{far_end, uses, is_undelayed_cut}
 use Rattle.nm_topology.specs.Networks.{NodeValue, IfaceValue}

@@ -7,7 +7,6 @@ mod document;
 pub mod fault;
 mod fields;
 mod forms;
-pub mod laws;
 mod names;
 pub mod node;
 mod numbering;
