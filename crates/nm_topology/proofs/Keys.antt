@@ -1,0 +1,17 @@
+-- The keys of a table, as its members and as its map have them.
+use Rattle.std.proofs.Common.{◌≡◌, ℕ, Bool, ◌&&◌, ◌||◌, List, [], ◌∷◌, map, String, Global, string_bytes, Bor, refl, ap, ◌∙◌}
+use Rattle.std.specs.List.{list_all, list_any}
+use Rattle.std.specs.Str.{bytes_eq}
+use Rattle.toml.specs.declared.value.Value.{Value}
+use Rattle.toml.specs.View.{members_view}
+use Rattle.nm_topology.specs.Fields.{all_among}
+
+pub list_any-map : {X Y : Type 0} (p : Y → Bool) (f : X → Y) (xs : List X) → list_any p (map f xs) ≡ list_any (λ x. p (f x)) xs
+list_any-map p f [] = refl
+list_any-map p f (x ∷ xs) = ap (λ b. p (f x) || b) (list_any-map p f xs)
+
+pub all_among-view : (ks : List (Bor (List ℕ))) (es : List (String Global × Value)) → all_among (map (λ k. k.now) ks) (members_view es) ≡ list_all (λ k. list_any (λ l. bytes_eq l.now (string_bytes k)) ks) (map (λ e. e.0) es)
+all_among-view ks [] = refl
+all_among-view ks (e ∷ es) =
+    ap (λ b. b && all_among (map (λ k. k.now) ks) (members_view es)) (list_any-map (λ l. bytes_eq l (string_bytes e.0)) (λ (k : Bor (List ℕ)). k.now) ks)
+    ∙ ap (λ b. list_any (λ l. bytes_eq l.now (string_bytes e.0)) ks && b) (all_among-view ks es)

@@ -1,0 +1,46 @@
+-- Fields of tables: which keys a table has, and how a value is read.
+use Rattle.std.specs.Prelude.{ℕ, ℤ, pos, negsuc, Bool, true, ◌&&◌, nat_le, if◌then◌else◌, List, Option, Some, None, Result, Ok, Err}
+use Rattle.toml.specs.Data.{Data, string, integer, Members, no_members, member}
+use Rattle.std.specs.List.{list_any}
+use Rattle.std.specs.Str.{bytes_eq}
+use Rattle.nm_topology.specs.declared.fault.Refusal.{Refusal}
+use Rattle.nm_topology.specs.declared.fault.Refusal.TheVariants.{Missing, UnknownKey, Kind, Range}
+use Rattle.nm_topology.specs.Fault.{◌>>=◌}
+
+-- a value that must be there, and one that may be absent
+abbrev pub required : {X : Type 0} → (Data → Result X Refusal) → Option Data → Result X Refusal
+required read None = Err Missing
+required read (Some d) = read d
+
+abbrev pub optional : {X : Type 0} → X → (Data → Result X Refusal) → Option Data → Result X Refusal
+optional x read None = Ok x
+optional x read (Some d) = read d
+
+abbrev pub whole_in : ℕ → ℕ → ℤ → Result ℕ Refusal
+whole_in least greatest (pos n) = if nat_le least n && nat_le n greatest then Ok n else Err Range
+whole_in least greatest (negsuc n) = Err Range
+
+-- a whole number from least to greatest
+abbrev pub number_in : ℕ → ℕ → Data → Result ℕ Refusal
+number_in least greatest (integer z) = whole_in least greatest z
+number_in least greatest _ = Err Kind
+
+abbrev pub in_form : {X : Type 0} → Option X → Result X Refusal
+in_form None = Err Range
+in_form (Some x) = Ok x
+
+abbrev pub all_among : List (List ℕ) → Members → Bool
+all_among ks no_members = true
+all_among ks (member k d ms) = list_any (λ l. bytes_eq l k) ks && all_among ks ms
+
+-- no key but these
+abbrev pub only : List (List ℕ) → Members → Result Unit Refusal
+only ks ms = if all_among ks ms then Ok tt else Err UnknownKey
+
+-- a text, and a text in a form, read as what it stands for
+abbrev pub plain_text : Data → Result (List ℕ) Refusal
+plain_text (string s) = Ok s
+plain_text _ = Err Kind
+
+abbrev pub required_text : {X : Type 0} → (List ℕ → Option X) → Option Data → Result X Refusal
+required_text form value = required plain_text value >>= λ s. in_form (form s)

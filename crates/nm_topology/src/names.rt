@@ -1,0 +1,71 @@
+//! Names and their numbers.
+
+ghost use Rattle.std.specs.Prelude.{◌≡◌, ◌≤◌, ◌<◌, true, false, map, length, IfOk, MatchOption};
+ghost use Rattle.nm_topology.specs.Fault.{Gives};
+ghost use Rattle.nm_base.specs.declared.limits.TheConstants.{MAX_IFACES};
+ghost use Rattle.nm_topology.specs.Numbers.{has_double, distinct_names, number_of};
+
+use crate::fault::{Refusal, TopoFault};
+use indexmap::IndexSet;
+use std::alloc::{AllocError, Global};
+use std::hash::Hash;
+use std::marker::Model;
+
+/// The items as a set in their order, or `None` where one of them stands there twice.
+pub fn distinct<T: Eq + Hash + Copy>(
+    alloc: Global,
+    items: &[T],
+) -> Result<Option<IndexSet<T>>, AllocError>
+    ensures { IfOk result (λ set. MatchOption set (has_double T.eq items.now ≡ true) (λ s. (has_double T.eq items.now ≡ false) × (s.keys ≡ items.now))) }
+{
+    let mut set = IndexSet::new(alloc);
+    for item in items {
+        let fresh = set.insert(*item)?;
+        if !fresh {
+            return Ok(None);
+        }
+    }
+    Ok(Some(set))
+}
+
+/// Distinct names, each with its number. A clause sees the list of names.
+#[derive(Drop)]
+pub struct Names<'a> {
+    set: IndexSet<&'a str>,
+}
+
+impl<'a> Model for Names<'a> {
+    ghost use Rattle.std.specs.Prelude.{ℕ, ◌≤◌, List, map, length};
+    ghost use Rattle.nm_base.specs.declared.limits.TheConstants.{MAX_IFACES};
+
+    ghost Value = { List (List ℕ) };
+
+    ghost view = { λ n. map (λ k. k.now) n.set.keys };
+
+    ghost invariant = { λ n. length n.set.keys ≤ MAX_IFACES };
+}
+
+impl<'a> Names<'a> {
+    /// These names, or the refusal of names of which two are the same.
+    pub fn new(alloc: Global, names: &[&'a str]) -> Result<Self, TopoFault>
+        requires { length names.now ≤ MAX_IFACES }
+        ensures len { IfOk result (λ n. length n ≡ length names.now) }
+        ensures value { Gives (λ n. n) result (distinct_names (map (λ k. k.now) names.now)) }
+    {
+        match distinct(alloc, names)? {
+            Some(set) => Ok(Names { set }),
+            None => Err(TopoFault::Refused(Refusal::DoubleName)),
+        }
+    }
+
+    /// The number of a name.
+    pub fn number(&self, name: &str) -> Result<u32, TopoFault>
+        ensures within { IfOk result (λ n. n < length self.now) }
+        ensures value { Gives (λ n. n) result (number_of self.now name.now) }
+    {
+        match self.set.get_index_of(name) {
+            Some(index) => Ok(index as u32),
+            None => Err(TopoFault::Refused(Refusal::NoSuch)),
+        }
+    }
+}

@@ -1,0 +1,233 @@
+//! The parts of a topology that are plain values.
+
+ghost use Rattle.std.specs.Prelude.{◌≡◌, [], ◌∷◌, ◌++◌, OnOk, OnErr};
+
+use crate::node::NodeKind;
+use crate::prefix::Prefix;
+use crate::rows::{IfaceRow, NodeRow};
+use nm_base::{IfaceNo, NodeNo, PartNo};
+use nm_packet::Address;
+use std::alloc::{AllocError, Global};
+use std::marker::Model;
+
+/// A link between two interfaces.
+#[derive(Clone, Copy, Debug, PartialEq, Eq)]
+pub struct Link {
+    pub a: IfaceNo,
+    pub b: IfaceNo,
+    /// Bits per second, 1,000 to 10^12.
+    pub rate: u64,
+    /// Nanoseconds, 0 to 10^12, and at least 1 between two partitions.
+    pub delay: u64,
+}
+
+/// A route of a node: packets to this prefix leave by this interface.
+#[derive(Clone, Copy, Debug, PartialEq, Eq)]
+pub struct Route {
+    pub to: Prefix,
+    pub via: IfaceNo,
+}
+
+/// A route, and whose it is.
+#[derive(Clone, Copy, Debug, PartialEq, Eq)]
+pub struct PlacedRoute {
+    pub node: NodeNo,
+    pub route: Route,
+}
+
+/// What an interface is linked to.
+#[derive(Clone, Copy, Debug, PartialEq, Eq)]
+pub struct Far {
+    pub peer: IfaceNo,
+    /// Bits per second.
+    pub rate: u64,
+    /// Nanoseconds.
+    pub delay: u64,
+}
+
+/// The routes of one node, in the order of the text. A clause sees the list.
+#[derive(Debug, Drop)]
+pub struct RouteTable {
+    routes: Vec<Route>,
+}
+
+impl Model for RouteTable {
+    ghost use Rattle.std.specs.Prelude.{List};
+    ghost use Rattle.nm_topology.specs.declared.parts.Route.{Route};
+
+    ghost Value = { List Route };
+
+    ghost view = { λ t. t.routes.items };
+}
+
+impl RouteTable {
+    /// No routes.
+    pub fn new(alloc: Global) -> Self
+        ensures { result ≡ [] }
+    {
+        RouteTable {
+            routes: Vec::new(alloc),
+        }
+    }
+
+    /// Adds a route at the end. An `Err` changes nothing.
+    pub fn push(&mut self, route: Route) -> Result<(), AllocError>
+        ensures ok { OnOk result (self.new ≡ self.old ++ route ∷ []) }
+        ensures err { OnErr result (self.new ≡ self.old) }
+    {
+        self.routes.push(route)?;
+        Ok(())
+    }
+
+    /// The routes.
+    pub fn as_slice(&self) -> &[Route]
+        ensures { result.now ≡ self.now }
+    {
+        &self.routes
+    }
+}
+
+/// A node.
+#[derive(Debug, Drop)]
+pub struct Node {
+    name: String,
+    kind: NodeKind,
+    partition: PartNo,
+    ports: Vec<u16>,
+    routes: RouteTable,
+}
+
+impl Model for Node {
+    ghost use Rattle.std.specs.Prelude.{string_bytes};
+    ghost use Rattle.nm_topology.specs.Networks.{NodeValue};
+
+    ghost Value = { NodeValue };
+
+    ghost view = { λ n. record { name = string_bytes n.name; kind = n.kind; partition = n.partition; ports = n.ports.items; routes = n.routes } };
+}
+
+impl Node {
+    /// The node of a row, with its routes.
+    pub(crate) fn new(row: NodeRow, routes: RouteTable) -> Self
+        ensures { result ≡ record { name = row.name; kind = row.kind; partition = row.partition; ports = row.ports; routes = routes } }
+    {
+        let NodeRow {
+            name,
+            kind,
+            partition,
+            ports,
+        } = row;
+        Node {
+            name,
+            kind,
+            partition: PartNo::new(partition as u32),
+            ports,
+            routes,
+        }
+    }
+
+    pub fn name(&self) -> &str
+        ensures { result.now ≡ self.now.name }
+    {
+        self.name.as_str()
+    }
+
+    pub fn kind(&self) -> NodeKind
+        ensures { result ≡ self.now.kind }
+    {
+        self.kind
+    }
+
+    pub fn partition(&self) -> PartNo
+        ensures { result ≡ self.now.partition }
+    {
+        self.partition
+    }
+
+    /// The UDP ports at which something listens, in the order of the text. One may stand there twice.
+    pub fn ports(&self) -> &[u16]
+        ensures { result.now ≡ self.now.ports }
+    {
+        &self.ports
+    }
+
+    /// The routes, in the order of the text.
+    pub fn routes(&self) -> &[Route]
+        ensures { result.now ≡ self.now.routes }
+    {
+        self.routes.as_slice()
+    }
+}
+
+/// An interface.
+#[derive(Debug, Drop)]
+pub struct Iface {
+    name: String,
+    node: NodeNo,
+    address: Address,
+    queue: u16,
+    far: Far,
+}
+
+impl Model for Iface {
+    ghost use Rattle.std.specs.Prelude.{string_bytes};
+    ghost use Rattle.nm_topology.specs.Networks.{IfaceValue};
+
+    ghost Value = { IfaceValue };
+
+    ghost view = { λ i. record { name = string_bytes i.name; node = i.node; address = i.address; queue = i.queue; far = i.far } };
+}
+
+impl Iface {
+    /// The interface of a row, at this node, with this far end.
+    pub(crate) fn new(row: IfaceRow, node: NodeNo, far: Far) -> Self
+        ensures { result ≡ record { name = row.name; node = node; address = row.address; queue = row.queue; far = far } }
+    {
+        let IfaceRow {
+            name,
+            node: _,
+            address,
+            queue,
+        } = row;
+        Iface {
+            name,
+            node,
+            address,
+            queue,
+            far,
+        }
+    }
+
+    pub fn name(&self) -> &str
+        ensures { result.now ≡ self.now.name }
+    {
+        self.name.as_str()
+    }
+
+    /// The node that has the interface.
+    pub fn node(&self) -> NodeNo
+        ensures { result ≡ self.now.node }
+    {
+        self.node
+    }
+
+    pub fn address(&self) -> Address
+        ensures { result ≡ self.now.address }
+    {
+        self.address
+    }
+
+    /// How many packets may wait, 0 to 10,000.
+    pub fn queue(&self) -> u16
+        ensures { result ≡ self.now.queue }
+    {
+        self.queue
+    }
+
+    /// The interface at the other end of the link, and the link's rate and delay.
+    pub fn far(&self) -> Far
+        ensures { result ≡ self.now.far }
+    {
+        self.far
+    }
+}

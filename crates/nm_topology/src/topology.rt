@@ -1,0 +1,255 @@
+//! A topology, and the reading of one.
+
+ghost use Rattle.nm_base.specs.declared.limits.TheConstants.{MAX_CHANNELS, MAX_IFACES, MAX_LINKS, MAX_NODES, MAX_SOURCES};
+ghost use Rattle.nm_topology.specs.Order.{IsInOrder};
+ghost use Rattle.std.specs.Prelude.{◌≡◌, ◌<◌, ◌≤◌, Some, length, slice_get};
+ghost use Rattle.std.specs.Option.{ok_or};
+ghost use Rattle.toml.specs.Parse.{parse_document};
+ghost use Rattle.toml.specs.View.{table_view};
+ghost use Rattle.nm_topology.specs.declared.fault.Refusal.TheVariants.{Text};
+ghost use Rattle.nm_topology.specs.Fault.{Gives};
+ghost use Rattle.nm_topology.specs.Network.{channel_from, parsed, network_of, topology_of};
+
+use crate::document::{Document, read_document};
+use crate::fault::{Refusal, TopoFault};
+use crate::numbering::{Numbers, number};
+use crate::parts::{Iface, Link, Node};
+use crate::placing::{self, Wiring};
+use crate::traffic::Source;
+use nm_base::limits::MAX_TEXT_OCTETS;
+use nm_base::{ChanNo, IfaceNo, NodeNo, Time};
+use sha2::{Digest, Sha256};
+use std::alloc::Global;
+use std::marker::Model;
+use toml::Table;
+
+/// A network that is in order: what every part of nullsim runs on.
+#[derive(Debug, Drop)]
+pub struct Topology {
+    stop: Time,
+    mtu: u16,
+    nodes: Vec<Node>,
+    ifaces: Vec<Iface>,
+    links: Vec<Link>,
+    sources: Vec<Source>,
+    receivers: Vec<IfaceNo>,
+    partitions: u32,
+    digest: [u8; 32],
+}
+
+impl Model for Topology {
+    ghost use Rattle.std.specs.Prelude.{◌≤◌, length};
+    ghost use Rattle.nm_base.specs.declared.limits.TheConstants.{MAX_CHANNELS, MAX_IFACES, MAX_LINKS, MAX_NODES, MAX_SOURCES};
+    ghost use Rattle.nm_topology.specs.Order.{IsInOrder};
+    ghost use Rattle.nm_topology.specs.Wholes.{NetworkValue};
+
+    ghost Value = { NetworkValue };
+
+    ghost invariant = { λ t.
+        IsInOrder t.nodes.items t.ifaces.items t.links.items
+        × (length t.nodes.items ≤ MAX_NODES)
+        × (length t.ifaces.items ≤ MAX_IFACES)
+        × (length t.links.items ≤ MAX_LINKS)
+        × (length t.sources.items ≤ MAX_SOURCES)
+        × (length t.receivers.items ≤ MAX_CHANNELS) };
+
+    ghost view = { λ t. record {
+      stop = t.stop;
+      mtu = t.mtu;
+      nodes = t.nodes.items;
+      ifaces = t.ifaces.items;
+      links = t.links.items;
+      sources = t.sources.items;
+      receivers = t.receivers.items;
+      partitions = t.partitions;
+      digest = t.digest;
+    } };
+}
+
+/// The TOML document of a string.
+fn document_text(alloc: Global, text: &str) -> Result<Table, TopoFault>
+    ensures { Gives (λ t. table_view t) result (ok_or (parse_document text.now) Text) }
+{
+    match toml::table_from_str(alloc, text) {
+        Ok(table) => Ok(table),
+        Err(fault) if fault.is_memory() => Err(TopoFault::Memory),
+        Err(_) => Err(TopoFault::Refused(Refusal::Text)),
+    }
+}
+
+/// The TOML document of a text.
+#[tactic(auto, using(crate::proofs::Parsing::parsed_of_utf8))]
+fn parse(alloc: Global, text: &[u8]) -> Result<Table, TopoFault>
+    ensures { Gives (λ t. table_view t) result (parsed text.now) }
+{
+    match str::from_utf8(text) {
+        Ok(text) => document_text(alloc, text),
+        Err(_) => Err(TopoFault::Refused(Refusal::Text)),
+    }
+}
+
+/// The network that a document says.
+#[tactic(auto, using(crate::proofs::Order::in_order), unfolding(crate::specs::Network::network_of))]
+fn resolve(alloc: Global, document: Document, digest: [u8; 32]) -> Result<Topology, TopoFault>
+    ensures { Gives (λ t. t) result (network_of digest document) }
+{
+    let Document {
+        stop,
+        mtu,
+        nodes,
+        ifaces,
+        links,
+        routes,
+        sources,
+    } = document;
+    let numbers = number(alloc, &nodes, &ifaces, &links, &routes, sources)?;
+    let parts = placing::partitions(alloc, &nodes)?;
+    let Wiring {
+        tables,
+        far,
+        receivers,
+    } = placing::wire(alloc, &parts, &ifaces, &numbers)?;
+    let partitions = placing::partition_count(&nodes);
+    let Numbers {
+        owners,
+        links,
+        routes: _,
+        sources,
+    } = numbers;
+    Ok(Topology {
+        stop,
+        mtu,
+        nodes: placing::nodes(alloc, nodes, tables)?,
+        ifaces: placing::ifaces(alloc, ifaces, owners, far)?,
+        links,
+        sources,
+        receivers,
+        partitions,
+        digest,
+    })
+}
+
+impl Topology {
+    /// Reads a topology text of at most 16,777,216 octets. The fault is the first in the reading order: the length, then
+    /// UTF-8 and TOML, then the tables key by key, then names, then the tests of the whole (docs/FORMATS.md). After
+    /// `Memory` the same call may succeed with more of it.
+    #[tactic(auto, unfolding(crate::specs::Network::topology_of))]
+    pub fn read(alloc: Global, text: &[u8]) -> Result<Topology, TopoFault>
+        ensures { Gives (λ t. t) result (topology_of text.now) }
+    {
+        if text.len() > MAX_TEXT_OCTETS {
+            return Err(TopoFault::Refused(Refusal::Range));
+        }
+        let table = parse(alloc, text)?;
+        let document = read_document(alloc, &table)?;
+        resolve(alloc, document, Sha256::digest(text))
+    }
+
+    /// The last time that is simulated.
+    pub fn stop(&self) -> Time
+        ensures { result ≡ self.now.stop }
+    {
+        self.stop
+    }
+
+    /// The greatest total length of an IPv4 packet on a link, in octets, 68 to 65,535.
+    pub fn mtu(&self) -> u16
+        ensures { result ≡ self.now.mtu }
+    {
+        self.mtu
+    }
+
+    /// The nodes, in the order of the text.
+    pub fn nodes(&self) -> &[Node]
+        ensures { result.now ≡ self.now.nodes }
+    {
+        &self.nodes
+    }
+
+    /// The interfaces, in the order of the text.
+    pub fn ifaces(&self) -> &[Iface]
+        ensures { result.now ≡ self.now.ifaces }
+    {
+        &self.ifaces
+    }
+
+    /// The node with this number.
+    pub fn node(&self, node: NodeNo) -> &Node
+        requires { node < length self.now.nodes }
+        ensures { slice_get self.now.nodes node ≡ Some result.now }
+    {
+        &self.nodes[node.index()]
+    }
+
+    /// The interface with this number.
+    pub fn iface(&self, iface: IfaceNo) -> &Iface
+        requires { iface < length self.now.ifaces }
+        ensures { slice_get self.now.ifaces iface ≡ Some result.now }
+    {
+        &self.ifaces[iface.index()]
+    }
+
+    /// The links, in the order of the text.
+    pub fn links(&self) -> &[Link]
+        ensures { result.now ≡ self.now.links }
+    {
+        &self.links
+    }
+
+    /// The sources, in the order of the text.
+    pub fn sources(&self) -> &[Source]
+        ensures { result.now ≡ self.now.sources }
+    {
+        &self.sources
+    }
+
+    /// The interfaces that receive a channel: channel n comes in at the n-th. They rise.
+    pub fn receivers(&self) -> &[IfaceNo]
+        ensures { result.now ≡ self.now.receivers }
+    {
+        &self.receivers
+    }
+
+    /// The channel that this interface receives, if its link comes from another partition.
+    pub fn channel_of(&self, iface: IfaceNo) -> Option<ChanNo>
+        ensures { result ≡ channel_from 0 self.now.receivers iface }
+    {
+        let mut channel = 0u32;
+        for receiver in &self.receivers {
+            if *receiver == iface {
+                return Some(ChanNo::new(channel));
+            }
+            channel += 1;
+        }
+        None
+    }
+
+    /// How many partitions there are: the greatest number of one, plus one.
+    pub fn partitions(&self) -> u32
+        ensures { result ≡ self.now.partitions }
+    {
+        self.partitions
+    }
+
+    /// SHA-256 of the text.
+    pub fn digest(&self) -> [u8; 32]
+        ensures { result ≡ self.now.digest }
+    {
+        self.digest
+    }
+}
+
+/// What every accepted topology has: the layers above rely on it. Each interface is one end of exactly one link, and is
+/// of a node that is there; whatever it is linked to is another interface, linked back to it over the same rate and
+/// delay; the routes of a node leave by interfaces of its own; a link between partitions delays by at least 1 ns; and
+/// counts are within the limits.
+pub fn accepted_topologies_are_in_order(topology: &Topology)
+    ensures order { IsInOrder topology.now.nodes topology.now.ifaces topology.now.links }
+    ensures nodes { length topology.now.nodes ≤ MAX_NODES }
+    ensures ifaces { length topology.now.ifaces ≤ MAX_IFACES }
+    ensures links { length topology.now.links ≤ MAX_LINKS }
+    ensures sources { length topology.now.sources ≤ MAX_SOURCES }
+    ensures channels { length topology.now.receivers ≤ MAX_CHANNELS }
+{
+    let _nodes = &topology.nodes;
+}
