@@ -152,7 +152,7 @@ impl Topology {
         self.stop
     }
 
-    /// The greatest total length of an IPv4 packet on a link, in octets, 68 to 65,535.
+    /// The greatest total length of an IPv4 packet on a link, in octets, 576 to 65,535.
     pub fn mtu(&self) -> u16
         ensures { result ≡ self.now.mtu }
     {
