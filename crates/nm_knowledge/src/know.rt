@@ -37,7 +37,8 @@ impl Model for Know {
 
     ghost view = { λ k. record { list = k.messages.items; clock = k.clock } };
 
-    ghost invariant = { λ k. IsKnow {P = List ℕ} (record { list = k.messages.items; clock = k.clock }) × (length k.messages.items ≤ 2 ^ 50) };
+    ghost invariant = { λ k. IsKnow {P = List ℕ} (record { list = k.messages.items; clock = k.clock })
+        × (length k.messages.items ≤ 2 ^ 50) };
 }
 
 impl Know {
@@ -111,7 +112,8 @@ impl Know {
         time: Time,
         packet: &Packet,
     ) -> Result<Accepted, KnowFault>
-        ensures { Accepts self.old self.new result (accept_data same_octets self.old number (time, packet.now)) }
+        ensures { Accepts self.old self.new result
+            (accept_data same_octets self.old number (time, packet.now)) }
     {
         let have = self.messages.len() as u64;
         if number > have {
