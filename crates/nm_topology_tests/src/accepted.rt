@@ -43,7 +43,10 @@ fn duo_nodes(rt: HostRuntime) -> Result<(), Fail> {
     };
     assert_eq!(rt; (a.name(), b.name()), ("a", "b"));
     assert_eq!(rt; (a.kind(), b.kind()), (NodeKind::Host, NodeKind::Host));
-    assert_eq!(rt; (a.partition(), b.partition()), (PartNo::new(0), PartNo::new(0)));
+    assert_eq!(rt;
+        (a.partition(), b.partition()),
+        (PartNo::new(0), PartNo::new(0))
+    );
     assert_eq!(rt; a.ports().len(), 0);
     assert_eq!(rt; b.ports(), [9].as_slice());
     let to = Prefix {
@@ -62,10 +65,7 @@ fn duo_nodes(rt: HostRuntime) -> Result<(), Fail> {
 #[test]
 fn duo_interfaces(rt: HostRuntime) -> Result<(), Fail> {
     let topology = read_duo(rt.alloc())?;
-    let rows = [
-        ("a0", 0, [10, 0, 0, 1], 1),
-        ("b0", 1, [10, 0, 0, 2], 0),
-    ];
+    let rows = [("a0", 0, [10, 0, 0, 1], 1), ("b0", 1, [10, 0, 0, 2], 0)];
     assert_eq!(rt; topology.ifaces().len(), rows.len());
     for (iface, (name, node, address, peer)) in topology.ifaces().iter().zip(rows) {
         assert_eq!(rt; iface.name(), name);

@@ -4,15 +4,21 @@
 #[cfg(test)]
 mod accepted;
 #[cfg(test)]
+mod faults;
+#[cfg(test)]
 mod fixtures;
 #[cfg(test)]
 mod forms;
+#[cfg(test)]
+mod memory;
 #[cfg(test)]
 mod names;
 #[cfg(test)]
 mod ring;
 #[cfg(test)]
 mod rows;
+#[cfg(test)]
+mod sizes;
 #[cfg(test)]
 mod sources;
 #[cfg(test)]

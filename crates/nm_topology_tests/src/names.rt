@@ -9,7 +9,11 @@ fn doubles_and_strangers(rt: HostRuntime) -> Result<(), Fail> {
         ("name = \"b\"", "name = \"a\"", 7),
         ("name = \"b0\"", "name = \"a0\"", 7),
         // a node and an interface may have one name
-        ("{name = \"b\"", "{name = \"a0\", kind = \"host\", partition = 0}, {name = \"b\"", 0),
+        (
+            "{name = \"b\"",
+            "{name = \"a0\", kind = \"host\", partition = 0}, {name = \"b\"",
+            0,
+        ),
         ("node = \"b\"", "node = \"c\"", 8),
         ("node = \"b\"", "node = \"b0\"", 8),
         ("a = \"a0\"", "a = \"c0\"", 8),
@@ -18,7 +22,11 @@ fn doubles_and_strangers(rt: HostRuntime) -> Result<(), Fail> {
         ("via = \"a0\"", "via = \"c0\"", 8),
         // an interface of another node
         ("via = \"a0\"", "via = \"b0\"", 8),
-        ("kind = \"cbr\", node = \"a\"", "kind = \"cbr\", node = \"c\"", 8),
+        (
+            "kind = \"cbr\", node = \"a\"",
+            "kind = \"cbr\", node = \"c\"",
+            8,
+        ),
     ] {
         let number = answer_with(rt.alloc(), old, new)?;
         assert_eq!(rt; number, want, "{new:?} for {old:?}");
@@ -30,10 +38,22 @@ fn doubles_and_strangers(rt: HostRuntime) -> Result<(), Fail> {
 fn uses(rt: HostRuntime) -> Result<(), Fail> {
     for (old, new, want) in [
         ("b = \"b0\"", "b = \"a0\"", 9),
-        ("link = [ {a = \"a0\", b = \"b0\", rate = 8000000, delay = 1000000} ]", "", 9),
-        ("link = [", "link = [ {a = \"b0\", b = \"a0\", rate = 8000000, delay = 1000000},", 9),
+        (
+            "link = [ {a = \"a0\", b = \"b0\", rate = 8000000, delay = 1000000} ]",
+            "",
+            9,
+        ),
+        (
+            "link = [",
+            "link = [ {a = \"b0\", b = \"a0\", rate = 8000000, delay = 1000000},",
+            9,
+        ),
         // a link may join two interfaces of one node
-        ("name = \"b0\", node = \"b\"", "name = \"b0\", node = \"a\"", 0),
+        (
+            "name = \"b0\", node = \"b\"",
+            "name = \"b0\", node = \"a\"",
+            0,
+        ),
     ] {
         let number = answer_with(rt.alloc(), old, new)?;
         assert_eq!(rt; number, want, "{new:?} for {old:?}");
@@ -45,10 +65,26 @@ fn uses(rt: HostRuntime) -> Result<(), Fail> {
 fn addresses_and_routes(rt: HostRuntime) -> Result<(), Fail> {
     for (old, new, want) in [
         ("\"10.0.0.2\", queue", "\"10.0.0.1\", queue", 10),
-        ("route = [", "route = [ {node = \"a\", to = \"10.0.0.0/24\", via = \"a0\"},", 11),
-        ("route = [", "route = [ {node = \"a\", to = \"10.0.0.0/25\", via = \"a0\"},", 0),
-        ("route = [", "route = [ {node = \"a\", to = \"10.0.1.0/24\", via = \"a0\"},", 0),
-        ("route = [", "route = [ {node = \"b\", to = \"10.0.0.0/24\", via = \"b0\"},", 0),
+        (
+            "route = [",
+            "route = [ {node = \"a\", to = \"10.0.0.0/24\", via = \"a0\"},",
+            11,
+        ),
+        (
+            "route = [",
+            "route = [ {node = \"a\", to = \"10.0.0.0/25\", via = \"a0\"},",
+            0,
+        ),
+        (
+            "route = [",
+            "route = [ {node = \"a\", to = \"10.0.1.0/24\", via = \"a0\"},",
+            0,
+        ),
+        (
+            "route = [",
+            "route = [ {node = \"b\", to = \"10.0.0.0/24\", via = \"b0\"},",
+            0,
+        ),
     ] {
         let number = answer_with(rt.alloc(), old, new)?;
         assert_eq!(rt; number, want, "{new:?} for {old:?}");
@@ -72,13 +108,30 @@ fn cuts(rt: HostRuntime) -> Result<(), Fail> {
 /// From the last test to the first, each fault hides those of later tests.
 #[test]
 fn tests_in_order(rt: HostRuntime) -> Result<(), Fail> {
-    let mut text = with(rt.alloc(), duo(), "partition = 0, ports", "partition = 1, ports")?;
+    let mut text = with(
+        rt.alloc(),
+        duo(),
+        "partition = 0, ports",
+        "partition = 1, ports",
+    )?;
     for (old, new, want) in [
         ("delay = 1000000", "delay = 0", 12),
-        ("route = [", "route = [ {node = \"a\", to = \"10.0.0.0/24\", via = \"a0\"},", 11),
+        (
+            "route = [",
+            "route = [ {node = \"a\", to = \"10.0.0.0/24\", via = \"a0\"},",
+            11,
+        ),
         ("\"10.0.0.2\", queue", "\"10.0.0.1\", queue", 10),
-        ("link = [", "link = [ {a = \"a0\", b = \"b0\", rate = 8000000, delay = 0},", 9),
-        ("kind = \"cbr\", node = \"a\"", "kind = \"cbr\", node = \"c\"", 8),
+        (
+            "link = [",
+            "link = [ {a = \"a0\", b = \"b0\", rate = 8000000, delay = 0},",
+            9,
+        ),
+        (
+            "kind = \"cbr\", node = \"a\"",
+            "kind = \"cbr\", node = \"c\"",
+            8,
+        ),
         ("name = \"b0\"", "name = \"a0\"", 7),
         ("count = 1}", "count = -1}", 5),
         ("mtu = 1500", "colour = 1500", 3),

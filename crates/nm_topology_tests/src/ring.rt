@@ -137,7 +137,10 @@ fn read_ring(alloc: Global) -> Result<Topology, Fail> {
 #[test]
 fn whole(rt: HostRuntime) -> Result<(), Fail> {
     let topology = read_ring(rt.alloc())?;
-    assert_eq!(rt; topology.stop(), Time::from_nanoseconds(1_000_000_000_000_000));
+    assert_eq!(rt;
+        topology.stop(),
+        Time::from_nanoseconds(1_000_000_000_000_000)
+    );
     assert_eq!(rt; topology.mtu(), 576);
     // the greatest number of a partition plus one, though two of them have no node
     assert_eq!(rt; topology.partitions(), 4);
@@ -157,9 +160,18 @@ fn nodes(rt: HostRuntime) -> Result<(), Fail> {
     let [n0, n1, n2] = topology.nodes() else {
         return Err("three nodes".into());
     };
-    assert_eq!(rt; (n0.name(), n0.kind(), n0.partition()), ("n0", NodeKind::Router, PartNo::new(0)));
-    assert_eq!(rt; (n1.name(), n1.kind(), n1.partition()), ("n1", NodeKind::Router, PartNo::new(3)));
-    assert_eq!(rt; (n2.name(), n2.kind(), n2.partition()), ("n2", NodeKind::Host, PartNo::new(0)));
+    assert_eq!(rt;
+        (n0.name(), n0.kind(), n0.partition()),
+        ("n0", NodeKind::Router, PartNo::new(0))
+    );
+    assert_eq!(rt;
+        (n1.name(), n1.kind(), n1.partition()),
+        ("n1", NodeKind::Router, PartNo::new(3))
+    );
+    assert_eq!(rt;
+        (n2.name(), n2.kind(), n2.partition()),
+        ("n2", NodeKind::Host, PartNo::new(0))
+    );
     assert_eq!(rt; n0.ports(), [7, 65_535, 7].as_slice());
     assert_eq!(rt; (n1.ports().len(), n2.ports().len()), (0, 0));
     Ok(())

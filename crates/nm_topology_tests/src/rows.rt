@@ -1,6 +1,6 @@
 //! Faults of a table of `node`, `iface`, `link` or `route`.
 
-use crate::fixtures::{answer_with, duo, with, answer};
+use crate::fixtures::{answer, answer_with, duo, with};
 use std::test::Fail;
 
 #[test]

@@ -1,6 +1,6 @@
 //! Faults of a table of `source`.
 
-use crate::fixtures::{answer_with, duo, with, answer};
+use crate::fixtures::{answer, answer_with, duo, with};
 use std::alloc::Global;
 use std::test::Fail;
 
@@ -71,7 +71,9 @@ fn optional(rt: HostRuntime) -> Result<(), Fail> {
 
 /// What is read of DUO with an echo source of these keys besides.
 fn echo(alloc: Global, keys: &str) -> Result<u8, Fail> {
-    let table = format!(in alloc; "source = [ {{kind = \"echo\", node = \"a\", to = \"10.0.0.2\", {keys}}},")?;
+    let table = format!(in alloc;
+        "source = [ {{kind = \"echo\", node = \"a\", to = \"10.0.0.2\", {keys}}},"
+    )?;
     answer_with(alloc, "source = [", table.as_str())
 }
 
@@ -79,11 +81,23 @@ fn echo(alloc: Global, keys: &str) -> Result<u8, Fail> {
 fn echoes(rt: HostRuntime) -> Result<(), Fail> {
     for (keys, want) in [
         ("ident = 0, size = 0, start = 0, interval = 1, count = 1", 0),
-        ("ident = 65535, size = 1472, fill = 9, start = 0, interval = 1, count = 1, ttl = 9", 0),
-        ("ident = 65536, size = 0, start = 0, interval = 1, count = 1", 5),
+        (
+            "ident = 65535, size = 1472, fill = 9, start = 0, interval = 1, count = 1, ttl = 9",
+            0,
+        ),
+        (
+            "ident = 65536, size = 0, start = 0, interval = 1, count = 1",
+            5,
+        ),
         ("size = 0, start = 0, interval = 1, count = 1", 2),
-        ("ident = 0, size = 1473, start = 0, interval = 1, count = 1", 5),
-        ("ident = 0, sport = 0, size = 0, start = 0, interval = 1, count = 1", 3),
+        (
+            "ident = 0, size = 1473, start = 0, interval = 1, count = 1",
+            5,
+        ),
+        (
+            "ident = 0, sport = 0, size = 0, start = 0, interval = 1, count = 1",
+            3,
+        ),
     ] {
         let number = echo(rt.alloc(), keys)?;
         assert_eq!(rt; number, want, "{keys:?}");
@@ -144,7 +158,9 @@ fn packets(rt: HostRuntime) -> Result<(), Fail> {
 fn packet_sizes(rt: HostRuntime) -> Result<(), Fail> {
     for (count, end, want) in [(1_500, "", 0), (1_501, "", 5), (1_501, "4", 13)] {
         let data = "45".repeat(rt.alloc(), count)?;
-        let keys = format!(in rt.alloc(); "via = \"a0\", packet = [ {{at = 0, data = \"{data}{end}\"}} ]")?;
+        let keys = format!(in rt.alloc();
+            "via = \"a0\", packet = [ {{at = 0, data = \"{data}{end}\"}} ]"
+        )?;
         let number = raw(rt.alloc(), keys.as_str())?;
         assert_eq!(rt; number, want, "{count} octets and {end:?}");
     }

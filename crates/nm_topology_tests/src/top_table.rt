@@ -51,7 +51,10 @@ fn arrays(rt: HostRuntime) -> Result<(), Fail> {
         ("route = [ ]", 0),
         ("", 0),
         ("route = 1", 4),
-        ("route = {node = \"a\", to = \"10.0.0.0/24\", via = \"a0\"}", 4),
+        (
+            "route = {node = \"a\", to = \"10.0.0.0/24\", via = \"a0\"}",
+            4,
+        ),
         ("route = [1]", 4),
         // each member's type comes before what a member holds
         ("route = [ {}, 1]", 4),
