@@ -1,5 +1,5 @@
 -- Lists seen through a function: doubles and positions.
-use Rattle.std.proofs.Common.{◌≡◌, ℕ, Bool, ◌||◌, List, [], ◌∷◌, ◌++◌, map, length, ◌+◌, not, nat_lt, Option, Some, None, refl, sym, ap, ◌∙◌, cond}
+use Rattle.std.proofs.Common.{◌≡◌, Bool, ◌||◌, List, [], ◌∷◌, ◌++◌, map, length, ◌+◌, not, nat_lt, Some, None, refl, sym, ap, ◌∙◌, cond}
 use Rattle.std.specs.List.{list_any, position, position_or_len, prefix_len}
 use Rattle.std.proofs.lemmas.List.{map_push, length-map}
 use Rattle.nm_topology.specs.Numbers.{repeats, has_double}

@@ -1,5 +1,5 @@
 -- Counting ends of links, and tests of each number below a bound.
-use Rattle.std.proofs.Common.{◌≡◌, ◌⊎◌, ℕ, zero, suc, ◌+◌, ◌-◌, ◌<◌, ◌≤◌, Bool, true, false, cond, ◌&&◌, ◌||◌, ◌==◌, min, List, [], ◌∷◌, ◌++◌, length, filter, get_or, set, map, refl, sym, ap, ◌∙◌, subst, arith, inl, inr, ⊎_elim, add_assoc, add-one, add-zero, zero-add, append_assoc, length-set, get_or-set_same, get_or-set_other}
+use Rattle.std.proofs.Common.{◌≡◌, ◌⊎◌, ℕ, suc, ◌+◌, ◌-◌, ◌<◌, Bool, true, false, cond, ◌&&◌, ◌||◌, ◌==◌, min, List, [], ◌∷◌, ◌++◌, length, filter, get_or, map, refl, sym, ap, ◌∙◌, subst, arith, ⊎_elim, add_assoc, add-one, add-zero, zero-add, append_assoc, length-set, get_or-set_same, get_or-set_other}
 use Rattle.std.proofs.lemmas.Bool.Decides.{nat_tests}
 use Rattle.std.specs.List.{list_all, list_any}
 use Rattle.nm_topology.specs.declared.parts.Link.{Link}
@@ -8,23 +8,23 @@ use Rattle.nm_topology.specs.Checks.{one_if, bump, uses, numbers_from}
 pub same_or_not : (a i : ℕ) → (a ≡ i) ⊎ (a ≡ i → ⊥)
 same_or_not a i = grind arith
 
-one_here : (a i : ℕ) → a ≡ i → one_if (a == i) ≡ 1
+pub one_here : (a i : ℕ) → a ≡ i → one_if (a == i) ≡ 1
 one_here a i e = grind (arith, nat_tests)
 
-one_there : (a i : ℕ) → (a ≡ i → ⊥) → one_if (a == i) ≡ 0
+pub one_there : (a i : ℕ) → (a ≡ i → ⊥) → one_if (a == i) ≡ 0
 one_there a i e = grind (arith, nat_tests)
 
 pub bump-get : (u : List ℕ) (a i rest : ℕ) → a < length u → min 255 (get_or (bump u a) i 0 + rest) ≡ min 255 (get_or u i 0 + (one_if (a == i) + rest))
 bump-get u a i rest h = ⊎_elim
     (λ e.
-      let here : get_or (bump u a) i 0 ≡ min 255 (get_or u a 0 + 1) = ap (λ j. get_or (bump u a) j 0) (sym e) ∙ get_or-set_same u a (min 255 (get_or u a 0 + 1)) 0 h in
-      let same : get_or u a 0 ≡ get_or u i 0 = ap (λ j. get_or u j 0) e in
-      let one = one_here a i e in
-      omega (arith, here, same, one))
+    let here : get_or (bump u a) i 0 ≡ min 255 (get_or u a 0 + 1) = ap (λ j. get_or (bump u a) j 0) (sym e) ∙ get_or-set_same u a (min 255 (get_or u a 0 + 1)) 0 h in
+    let same : get_or u a 0 ≡ get_or u i 0 = ap (λ j. get_or u j 0) e in
+    let one = one_here a i e in
+    omega (arith, here, same, one))
     (λ e.
-      let there : get_or (bump u a) i 0 ≡ get_or u i 0 = get_or-set_other u a i (min 255 (get_or u a 0 + 1)) 0 (λ q. e (sym q)) in
-      let none = one_there a i e in
-      omega (arith, there, none))
+    let there : get_or (bump u a) i 0 ≡ get_or u i 0 = get_or-set_other u a i (min 255 (get_or u a 0 + 1)) 0 (λ q. e (sym q)) in
+    let none = one_there a i e in
+    omega (arith, there, none))
     (same_or_not a i)
 
 -- one link more

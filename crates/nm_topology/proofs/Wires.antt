@@ -1,5 +1,5 @@
 -- One link more, and the far ends of interfaces.
-use Rattle.std.proofs.Common.{◌≡◌, All, ◌⊎◌, ℕ, zero, suc, ◌<◌, Bool, true, false, ◌==◌, cond, List, [], ◌∷◌, length, set, Option, Some, refl, sym, ap, ◌∙◌, arith, ⊎_elim, length-set}
+use Rattle.std.proofs.Common.{◌≡◌, All, ℕ, zero, suc, ◌<◌, true, false, ◌==◌, cond, List, [], ◌∷◌, length, set, Some, refl, sym, ap, ◌∙◌, arith, ⊎_elim, length-set}
 use Rattle.std.specs.Prelude.{slice_get}
 use Rattle.std.proofs.lemmas.Bool.Decides.{nat_tests}
 use Rattle.std.proofs.lemmas.List.Elements.{All-set}
@@ -8,10 +8,10 @@ use Rattle.nm_topology.specs.declared.parts.Link.{Link}
 use Rattle.nm_topology.specs.Checks.{far_end, joined}
 use Rattle.nm_topology.proofs.Uses.{same_or_not}
 
-is_same : (a i : ℕ) → a ≡ i → (a == i) ≡ true
+pub is_same : (a i : ℕ) → a ≡ i → (a == i) ≡ true
 is_same a i e = grind (arith, nat_tests)
 
-is_other : (a i : ℕ) → (a ≡ i → ⊥) → (a == i) ≡ false
+pub is_other : (a i : ℕ) → (a ≡ i → ⊥) → (a == i) ≡ false
 is_other a i e = grind (arith, nat_tests)
 
 set_same : {X : Type 0} (xs : List X) (a : ℕ) (x : X) → a < length xs → slice_get (set xs a x) a ≡ Some x
@@ -37,10 +37,10 @@ joined-get far l rest i a b h =
     ⊎_elim
     (λ e. set_here (set far l.b ends_b) l.a i ends_a (omega (arith, length-set far l.b ends_b)) e ∙ ap (λ t. Some (cond t ends_a (cond (l.b == i) ends_b other))) (sym (is_same l.a i e)))
     (λ e. set_there (set far l.b ends_b) l.a i ends_a e ∙ ⊎_elim
-      (λ f. set_here far l.b i ends_b b f ∙ ap (λ t. Some (cond t ends_b other)) (sym (is_same l.b i f)))
-      (λ f. set_there far l.b i ends_b f ∙ h ∙ ap (λ t. Some (cond t ends_b other)) (sym (is_other l.b i f)))
-      (same_or_not l.b i)
-      ∙ ap (λ t. Some (cond t ends_a (cond (l.b == i) ends_b other))) (sym (is_other l.a i e)))
+    (λ f. set_here far l.b i ends_b b f ∙ ap (λ t. Some (cond t ends_b other)) (sym (is_same l.b i f)))
+    (λ f. set_there far l.b i ends_b f ∙ h ∙ ap (λ t. Some (cond t ends_b other)) (sym (is_other l.b i f)))
+    (same_or_not l.b i)
+    ∙ ap (λ t. Some (cond t ends_a (cond (l.b == i) ends_b other))) (sym (is_other l.a i e)))
     (same_or_not l.a i)
 
 -- a property of each far end stays

@@ -1,6 +1,6 @@
 -- The tests of a topology whose names are replaced by numbers.
-use Rattle.std.specs.Prelude.{ℕ, zero, suc, ◌+◌, Bool, ◌&&◌, ◌||◌, not, ◌==◌, nat_eq, nat_le, nat_lt, if◌then◌else◌, List, [], ◌∷◌, ◌++◌, length, map, filter, slice_index_or as get_or, slice_index, slice_set, set, min, Result, Ok, Err}
-use Rattle.std.specs.List.{list_all, list_any}
+use Rattle.std.specs.Prelude.{ℕ, zero, suc, ◌+◌, Bool, ◌&&◌, not, ◌==◌, if◌then◌else◌, List, [], ◌∷◌, map, slice_index_or as get_or, slice_index, slice_set, set, min, Result, Ok, Err}
+use Rattle.std.specs.List.{list_all}
 use Rattle.nm_topology.specs.declared.fault.Refusal.{Refusal}
 use Rattle.nm_topology.specs.declared.parts.Far.{Far}
 use Rattle.nm_topology.specs.declared.parts.Link.{Link}

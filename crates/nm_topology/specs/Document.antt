@@ -1,13 +1,11 @@
 -- The top table of a topology text.
-use Rattle.std.specs.Prelude.{ℕ, List, [], ◌∷◌, Result, Ok, Err, codes}
+use Rattle.std.specs.Prelude.{[], ◌∷◌, Result, Ok, codes}
 use Rattle.toml.specs.Data.{Members, get_member}
 use Rattle.nm_base.specs.declared.limits.TheConstants.{MAX_TIME, MIN_MTU, MAX_MTU, MAX_NODES, MAX_IFACES, MAX_LINKS, MAX_ROUTES, MAX_SOURCES}
 use Rattle.nm_topology.specs.declared.fault.Refusal.{Refusal}
 use Rattle.nm_topology.specs.Fault.{◌>>=◌}
 use Rattle.nm_topology.specs.Fields.{required, optional, number_in, only}
 use Rattle.nm_topology.specs.Arrays.{is_table, in_table, array_of}
-use Rattle.nm_topology.specs.Texts.{NodeText, IfaceText, LinkText, RouteText}
-use Rattle.nm_topology.specs.SourceTexts.{SourceText}
 use Rattle.nm_topology.specs.Rows.{node_of, iface_of, link_of, route_of}
 use Rattle.nm_topology.specs.Sources.{source_of}
 use Rattle.nm_topology.specs.DocumentTexts.{DocumentText}

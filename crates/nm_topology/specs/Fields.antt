@@ -1,6 +1,6 @@
 -- Fields of tables: which keys a table has, and how a value is read.
-use Rattle.std.specs.Prelude.{ℕ, ℤ, pos, negsuc, Bool, true, ◌&&◌, ◌||◌, false, nat_le, if◌then◌else◌, List, [], ◌∷◌, Option, Some, None, Result, Ok, Err}
-use Rattle.toml.specs.Data.{Data, string, integer, array, table, Items, Members, no_members, member, get_member}
+use Rattle.std.specs.Prelude.{ℕ, ℤ, pos, negsuc, Bool, true, ◌&&◌, nat_le, if◌then◌else◌, List, Option, Some, None, Result, Ok, Err}
+use Rattle.toml.specs.Data.{Data, string, integer, Members, no_members, member}
 use Rattle.std.specs.List.{list_any}
 use Rattle.std.specs.Str.{bytes_eq}
 use Rattle.nm_topology.specs.declared.fault.Refusal.{Refusal}

@@ -1,5 +1,5 @@
 -- A topology text is read to this network, or to its first refusal.
-use Rattle.std.specs.Prelude.{ℕ, ◌+◌, Bool, not, ◌==◌, nat_eq, nat_le, nat_lt, max, if◌then◌else◌, List, [], ◌∷◌, length, map, filter, Option, Some, None, Result, Ok, Err}
+use Rattle.std.specs.Prelude.{ℕ, suc, ◌+◌, not, ◌==◌, nat_eq, nat_le, max, if◌then◌else◌, List, [], ◌∷◌, length, map, filter, Option, Some, None, Result, Ok, Err}
 use Rattle.std.specs.List.{list_all, list_any}
 use Rattle.std.specs.Option.{ok_or}
 use Rattle.std.specs.Str.Lossy.{utf8_valid_len}
@@ -10,10 +10,7 @@ use Rattle.nm_base.specs.declared.limits.TheConstants.{MAX_CHANNELS, MAX_ROUTES_
 use Rattle.nm_topology.specs.declared.fault.Refusal.{Refusal}
 use Rattle.nm_topology.specs.declared.fault.Refusal.TheVariants.{Text, Range, TooMany, IfaceUse, DoubleAddress, DoubleRoute, CutDelay}
 use Rattle.nm_topology.specs.declared.parts.Far.{Far}
-use Rattle.nm_topology.specs.declared.parts.Link.{Link}
 use Rattle.nm_topology.specs.declared.parts.Route.{Route}
-use Rattle.nm_topology.specs.declared.parts.PlacedRoute.{PlacedRoute}
-use Rattle.nm_topology.specs.declared.traffic.Source.{Source}
 use Rattle.nm_topology.specs.Fault.{◌>>=◌}
 use Rattle.nm_topology.specs.Texts.{NodeText, IfaceText, LinkText, RouteText}
 use Rattle.nm_topology.specs.SourceTexts.{SourceText}
@@ -57,6 +54,11 @@ placed_ifaces (i ∷ is) (o ∷ os) (f ∷ fs) =
 -- the interfaces that receive a channel: channel n comes in at the n-th of them
 abbrev pub receivers_of : List ℕ → List ℕ → List Far → List ℕ
 receivers_of parts owners far = filter (is_receiver parts owners far) (numbers_from 0 (length far))
+
+-- the channel that comes in at the interface, of those that are numbered from n on
+abbrev pub channel_from : ℕ → List ℕ → ℕ → Option ℕ
+channel_from n [] iface = None
+channel_from n (r ∷ rs) iface = if r == iface then Some n else channel_from (suc n) rs iface
 
 -- partitions by node, addresses by interface, the numbers of all else; how many nodes and interfaces
 abbrev pub tested : List ℕ → List ℕ → ℕ → ℕ → Numbered → Result Unit Refusal

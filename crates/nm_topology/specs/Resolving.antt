@@ -1,5 +1,5 @@
 -- The rows of the tables, with numbers in place of names.
-use Rattle.std.specs.Prelude.{ℕ, List, [], ◌∷◌, Result, Ok, Err}
+use Rattle.std.specs.Prelude.{ℕ, List, Result, Ok}
 use Rattle.nm_topology.specs.declared.fault.Refusal.{Refusal}
 use Rattle.nm_topology.specs.declared.parts.Link.{Link}
 use Rattle.nm_topology.specs.declared.parts.PlacedRoute.{PlacedRoute}
@@ -11,7 +11,7 @@ use Rattle.nm_topology.specs.declared.sources.TrafficRow.TheVariants.{Cbr as Cbr
 use Rattle.nm_topology.specs.Fault.{◌>>=◌}
 use Rattle.nm_topology.specs.Texts.{IfaceText, LinkText, RouteText}
 use Rattle.nm_topology.specs.SourceTexts.{SourceText}
-use Rattle.nm_topology.specs.Numbers.{all_of, number_of, via_of}
+use Rattle.nm_topology.specs.Numbers.{number_of, via_of}
 
 -- the owner of an interface
 abbrev pub owner_of : List (List ℕ) → IfaceText → Result ℕ Refusal

@@ -1,6 +1,6 @@
 -- The tables of a topology text: for each its keys in order, whether they are required, and their types and ranges.
-use Rattle.std.specs.Prelude.{ℕ, ◌-◌, List, [], ◌∷◌, Result, Ok, Err, codes}
-use Rattle.toml.specs.Data.{Data, Members, get_member}
+use Rattle.std.specs.Prelude.{[], ◌∷◌, Result, Ok, codes}
+use Rattle.toml.specs.Data.{Members, get_member}
 use Rattle.nm_base.specs.declared.limits.TheConstants.{MAX_DELAY, MAX_PORTS_OF_NODE, MAX_QUEUE, MAX_RATE, MIN_RATE}
 use Rattle.nm_topology.specs.declared.fault.Refusal.{Refusal}
 use Rattle.nm_topology.specs.Fault.{◌>>=◌}

@@ -1,5 +1,5 @@
 -- The tables of `source`: for each kind its keys in order, whether they are required, and their types and ranges.
-use Rattle.std.specs.Prelude.{ℕ, ◌+◌, ◌-◌, ◌&&◌, nat_le, if◌then◌else◌, List, [], ◌∷◌, ◌++◌, length, Option, Some, None, Result, Ok, Err, codes}
+use Rattle.std.specs.Prelude.{ℕ, ◌+◌, ◌-◌, ◌&&◌, nat_le, if◌then◌else◌, List, [], ◌∷◌, length, Option, Some, None, Result, Ok, Err, codes}
 use Rattle.std.specs.Str.{bytes_eq}
 use Rattle.toml.specs.Data.{Data, array, Items, no_items, item, Members, get_member}
 use Rattle.hex.specs.Hex.{decode_of}
@@ -8,8 +8,6 @@ use Rattle.nm_base.specs.declared.limits.TheConstants.{MAX_COUNT, MAX_INTERVAL, 
 use Rattle.nm_topology.specs.declared.fault.Refusal.{Refusal}
 use Rattle.nm_topology.specs.declared.fault.Refusal.TheVariants.{Hex, Kind, Range, TooMany}
 use Rattle.nm_topology.specs.declared.traffic.Flow.{Flow}
-use Rattle.nm_topology.specs.declared.traffic.Cbr.{Cbr}
-use Rattle.nm_topology.specs.declared.traffic.Echo.{Echo}
 use Rattle.nm_topology.specs.declared.traffic.RawPacket.{RawPacket}
 use Rattle.nm_topology.specs.Fault.{◌>>=◌}
 use Rattle.nm_topology.specs.Fields.{required, optional, number_in, plain_text, required_text, only}

@@ -33,7 +33,11 @@ fn route_keys(alloc: Global, routes: &[PlacedRoute]) -> Result<Vec<(u32, u32, u8
 {
     routes
         .iter()
-        .map(|r| (r.node.number(), r.route.to.address.bits(), r.route.to.length))
+        .map(|r| (
+            r.node.number(),
+            r.route.to.address.bits(),
+            r.route.to.length,
+        ))
         .collect(alloc)
 }
 

@@ -30,9 +30,7 @@ pub fn is_name(text: &[u8]) -> bool
 {
     match text {
         [] => false,
-        [first, ..] => {
-            *first != b'-' && text.len() <= MAX_NAME && has_name_characters(text)
-        }
+        [first, ..] => { *first != b'-' && text.len() <= MAX_NAME && has_name_characters(text) }
     }
 }
 

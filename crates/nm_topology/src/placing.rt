@@ -53,7 +53,8 @@ pub fn check_tables(tables: &[RouteTable]) -> Result<(), TopoFault>
 
 /// Refuses too many channels.
 pub fn check_channels(receivers: &[IfaceNo]) -> Result<(), TopoFault>
-    ensures { Gives (λ u. u) result (demand (nat_le (length receivers.now) MAX_CHANNELS) TooMany) }
+    ensures few { IfOk result (λ _. length receivers.now ≤ MAX_CHANNELS) }
+    ensures value { Gives (λ u. u) result (demand (nat_le (length receivers.now) MAX_CHANNELS) TooMany) }
 {
     if receivers.len() > MAX_CHANNELS {
         return Err(TopoFault::Refused(Refusal::TooMany));
@@ -80,6 +81,7 @@ pub fn wire(
     requires owners { (length numbers.now.owners ≡ length ifaces.now) × All (λ o. o < length parts.now) numbers.now.owners }
     requires links { All (λ l. (l.a < length ifaces.now) × (l.b < length ifaces.now)) numbers.now.links }
     requires routes { All (λ r. r.node < length parts.now) numbers.now.routes }
+    ensures few { IfOk result (λ w. length w.receivers.items ≤ MAX_CHANNELS) }
     ensures tested { Gives (λ w. tt) result (tested parts.now (map (λ i. i.address) ifaces.now) (length parts.now) (length ifaces.now) numbers.now) }
     ensures tables { IfOk result (λ w. w.tables.items ≡ route_tables (length parts.now) numbers.now.routes) }
     ensures far { IfOk result (λ w. w.far.items ≡ far_ends (length ifaces.now) numbers.now.links) }

@@ -131,7 +131,12 @@ fn packets(alloc: Global, mtu: u16, items: &[Value]) -> Result<Vec<RawPacket>, T
     Ok(packets)
 }
 
-fn required_packets(alloc: Global, mtu: u16, table: &Table, key: &str) -> Result<Vec<RawPacket>, TopoFault>
+fn required_packets(
+    alloc: Global,
+    mtu: u16,
+    table: &Table,
+    key: &str,
+) -> Result<Vec<RawPacket>, TopoFault>
     ensures { Gives (λ v. v.items) result (required (packets_of mtu) (get_member key.now (table_view table.now))) }
 {
     let Some(value) = field(table, key) else {

@@ -1,12 +1,12 @@
 //! A topology, and the reading of one.
 
-ghost use Rattle.std.specs.Prelude.{◌≡◌, ◌<◌, length};
+ghost use Rattle.std.specs.Prelude.{◌≡◌, ◌<◌, Some, length, slice_get};
 ghost use Rattle.std.specs.Option.{ok_or};
 ghost use Rattle.toml.specs.Parse.{parse_document};
 ghost use Rattle.toml.specs.View.{table_view};
 ghost use Rattle.nm_topology.specs.declared.fault.Refusal.TheVariants.{Text};
 ghost use Rattle.nm_topology.specs.Fault.{Gives};
-ghost use Rattle.nm_topology.specs.Network.{parsed, network_of, topology_of};
+ghost use Rattle.nm_topology.specs.Network.{channel_from, parsed, network_of, topology_of};
 
 use crate::document::{Document, read_document};
 use crate::fault::{Refusal, TopoFault};
@@ -36,20 +36,24 @@ pub struct Topology {
 }
 
 impl Model for Topology {
+    ghost use Rattle.std.specs.Prelude.{◌≤◌, length};
+    ghost use Rattle.nm_base.specs.declared.limits.TheConstants.{MAX_CHANNELS};
     ghost use Rattle.nm_topology.specs.Wholes.{NetworkValue};
 
     ghost Value = { NetworkValue };
 
+    ghost invariant = { λ t. length t.receivers.items ≤ MAX_CHANNELS };
+
     ghost view = { λ t. record {
-        stop = t.stop;
-        mtu = t.mtu;
-        nodes = t.nodes.items;
-        ifaces = t.ifaces.items;
-        links = t.links.items;
-        sources = t.sources.items;
-        receivers = t.receivers.items;
-        partitions = t.partitions;
-        digest = t.digest;
+      stop = t.stop;
+      mtu = t.mtu;
+      nodes = t.nodes.items;
+      ifaces = t.ifaces.items;
+      links = t.links.items;
+      sources = t.sources.items;
+      receivers = t.receivers.items;
+      partitions = t.partitions;
+      digest = t.digest;
     } };
 }
 
@@ -65,7 +69,7 @@ fn document_text(alloc: Global, text: &str) -> Result<Table, TopoFault>
 }
 
 /// The TOML document of a text.
-#[tactic(auto, using(Rattle::std::proofs::lemmas::Str::utf8_valid_len-IsUtf8))]
+#[tactic(auto, using(crate::proofs::Parsing::parsed_of_utf8))]
 fn parse(alloc: Global, text: &[u8]) -> Result<Table, TopoFault>
     ensures { Gives (λ t. table_view t) result (parsed text.now) }
 {
@@ -160,6 +164,22 @@ impl Topology {
         &self.ifaces
     }
 
+    /// The node with this number.
+    pub fn node(&self, node: NodeNo) -> &Node
+        requires { node < length self.now.nodes }
+        ensures { slice_get self.now.nodes node ≡ Some result.now }
+    {
+        &self.nodes[node.index()]
+    }
+
+    /// The interface with this number.
+    pub fn iface(&self, iface: IfaceNo) -> &Iface
+        requires { iface < length self.now.ifaces }
+        ensures { slice_get self.now.ifaces iface ≡ Some result.now }
+    {
+        &self.ifaces[iface.index()]
+    }
+
     /// The links, in the order of the text.
     pub fn links(&self) -> &[Link]
         ensures { result.now ≡ self.now.links }
@@ -179,6 +199,20 @@ impl Topology {
         ensures { result.now ≡ self.now.receivers }
     {
         &self.receivers
+    }
+
+    /// The channel that this interface receives, if its link comes from another partition.
+    pub fn channel_of(&self, iface: IfaceNo) -> Option<ChanNo>
+        ensures { result ≡ channel_from 0 self.now.receivers iface }
+    {
+        let mut channel = 0u32;
+        for receiver in &self.receivers {
+            if *receiver == iface {
+                return Some(ChanNo::new(channel));
+            }
+            channel += 1;
+        }
+        None
     }
 
     /// How many partitions there are: the greatest number of one, plus one.

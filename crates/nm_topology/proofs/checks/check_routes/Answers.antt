@@ -1,5 +1,4 @@
-use Rattle.std.proofs.Common.{◌≡◌, ℕ, Bool, ◌&&◌, not, nat_eq, List, map, Result, sym, ap, ◌∙◌}
-use Rattle.nm_topology.specs.declared.fault.Refusal.{Refusal}
+use Rattle.std.proofs.Common.{◌≡◌, ℕ, Bool, ◌&&◌, not, nat_eq, List, map, sym, ap, ◌∙◌}
 use Rattle.nm_topology.specs.declared.fault.Refusal.TheVariants.{DoubleRoute}
 use Rattle.nm_topology.specs.declared.parts.PlacedRoute.{PlacedRoute}
 use Rattle.nm_topology.specs.Numbers.{has_double}

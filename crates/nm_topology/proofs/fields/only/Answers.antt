@@ -1,4 +1,4 @@
-use Rattle.std.proofs.Common.{◌≡◌, Bool, true, false, cond, Result, Ok, Err, ap, sym, ◌∙◌}
+use Rattle.std.proofs.Common.{Bool, cond, Result, Ok, Err, ap, sym, ◌∙◌}
 use Rattle.nm_topology.specs.declared.fault.Refusal.{Refusal}
 use Rattle.nm_topology.specs.declared.fault.Refusal.TheVariants.{UnknownKey}
 use Rattle.nm_topology.proofs.Keys.{all_among-view}

@@ -1,4 +1,4 @@
-use Rattle.std.proofs.Common.{Some, sym, ◌∙◌, decimal}
+use Rattle.std.proofs.Common.{sym, ◌∙◌, decimal}
 use Rattle.nm_topology.proofs.Searches.{text-is}
 use Rattle.nm_topology.proofs.forms.length_of.Goals as goal
 

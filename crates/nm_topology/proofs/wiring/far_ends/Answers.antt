@@ -1,10 +1,10 @@
-use Rattle.std.proofs.Common.{◌≡◌, ℕ, List, [], map, get_or, zero-add, All, ◌+◌, ◌-◌, ◌<◌, ◌≤◌, Some, ◌∷◌, length, drop, rules, arith, subst, sym, ap, ◌∙◌, length-set}
+use Rattle.std.proofs.Common.{◌≡◌, ℕ, List, [], map, get_or, zero-add, All, ◌+◌, ◌-◌, ◌<◌, Some, ◌∷◌, length, drop, rules, arith, subst, sym, ap, ◌∙◌, length-set}
 use Rattle.std.specs.Prelude.{slice_get}
 use Rattle.std.proofs.lemmas.Grind.{common_steps}
 use Rattle.std.proofs.lemmas.List.{drop_more}
 use Rattle.nm_topology.specs.declared.parts.Far.{Far}
 use Rattle.nm_topology.specs.declared.parts.Link.{Link}
-use Rattle.nm_topology.specs.Checks.{far_end, joined, numbers_from}
+use Rattle.nm_topology.specs.Checks.{far_end, numbers_from}
 use Rattle.nm_topology.proofs.Wires.{joined-get, All-joined}
 use Rattle.nm_topology.proofs.Uses.{map-numbers}
 use Rattle.std.proofs.lemmas.Option.{get_or_from_slice_get}
@@ -25,10 +25,10 @@ loop-next-preserved c =
       within = omega arith;
       len = ap length c.join.ensures ∙ length-set _ l.a _ ∙ length-set far l.b _ ∙ c.loop-next.invariant.len;
       peers = subst (λ (fs : List Far). All (λ f. f.peer < c.args.count) fs) (sym c.join.ensures)
-        (All-joined c.args.count far l (subst (λ m. l.a < m) c.loop-next.invariant.len a) (subst (λ m. l.b < m) c.loop-next.invariant.len b) c.loop-next.invariant.peers);
+          (All-joined c.args.count far l (subst (λ m. l.a < m) c.loop-next.invariant.len a) (subst (λ m. l.b < m) c.loop-next.invariant.len b) c.loop-next.invariant.peers);
       ends = λ i h. ap (λ v. slice_get v i) c.join.ensures
-        ∙ joined-get far l (drop (k + 1) links) i a b (c.loop-next.invariant.ends i h ∙ ap (λ m. Some (far_end i (drop m links))) (sym after))
-        ∙ ap (λ ls. Some (far_end i ls)) (sym rest);
+          ∙ joined-get far l (drop (k + 1) links) i a b (c.loop-next.invariant.ends i h ∙ ap (λ m. Some (far_end i (drop m links))) (sym after))
+          ∙ ap (λ ls. Some (far_end i ls)) (sym rest);
     }
 
 pub returns-clause-list : goal.returns-clause-list
@@ -37,8 +37,8 @@ returns-clause-list c =
     let links = c.args.links.now in
     let over : c.loop-next.next ≡ 0 = omega arith in
     let each : (i : ℕ) → i < length far → get_or far i (far_end 0 []) ≡ far_end (0 + i) links = λ i h.
-      get_or_from_slice_get far i (far_end i links) (far_end 0 [])
-      (c.loop-next.invariant.ends i (subst (λ m. i < m) c.loop-next.invariant.len h) ∙ ap (λ m. Some (far_end i (drop m links))) over)
-      ∙ ap (λ j. far_end j links) (sym (zero-add i))
+    get_or_from_slice_get far i (far_end i links) (far_end 0 [])
+    (c.loop-next.invariant.ends i (subst (λ m. i < m) c.loop-next.invariant.len h) ∙ ap (λ m. Some (far_end i (drop m links))) over)
+    ∙ ap (λ j. far_end j links) (sym (zero-add i))
     in
     map-numbers (far_end 0 []) (λ i. far_end i links) far 0 each ∙ ap (λ m. map (λ i. far_end i links) (numbers_from 0 m)) c.loop-next.invariant.len

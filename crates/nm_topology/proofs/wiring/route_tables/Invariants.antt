@@ -1,4 +1,4 @@
-use Rattle.std.proofs.Common.{◌≡◌, ℕ, ◌<◌, ◌++◌, [], Some, length, get_or, drop}
+use Rattle.std.proofs.Common.{◌≡◌, ℕ, ◌<◌, ◌++◌, [], length, get_or, drop}
 use Rattle.nm_topology.specs.Checks.{routes_at}
 use Rattle.nm_topology.proofs.wiring.route_tables.Given as goal
 

@@ -1,5 +1,5 @@
 use Rattle.std.proofs.lemmas.List.{length-map}
-use Rattle.std.proofs.Common.{length, ◌≡◌, ℕ, Bool, true, false, cond, List, map, Bor, Result, Ok, Err, sym, ap, ◌∙◌}
+use Rattle.std.proofs.Common.{length, ℕ, Bool, cond, List, map, Bor, Result, Ok, Err, sym, ap, ◌∙◌}
 use Rattle.std.specs.Str.{bytes_eq}
 use Rattle.nm_topology.specs.declared.fault.Refusal.{Refusal}
 use Rattle.nm_topology.specs.declared.fault.Refusal.TheVariants.{DoubleName}

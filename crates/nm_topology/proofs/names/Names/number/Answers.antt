@@ -1,5 +1,4 @@
-use Rattle.std.proofs.Common.{◌≡◌, ℕ, List, Bor, Option, Result, map, sym, ap, ◌∙◌}
-use Rattle.std.specs.List.{position}
+use Rattle.std.proofs.Common.{ℕ, List, Bor, sym, ap, ◌∙◌}
 use Rattle.std.specs.Str.{bytes_eq}
 use Rattle.nm_topology.specs.Numbers.{found, number_of}
 use Rattle.nm_topology.proofs.Doubles.{position-map}
