@@ -1,6 +1,6 @@
 //! What is read of a ring of three nodes in two of four partitions, with a source of each kind.
 
-use nm_base::{IfaceNo, NodeNo, PartNo, Time};
+use nm_base::{ChanNo, IfaceNo, NodeNo, PartNo, Time};
 use nm_packet::Address;
 use nm_topology::parts::{Link, Route};
 use nm_topology::traffic::{Cbr, Echo, Flow, Traffic};
@@ -320,5 +320,20 @@ fn constant_bit_rate(rt: HostRuntime) -> Result<(), Fail> {
         },
     };
     assert_eq!(rt; *found, want);
+    Ok(())
+}
+
+/// Nodes, interfaces and channels by their numbers.
+#[test]
+fn numbers(rt: HostRuntime) -> Result<(), Fail> {
+    let topology = read_ring(rt.alloc())?;
+    assert_eq!(rt; topology.nodes().len(), 3);
+    assert_eq!(rt; topology.node(NodeNo::new(2)).name(), "n2");
+    assert_eq!(rt; topology.ifaces().len(), 6);
+    assert_eq!(rt; topology.iface(IfaceNo::new(4)).name(), "n2b");
+    for (iface, channel) in [(0, Some(0)), (3, Some(3)), (4, None), (5, None), (6, None)] {
+        let found = topology.channel_of(IfaceNo::new(iface));
+        assert_eq!(rt; found, channel.map(ChanNo::new), "interface {iface}");
+    }
     Ok(())
 }
