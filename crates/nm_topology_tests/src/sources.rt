@@ -26,27 +26,43 @@ fn keys(rt: HostRuntime) -> Result<(), Fail> {
 }
 
 #[test]
-fn least_and_greatest(rt: HostRuntime) -> Result<(), Fail> {
-    for (key, old, least, greatest) in [
-        ("sport", "1000", 0i64, 65_535i64),
-        ("dport", "9", 0, 65_535),
-        ("size", "72", 0, 1_472),
-        ("start", "0", 0, 1_000_000_000_000_000),
-        ("interval", "1000000", 1, 1_000_000_000_000),
-        ("count", "1}", 0, 1_000_000_000),
+fn ports_and_sizes(rt: HostRuntime) -> Result<(), Fail> {
+    for (old, new, want) in [
+        ("sport = 1000", "sport = -1", 5),
+        ("sport = 1000", "sport = 0", 0),
+        ("sport = 1000", "sport = 65535", 0),
+        ("sport = 1000", "sport = 65536", 5),
+        ("dport = 9", "dport = -1", 5),
+        ("dport = 9", "dport = 0", 0),
+        ("dport = 9", "dport = 65535", 0),
+        ("dport = 9", "dport = 65536", 5),
+        ("size = 72", "size = 0", 0),
+        ("size = 72", "size = 1472", 0),
+        ("size = 72", "size = 1473", 5),
     ] {
-        let end = if key == "count" { "}" } else { "" };
-        let old = format!(in rt.alloc(); "{key} = {old}")?;
-        for (number, want) in [
-            (least, 0),
-            (least.saturating_sub(1), 5),
-            (greatest, 0),
-            (greatest.saturating_add(1), 5),
-        ] {
-            let new = format!(in rt.alloc(); "{key} = {number}{end}")?;
-            let found = answer_with(rt.alloc(), old.as_str(), new.as_str())?;
-            assert_eq!(rt; found, want, "{key} = {number}");
-        }
+        let number = answer_with(rt.alloc(), old, new)?;
+        assert_eq!(rt; number, want, "{new:?}");
+    }
+    Ok(())
+}
+
+#[test]
+fn times_and_counts(rt: HostRuntime) -> Result<(), Fail> {
+    for (old, new, want) in [
+        ("start = 0", "start = -1", 5),
+        ("start = 0", "start = 1000000000000000", 0),
+        ("start = 0", "start = 1000000000000001", 5),
+        ("interval = 1000000", "interval = 0", 5),
+        ("interval = 1000000", "interval = 1", 0),
+        ("interval = 1000000", "interval = 1000000000000", 0),
+        ("interval = 1000000", "interval = 1000000000001", 5),
+        ("count = 1}", "count = -1}", 5),
+        ("count = 1}", "count = 0}", 0),
+        ("count = 1}", "count = 1000000000}", 0),
+        ("count = 1}", "count = 1000000001}", 5),
+    ] {
+        let number = answer_with(rt.alloc(), old, new)?;
+        assert_eq!(rt; number, want, "{new:?}");
     }
     Ok(())
 }
