@@ -1,8 +1,8 @@
 -- Interfaces that are one end of one link.
-use Rattle.std.proofs.Common.{◌≡◌, ◌⊎◌, ℕ, ◌+◌, ◌<◌, ◌≤◌, ◌==◌, cond, List, [], ◌∷◌, refl, sym, ap, ◌∙◌, subst, arith, ⊎_elim}
+use Rattle.std.proofs.Common.{◌≡◌, ℕ, ◌+◌, ◌≤◌, ◌==◌, cond, List, [], ◌∷◌, refl, sym, ap, ◌∙◌, subst, arith, ⊎_elim}
 use Rattle.nm_topology.specs.declared.parts.Far.{Far}
 use Rattle.nm_topology.specs.declared.parts.Link.{Link}
-use Rattle.nm_topology.specs.Checks.{far_end, one_if, uses}
+use Rattle.nm_topology.specs.Checks.{far_end, uses}
 use Rattle.nm_topology.proofs.Uses.{same_or_not, one_here, one_there}
 use Rattle.nm_topology.proofs.Wires.{is_same, is_other}
 
@@ -10,15 +10,15 @@ abbrev toward : Link → ℕ → Far
 toward l p = record { peer = p; rate = l.rate; delay = l.delay }
 
 module _ (l : Link) (ls : List Link) (i : ℕ) where
-  far-a : l.a ≡ i → far_end i (l ∷ ls) ≡ toward l l.b
+  pub far-a : l.a ≡ i → far_end i (l ∷ ls) ≡ toward l l.b
   far-a e = ap (λ t. cond t (toward l l.b) (cond (l.b == i) (toward l l.a) (far_end i ls))) (is_same l.a i e)
 
-  far-b : (l.a ≡ i → ⊥) → l.b ≡ i → far_end i (l ∷ ls) ≡ toward l l.a
+  pub far-b : (l.a ≡ i → ⊥) → l.b ≡ i → far_end i (l ∷ ls) ≡ toward l l.a
   far-b e f =
       ap (λ t. cond t (toward l l.b) (cond (l.b == i) (toward l l.a) (far_end i ls))) (is_other l.a i e)
       ∙ ap (λ t. cond t (toward l l.a) (far_end i ls)) (is_same l.b i f)
 
-  far-on : (l.a ≡ i → ⊥) → (l.b ≡ i → ⊥) → far_end i (l ∷ ls) ≡ far_end i ls
+  pub far-on : (l.a ≡ i → ⊥) → (l.b ≡ i → ⊥) → far_end i (l ∷ ls) ≡ far_end i ls
   far-on e f =
       ap (λ t. cond t (toward l l.b) (cond (l.b == i) (toward l l.a) (far_end i ls))) (is_other l.a i e)
       ∙ ap (λ t. cond t (toward l l.a) (far_end i ls)) (is_other l.b i f)
@@ -49,9 +49,9 @@ mate (l ∷ ls) i h =
     ⊎_elim
     (λ e. subst P (sym (far-a l ls i e)) (uses-b l ls l.b refl))
     (λ e. ⊎_elim
-      (λ f. subst P (sym (far-b l ls i e f)) (uses-a l ls l.a refl))
-      (λ f. subst P (sym (far-on l ls i e f)) (grown l ls (far_end i ls).peer (mate ls i (subst (λ n. 1 ≤ n) (uses-on l ls i e f) h))))
-      (same_or_not l.b i))
+    (λ f. subst P (sym (far-b l ls i e f)) (uses-a l ls l.a refl))
+    (λ f. subst P (sym (far-on l ls i e f)) (grown l ls (far_end i ls).peer (mate ls i (subst (λ n. 1 ≤ n) (uses-on l ls i e f) h))))
+    (same_or_not l.b i))
     (same_or_not l.a i)
   where
     grown : (l : Link) (ls : List Link) (p : ℕ) → 1 ≤ uses p ls → 1 ≤ uses p (l ∷ ls)
@@ -65,9 +65,9 @@ apart (l ∷ ls) i h =
     ⊎_elim
     (λ e. subst P (sym (far-a l ls i e)) (λ f. omega (arith, uses-both l ls i e f)))
     (λ e. ⊎_elim
-      (λ f. subst P (sym (far-b l ls i e f)) e)
-      (λ f. subst P (sym (far-on l ls i e f)) (apart ls i (sym (uses-on l ls i e f) ∙ h)))
-      (same_or_not l.b i))
+    (λ f. subst P (sym (far-b l ls i e f)) e)
+    (λ f. subst P (sym (far-on l ls i e f)) (apart ls i (sym (uses-on l ls i e f) ∙ h)))
+    (same_or_not l.b i))
     (same_or_not l.a i)
 
 -- ends of one link each are each other's, over the same link
@@ -77,15 +77,15 @@ back (l ∷ ls) i h =
     let P : Far → Type 0 = λ f. uses f.peer (l ∷ ls) ≡ 1 → far_end f.peer (l ∷ ls) ≡ record { peer = i; rate = f.rate; delay = f.delay } in
     ⊎_elim
     (λ e. subst P (sym (far-a l ls i e)) (λ g.
-      far-b l ls l.b (λ f. omega (arith, uses-both l ls l.b f refl)) refl ∙ ap (toward l) e))
+    far-b l ls l.b (λ f. omega (arith, uses-both l ls l.b f refl)) refl ∙ ap (toward l) e))
     (λ e. ⊎_elim
-      (λ f. subst P (sym (far-b l ls i e f)) (λ g. far-a l ls l.a refl ∙ ap (toward l) f))
-      (λ f. subst P (sym (far-on l ls i e f)) (λ g.
-        let p = (far_end i ls).peer in
-        let one : uses i ls ≡ 1 = sym (uses-on l ls i e f) ∙ h in
-        let some : 1 ≤ uses p ls = mate ls i (omega (arith, one)) in
-        let no_a : l.a ≡ p → ⊥ = λ a. omega (arith, uses-a-on l ls p a) in
-        let no_b : l.b ≡ p → ⊥ = λ b. omega (arith, uses-b-on l ls p b) in
-        far-on l ls p no_a no_b ∙ back ls i one (sym (uses-on l ls p no_a no_b) ∙ g)))
-      (same_or_not l.b i))
+    (λ f. subst P (sym (far-b l ls i e f)) (λ g. far-a l ls l.a refl ∙ ap (toward l) f))
+    (λ f. subst P (sym (far-on l ls i e f)) (λ g.
+    let p = (far_end i ls).peer in
+    let one : uses i ls ≡ 1 = sym (uses-on l ls i e f) ∙ h in
+    let some : 1 ≤ uses p ls = mate ls i (omega (arith, one)) in
+    let no_a : l.a ≡ p → ⊥ = λ a. omega (arith, uses-a-on l ls p a) in
+    let no_b : l.b ≡ p → ⊥ = λ b. omega (arith, uses-b-on l ls p b) in
+    far-on l ls p no_a no_b ∙ back ls i one (sym (uses-on l ls p no_a no_b) ∙ g)))
+    (same_or_not l.b i))
     (same_or_not l.a i)

@@ -2,6 +2,7 @@ pub mod Doubles
 pub mod Ends
 pub mod Keys
 pub mod Members
+pub mod Order
 pub mod Parsing
 pub mod Searches
 pub mod Uses

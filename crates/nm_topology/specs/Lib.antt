@@ -15,4 +15,5 @@ pub mod Traffics
 pub mod Checks
 pub mod Networks
 pub mod Network
+pub mod Order
 pub mod Wholes

@@ -31,12 +31,12 @@ pub struct Document {
 
 impl Model for Document {
     ghost use Rattle.std.specs.Prelude.{◌≤◌, length};
-    ghost use Rattle.nm_base.specs.declared.limits.TheConstants.{MAX_IFACES, MAX_NODES};
+    ghost use Rattle.nm_base.specs.declared.limits.TheConstants.{MAX_IFACES, MAX_LINKS, MAX_NODES, MAX_SOURCES};
     ghost use Rattle.nm_topology.specs.DocumentTexts.{DocumentText};
 
     ghost Value = { DocumentText };
 
-    ghost invariant = { λ d. (length d.nodes.items ≤ MAX_NODES) × (length d.ifaces.items ≤ MAX_IFACES) };
+    ghost invariant = { λ d. (length d.nodes.items ≤ MAX_NODES) × (length d.ifaces.items ≤ MAX_IFACES) × (length d.links.items ≤ MAX_LINKS) × (length d.sources.items ≤ MAX_SOURCES) };
 
     ghost view = { λ d. record { stop = d.stop; mtu = d.mtu; nodes = d.nodes.items; ifaces = d.ifaces.items; links = d.links.items; routes = d.routes.items; sources = d.sources.items } };
 }

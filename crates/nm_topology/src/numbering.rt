@@ -1,6 +1,6 @@
 //! All tables with numbers in place of names.
 
-ghost use Rattle.std.specs.Prelude.{◌≡◌, ◌<◌, ◌≤◌, All, length, map, IfOk};
+ghost use Rattle.std.specs.Prelude.{◌≡◌, ◌<◌, ◌≤◌, All, length, map, slice_index, IfOk};
 ghost use Rattle.nm_base.specs.declared.limits.TheConstants.{MAX_IFACES};
 ghost use Rattle.nm_topology.specs.Fault.{Gives};
 ghost use Rattle.nm_topology.specs.Network.{numbered};
@@ -68,8 +68,10 @@ pub fn number(
     requires nodes { length nodes.now ≤ MAX_IFACES }
     requires ifaces { length ifaces.now ≤ MAX_IFACES }
     ensures owners { IfOk result (λ n. (length n.owners ≡ length ifaces.now) × All (λ o. o < length nodes.now) n.owners) }
+    ensures counts { IfOk result (λ n. (length n.links ≡ length links.now) × (length n.sources ≡ length sources.items)) }
     ensures links { IfOk result (λ n. All (λ l. (l.a < length ifaces.now) × (l.b < length ifaces.now)) n.links) }
     ensures routes { IfOk result (λ n. All (λ r. r.node < length nodes.now) n.routes) }
+    ensures vias { IfOk result (λ n. All (λ r. (r.route.via < length ifaces.now) × (slice_index n.owners r.route.via ≡ r.node)) n.routes) }
     ensures value { Gives (λ n. n) result (numbered nodes.now ifaces.now links.now routes.now sources.items) }
 {
     let node_names = Names::new(alloc, &node_names(alloc, nodes)?)?;

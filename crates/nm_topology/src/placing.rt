@@ -109,7 +109,8 @@ pub fn nodes(
     rows: Vec<NodeRow>,
     tables: Vec<RouteTable>,
 ) -> Result<Vec<Node>, AllocError>
-    ensures { IfOk result (λ v. v.items ≡ placed_nodes rows.items tables.items) }
+    ensures len { IfOk result (λ v. length v.items ≤ length rows.items) }
+    ensures value { IfOk result (λ v. v.items ≡ placed_nodes rows.items tables.items) }
 {
     let mut nodes = Vec::new(alloc);
     let mut tables = tables.into_iter();
@@ -129,7 +130,8 @@ pub fn ifaces(
     owners: Vec<NodeNo>,
     far: Vec<Far>,
 ) -> Result<Vec<Iface>, AllocError>
-    ensures { IfOk result (λ v. v.items ≡ placed_ifaces rows.items owners.items far.items) }
+    ensures len { IfOk result (λ v. length v.items ≤ length rows.items) }
+    ensures value { IfOk result (λ v. v.items ≡ placed_ifaces rows.items owners.items far.items) }
 {
     let mut ifaces = Vec::new(alloc);
     let mut owners = owners.into_iter();

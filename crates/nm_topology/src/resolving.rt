@@ -1,6 +1,6 @@
 //! Numbers in place of names, table by table.
 
-ghost use Rattle.std.specs.Prelude.{◌≡◌, ◌<◌, ◌≤◌, All, length, IfOk};
+ghost use Rattle.std.specs.Prelude.{◌≡◌, ◌<◌, ◌≤◌, All, length, slice_index, IfOk};
 ghost use Rattle.nm_base.specs.declared.limits.TheConstants.{MAX_IFACES};
 ghost use Rattle.nm_topology.specs.Fault.{Gives};
 ghost use Rattle.nm_topology.specs.Numbers.{all_of, via_of};
@@ -45,6 +45,7 @@ fn link(ifaces: &Names, row: &LinkRow) -> Result<Link, TopoFault>
 
 /// The links.
 pub fn links(alloc: Global, ifaces: &Names, rows: &[LinkRow]) -> Result<Vec<Link>, TopoFault>
+    ensures len { IfOk result (λ v. length v.items ≡ length rows.now) }
     ensures within { IfOk result (λ v. All (λ l. (l.a < length ifaces.now) × (l.b < length ifaces.now)) v.items) }
     ensures value { Gives (λ v. v.items) result (all_of (link_between ifaces.now) rows.now) }
 {
@@ -60,6 +61,7 @@ pub fn links(alloc: Global, ifaces: &Names, rows: &[LinkRow]) -> Result<Vec<Link
 fn via(ifaces: &Names, owners: &[NodeNo], node: NodeNo, name: &str) -> Result<IfaceNo, TopoFault>
     requires { length owners.now ≡ length ifaces.now }
     ensures within { IfOk result (λ i. i < length ifaces.now) }
+    ensures own { IfOk result (λ i. slice_index owners.now i ≡ node) }
     ensures value { Gives (λ i. i) result (via_of ifaces.now owners.now node name.now) }
 {
     let number = ifaces.number(name)?;
@@ -77,6 +79,7 @@ fn placed(
 ) -> Result<PlacedRoute, TopoFault>
     requires { length owners.now ≡ length ifaces.now }
     ensures within { IfOk result (λ r. (r.node < length nodes.now) × (r.route.via < length ifaces.now)) }
+    ensures own { IfOk result (λ r. slice_index owners.now r.route.via ≡ r.node) }
     ensures value { Gives (λ r. r) result (placed_route nodes.now ifaces.now owners.now row.now) }
 {
     let node = NodeNo::new(nodes.number(row.node.as_str())?);
@@ -96,7 +99,8 @@ pub fn routes(
     rows: &[RouteRow],
 ) -> Result<Vec<PlacedRoute>, TopoFault>
     requires { length owners.now ≡ length ifaces.now }
-    ensures within { IfOk result (λ v. All (λ r. (r.node < length nodes.now) × (r.route.via < length ifaces.now)) v.items) }
+    ensures nodes { IfOk result (λ v. All (λ r. r.node < length nodes.now) v.items) }
+    ensures own { IfOk result (λ v. All (λ r. (r.route.via < length ifaces.now) × (slice_index owners.now r.route.via ≡ r.node)) v.items) }
     ensures value { Gives (λ v. v.items) result (all_of (placed_route nodes.now ifaces.now owners.now) rows.now) }
 {
     let mut routes = Vec::new(alloc);
@@ -150,7 +154,8 @@ pub fn sources(
     rows: Vec<SourceRow>,
 ) -> Result<Vec<Source>, TopoFault>
     requires { length owners.now ≡ length ifaces.now }
-    ensures { Gives (λ v. v.items) result (all_of (placed_source nodes.now ifaces.now owners.now) rows.items) }
+    ensures len { IfOk result (λ v. length v.items ≡ length rows.items) }
+    ensures value { Gives (λ v. v.items) result (all_of (placed_source nodes.now ifaces.now owners.now) rows.items) }
 {
     let mut sources = Vec::new(alloc);
     for row in rows {

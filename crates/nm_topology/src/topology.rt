@@ -1,6 +1,8 @@
 //! A topology, and the reading of one.
 
-ghost use Rattle.std.specs.Prelude.{◌≡◌, ◌<◌, Some, length, slice_get};
+ghost use Rattle.nm_base.specs.declared.limits.TheConstants.{MAX_CHANNELS, MAX_IFACES, MAX_LINKS, MAX_NODES, MAX_SOURCES};
+ghost use Rattle.nm_topology.specs.Order.{IsInOrder};
+ghost use Rattle.std.specs.Prelude.{◌≡◌, ◌<◌, ◌≤◌, Some, length, slice_get};
 ghost use Rattle.std.specs.Option.{ok_or};
 ghost use Rattle.toml.specs.Parse.{parse_document};
 ghost use Rattle.toml.specs.View.{table_view};
@@ -37,12 +39,19 @@ pub struct Topology {
 
 impl Model for Topology {
     ghost use Rattle.std.specs.Prelude.{◌≤◌, length};
-    ghost use Rattle.nm_base.specs.declared.limits.TheConstants.{MAX_CHANNELS};
+    ghost use Rattle.nm_base.specs.declared.limits.TheConstants.{MAX_CHANNELS, MAX_IFACES, MAX_LINKS, MAX_NODES, MAX_SOURCES};
+    ghost use Rattle.nm_topology.specs.Order.{IsInOrder};
     ghost use Rattle.nm_topology.specs.Wholes.{NetworkValue};
 
     ghost Value = { NetworkValue };
 
-    ghost invariant = { λ t. length t.receivers.items ≤ MAX_CHANNELS };
+    ghost invariant = { λ t.
+        IsInOrder t.nodes.items t.ifaces.items t.links.items
+        × (length t.nodes.items ≤ MAX_NODES)
+        × (length t.ifaces.items ≤ MAX_IFACES)
+        × (length t.links.items ≤ MAX_LINKS)
+        × (length t.sources.items ≤ MAX_SOURCES)
+        × (length t.receivers.items ≤ MAX_CHANNELS) };
 
     ghost view = { λ t. record {
       stop = t.stop;
@@ -80,7 +89,7 @@ fn parse(alloc: Global, text: &[u8]) -> Result<Table, TopoFault>
 }
 
 /// The network that a document says.
-#[tactic(auto, unfolding(crate::specs::Network::network_of))]
+#[tactic(auto, using(crate::proofs::Order::in_order), unfolding(crate::specs::Network::network_of))]
 fn resolve(alloc: Global, document: Document, digest: [u8; 32]) -> Result<Topology, TopoFault>
     ensures { Gives (λ t. t) result (network_of digest document) }
 {
@@ -143,7 +152,7 @@ impl Topology {
         self.stop
     }
 
-    /// The greatest total length of an IPv4 packet on a link, in octets, 68 to 65,535.
+    /// The greatest total length of an IPv4 packet on a link, in octets, 576 to 65,535.
     pub fn mtu(&self) -> u16
         ensures { result ≡ self.now.mtu }
     {
@@ -228,4 +237,19 @@ impl Topology {
     {
         self.digest
     }
+}
+
+/// What every accepted topology has: the layers above rely on it. Each interface is one end of exactly one link, and is
+/// of a node that is there; whatever it is linked to is another interface, linked back to it over the same rate and
+/// delay; the routes of a node leave by interfaces of its own; a link between partitions delays by at least 1 ns; and
+/// counts are within the limits.
+pub fn accepted_topologies_are_in_order(topology: &Topology)
+    ensures order { IsInOrder topology.now.nodes topology.now.ifaces topology.now.links }
+    ensures nodes { length topology.now.nodes ≤ MAX_NODES }
+    ensures ifaces { length topology.now.ifaces ≤ MAX_IFACES }
+    ensures links { length topology.now.links ≤ MAX_LINKS }
+    ensures sources { length topology.now.sources ≤ MAX_SOURCES }
+    ensures channels { length topology.now.receivers ≤ MAX_CHANNELS }
+{
+    let _nodes = &topology.nodes;
 }

@@ -1,4 +1,5 @@
 use Rattle.std.proofs.Common.{◌≡◌, ◌<◌, All, length, drop}
+use Rattle.std.specs.Prelude.{slice_index}
 use Rattle.nm_topology.specs.Numbers.{all_of}
 use Rattle.nm_topology.specs.Resolving.{placed_route}
 use Rattle.nm_topology.proofs.Members.{with_front}
@@ -6,6 +7,7 @@ use Rattle.nm_topology.proofs.resolving.routes.Given as goal
 
 abbrev pub invariant-loop-row : goal.invariant-loop-row
 invariant-loop-row l = record {
-  within : All (λ r. (r.node < length l.nodes) × (r.route.via < length l.ifaces)) l.routes.items;
+  nodes : All (λ r. r.node < length l.nodes) l.routes.items;
+  own : All (λ r. (r.route.via < length l.ifaces) × (slice_index l.owners r.route.via ≡ r.node)) l.routes.items;
   read : all_of (placed_route l.nodes l.ifaces l.owners) l.rows ≡ with_front l.routes.items (all_of (placed_route l.nodes l.ifaces l.owners) (drop l.row-index l.rows));
 }

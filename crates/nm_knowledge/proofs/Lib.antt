@@ -1,0 +1,5 @@
+mod Nexts
+mod Differences
+mod Fronts
+mod Turns
+mod Orders

@@ -1,0 +1,41 @@
+-- What the next message and a null message that counts all messages do.
+use Rattle.std.proofs.Common.{◌≡◌, ℕ, zero, suc, ◌<◌, ◌≤◌, ◌-◌, Bool, true, false, cond, ltb, leb, ◌==◌, List, [], ◌∷◌, ◌++◌, length, get_or, None, refl, sym, ap, ◌∙◌, arith}
+use Rattle.std.proofs.lemmas.Bool.Decides.{nat_tests}
+use Rattle.nm_model.specs.Lists.{nth}
+use Rattle.nm_model.specs.Knowledge.{Know}
+use Rattle.nm_model.specs.Accept.{New, Raised, Known, Gap, Late, NotRising, Accepted, last_from, data_at, accept_data, null_at, accept_null}
+
+pub nth_past : {A : Type 0} (l : List A) (n : ℕ) → length l ≤ n → nth l n ≡ None
+nth_past [] n h = refl
+nth_past (x ∷ l) zero h = absurd (omega arith)
+nth_past (x ∷ l) (suc n) h = nth_past l n (omega arith)
+
+module _ {P : Type 0} where
+  -- the last message decides
+  pub last_from-last : (t : ℕ) (l : List (ℕ × P)) (m : ℕ × P) → 0 < length l → m ≡ get_or l (length l - 1) m → last_from t l ≡ leb t m.0
+  last_from-last t [] m h e = absurd (omega arith)
+  last_from-last t (x ∷ []) m h e = ap (λ (z : ℕ × P). leb t z.0) (sym e)
+  last_from-last t (x ∷ y ∷ l) m h e =
+      let z : length (x ∷ y ∷ l) - 1 ≡ suc (length (y ∷ l) - 1) = omega arith in
+      last_from-last t (y ∷ l) m (omega arith) (e ∙ ap (λ n. get_or (x ∷ y ∷ l) n m) z)
+
+  module _ (a : Know P) (n : ℕ) (next : n ≡ length a.list) where
+    pub null_raises : (t : ℕ) → a.clock < t → accept_null a n t ≡ record { answer = Raised; after = record a { clock = t } }
+    null_raises t h =
+        let counted : (n == length a.list) ≡ true = grind (arith, nat_tests) in
+        let above : ltb a.clock t ≡ true = grind (arith, nat_tests) in
+        ap (λ o. null_at o a n t) (nth_past a.list n (omega arith))
+        ∙ ap (λ z. cond z (cond {A = Accepted P} (ltb a.clock t) (record { answer = Raised; after = record a { clock = t } }) (record { answer = Known; after = a })) (record { answer = Gap (length a.list); after = a })) counted
+        ∙ ap (λ z. cond {A = Accepted P} z (record { answer = Raised; after = record a { clock = t } }) (record { answer = Known; after = a })) above
+
+    pub data_is_new : (same : P → P → Bool) (b : ℕ × P) → a.clock ≤ b.0 → last_from b.0 a.list ≡ false → accept_data same a n b ≡ record { answer = New; after = record { list = a.list ++ b ∷ []; clock = b.0 } }
+    data_is_new same b h rises =
+        let counted : (n == length a.list) ≡ true = grind (arith, nat_tests) in
+        let in_time : ltb b.0 a.clock ≡ false = grind (arith, nat_tests) in
+        let late : Accepted P = record { answer = Late a.clock; after = a } in
+        let last : Accepted P = record { answer = NotRising; after = a } in
+        let new : Accepted P = record { answer = New; after = record { list = a.list ++ b ∷ []; clock = b.0 } } in
+        ap (λ o. data_at same o a n b) (nth_past a.list n (omega arith))
+        ∙ ap (λ z. cond z (cond (ltb b.0 a.clock) late (cond (last_from b.0 a.list) last new)) (record { answer = Gap (length a.list); after = a })) counted
+        ∙ ap (λ z. cond z late (cond (last_from b.0 a.list) last new)) in_time
+        ∙ ap (λ z. cond z last new) rises

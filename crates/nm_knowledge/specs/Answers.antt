@@ -1,0 +1,30 @@
+-- The answers of the definitions in the program's words.
+use Rattle.std.specs.Prelude.{ℕ, Option, Some, None, Result, Ok, Err}
+use Rattle.nm_model.specs.Accept as model
+use Rattle.nm_knowledge.specs.declared.answer.Accepted.{Accepted}
+use Rattle.nm_knowledge.specs.declared.answer.Accepted.TheVariants.{New, Known, Raised}
+use Rattle.nm_knowledge.specs.declared.answer.KnowFault.{KnowFault}
+use Rattle.nm_knowledge.specs.declared.answer.KnowFault.TheVariants.{Gap, Differs, Late, NotRising, Memory, Contrary}
+
+abbrev pub number_of : KnowFault → ℕ
+number_of (Gap h) = 1
+number_of (Differs n) = 2
+number_of (Late t) = 3
+number_of NotRising = 4
+number_of Memory = 5
+number_of (Contrary n) = 6
+
+-- no definition speaks of memory
+abbrev pub reason : KnowFault → Option model.Answer
+reason (Gap h) = Some (model.Gap h)
+reason (Differs n) = Some (model.Differs n)
+reason (Late t) = Some (model.Late t)
+reason NotRising = Some model.NotRising
+reason Memory = None
+reason (Contrary n) = Some (model.Contrary n)
+
+abbrev pub answer : Result Accepted KnowFault → Option model.Answer
+answer (Ok New) = Some model.New
+answer (Ok Known) = Some model.Known
+answer (Ok Raised) = Some model.Raised
+answer (Err f) = reason f

@@ -1,0 +1,4 @@
+pub mod Answers
+pub mod Octets
+pub mod Outcome
+pub mod Order

@@ -1,0 +1,26 @@
+-- What a call leaves and answers, by the definitions.
+use Rattle.std.specs.Prelude.{◌≡◌, ℕ, ◌<◌, cond, leb, List, length, Some, None, Result, Ok, Err}
+use Rattle.nm_model.specs.Knowledge.{Know}
+use Rattle.nm_model.specs.Accept as model
+use Rattle.nm_model.specs.Join.{join, join_fault}
+use Rattle.nm_knowledge.specs.declared.answer.Accepted.{Accepted}
+use Rattle.nm_knowledge.specs.declared.answer.KnowFault.{KnowFault}
+use Rattle.nm_knowledge.specs.declared.answer.KnowFault.TheVariants.{Memory}
+use Rattle.nm_knowledge.specs.Answers.{reason, answer}
+use Rattle.nm_knowledge.specs.Octets.{same_octets}
+
+-- it answers and is left as the definition says; or a message that is new found no memory, and nothing changed
+abbrev pub Accepts : Know (List ℕ) → Know (List ℕ) → Result Accepted KnowFault → model.Accepted (List ℕ) → Type 0
+Accepts old new (Err Memory) taken = (taken.answer ≡ model.New) × (new ≡ old)
+Accepts old new (Ok a) taken = (Some taken.answer ≡ answer (Ok a)) × (new ≡ taken.after)
+Accepts old new (Err f) taken = (Some taken.answer ≡ reason f) × (new ≡ taken.after)
+
+-- the join where there is no fault, and else the fault, where nothing changed; or messages of the other found no memory
+abbrev pub Joins : Know (List ℕ) → Know (List ℕ) → Know (List ℕ) → Result Unit KnowFault → Type 0
+Joins old new other (Ok _) = (join_fault same_octets old other ≡ None) × (new ≡ join old other)
+Joins old new other (Err Memory) = (join_fault same_octets old other ≡ None) × (length old.list < length other.list) × (new ≡ old)
+Joins old new other (Err f) = (join_fault same_octets old other ≡ reason f) × (new ≡ old)
+
+-- the second list where it is as long or longer, else the first
+abbrev pub longer : {A : Type 0} → List A → List A → List A
+longer k l = cond (leb (length k) (length l)) l k

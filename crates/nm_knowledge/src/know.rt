@@ -1,0 +1,211 @@
+//! Knowledge of one channel.
+
+ghost use Rattle.std.specs.Prelude.{◌≡◌, ℕ, ◌≤◌, length, ◌==◌, Some, IfOk};
+ghost use Rattle.std.specs.Option.{option_map};
+ghost use Rattle.nm_model.specs.Lists.{nth};
+ghost use Rattle.nm_model.specs.Knowledge.{nothing_known, IsKnow};
+ghost use Rattle.nm_model.specs.Accept.{accept_data, accept_null};
+ghost use Rattle.nm_knowledge.specs.declared.know.TheConstants.{MAX_MESSAGES};
+ghost use Rattle.nm_knowledge.specs.Answers.{answer};
+ghost use Rattle.nm_knowledge.specs.Octets.{same_octets};
+ghost use Rattle.nm_knowledge.specs.Outcome.{Accepts, Joins};
+
+use crate::answer::{Accepted, KnowFault};
+use crate::messages::{first_difference, is_at_last, is_before, take_rest};
+use nm_base::{Packet, Time};
+use nm_model::knowledge::{accept_laws, join_laws};
+use std::alloc::{AllocError, Global};
+use std::marker::Model;
+
+/// The most messages of a channel. One more is refused as if its memory were.
+pub const MAX_MESSAGES: usize = 1 << 50;
+
+/// What is known of a channel: its first messages, each with its time of arrival, and a clock, at or after which all later
+/// messages arrive. The times of the messages rise, up to the clock. Packets are shared, and no call copies their octets. A
+/// clause sees the list of (time, packet) and the clock.
+#[derive(Drop)]
+pub struct Know {
+    messages: Vec<(Time, Packet)>,
+    clock: Time,
+}
+
+impl Model for Know {
+    ghost use Rattle.std.specs.Prelude.{ℕ, List, length, ◌≤◌, ◌^◌};
+    ghost use Rattle.nm_model.specs.Knowledge.{Know as Knowledge, IsKnow};
+
+    ghost Value = { Knowledge (List ℕ) };
+
+    ghost view = { λ k. record { list = k.messages.items; clock = k.clock } };
+
+    ghost invariant = { λ k. IsKnow {P = List ℕ} (record { list = k.messages.items; clock = k.clock })
+        × (length k.messages.items ≤ 2 ^ 50) };
+}
+
+impl Know {
+    /// Nothing is known: no message, and the clock 0. It takes no memory.
+    pub fn new(alloc: Global) -> Self
+        ensures { result ≡ nothing_known }
+    {
+        Know {
+            messages: Vec::new(alloc),
+            clock: Time::from_nanoseconds(0),
+        }
+    }
+
+    /// How many messages are known, at most 2^50, which is the number of the next one.
+    pub fn len(&self) -> usize
+        ensures value { result ≡ length self.now.list }
+        ensures most { result ≤ MAX_MESSAGES }
+    {
+        self.messages.len()
+    }
+
+    /// Whether no message is known.
+    pub fn is_empty(&self) -> bool
+        ensures { result ≡ (length self.now.list == 0) }
+    {
+        self.messages.is_empty()
+    }
+
+    /// The channel clock.
+    pub fn clock(&self) -> Time
+        ensures value { result ≡ self.now.clock }
+        ensures known { IsKnow self.now }
+    {
+        self.clock
+    }
+
+    /// The message of this number and its time of arrival, or `None` where it is not known.
+    pub fn message(&self, number: u64) -> Option<(Time, &Packet)>
+        ensures { option_map (λ m. (m.0, m.1.now)) result ≡ nth self.now.list number }
+    {
+        let (time, packet) = self.messages.get(number as usize)?;
+        Some((*time, packet))
+    }
+
+    /// The same knowledge once more. Its packets share their octets with these.
+    ///
+    /// # Errors
+    ///
+    /// Where memory for the list was refused.
+    pub fn copy(&self, alloc: Global) -> Result<Self, AllocError>
+        ensures { IfOk result (λ copy. copy ≡ self.now) }
+    {
+        let mut messages = Vec::new(alloc);
+        messages.extend_with_clones(&self.messages)?;
+        Ok(Know {
+            messages,
+            clock: self.clock,
+        })
+    }
+
+    /// Message `number` of the channel is this packet, which arrives at this time.
+    ///
+    /// # Errors
+    ///
+    /// `Gap` where messages before it have not come. `Differs` where another message of this number is known. For the next
+    /// message: `Late` where it is before the clock, `NotRising` where it is not after the last message, and `Memory` where
+    /// the memory for it was refused or 2^50 messages are known. A refusal changes nothing.
+    pub fn accept_data(
+        &mut self,
+        number: u64,
+        time: Time,
+        packet: &Packet,
+    ) -> Result<Accepted, KnowFault>
+        ensures { Accepts self.old self.new result
+            (accept_data same_octets self.old number (time, packet.now)) }
+    {
+        let have = self.messages.len() as u64;
+        if number > have {
+            return Err(KnowFault::Gap { have });
+        }
+        if number < have {
+            let (known_time, known) = &self.messages[number as usize];
+            return if *known_time == time && known == packet {
+                Ok(Accepted::Known)
+            } else {
+                Err(KnowFault::Differs { number })
+            };
+        }
+        if time < self.clock {
+            return Err(KnowFault::Late {
+                clock: self.clock.nanoseconds(),
+            });
+        }
+        if is_at_last(&self.messages, time) {
+            return Err(KnowFault::NotRising);
+        }
+        if self.messages.len() >= MAX_MESSAGES {
+            return Err(KnowFault::Memory);
+        }
+        let shared = packet.clone()?;
+        self.messages.push((time, shared))?;
+        // It keeps times rising up to the clock.
+        accept_laws::<Packet>();
+        self.clock = time;
+        Ok(Accepted::New)
+    }
+
+    /// A null message: all messages of the channel from number `count` on arrive at `clock` or later. It takes no memory.
+    ///
+    /// # Errors
+    ///
+    /// `Gap` where messages before number `count` have not come. `Contrary` where message `count` is known and is before
+    /// `clock`. A refusal changes nothing.
+    pub fn accept_null(&mut self, count: u64, clock: Time) -> Result<Accepted, KnowFault>
+        ensures answer { answer result ≡ Some (accept_null self.old count clock).answer }
+        ensures after { self.new ≡ (accept_null self.old count clock).after }
+    {
+        let have = self.messages.len() as u64;
+        if count > have {
+            return Err(KnowFault::Gap { have });
+        }
+        if count < have {
+            let (time, _) = &self.messages[count as usize];
+            return if *time < clock {
+                Err(KnowFault::Contrary { count })
+            } else {
+                Ok(Accepted::Known)
+            };
+        }
+        if clock <= self.clock {
+            return Ok(Accepted::Known);
+        }
+        self.clock = clock;
+        Ok(Accepted::Raised)
+    }
+
+    /// Takes what another knows of the same channel: afterwards this has the longer list and the greater clock. The memory
+    /// for all its new messages is taken at once, and their packets are shared.
+    ///
+    /// # Errors
+    ///
+    /// `Differs` names the first number at which both have a message and these differ. `Late` names the clock of one that
+    /// is after the first message that the other has past its end. `Memory` where memory was refused. A refusal changes
+    /// nothing.
+    pub fn merge(&mut self, other: &Know) -> Result<(), KnowFault>
+        ensures { Joins self.old self.new other.now result }
+    {
+        let differing = first_difference(&self.messages, &other.messages);
+        if let Some(number) = differing {
+            return Err(KnowFault::Differs {
+                number: number as u64,
+            });
+        }
+        if is_before(&other.messages, self.messages.len(), self.clock) {
+            return Err(KnowFault::Late {
+                clock: self.clock.nanoseconds(),
+            });
+        }
+        if is_before(&self.messages, other.messages.len(), other.clock) {
+            return Err(KnowFault::Late {
+                clock: other.clock.nanoseconds(),
+            });
+        }
+        take_rest(&mut self.messages, &other.messages)?;
+        // It keeps times rising up to the clock.
+        join_laws::<Packet>();
+        self.clock = self.clock.max(other.clock);
+        Ok(())
+    }
+}

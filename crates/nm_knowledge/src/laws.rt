@@ -1,0 +1,26 @@
+//! Laws of the definitions: a function's contract is the law, and its body does nothing but call the laws that it rests on.
+
+ghost use Rattle.std.specs.Prelude.{◌≡◌, ℕ, Bool, List, Contains, ◌↔◌};
+ghost use Rattle.nm_model.specs.Knowledge.{Know, IsKnow};
+ghost use Rattle.nm_model.specs.Accept.{IsReflexive, TellsApart};
+ghost use Rattle.nm_knowledge.specs.Octets.{same_octets};
+ghost use Rattle.nm_knowledge.specs.Order.{Told, AreAccepted, told_all};
+
+use nm_model::knowledge::accept_laws;
+
+/// Packets are the same exactly where their octets are.
+pub fn packets_are_told_apart()
+    ensures same { IsReflexive same_octets }
+    ensures apart { TellsApart same_octets }
+{}
+
+/// The order in which messages and null messages are accepted does not matter, nor how often each is: two lists of the same
+/// ones, each of which is accepted all along, leave the same knowledge. A refusal changes nothing, so what was refused may
+/// stand between them.
+pub fn order_does_not_matter<P>()
+    ensures { (same : P → P → Bool) → TellsApart same → (a : Know P) → IsKnow a → (k l : List (Told P))
+        → AreAccepted same a k → AreAccepted same a l → ((x : Told P) → Contains k x ↔ Contains l x)
+        → told_all same a k ≡ told_all same a l }
+{
+    accept_laws::<P>();
+}

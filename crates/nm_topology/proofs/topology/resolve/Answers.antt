@@ -1,0 +1,46 @@
+use Rattle.std.proofs.Common.{◌≡◌, length, map, Ok, sym, ap, ◌∙◌, subst, arith}
+use Rattle.std.proofs.lemmas.List.{length-map}
+use Rattle.nm_topology.specs.Checks.{route_tables, far_ends}
+use Rattle.nm_topology.specs.Network.{tested, placed_nodes, placed_ifaces}
+use Rattle.nm_topology.specs.Order.{IsInOrder}
+use Rattle.nm_topology.proofs.Order.{in_order}
+use Rattle.nm_topology.proofs.topology.resolve.Goals as goal
+
+pub invariant_of-result : goal.invariant_of-result
+invariant_of-result c =
+    let N = c.deref.result.now in
+    let F = c.deref-2.result.now in
+    let G = c.deref-7.result.now in
+    let P = c.deref-6.result.now in
+    let n = c.in_ok-numbers.numbers in
+    let a = c.in_ok-numbers.ensures in
+    let w = c.in_ok-tables.ensures in
+    let parts : P ≡ map (λ r. r.partition) N = c.deref-6.ensures.value ∙ c.in_ok-parts.ensures ∙ ap (map (λ r. r.partition)) (c.deref-5.ensures.value ∙ sym c.deref.ensures.value) in
+    let count : length P ≡ length N = ap length parts ∙ length-map N (λ r. r.partition) in
+    let faces : G ≡ F = c.deref-7.ensures.value ∙ sym c.deref-2.ensures.value in
+    let addresses = map (λ i. i.address) G in
+    let passed : tested (map (λ r. r.partition) N) addresses (length N) (length F) n ≡ Ok tt =
+    ap (λ ps. tested ps addresses (length N) (length F) n) (sym parts)
+    ∙ ap (λ m. tested P addresses m (length F) n) (sym count)
+    ∙ ap (λ fs. tested P addresses (length P) (length fs) n) (sym faces)
+    ∙ w.tested in
+    let order = in_order N F n addresses a.owners.0 a.owners.1 a.links a.vias passed in
+    let tables : c.in_ok-tables.field-0.tables.items ≡ route_tables (length N) n.routes = w.tables ∙ ap (λ m. route_tables m n.routes) count in
+    let far : c.in_ok-tables.field-0.far.items ≡ far_ends (length F) n.links = w.far ∙ ap (λ fs. far_ends (length fs) n.links) faces in
+    let nodes : c.in_ok-nodes.field-0.items ≡ placed_nodes N (route_tables (length N) n.routes) = cc (c.in_ok-nodes.ensures.value, tables, c.deref.ensures.value) in
+    let owners : c.numbers.inside.owners.items ≡ n.owners = cc (ap (λ v. v.owners) c.numbers.view_is) in
+    let links : c.numbers.inside.links.items ≡ n.links = cc (ap (λ v. v.links) c.numbers.view_is) in
+    let ifaces : c.in_ok-ifaces.field-0.items ≡ placed_ifaces F n.owners (far_ends (length F) n.links) = cc (c.in_ok-ifaces.ensures.value, far, owners, c.deref-2.ensures.value) in
+    let placed : IsInOrder c.in_ok-nodes.field-0.items c.in_ok-ifaces.field-0.items c.numbers.inside.links.items =
+    subst (λ ls. IsInOrder c.in_ok-nodes.field-0.items c.in_ok-ifaces.field-0.items ls) (sym links)
+    (subst (λ is. IsInOrder c.in_ok-nodes.field-0.items is n.links) (sym ifaces)
+    (subst (λ ns. IsInOrder ns (placed_ifaces F n.owners (far_ends (length F) n.links)) n.links) (sym nodes) order)) in
+    let same : length c.numbers.inside.sources.items ≡ length n.sources = ap length (cc (ap (λ v. v.sources) c.numbers.view_is)) in
+    let bounds = c.document.invariant in (
+      placed,
+      omega (arith, c.in_ok-nodes.ensures.len, bounds.0),
+      omega (arith, c.in_ok-ifaces.ensures.len, bounds.1),
+      omega (arith, ap length links, a.counts.0, ap length c.deref-3.ensures.value, bounds.2),
+      omega (arith, same, a.counts.1, bounds.3),
+      w.few,
+    )
