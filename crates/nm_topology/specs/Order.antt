@@ -2,6 +2,9 @@
 use Rattle.std.specs.Prelude.{◌≡◌, ℕ, ◌<◌, ◌≤◌, All, Some, false, List, length, map, slice_get, slice_index}
 use Rattle.nm_base.specs.declared.limits.TheConstants.{MAX_ROUTES_OF_NODE}
 use Rattle.nm_topology.specs.declared.parts.Link.{Link}
+use Rattle.nm_topology.specs.declared.traffic.Source.{Source}
+use Rattle.nm_topology.specs.declared.traffic.Traffic.{Traffic}
+use Rattle.nm_topology.specs.declared.traffic.Traffic.TheVariants.{Cbr, Echo, Raw}
 use Rattle.nm_topology.specs.Checks.{far_end, uses, is_undelayed_cut}
 use Rattle.nm_topology.specs.Networks.{NodeValue, IfaceValue}
 
@@ -32,3 +35,13 @@ pub record IsInOrder (nodes : List NodeValue) (ifaces : List IfaceValue) (links 
   pub tables : (k : ℕ) (n : NodeValue) → slice_get nodes k ≡ Some n → length n.routes ≤ MAX_ROUTES_OF_NODE
   -- links between partitions delay by something
   pub cuts : All (λ l. is_undelayed_cut (parts_of nodes) (owners_of ifaces) l ≡ false) links
+
+-- raw packets leave by an interface of their node
+abbrev pub LeavesByOwn : List ℕ → ℕ → Traffic → Type 0
+LeavesByOwn owners node (Cbr c) = Unit {0}
+LeavesByOwn owners node (Echo e) = Unit {0}
+LeavesByOwn owners node (Raw r) = (r.via < length owners) × (slice_index owners r.via ≡ node)
+
+-- the node of a source is there, of so many, and interfaces with these owners
+unfoldable pub IsPlaced : ℕ → List ℕ → Source → Type 0
+IsPlaced nodes owners s = (s.node < nodes) × LeavesByOwn owners s.node s.traffic

@@ -4,6 +4,7 @@ ghost use Rattle.std.specs.Prelude.{◌≡◌, ◌<◌, ◌≤◌, All, length, 
 ghost use Rattle.nm_base.specs.declared.limits.TheConstants.{MAX_IFACES};
 ghost use Rattle.nm_topology.specs.Fault.{Gives};
 ghost use Rattle.nm_topology.specs.Network.{numbered};
+ghost use Rattle.nm_topology.specs.Order.{IsPlaced};
 
 use crate::fault::TopoFault;
 use crate::names::Names;
@@ -72,6 +73,7 @@ pub fn number(
     ensures links { IfOk result (λ n. All (λ l. (l.a < length ifaces.now) × (l.b < length ifaces.now)) n.links) }
     ensures routes { IfOk result (λ n. All (λ r. r.node < length nodes.now) n.routes) }
     ensures vias { IfOk result (λ n. All (λ r. (r.route.via < length ifaces.now) × (slice_index n.owners r.route.via ≡ r.node)) n.routes) }
+    ensures sources { IfOk result (λ n. All (λ s. IsPlaced (length nodes.now) n.owners s) n.sources) }
     ensures value { Gives (λ n. n) result (numbered nodes.now ifaces.now links.now routes.now sources.items) }
 {
     let node_names = Names::new(alloc, &node_names(alloc, nodes)?)?;

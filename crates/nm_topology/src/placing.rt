@@ -29,7 +29,7 @@ pub fn partitions(alloc: Global, rows: &[NodeRow]) -> Result<Vec<PartNo>, AllocE
 
 /// The greatest partition plus one.
 pub fn partition_count(rows: &[NodeRow]) -> u32
-    ensures within { result ≤ 256 }
+    ensures within { result ≤ 64 }
     ensures value { result ≡ partition_count (map (λ n. n.partition) rows.now) }
 {
     let mut count = 0u32;

@@ -4,6 +4,7 @@ ghost use Rattle.std.specs.Prelude.{◌≡◌, ◌<◌, ◌≤◌, All, length, 
 ghost use Rattle.nm_base.specs.declared.limits.TheConstants.{MAX_IFACES};
 ghost use Rattle.nm_topology.specs.Fault.{Gives};
 ghost use Rattle.nm_topology.specs.Numbers.{all_of, via_of};
+ghost use Rattle.nm_topology.specs.Order.{IsPlaced, LeavesByOwn};
 ghost use Rattle.nm_topology.specs.Resolving.{owner_of, link_between, placed_route, placed_traffic, placed_source};
 
 use crate::fault::{Refusal, TopoFault};
@@ -118,7 +119,8 @@ fn placed_traffic(
     row: TrafficRow,
 ) -> Result<Traffic, TopoFault>
     requires { length owners.now ≡ length ifaces.now }
-    ensures { Gives (λ t. t) result (placed_traffic ifaces.now owners.now node row) }
+    ensures own { IfOk result (λ t. LeavesByOwn owners.now node t) }
+    ensures value { Gives (λ t. t) result (placed_traffic ifaces.now owners.now node row) }
 {
     match row {
         TrafficRow::Cbr(cbr) => Ok(Traffic::Cbr(cbr)),
@@ -130,6 +132,7 @@ fn placed_traffic(
     }
 }
 
+#[tactic(auto, unfolding(crate::specs::Order::IsPlaced))]
 fn source(
     nodes: &Names,
     ifaces: &Names,
@@ -137,7 +140,8 @@ fn source(
     row: SourceRow,
 ) -> Result<Source, TopoFault>
     requires { length owners.now ≡ length ifaces.now }
-    ensures { Gives (λ s. s) result (placed_source nodes.now ifaces.now owners.now row) }
+    ensures placed { IfOk result (λ s. IsPlaced (length nodes.now) owners.now s) }
+    ensures value { Gives (λ s. s) result (placed_source nodes.now ifaces.now owners.now row) }
 {
     let SourceRow { node, traffic } = row;
     let node = NodeNo::new(nodes.number(node.as_str())?);
@@ -155,6 +159,7 @@ pub fn sources(
 ) -> Result<Vec<Source>, TopoFault>
     requires { length owners.now ≡ length ifaces.now }
     ensures len { IfOk result (λ v. length v.items ≡ length rows.items) }
+    ensures placed { IfOk result (λ v. All (λ s. IsPlaced (length nodes.now) owners.now s) v.items) }
     ensures value { Gives (λ v. v.items) result (all_of (placed_source nodes.now ifaces.now owners.now) rows.items) }
 {
     let mut sources = Vec::new(alloc);

@@ -29,10 +29,12 @@ pub struct NodeRow {
 }
 
 impl Model for NodeRow {
-    ghost use Rattle.std.specs.Prelude.{string_bytes};
+    ghost use Rattle.std.specs.Prelude.{◌≤◌, string_bytes};
     ghost use Rattle.nm_topology.specs.Texts.{NodeText};
 
     ghost Value = { NodeText };
+
+    ghost invariant = { λ r. r.partition ≤ 63 };
 
     ghost view = { λ r. record { name = string_bytes r.name; kind = r.kind; partition = r.partition; ports = r.ports.items } };
 }

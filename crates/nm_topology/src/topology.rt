@@ -1,8 +1,8 @@
 //! A topology, and the reading of one.
 
-ghost use Rattle.nm_base.specs.declared.limits.TheConstants.{MAX_CHANNELS, MAX_IFACES, MAX_LINKS, MAX_NODES, MAX_SOURCES};
-ghost use Rattle.nm_topology.specs.Order.{IsInOrder};
-ghost use Rattle.std.specs.Prelude.{◌≡◌, ◌<◌, ◌≤◌, Some, length, slice_get};
+ghost use Rattle.nm_base.specs.declared.limits.TheConstants.{MAX_CHANNELS, MAX_IFACES, MAX_LINKS, MAX_NODES, MAX_PARTITIONS, MAX_SOURCES};
+ghost use Rattle.nm_topology.specs.Order.{IsInOrder, IsPlaced, owners_of};
+ghost use Rattle.std.specs.Prelude.{◌≡◌, ◌<◌, ◌≤◌, All, Some, length, slice_get};
 ghost use Rattle.std.specs.Option.{ok_or};
 ghost use Rattle.toml.specs.Parse.{parse_document};
 ghost use Rattle.toml.specs.View.{table_view};
@@ -38,9 +38,9 @@ pub struct Topology {
 }
 
 impl Model for Topology {
-    ghost use Rattle.std.specs.Prelude.{◌≤◌, length};
-    ghost use Rattle.nm_base.specs.declared.limits.TheConstants.{MAX_CHANNELS, MAX_IFACES, MAX_LINKS, MAX_NODES, MAX_SOURCES};
-    ghost use Rattle.nm_topology.specs.Order.{IsInOrder};
+    ghost use Rattle.std.specs.Prelude.{◌≤◌, All, length};
+    ghost use Rattle.nm_base.specs.declared.limits.TheConstants.{MAX_CHANNELS, MAX_IFACES, MAX_LINKS, MAX_NODES, MAX_PARTITIONS, MAX_SOURCES};
+    ghost use Rattle.nm_topology.specs.Order.{IsInOrder, IsPlaced, owners_of};
     ghost use Rattle.nm_topology.specs.Wholes.{NetworkValue};
 
     ghost Value = { NetworkValue };
@@ -51,7 +51,9 @@ impl Model for Topology {
         × (length t.ifaces.items ≤ MAX_IFACES)
         × (length t.links.items ≤ MAX_LINKS)
         × (length t.sources.items ≤ MAX_SOURCES)
-        × (length t.receivers.items ≤ MAX_CHANNELS) };
+        × (length t.receivers.items ≤ MAX_CHANNELS)
+        × All (λ s. IsPlaced (length t.nodes.items) (owners_of t.ifaces.items) s) t.sources.items
+        × (t.partitions ≤ MAX_PARTITIONS) };
 
     ghost view = { λ t. record {
       stop = t.stop;
@@ -241,7 +243,7 @@ impl Topology {
 
 /// What every accepted topology has: the layers above rely on it. Each interface is one end of exactly one link, and is
 /// of a node that is there; whatever it is linked to is another interface, linked back to it over the same rate and
-/// delay; the routes of a node leave by interfaces of its own; a link between partitions delays by at least 1 ns; and
+/// delay; the routes and the raw packets of a node leave by interfaces of its own; a link between partitions delays by at least 1 ns; and
 /// counts are within the limits.
 pub fn accepted_topologies_are_in_order(topology: &Topology)
     ensures order { IsInOrder topology.now.nodes topology.now.ifaces topology.now.links }
@@ -250,6 +252,8 @@ pub fn accepted_topologies_are_in_order(topology: &Topology)
     ensures links { length topology.now.links ≤ MAX_LINKS }
     ensures sources { length topology.now.sources ≤ MAX_SOURCES }
     ensures channels { length topology.now.receivers ≤ MAX_CHANNELS }
+    ensures placed { All (λ s. IsPlaced (length topology.now.nodes) (owners_of topology.now.ifaces) s) topology.now.sources }
+    ensures partitions { topology.now.partitions ≤ MAX_PARTITIONS }
 {
     let _nodes = &topology.nodes;
 }

@@ -1,9 +1,9 @@
-use Rattle.std.proofs.Common.{◌≡◌, length, map, Ok, sym, ap, ◌∙◌, subst, arith}
+use Rattle.std.proofs.Common.{◌≡◌, All, length, map, Ok, sym, ap, ◌∙◌, subst, arith}
 use Rattle.std.proofs.lemmas.List.{length-map}
-use Rattle.nm_topology.specs.Checks.{route_tables, far_ends}
+use Rattle.nm_topology.specs.Checks.{routes_at, route_tables, far_end, far_ends}
 use Rattle.nm_topology.specs.Network.{tested, placed_nodes, placed_ifaces}
-use Rattle.nm_topology.specs.Order.{IsInOrder}
-use Rattle.nm_topology.proofs.Order.{in_order}
+use Rattle.nm_topology.specs.Order.{IsInOrder, IsPlaced, owners_of}
+use Rattle.nm_topology.proofs.Order.{in_order, nodes-length, numbers-length, ifaces-owners}
 use Rattle.nm_topology.proofs.topology.resolve.Goals as goal
 
 pub invariant_of-result : goal.invariant_of-result
@@ -36,6 +36,16 @@ invariant_of-result c =
     (subst (λ is. IsInOrder c.in_ok-nodes.field-0.items is n.links) (sym ifaces)
     (subst (λ ns. IsInOrder ns (placed_ifaces F n.owners (far_ends (length F) n.links)) n.links) (sym nodes) order)) in
     let same : length c.numbers.inside.sources.items ≡ length n.sources = ap length (cc (ap (λ v. v.sources) c.numbers.view_is)) in
+    let here : All (λ s. IsPlaced (length N) n.owners s) c.numbers.inside.sources.items =
+    subst (λ ss. All (λ s. IsPlaced (length N) n.owners s) ss) (cc (ap (λ v. v.sources) c.numbers.view_is)) a.sources in
+    let count_nodes : length N ≡ length c.in_ok-nodes.field-0.items =
+    sym (ap length nodes ∙ nodes-length N (route_tables (length N) n.routes) (numbers-length (λ j. routes_at j n.routes) (length N) 0)) in
+    let count_far : length (far_ends (length F) n.links) ≡ length F = numbers-length (λ i. far_end i n.links) (length F) 0 in
+    let own : n.owners ≡ owners_of c.in_ok-ifaces.field-0.items =
+    sym (ap owners_of ifaces ∙ ifaces-owners F n.owners (far_ends (length F) n.links) a.owners.0 count_far) in
+    let sources : All (λ s. IsPlaced (length c.in_ok-nodes.field-0.items) (owners_of c.in_ok-ifaces.field-0.items) s) c.numbers.inside.sources.items =
+    subst (λ os. All (λ s. IsPlaced (length c.in_ok-nodes.field-0.items) os s) c.numbers.inside.sources.items) own
+    (subst (λ m. All (λ s. IsPlaced m n.owners s) c.numbers.inside.sources.items) count_nodes here) in
     let bounds = c.document.invariant in (
       placed,
       omega (arith, c.in_ok-nodes.ensures.len, bounds.0),
@@ -43,4 +53,6 @@ invariant_of-result c =
       omega (arith, ap length links, a.counts.0, ap length c.deref-3.ensures.value, bounds.2),
       omega (arith, same, a.counts.1, bounds.3),
       w.few,
+      sources,
+      omega (arith, c.partition_count-partitions.ensures.within),
     )
