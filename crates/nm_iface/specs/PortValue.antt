@@ -1,5 +1,5 @@
 -- What contracts see of a port.
-use Rattle.std.specs.Prelude.{◌≡◌, ℕ, ◌+◌, ◌-◌, ◌^◌, ◌<◌, ltb, min, Bool, List, [], length, map, Option, Some, None}
+use Rattle.std.specs.Prelude.{◌≡◌, ℕ, ◌+◌, ◌-◌, ◌^◌, ◌<◌, ltb, min, max, Bool, List, [], length, map, Option, Some, None}
 use Rattle.nm_base.specs.declared.packet.Twin.{Twin}
 use Rattle.nm_model.specs.Port.{Busy, Port}
 use Rattle.nm_iface.specs.Transmission.{transmission_time}
@@ -19,9 +19,9 @@ pub record PortValue : Type 0 where
 abbrev pub has_room : ℕ → List (List ℕ) → List ℕ → Bool
 has_room limit waiting packet = ltb (length waiting) limit
 
--- how long a packet's transmission takes
+-- how long a packet's transmission takes: a packet has at least one octet
 abbrev pub takes : ℕ → List ℕ → ℕ
-takes rate packet = transmission_time rate (length packet)
+takes rate packet = transmission_time rate (max 1 (length packet))
 
 -- a count stops at the greatest that its type holds
 abbrev pub counted : ℕ → ℕ
