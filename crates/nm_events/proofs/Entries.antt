@@ -10,7 +10,7 @@ use Rattle.std.specs.Option.{option_to_list, is_some, IfSome}
 use Rattle.std.specs.FinMap.Entries.{below_all, is_sorted-put, by_order}
 use Rattle.nm_base.specs.declared.key.Key.{Key}
 use Rattle.nm_base.specs.Key.{key_cmp, key_cmp_total}
-use Rattle.nm_events.proofs.Keys.{key_antisymmetric}
+use Rattle.nm_events.specs.Keys.{key_cmp-IsAntisymmetric}
 use Rattle.nm_model.specs.EventList.{least, first_of_list}
 
 truth : (b : Bool) → b ≡ true → T b
@@ -162,4 +162,4 @@ pub rest_taken : {X : Type 0} (r : Option (Key × X)) (xs ys : List (Key × X)) 
     → IfSome r (λ e. from_sorted {R = key_cmp} ys ≡ remove (from_sorted xs) e.0)
 rest_taken None xs ys e h = tt
 rest_taken (Some x) xs ys e h =
-    rest_is key_cmp_total key_antisymmetric x ys (ap (is_sorted key_cmp) (sym e) ∙ h) ∙ ap (λ l. remove (from_sorted {R = key_cmp} l) x.0) (sym e)
+    rest_is key_cmp_total key_cmp-IsAntisymmetric x ys (ap (is_sorted key_cmp) (sym e) ∙ h) ∙ ap (λ l. remove (from_sorted {R = key_cmp} l) x.0) (sym e)

@@ -1,2 +1,1 @@
 mod Entries
-mod Keys
