@@ -1,5 +1,5 @@
 -- The route to an address (RFC 1812, section 5.2.4.3).
-use Rattle.std.specs.Prelude.{◌≡◌, ℕ, zero, suc, ◌+◌, ◌-◌, ◌*◌, ◌/◌, ◌^◌, ◌<◌, Bool, false, ◌&&◌, ◌==◌, nat_eq, List, find, slice_index_or, Option, None}
+use Rattle.std.specs.Prelude.{◌≡◌, ℕ, zero, suc, ◌+◌, ◌-◌, ◌*◌, ◌/◌, ◌^◌, ◌<◌, ◌≤◌, Bool, false, ◌&&◌, ◌==◌, nat_eq, List, find, slice_index_or, Option, None}
 use Rattle.std.specs.Option.{option_map, option_or}
 use Rattle.std.specs.HashMap.{get, HashMap}
 use Rattle.std.specs.declared.hash.FoldHasher.{FoldHasher}
@@ -13,6 +13,10 @@ network n address = address / 2 ^ (32 - n)
 -- whether the route's prefix has exactly n bits and holds the address (RFC 4632, section 3.1)
 abbrev pub leads : ℕ → ℕ → Route → Bool
 leads n address r = (r.to.length == n) && (network n r.to.address == network n address)
+
+-- the route's prefix holds the address: they agree in the first bits, as many as the prefix has
+abbrev pub Holds : ℕ → Route → Type 0
+Holds address r = (r.to.length ≤ 32) × (network r.to.length r.to.address ≡ network r.to.length address)
 
 -- of the routes whose prefix has fewer than n bits and holds the address, the one with the longest
 unfoldable pub longest_below : ℕ → List Route → ℕ → Option Route

@@ -1,11 +1,12 @@
 -- A node: what the topology says of it, and what it counts.
-use Rattle.std.specs.Prelude.{ℕ, ◌+◌, ◌%◌, ◌==◌, nat_eq, List, [], map, filter, Option, Some, None, Bool, slice_get}
+use Rattle.std.specs.Prelude.{ℕ, ◌+◌, ◌%◌, ◌==◌, ◌≡◌, ◌<◌, nat_eq, List, [], length, map, filter, slice_index, Option, Some, None, Bool, slice_get}
 use Rattle.std.specs.List.{list_any}
 use Rattle.nm_topology.specs.declared.node.NodeKind.{NodeKind}
 use Rattle.nm_topology.specs.declared.node.NodeKind.TheVariants.{Host}
 use Rattle.nm_topology.specs.declared.parts.Route.{Route}
 use Rattle.nm_topology.specs.Networks.{NodeValue, IfaceValue}
 use Rattle.nm_topology.specs.Wholes.{NetworkValue}
+use Rattle.nm_topology.specs.Order.{owners_of}
 use Rattle.nm_forward.specs.declared.counter.Counter.{Counter}
 use Rattle.nm_forward.specs.declared.counter.Counter.TheVariants.{Originated}
 use Rattle.nm_forward.specs.Counter.{raised, no_counts}
@@ -48,6 +49,10 @@ is_own table address = list_any (nat_eq address) table.addresses
 -- whether something listens at the UDP port
 abbrev pub listens : NodeTable → ℕ → Bool
 listens table port = list_any (nat_eq port) table.ports
+
+-- the interface is there, and is one of node v
+abbrev pub IsIfaceOf : List IfaceValue → ℕ → ℕ → Type 0
+IsIfaceOf ifaces v via = (via < length ifaces) × (slice_index (owners_of ifaces) via ≡ v)
 
 -- the state with one counter raised
 abbrev pub counted : Counter → NodeStateValue → NodeStateValue

@@ -4,6 +4,7 @@
 mod addresses;
 pub mod counter;
 mod counters;
+pub mod laws;
 mod originate;
 mod prepared;
 pub mod reaction;
