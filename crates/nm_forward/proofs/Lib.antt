@@ -1,0 +1,5 @@
+pub mod Layouts
+pub mod Longest
+pub mod Owning
+pub mod Sending
+pub mod Errors

@@ -1,0 +1,34 @@
+use Rattle.std.proofs.Common.{◌≡◌, ◌-◌, Some, None, ap, sym, ◌∙◌, subst, arith}
+use Rattle.std.specs.Prelude.{nat_eq}
+use Rattle.std.specs.HashMap.{get}
+use Rattle.std.specs.Option.{option_map}
+use Rattle.std.proofs.lemmas.Grind.{common_steps}
+use Rattle.nm_forward.specs.Routes.{prefix_key, longest_below, IsLaidOut}
+use Rattle.nm_forward.proofs.Layouts.{longest-zero, look-found, look-past, look-absent}
+use Rattle.nm_forward.proofs.routes.Routes.look.Goals as goal
+
+pub returns-in-Some : goal.returns-in-Some
+returns-in-Some c =
+    let laid = subst (λ rs. IsLaidOut rs c.self.inside.occurs c.self.inside.vias) c.self.view_is c.self.invariant in
+    let there : get nat_eq c.self.inside.vias (prefix_key (c.loop-length.length - 1) c.args.address) ≡ Some c.in-Some.via.now = grind (arith, common_steps, c.get.ensures.value, c.in-Some.is, c.prefix_key.ensures.value) in
+    look-found c.args.self.now c.self.inside.occurs c.self.inside.vias laid c.args.address c.loop-length.length (c.loop-length.length - 1)
+    (omega arith) (omega arith) c.loop-length.invariant c.prefix_key.ensures.fits c.in-Some.via.now there
+
+pub loop-length-preserved-in_default : goal.loop-length-preserved-in_default
+loop-length-preserved-in_default c =
+    let laid = subst (λ rs. IsLaidOut rs c.self.inside.occurs c.self.inside.vias) c.self.view_is c.self.invariant in
+    let none : get nat_eq c.self.inside.vias (prefix_key (c.loop-length.length - 1) c.args.address) ≡ None = grind (arith, common_steps, c.get.ensures.value, c.in_default.is, c.prefix_key.ensures.value) in
+    look-past c.args.self.now c.self.inside.occurs c.self.inside.vias laid c.args.address c.loop-length.length (c.loop-length.length - 1)
+    (omega arith) (omega arith) c.loop-length.invariant c.prefix_key.ensures.fits none
+
+pub loop-length-preserved : goal.loop-length-preserved
+loop-length-preserved c =
+    let laid = subst (λ rs. IsLaidOut rs c.self.inside.occurs c.self.inside.vias) c.self.view_is c.self.invariant in
+    look-absent c.args.self.now c.self.inside.occurs c.self.inside.vias laid c.args.address c.loop-length.length (c.loop-length.length - 1)
+    (omega arith) (omega arith) c.loop-length.invariant (rw (← c.from.ensures) c.if-self-from.false)
+
+pub returns : goal.returns
+returns c =
+    let done : c.loop-length.length ≡ 0 = omega arith in
+    sym (c.loop-length.invariant ∙ ap (λ n. option_map (λ r. r.via) (longest_below n c.args.self.now c.args.address)) done
+    ∙ ap (option_map (λ r. r.via)) (longest-zero c.args.self.now c.args.address))

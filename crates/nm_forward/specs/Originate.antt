@@ -1,0 +1,129 @@
+-- What a node sends of its own accord.
+use Rattle.std.specs.Prelude.{ℕ, ◌≤◌, Bool, true, ◌||◌, ◌&&◌, not, ◌==◌, if◌then◌else◌, List, [], ◌∷◌, length, Option, Some, None, unwrap_or, slice_get}
+use Rattle.std.specs.Option.{option_map_or}
+use Rattle.nm_packet.specs.declared.ipv4.Ipv4Header.{Ipv4Header}
+use Rattle.nm_packet.specs.Address.{is_offending}
+use Rattle.nm_packet.specs.Ipv4.{Header, fields_of, payload_of, packet_octets, plain_header, quote_of}
+use Rattle.nm_packet.specs.Udp.{udp_header, datagram_octets}
+use Rattle.nm_packet.specs.Icmp.{icmp_header, icmp_fields_of, icmp_data_of, message_octets}
+use Rattle.nm_topology.specs.Networks.{IfaceValue}
+use Rattle.nm_forward.specs.declared.counter.Counter.{Counter}
+use Rattle.nm_forward.specs.declared.counter.Counter.TheVariants.{Quiet, ToSelf, NoRoute}
+use Rattle.nm_forward.specs.Routes.{route_of}
+use Rattle.nm_forward.specs.State.{NodeTable, NodeStateValue, is_own, counted, after_originating}
+
+-- what follows the counter of a row: nothing, a further counter alone, a packet that is sent on by an interface, or one
+-- that is originated
+pub data Consequence : Type 0 where
+  Nothing : Consequence
+  Counts : Counter → Consequence
+  Sends : ℕ → List ℕ → Consequence
+  Originates : ℕ → List ℕ → Consequence
+
+-- the payload of a packet that is originated
+pub data Body : Type 0 where
+  -- a UDP datagram between these ports, with these data
+  Datagram : ℕ → ℕ → List ℕ → Body
+  -- an ICMP message of this type and code, with this rest of the header and these data
+  Message : ℕ → ℕ → List ℕ → List ℕ → Body
+  -- an ICMP message, octet by octet
+  Whole : List ℕ → Body
+
+-- a packet that is to be originated, from the address of the interface by which it leaves unless it says another
+pub record Outgoing : Type 0 where
+  pub source : Option ℕ
+  pub destination : ℕ
+  pub time_to_live : ℕ
+  pub body : Body
+
+abbrev pub protocol_of : Body → ℕ
+protocol_of (Datagram source_port destination_port payload) = 17
+protocol_of (Message message_type code rest payload) = 1
+protocol_of (Whole octets) = 1
+
+-- the octets of the payload in a packet between these addresses
+abbrev pub body_octets : ℕ → ℕ → Body → List ℕ
+body_octets source destination (Datagram source_port destination_port payload) =
+    datagram_octets source destination (udp_header source_port destination_port (length payload)) payload
+body_octets source destination (Message message_type code rest payload) =
+    message_octets (icmp_header message_type code rest) payload
+body_octets source destination (Whole octets) = octets
+
+-- the header of a packet of this identification from this address: no options, type of service 0, no flags
+abbrev pub originated_header : ℕ → Outgoing → ℕ → Ipv4Header
+originated_header identification out source = record {
+  type_of_service = 0;
+  identification = identification;
+  time_to_live = out.time_to_live;
+  protocol = protocol_of out.body;
+  source = source;
+  destination = out.destination;
+}
+
+-- the octets of a packet with this header
+abbrev pub written : Ipv4Header → Body → List ℕ
+written h body = packet_octets (plain_header h (length (body_octets h.source h.destination body))) (body_octets h.source h.destination body)
+
+-- the greatest payload that fits a packet
+abbrev pub FitsPacket : Body → Type 0
+FitsPacket (Datagram source_port destination_port payload) = length payload ≤ 65507
+FitsPacket (Message message_type code rest payload) = length payload ≤ 65507
+FitsPacket (Whole octets) = length octets ≤ 65515
+
+-- the address of an interface
+abbrev pub iface_address : List IfaceValue → ℕ → ℕ
+iface_address ifaces via = option_map_or (λ i. i.address) (slice_get ifaces via) 0
+
+abbrev pub originate_by : List IfaceValue → ℕ → Outgoing → Option ℕ → Consequence
+originate_by ifaces identification out None = Counts NoRoute
+originate_by ifaces identification out (Some via) = Originates via
+    (written (originated_header identification out (unwrap_or out.source (iface_address ifaces via))) out.body)
+
+-- originate a packet: never to an address of the node itself, and only where a route leads
+unfoldable pub originate : List IfaceValue → NodeTable → ℕ → Outgoing → Consequence
+originate ifaces table identification out = if is_own table out.destination then Counts ToSelf
+    else originate_by ifaces identification out (route_of table.routes out.destination)
+
+-- the types of ICMP messages about which no error is sent: destination unreachable, source quench, redirect, time
+-- exceeded, parameter problem (RFC 792; RFC 1812, section 4.3.2.7); and what has no type
+abbrev pub is_error_message : List ℕ → Bool
+is_error_message [] = true
+is_error_message (t ∷ rest) = (t == 3) || (t == 4) || (t == 5) || (t == 11) || (t == 12)
+
+-- whether no error is sent about the packet
+abbrev pub is_quiet : List ℕ → Bool
+is_quiet p = not ((fields_of p).fragment_offset == 0) || is_offending (fields_of p).source
+    || (((fields_of p).protocol == 1) && is_error_message (payload_of p))
+
+-- the error of this type and code about the packet (RFC 792)
+abbrev pub error_about : List ℕ → ℕ → ℕ → Outgoing
+error_about p message_type code = record {
+  source = None;
+  destination = (fields_of p).source;
+  time_to_live = 64;
+  body = Message message_type code (0 ∷ 0 ∷ 0 ∷ 0 ∷ []) (quote_of p);
+}
+
+unfoldable pub error_of : List IfaceValue → NodeTable → ℕ → List ℕ → ℕ → ℕ → Consequence
+error_of ifaces table identification p message_type code = if is_quiet p then Counts Quiet
+    else originate ifaces table identification (error_about p message_type code)
+
+-- the reply to an echo request: from where it was sent to, with its identifier, sequence number and data (RFC 792)
+abbrev pub reply_to : Header → List ℕ → Outgoing
+reply_to h request = record {
+  source = Some h.destination;
+  destination = h.source;
+  time_to_live = 64;
+  body = Message 0 0 (icmp_fields_of request).rest (icmp_data_of request);
+}
+
+unfoldable pub reply_of : List IfaceValue → NodeTable → ℕ → Header → List ℕ → Consequence
+reply_of ifaces table identification h request = if is_offending h.source then Counts Quiet
+    else originate ifaces table identification (reply_to h request)
+
+-- the state after, and what is sent by which interface
+abbrev pub concluded : Consequence → NodeStateValue → NodeStateValue × Option (ℕ × List ℕ)
+concluded Nothing n = (n, None)
+concluded (Counts c) n = (counted c n, None)
+concluded (Sends via x) n = (n, Some (via, x))
+concluded (Originates via x) n = (after_originating n, Some (via, x))

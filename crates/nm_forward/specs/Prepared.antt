@@ -1,0 +1,21 @@
+-- What the program prepares, in the words of the definitions.
+use Rattle.nm_forward.specs.declared.prepared.Prepared.{Prepared}
+use Rattle.nm_forward.specs.declared.prepared.Prepared.TheVariants as prepared
+use Rattle.nm_forward.specs.declared.prepared.Body as program
+use Rattle.nm_forward.specs.declared.prepared.Body.TheVariants as body
+use Rattle.nm_forward.specs.declared.prepared.Outgoing as program_out
+use Rattle.nm_forward.specs.Originate.{Consequence, Nothing, Counts, Sends, Originates, Body, Datagram, Message, Whole, Outgoing}
+
+abbrev pub consequence : Prepared → Consequence
+consequence prepared.Nothing = Nothing
+consequence (prepared.Counts c) = Counts c
+consequence (prepared.Sends via twin) = Sends via twin.packet
+consequence (prepared.Originates via twin) = Originates via twin.packet
+
+abbrev pub body_of : program.Body → Body
+body_of (body.Datagram source_port destination_port payload) = Datagram source_port destination_port payload.now
+body_of (body.Message message_type code rest payload) = Message message_type code rest payload.now
+body_of (body.Whole octets) = Whole octets.now
+
+abbrev pub outgoing_of : program_out.Outgoing → Outgoing
+outgoing_of out = record { source = out.source; destination = out.destination; time_to_live = out.time_to_live; body = body_of out.body }

@@ -1,0 +1,46 @@
+-- The route to an address (RFC 1812, section 5.2.4.3).
+use Rattle.std.specs.Prelude.{◌≡◌, ℕ, zero, suc, ◌+◌, ◌-◌, ◌*◌, ◌/◌, ◌^◌, ◌<◌, ◌≤◌, Bool, false, ◌&&◌, ◌==◌, nat_eq, List, find, slice_index_or, Option, None}
+use Rattle.std.specs.Option.{option_map, option_or}
+use Rattle.std.specs.HashMap.{get, HashMap}
+use Rattle.std.specs.declared.hash.FoldHasher.{FoldHasher}
+use Rattle.std.specs.declared.hash.BuildHasherDefault.{BuildHasherDefault}
+use Rattle.nm_topology.specs.declared.parts.Route.{Route}
+
+-- the first n bits of an address
+abbrev pub network : ℕ → ℕ → ℕ
+network n address = address / 2 ^ (32 - n)
+
+-- whether the route's prefix has exactly n bits and holds the address (RFC 4632, section 3.1)
+abbrev pub leads : ℕ → ℕ → Route → Bool
+leads n address r = (r.to.length == n) && (network n r.to.address == network n address)
+
+-- the route's prefix holds the address: they agree in the first bits, as many as the prefix has
+abbrev pub Holds : ℕ → Route → Type 0
+Holds address r = (r.to.length ≤ 32) × (network r.to.length r.to.address ≡ network r.to.length address)
+
+-- of the routes whose prefix has fewer than n bits and holds the address, the one with the longest
+unfoldable pub longest_below : ℕ → List Route → ℕ → Option Route
+longest_below zero routes address = None
+longest_below (suc n) routes address = option_or (find (leads n address) routes) (longest_below n routes address)
+
+-- the route with the longest prefix that holds the address
+abbrev pub longest_route : List Route → ℕ → Option Route
+longest_route routes address = longest_below 33 routes address
+
+-- the interface to which that route leads
+abbrev pub route_of : List Route → ℕ → Option ℕ
+route_of routes address = option_map (λ r. r.via) (longest_route routes address)
+
+-- the key of the prefix that has n bits and holds the address
+abbrev pub prefix_key : ℕ → ℕ → ℕ
+prefix_key n address = n * 2 ^ 32 + network n address
+
+-- where a prefix leads, by its key
+abbrev pub Vias : Type 0
+Vias = HashMap ℕ ℕ (BuildHasherDefault FoldHasher)
+
+-- how routes are laid out: whether a prefix has so many bits, and where the first route to a prefix leads
+pub record IsLaidOut (routes : List Route) (occurs : List Bool) (vias : Vias) : Type 0 where
+  pub lengths : (n address : ℕ) → n < 33 → slice_index_or occurs n false ≡ false → find (leads n address) routes ≡ None
+  pub leading : (n address : ℕ) → n < 33 → address < 2 ^ 32
+      → get nat_eq vias (prefix_key n address) ≡ option_map (λ r. r.via) (find (leads n address) routes)

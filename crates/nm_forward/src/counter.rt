@@ -1,0 +1,110 @@
+//! The names of what a node counts.
+
+ghost use Rattle.std.specs.Prelude.{◌≡◌, ◌<◌};
+ghost use Rattle.nm_forward.specs.Counter.{counter_name, counter_number};
+
+/// What a node counts. Each arrival raises the counter of the row that fits it, and what follows may raise another.
+#[derive(Clone, Copy, Debug, PartialEq, Eq)]
+pub enum Counter {
+    /// The header test failed (RFC 791, section 3.1).
+    Header,
+    /// The destination was an offending address.
+    BadDest,
+    /// A host got a packet for another.
+    NotMine,
+    /// A router had no route to the destination (RFC 1812, section 5.2.7.1).
+    NoNet,
+    /// A router got a packet whose time to live was over (RFC 1812, section 5.3.1).
+    Ttl,
+    /// A router sent a packet on.
+    Forwarded,
+    /// A fragment came for this node.
+    Fragment,
+    /// The ICMP test failed (RFC 792).
+    IcmpBad,
+    /// An echo request came for this node.
+    Echo,
+    /// Another ICMP message came for this node.
+    Icmp,
+    /// The UDP test failed (RFC 768).
+    UdpBad,
+    /// A datagram came to a port at which something listens.
+    Udp,
+    /// A datagram came to another port.
+    Port,
+    /// A packet of an unknown protocol came for this node.
+    Proto,
+    /// An error or an echo reply was withheld.
+    Quiet,
+    /// A packet was to be originated to an address of the node itself.
+    ToSelf,
+    /// A packet was to be originated to where no route leads.
+    NoRoute,
+    /// A packet was originated.
+    Originated,
+    /// A source's octets were handed to an interface as they are.
+    Raw,
+}
+
+/// How many counters a node has.
+pub const COUNTERS: usize = 19;
+
+impl Counter {
+    /// All counters, in the order of their numbers.
+    pub const ALL: [Counter; COUNTERS] = [
+        Counter::Header,
+        Counter::BadDest,
+        Counter::NotMine,
+        Counter::NoNet,
+        Counter::Ttl,
+        Counter::Forwarded,
+        Counter::Fragment,
+        Counter::IcmpBad,
+        Counter::Echo,
+        Counter::Icmp,
+        Counter::UdpBad,
+        Counter::Udp,
+        Counter::Port,
+        Counter::Proto,
+        Counter::Quiet,
+        Counter::ToSelf,
+        Counter::NoRoute,
+        Counter::Originated,
+        Counter::Raw,
+    ];
+
+    /// The place of the counter among all of them.
+    pub fn index(self) -> usize
+        ensures value { result ≡ counter_number self }
+        ensures below { result < 19 }
+    {
+        self as usize
+    }
+
+    /// The name by which the counter is printed, in lower case.
+    pub fn name(self) -> &'static str
+        ensures { result.now ≡ counter_name self }
+    {
+        match self {
+            Counter::Header => "header",
+            Counter::BadDest => "baddest",
+            Counter::NotMine => "notmine",
+            Counter::NoNet => "nonet",
+            Counter::Ttl => "ttl",
+            Counter::Forwarded => "forwarded",
+            Counter::Fragment => "fragment",
+            Counter::IcmpBad => "icmpbad",
+            Counter::Echo => "echo",
+            Counter::Icmp => "icmp",
+            Counter::UdpBad => "udpbad",
+            Counter::Udp => "udp",
+            Counter::Port => "port",
+            Counter::Proto => "proto",
+            Counter::Quiet => "quiet",
+            Counter::ToSelf => "self",
+            Counter::NoRoute => "noroute",
+            Counter::Originated => "originated",
+            Counter::Raw => "raw",
+        }
+    }
+}

@@ -1,0 +1,31 @@
+//! Laws of the definitions: each function does nothing, and its contract is the law.
+
+ghost use Rattle.std.specs.Prelude.{◌≡◌, ℕ, ◌≤◌, All, Contains, List, None, Some, length};
+ghost use Rattle.nm_base.specs.declared.event.Origin.{Origin};
+ghost use Rattle.nm_topology.specs.declared.parts.Route.{Route};
+ghost use Rattle.nm_forward.specs.Routes.{Holds, longest_route};
+ghost use Rattle.nm_forward.specs.State.{IsIfaceOf, NodeStateValue};
+ghost use Rattle.nm_forward.specs.Reaction.{reaction};
+
+use nm_topology::Topology;
+use nm_topology::topology::accepted_topologies_are_in_order;
+
+/// The route to an address is one of the routes, and its prefix holds the address and is the longest that does. There is
+/// one where any prefix holds the address.
+pub fn routes_are_longest()
+    ensures found { (routes : List Route) (address : ℕ) (r : Route) → longest_route routes address ≡ Some r
+        → Contains routes r × Holds address r }
+    ensures longest { (routes : List Route) (address : ℕ) (r : Route) → longest_route routes address ≡ Some r
+        → All (λ q. Holds address q → q.to.length ≤ r.to.length) routes }
+    ensures none { (routes : List Route) (address : ℕ) → longest_route routes address ≡ None
+        → All (λ q. Holds address q → ⊥) routes }
+{}
+
+/// Whatever comes to a node, in whatever state, it sends by an interface of its own, and a node that isn't there sends
+/// nothing.
+pub fn a_node_sends_by_its_own_interfaces(topology: &Topology)
+    ensures { (v : ℕ) (n : NodeStateValue) (o : Origin) (x : List ℕ) (s : ℕ × List ℕ)
+        → (reaction topology.now v n o x).1 ≡ Some s → IsIfaceOf topology.now.ifaces v s.0 }
+{
+    accepted_topologies_are_in_order(topology);
+}

@@ -1,0 +1,159 @@
+//! What a node sends of its own accord: packets of its sources, errors and echo replies.
+
+ghost use Rattle.std.specs.Prelude.{◌≡◌, ◌≤◌, IfOk, length};
+ghost use Rattle.nm_packet.specs.Ipv4.{fields_of};
+ghost use Rattle.nm_forward.specs.State.{table_of};
+ghost use Rattle.nm_forward.specs.Originate.{FitsPacket, error_of, is_error_message, is_quiet, originate, protocol_of, reply_of, written};
+ghost use Rattle.nm_forward.specs.Prepared.{body_of, consequence, outgoing_of};
+
+use crate::counter::Counter;
+use crate::prepared::{Body, Outgoing, Prepared};
+use crate::state::NodeState;
+use nm_base::{Packet, Twin};
+use nm_packet::{Icmp, IcmpView, Ipv4Header, Ipv4View, Udp, icmp, quote, write_ipv4};
+use nm_topology::Topology;
+use nm_topology::topology::accepted_topologies_are_in_order;
+use std::alloc::{AllocError, Global};
+
+/// The time to live of errors and replies.
+const TIME_TO_LIVE: u8 = 64;
+
+/// The packet with this header and this payload, in one buffer.
+fn write(alloc: Global, header: &Ipv4Header, body: &Body<'_>) -> Result<Packet, AllocError>
+    requires { FitsPacket (body_of body.now) }
+    ensures { IfOk result (λ p. p ≡ written header.now (body_of body.now)) }
+{
+    match *body {
+        Body::Datagram {
+            source_port,
+            destination_port,
+            data,
+        } => Udp::write_packet(alloc, header, source_port, destination_port, data),
+        Body::Message {
+            message_type,
+            code,
+            rest,
+            data,
+        } => Icmp::write_packet(alloc, header, message_type, code, rest, data),
+        Body::Whole(octets) => write_ipv4(alloc, header, octets),
+    }
+}
+
+/// Prepares to originate a packet: not to an address of the node itself, and only where a route leads. It leaves by the
+/// route's interface.
+#[tactic(auto, unfolding(crate::specs::Originate::originate))]
+pub fn originate(
+    alloc: Global,
+    topology: &Topology,
+    state: &NodeState,
+    outgoing: &Outgoing<'_>,
+) -> Result<Prepared, AllocError>
+    requires table { state.now.table ≡ table_of topology.now state.now.table.node }
+    requires fits { FitsPacket (body_of outgoing.now.body) }
+    ensures { IfOk result (λ p. consequence p ≡ originate topology.now.ifaces state.now.table state.now.identification
+        (outgoing_of outgoing.now)) }
+{
+    if state.is_own(outgoing.destination) {
+        return Ok(Prepared::Counts(Counter::ToSelf));
+    }
+    let Some(via) = state.look(outgoing.destination) else {
+        return Ok(Prepared::Counts(Counter::NoRoute));
+    };
+    // The interface of a route is there.
+    accepted_topologies_are_in_order(topology);
+    let address = topology.iface(via).address();
+    let header = Ipv4Header {
+        type_of_service: 0,
+        identification: state.identification(),
+        time_to_live: outgoing.time_to_live,
+        protocol: outgoing.body.protocol(),
+        source: outgoing.source.unwrap_or(address),
+        destination: outgoing.destination,
+    };
+    let packet = write(alloc, &header, &outgoing.body)?;
+    Ok(Prepared::Originates(via, Twin::new(packet)?))
+}
+
+/// Whether an ICMP payload is a message about which no error is sent: destination unreachable, source quench, redirect,
+/// time exceeded or parameter problem (RFC 792), or nothing. Its checksum is not tested.
+fn is_error_message(payload: &[u8]) -> bool
+    ensures { result ≡ is_error_message payload.now }
+{
+    match payload {
+        [] => true,
+        [message_type, ..] => matches!(*message_type, 3 | 4 | 5 | 11 | 12),
+    }
+}
+
+/// Whether no error is sent about the packet (RFC 1812, section 4.3.2.7): it is a later fragment, it comes from an
+/// offending address, or it is an error itself.
+fn is_quiet(packet: &Ipv4View<'_>) -> bool
+    ensures { result ≡ is_quiet packet.now }
+{
+    packet.fragment_offset() != 0
+        || packet.source().is_offending()
+        || (packet.protocol() == icmp::PROTOCOL && is_error_message(packet.payload()))
+}
+
+/// Prepares the ICMP error of this type and code about the packet (RFC 792), or to stay quiet.
+#[tactic(auto, unfolding(crate::specs::Originate::error_of))]
+pub fn error(
+    alloc: Global,
+    topology: &Topology,
+    state: &NodeState,
+    packet: &Ipv4View<'_>,
+    message_type: u8,
+    code: u8,
+) -> Result<Prepared, AllocError>
+    requires { state.now.table ≡ table_of topology.now state.now.table.node }
+    ensures { IfOk result (λ p. consequence p ≡ error_of topology.now.ifaces state.now.table state.now.identification
+        packet.now message_type code) }
+{
+    if is_quiet(packet) {
+        return Ok(Prepared::Counts(Counter::Quiet));
+    }
+    let quoted = quote(alloc, packet)?;
+    let error = Outgoing {
+        source: None,
+        destination: packet.source(),
+        time_to_live: TIME_TO_LIVE,
+        body: Body::Message {
+            message_type,
+            code,
+            rest: [0; 4],
+            data: &quoted,
+        },
+    };
+    originate(alloc, topology, state, &error)
+}
+
+/// Prepares the reply to an echo request (RFC 792), or to stay quiet.
+#[tactic(auto, unfolding(crate::specs::Originate::reply_of))]
+pub fn reply(
+    alloc: Global,
+    topology: &Topology,
+    state: &NodeState,
+    packet: &Ipv4View<'_>,
+    request: &IcmpView<'_>,
+) -> Result<Prepared, AllocError>
+    requires table { state.now.table ≡ table_of topology.now state.now.table.node }
+    requires fits { length request.now ≤ 65515 }
+    ensures { IfOk result (λ p. consequence p ≡ reply_of topology.now.ifaces state.now.table state.now.identification
+        (fields_of packet.now) request.now) }
+{
+    if packet.source().is_offending() {
+        return Ok(Prepared::Counts(Counter::Quiet));
+    }
+    let reply = Outgoing {
+        source: Some(packet.destination()),
+        destination: packet.source(),
+        time_to_live: TIME_TO_LIVE,
+        body: Body::Message {
+            message_type: 0,
+            code: 0,
+            rest: request.rest(),
+            data: request.data(),
+        },
+    };
+    originate(alloc, topology, state, &reply)
+}

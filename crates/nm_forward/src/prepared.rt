@@ -1,0 +1,63 @@
+//! What is to be sent, and what a node is about to do.
+
+ghost use Rattle.std.specs.Prelude.{◌≡◌};
+ghost use Rattle.nm_forward.specs.Prepared.{body_of};
+ghost use Rattle.nm_forward.specs.Originate.{protocol_of};
+
+use crate::counter::Counter;
+use nm_base::{IfaceNo, Twin};
+use nm_packet::{Address, icmp, udp};
+
+/// What follows the counter of a row, with its memory taken.
+#[derive(Debug, Drop)]
+pub enum Prepared {
+    Nothing,
+    /// A further counter rises.
+    Counts(Counter),
+    /// A packet is sent on by this interface.
+    Sends(IfaceNo, Twin),
+    /// A packet is originated, and leaves by this interface.
+    Originates(IfaceNo, Twin),
+}
+
+/// The payload of a packet that is to be originated.
+#[derive(Clone, Copy, Debug)]
+pub enum Body<'a> {
+    /// A UDP datagram.
+    Datagram {
+        source_port: u16,
+        destination_port: u16,
+        data: &'a [u8],
+    },
+    /// An ICMP message of these parts.
+    Message {
+        message_type: u8,
+        code: u8,
+        rest: [u8; 4],
+        data: &'a [u8],
+    },
+    /// An ICMP message, octet by octet.
+    Whole(&'a [u8]),
+}
+
+impl Body<'_> {
+    /// The number of its protocol in an IPv4 header.
+    pub fn protocol(&self) -> u8
+        ensures { result ≡ protocol_of (body_of self.now) }
+    {
+        match self {
+            Body::Datagram { .. } => udp::PROTOCOL,
+            Body::Message { .. } | Body::Whole(_) => icmp::PROTOCOL,
+        }
+    }
+}
+
+/// A packet that is to be originated.
+#[derive(Clone, Copy, Debug)]
+pub struct Outgoing<'a> {
+    /// The address that it comes from, if not that of the interface by which it leaves.
+    pub source: Option<Address>,
+    pub destination: Address,
+    pub time_to_live: u8,
+    pub body: Body<'a>,
+}

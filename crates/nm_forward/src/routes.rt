@@ -1,0 +1,104 @@
+//! The routes of a node.
+
+ghost use Rattle.std.specs.Prelude.{◌≡◌, ◌≤◌, ◌<◌, ◌^◌, ◌++◌, ◌∷◌, [], List, length, OnOk, IfOk};
+ghost use Rattle.nm_topology.specs.declared.parts.Route.{Route};
+ghost use Rattle.nm_forward.specs.Routes.{IsLaidOut, prefix_key, route_of};
+
+use nm_base::IfaceNo;
+use nm_packet::Address;
+use nm_topology::parts::Route;
+use std::alloc::{AllocError, Global};
+use std::collections::HashMap;
+use std::marker::Model;
+
+/// How many lengths a prefix may have: 0 to 32 bits.
+const LENGTHS: usize = 33;
+
+/// The routes of a node, laid out so that a look-up goes over lengths of prefixes and not over routes. A clause sees the
+/// list of routes.
+#[derive(Drop)]
+pub struct Routes {
+    /// In the order in which they were given.
+    routes: Vec<Route>,
+    /// Whether a prefix has so many bits.
+    occurs: [bool; LENGTHS],
+    /// Where the first route to a prefix leads, by the prefix's key.
+    vias: HashMap<u64, IfaceNo>,
+}
+
+impl Model for Routes {
+    ghost use Rattle.std.specs.Prelude.{List};
+    ghost use Rattle.nm_topology.specs.declared.parts.Route.{Route};
+    ghost use Rattle.nm_forward.specs.Routes.{IsLaidOut};
+
+    ghost Value = { List Route };
+
+    ghost view = { λ t. t.routes.items };
+
+    ghost invariant = { λ t. IsLaidOut t.routes.items t.occurs t.vias };
+}
+
+/// The key of the prefix that has so many bits and holds the address: both numbers, one above the other.
+fn prefix_key(length: u8, address: Address) -> u64
+    requires { length ≤ 32 }
+    ensures value { result ≡ prefix_key length address }
+    ensures fits { address < 2 ^ 32 }
+{
+    let network = u64::from(address.bits()) >> (32 - length);
+    (u64::from(length) << 32) + network
+}
+
+/// Lays out one more route.
+fn lay_out(
+    occurs: &mut [bool],
+    vias: &mut HashMap<u64, IfaceNo>,
+    route: &Route,
+) -> Result<(), AllocError>
+    requires { length occurs.old ≡ 33 }
+    ensures { (routes : List Route) → IsLaidOut routes occurs.old vias.old
+        → OnOk result (IsLaidOut (routes ++ route.now ∷ []) occurs.new vias.new) }
+{
+    let length = route.to.length;
+    if usize::from(length) >= LENGTHS {
+        return Ok(());
+    }
+    occurs[usize::from(length)] = true;
+    let key = prefix_key(length, route.to.address);
+    if !vias.contains_key(&key) {
+        vias.insert(key, route.via)?;
+    }
+    Ok(())
+}
+
+impl Routes {
+    /// Lays out these routes. Of two routes with one prefix the first counts.
+    pub fn new(alloc: Global, routes: &[Route]) -> Result<Self, AllocError>
+        ensures { IfOk result (λ t. t ≡ routes.now) }
+    {
+        let mut occurs = [false; LENGTHS];
+        let mut vias = HashMap::new(alloc);
+        for route in routes {
+            lay_out(&mut occurs, &mut vias, route)?;
+        }
+        Ok(Routes {
+            routes: Vec::from_slice(alloc, routes)?,
+            occurs,
+            vias,
+        })
+    }
+
+    /// The interface to which the route leads whose prefix is the longest that holds the address (RFC 1812, section
+    /// 5.2.4.3). It takes no memory.
+    pub fn look(&self, address: Address) -> Option<IfaceNo>
+        ensures { result ≡ route_of self.now address }
+    {
+        for length in (0..LENGTHS as u8).rev() {
+            if self.occurs[usize::from(length)] {
+                if let Some(via) = self.vias.get(&prefix_key(length, address)) {
+                    return Some(*via);
+                }
+            }
+        }
+        None
+    }
+}
