@@ -34,6 +34,18 @@ pub enum Offered {
     Dropped(Twin),
 }
 
+impl Offered {
+    /// The transmission that starts, if one does.
+    pub fn started(self) -> Option<Start>
+        ensures { result ≡ start_in self }
+    {
+        match self {
+            Offered::Started(start) => Some(start),
+            Offered::Queued | Offered::Dropped(_) => None,
+        }
+    }
+}
+
 /// A port transmits one packet at a time. Further ones wait in the order in which they came, up to a limit, and those past
 /// the limit are dropped and counted (drop-tail).
 #[derive(Drop)]
@@ -140,6 +152,7 @@ impl Port {
             (completed (takes self.old.rate) now self.old.dropped self.old.busy).0 self.new.room }
         ensures packet { packet_started result ≡ (completed (takes self.old.rate) now self.old.dropped self.old.busy).1 }
         ensures start { IfSome result (λ s. IsStart self.old.rate self.old.delay now s.twin.packet s) }
+        ensures room { self.old.room ≤ self.new.room }
     {
         match self.waiting.pop_front() {
             Some(twin) => {
