@@ -1,0 +1,89 @@
+-- A transmission starts: its events, and the counts of what was put on the interfaces.
+use Rattle.std.proofs.Common.{◌≡◌, ◌≢◌, ℕ, suc, ◌+◌, ◌<◌, ◌==◌, Bool, true, false, true≢false, cond, List, [], ◌∷◌, ◌++◌, length, Option, Some, None, slice_get, slice_index, slice_set, refl, sym, ap, ◌∙◌, subst, arith, ⊎_elim, length-append, length-set, get_or-set_same, get_or-set_other}
+use Rattle.std.proofs.lemmas.Bool.Decides.{nat_tests}
+use Rattle.std.specs.FinMap.{FinMap, get, insert}
+use Rattle.nm_base.specs.declared.event.Event.{Event}
+use Rattle.nm_base.specs.declared.event.Event.TheVariants.{Delivery, Completion}
+use Rattle.nm_base.specs.declared.key.Key.{Key}
+use Rattle.nm_base.specs.declared.key.Place.TheVariants.{Arrive, Complete}
+use Rattle.nm_base.specs.Key.{key_of, key_cmp}
+use Rattle.nm_topology.specs.Networks.{IfaceValue}
+use Rattle.nm_topology.specs.Wholes.{NetworkValue}
+use Rattle.nm_model.specs.EventList.{schedule}
+use Rattle.nm_model.specs.Lists.{set_at}
+use Rattle.nm_model.specs.Run.{start_events, sent_after}
+use Rattle.nm_iface.specs.declared.port.Start.{Start}
+use Rattle.nm_sim.specs.Network.{net_of, far_from}
+use Rattle.nm_sim.specs.Effects.{StartsAt}
+use Rattle.nm_sim.specs.Timelines.{AreFresh, TimelineValue, Told, everywhere}
+use Rattle.nm_sim.proofs.Stands.{set_here, set_there}
+
+pub peer_is : (t : NetworkValue) (i : ℕ) (x : IfaceValue) → slice_get t.ifaces i ≡ Some x → (net_of t).peer i ≡ x.far.peer
+unfolding net_of
+peer_is t i x e = ap (λ o. (far_from i o).peer) e
+
+module _ {L : Type 0} (t : NetworkValue) (line : TimelineValue L) (time : ℕ) (sent : ℕ → List (ℕ × List ℕ)) (told : Told t line sent) (i : ℕ) (st : Start) (begins : StartsAt t time (i, st))
+    (p : ℕ) (peer : (net_of t).peer i ≡ p) (there : p < length t.ifaces) where
+  number_is : slice_index line.sent p ≡ length (sent ((net_of t).peer i))
+  number_is = told.numbers p there ∙ ap (λ c. length (sent c)) (sym peer)
+
+  completes_is : st.completes ≡ time + (net_of t).tx i st.twin.packet
+  unfolding net_of
+  completes_is = begins.1.completes
+
+  arrives_is : st.arrives ≡ time + (net_of t).tx i st.twin.packet + (net_of t).delay i
+  unfolding net_of
+  arrives_is = begins.1.arrives
+
+  arrival_key : key_of st.arrives (Arrive p) (slice_index line.sent p)
+      ≡ key_of (time + (net_of t).tx i st.twin.packet + (net_of t).delay i) (Arrive ((net_of t).peer i)) (length (sent ((net_of t).peer i)))
+  arrival_key = λ k. key_of (arrives_is k) (Arrive (sym peer k)) (number_is k)
+
+  completion_key : key_of st.completes (Complete i) (slice_index line.sent p)
+      ≡ key_of (time + (net_of t).tx i st.twin.packet) (Complete i) (length (sent ((net_of t).peer i)))
+  completion_key = λ k. key_of (completes_is k) (Complete i) (number_is k)
+
+  pub arrival_fresh : (pending : FinMap key_cmp (Event (List ℕ))) → AreFresh pending (start_events (net_of t) time sent (Some (i, st.twin.packet)))
+      → get pending (key_of st.arrives (Arrive p) (slice_index line.sent p)) ≡ None
+  arrival_fresh pending h = ap (get pending) arrival_key ∙ h 1 _ refl
+
+  pub completion_fresh : (pending : FinMap key_cmp (Event (List ℕ))) → AreFresh pending (start_events (net_of t) time sent (Some (i, st.twin.packet)))
+      → get pending (key_of st.completes (Complete i) (slice_index line.sent p)) ≡ None
+  completion_fresh pending h = ap (get pending) completion_key ∙ h 0 _ refl
+
+  pub begun_events : (pending after : FinMap key_cmp (Event (List ℕ)))
+      → after ≡ insert (insert pending (key_of st.arrives (Arrive p) (slice_index line.sent p)) (Delivery st.twin.packet)) (key_of st.completes (Complete i) (slice_index line.sent p)) Completion
+      → after ≡ schedule everywhere (start_events (net_of t) time sent (Some (i, st.twin.packet))) pending
+  begun_events pending after e = e ∙ λ k. insert (insert pending (arrival_key k) (Delivery st.twin.packet)) (completion_key k) Completion
+
+  pub begun_told : (after : TimelineValue L) → after.sent ≡ slice_set line.sent p (slice_index line.sent p + 1)
+      → Told t after (sent_after (net_of t) time sent (Some (i, st.twin.packet)))
+  begun_told after e = record {
+    count = ap length e ∙ length-set line.sent p (slice_index line.sent p + 1) ∙ told.count;
+    numbers = λ c h. ap (λ l. slice_index l c) e ∙ go c h (c == p) refl
+  }
+    where
+      message : ℕ × List ℕ
+      message = (time + (net_of t).tx i st.twin.packet + (net_of t).delay i, st.twin.packet)
+      go : (c : ℕ) → c < length t.ifaces → (b : Bool) → (c == p) ≡ b
+          → slice_index (slice_set line.sent p (slice_index line.sent p + 1)) c ≡ length (set_at sent ((net_of t).peer i) (sent ((net_of t).peer i) ++ message ∷ []) c)
+      go c h true q =
+          let e1 : c ≡ p = grind (arith, nat_tests, q) in
+          let put = sent ((net_of t).peer i) ++ message ∷ [] in
+          let within : p < length line.sent = omega (arith, there, told.count) in
+          ap (λ j. slice_index (slice_set line.sent p (slice_index line.sent p + 1)) j) e1
+          ∙ get_or-set_same line.sent p (slice_index line.sent p + 1) 0 within
+          ∙ ap (λ k. k + 1) number_is
+          ∙ sym (length-append (sent ((net_of t).peer i)) (message ∷ []))
+          ∙ ap length (sym (set_here sent ((net_of t).peer i) put))
+          ∙ ap (λ j. length (set_at sent ((net_of t).peer i) put j)) (peer ∙ sym e1)
+      go c h false q =
+          let e1 : c ≢ p = λ f. true≢false (sym (grind (arith, nat_tests, f)) ∙ q) in
+          get_or-set_other line.sent p c (slice_index line.sent p + 1) 0 e1 ∙ told.numbers c h
+          ∙ ap length (sym (set_there sent ((net_of t).peer i) (sent ((net_of t).peer i) ++ message ∷ []) c (λ f. e1 (f ∙ peer))))
+
+pub told_same : {L : Type 0} (t : NetworkValue) (a b : TimelineValue L) (sent : ℕ → List (ℕ × List ℕ)) → b.sent ≡ a.sent → Told t a sent → Told t b sent
+told_same t a b sent e h = record {
+  count = ap length e ∙ h.count;
+  numbers = λ c l. ap (λ z. slice_index z c) e ∙ h.numbers c l
+}

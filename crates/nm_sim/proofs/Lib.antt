@@ -1,0 +1,11 @@
+mod Beginnings
+mod Doings
+mod Networks
+mod Parts
+mod Pendings
+mod Reactings
+mod Schedules
+mod Sendings
+mod Stands
+mod Steps
+mod Tables

@@ -1,0 +1,121 @@
+-- What an event makes is new, and stands at places of the topology.
+use Rattle.std.proofs.Common.{◌≡◌, ◌≢◌, ◌⊎◌, inl, inr, ℕ, zero, suc, ◌+◌, ◌<◌, ◌≤◌, ◌==◌, Bool, true, false, cond, List, [], ◌∷◌, ◌++◌, length, Option, Some, None, slice_get, refl, sym, ap, ◌∙◌, subst, arith, ⊎_elim, length-append}
+use Rattle.std.proofs.lemmas.Bool.Decides.{nat_tests}
+use Rattle.std.specs.FinMap.{FinMap, get, insert, remove}
+use Rattle.std.specs.Option.{IfSome}
+use Rattle.nm_base.specs.declared.event.Event.{Event}
+use Rattle.nm_base.specs.declared.key.Key.{Key}
+use Rattle.nm_base.specs.declared.key.Place.{Place}
+use Rattle.nm_base.specs.declared.key.Place.TheVariants.{Arrive, Complete, Fire}
+use Rattle.nm_base.specs.Key.{key_of, key_cmp}
+use Rattle.nm_topology.specs.Networks.{IfaceValue}
+use Rattle.nm_topology.specs.Order.{IsInOrder}
+use Rattle.nm_topology.specs.Wholes.{NetworkValue}
+use Rattle.nm_model.specs.EventList.{schedule}
+use Rattle.nm_model.specs.Lists.{nth, set_at}
+use Rattle.nm_model.specs.Run.{next_events, sent_after, start_events}
+use Rattle.nm_sim.specs.Effects.{IsPlaceOf}
+use Rattle.nm_sim.specs.Network.{net_of}
+use Rattle.nm_sim.specs.Timelines.{AreFresh, everywhere}
+use Rattle.nm_sim.proofs.Beginnings.{peer_is}
+use Rattle.nm_sim.proofs.Networks.{mapped_at}
+use Rattle.nm_sim.proofs.Pendings.{get_insert_other, get_insert_same, get_remove_other, get_remove_same, same_or_apart}
+use Rattle.nm_sim.proofs.Stands.{set_here, set_there}
+use Rattle.std.proofs.lemmas.Option.{slice_get_cases}
+
+nth_after : {A : Type 0} (xs ys : List A) (m : ℕ) → nth (xs ++ ys) (length xs + m) ≡ nth ys m
+nth_after {A} [] ys m = let e : length {A = A} [] + m ≡ m = omega arith in ap (nth ys) e
+nth_after (x ∷ xs) ys m = let e : length (x ∷ xs) + m ≡ suc (length xs + m) = omega arith in ap (nth (x ∷ xs ++ ys)) e ∙ nth_after xs ys m
+
+same_some : {A : Type 0} (x y : A) → Some x ≡ Some y → x ≡ y
+same_some x y e = cc
+
+nth_before : {A : Type 0} (xs ys : List A) (m : ℕ) (x : A) → nth xs m ≡ Some x → (m < length xs) × (nth (xs ++ ys) m ≡ Some x)
+nth_before [] ys m x e = absurd cc
+nth_before (y ∷ xs) ys zero x e = (omega arith, e)
+nth_before (y ∷ xs) ys (suc m) x e = let h = nth_before xs ys m x e in (omega (arith, h.0), h.1)
+
+pub schedule_append : (xs ys : List (Key × Event (List ℕ))) (m : FinMap key_cmp (Event (List ℕ)))
+    → schedule everywhere (xs ++ ys) m ≡ schedule everywhere xs (schedule everywhere ys m)
+schedule_append [] ys m = refl
+schedule_append (x ∷ xs) ys m = ap (λ l. insert l x.0 x.1) (schedule_append xs ys m)
+
+-- events in two lists, of which the second is that of a source, are new one after another
+module _ (pending : FinMap key_cmp (Event (List ℕ))) (xs : List (Key × Event (List ℕ))) (place : Place) (number : ℕ) (follows : Option (ℕ × List ℕ))
+    (fresh : AreFresh pending (xs ++ next_events place number follows))
+    (apart : (m n : ℕ) (f g : Key × Event (List ℕ)) → m < n → nth (xs ++ next_events place number follows) m ≡ Some f
+        → nth (xs ++ next_events place number follows) n ≡ Some g → f.0 ≢ g.0) where
+  pub second_fresh : AreFresh pending (next_events place number follows)
+  second_fresh m f e = fresh (length xs + m) f (nth_after xs (next_events place number follows) m ∙ e)
+
+  pub first_fresh : AreFresh (schedule everywhere (next_events place number follows) pending) xs
+  first_fresh m f e =
+      let b = nth_before xs (next_events place number follows) m f e in
+      go follows refl (fresh m f b.1)
+          (λ g h. apart m (length xs + 0) f g (omega (arith, b.0)) b.1 (nth_after xs (next_events place number follows) 0 ∙ h))
+    where
+      go : (o : Option (ℕ × List ℕ)) → o ≡ follows → get pending f.0 ≡ None → ((g : Key × Event (List ℕ)) → nth (next_events place number o) 0 ≡ Some g → f.0 ≢ g.0)
+          → get (schedule everywhere (next_events place number o) pending) f.0 ≡ None
+      go None h n a = n
+      go (Some y) h n a = get_insert_other pending _ _ f.0 (a _ refl) ∙ n
+
+-- whatever is pending after events are put stands at one of the places
+module _ (P : Place → Type 0) where
+  pub placed_schedule : (es : List (Key × Event (List ℕ))) (m : FinMap key_cmp (Event (List ℕ)))
+      → ((i : ℕ) (f : Key × Event (List ℕ)) → nth es i ≡ Some f → P f.0.place)
+      → ((q : Key) (y : Event (List ℕ)) → get m q ≡ Some y → P q.place)
+      → (q : Key) (y : Event (List ℕ)) → get (schedule everywhere es m) q ≡ Some y → P q.place
+  placed_schedule [] m h k q y e = k q y e
+  placed_schedule (x ∷ es) m h k q y e = ⊎_elim
+      (λ same. subst (λ z. P z.place) (sym same) (h 0 x refl))
+      (λ other. placed_schedule es m (λ i f g. h (suc i) f g) k q y (sym (get_insert_other (schedule everywhere es m) x.0 x.1 q other) ∙ e))
+      (same_or_apart q x.0)
+
+  pub placed_remove : (m : FinMap key_cmp (Event (List ℕ))) (r : Key) → ((q : Key) (y : Event (List ℕ)) → get m q ≡ Some y → P q.place)
+      → (q : Key) (y : Event (List ℕ)) → get (remove m r) q ≡ Some y → P q.place
+  placed_remove m r k q y e = ⊎_elim
+      (λ same. absurd (let n = get_remove_same m r in let z : get (remove m r) r ≡ Some y = ap (get (remove m r)) (sym same) ∙ e in cc))
+      (λ other. k q y (sym (get_remove_other m r q other) ∙ e))
+      (same_or_apart q r)
+
+module _ (t : NetworkValue) (order : IsInOrder t.nodes t.ifaces t.links) where
+  peer_there : (i : ℕ) → i < length t.ifaces → (net_of t).peer i < length t.ifaces
+  peer_there i h = ⊎_elim
+      (λ g. subst (λ p. p < length t.ifaces) (sym (peer_is t i g.0 g.2)) (order.linked i g.0 g.2).within)
+      (λ g. absurd (omega (arith, g.0, h)))
+      ((slice_get_cases t.ifaces i).1)
+
+  pub placed_start : (time : ℕ) (sent : ℕ → List (ℕ × List ℕ)) (o : Option (ℕ × List ℕ)) → IfSome o (λ z. z.0 < length t.ifaces)
+      → (i : ℕ) (f : Key × Event (List ℕ)) → nth (start_events (net_of t) time sent o) i ≡ Some f → IsPlaceOf t f.0.place
+  placed_start time sent None h i f e = absurd cc
+  placed_start time sent (Some z) h zero f e = let s : Complete z.0 ≡ f.0.place = ap (λ (g : Key × Event (List ℕ)). g.0.place) (same_some _ f e) in subst (IsPlaceOf t) s h
+  placed_start time sent (Some z) h (suc zero) f e = let s : Arrive ((net_of t).peer z.0) ≡ f.0.place = ap (λ (g : Key × Event (List ℕ)). g.0.place) (same_some _ f e) in subst (IsPlaceOf t) s (peer_there z.0 h)
+  placed_start time sent (Some z) h (suc (suc i)) f e = absurd cc
+
+pub placed_next : (P : Place → Type 0) (place : Place) (number : ℕ) (o : Option (ℕ × List ℕ)) → P place
+    → (i : ℕ) (f : Key × Event (List ℕ)) → nth (next_events place number o) i ≡ Some f → P f.0.place
+placed_next P place number None h i f e = absurd cc
+placed_next P place number (Some z) h zero f e = let s : place ≡ f.0.place = ap (λ (g : Key × Event (List ℕ)). g.0.place) (same_some _ f e) in subst P s h
+placed_next P place number (Some z) h (suc i) f e = absurd cc
+
+-- one more packet at most is put on an interface
+pub one_more : (t : NetworkValue) (time n : ℕ) (sent : ℕ → List (ℕ × List ℕ)) (o : Option (ℕ × List ℕ)) → ((c : ℕ) → length (sent c) ≤ n)
+    → (c : ℕ) → length (sent_after (net_of t) time sent o c) ≤ n + 1
+one_more t time n sent None h c = let l = h c in omega arith
+one_more t time n sent (Some z) h c = ⊎_elim
+    (λ same. let l = h ((net_of t).peer z.0) in
+        let e = ap (λ j. length (set_at sent ((net_of t).peer z.0) put j)) same ∙ ap length (set_here sent ((net_of t).peer z.0) put) ∙ length-append (sent ((net_of t).peer z.0)) (message ∷ []) in
+        omega (arith, l, e))
+    (λ other. let l = h c in let e = ap length (set_there sent ((net_of t).peer z.0) put c other) in omega (arith, l, e))
+    (cases c ((net_of t).peer z.0))
+  where
+    message : ℕ × List ℕ
+    message = (time + (net_of t).tx z.0 z.1 + (net_of t).delay z.0, z.1)
+    put : List (ℕ × List ℕ)
+    put = sent ((net_of t).peer z.0) ++ message ∷ []
+    cases : (a b : ℕ) → (a ≡ b) ⊎ (a ≢ b)
+    cases a b = go (a == b) refl
+      where
+        go : (r : Bool) → (a == b) ≡ r → (a ≡ b) ⊎ (a ≢ b)
+        go true q = inl (grind (arith, nat_tests, q))
+        go false q = inr (λ f. absurd (grind (arith, nat_tests, q, f)))

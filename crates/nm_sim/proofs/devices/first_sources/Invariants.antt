@@ -1,0 +1,7 @@
+use Rattle.std.proofs.Common.{◌≡◌, Some, length}
+use Rattle.nm_traffic.specs.Source.{source_of}
+use Rattle.nm_sim.specs.Tables.{AllAt}
+use Rattle.nm_sim.proofs.devices.first_sources.Given as goal
+
+abbrev pub invariant-loop-number : goal.invariant-loop-number
+invariant-loop-number l = (length l.sources.items ≡ l.number) × AllAt (λ j s. source_of l.topology j ≡ Some s) l.sources.items

@@ -1,0 +1,81 @@
+-- What an event does at its node, and what it asks for.
+use Rattle.std.specs.Prelude.{◌≡◌, ℕ, ◌+◌, ◌<◌, ◌≤◌, ◌^◌, List, length, Option, Some, None, slice_get}
+use Rattle.std.specs.Option.{IsSome, IfSome}
+use Rattle.nm_base.specs.declared.key.Place.{Place}
+use Rattle.nm_base.specs.declared.key.Place.TheVariants.{Arrive, Complete, Fire}
+use Rattle.nm_base.specs.declared.key.Key.{Key}
+use Rattle.nm_base.specs.declared.event.Event.{Event}
+use Rattle.nm_base.specs.declared.event.Event.TheVariants.{Delivery, Completion}
+use Rattle.nm_base.specs.declared.event.Origin.{Origin}
+use Rattle.nm_base.specs.declared.event.Origin.TheVariants.{Source}
+use Rattle.nm_topology.specs.Wholes.{NetworkValue}
+use Rattle.nm_model.specs.Lists.{set_at}
+use Rattle.nm_model.specs.Network.{node_of}
+use Rattle.nm_model.specs.Port.{Port}
+use Rattle.nm_model.specs.Run.{Effect, effect, sent_on, turned}
+use Rattle.nm_forward.specs.State.{NodeStateValue}
+use Rattle.nm_forward.specs.Reaction.{FitsOrigin, reaction}
+use Rattle.nm_iface.specs.PortValue.{PortValue}
+use Rattle.nm_iface.specs.declared.port.Start.{Start}
+use Rattle.nm_iface.specs.Starts.{IsStart}
+use Rattle.nm_sim.specs.declared.effect.Effect.{Effect as Done}
+use Rattle.nm_sim.specs.Devices.{DevicesValue, Stand}
+use Rattle.nm_sim.specs.Network.{far_of, net_of}
+
+-- the place is one of the topology's
+abbrev pub IsPlaceOf : NetworkValue → Place → Type 0
+IsPlaceOf t (Arrive i) = i < length t.ifaces
+IsPlaceOf t (Complete i) = i < length t.ifaces
+IsPlaceOf t (Fire j) = j < length t.sources
+
+-- the interface transmits
+abbrev pub IsBusy : Option PortValue → Type 0
+IsBusy None = ⊥
+IsBusy (Some w) = IsSome w.busy
+
+-- an event that can happen now
+abbrev pub CanHappen : NetworkValue → DevicesValue → Place → ℕ → Event (List ℕ) → Type 0
+CanHappen t d (Arrive i) number (Delivery x) = i < length t.ifaces
+CanHappen t d (Complete i) number Completion = (i < length t.ifaces) × IsBusy (slice_get d.ports i)
+CanHappen t d (Fire j) number (Delivery x) = (j < length t.sources) × FitsOrigin t (Source j) x × (number < 2 ^ 63)
+CanHappen t d (Arrive i) number Completion = ⊥
+CanHappen t d (Complete i) number (Delivery x) = ⊥
+CanHappen t d (Fire j) number Completion = ⊥
+
+-- the packet whose transmission starts, and where
+abbrev pub start_of : Option (ℕ × Start) → Option (ℕ × List ℕ)
+start_of None = None
+start_of (Some s) = Some (s.0, s.1.twin.packet)
+
+-- a start, and where
+abbrev pub start_at : ℕ → Option Start → Option (ℕ × Start)
+start_at i None = None
+start_at i (Some s) = Some (i, s)
+
+-- the transmission that starts at this time, by an interface that is there
+abbrev pub StartsAt : NetworkValue → ℕ → ℕ × Start → Type 0
+StartsAt t time s = (s.0 < length t.ifaces) × IsStart (far_of t s.0).rate (far_of t s.0).delay time s.1.twin.packet s.1
+
+-- what was done is this effect
+pub record IsEffect (t : NetworkValue) (time : ℕ) (e : Done) (m : Effect (List ℕ) NodeStateValue) : Type 0 where
+  pub came : e.came ≡ m.came
+  pub start : start_of e.start ≡ m.start
+  pub begins : IfSome e.start (StartsAt t time)
+  pub follows : e.follows ≡ m.follows
+
+-- after an event of this key, done where nodes and ports had these states
+pub record Does (t : NetworkValue) (node : ℕ → NodeStateValue) (port : ℕ → Port (List ℕ)) (k : Key) (event : Event (List ℕ)) (d : DevicesValue) (e : Done) : Type 0 where
+  pub stand : let m : Effect (List ℕ) NodeStateValue = effect (net_of t) node port k.time k.place k.number event in
+      Stand t d (set_at node (node_of (net_of t) k.place) m.after) (turned port m.turn)
+  pub does : IsEffect t k.time e (effect (net_of t) node port k.time k.place k.number event)
+
+-- after a node has sent this, or nothing
+pub record Sends (t : NetworkValue) (node : ℕ → NodeStateValue) (port : ℕ → Port (List ℕ)) (time : ℕ) (sent : Option (ℕ × List ℕ)) (d : DevicesValue) (begun : Option (ℕ × Start)) : Type 0 where
+  pub stand : (n : NodeStateValue) (came follows : Option (ℕ × List ℕ)) → Stand t d node (turned port (sent_on (net_of t) port time came n sent follows).turn)
+  pub start : (n : NodeStateValue) (came follows : Option (ℕ × List ℕ)) → start_of begun ≡ (sent_on (net_of t) port time came n sent follows).start
+  pub begins : IfSome begun (StartsAt t time)
+
+-- after node v has reacted to a packet
+pub record Reacts (t : NetworkValue) (node : ℕ → NodeStateValue) (port : ℕ → Port (List ℕ)) (v : ℕ) (o : Origin) (x : List ℕ) (d : DevicesValue) (sent : Option (ℕ × List ℕ)) : Type 0 where
+  pub stand : Stand t d (set_at node v (reaction t v (node v) o x).0) port
+  pub sends : sent ≡ (reaction t v (node v) o x).1

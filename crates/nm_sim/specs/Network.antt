@@ -1,0 +1,51 @@
+-- The network of nm_model that an accepted topology describes.
+use Rattle.std.specs.Prelude.{ℕ, ◌==◌, List, map, length, max, Option, Some, None, slice_get, slice_index_or as get_or, slice_index}
+use Rattle.nm_base.specs.declared.event.Origin.{Origin}
+use Rattle.nm_model.specs.Network.{Net}
+use Rattle.nm_topology.specs.declared.parts.Far.{Far}
+use Rattle.nm_topology.specs.declared.traffic.Source.{Source}
+use Rattle.nm_topology.specs.Checks.{far_end}
+use Rattle.nm_topology.specs.Networks.{NodeValue, IfaceValue}
+use Rattle.nm_topology.specs.Order.{owners_of, parts_of}
+use Rattle.nm_topology.specs.Wholes.{NetworkValue}
+use Rattle.nm_forward.specs.State.{NodeStateValue, first_state}
+use Rattle.nm_forward.specs.Reaction.{reaction}
+use Rattle.nm_iface.specs.PortValue.{has_room, takes}
+use Rattle.nm_iface.specs.Transmission.{transmission_time}
+use Rattle.nm_traffic.specs.Source.{source_at}
+
+-- an interface that isn't there is linked to itself
+abbrev pub far_from : ℕ → Option IfaceValue → Far
+far_from i None = record { peer = i; rate = 1; delay = 0 }
+far_from i (Some x) = x.far
+
+abbrev pub far_of : NetworkValue → ℕ → Far
+far_of t i = far_from i (slice_get t.ifaces i)
+
+-- packets that may wait
+abbrev pub queue_from : Option IfaceValue → ℕ
+queue_from None = 0
+queue_from (Some x) = x.queue
+
+abbrev pub queue_of : NetworkValue → ℕ → ℕ
+queue_of t i = queue_from (slice_get t.ifaces i)
+
+-- Times are in nanoseconds. A node that isn't there is in no partition.
+unfoldable pub net_of : NetworkValue → Net (List ℕ) NodeStateValue
+net_of t = record {
+  stop = t.stop;
+  ifaces = length t.ifaces;
+  parts = t.partitions;
+  sources = length t.sources;
+  owner = λ i. slice_index (owners_of t.ifaces) i;
+  peer = λ i. (far_of t i).peer;
+  delay = λ i. (far_of t i).delay;
+  tx = λ i x. takes (far_of t i).rate x;
+  least_tx = λ i. transmission_time (far_of t i).rate 1;
+  room = λ i waiting x. has_room (queue_of t i) waiting x;
+  part = λ v. get_or (parts_of t.nodes) v t.partitions;
+  first = first_state t;
+  react = reaction t;
+  source_node = λ j. slice_index (map (λ s. s.node) t.sources) j;
+  source = source_at t;
+}

@@ -1,0 +1,40 @@
+-- What contracts see of a part of a simulation, and what it stands for.
+use Rattle.std.specs.Prelude.{◌≡◌, ℕ, ◌≤◌, Bool, true, false, List, length, Option, Some, None, Result, Ok, Err}
+use Rattle.std.specs.Option.{option_map}
+use Rattle.std.specs.FinMap.{FinMap, get}
+use Rattle.std.specs.declared.alloc.AllocError.{AllocError}
+use Rattle.nm_base.specs.declared.event.Event.{Event}
+use Rattle.nm_base.specs.declared.key.Key.{Key}
+use Rattle.nm_base.specs.Key.{key_cmp}
+use Rattle.nm_topology.specs.Wholes.{NetworkValue}
+use Rattle.nm_model.specs.EventList.{least}
+use Rattle.nm_model.specs.Orderly.{IsOrderly}
+use Rattle.nm_model.specs.Run.{State, pends_before, step}
+use Rattle.nm_forward.specs.State.{NodeStateValue}
+use Rattle.nm_sim.specs.Network.{net_of}
+use Rattle.nm_sim.specs.Devices.{DevicesValue, Stand}
+use Rattle.nm_sim.specs.Effects.{IsPlaceOf}
+use Rattle.nm_sim.specs.Timelines.{TimelineValue, Told, everywhere}
+
+pub record PartValue (L : Type 0) : Type 0 where
+  pub devices : DevicesValue
+  pub timeline : TimelineValue L
+  pub steps : ℕ
+
+-- the part, whose event list has these pending events, stands for this state of the network's run
+pub record Stands {L : Type 0} (pending : L → FinMap key_cmp (Event (List ℕ))) (t : NetworkValue) (p : PartValue L) (s : State (List ℕ) NodeStateValue) : Type 0 where
+  pub orderly : IsOrderly (net_of t) everywhere s
+  pub devices : Stand t p.devices s.node s.port
+  pub told : Told t p.timeline s.sent
+  pub few : (c : ℕ) → length (s.sent c) ≤ p.steps
+  pub events : pending p.timeline.events ≡ s.pending
+  pub placed : (q : Key) (y : Event (List ℕ)) → get s.pending q ≡ Some y → IsPlaceOf t q.place
+  pub records : p.timeline.records ≡ s.records
+
+-- what a step answers, and what the part stands for after it
+abbrev pub Stepped : {L : Type 0} → (L → FinMap key_cmp (Event (List ℕ))) → NetworkValue → ℕ → State (List ℕ) NodeStateValue
+    → PartValue L → PartValue L → Result (Option Key) AllocError → Type 0
+Stepped pending t before s old new (Ok None) = (new ≡ old) × (pends_before before s ≡ false)
+Stepped pending t before s old new (Ok (Some k)) = Stands pending t new (step (net_of t) everywhere s)
+    × (pends_before before s ≡ true) × (option_map (λ e. e.0) (least s.pending) ≡ Some k)
+Stepped pending t before s old new (Err e) = Stands pending t new s

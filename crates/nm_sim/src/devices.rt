@@ -1,0 +1,363 @@
+//! The nodes, ports and sources of a simulation.
+
+ghost use Rattle.std.specs.Prelude.{◌≡◌, ◌⊎◌, ℕ, slice_get, slice_index, ◌+◌, ◌≤◌, ◌<◌, ◌^◌, List, Option, Some, None, OnOk, OnErr, IfOk, IfErr, IfSome, MatchResult, Ok, Err, length};
+ghost use Rattle.nm_base.specs.declared.limits.TheConstants.{MAX_TIME};
+ghost use Rattle.nm_base.specs.declared.event.Origin.TheVariants.{Arrival, Source as FromSource};
+ghost use Rattle.nm_base.specs.declared.key.Place.TheVariants.{Arrive, Complete, Fire};
+ghost use Rattle.nm_base.specs.declared.event.Event.TheVariants.{Completion, Delivery};
+ghost use Rattle.nm_model.specs.Network.{node_of};
+ghost use Rattle.nm_model.specs.Lists.{set_at};
+ghost use Rattle.nm_model.specs.Port.{Port as PortState, idle_port};
+ghost use Rattle.nm_model.specs.Run.{effect as effect_of, turned};
+ghost use Rattle.nm_forward.specs.State.{NodeStateValue, first_state};
+ghost use Rattle.nm_forward.specs.Reaction.{FitsOrigin, sent_of};
+ghost use Rattle.nm_base.specs.Key.{key_of};
+ghost use Rattle.nm_sim.specs.Network.{net_of};
+ghost use Rattle.nm_sim.specs.Tables.{AllAt};
+ghost use Rattle.nm_sim.specs.Devices.{Stand, IsPortOf, IsSame, IsStanding};
+ghost use Rattle.nm_traffic.specs.Source.{source_at, source_of};
+ghost use Rattle.nm_forward.specs.Counter.{counter_number};
+ghost use Rattle.std.specs.Option.{option_map};
+ghost use Rattle.nm_sim.specs.Effects.{CanHappen, Does, IsBusy, Reacts, Sends, start_at as start_at_iface};
+
+use crate::effect::Effect;
+use nm_base::{Event, IfaceNo, Key, NodeNo, Origin, Packet, Place, SourceNo, Time};
+use nm_forward::laws::a_node_sends_by_its_own_interfaces;
+use nm_forward::{Counter, NodeState, Reaction, react};
+use nm_iface::{Port, Start};
+use nm_topology::Topology;
+use nm_topology::topology::accepted_topologies_are_in_order;
+use nm_traffic::{Source, SourcePacket};
+use std::alloc::{AllocError, Global};
+use std::marker::Model;
+
+/// The nodes, the ports of their interfaces, and the sources, by their numbers.
+#[derive(Drop)]
+pub struct Devices {
+    nodes: Vec<NodeState>,
+    ports: Vec<Port>,
+    sources: Vec<Source>,
+    /// The port that may have no memory for one more packet.
+    used: Option<IfaceNo>,
+}
+
+impl Model for Devices {
+    ghost use Rattle.nm_sim.specs.Devices.{DevicesValue, HaveRoom};
+
+    ghost Value = { DevicesValue };
+
+    ghost view = { λ d. record { nodes = d.nodes.items; ports = d.ports.items; sources = d.sources.items; used = d.used } };
+
+    ghost invariant = { λ d. HaveRoom (record { nodes = d.nodes.items; ports = d.ports.items; sources = d.sources.items; used = d.used }) };
+}
+
+/// All nodes at the start of a run.
+fn first_nodes(alloc: Global, topology: &Topology) -> Result<Vec<NodeState>, AllocError>
+    ensures count { IfOk result (λ v. length v.items ≡ length topology.now.nodes) }
+    ensures value { IfOk result (λ v. AllAt (λ i n. n ≡ first_state topology.now i) v.items) }
+{
+    accepted_topologies_are_in_order(topology);
+    let count = topology.nodes().len();
+    let mut nodes = Vec::with_capacity(alloc, count)?;
+    for number in 0..count {
+        nodes.push(NodeState::new(alloc, topology, NodeNo::new(number as u32))?)?;
+    }
+    Ok(nodes)
+}
+
+/// The port of each interface, idle, with memory for one packet that waits.
+fn first_ports(alloc: Global, topology: &Topology) -> Result<Vec<Port>, AllocError>
+    ensures count { IfOk result (λ v. length v.items ≡ length topology.now.ifaces) }
+    ensures value { IfOk result (λ v. AllAt (λ i w. IsPortOf topology.now i w idle_port) v.items) }
+    ensures room { IfOk result (λ v. AllAt (λ i w. 1 ≤ w.room) v.items) }
+{
+    accepted_topologies_are_in_order(topology);
+    let mut ports = Vec::with_capacity(alloc, topology.ifaces().len())?;
+    for iface in topology.ifaces() {
+        let far = iface.far();
+        let mut port = Port::new(alloc, iface.queue(), far.rate, far.delay);
+        port.reserve_one()?;
+        ports.push(port)?;
+    }
+    Ok(ports)
+}
+
+/// The sources.
+fn first_sources(alloc: Global, topology: &Topology) -> Result<Vec<Source>, AllocError>
+    ensures count { IfOk result (λ v. length v.items ≡ length topology.now.sources) }
+    ensures value { IfOk result (λ v. AllAt (λ j s. source_of topology.now j ≡ Some s) v.items) }
+{
+    accepted_topologies_are_in_order(topology);
+    let count = topology.sources().len();
+    let mut sources = Vec::with_capacity(alloc, count)?;
+    for number in 0..count {
+        sources.push(Source::new(alloc, topology, SourceNo::new(number as u32))?)?;
+    }
+    Ok(sources)
+}
+
+/// The node of a source.
+fn node_of(topology: &Topology, source: SourceNo) -> NodeNo
+    requires { source < length topology.now.sources }
+    ensures there { result < length topology.now.nodes }
+    ensures node { (net_of topology.now).source_node source ≡ result }
+{
+    accepted_topologies_are_in_order(topology);
+    topology.sources()[source.index()].node
+}
+
+/// A start, and where.
+fn start_at(iface: IfaceNo, start: Option<Start>) -> Option<(IfaceNo, Start)>
+    ensures { result ≡ start_at_iface iface start }
+{
+    match start {
+        Some(start) => Some((iface, start)),
+        None => None,
+    }
+}
+
+impl Devices {
+    /// The devices of a topology at the start of a run.
+    pub fn new(alloc: Global, topology: &Topology) -> Result<Self, AllocError>
+        ensures { IfOk result (λ d. Stand topology.now d (first_state topology.now) (λ i. idle_port)) }
+    {
+        Ok(Devices {
+            nodes: first_nodes(alloc, topology)?,
+            ports: first_ports(alloc, topology)?,
+            sources: first_sources(alloc, topology)?,
+            used: None,
+        })
+    }
+
+    /// A source's first packet, if it has one before the run stops, and when it comes.
+    pub fn first_packet(
+        &self,
+        alloc: Global,
+        topology: &Topology,
+        source: SourceNo,
+    ) -> Result<Option<(Time, SourcePacket)>, AllocError>
+        requires place { source < length topology.now.sources }
+        requires stand { IsStanding topology.now self.now }
+        ensures { IfOk result (λ p. p ≡ source_at topology.now source 0) }
+    {
+        self.sources[source.index()].next(alloc, 0)
+    }
+
+    /// What the node counted, if it is there.
+    pub fn counter(&self, node: NodeNo, counter: Counter) -> Option<u64>
+        ensures { result ≡ option_map (λ n. slice_index n.counters (counter_number counter)) (slice_get self.now.nodes node) }
+    {
+        match self.nodes.get(node.index()) {
+            Some(state) => Some(state.counter(counter)),
+            None => None,
+        }
+    }
+
+    /// How many packets were dropped at the interface, if it is there. It stops at the greatest `u64`.
+    pub fn dropped(&self, iface: IfaceNo) -> Option<u64>
+        ensures { result ≡ option_map (λ w. w.dropped) (slice_get self.now.ports iface) }
+    {
+        match self.ports.get(iface.index()) {
+            Some(port) => Some(port.dropped()),
+            None => None,
+        }
+    }
+
+    /// Makes memory for one more packet at each port.
+    ///
+    /// # Errors
+    ///
+    /// `AllocError` where a queue could not grow. Nothing else changed then.
+    pub fn reserve(&mut self) -> Result<(), AllocError>
+        ensures same { IsSame self.old self.new }
+        ensures room { OnOk result (AllAt (λ i w. 1 ≤ w.room) self.new.ports) }
+    {
+        if let Some(iface) = self.used {
+            if iface.index() < self.ports.len() {
+                self.ports[iface.index()].reserve_one()?;
+            }
+            self.used = None;
+        }
+        Ok(())
+    }
+
+    /// What a node sends is offered to its interface: the transmission that starts, and where, if one does.
+    fn send(
+        &mut self,
+        topology: &Topology,
+        time: Time,
+        reaction: Reaction,
+    ) -> Option<(IfaceNo, Start)>
+        requires time { time ≤ MAX_TIME }
+        requires own { IfSome (sent_of reaction) (λ s. s.0 < length topology.now.ifaces) }
+        requires count { length self.old.ports ≡ length topology.now.ifaces }
+        requires room { AllAt (λ i w. 1 ≤ w.room) self.old.ports }
+        ensures sends { (node : ℕ → NodeStateValue) (port : ℕ → PortState (List ℕ)) → Stand topology.now self.old node port
+            → Sends topology.now node port time (sent_of reaction) self.new result }
+    {
+        let Reaction::Send(iface, twin) = reaction else {
+            return None;
+        };
+        self.used = Some(iface);
+        let offered = self.ports[iface.index()].offer(time, twin);
+        let start = offered.started()?;
+        Some((iface, start))
+    }
+
+    /// What a node does with a packet. An `Err` changes nothing.
+    fn react(
+        &mut self,
+        alloc: Global,
+        topology: &Topology,
+        node: NodeNo,
+        origin: Origin,
+        packet: &Packet,
+    ) -> Result<Reaction, AllocError>
+        requires node { node < length topology.now.nodes }
+        requires fits { FitsOrigin topology.now origin packet.now }
+        requires stand { IsStanding topology.now self.old }
+        ensures err { OnErr result (self.new ≡ self.old) }
+        ensures ports { self.new.ports ≡ self.old.ports }
+        ensures own { IfOk result (λ r. IfSome (sent_of r) (λ s. s.0 < length topology.now.ifaces)) }
+        ensures reacts { (states : ℕ → NodeStateValue) (ports : ℕ → PortState (List ℕ)) → Stand topology.now self.old states ports
+            → IfOk result (λ r. Reacts topology.now states ports node origin packet.now self.new (sent_of r)) }
+    {
+        a_node_sends_by_its_own_interfaces(topology);
+        react(alloc, topology, &mut self.nodes[node.index()], origin, packet)
+    }
+
+    /// A packet arrives at an interface. The packet comes back where memory was refused; nothing changed then.
+    fn arrive(
+        &mut self,
+        alloc: Global,
+        topology: &Topology,
+        time: Time,
+        iface: IfaceNo,
+        packet: Packet,
+    ) -> Result<Effect, Packet>
+        requires time { time ≤ MAX_TIME }
+        requires place { iface < length topology.now.ifaces }
+        requires room { AllAt (λ i w. 1 ≤ w.room) self.old.ports }
+        requires stand { IsStanding topology.now self.old }
+        ensures err { OnErr result (self.new ≡ self.old) }
+        ensures back { IfErr result (λ p. p ≡ packet) }
+        ensures does { (states : ℕ → NodeStateValue) (ports : ℕ → PortState (List ℕ)) (number : ℕ)
+            → Stand topology.now self.old states ports
+            → IfOk result (Does topology.now states ports (key_of time (Arrive iface) number) (Delivery packet) self.new) }
+    {
+        accepted_topologies_are_in_order(topology);
+        let node = topology.iface(iface).node();
+        let origin = Origin::Arrival(iface);
+        let Ok(reaction) = self.react(alloc, topology, node, origin, &packet) else {
+            return Err(packet);
+        };
+        let start = self.send(topology, time, reaction);
+        Ok(Effect {
+            came: Some((iface, packet)),
+            start,
+            follows: None,
+        })
+    }
+
+    /// A transmission is complete, and that of the packet that waits first starts, if one does.
+    fn complete(&mut self, topology: &Topology, time: Time, iface: IfaceNo) -> Effect
+        requires time { time ≤ MAX_TIME }
+        requires place { iface < length topology.now.ifaces }
+        requires busy { IsBusy (slice_get self.old.ports iface) }
+        requires count { length self.old.ports ≡ length topology.now.ifaces }
+        ensures does { (states : ℕ → NodeStateValue) (ports : ℕ → PortState (List ℕ)) (number : ℕ)
+            → Stand topology.now self.old states ports
+            → Does topology.now states ports (key_of time (Complete iface) number) Completion self.new result }
+    {
+        let start = self.ports[iface.index()].done(time);
+        Effect {
+            came: None,
+            start: start_at(iface, start),
+            follows: None,
+        }
+    }
+
+    /// A source hands a packet over. The packet comes back where memory was refused; nothing changed then.
+    fn fire(
+        &mut self,
+        alloc: Global,
+        topology: &Topology,
+        time: Time,
+        source: SourceNo,
+        number: u64,
+        packet: Packet,
+    ) -> Result<Effect, Packet>
+        requires time { time ≤ MAX_TIME }
+        requires place { source < length topology.now.sources }
+        requires fits { FitsOrigin topology.now (FromSource source) packet }
+        requires number { number < 2 ^ 63 }
+        requires room { AllAt (λ i w. 1 ≤ w.room) self.old.ports }
+        requires stand { IsStanding topology.now self.old }
+        ensures err { OnErr result (self.new ≡ self.old) }
+        ensures back { IfErr result (λ p. p ≡ packet) }
+        ensures does { (states : ℕ → NodeStateValue) (ports : ℕ → PortState (List ℕ))
+            → Stand topology.now self.old states ports
+            → IfOk result (Does topology.now states ports (key_of time (Fire source) number) (Delivery packet) self.new) }
+    {
+        accepted_topologies_are_in_order(topology);
+        let Ok(follows) = self.sources[source.index()].next(alloc, number + 1) else {
+            return Err(packet);
+        };
+        let node = node_of(topology, source);
+        let origin = Origin::Source(source);
+        let Ok(reaction) = self.react(alloc, topology, node, origin, &packet) else {
+            return Err(packet);
+        };
+        let start = self.send(topology, time, reaction);
+        Ok(Effect {
+            came: None,
+            start,
+            follows,
+        })
+    }
+
+    /// What an event does to its node and to one port, and what follows from it. The event comes back where memory was
+    /// refused; nothing changed then.
+    pub fn effect(
+        &mut self,
+        alloc: Global,
+        topology: &Topology,
+        key: Key,
+        event: Event,
+    ) -> Result<Effect, Event>
+        requires time { key.time ≤ MAX_TIME }
+        requires happens { CanHappen topology.now self.old key.place key.number event }
+        requires room { AllAt (λ i w. 1 ≤ w.room) self.old.ports }
+        requires stand { IsStanding topology.now self.old }
+        ensures err { OnErr result (self.new ≡ self.old) }
+        ensures back { IfErr result (λ e. e ≡ event) }
+        ensures does { (states : ℕ → NodeStateValue) (ports : ℕ → PortState (List ℕ))
+            → Stand topology.now self.old states ports
+            → IfOk result (Does topology.now states ports key event self.new) }
+    {
+        let Key { time, place, number } = key;
+        match event {
+            Event::Completion => match place {
+                Place::Complete(iface) => Ok(self.complete(topology, time, iface)),
+                Place::Arrive(_) | Place::Fire(_) => Err(Event::Completion),
+            },
+            Event::Delivery(packet) => match place {
+                Place::Arrive(iface) => delivered(self.arrive(alloc, topology, time, iface, packet)),
+                Place::Fire(source) => {
+                    delivered(self.fire(alloc, topology, time, source, number, packet))
+                }
+                Place::Complete(_) => Err(Event::Delivery(packet)),
+            },
+        }
+    }
+}
+
+/// The effect, or the event of the packet that came back.
+fn delivered(effect: Result<Effect, Packet>) -> Result<Effect, Event>
+    ensures { MatchResult effect (λ e. result ≡ Ok e) (λ p. result ≡ Err (Delivery p)) }
+{
+    match effect {
+        Ok(effect) => Ok(effect),
+        Err(packet) => Err(Event::Delivery(packet)),
+    }
+}
