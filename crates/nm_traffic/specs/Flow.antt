@@ -17,6 +17,8 @@ flow_data f = replicate f.size f.fill
 abbrev pub cbr_octets : Flow → List ℕ
 cbr_octets f = if f.size == 0 then 0 ∷ [] else flow_data f
 
--- echo request n (RFC 792): type 8, code 0, the identifier, and n modulo 65,536 as the sequence number
+-- echo request n (RFC 792): type 8, code 0, the identifier, and n modulo 65,536 as the sequence
+-- number
 unfoldable pub echo_message : Echo → ℕ → List ℕ
-echo_message e n = message_octets (icmp_header 8 0 (word e.identifier ++ word (n % 65536))) (flow_data e.flow)
+echo_message e n =
+    message_octets (icmp_header 8 0 (word e.identifier ++ word (n % 65536))) (flow_data e.flow)

@@ -9,7 +9,8 @@ use Rattle.nm_traffic.specs.Source.{source_at}
 
 -- each packet of a source comes later than the one before
 abbrev pub TimesRise : NetworkValue → Type 0
-TimesRise t = (j n : ℕ) (a b : ℕ × List ℕ) → source_at t j n ≡ Some a → source_at t j (suc n) ≡ Some b → a.0 < b.0
+TimesRise t = (j n : ℕ) (a b : ℕ × List ℕ)
+    → source_at t j n ≡ Some a → source_at t j (suc n) ≡ Some b → a.0 < b.0
 
 -- after its last packet before stop a source has none
 abbrev pub EndForGood : NetworkValue → Type 0
@@ -22,13 +23,16 @@ abbrev pub HaveOctets : NetworkValue → Type 0
 HaveOctets t = (j n : ℕ) (a : ℕ × List ℕ) → source_at t j n ≡ Some a → 1 ≤ length a.1
 
 abbrev pub ArePackets : NetworkValue → Type 0
-ArePackets t = (j n : ℕ) (a : ℕ × List ℕ) → source_at t j n ≡ Some a → length a.1 ≤ MAX_PACKET_OCTETS
+ArePackets t = (j n : ℕ) (a : ℕ × List ℕ)
+    → source_at t j n ≡ Some a → length a.1 ≤ MAX_PACKET_OCTETS
 
--- so many octets fit the mtu: data behind an IPv4 and a UDP header, a message behind an IPv4 header, a raw packet as it is
+-- so many octets fit the mtu: data behind an IPv4 header of 20 octets and a UDP header of 8, a
+-- message behind an IPv4 header, a raw packet as it is
 abbrev pub FitsMtu : ℕ → Traffic → ℕ → Type 0
 FitsMtu mtu (Cbr c) octets = octets + 28 ≤ mtu
 FitsMtu mtu (Echo e) octets = octets + 20 ≤ mtu
 FitsMtu mtu (Raw r) octets = octets ≤ mtu
 
 abbrev pub FitTheMtu : NetworkValue → Type 0
-FitTheMtu t = (j n : ℕ) (s : Source) (a : ℕ × List ℕ) → slice_get t.sources j ≡ Some s → source_at t j n ≡ Some a → FitsMtu t.mtu s.traffic (length a.1)
+FitTheMtu t = (j n : ℕ) (s : Source) (a : ℕ × List ℕ) → slice_get t.sources j ≡ Some s
+    → source_at t j n ≡ Some a → FitsMtu t.mtu s.traffic (length a.1)

@@ -1,16 +1,18 @@
-//! Laws of the definitions: each function has an empty body, or calls another law, and its contract is the law.
+//! Laws of the definitions: each function has an empty body or calls other laws, and its contract
+//! is the law.
 
 ghost use Rattle.std.specs.Prelude.{◌≡◌, All};
 ghost use Rattle.nm_topology.specs.Limits.{HasOctets, IsWithinLimits};
 ghost use Rattle.nm_topology.specs.Wholes.{NetworkValue};
-ghost use Rattle.nm_traffic.specs.Orderly.{ArePackets, ComeBeforeStop, EndForGood, FitTheMtu, HaveOctets, TimesRise};
+ghost use Rattle.nm_traffic.specs.Orderly.{ArePackets, ComeBeforeStop, EndForGood};
+ghost use Rattle.nm_traffic.specs.Orderly.{FitTheMtu, HaveOctets, TimesRise};
 
 use nm_topology::Topology;
 use nm_topology::topology::accepted_topologies_are_in_order;
 
-/// In every network within the limits the packets of a source come at rising times before the run stops, with no gap in
-/// their numbers; they fit the mtu with the headers that they get, and are no longer than a packet may be. Where no raw
-/// packet is empty, no packet is.
+/// In every network within the limits the packets of a source come at rising times before the run
+/// stops, with no gap in their numbers; they fit the mtu with the headers that they get, and are no
+/// longer than a packet may be. Where no raw packet is empty, no packet is.
 pub fn times_rise_within_limits()
     ensures rise { (t : NetworkValue) → IsWithinLimits t → TimesRise t }
     ensures end { (t : NetworkValue) → IsWithinLimits t → EndForGood t }

@@ -1,4 +1,5 @@
-//! The sources of traffic of an accepted topology: when their packets come, and what they hand to their nodes.
+//! The sources of traffic of an accepted topology: when their packets come, and what they hand to
+//! their nodes.
 #![tactic(auto)]
 
 mod cbr;

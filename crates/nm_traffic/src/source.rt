@@ -1,7 +1,7 @@
 //! A source of traffic of an accepted topology.
 
-ghost use Rattle.std.specs.Prelude.{◌≡◌, ◌<◌, Some, length, IfOk};
-ghost use Rattle.nm_traffic.specs.Source.{packet_at, source_of};
+ghost use Rattle.std.specs.Prelude.{◌≡◌, ℕ, ◌<◌, Some, length, IfOk};
+ghost use Rattle.nm_traffic.specs.Source.{packet_at, source_at, source_of};
 
 use crate::kind::Kind;
 use crate::packet::SourcePacket;
@@ -29,10 +29,13 @@ impl Model for Source {
 
 impl Source {
     /// The source with this number. What its packets share is made here, once.
-    #[tactic(auto, unfolding(crate::specs::Source::source_of))]
+    #[tactic(auto, unfolding(crate::specs::Source::source_at, crate::specs::Source::source_of))]
     pub fn new(alloc: Global, topology: &Topology, source: SourceNo) -> Result<Self, AllocError>
         requires { source < length topology.now.sources }
-        ensures { IfOk result (λ s. source_of topology.now source ≡ Some s) }
+        ensures value { IfOk result (λ s. source_of topology.now source ≡ Some s) }
+        // So what `next` answers is what the topology says of this source.
+        ensures packets { IfOk result (λ s. (number : ℕ)
+            → source_at topology.now source number ≡ packet_at s.stop s.traffic number) }
     {
         accepted_topologies_are_in_order(topology);
         let traffic = &topology.sources()[source.index()].traffic;
@@ -42,8 +45,8 @@ impl Source {
         })
     }
 
-    /// Packet `number`, from 0, and its time; `None` where the source has no such packet, or none before the run stops.
-    /// Nothing is changed: after an `Err` the same call may succeed.
+    /// Packet `number`, from 0, and its time; `None` where the source has no such packet, or none
+    /// before the run stops. Nothing is changed: after an `Err` the same call may succeed.
     pub fn next(
         &self,
         alloc: Global,
