@@ -1,10 +1,9 @@
 -- A transmission starts: its events, and the counts of what was put on the interfaces.
-use Rattle.std.proofs.Common.{◌≡◌, ◌≢◌, ℕ, suc, ◌+◌, ◌<◌, ◌==◌, Bool, true, false, true≢false, cond, List, [], ◌∷◌, ◌++◌, length, Option, Some, None, slice_get, slice_index, slice_set, refl, sym, ap, ◌∙◌, subst, arith, ⊎_elim, length-append, length-set, get_or-set_same, get_or-set_other}
+use Rattle.std.proofs.Common.{◌≡◌, ◌≢◌, ℕ, ◌+◌, ◌<◌, ◌==◌, Bool, true, false, true≢false, List, [], ◌∷◌, ◌++◌, length, Some, None, slice_get, slice_index, slice_set, refl, sym, ap, ◌∙◌, arith, length-append, length-set, get_or-set_same, get_or-set_other}
 use Rattle.std.proofs.lemmas.Bool.Decides.{nat_tests}
 use Rattle.std.specs.FinMap.{FinMap, get, insert}
 use Rattle.nm_base.specs.declared.event.Event.{Event}
 use Rattle.nm_base.specs.declared.event.Event.TheVariants.{Delivery, Completion}
-use Rattle.nm_base.specs.declared.key.Key.{Key}
 use Rattle.nm_base.specs.declared.key.Place.TheVariants.{Arrive, Complete}
 use Rattle.nm_base.specs.Key.{key_of, key_cmp}
 use Rattle.nm_topology.specs.Networks.{IfaceValue}
@@ -60,11 +59,12 @@ module _ {L : Type 0} (t : NetworkValue) (line : TimelineValue L) (time : ℕ) (
       → Told t after (sent_after (net_of t) time sent (Some (i, st.twin.packet)))
   begun_told after e = record {
     count = ap length e ∙ length-set line.sent p (slice_index line.sent p + 1) ∙ told.count;
-    numbers = λ c h. ap (λ l. slice_index l c) e ∙ go c h (c == p) refl
+    numbers = λ c h. ap (λ l. slice_index l c) e ∙ go c h (c == p) refl;
   }
     where
       message : ℕ × List ℕ
       message = (time + (net_of t).tx i st.twin.packet + (net_of t).delay i, st.twin.packet)
+
       go : (c : ℕ) → c < length t.ifaces → (b : Bool) → (c == p) ≡ b
           → slice_index (slice_set line.sent p (slice_index line.sent p + 1)) c ≡ length (set_at sent ((net_of t).peer i) (sent ((net_of t).peer i) ++ message ∷ []) c)
       go c h true q =
@@ -85,5 +85,5 @@ module _ {L : Type 0} (t : NetworkValue) (line : TimelineValue L) (time : ℕ) (
 pub told_same : {L : Type 0} (t : NetworkValue) (a b : TimelineValue L) (sent : ℕ → List (ℕ × List ℕ)) → b.sent ≡ a.sent → Told t a sent → Told t b sent
 told_same t a b sent e h = record {
   count = ap length e ∙ h.count;
-  numbers = λ c l. ap (λ z. slice_index z c) e ∙ h.numbers c l
+  numbers = λ c l. ap (λ z. slice_index z c) e ∙ h.numbers c l;
 }

@@ -48,7 +48,7 @@ module _ (t : NetworkValue) (node : ℕ → NodeStateValue) (port : ℕ → Port
       let a = after_is (net_of t) port time came (reaction t v (node v) o x).0 follows (reaction t v (node v) o x).1 in
       subst (λ n. Stand t e (set_at node v n) (turned port effect_is.turn)) (sym a)
       (subst (λ z. Stand t e (set_at node v (reaction t v (node v) o x).0) (turned port (sent_on (net_of t) port time came (reaction t v (node v) o x).0 z follows).turn))
-          r.sends (s.stand (reaction t v (node v) o x).0 came follows))
+      r.sends (s.stand (reaction t v (node v) o x).0 came follows))
 
   reacted_does : (done : Done) → done.came ≡ came → done.start ≡ begun → done.follows ≡ follows → IsEffect t time done effect_is
   reacted_does done a b c = record {
@@ -56,7 +56,7 @@ module _ (t : NetworkValue) (node : ℕ → NodeStateValue) (port : ℕ → Port
     start = ap start_of b ∙ s.start (reaction t v (node v) o x).0 came follows
         ∙ ap (λ z. (sent_on (net_of t) port time came (reaction t v (node v) o x).0 z follows).start) r.sends;
     begins = subst (λ z. IfSome z (StartsAt t time)) (sym b) s.begins;
-    follows = c ∙ sym (follows_is (net_of t) port time came (reaction t v (node v) o x).0 follows (reaction t v (node v) o x).1)
+    follows = c ∙ sym (follows_is (net_of t) port time came (reaction t v (node v) o x).0 follows (reaction t v (node v) o x).1);
   }
 
 -- a packet arrived at interface i of node v
@@ -67,10 +67,10 @@ pub arrives_by : (t : NetworkValue) (node : ℕ → NodeStateValue) (port : ℕ 
 unfolding net_of
 arrives_by t node port time v i number x d e sent begun done owner r s a b c =
     subst (λ w. Reacts t node port w (Arrival i) x d sent → Sends t (set_at node w (reaction t w (node w) (Arrival i) x).0) port time sent e begun
-        → Does t node port (key_of time (Arrive i) number) (Delivery x) e done) owner
+    → Does t node port (key_of time (Arrive i) number) (Delivery x) e done) owner
     (λ r' s'. record {
       stand = reacted_stand t node port time ((net_of t).owner i) (Arrival i) x d e sent begun r' s' (Some (i, x)) None;
-      does = reacted_does t node port time ((net_of t).owner i) (Arrival i) x d e sent begun r' s' (Some (i, x)) None done a b c
+      does = reacted_does t node port time ((net_of t).owner i) (Arrival i) x d e sent begun r' s' (Some (i, x)) None done a b c;
     }) r s
 
 -- source j of node v handed a packet over
@@ -81,10 +81,10 @@ pub fires_by : (t : NetworkValue) (node : ℕ → NodeStateValue) (port : ℕ �
 unfolding net_of
 fires_by t node port time v j number x d e sent begun done owner r s a b c =
     subst (λ w. Reacts t node port w (Source j) x d sent → Sends t (set_at node w (reaction t w (node w) (Source j) x).0) port time sent e begun
-        → Does t node port (key_of time (Fire j) number) (Delivery x) e done) owner
+    → Does t node port (key_of time (Fire j) number) (Delivery x) e done) owner
     (λ r' s'. record {
       stand = reacted_stand t node port time ((net_of t).source_node j) (Source j) x d e sent begun r' s' None (source_at t j (suc number));
-      does = reacted_does t node port time ((net_of t).source_node j) (Source j) x d e sent begun r' s' None (source_at t j (suc number)) done a b c
+      does = reacted_does t node port time ((net_of t).source_node j) (Source j) x d e sent begun r' s' None (source_at t j (suc number)) done a b c;
     }) r s
 
 -- a transmission of interface i is complete
@@ -113,6 +113,6 @@ module _ (t : NetworkValue) (d e : DevicesValue) (node : ℕ → NodeStateValue)
           came = a;
           start = ap start_of b ∙ start_of_at i start ∙ ap (at_iface i) (packet ∙ same.2);
           begins = subst (λ z. IfSome z (StartsAt t time)) (sym b) (starts_packet start begins);
-          follows = c
-        }
+          follows = c;
+        };
       }

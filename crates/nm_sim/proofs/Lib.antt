@@ -1,6 +1,7 @@
 mod Beginnings
 mod Doings
 mod Networks
+mod Openings
 mod Parts
 mod Pendings
 mod Reactings

@@ -1,5 +1,5 @@
 -- A topology that is in order and within the limits describes a network.
-use Rattle.std.proofs.Common.{◌≡◌, ◌⊎◌, ℕ, zero, suc, ◌+◌, ◌-◌, ◌*◌, ◌/◌, ◌^◌, ◌<◌, ◌≤◌, List, length, map, All, max, Option, Some, None, slice_get, slice_index, slice_index_or as get_or, refl, sym, ap, ◌∙◌, subst, arith, ⊎_elim}
+use Rattle.std.proofs.Common.{◌≡◌, ℕ, zero, suc, ◌+◌, ◌-◌, ◌*◌, ◌/◌, ◌^◌, ◌<◌, ◌≤◌, List, length, map, All, max, Some, slice_get, slice_index, slice_index_or as get_or, sym, ap, ◌∙◌, subst, arith, ⊎_elim}
 use Rattle.std.proofs.lemmas.Option.{slice_get-get_or, slice_get_cases, slice_get_past, slice_get_within, get_or_from_slice_get}
 use Rattle.std.proofs.lemmas.List.{get_or-map}
 use Rattle.std.proofs.lemmas.List.Elements.{All-get_or}
@@ -8,18 +8,17 @@ use Rattle.std.proofs.Math.Nat.{div-mul-le_self}
 use Rattle.nm_base.specs.declared.limits.TheConstants.{MAX_PORTS_OF_NODE}
 use Rattle.nm_base.specs.declared.event.Origin.{Origin}
 use Rattle.nm_topology.specs.declared.traffic.Source.{Source}
-use Rattle.nm_topology.specs.Networks.{NodeValue, IfaceValue}
-use Rattle.nm_topology.specs.Order.{IsInOrder, IsLinked, IsPlaced, LeavesByOwn, owners_of, parts_of}
+use Rattle.nm_topology.specs.Networks.{IfaceValue}
+use Rattle.nm_topology.specs.Order.{IsInOrder, IsPlaced, LeavesByOwn, owners_of, parts_of}
 use Rattle.nm_topology.specs.Limits.{IsWithinLimits}
 use Rattle.nm_topology.specs.Wholes.{NetworkValue}
 use Rattle.nm_forward.specs.State.{NodeStateValue}
 use Rattle.nm_forward.specs.Reaction.{reaction}
-use Rattle.nm_iface.specs.PortValue.{takes}
-use Rattle.nm_iface.specs.Transmission.{divided_up, transmission_time}
+use Rattle.nm_iface.specs.Transmission.{transmission_time}
 use Rattle.std.specs.Option.{option_and_then}
 use Rattle.nm_traffic.specs.Source.{packet_at, source_at, source_of}
 use Rattle.nm_traffic.specs.SourceValues.{SourceValue}
-use Rattle.nm_model.specs.Network.{Net, IsNet, IsParted}
+use Rattle.nm_model.specs.Network.{IsNet, IsParted}
 use Rattle.nm_sim.specs.Network.{far_from, far_of, net_of}
 
 -- division keeps the order
@@ -47,11 +46,11 @@ module _ (t : NetworkValue) (order : IsInOrder t.nodes t.ifaces t.links) where
   peer_twice : (i : ℕ) → (far_of t (far_of t i).peer).peer ≡ i
   peer_twice i = ⊎_elim
       (λ h. let there = order.linked i h.0 h.2 in
-          ap (λ p. (far_of t p).peer) (ap (λ z. z.peer) (far_at i h.0 h.2))
-          ∙ ⊎_elim
-              (λ g. twice_at i h.0 g.0 h.2 g.2)
-              (λ g. absurd (let w = there.within in omega (arith, w, g.0)))
-              ((slice_get_cases t.ifaces h.0.far.peer).1))
+      ap (λ p. (far_of t p).peer) (ap (λ z. z.peer) (far_at i h.0 h.2))
+      ∙ ⊎_elim
+      (λ g. twice_at i h.0 g.0 h.2 g.2)
+      (λ g. absurd (let w = there.within in omega (arith, w, g.0)))
+      ((slice_get_cases t.ifaces h.0.far.peer).1))
       (λ h. let p : (far_of t i).peer ≡ i = ap (λ o. (far_from i o).peer) (slice_get_past t.ifaces i h.0) in ap (λ q. (far_of t q).peer) p ∙ p)
       ((slice_get_cases t.ifaces i).1)
 
@@ -66,7 +65,7 @@ module _ (t : NetworkValue) (order : IsInOrder t.nodes t.ifaces t.links) where
     outside = λ i h. ap (λ o. (far_from i o).peer) (slice_get_past t.ifaces i h);
     takes_time = λ i x. omega arith;
     takes_least = λ i x. longer_takes (far_of t i).rate 1 (max 1 (length x)) (omega arith);
-    rises = rises
+    rises = rises;
   }
 
 -- a member of a list and what a map has in its place
@@ -94,7 +93,7 @@ module _ (t : NetworkValue) (limits : IsWithinLimits t) where
         part_below _ (subst (λ v. v < length t.nodes) (sym at.2) (all_at (λ x. x.node < length t.nodes) t.ifaces i at.0 at.1 order.owners));
     sources = λ j h. let at = mapped_at (λ s. s.node) t.sources j 0 h in
         let a : (at.0.node < length t.nodes) × LeavesByOwn (owners_of t.ifaces) at.0.node at.0.traffic = all_at (λ s. IsPlaced (length t.nodes) (owners_of t.ifaces) s) t.sources j at.0 at.1 placed in
-        part_below _ (subst (λ v. v < length t.nodes) (sym at.2) a.0)
+        part_below _ (subst (λ v. v < length t.nodes) (sym at.2) a.0);
   }
 
 pub owner_is : (t : NetworkValue) (i : ℕ) (x : IfaceValue) → slice_get t.ifaces i ≡ Some x → (net_of t).owner i ≡ x.node
@@ -116,7 +115,7 @@ pub node_there : (t : NetworkValue) (j k : ℕ) (l : List Source) (d : Source) �
 unfolding IsPlaced
 node_there t j k l d e f h placed =
     let a : ((get_or t.sources j d).node < length t.nodes) × LeavesByOwn (owners_of t.ifaces) (get_or t.sources j d).node (get_or t.sources j d).traffic
-        = All-get_or (λ s. IsPlaced (length t.nodes) (owners_of t.ifaces) s) t.sources j d h placed in
+    = All-get_or (λ s. IsPlaced (length t.nodes) (owners_of t.ifaces) s) t.sources j d h placed in
     subst (λ z. z.node < length t.nodes) (sym (λ i. get_or (e i) (f i) d)) a.0
 
 -- what a source gives is what the network says

@@ -1,5 +1,5 @@
 -- A part after a step stands for the state after that step.
-use Rattle.std.proofs.Common.{◌≡◌, ◌≢◌, ℕ, zero, suc, ◌+◌, ◌<◌, ◌≤◌, Bool, true, false, List, [], ◌∷◌, ◌++◌, length, Option, Some, None, refl, sym, ap, ◌∙◌, subst, arith, append_assoc}
+use Rattle.std.proofs.Common.{◌≡◌, ◌≢◌, ℕ, zero, suc, ◌+◌, ◌<◌, true, ltb, List, [], ◌∷◌, ◌++◌, length, Option, Some, None, refl, sym, ap, ◌∙◌, subst, arith, append_assoc}
 use Rattle.std.specs.FinMap.{FinMap, get, insert, remove}
 use Rattle.std.specs.Option.{IfSome}
 use Rattle.nm_base.specs.declared.event.Event.{Event}
@@ -14,12 +14,20 @@ use Rattle.nm_model.specs.Run.{Effect, State, effect, in_record, made, next_even
 use Rattle.nm_forward.specs.State.{NodeStateValue}
 use Rattle.nm_iface.specs.declared.port.Start.{Start}
 use Rattle.nm_sim.specs.declared.effect.Effect.{Effect as Done}
-use Rattle.nm_sim.specs.Devices.{Stand}
+use Rattle.nm_model.specs.EventList.{is_before}
+use Rattle.nm_model.specs.Port.{Port}
+use Rattle.nm_model.specs.Run.{pends_before}
+use Rattle.nm_forward.specs.State.{table_of}
+use Rattle.nm_traffic.specs.Source.{source_of}
+use Rattle.std.specs.Option.{option_map}
+use Rattle.std.proofs.lemmas.Bool.Decides.{nat_tests}
+use Rattle.nm_sim.specs.Tables.{AllAt}
+use Rattle.nm_sim.specs.Devices.{DevicesValue, IsSame, Stand}
 use Rattle.nm_sim.specs.Effects.{Does, IsPlaceOf, StartsAt, start_of}
 use Rattle.nm_sim.specs.Network.{net_of}
 use Rattle.nm_sim.specs.Part.{PartValue, Stands}
 use Rattle.nm_sim.specs.Timelines.{AreFresh, Told, everywhere}
-use Rattle.nm_sim.proofs.Schedules.{first_fresh, one_more, placed_next, placed_remove, placed_schedule, placed_start, schedule_append, second_fresh}
+use Rattle.nm_sim.proofs.Schedules.{first_fresh, one_more, placed_next, placed_remove, placed_schedule, placed_start, same_some, schedule_append, second_fresh}
 use Rattle.nm_sim.proofs.Beginnings.{told_same}
 use Rattle.nm_sim.proofs.Pendings.{put_back}
 use Rattle.nm_sim.proofs.Steps.{least_has}
@@ -52,18 +60,18 @@ module _ {L : Type 0} (pending : L → FinMap key_cmp (Event (List ℕ))) (t : N
       → (done : Done) (q : PartValue L) → Does t s.node s.port e.0 e.1 q.devices done
       → Told t q.timeline (sent_after (net_of t) e.0.time s.sent (start_of done.start))
       → pending q.timeline.events ≡ schedule everywhere (start_events (net_of t) e.0.time s.sent (start_of done.start))
-          (schedule everywhere (next_events e.0.place e.0.number done.follows) (remove s.pending e.0))
+      (schedule everywhere (next_events e.0.place e.0.number done.follows) (remove s.pending e.0))
       → q.timeline.records ≡ (p.timeline.records ++ in_record e.0.time done.came) ++ out_record e.0.time (start_of done.start)
       → q.steps ≡ p.steps + 1
       → Stands pending t q (step (net_of t) everywhere s)
   stands_after order orderly done q does told events records steps =
       let here : IsPlaceOf t e.0.place = stands.placed e.0 e.1 (least_has s.pending e first) in
       let events' : pending q.timeline.events ≡ schedule everywhere (start_events (net_of t) e.0.time s.sent does_at.start ++ next_events e.0.place e.0.number does_at.follows) (remove s.pending e.0)
-          = events ∙ (λ k. schedule everywhere (start_events (net_of t) e.0.time s.sent (does.does.start k)) (schedule everywhere (next_events e.0.place e.0.number (does.does.follows k)) (remove s.pending e.0)))
-          ∙ sym (schedule_append (start_events (net_of t) e.0.time s.sent does_at.start) (next_events e.0.place e.0.number does_at.follows) (remove s.pending e.0)) in
+      = events ∙ (λ k. schedule everywhere (start_events (net_of t) e.0.time s.sent (does.does.start k)) (schedule everywhere (next_events e.0.place e.0.number (does.does.follows k)) (remove s.pending e.0)))
+      ∙ sym (schedule_append (start_events (net_of t) e.0.time s.sent does_at.start) (next_events e.0.place e.0.number does_at.follows) (remove s.pending e.0)) in
       let records' : q.timeline.records ≡ s.records ++ (in_record e.0.time does_at.came ++ out_record e.0.time does_at.start)
-          = records ∙ (λ k. (stands.records k ++ in_record e.0.time (does.does.came k)) ++ out_record e.0.time (does.does.start k))
-          ∙ append_assoc s.records (in_record e.0.time does_at.came) (out_record e.0.time does_at.start) in
+      = records ∙ (λ k. (stands.records k ++ in_record e.0.time (does.does.came k)) ++ out_record e.0.time (does.does.start k))
+      ∙ append_assoc s.records (in_record e.0.time does_at.came) (out_record e.0.time does_at.start) in
       let within = subst (λ o. IfSome o (λ z. z.0 < length t.ifaces)) does.does.start (begins_within t e.0.time done.start does.does.begins) in
       let again : step_at (net_of t) everywhere s (Some e) ≡ step (net_of t) everywhere s = ap (step_at (net_of t) everywhere s) (sym first) in
       subst (Stands pending t q) again record {
@@ -74,9 +82,9 @@ module _ {L : Type 0} (pending : L → FinMap key_cmp (Event (List ℕ))) (t : N
         events = events';
         placed = placed_schedule (IsPlaceOf t) (start_events (net_of t) e.0.time s.sent does_at.start ++ next_events e.0.place e.0.number does_at.follows) (remove s.pending e.0)
             (either (start_events (net_of t) e.0.time s.sent does_at.start) (next_events e.0.place e.0.number does_at.follows)
-              (placed_start t order e.0.time s.sent does_at.start within) (placed_next (IsPlaceOf t) e.0.place e.0.number does_at.follows here))
+            (placed_start t order e.0.time s.sent does_at.start within) (placed_next (IsPlaceOf t) e.0.place e.0.number does_at.follows here))
             (placed_remove (IsPlaceOf t) s.pending e.0 stands.placed);
-        records = records'
+        records = records';
       }
     where
       either : (xs ys : List (Key × Event (List ℕ))) → ((i : ℕ) (f : Key × Event (List ℕ)) → nth xs i ≡ Some f → IsPlaceOf t f.0.place)
@@ -97,5 +105,44 @@ stands_again pending t p q s h e first devices sent records steps events = recor
   few = λ c. let l = h.few c in omega (arith, l, steps);
   events = events ∙ ap (λ m. insert (remove m e.0) e.0 e.1) h.events ∙ put_back s.pending e.0 e.1 (least_has s.pending e first);
   placed = h.placed;
-  records = records ∙ h.records
+  records = records ∙ h.records;
 }
+
+stand_same : (t : NetworkValue) (d e : DevicesValue) (node : ℕ → NodeStateValue) (port : ℕ → Port (List ℕ)) → Stand t d node port → IsSame d e → Stand t e node port
+stand_same t d e node port s h = record {
+  node_count = ap length h.nodes ∙ s.node_count;
+  nodes = subst (λ l. AllAt (λ v n. n ≡ node v) l) (sym h.nodes) s.nodes;
+  tables = subst (λ l. AllAt (λ v n. n.table ≡ table_of t v) l) (sym h.nodes) s.tables;
+  port_count = h.port_count ∙ s.port_count;
+  ports = λ i w e. let v = h.ports i w e in let p = s.ports i v.0 v.1 in record {
+    limit = ap (λ z. z.limit) v.2 ∙ p.limit;
+    rate = ap (λ z. z.rate) v.2 ∙ p.rate;
+    delay = ap (λ z. z.delay) v.2 ∙ p.delay;
+    busy = ap (λ z. z.busy) v.2 ∙ p.busy;
+    dropped = ap (λ z. z.dropped) v.2 ∙ p.dropped;
+  };
+  source_count = ap length h.sources ∙ s.source_count;
+  sources = subst (λ l. AllAt (λ j z. source_of t j ≡ Some z) l) (sym h.sources) s.sources;
+}
+
+-- memory that was made changes nothing
+pub stands_same : {L : Type 0} (pending : L → FinMap key_cmp (Event (List ℕ))) (t : NetworkValue) (p q : PartValue L) (s : State (List ℕ) NodeStateValue) → Stands pending t p s
+    → IsSame p.devices q.devices → pending q.timeline.events ≡ pending p.timeline.events → q.timeline.sent ≡ p.timeline.sent → q.timeline.records ≡ p.timeline.records
+    → q.steps ≡ p.steps → Stands pending t q s
+stands_same pending t p q s h same events sent records steps = record {
+  orderly = h.orderly;
+  devices = stand_same t p.devices q.devices s.node s.port h.devices same;
+  told = told_same t p.timeline q.timeline s.sent sent h.told;
+  few = λ c. let l = h.few c in omega (arith, l, steps);
+  events = events ∙ h.events;
+  placed = h.placed;
+  records = records ∙ h.records;
+}
+
+-- the event of a least key
+pub of_key : {X : Type 0} (o : Option (Key × X)) (k : Key) → option_map (λ e. e.0) o ≡ Some k → (e : Key × X) × (o ≡ Some e) × (e.0 ≡ k)
+of_key None k h = absurd cc
+of_key (Some e) k h = (e, refl, same_some e.0 k h)
+
+pub pends : (s : State (List ℕ) NodeStateValue) (e : Key × Event (List ℕ)) (k : Key) (before : ℕ) → least s.pending ≡ Some e → e.0 ≡ k → k.time < before → pends_before before s ≡ true
+pends s e k before first same lt = ap (is_before before) first ∙ ap (λ z. ltb z.time before) same ∙ grind (arith, nat_tests)

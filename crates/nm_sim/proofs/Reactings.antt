@@ -1,5 +1,5 @@
 -- What a node does with a packet.
-use Rattle.std.proofs.Common.{◌≡◌, ℕ, ◌<◌, Bool, true, false, cond, ◌==◌, List, length, Option, Some, None, slice_get, slice_set, refl, sym, ap, ◌∙◌, subst}
+use Rattle.std.proofs.Common.{◌≡◌, ℕ, ◌<◌, true, false, cond, ◌==◌, List, length, Option, Some, None, slice_get, slice_set, refl, sym, ap, ◌∙◌, subst}
 use Rattle.std.specs.Option.{IfSome}
 use Rattle.nm_base.specs.declared.event.Origin.{Origin}
 use Rattle.nm_base.specs.declared.event.Origin.TheVariants.{Arrival, Source as FromSource}
@@ -10,7 +10,7 @@ use Rattle.nm_topology.specs.Networks.{NodeValue}
 use Rattle.nm_topology.specs.Wholes.{NetworkValue}
 use Rattle.nm_model.specs.Lists.{set_at}
 use Rattle.nm_model.specs.Port.{Port}
-use Rattle.nm_forward.specs.State.{IsIfaceOf, NodeStateValue, NodeTable, table_of, table_from}
+use Rattle.nm_forward.specs.State.{IsIfaceOf, NodeStateValue, table_of, table_from}
 use Rattle.nm_forward.specs.Originate.{Consequence, Nothing, Counts, Sends, Originates, concluded}
 use Rattle.nm_forward.specs.Reaction.{reaction, arrived, handed, handed_by}
 use Rattle.nm_sim.specs.Devices.{DevicesValue, Stand}
@@ -61,7 +61,7 @@ module _ (t : NetworkValue) (d e : DevicesValue) (node : ℕ → NodeStateValue)
       let table : m.table ≡ table_of t v = ap (λ z. z.0.table) q ∙ keeps_table t n.table.node n o x ∙ s.tables v n here in
       record {
         stand = subst (λ z. Stand t e (set_at node v z) port) (ap (λ z. z.0) r) (node_changed t d e node port s v m nodes ports sources table);
-        sends = ap (λ z. z.1) r
+        sends = ap (λ z. z.1) r;
       }
 
 within_of : (t : NetworkValue) (v : ℕ) (o : Option (ℕ × List ℕ)) → ((s : ℕ × List ℕ) → o ≡ Some s → IsIfaceOf t.ifaces v s.0) → IfSome o (λ s. s.0 < length t.ifaces)

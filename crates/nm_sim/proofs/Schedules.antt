@@ -1,14 +1,13 @@
 -- What an event makes is new, and stands at places of the topology.
-use Rattle.std.proofs.Common.{◌≡◌, ◌≢◌, ◌⊎◌, inl, inr, ℕ, zero, suc, ◌+◌, ◌<◌, ◌≤◌, ◌==◌, Bool, true, false, cond, List, [], ◌∷◌, ◌++◌, length, Option, Some, None, slice_get, refl, sym, ap, ◌∙◌, subst, arith, ⊎_elim, length-append}
+use Rattle.std.proofs.Common.{◌≡◌, ◌≢◌, ◌⊎◌, inl, inr, ℕ, zero, suc, ◌+◌, ◌<◌, ◌≤◌, ◌==◌, Bool, true, false, List, [], ◌∷◌, ◌++◌, length, Option, Some, None, refl, sym, ap, ◌∙◌, subst, arith, ⊎_elim, length-append}
 use Rattle.std.proofs.lemmas.Bool.Decides.{nat_tests}
 use Rattle.std.specs.FinMap.{FinMap, get, insert, remove}
 use Rattle.std.specs.Option.{IfSome}
 use Rattle.nm_base.specs.declared.event.Event.{Event}
 use Rattle.nm_base.specs.declared.key.Key.{Key}
 use Rattle.nm_base.specs.declared.key.Place.{Place}
-use Rattle.nm_base.specs.declared.key.Place.TheVariants.{Arrive, Complete, Fire}
-use Rattle.nm_base.specs.Key.{key_of, key_cmp}
-use Rattle.nm_topology.specs.Networks.{IfaceValue}
+use Rattle.nm_base.specs.declared.key.Place.TheVariants.{Arrive, Complete}
+use Rattle.nm_base.specs.Key.{key_cmp}
 use Rattle.nm_topology.specs.Order.{IsInOrder}
 use Rattle.nm_topology.specs.Wholes.{NetworkValue}
 use Rattle.nm_model.specs.EventList.{schedule}
@@ -18,8 +17,7 @@ use Rattle.nm_sim.specs.Effects.{IsPlaceOf}
 use Rattle.nm_sim.specs.Network.{net_of}
 use Rattle.nm_sim.specs.Timelines.{AreFresh, everywhere}
 use Rattle.nm_sim.proofs.Beginnings.{peer_is}
-use Rattle.nm_sim.proofs.Networks.{mapped_at}
-use Rattle.nm_sim.proofs.Pendings.{get_insert_other, get_insert_same, get_remove_other, get_remove_same, same_or_apart}
+use Rattle.nm_sim.proofs.Pendings.{get_insert_other, get_remove_other, get_remove_same, same_or_apart}
 use Rattle.nm_sim.proofs.Stands.{set_here, set_there}
 use Rattle.std.proofs.lemmas.Option.{slice_get_cases}
 
@@ -27,7 +25,7 @@ nth_after : {A : Type 0} (xs ys : List A) (m : ℕ) → nth (xs ++ ys) (length x
 nth_after {A} [] ys m = let e : length {A = A} [] + m ≡ m = omega arith in ap (nth ys) e
 nth_after (x ∷ xs) ys m = let e : length (x ∷ xs) + m ≡ suc (length xs + m) = omega arith in ap (nth (x ∷ xs ++ ys)) e ∙ nth_after xs ys m
 
-same_some : {A : Type 0} (x y : A) → Some x ≡ Some y → x ≡ y
+pub same_some : {A : Type 0} (x y : A) → Some x ≡ Some y → x ≡ y
 same_some x y e = cc
 
 nth_before : {A : Type 0} (xs ys : List A) (m : ℕ) (x : A) → nth xs m ≡ Some x → (m < length xs) × (nth (xs ++ ys) m ≡ Some x)
@@ -44,7 +42,7 @@ schedule_append (x ∷ xs) ys m = ap (λ l. insert l x.0 x.1) (schedule_append x
 module _ (pending : FinMap key_cmp (Event (List ℕ))) (xs : List (Key × Event (List ℕ))) (place : Place) (number : ℕ) (follows : Option (ℕ × List ℕ))
     (fresh : AreFresh pending (xs ++ next_events place number follows))
     (apart : (m n : ℕ) (f g : Key × Event (List ℕ)) → m < n → nth (xs ++ next_events place number follows) m ≡ Some f
-        → nth (xs ++ next_events place number follows) n ≡ Some g → f.0 ≢ g.0) where
+    → nth (xs ++ next_events place number follows) n ≡ Some g → f.0 ≢ g.0) where
   pub second_fresh : AreFresh pending (next_events place number follows)
   second_fresh m f e = fresh (length xs + m) f (nth_after xs (next_events place number follows) m ∙ e)
 
@@ -52,7 +50,7 @@ module _ (pending : FinMap key_cmp (Event (List ℕ))) (xs : List (Key × Event 
   first_fresh m f e =
       let b = nth_before xs (next_events place number follows) m f e in
       go follows refl (fresh m f b.1)
-          (λ g h. apart m (length xs + 0) f g (omega (arith, b.0)) b.1 (nth_after xs (next_events place number follows) 0 ∙ h))
+      (λ g h. apart m (length xs + 0) f g (omega (arith, b.0)) b.1 (nth_after xs (next_events place number follows) 0 ∙ h))
     where
       go : (o : Option (ℕ × List ℕ)) → o ≡ follows → get pending f.0 ≡ None → ((g : Key × Event (List ℕ)) → nth (next_events place number o) 0 ≡ Some g → f.0 ≢ g.0)
           → get (schedule everywhere (next_events place number o) pending) f.0 ≡ None
@@ -104,15 +102,17 @@ pub one_more : (t : NetworkValue) (time n : ℕ) (sent : ℕ → List (ℕ × Li
 one_more t time n sent None h c = let l = h c in omega arith
 one_more t time n sent (Some z) h c = ⊎_elim
     (λ same. let l = h ((net_of t).peer z.0) in
-        let e = ap (λ j. length (set_at sent ((net_of t).peer z.0) put j)) same ∙ ap length (set_here sent ((net_of t).peer z.0) put) ∙ length-append (sent ((net_of t).peer z.0)) (message ∷ []) in
-        omega (arith, l, e))
+    let e = ap (λ j. length (set_at sent ((net_of t).peer z.0) put j)) same ∙ ap length (set_here sent ((net_of t).peer z.0) put) ∙ length-append (sent ((net_of t).peer z.0)) (message ∷ []) in
+    omega (arith, l, e))
     (λ other. let l = h c in let e = ap length (set_there sent ((net_of t).peer z.0) put c other) in omega (arith, l, e))
     (cases c ((net_of t).peer z.0))
   where
     message : ℕ × List ℕ
     message = (time + (net_of t).tx z.0 z.1 + (net_of t).delay z.0, z.1)
+
     put : List (ℕ × List ℕ)
     put = sent ((net_of t).peer z.0) ++ message ∷ []
+
     cases : (a b : ℕ) → (a ≡ b) ⊎ (a ≢ b)
     cases a b = go (a == b) refl
       where

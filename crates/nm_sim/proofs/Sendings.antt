@@ -1,6 +1,6 @@
 -- What a node sends is offered to a port.
 use Rattle.std.proofs.Common.{◌≡◌, ℕ, ◌<◌, List, length, Option, Some, None, slice_get, slice_set, refl, sym, ap, ◌∙◌, subst}
-use Rattle.std.specs.Option.{IfSome, option_map}
+use Rattle.std.specs.Option.{IfSome}
 use Rattle.nm_topology.specs.Wholes.{NetworkValue}
 use Rattle.nm_model.specs.Port.{Port, offered}
 use Rattle.nm_model.specs.Run.{at_iface}
@@ -9,9 +9,9 @@ use Rattle.nm_iface.specs.PortValue.{PortValue, has_room, takes, with_port}
 use Rattle.nm_iface.specs.declared.port.Start.{Start}
 use Rattle.nm_iface.specs.Starts.{IsStart, packet_started}
 use Rattle.nm_sim.specs.Network.{net_of}
-use Rattle.nm_sim.specs.Devices.{DevicesValue, IsPortOf, Stand}
+use Rattle.nm_sim.specs.Devices.{DevicesValue, Stand}
 use Rattle.nm_sim.specs.Effects.{Sends, StartsAt, start_at, start_of}
-use Rattle.nm_sim.proofs.Stands.{IsSameTurn, same_offer, port_after, port_turned}
+use Rattle.nm_sim.proofs.Stands.{same_offer, port_after, port_turned}
 
 pub start_of_at : (i : ℕ) (start : Option Start) → start_of (start_at i start) ≡ at_iface i (packet_started start)
 start_of_at i None = refl
@@ -23,7 +23,7 @@ module _ (t : NetworkValue) (d e : DevicesValue) (node : ℕ → NodeStateValue)
   sends_nothing same = record {
     stand = λ n came follows. subst (λ z. Stand t z node port) (sym same) s;
     start = λ n came follows. refl;
-    begins = tt
+    begins = tt;
   }
 
   module _ (i : ℕ) (x : List ℕ) (w : PortValue) (room : ℕ) (start : Option Start) (here : slice_get d.ports i ≡ Some w) (within : i < length t.ifaces) where
@@ -43,9 +43,9 @@ module _ (t : NetworkValue) (d e : DevicesValue) (node : ℕ → NodeStateValue)
         let p = s.ports i w here in
         let same = same_offer t i w (port i) p time x in
         let after = port_after t i w (port i) p time (offered (has_room w.limit) (takes w.rate) time x w.dropped w.busy)
-            (offered ((net_of t).room i) ((net_of t).tx i) time x (port i).dropped (port i).busy) room same in
+        (offered ((net_of t).room i) ((net_of t).tx i) time x (port i).dropped (port i).busy) room same in
         record {
           stand = λ n came follows. port_turned t d e node port s i _ _ nodes ports sources after;
           start = λ n came follows. start_of_at i start ∙ ap (at_iface i) (packet ∙ same.2);
-          begins = begins_at start begins
+          begins = begins_at start begins;
         }

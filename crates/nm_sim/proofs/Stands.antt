@@ -1,5 +1,5 @@
 -- Devices that stand for the states of nodes and ports.
-use Rattle.std.proofs.Common.{◌≡◌, ◌≢◌, ℕ, ◌+◌, ◌<◌, ◌==◌, Bool, true, false, cond, List, [], ◌∷◌, ◌++◌, length, min, Option, Some, None, slice_get, slice_set, refl, sym, ap, ◌∙◌, subst, arith, length-set}
+use Rattle.std.proofs.Common.{◌≡◌, ◌≢◌, ℕ, ◌+◌, ◌==◌, Bool, true, false, cond, List, [], ◌∷◌, ◌++◌, length, Option, Some, None, slice_get, slice_set, refl, sym, ap, ◌∙◌, subst, arith, length-set}
 use Rattle.std.proofs.lemmas.Bool.Decides.{nat_tests}
 use Rattle.nm_topology.specs.Networks.{IfaceValue}
 use Rattle.nm_topology.specs.Wholes.{NetworkValue}
@@ -20,7 +20,7 @@ first_port t i x w e limit rate delay busy dropped = record {
   rate = rate ∙ sym (ap (λ o. (far_from i o).rate) e);
   delay = delay ∙ sym (ap (λ o. (far_from i o).delay) e);
   busy = busy;
-  dropped = dropped
+  dropped = dropped;
 }
 
 -- the count of drops of a port stops at the greatest of its type; nothing else depends on it
@@ -106,7 +106,7 @@ module _ (t : NetworkValue) (d e : DevicesValue) (node : ℕ → NodeStateValue)
         (λ j v h g. subst (λ Q. IsPortOf t j v Q) (sym (set_there port i P j h)) (s.ports j v g))
         (subst (λ Q. IsPortOf t i w Q) (sym (set_here port i P)) is));
     source_count = ap length sources ∙ s.source_count;
-    sources = subst (λ l. AllAt (λ j z. source_of t j ≡ Some z) l) (sym sources) s.sources
+    sources = subst (λ l. AllAt (λ j z. source_of t j ≡ Some z) l) (sym sources) s.sources;
   }
 
   -- one node changes, and keeps what the topology says of it
@@ -121,5 +121,5 @@ module _ (t : NetworkValue) (d e : DevicesValue) (node : ℕ → NodeStateValue)
     port_count = ap length ports ∙ s.port_count;
     ports = subst (λ l. AllAt (λ j w. IsPortOf t j w (port j)) l) (sym ports) s.ports;
     source_count = ap length sources ∙ s.source_count;
-    sources = subst (λ l. AllAt (λ j z. source_of t j ≡ Some z) l) (sym sources) s.sources
+    sources = subst (λ l. AllAt (λ j z. source_of t j ≡ Some z) l) (sym sources) s.sources;
   }

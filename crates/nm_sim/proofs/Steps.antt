@@ -1,10 +1,9 @@
 -- A step of a part is the step of what it stands for.
-use Rattle.std.proofs.Common.{◌≡◌, ◌≢◌, ◌⊎◌, inl, inr, ℕ, zero, suc, ◌+◌, ◌<◌, ◌≤◌, ◌^◌, ◌==◌, Bool, true, false, true≢false, cond, List, [], ◌∷◌, ◌++◌, length, Option, Some, None, slice_get, refl, sym, ap, ◌∙◌, subst, arith, ⊎_elim, append_assoc, length-append}
+use Rattle.std.proofs.Common.{◌≡◌, ℕ, zero, suc, ◌<◌, ◌≤◌, ◌^◌, cond, List, [], ◌∷◌, length, Option, Some, None, slice_get, refl, sym, ap, ◌∙◌, subst, arith}
 use Rattle.std.specs.FinMap.{FinMap, entries, get, get-entries, insert, remove}
 use Rattle.std.specs.Cmp.{tied_itself}
 use Rattle.std.specs.Ordering.{is_eq, eq_by_cmp}
 use Rattle.std.specs.Option.{IfSome, IsSome}
-use Rattle.nm_base.specs.declared.limits.TheConstants.{MAX_TIME}
 use Rattle.nm_base.specs.declared.event.Event.{Event}
 use Rattle.nm_base.specs.declared.event.Event.TheVariants.{Delivery, Completion}
 use Rattle.nm_base.specs.declared.event.Origin.TheVariants.{Source as FromSource}
@@ -17,22 +16,19 @@ use Rattle.nm_topology.specs.declared.traffic.Traffic.{Traffic}
 use Rattle.nm_topology.specs.declared.traffic.Traffic.TheVariants.{Cbr, Echo, Raw}
 use Rattle.nm_topology.specs.Limits.{IsWithinLimits}
 use Rattle.nm_topology.specs.Wholes.{NetworkValue}
-use Rattle.nm_model.specs.EventList.{first_of_list, least, schedule}
-use Rattle.nm_model.specs.Lists.{nth}
-use Rattle.nm_model.specs.Network.{IsNet}
+use Rattle.nm_model.specs.EventList.{first_of_list, least}
 use Rattle.nm_model.specs.Orderly.{IsOrderly}
-use Rattle.nm_model.specs.Port.{Busy, Port}
-use Rattle.nm_model.specs.Run.{Effect, State, effect, made, next_events, start_events}
+use Rattle.nm_model.specs.Port.{Busy}
+use Rattle.nm_model.specs.Run.{State}
 use Rattle.nm_forward.specs.State.{NodeStateValue}
 use Rattle.nm_forward.specs.Reaction.{FitsOrigin, FitsSource}
 use Rattle.nm_iface.specs.PortValue.{PortValue}
 use Rattle.nm_traffic.specs.Orderly.{ComeBeforeStop, EndForGood, FitsMtu, FitTheMtu, TimesRise}
 use Rattle.nm_traffic.specs.Source.{source_at}
-use Rattle.nm_sim.specs.Devices.{DevicesValue, IsPortOf, Stand}
+use Rattle.nm_sim.specs.Devices.{DevicesValue, Stand}
 use Rattle.nm_sim.specs.Effects.{CanHappen, IsBusy, IsPlaceOf}
 use Rattle.nm_sim.specs.Network.{net_of}
-use Rattle.nm_sim.specs.Timelines.{AreFresh, everywhere}
-use Rattle.nm_sim.proofs.Pendings.{get_insert_other, get_insert_same, get_remove_other, get_remove_same, same_or_apart}
+use Rattle.nm_sim.specs.Timelines.{everywhere}
 
 -- the entry of the least key is there
 pub least_has : {X : Type 0} (m : FinMap key_cmp X) (e : Key × X) → least m ≡ Some e → get m e.0 ≡ Some e.1

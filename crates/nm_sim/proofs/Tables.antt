@@ -1,5 +1,5 @@
 -- Tables that grow at their end, or change at a number.
-use Rattle.std.proofs.Common.{◌≡◌, ◌≢◌, ℕ, zero, suc, ◌<◌, List, [], ◌∷◌, ◌++◌, length, Some, slice_get, slice_set, refl, sym, ap, subst, arith}
+use Rattle.std.proofs.Common.{◌≡◌, ◌≢◌, ℕ, zero, suc, ◌<◌, List, [], ◌∷◌, ◌++◌, length, Some, slice_get, slice_set, refl, subst, arith}
 use Rattle.nm_sim.specs.Tables.{AllAt}
 
 same_some : {X : Type 0} (x y : X) → Some x ≡ Some y → x ≡ y

@@ -1,5 +1,5 @@
 -- The nodes, ports and sources of a simulation, and what they stand for.
-use Rattle.std.specs.Prelude.{◌≡◌, ◌⊎◌, ℕ, ◌<◌, ◌≤◌, List, length, Option, Some, slice_get}
+use Rattle.std.specs.Prelude.{◌≡◌, ◌⊎◌, ℕ, ◌≤◌, List, length, Option, Some, slice_get}
 use Rattle.nm_topology.specs.Wholes.{NetworkValue}
 use Rattle.nm_model.specs.Port.{Port}
 use Rattle.nm_forward.specs.State.{NodeStateValue, table_of}

@@ -1,11 +1,8 @@
 -- The network of nm_model that an accepted topology describes.
-use Rattle.std.specs.Prelude.{ℕ, ◌==◌, List, map, length, max, Option, Some, None, slice_get, slice_index_or as get_or, slice_index}
-use Rattle.nm_base.specs.declared.event.Origin.{Origin}
+use Rattle.std.specs.Prelude.{ℕ, List, map, length, Option, Some, None, slice_get, slice_index_or as get_or, slice_index}
 use Rattle.nm_model.specs.Network.{Net}
 use Rattle.nm_topology.specs.declared.parts.Far.{Far}
-use Rattle.nm_topology.specs.declared.traffic.Source.{Source}
-use Rattle.nm_topology.specs.Checks.{far_end}
-use Rattle.nm_topology.specs.Networks.{NodeValue, IfaceValue}
+use Rattle.nm_topology.specs.Networks.{IfaceValue}
 use Rattle.nm_topology.specs.Order.{owners_of, parts_of}
 use Rattle.nm_topology.specs.Wholes.{NetworkValue}
 use Rattle.nm_forward.specs.State.{NodeStateValue, first_state}

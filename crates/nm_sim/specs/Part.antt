@@ -38,3 +38,10 @@ Stepped pending t before s old new (Ok None) = (new ≡ old) × (pends_before be
 Stepped pending t before s old new (Ok (Some k)) = Stands pending t new (step (net_of t) everywhere s)
     × (pends_before before s ≡ true) × (option_map (λ e. e.0) (least s.pending) ≡ Some k)
 Stepped pending t before s old new (Err e) = Stands pending t new s
+
+-- the same where only whether there was an event is answered
+abbrev pub Advanced : {L : Type 0} → (L → FinMap key_cmp (Event (List ℕ))) → NetworkValue → ℕ → State (List ℕ) NodeStateValue
+    → PartValue L → PartValue L → Result Bool AllocError → Type 0
+Advanced pending t before s old new (Ok false) = (new ≡ old) × (pends_before before s ≡ false)
+Advanced pending t before s old new (Ok true) = Stands pending t new (step (net_of t) everywhere s) × (pends_before before s ≡ true)
+Advanced pending t before s old new (Err e) = Stands pending t new s

@@ -223,7 +223,13 @@ impl Devices {
             → IfOk result (λ r. Reacts topology.now states ports node origin packet.now self.new (sent_of r)) }
     {
         a_node_sends_by_its_own_interfaces(topology);
-        react(alloc, topology, &mut self.nodes[node.index()], origin, packet)
+        react(
+            alloc,
+            topology,
+            &mut self.nodes[node.index()],
+            origin,
+            packet,
+        )
     }
 
     /// A packet arrives at an interface. The packet comes back where memory was refused; nothing changed then.
@@ -335,14 +341,20 @@ impl Devices {
             → Stand topology.now self.old states ports
             → IfOk result (Does topology.now states ports key event self.new) }
     {
-        let Key { time, place, number } = key;
+        let Key {
+            time,
+            place,
+            number,
+        } = key;
         match event {
             Event::Completion => match place {
                 Place::Complete(iface) => Ok(self.complete(topology, time, iface)),
                 Place::Arrive(_) | Place::Fire(_) => Err(Event::Completion),
             },
             Event::Delivery(packet) => match place {
-                Place::Arrive(iface) => delivered(self.arrive(alloc, topology, time, iface, packet)),
+                Place::Arrive(iface) => delivered(self.arrive(
+                    alloc, topology, time, iface, packet,
+                )),
                 Place::Fire(source) => {
                     delivered(self.fire(alloc, topology, time, source, number, packet))
                 }

@@ -11,7 +11,7 @@ ghost use Rattle.nm_sim.specs.Effects.{StartsAt, start_of};
 ghost use Rattle.nm_model.specs.Run.{State, start, step};
 ghost use Rattle.nm_forward.specs.State.{NodeStateValue};
 ghost use Rattle.nm_sim.specs.Network.{net_of};
-ghost use Rattle.nm_sim.specs.Part.{Stands, Stepped};
+ghost use Rattle.nm_sim.specs.Part.{Advanced, Stands, Stepped};
 ghost use Rattle.std.specs.FinMap.{empty};
 ghost use Rattle.nm_forward.specs.Counter.{counter_number};
 ghost use Rattle.nm_model.specs.Run.{source_events};
@@ -24,8 +24,8 @@ use crate::effect::Effect;
 use crate::network::every_topology_is_a_network;
 use crate::timeline::Timeline;
 use nm_base::{IfaceNo, Key, NodeNo, Packet, Record, SourceNo, Time};
-use nm_forward::{Counter, NodeState};
 use nm_events::EventList;
+use nm_forward::{Counter, NodeState};
 use nm_model::orderly::{every_state_is_orderly, new_keys_are_new};
 use nm_topology::Topology;
 use nm_topology::topology::accepted_topologies_are_in_order;
@@ -133,6 +133,24 @@ impl<L: EventList> Part<L> {
         Ok(Some(key))
     }
 
+    /// Does an event as `step` does, and answers whether there was one.
+    pub(crate) fn advance(
+        &mut self,
+        alloc: Global,
+        topology: &Topology,
+        before: Time,
+    ) -> Result<bool, AllocError>
+        requires before { before ≤ topology.now.stop }
+        requires stands { (s : State (List ℕ) NodeStateValue) × Stands L.pending topology.now self.old s }
+        ensures advance { (s : State (List ℕ) NodeStateValue) → Stands L.pending topology.now self.old s
+            → Advanced L.pending topology.now before s self.old self.new result }
+    {
+        match self.step(alloc, topology, before)? {
+            Some(_) => Ok(true),
+            None => Ok(false),
+        }
+    }
+
     /// What the node counted, if it is there.
     pub fn counter(&self, node: NodeNo, counter: Counter) -> Option<u64>
         ensures { result ≡ option_map (λ n. slice_index n.counters (counter_number counter))
@@ -181,10 +199,10 @@ impl<L: EventList> Part<L> {
         requires follows { AreFresh (L.pending self.old.timeline.events) (next_events key.place key.number effect.follows) }
         requires told { (sent : ℕ → List (ℕ × List ℕ)) × Told topology.now self.old.timeline sent × IsFew sent
             × AreFresh (schedule everywhere (next_events key.place key.number effect.follows) (L.pending self.old.timeline.events))
-              (start_events (net_of topology.now) key.time sent (start_of effect.start)) }
+            (start_events (net_of topology.now) key.time sent (start_of effect.start)) }
         ensures events { (sent : ℕ → List (ℕ × List ℕ)) → Told topology.now self.old.timeline sent → L.pending self.new.timeline.events
             ≡ schedule everywhere (start_events (net_of topology.now) key.time sent (start_of effect.start))
-              (schedule everywhere (next_events key.place key.number effect.follows) (L.pending self.old.timeline.events)) }
+            (schedule everywhere (next_events key.place key.number effect.follows) (L.pending self.old.timeline.events)) }
         ensures told { (sent : ℕ → List (ℕ × List ℕ)) → Told topology.now self.old.timeline sent
             → Told topology.now self.new.timeline (sent_after (net_of topology.now) key.time sent (start_of effect.start)) }
         ensures records { self.new.timeline.records ≡ (self.old.timeline.records ++ in_record key.time effect.came)

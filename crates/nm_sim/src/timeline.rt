@@ -42,7 +42,7 @@ impl<L> Model for Timeline<L> {
       events = t.events;
       sent = t.sent.items;
       records = t.records.items;
-      spare = vec_capacity t.records - vec_len t.records
+      spare = vec_capacity t.records - vec_len t.records;
     } };
 }
 
@@ -115,10 +115,14 @@ impl<L: EventList> Timeline<L> {
             ≡ schedule everywhere (first_event source first) (L.pending self.old.events) }
         ensures others { self.new ≡ record self.old { events = self.new.events } }
     {
-        if let Some(first) = first {
-            let (time, packet) = first;
+        if let Some(next) = first {
+            let (time, packet) = next;
             let place = Place::Fire(source);
-            let key = Key { time, place, number: 0 };
+            let key = Key {
+                time,
+                place,
+                number: 0,
+            };
             self.events.put(key, Event::Delivery(packet.into_packet()));
         }
     }
@@ -132,7 +136,14 @@ impl<L: EventList> Timeline<L> {
     {
         if let Some((iface, packet)) = came {
             let dir = Dir::In;
-            self.records.push(Record { time, iface, dir, packet }).unwrap();
+            self.records
+                .push(Record {
+                    time,
+                    iface,
+                    dir,
+                    packet,
+                })
+                .unwrap();
         }
     }
 
@@ -148,8 +159,16 @@ impl<L: EventList> Timeline<L> {
     {
         if let Some(next) = follows {
             let (time, packet) = next;
-            let Key { time: _, place, number } = key;
-            let key = Key { time, place, number: number + 1 };
+            let Key {
+                time: _,
+                place,
+                number,
+            } = key;
+            let key = Key {
+                time,
+                place,
+                number: number + 1,
+            };
             self.events.put(key, Event::Delivery(packet.into_packet()));
         }
     }
@@ -192,12 +211,31 @@ impl<L: EventList> Timeline<L> {
     {
         let number = self.sent[peer.index()];
         self.sent[peer.index()] = number + 1;
-        let Start { twin, completes, arrives } = start;
+        let Start {
+            twin,
+            completes,
+            arrives,
+        } = start;
         let dir = Dir::Out;
-        self.records.push(Record { time, iface, dir, packet: twin.copy }).unwrap();
-        let arrival = Key { time: arrives, place: Place::Arrive(peer), number };
+        self.records
+            .push(Record {
+                time,
+                iface,
+                dir,
+                packet: twin.copy,
+            })
+            .unwrap();
+        let arrival = Key {
+            time: arrives,
+            place: Place::Arrive(peer),
+            number,
+        };
         self.events.put(arrival, Event::Delivery(twin.packet));
-        let completion = Key { time: completes, place: Place::Complete(iface), number };
+        let completion = Key {
+            time: completes,
+            place: Place::Complete(iface),
+            number,
+        };
         self.events.put(completion, Event::Completion);
     }
 

@@ -1,4 +1,4 @@
-use Rattle.std.proofs.Common.{◌≡◌, Some, refl, sym, ap, ◌∙◌}
+use Rattle.std.proofs.Common.{refl, sym, ◌∙◌}
 use Rattle.nm_sim.proofs.Doings.{arrives_by}
 use Rattle.nm_sim.proofs.Networks.{owner_is}
 use Rattle.nm_sim.proofs.devices.Devices.arrive.Goals as goal

@@ -1,9 +1,9 @@
-use Rattle.std.proofs.Common.{◌≡◌, ◌<◌, ℕ, length, Some, slice_get, slice_set, refl, sym, ap, ◌∙◌, subst, rules, arith}
+use Rattle.std.proofs.Common.{◌≡◌, ◌<◌, length, Some, slice_get, slice_set, refl, sym, ap, subst, rules, arith}
 use Rattle.nm_forward.specs.Reaction.{sent_of}
 use Rattle.std.proofs.lemmas.Option.{slice_get_read}
 use Rattle.std.proofs.lemmas.Result.{IfOk-weaker}
 use Rattle.nm_sim.specs.contracts.devices.Devices.{the_view}
-use Rattle.nm_sim.specs.Devices.{DevicesValue, IsStanding, Stand}
+use Rattle.nm_sim.specs.Devices.{DevicesValue, IsStanding}
 use Rattle.nm_sim.proofs.Reactings.{reacts_by, sends_within, table_is}
 use Rattle.nm_sim.proofs.devices.Devices.react.Goals as goal
 
@@ -24,4 +24,4 @@ returns-clause-reacts c = rw (← c.self.view_is) (λ states ports s.
     let here : slice_get c.self.inside.nodes.items c.args.node ≡ Some c.index_mut.result.now = search (rules, slice_get_read) in
     let after : DevicesValue = record { nodes = slice_set c.self.inside.nodes.items c.index.result c.react.new.state; ports = c.self.inside.ports.items; sources = c.self.inside.sources.items; used = c.self.inside.used } in
     IfOk-weaker c.react.result _ _ (λ r q. reacts_by c.args.topology.now (the_view c.self.inside) after states ports s c.args.node c.index_mut.result.now here
-        c.react.new.state c.args.origin c.args.packet.now (sent_of r) q (ap (λ k. slice_set c.self.inside.nodes.items k c.react.new.state) c.index.ensures) refl refl) c.react.ensures.ok)
+    c.react.new.state c.args.origin c.args.packet.now (sent_of r) q (ap (λ k. slice_set c.self.inside.nodes.items k c.react.new.state) c.index.ensures) refl refl) c.react.ensures.ok)

@@ -1,7 +1,5 @@
-use Rattle.std.proofs.Common.{◌≡◌, ◌<◌, ◌^◌, None, Some, ℕ, ◌+◌, ◌++◌, List, length, refl, sym, ap, ◌∙◌, subst, arith}
+use Rattle.std.proofs.Common.{◌≡◌, Some, ℕ, ◌+◌, ◌++◌, List, refl, sym, ap, ◌∙◌, subst, arith}
 use Rattle.std.specs.FinMap.{get, insert, remove}
-use Rattle.nm_base.specs.declared.event.Event.{Event}
-use Rattle.nm_base.specs.declared.key.Key.{Key}
 use Rattle.nm_model.specs.EventList.{least}
 use Rattle.nm_model.specs.EventList.{schedule}
 use Rattle.nm_model.specs.Run.{State, in_record, next_events, out_record, sent_after, start_events}
@@ -10,7 +8,6 @@ use Rattle.nm_forward.specs.State.{NodeStateValue}
 use Rattle.nm_sim.specs.Network.{net_of}
 use Rattle.nm_sim.specs.Part.{PartValue, Stands}
 use Rattle.nm_sim.specs.Timelines.{AreFresh, Told, everywhere}
-use Rattle.nm_sim.specs.contracts.part.Part.{the_view}
 use Rattle.nm_sim.proofs.Beginnings.{told_same}
 use Rattle.nm_sim.proofs.Parts.{follows_fresh, start_fresh, stands_after, stands_again}
 use Rattle.nm_sim.proofs.Pendings.{get_remove_same}
@@ -25,7 +22,7 @@ effect-requires-clause-happens g c =
     let t = c.args.topology.now in
     let laws = c.source_times_rise.ensures in
     can_happen t c.accepted_topologies_are_in_order.ensures.limits laws.fit laws.rise laws.end laws.before z.0 stands.orderly stands.placed c.self.inside.devices stands.devices
-        c.in-Some.key c.in-Some.event (least_has z.0.pending (c.in-Some.key, c.in-Some.event) first)
+    c.in-Some.key c.in-Some.event (least_has z.0.pending (c.in-Some.key, c.in-Some.event) first)
 
 pub apply-requires-clause-number : goal.apply-requires-clause-number
 apply-requires-clause-number g c =
@@ -34,7 +31,7 @@ apply-requires-clause-number g c =
     let first : least z.0.pending ≡ Some (c.in-Some.key, c.in-Some.event) = ap (λ m. least m) (sym stands.events) ∙ sym c.in-Some.ensures.least in
     let laws = c.source_times_rise.ensures in
     number_small c.args.topology.now c.accepted_topologies_are_in_order.ensures.limits laws.rise laws.end laws.before z.0 stands.orderly c.self.inside.steps stands.few c.self.invariant
-        c.in-Some.key c.in-Some.event (least_has z.0.pending (c.in-Some.key, c.in-Some.event) first)
+    c.in-Some.key c.in-Some.event (least_has z.0.pending (c.in-Some.key, c.in-Some.event) first)
 
 pub apply-requires-clause-follows : goal.apply-requires-clause-follows
 apply-requires-clause-follows g c =
@@ -65,10 +62,13 @@ apply-requires-clause-told g c =
     let rest = c.in-Some.ensures.rest ∙ ap (λ m. remove m c.in-Some.key) stands.events in
     let fresh = c.new_keys_are_new.ensures.fresh net isnet everywhere (λ q r h. refl) z.0 stands.orderly (c.in-Some.key, c.in-Some.event) first in
     let apart = c.new_keys_are_new.ensures.apart net isnet z.0 (c.in-Some.key, c.in-Some.event) in
-    let sent = ap (λ l. l.sent) c.in-Some.ensures.others in
-    (z.0.sent, told_same t p.timeline c.take_least.new.self z.0.sent sent stands.told, (λ x. let f = stands.few x in omega (arith, f, c.self.invariant)),
-    subst (λ m. AreFresh (schedule everywhere (next_events c.in-Some.key.place c.in-Some.key.number c.in-Ok.effect.follows) m) (start_events net c.in-Some.key.time z.0.sent (start_of c.in-Ok.effect.start))) (sym rest)
-    (start_fresh g.L.EventList.pending t p z.0 stands (c.in-Some.key, c.in-Some.event) first c.in-Ok.effect does.start does.follows fresh apart))
+    let sent = ap (λ l. l.sent) c.in-Some.ensures.others in (
+      z.0.sent,
+      told_same t p.timeline c.take_least.new.self z.0.sent sent stands.told,
+      (λ x. let f = stands.few x in omega (arith, f, c.self.invariant)),
+      subst (λ m. AreFresh (schedule everywhere (next_events c.in-Some.key.place c.in-Some.key.number c.in-Ok.effect.follows) m) (start_events net c.in-Some.key.time z.0.sent (start_of c.in-Ok.effect.start))) (sym rest)
+          (start_fresh g.L.EventList.pending t p z.0 stands (c.in-Some.key, c.in-Some.event) first c.in-Ok.effect does.start does.follows fresh apart),
+    )
 
 pub put-requires-clause-fresh : goal.put-requires-clause-fresh
 put-requires-clause-fresh g c = ap (λ m. get m c.in-Some.key) c.in-Some.ensures.rest ∙ get_remove_same _ c.in-Some.key
@@ -95,13 +95,13 @@ returns-in-Ok-clause-ok g c = λ s h.
     let view = c.self-in-Ok.view_is in
     let k = c.in-Some.key in
     stands_after g.L.EventList.pending t p s stands (k, c.in-Some.event) first order orderly c.in-Ok.effect after
-        (subst (λ d. Does t s.node s.port k c.in-Some.event d c.in-Ok.effect) (sym (ap (λ (q : PartValue g.row.L.Denot). q.devices) view ∙ c.apply.ensures.devices)) does')
-        (subst (λ (q : PartValue g.row.L.Denot). Told t q.timeline (sent_after net k.time s.sent (start_of c.in-Ok.effect.start))) (sym view) (c.apply.ensures.told s.sent told))
-        (ap (λ (q : PartValue g.row.L.Denot). g.L.EventList.pending q.timeline.events) view ∙ c.apply.ensures.events s.sent told
-            ∙ ap (λ m. schedule everywhere (start_events net k.time s.sent (start_of c.in-Ok.effect.start)) (schedule everywhere (next_events k.place k.number c.in-Ok.effect.follows) m)) rest)
-        (ap (λ (q : PartValue g.row.L.Denot). q.timeline.records) view ∙ c.apply.ensures.records
-            ∙ ap (λ l. (l ++ in_record k.time c.in-Ok.effect.came) ++ out_record k.time (start_of c.in-Ok.effect.start)) (ap (λ l. l.records) c.in-Some.ensures.others))
-        (ap (λ (q : PartValue g.row.L.Denot). q.steps + 1) view ∙ ap (λ n. n + 1) c.apply.ensures.steps)
+    (subst (λ d. Does t s.node s.port k c.in-Some.event d c.in-Ok.effect) (sym (ap (λ (q : PartValue g.row.L.Denot). q.devices) view ∙ c.apply.ensures.devices)) does')
+    (subst (λ (q : PartValue g.row.L.Denot). Told t q.timeline (sent_after net k.time s.sent (start_of c.in-Ok.effect.start))) (sym view) (c.apply.ensures.told s.sent told))
+    (ap (λ (q : PartValue g.row.L.Denot). g.L.EventList.pending q.timeline.events) view ∙ c.apply.ensures.events s.sent told
+    ∙ ap (λ m. schedule everywhere (start_events net k.time s.sent (start_of c.in-Ok.effect.start)) (schedule everywhere (next_events k.place k.number c.in-Ok.effect.follows) m)) rest)
+    (ap (λ (q : PartValue g.row.L.Denot). q.timeline.records) view ∙ c.apply.ensures.records
+    ∙ ap (λ l. (l ++ in_record k.time c.in-Ok.effect.came) ++ out_record k.time (start_of c.in-Ok.effect.start)) (ap (λ l. l.records) c.in-Some.ensures.others))
+    (ap (λ (q : PartValue g.row.L.Denot). q.steps + 1) view ∙ ap (λ n. n + 1) c.apply.ensures.steps)
 
 pub returns-in-Err-clause-err : goal.returns-in-Err-clause-err
 returns-in-Err-clause-err g c = λ s h.
@@ -112,6 +112,6 @@ returns-in-Err-clause-err g c = λ s h.
     let first : least s.pending ≡ Some (c.in-Some.key, c.in-Some.event) = ap (λ m. least m) (sym stands.events) ∙ sym c.in-Some.ensures.least in
     let event : c.in-Err.event ≡ c.in-Some.event = c.in-Err.ensures.back in
     stands_again g.L.EventList.pending t p q s stands (c.in-Some.key, c.in-Some.event) first c.in-Err.ensures.err
-        (ap (λ l. l.sent) c.put.ensures.others ∙ ap (λ l. l.sent) c.in-Some.ensures.others)
-        (ap (λ l. l.records) c.put.ensures.others ∙ ap (λ l. l.records) c.in-Some.ensures.others) refl
-        (c.put.ensures.events ∙ (λ i. insert (c.in-Some.ensures.rest i) c.in-Some.key (event i)))
+    (ap (λ l. l.sent) c.put.ensures.others ∙ ap (λ l. l.sent) c.in-Some.ensures.others)
+    (ap (λ l. l.records) c.put.ensures.others ∙ ap (λ l. l.records) c.in-Some.ensures.others) refl
+    (c.put.ensures.events ∙ (λ i. insert (c.in-Some.ensures.rest i) c.in-Some.key (event i)))

@@ -1,10 +1,10 @@
-use Rattle.std.proofs.Common.{◌≡◌, ◌<◌, ℕ, length, List, Some, slice_get, sym, ap, ◌∙◌, subst, arith}
+use Rattle.std.proofs.Common.{◌≡◌, sym, ap, ◌∙◌, subst, arith}
 use Rattle.std.specs.Option.{IfSome}
 use Rattle.nm_model.specs.EventList.{schedule}
 use Rattle.nm_model.specs.Run.{start_events, sent_after}
 use Rattle.nm_sim.specs.Effects.{StartsAt, start_of}
 use Rattle.nm_sim.specs.Network.{net_of}
-use Rattle.nm_sim.specs.Timelines.{AreFresh, Told, IsFew, everywhere}
+use Rattle.nm_sim.specs.Timelines.{AreFresh, Told, everywhere}
 use Rattle.nm_sim.proofs.Beginnings.{peer_is, arrival_fresh, completion_fresh, begun_events, begun_told}
 use Rattle.nm_sim.proofs.timeline.Timeline.begins.Goals as goal
 
@@ -21,7 +21,7 @@ starts-requires-clause-arrival g c =
     let begins = subst (λ o. IfSome o (StartsAt c.args.topology.now c.args.time)) c.in-Some.is c.requires.begins in
     let fresh = subst (λ o. AreFresh (g.L.EventList.pending c.args.self.now.events) (start_events (net_of c.args.topology.now) c.args.time c.requires.told.0 (start_of o))) c.in-Some.is c.requires.told.3 in
     arrival_fresh c.args.topology.now c.args.self.now c.args.time c.requires.told.0 c.requires.told.1 c.in-Some.begun.0 c.in-Some.begun.1 begins
-        c.far-peer.result.peer (peer_is c.args.topology.now c.in-Some.begun.0 c.iface.result.now c.iface.ensures ∙ sym peer) (omega (arith, linked.within, peer)) _ fresh
+    c.far-peer.result.peer (peer_is c.args.topology.now c.in-Some.begun.0 c.iface.result.now c.iface.ensures ∙ sym peer) (omega (arith, linked.within, peer)) _ fresh
 
 pub starts-requires-clause-completion : goal.starts-requires-clause-completion
 starts-requires-clause-completion g c =
@@ -30,7 +30,7 @@ starts-requires-clause-completion g c =
     let begins = subst (λ o. IfSome o (StartsAt c.args.topology.now c.args.time)) c.in-Some.is c.requires.begins in
     let fresh = subst (λ o. AreFresh (g.L.EventList.pending c.args.self.now.events) (start_events (net_of c.args.topology.now) c.args.time c.requires.told.0 (start_of o))) c.in-Some.is c.requires.told.3 in
     completion_fresh c.args.topology.now c.args.self.now c.args.time c.requires.told.0 c.requires.told.1 c.in-Some.begun.0 c.in-Some.begun.1 begins
-        c.far-peer.result.peer (peer_is c.args.topology.now c.in-Some.begun.0 c.iface.result.now c.iface.ensures ∙ sym peer) (omega (arith, linked.within, peer)) _ fresh
+    c.far-peer.result.peer (peer_is c.args.topology.now c.in-Some.begun.0 c.iface.result.now c.iface.ensures ∙ sym peer) (omega (arith, linked.within, peer)) _ fresh
 
 pub returns-in-Some-clause-events : goal.returns-in-Some-clause-events
 returns-in-Some-clause-events g c = λ sent told.
@@ -40,7 +40,7 @@ returns-in-Some-clause-events g c = λ sent told.
     subst (λ o. g.L.EventList.pending c.starts.new.self.events ≡ schedule everywhere (start_events (net_of c.args.topology.now) c.args.time sent (start_of o)) (g.L.EventList.pending c.args.self.now.events))
     (sym c.in-Some.is)
     (begun_events c.args.topology.now c.args.self.now c.args.time sent told c.in-Some.begun.0 c.in-Some.begun.1 begins
-        c.far-peer.result.peer (peer_is c.args.topology.now c.in-Some.begun.0 c.iface.result.now c.iface.ensures ∙ sym peer) (omega (arith, linked.within, peer)) _ _ c.starts.ensures.events)
+    c.far-peer.result.peer (peer_is c.args.topology.now c.in-Some.begun.0 c.iface.result.now c.iface.ensures ∙ sym peer) (omega (arith, linked.within, peer)) _ _ c.starts.ensures.events)
 
 pub returns-in-Some-clause-told : goal.returns-in-Some-clause-told
 returns-in-Some-clause-told g c = λ sent told.
@@ -49,4 +49,4 @@ returns-in-Some-clause-told g c = λ sent told.
     let begins = subst (λ o. IfSome o (StartsAt c.args.topology.now c.args.time)) c.in-Some.is c.requires.begins in
     subst (λ o. Told c.args.topology.now c.starts.new.self (sent_after (net_of c.args.topology.now) c.args.time sent (start_of o))) (sym c.in-Some.is)
     (begun_told c.args.topology.now c.args.self.now c.args.time sent told c.in-Some.begun.0 c.in-Some.begun.1 begins
-        c.far-peer.result.peer (peer_is c.args.topology.now c.in-Some.begun.0 c.iface.result.now c.iface.ensures ∙ sym peer) (omega (arith, linked.within, peer)) c.starts.new.self c.starts.ensures.sent)
+    c.far-peer.result.peer (peer_is c.args.topology.now c.in-Some.begun.0 c.iface.result.now c.iface.ensures ∙ sym peer) (omega (arith, linked.within, peer)) c.starts.new.self c.starts.ensures.sent)
