@@ -2,4 +2,5 @@ pub mod Layouts
 pub mod Longest
 pub mod Owning
 pub mod Sending
+pub mod Sizes
 pub mod Errors

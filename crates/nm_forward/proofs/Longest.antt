@@ -1,14 +1,14 @@
 -- The route that is found is the longest that holds the address.
-use Rattle.std.proofs.Common.{◌≤◌, ◌≡◌, All, ℕ, zero, suc, ◌<◌, Bool, true, false, cond, List, [], ◌∷◌, length, Option, Some, None, refl, sym, ap, ◌∙◌, subst, arith, ⊎_elim}
-use Rattle.std.specs.Prelude.{Contains, slice_index_or, find, slice_get, slice_index}
+use Rattle.std.proofs.Common.{◌≤◌, ◌≡◌, All, ℕ, zero, suc, ◌<◌, Bool, true, false, cond, List, [], ◌∷◌, Option, Some, None, refl, sym, ap, ◌∙◌, subst, arith, ⊎_elim}
+use Rattle.std.specs.Prelude.{Contains, slice_index_or, find, slice_get}
 use Rattle.std.specs.Option.{option_map, option_or}
 use Rattle.std.proofs.lemmas.Bool.{cases_Bool, cases_eq}
 use Rattle.std.proofs.lemmas.Bool.Decides.{nat_tests}
 use Rattle.std.proofs.lemmas.List.Elements.{All-cons, All-contains_itself}
 use Rattle.nm_topology.specs.declared.parts.Route.{Route}
-use Rattle.nm_topology.specs.Networks.{NodeValue, IfaceValue}
+use Rattle.nm_topology.specs.Networks.{NodeValue}
 use Rattle.nm_topology.specs.Wholes.{NetworkValue}
-use Rattle.nm_topology.specs.Order.{IsInOrder, owners_of}
+use Rattle.nm_topology.specs.Order.{IsInOrder}
 use Rattle.nm_forward.specs.Routes.{Holds, network, leads, longest_below, longest_route, route_of}
 use Rattle.nm_forward.specs.State.{IsIfaceOf, NodeTable, table_from, table_of}
 

@@ -1,6 +1,6 @@
 -- A node sends by its own interfaces.
-use Rattle.std.proofs.Common.{◌≡◌, All, ℕ, ◌<◌, Bool, true, false, cond, List, length, Option, Some, None, refl, sym, ap, ◌∙◌, subst, arith, ⊎_elim}
-use Rattle.std.specs.Prelude.{◌==◌, slice_get, slice_index, slice_index_or}
+use Rattle.std.proofs.Common.{◌≡◌, All, ℕ, ◌<◌, Bool, true, false, cond, List, length, Option, Some, None, refl, sym, ◌∙◌, subst, ⊎_elim}
+use Rattle.std.specs.Prelude.{◌==◌, slice_get, slice_index}
 use Rattle.std.proofs.lemmas.List.{length-map}
 use Rattle.std.proofs.lemmas.Bool.{eqb-true}
 use Rattle.std.proofs.lemmas.Option.{slice_get_cases}
@@ -10,11 +10,10 @@ use Rattle.nm_packet.specs.Ipv4.{cut_of}
 use Rattle.nm_topology.specs.declared.traffic.Source.{Source}
 use Rattle.nm_topology.specs.declared.traffic.Traffic.{Traffic}
 use Rattle.nm_topology.specs.declared.traffic.Traffic.TheVariants.{Cbr, Echo, Raw}
-use Rattle.nm_topology.specs.Networks.{IfaceValue}
 use Rattle.nm_topology.specs.Wholes.{NetworkValue}
 use Rattle.nm_topology.specs.Order.{IsInOrder, IsPlaced, LeavesByOwn, owners_of}
 use Rattle.nm_forward.specs.declared.counter.Counter.TheVariants as count
-use Rattle.nm_forward.specs.State.{IsIfaceOf, NodeTable, NodeStateValue, table_of, counted}
+use Rattle.nm_forward.specs.State.{IsIfaceOf, NodeStateValue, table_of, counted}
 use Rattle.nm_forward.specs.Row.{arrival_row, row_counter}
 use Rattle.nm_forward.specs.Originate.{Sends, originate, Outgoing}
 use Rattle.nm_forward.specs.Reaction.{consequence_of, arrived, handed, handed_by, reaction}

@@ -1,5 +1,5 @@
 -- What holds of each packet that a node sends, and of the interface by which it is sent.
-use Rattle.std.proofs.Common.{◌≡◌, ℕ, Bool, true, false, cond, not, List, Option, Some, None, refl, sym, ap, ◌∙◌, subst}
+use Rattle.std.proofs.Common.{◌≡◌, ℕ, Bool, true, false, cond, List, Option, Some, None, refl, subst}
 use Rattle.std.specs.Prelude.{is_some, nat_le, ◌==◌}
 use Rattle.nm_packet.specs.Address.{is_offending}
 use Rattle.nm_packet.specs.Ipv4.{Header, header_fault, cut_of, fields_of, payload_of, packet_octets, lowered}

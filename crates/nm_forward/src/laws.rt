@@ -1,11 +1,13 @@
 //! Laws of the definitions: each function does nothing, and its contract is the law.
 
 ghost use Rattle.std.specs.Prelude.{◌≡◌, ℕ, ◌≤◌, All, Contains, List, None, Some, length};
+ghost use Rattle.nm_base.specs.declared.limits.TheConstants.{MAX_PACKET_OCTETS};
 ghost use Rattle.nm_base.specs.declared.event.Origin.{Origin};
 ghost use Rattle.nm_topology.specs.declared.parts.Route.{Route};
+ghost use Rattle.nm_topology.specs.Wholes.{NetworkValue};
 ghost use Rattle.nm_forward.specs.Routes.{Holds, longest_route};
 ghost use Rattle.nm_forward.specs.State.{IsIfaceOf, NodeStateValue};
-ghost use Rattle.nm_forward.specs.Reaction.{reaction};
+ghost use Rattle.nm_forward.specs.Reaction.{FitsOrigin, reaction};
 
 use nm_topology::Topology;
 use nm_topology::topology::accepted_topologies_are_in_order;
@@ -29,3 +31,11 @@ pub fn a_node_sends_by_its_own_interfaces(topology: &Topology)
 {
     accepted_topologies_are_in_order(topology);
 }
+
+/// What a node sends is a packet where what comes to it is one, and a source hands over what fits: it has 1 to 65,535
+/// octets.
+pub fn a_sent_packet_fits()
+    ensures { (t : NetworkValue) (v : ℕ) (n : NodeStateValue) (o : Origin) (x : List ℕ) (s : ℕ × List ℕ)
+        → 1 ≤ length x → length x ≤ MAX_PACKET_OCTETS → FitsOrigin t o x
+        → (reaction t v n o x).1 ≡ Some s → (1 ≤ length s.1) × (length s.1 ≤ MAX_PACKET_OCTETS) }
+{}
