@@ -1,3 +1,4 @@
+pub mod Keeping
 pub mod Layouts
 pub mod Longest
 pub mod Owning

@@ -23,6 +23,12 @@ pub fn routes_are_longest()
         → All (λ q. Holds address q → ⊥) routes }
 {}
 
+/// What a node knows of itself stays as it is.
+pub fn a_node_keeps_its_tables()
+    ensures { (t : NetworkValue) (v : ℕ) (n : NodeStateValue) (o : Origin) (x : List ℕ)
+        → (reaction t v n o x).0.table ≡ n.table }
+{}
+
 /// Whatever comes to a node, in whatever state, it sends by an interface of its own, and a node that isn't there sends
 /// nothing.
 pub fn a_node_sends_by_its_own_interfaces(topology: &Topology)

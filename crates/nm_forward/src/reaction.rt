@@ -48,6 +48,7 @@ pub fn react(
     requires fits { FitsOrigin topology.now origin packet.now }
     ensures ok { IfOk result (λ r. (state.new, sent_of r)
         ≡ reaction topology.now state.old.table.node state.old origin packet.now) }
+    ensures kept { state.new.table ≡ state.old.table }
     ensures err { OnErr result (state.new ≡ state.old) }
 {
     match origin {
