@@ -3,7 +3,7 @@
 ghost use Rattle.std.specs.Prelude.{◌≡◌, ◌<◌, IfOk, length, slice_index};
 ghost use Rattle.nm_forward.specs.Counter.{counter_number};
 ghost use Rattle.nm_forward.specs.Routes.{route_of};
-ghost use Rattle.nm_forward.specs.State.{NodeTable, NodeStateValue, first_state, is_own, listens, counted, after_originating};
+ghost use Rattle.nm_forward.specs.State.{first_state, table_of, is_own, listens, counted, after_originating};
 
 use crate::addresses::Addresses;
 use crate::counter::Counter;
@@ -49,7 +49,9 @@ impl NodeState {
     #[tactic(auto, unfolding(crate::specs::State::table_of))]
     pub fn new(alloc: Global, topology: &Topology, node: NodeNo) -> Result<Self, AllocError>
         requires { node < length topology.now.nodes }
-        ensures { IfOk result (λ s. s ≡ first_state topology.now node) }
+        ensures first { IfOk result (λ s. s ≡ first_state topology.now node) }
+        // So it is a state that `react` takes.
+        ensures table { IfOk result (λ s. s.table ≡ table_of topology.now s.table.node) }
     {
         let described = topology.node(node);
         Ok(NodeState {
