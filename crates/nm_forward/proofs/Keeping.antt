@@ -12,8 +12,8 @@ use Rattle.nm_forward.specs.declared.reaction.Reaction.{Reaction}
 use Rattle.nm_topology.specs.Wholes.{NetworkValue}
 use Rattle.nm_forward.specs.State.{NodeTable, NodeStateValue, table_of, counted}
 use Rattle.nm_forward.specs.Row.{arrival_row, row_counter}
-use Rattle.nm_forward.specs.Originate.{Consequence, Nothing, Counts, Sends, Originates, originate, concluded}
-use Rattle.nm_forward.specs.Reaction.{consequence_of, handed, handed_by, reaction, arrived, sent_of}
+use Rattle.nm_forward.specs.Originate.{consequence_of, Consequence, Nothing, Counts, Sends, Originates, originate, concluded}
+use Rattle.nm_forward.specs.Reaction.{handed, handed_by, reaction, arrived, sent_of}
 
 concluded-table : (c : Consequence) (n : NodeStateValue) → (concluded c n).0.table ≡ n.table
 concluded-table Nothing n = refl

@@ -18,7 +18,8 @@ same_prefix n m a b hn hm ha hb e =
     let y : network m b ≤ b = div-le_self b (2 ^ (32 - m)) in
     (omega (arith, e), omega (arith, e))
 
--- the key of a route's prefix is that of the prefix of n bits that holds the address exactly where the route leads there
+-- the key of a route's prefix is that of the prefix of n bits that holds the address exactly where
+-- the route leads there
 pub leads-key : (n a : ℕ) (r : Route) → n < 33 → a < 2 ^ 32 → r.to.length < 33 → r.to.address < 2 ^ 32 → leads n a r ≡ nat_eq (prefix_key r.to.length r.to.address) (prefix_key n a)
 leads-key n a r hn ha hm hb =
     ⊎_elim

@@ -15,8 +15,8 @@ use Rattle.nm_topology.specs.Order.{IsInOrder, IsPlaced, LeavesByOwn, owners_of}
 use Rattle.nm_forward.specs.declared.counter.Counter.TheVariants as count
 use Rattle.nm_forward.specs.State.{IsIfaceOf, NodeStateValue, table_of, counted}
 use Rattle.nm_forward.specs.Row.{arrival_row, row_counter}
-use Rattle.nm_forward.specs.Originate.{Sends, originate, Outgoing}
-use Rattle.nm_forward.specs.Reaction.{consequence_of, arrived, handed, handed_by, reaction}
+use Rattle.nm_forward.specs.Originate.{consequence_of, Sends, originate, Outgoing}
+use Rattle.nm_forward.specs.Reaction.{arrived, handed, handed_by, reaction}
 use Rattle.nm_forward.proofs.Longest.{own_routes, routed-all}
 use Rattle.nm_forward.proofs.Sending.{OnSent, concluded-sent, originate-sent, consequence_of-sent, forwarded-from}
 

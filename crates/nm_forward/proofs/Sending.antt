@@ -14,8 +14,7 @@ use Rattle.nm_forward.specs.declared.row.Row.TheVariants.{BadHeader, BadDestinat
 use Rattle.nm_forward.specs.Routes.{route_of}
 use Rattle.nm_forward.specs.State.{NodeTable, NodeStateValue, is_own, listens}
 use Rattle.nm_forward.specs.Row.{transit_row, is_echo_request, icmp_row, udp_row, is_fragment, local_row, packet_row, arrival_row}
-use Rattle.nm_forward.specs.Originate.{Consequence, Nothing, Counts, Sends, Originates, Outgoing, originated_header, written, originate_by, originate, is_quiet, error_about, error_of, reply_to, reply_of, concluded}
-use Rattle.nm_forward.specs.Reaction.{consequence_of}
+use Rattle.nm_forward.specs.Originate.{consequence_of, Consequence, Nothing, Counts, Sends, Originates, Outgoing, originated_header, written, originate_by, originate, is_quiet, error_about, error_of, reply_to, reply_of, concluded}
 
 -- of the packet that a consequence sends, and its interface
 abbrev pub OnSent : (ℕ → List ℕ → Type 0) → Consequence → Type 0
@@ -35,7 +34,7 @@ module _ (P : ℕ → List ℕ → Type 0) (ifaces : List IfaceValue) (table : N
   pub originate-sent : (out : Outgoing) → ((via source : ℕ) → route_of table.routes out.destination ≡ Some via → P via (written (originated_header identification out source) out.body)) → OnSent P (originate ifaces table identification out)
   unfolding originate
   originate-sent out h = by (is_own table out.destination) (route_of table.routes out.destination) h where
-    by : (b : Bool) (o : Option ℕ) → ((via source : ℕ) → o ≡ Some via → P via (written (originated_header identification out source) out.body)) → OnSent P (cond b (Counts ToSelf) (originate_by ifaces identification out o))
+    by : (b : Bool) (o : Option ℕ) → ((via source : ℕ) → o ≡ Some via → P via (written (originated_header identification out source) out.body)) → OnSent P (cond b (Counts ToSelf) (originate_by ifaces table identification out o))
     by true o f = tt
     by false None f = tt
     by false (Some via) f = f via _ refl

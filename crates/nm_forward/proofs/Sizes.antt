@@ -18,8 +18,8 @@ use Rattle.nm_topology.specs.Wholes.{NetworkValue}
 use Rattle.nm_forward.specs.declared.counter.Counter.TheVariants as count
 use Rattle.nm_forward.specs.State.{NodeStateValue, table_of, counted}
 use Rattle.nm_forward.specs.Row.{arrival_row, row_counter}
-use Rattle.nm_forward.specs.Originate.{Sends, Body, Datagram, Message, Outgoing, body_octets, originated_header, written, originate, error_about, reply_to}
-use Rattle.nm_forward.specs.Reaction.{consequence_of, arrived, handed, handed_by, reaction, FitsTraffic, FitsSource, FitsOrigin}
+use Rattle.nm_forward.specs.Originate.{consequence_of, Sends, Body, Datagram, Message, Outgoing, body_octets, originated_header, written, originate, error_about, reply_to}
+use Rattle.nm_forward.specs.Reaction.{arrived, handed, handed_by, reaction, FitsTraffic, FitsSource, FitsOrigin}
 use Rattle.nm_forward.proofs.Sending.{OnSent, concluded-sent, originate-sent, consequence_of-sent, forwarded-from, request-from}
 
 -- the octets of a packet

@@ -15,8 +15,9 @@ use nm_topology::{NodeKind, Topology};
 use std::alloc::{AllocError, Global};
 use std::marker::Model;
 
-/// The state of a node: what the topology says of it, laid out for look-ups, and what changes with the packets that it
-/// gets. A clause sees the tables as lists, the next identification and the counts.
+/// The state of a node: what the topology says of it, laid out for look-ups, and what changes with
+/// the packets that it gets. A clause sees the tables as lists, the next identification and the
+/// counts.
 #[derive(Drop)]
 pub struct NodeState {
     node: NodeNo,
@@ -34,7 +35,13 @@ impl Model for NodeState {
     ghost Value = { NodeStateValue };
 
     ghost view = { λ s. record {
-      table = record { node = s.node; kind = s.kind; ports = s.ports.items; routes = s.routes; addresses = s.addresses };
+      table = record {
+        node = s.node;
+        kind = s.kind;
+        ports = s.ports.items;
+        routes = s.routes;
+        addresses = s.addresses;
+      };
       identification = s.identification;
       counters = s.counters;
     } };

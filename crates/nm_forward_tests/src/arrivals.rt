@@ -6,11 +6,7 @@ use std::test::Fail;
 #[test]
 fn without_a_header_are_dropped(rt: HostRuntime) -> Result<(), Fail> {
     for (case, octets, want) in [
-        (
-            "fewer than 20 octets",
-            "45",
-            "header ",
-        ),
+        ("fewer than 20 octets", "45", "header "),
         (
             "a wrong checksum",
             "4500001e00000000401165cc0a0000010a00010203e80009000afeffe7e6",
@@ -58,7 +54,8 @@ fn to_offending_addresses_are_dropped(rt: HostRuntime) -> Result<(), Fail> {
     Ok(())
 }
 
-/// The route is looked up before the time to live is tested. An error comes from the interface by which it leaves.
+/// The route is looked up before the time to live is tested. An error comes from the interface by
+/// which it leaves.
 #[test]
 fn give_errors(rt: HostRuntime) -> Result<(), Fail> {
     for (case, octets, want) in [
@@ -134,7 +131,8 @@ fn are_sent_on(rt: HostRuntime) -> Result<(), Fail> {
     Ok(())
 }
 
-/// A lowered checksum may be 0000. A time exceeded message whose own time to live is over is not answered.
+/// A lowered checksum may be 0000. A time exceeded message whose own time to live is over is not
+/// answered.
 #[test]
 fn of_72_octets_of_data(rt: HostRuntime) -> Result<(), Fail> {
     for (case, octets, want) in [

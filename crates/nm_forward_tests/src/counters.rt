@@ -5,8 +5,25 @@ use nm_forward::Counter;
 #[test]
 fn have_names(rt: HostRuntime) {
     let names = [
-        "header", "baddest", "notmine", "nonet", "ttl", "forwarded", "fragment", "icmpbad", "echo",
-        "icmp", "udpbad", "udp", "port", "proto", "quiet", "self", "noroute", "originated", "raw",
+        "header",
+        "baddest",
+        "notmine",
+        "nonet",
+        "ttl",
+        "forwarded",
+        "fragment",
+        "icmpbad",
+        "echo",
+        "icmp",
+        "udpbad",
+        "udp",
+        "port",
+        "proto",
+        "quiet",
+        "self",
+        "noroute",
+        "originated",
+        "raw",
     ];
     for (counter, name) in Counter::ALL.iter().zip(names.iter()) {
         assert_eq!(rt; counter.name(), *name);

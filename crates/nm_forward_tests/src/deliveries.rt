@@ -1,6 +1,8 @@
 //! Packets that arrive at a host.
 
-use crate::fixtures::{B, arrival};
+use crate::fixtures::{B, Bench, arrival, duo};
+use nm_base::IfaceNo;
+use nm_forward::Origin;
 use std::test::Fail;
 
 #[test]
@@ -93,7 +95,8 @@ fn as_datagrams(rt: HostRuntime) -> Result<(), Fail> {
     Ok(())
 }
 
-/// The quote has the header as it came, with its options, and 8 octets of the payload, or all where there are fewer.
+/// The quote has the header as it came, with its options, and 8 octets of the payload, or all where
+/// there are fewer.
 #[test]
 fn give_errors(rt: HostRuntime) -> Result<(), Fail> {
     for (case, octets, want) in [
@@ -185,6 +188,30 @@ fn as_icmp_are_counted(rt: HostRuntime) -> Result<(), Fail> {
         ),
     ] {
         let answer = arrival(rt.alloc(), B, octets)?;
+        assert_eq!(rt; answer.as_str(), want, "{case}");
+    }
+    Ok(())
+}
+
+/// Where nothing listens the error goes back, and is counted at its end.
+#[test]
+fn between_two_hosts(rt: HostRuntime) -> Result<(), Fail> {
+    for (case, node, octets, want) in [
+        (
+            "72 octets to a closed port",
+            1,
+            "4500006400000000401166870a0000010a00000203e800090050e75a000000000000000000000000000000000000000000000000000000000000000000000000000000000000000000000000000000000000000000000000000000000000000000000000",
+            "port originated 1 4500003800000000400166c30a0000020a00000103031161000000004500006400000000401166870a0000010a00000203e800090050e75a",
+        ),
+        (
+            "the error",
+            0,
+            "4500003800000000400166c30a0000020a00000103031161000000004500006400000000401166870a0000010a00000203e800090050e75a",
+            "icmp ",
+        ),
+    ] {
+        let mut bench = Bench::new(rt.alloc(), duo(), node)?;
+        let answer = bench.give(rt.alloc(), Origin::Arrival(IfaceNo::new(node)), octets)?;
         assert_eq!(rt; answer.as_str(), want, "{case}");
     }
     Ok(())

@@ -12,7 +12,9 @@ use std::test::Fail;
 
 /// The numbers of the three nodes.
 pub const A: u32 = 0;
+
 pub const R: u32 = 1;
+
 pub const B: u32 = 2;
 
 /// a, with 10.0.0.1, and b, with 10.0.1.2, on both sides of r, with 10.0.0.2 and 10.0.1.1.
@@ -43,6 +45,21 @@ source = [
 "#
 }
 
+/// a and b at both ends of one link. Nothing listens at b, which has a route back.
+pub fn duo() -> &'static str {
+    r#"format = 1
+stop = 10000000
+mtu = 1500
+node = [ {name = "a", kind = "host", partition = 0},
+  {name = "b", kind = "host", partition = 0} ]
+iface = [ {name = "a0", node = "a", address = "10.0.0.1", queue = 4},
+  {name = "b0", node = "b", address = "10.0.0.2", queue = 4} ]
+link = [ {a = "a0", b = "b0", rate = 8000000, delay = 1000000} ]
+route = [ {node = "a", to = "10.0.0.0/24", via = "a0"},
+  {node = "b", to = "10.0.0.0/24", via = "b0"} ]
+"#
+}
+
 /// A node of a topology, and its state.
 #[derive(Drop)]
 pub struct Bench {
@@ -63,8 +80,8 @@ impl Bench {
         Ok(Bench { topology, state })
     }
 
-    /// Gives the node these octets, in hexadecimal. The answer is what it counted so far, and the interface by which it
-    /// sends and the octets that it sends.
+    /// Gives the node these octets, in hexadecimal. The answer is what it counted so far, and the
+    /// interface by which it sends and the octets that it sends.
     pub fn give(&mut self, alloc: Global, origin: Origin, octets: &str) -> Result<String, Fail> {
         let octets = hex::decode(alloc, octets)?;
         if octets.len() > 65_507 {

@@ -1,5 +1,5 @@
-//! Tests of `nm_forward`: each row of the table and each counter at worked octets, routes beside a plain scan, and that
-//! a node reacts where there is memory.
+//! Tests of `nm_forward`: each row of the table and each counter at worked octets, routes beside a
+//! plain scan, and that a node reacts where there is memory.
 #![tactic(auto)]
 
 #[cfg(test)]

@@ -25,14 +25,11 @@ fn looked(routes: &Routes, octets: [u8; 4]) -> Option<u32> {
 
 #[test]
 fn take_the_longest(rt: HostRuntime) -> Result<(), Fail> {
-    let all = [
-        route([0, 0, 0, 0], 0, 0),
-        route([10, 0, 0, 0], 8, 1),
-        route([10, 0, 1, 0], 24, 2),
-    ];
-    let [_, inner @ ..] = all;
-    let routes = Routes::new(rt.alloc(), &all)?;
-    let others = Routes::new(rt.alloc(), &inner)?;
+    let default = route([0, 0, 0, 0], 0, 0);
+    let wide = route([10, 0, 0, 0], 8, 1);
+    let narrow = route([10, 0, 1, 0], 24, 2);
+    let routes = Routes::new(rt.alloc(), &[default, wide, narrow])?;
+    let others = Routes::new(rt.alloc(), &[wide, narrow])?;
     for (octets, want, other) in [
         ([10, 0, 1, 9], Some(2), Some(2)),
         ([10, 0, 2, 9], Some(1), Some(1)),
@@ -132,7 +129,9 @@ fn are_those_of_a_scan(rt: HostRuntime) -> Result<(), Fail> {
     for _ in 0..2_000 {
         seed = next(seed);
         let bits = address(seed);
-        let via = routes.look(Address::from_bits(bits)).map(|via| via.number());
+        let via = routes
+            .look(Address::from_bits(bits))
+            .map(|via| via.number());
         assert_eq!(rt; via, scanned(&all, bits), "{bits}");
     }
     Ok(())

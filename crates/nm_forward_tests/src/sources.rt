@@ -33,18 +33,8 @@ fn originate(rt: HostRuntime) -> Result<(), Fail> {
             "0800f7f800070000",
             "originated 0 4500001c00000000ff01a6de0a0000010a0001020800f7f800070000",
         ),
-        (
-            "to the node itself",
-            4,
-            "00",
-            "self ",
-        ),
-        (
-            "where no route leads",
-            5,
-            "0800f7f800070000",
-            "noroute ",
-        ),
+        ("to the node itself", 4, "00", "self "),
+        ("where no route leads", 5, "0800f7f800070000", "noroute "),
     ] {
         let answer = handed(rt.alloc(), A, source, octets)?;
         assert_eq!(rt; answer.as_str(), want, "{case}");
@@ -62,7 +52,11 @@ fn hand_octets_over_as_they_are(rt: HostRuntime) -> Result<(), Fail> {
 #[test]
 fn are_of_one_node(rt: HostRuntime) -> Result<(), Fail> {
     for (node, source) in [(R, 0), (B, 0), (A, 3), (A, 6), (A, u32::MAX)] {
-        assert_eq!(rt; handed(rt.alloc(), node, source, "00")?.as_str(), "", "{source}");
+        assert_eq!(rt;
+            handed(rt.alloc(), node, source, "00")?.as_str(),
+            "",
+            "{source}"
+        );
     }
     Ok(())
 }
@@ -78,12 +72,7 @@ fn share_one_identification(rt: HostRuntime) -> Result<(), Fail> {
             "000000000000000000000000000000000000000000000000000000000000000000000000000000000000000000000000000000000000000000000000000000000000000000000000",
             "originated 0 4500006400000000401165870a0000010a00010203e800090050e65a000000000000000000000000000000000000000000000000000000000000000000000000000000000000000000000000000000000000000000000000000000000000000000000000",
         ),
-        (
-            "to the node itself",
-            4,
-            "00",
-            "self originated ",
-        ),
+        ("to the node itself", 4, "00", "self originated "),
         (
             "where no route leads",
             5,
