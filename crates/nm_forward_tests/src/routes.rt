@@ -25,11 +25,18 @@ fn looked(routes: &Routes, octets: [u8; 4]) -> Option<u32> {
 
 #[test]
 fn take_the_longest(rt: HostRuntime) -> Result<(), Fail> {
-    let default = route([0, 0, 0, 0], 0, 0);
-    let wide = route([10, 0, 0, 0], 8, 1);
-    let narrow = route([10, 0, 1, 0], 24, 2);
-    let routes = Routes::new(rt.alloc(), &[default, wide, narrow])?;
-    let others = Routes::new(rt.alloc(), &[wide, narrow])?;
+    let routes = Routes::new(
+        rt.alloc(),
+        &[
+            route([0, 0, 0, 0], 0, 0),
+            route([10, 0, 0, 0], 8, 1),
+            route([10, 0, 1, 0], 24, 2),
+        ],
+    )?;
+    let others = Routes::new(
+        rt.alloc(),
+        &[route([10, 0, 0, 0], 8, 1), route([10, 0, 1, 0], 24, 2)],
+    )?;
     for (octets, want, other) in [
         ([10, 0, 1, 9], Some(2), Some(2)),
         ([10, 0, 2, 9], Some(1), Some(1)),
