@@ -21,13 +21,16 @@ concluded-table (Counts c) n = refl
 concluded-table (Sends via x) n = refl
 concluded-table (Originates via x) n = refl
 
-pub arrived-table : (ifaces : List IfaceValue) (table : NodeTable) (n : NodeStateValue) (x : List ℕ) → (arrived ifaces table n x).0.table ≡ n.table
+pub arrived-table : (ifaces : List IfaceValue) (table : NodeTable) (n : NodeStateValue) (x : List ℕ)
+    → (arrived ifaces table n x).0.table ≡ n.table
 unfolding arrived
 arrived-table ifaces table n x =
-    concluded-table (consequence_of ifaces table n.identification (cut_of x) (arrival_row table x)) (counted (row_counter (arrival_row table x)) n)
+    concluded-table (consequence_of ifaces table n.identification (cut_of x) (arrival_row table x))
+    (counted (row_counter (arrival_row table x)) n)
 
 module _ (t : NetworkValue) (v : ℕ) (n : NodeStateValue) (x : List ℕ) where
-  handed-table : (traffic : Traffic) → (handed t.ifaces (table_of t v) n traffic x).0.table ≡ n.table
+  handed-table : (traffic : Traffic)
+      → (handed t.ifaces (table_of t v) n traffic x).0.table ≡ n.table
   handed-table (Cbr c) = concluded-table (originate t.ifaces (table_of t v) n.identification _) n
   handed-table (Echo e) = concluded-table (originate t.ifaces (table_of t v) n.identification _) n
   handed-table (Raw r) = refl
@@ -35,7 +38,8 @@ module _ (t : NetworkValue) (v : ℕ) (n : NodeStateValue) (x : List ℕ) where
   by-table : (o : Option Source) → (handed_by t v n o x).0.table ≡ n.table
   by-table None = refl
   by-table (Some s) = at (s.node == v) where
-    at : (b : Bool) → (cond b (handed t.ifaces (table_of t v) n s.traffic x) (n, None)).0.table ≡ n.table
+    at : (b : Bool) →
+        (cond b (handed t.ifaces (table_of t v) n s.traffic x) (n, None)).0.table ≡ n.table
     at true = handed-table s.traffic
     at false = refl
 
@@ -45,7 +49,8 @@ module _ (t : NetworkValue) (v : ℕ) (n : NodeStateValue) (x : List ℕ) where
   reaction-table (FromSource j) = by-table (slice_get t.sources j)
 
 -- where a call leaves what the definition says, or what was there
-pub kept : {E : Type 0} (r : Result Reaction E) (new old : NodeStateValue) (after : NodeStateValue × Option (ℕ × List ℕ)) → after.0.table ≡ old.table
+pub kept : {E : Type 0} (r : Result Reaction E) (new old : NodeStateValue)
+    (after : NodeStateValue × Option (ℕ × List ℕ)) → after.0.table ≡ old.table
     → IfOk r (λ x. (new, sent_of x) ≡ after) → OnErr r (new ≡ old) → new.table ≡ old.table
 kept (Ok x) new old after same ok err = ap (λ p. p.0.table) ok ∙ same
 kept (Err e) new old after same ok err = ap (λ s. s.table) err

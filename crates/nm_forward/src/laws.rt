@@ -18,7 +18,8 @@ pub fn routes_are_longest()
     ensures found { (routes : List Route) (address : ℕ) (r : Route)
         → longest_route routes address ≡ Some r → Contains routes r × Holds address r }
     ensures longest { (routes : List Route) (address : ℕ) (r : Route)
-        → longest_route routes address ≡ Some r → All (λ q. Holds address q → q.to.length ≤ r.to.length) routes }
+        → longest_route routes address ≡ Some r
+        → All (λ q. Holds address q → q.to.length ≤ r.to.length) routes }
     ensures none { (routes : List Route) (address : ℕ) → longest_route routes address ≡ None
         → All (λ q. Holds address q → ⊥) routes }
 {}

@@ -104,8 +104,8 @@ fn follow(
 ) -> Result<Prepared, AllocError>
     requires table { state.now.table ≡ table_of topology.now state.now.table.node }
     requires possible { IsPossible row.now (fields_of packet.now).time_to_live }
-    ensures { IfOk result (λ p. consequence p
-        ≡ consequence_of topology.now.ifaces state.now.table state.now.identification packet.now row.now) }
+    ensures { IfOk result (λ p. consequence p ≡ consequence_of topology.now.ifaces state.now.table
+        state.now.identification packet.now row.now) }
 {
     match row {
         Row::Unreachable => error(
