@@ -39,13 +39,13 @@ pub enum Reaction {
     Send(IfaceNo, Twin),
 }
 
-/// What node and network make of a packet from this origin, as docs/RULES.md says. A packet that
-/// arrives is looked at row by row; what a source hands over is originated, or goes by the source's
+/// What the node does with a packet from this origin, as docs/RULES.md says. A packet that arrives
+/// is looked at row by row; what a source hands over is originated, or goes by the source's
 /// interface as it is. The octets of a packet that is sent on are copied once.
 ///
 /// The state is that of a node of this topology. A `cbr` source hands over its data, or one octet,
 /// which is not sent, where it has none; an `echo` source its whole ICMP message; a `raw` source a
-/// packet. They have to fit a packet.
+/// packet. They have to fit a packet: 65,507 octets of data, 65,515 of a message.
 ///
 /// # Errors
 ///

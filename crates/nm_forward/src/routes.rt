@@ -94,10 +94,11 @@ impl Routes {
         ensures { result ≡ route_of self.now address }
     {
         for length in (0..LENGTHS as u8).rev() {
-            if self.occurs[usize::from(length)] {
-                if let Some(via) = self.vias.get(&prefix_key(length, address)) {
-                    return Some(*via);
-                }
+            if !self.occurs[usize::from(length)] {
+                continue;
+            }
+            if let Some(via) = self.vias.get(&prefix_key(length, address)) {
+                return Some(*via);
             }
         }
         None

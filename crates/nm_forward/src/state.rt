@@ -87,35 +87,35 @@ impl NodeState {
     }
 
     /// Whether it is a host or a router.
-    pub fn kind(&self) -> NodeKind
+    pub(crate) fn kind(&self) -> NodeKind
         ensures { result ≡ self.now.table.kind }
     {
         self.kind
     }
 
     /// The identification of the next packet that the node originates.
-    pub fn identification(&self) -> u16
+    pub(crate) fn identification(&self) -> u16
         ensures { result ≡ self.now.identification }
     {
         self.identification
     }
 
     /// Whether the address is one of the node's own.
-    pub fn is_own(&self, address: Address) -> bool
+    pub(crate) fn is_own(&self, address: Address) -> bool
         ensures { result ≡ is_own self.now.table address }
     {
         self.addresses.contains(address)
     }
 
     /// Whether something listens at this UDP port of the node.
-    pub fn listens(&self, port: u16) -> bool
+    pub(crate) fn listens(&self, port: u16) -> bool
         ensures { result ≡ listens self.now.table port }
     {
         self.ports.iter().any(|open| port == *open)
     }
 
     /// The interface by which the longest route to the address leads.
-    pub fn look(&self, address: Address) -> Option<IfaceNo>
+    pub(crate) fn look(&self, address: Address) -> Option<IfaceNo>
         ensures { result ≡ route_of self.now.table.routes address }
     {
         self.routes.look(address)

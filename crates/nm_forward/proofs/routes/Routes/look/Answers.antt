@@ -18,8 +18,8 @@ returns-in-Some c =
     (omega arith) (omega arith) c.loop-length.invariant
     c.prefix_key.ensures.fits c.in-Some.via.now there
 
-pub loop-length-preserved-in_default : goal.loop-length-preserved-in_default
-loop-length-preserved-in_default c =
+pub loop-length-preserved : goal.loop-length-preserved
+loop-length-preserved c =
     let s = c.self.inside in
     let n = c.loop-length.length in
     let laid = subst (λ rs. IsLaidOut rs s.occurs s.vias) c.self.view_is c.self.invariant in
@@ -28,14 +28,14 @@ loop-length-preserved-in_default c =
     look-past c.args.self.now s.occurs s.vias laid c.args.address n (n - 1)
     (omega arith) (omega arith) c.loop-length.invariant c.prefix_key.ensures.fits none
 
-pub loop-length-preserved : goal.loop-length-preserved
-loop-length-preserved c =
+pub loop-length-preserved-then-not-self-from : goal.loop-length-preserved-then-not-self-from
+loop-length-preserved-then-not-self-from c =
     let s = c.self.inside in
     let n = c.loop-length.length in
     let laid = subst (λ rs. IsLaidOut rs s.occurs s.vias) c.self.view_is c.self.invariant in
     look-absent c.args.self.now s.occurs s.vias laid c.args.address n (n - 1)
     (omega arith) (omega arith) c.loop-length.invariant
-    (rw (← c.from.ensures) c.if-self-from.false)
+    (rw (← c.from.ensures) c.if-not-self-from.true)
 
 pub returns : goal.returns
 returns c =
