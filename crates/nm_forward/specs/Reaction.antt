@@ -4,6 +4,8 @@ use Rattle.nm_base.specs.declared.event.Origin.{Origin}
 use Rattle.nm_base.specs.declared.event.Origin.TheVariants.{Arrival, Source as FromSource}
 use Rattle.nm_packet.specs.Ipv4.{cut_of}
 use Rattle.nm_topology.specs.declared.traffic.Source.{Source}
+use Rattle.nm_topology.specs.declared.traffic.Cbr.{Cbr as CbrTraffic}
+use Rattle.nm_topology.specs.declared.traffic.Echo.{Echo as EchoTraffic}
 use Rattle.nm_topology.specs.declared.traffic.Traffic.{Traffic}
 use Rattle.nm_topology.specs.declared.traffic.Traffic.TheVariants.{Cbr, Echo, Raw}
 use Rattle.nm_topology.specs.Networks.{IfaceValue}
@@ -14,7 +16,7 @@ use Rattle.nm_forward.specs.declared.reaction.Reaction.{Reaction}
 use Rattle.nm_forward.specs.declared.reaction.Reaction.TheVariants as sent
 use Rattle.nm_forward.specs.State.{NodeTable, NodeStateValue, table_of, counted}
 use Rattle.nm_forward.specs.Row.{arrival_row, row_counter}
-use Rattle.nm_forward.specs.Originate.{Sends, Datagram, Whole, originate, consequence_of, Outcome, concluded}
+use Rattle.nm_forward.specs.Originate.{Sends, Datagram, Whole, Outgoing, originate, consequence_of, Outcome, concluded}
 
 -- octets arrive: the row's counter rises, and then comes what follows
 unfoldable pub arrived : List IfaceValue → NodeTable → NodeStateValue → List ℕ → Outcome
@@ -22,22 +24,31 @@ arrived ifaces table n x = let row : Row = arrival_row table x in
     concluded (consequence_of ifaces table n.identification (cut_of x) row)
     (counted (row_counter row) n)
 
--- a source of the node hands over a packet: its data, of which a source of empty datagrams gives
--- one octet that is not sent; a whole ICMP message; or octets that go by the source's interface as
--- they are
-abbrev pub handed : List IfaceValue → NodeTable → NodeStateValue → Traffic → List ℕ → Outcome
-handed ifaces table n (Cbr c) x = concluded (originate ifaces table n.identification (record {
+-- the packet of a `cbr` source: its data, and where it has none not the octet that stands for them
+abbrev pub datagram_of : CbrTraffic → List ℕ → Outgoing
+datagram_of c x = record {
   source = None;
   destination = c.to;
   time_to_live = c.flow.ttl;
   body = Datagram c.source_port c.destination_port (if c.flow.size == 0 then [] else x);
-})) n
-handed ifaces table n (Echo e) x = concluded (originate ifaces table n.identification (record {
+}
+
+-- the packet of an `echo` source, which hands over a whole ICMP message
+abbrev pub request_of : EchoTraffic → List ℕ → Outgoing
+request_of e x = record {
   source = None;
   destination = e.to;
   time_to_live = e.flow.ttl;
   body = Whole x;
-})) n
+}
+
+-- A source of the node hands over a packet. The octets of a `raw` source go by its interface as
+-- they are.
+abbrev pub handed : List IfaceValue → NodeTable → NodeStateValue → Traffic → List ℕ → Outcome
+handed ifaces table n (Cbr c) x =
+    concluded (originate ifaces table n.identification (datagram_of c x)) n
+handed ifaces table n (Echo e) x =
+    concluded (originate ifaces table n.identification (request_of e x)) n
 handed ifaces table n (Raw r) x = concluded (Sends r.via x) (counted count.Raw n)
 
 -- only a source of the node hands over anything to it

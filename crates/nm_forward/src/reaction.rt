@@ -1,12 +1,12 @@
 //! What a node does with a packet.
 
-ghost use Rattle.std.specs.Prelude.{◌≡◌, IfOk, OnErr, slice_get};
+ghost use Rattle.std.specs.Prelude.{◌≡◌, ◌≤◌, IfOk, OnErr, length, slice_get};
 ghost use Rattle.nm_packet.specs.Ipv4.{fields_of};
 ghost use Rattle.nm_forward.specs.State.{table_of};
 ghost use Rattle.nm_forward.specs.Row.{IsPossible};
-ghost use Rattle.nm_forward.specs.Originate.{concluded, consequence_of};
+ghost use Rattle.nm_forward.specs.Originate.{concluded, consequence_of, originate};
 ghost use Rattle.nm_forward.specs.Prepared.{consequence};
-ghost use Rattle.nm_forward.specs.Reaction.{FitsOrigin, FitsSource, FitsTraffic, arrived, handed, handed_by, reaction, sent_of};
+ghost use Rattle.nm_forward.specs.Reaction.{FitsOrigin, FitsSource, FitsTraffic, arrived, datagram_of, handed, handed_by, reaction, request_of, sent_of};
 
 use crate::counter::Counter;
 use crate::originate::{error, originate, reply};
@@ -16,7 +16,7 @@ use crate::state::NodeState;
 use nm_base::{IfaceNo, Origin, Packet, SourceNo, Twin};
 use nm_packet::{Ipv4, Ipv4View, lower_ttl};
 use nm_topology::Topology;
-use nm_topology::traffic::Traffic;
+use nm_topology::traffic::{Cbr, Echo, Traffic};
 use std::alloc::{AllocError, Global};
 
 /// Types and codes of the errors that a node sends (RFC 792).
@@ -207,32 +207,69 @@ fn take(
         ≡ handed topology.now.ifaces state.old.table state.old traffic.now packet.now) }
     ensures err { OnErr result (state.new ≡ state.old) }
 {
-    let outgoing = match traffic {
+    match traffic {
         Traffic::Raw(raw) => {
             let twin = Twin::new(packet.clone()?)?;
             state.count(Counter::Raw);
-            return Ok(Reaction::Send(raw.via(), twin));
+            Ok(Reaction::Send(raw.via(), twin))
         }
-        Traffic::Cbr(cbr) => Outgoing {
-            source: None,
-            destination: cbr.to,
-            time_to_live: cbr.flow.ttl,
-            body: Body::Datagram {
-                source_port: cbr.source_port,
-                destination_port: cbr.destination_port,
-                data: if cbr.flow.size == 0 {
-                    &[]
-                } else {
-                    packet.octets()
-                },
-            },
+        Traffic::Cbr(cbr) => send_datagram(alloc, topology, state, cbr, packet),
+        Traffic::Echo(echo) => send_request(alloc, topology, state, echo, packet),
+    }
+}
+
+/// Originates the datagram of a `cbr` source that hands over these data.
+fn send_datagram(
+    alloc: Global,
+    topology: &Topology,
+    state: &mut NodeState,
+    cbr: &Cbr,
+    packet: &Packet,
+) -> Result<Reaction, AllocError>
+    requires table { state.old.table ≡ table_of topology.now state.old.table.node }
+    requires fits { length packet.now ≤ 65507 }
+    ensures ok { IfOk result (λ r. (state.new, sent_of r) ≡ concluded (originate topology.now.ifaces
+        state.old.table state.old.identification (datagram_of cbr.now packet.now)) state.old) }
+    ensures err { OnErr result (state.new ≡ state.old) }
+{
+    let data = if cbr.flow.size == 0 {
+        &[]
+    } else {
+        packet.octets()
+    };
+    let outgoing = Outgoing {
+        source: None,
+        destination: cbr.to,
+        time_to_live: cbr.flow.ttl,
+        body: Body::Datagram {
+            source_port: cbr.source_port,
+            destination_port: cbr.destination_port,
+            data,
         },
-        Traffic::Echo(echo) => Outgoing {
-            source: None,
-            destination: echo.to,
-            time_to_live: echo.flow.ttl,
-            body: Body::Whole(packet.octets()),
-        },
+    };
+    let prepared = originate(alloc, topology, state, &outgoing)?;
+    Ok(conclude(state, prepared))
+}
+
+/// Originates the echo request that an `echo` source hands over.
+fn send_request(
+    alloc: Global,
+    topology: &Topology,
+    state: &mut NodeState,
+    echo: &Echo,
+    packet: &Packet,
+) -> Result<Reaction, AllocError>
+    requires table { state.old.table ≡ table_of topology.now state.old.table.node }
+    requires fits { length packet.now ≤ 65515 }
+    ensures ok { IfOk result (λ r. (state.new, sent_of r) ≡ concluded (originate topology.now.ifaces
+        state.old.table state.old.identification (request_of echo.now packet.now)) state.old) }
+    ensures err { OnErr result (state.new ≡ state.old) }
+{
+    let outgoing = Outgoing {
+        source: None,
+        destination: echo.to,
+        time_to_live: echo.flow.ttl,
+        body: Body::Whole(packet.octets()),
     };
     let prepared = originate(alloc, topology, state, &outgoing)?;
     Ok(conclude(state, prepared))
