@@ -76,7 +76,7 @@ FitsPacket (Datagram source_port destination_port payload) = length payload ≤ 
 FitsPacket (Message message_type code rest payload) = length payload ≤ 65507
 FitsPacket (Whole octets) = length octets ≤ 65515
 
--- the address of an interface
+-- the address of an interface, 0 where it isn't there
 abbrev pub iface_address : List IfaceValue → ℕ → ℕ
 iface_address ifaces via = option_map_or (λ i. i.address) (slice_get ifaces via) 0
 

@@ -75,17 +75,6 @@ row_counter UnknownProtocol = count.Proto
 
 -- what the consequence of a row asks of a packet of this time to live
 abbrev pub IsPossible : Row → ℕ → Type 0
-IsPossible BadHeader time_to_live = Unit {0}
-IsPossible BadDestination time_to_live = Unit {0}
-IsPossible NotMine time_to_live = Unit {0}
-IsPossible Unreachable time_to_live = Unit {0}
-IsPossible Expired time_to_live = Unit {0}
 IsPossible (Forward via) time_to_live = 1 ≤ time_to_live
-IsPossible Fragment time_to_live = Unit {0}
-IsPossible BadIcmp time_to_live = Unit {0}
 IsPossible (EchoRequest request) time_to_live = length request ≤ 65515
-IsPossible OtherIcmp time_to_live = Unit {0}
-IsPossible BadUdp time_to_live = Unit {0}
-IsPossible Delivered time_to_live = Unit {0}
-IsPossible ClosedPort time_to_live = Unit {0}
-IsPossible UnknownProtocol time_to_live = Unit {0}
+IsPossible row time_to_live = Unit {0}

@@ -30,8 +30,8 @@ pub fn a_node_keeps_its_tables()
         → (reaction t v n o x).0.table ≡ n.table }
 {}
 
-/// Whatever comes to a node, in whatever state, it sends by an interface of its own, and a node
-/// that isn't there sends nothing.
+/// Whatever comes to a node, in whatever state, it sends by an interface of its own. So a node that
+/// isn't there sends nothing: no interface is one of it.
 pub fn a_node_sends_by_its_own_interfaces(topology: &Topology)
     ensures { (v : ℕ) (n : NodeStateValue) (o : Origin) (x : List ℕ) (s : ℕ × List ℕ)
         → (reaction topology.now v n o x).1 ≡ Some s → IsIfaceOf topology.now.ifaces v s.0 }
