@@ -38,7 +38,7 @@ module _ (l : Link) (ls : List Link) (i : ℕ) where
   uses-both : l.a ≡ i → l.b ≡ i → 2 ≤ uses i (l ∷ ls)
   uses-both e f = omega (arith, one_here l.a i e, one_here l.b i f)
 
-  uses-on : (l.a ≡ i → ⊥) → (l.b ≡ i → ⊥) → uses i (l ∷ ls) ≡ uses i ls
+  pub uses-on : (l.a ≡ i → ⊥) → (l.b ≡ i → ⊥) → uses i (l ∷ ls) ≡ uses i ls
   uses-on e f = omega (arith, one_there l.a i e, one_there l.b i f)
 
 -- what an end is linked to is an end

@@ -1,9 +1,13 @@
 pub mod Doubles
 pub mod Ends
+pub mod Flows
 pub mod Keys
+pub mod Limits
 pub mod Members
 pub mod Order
 pub mod Parsing
+pub mod Ranges
 pub mod Searches
+pub mod Steps
 pub mod Uses
 pub mod Wires

@@ -16,4 +16,6 @@ pub mod Checks
 pub mod Networks
 pub mod Network
 pub mod Order
+pub mod Limits
+pub mod Ranges
 pub mod Wholes

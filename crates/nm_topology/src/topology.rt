@@ -1,7 +1,9 @@
 //! A topology, and the reading of one.
 
 ghost use Rattle.nm_base.specs.declared.limits.TheConstants.{MAX_CHANNELS, MAX_IFACES, MAX_LINKS, MAX_NODES, MAX_PARTITIONS, MAX_SOURCES};
+ghost use Rattle.nm_topology.specs.Limits.{HasOctets, IsWithinLimits};
 ghost use Rattle.nm_topology.specs.Order.{IsInOrder, IsPlaced, owners_of};
+ghost use Rattle.nm_topology.specs.Ranges.{IsInRange};
 ghost use Rattle.std.specs.Prelude.{◌≡◌, ◌<◌, ◌≤◌, All, Some, length, slice_get};
 ghost use Rattle.std.specs.Option.{ok_or};
 ghost use Rattle.toml.specs.Parse.{parse_document};
@@ -40,6 +42,7 @@ pub struct Topology {
 impl Model for Topology {
     ghost use Rattle.std.specs.Prelude.{◌≤◌, All, length};
     ghost use Rattle.nm_base.specs.declared.limits.TheConstants.{MAX_CHANNELS, MAX_IFACES, MAX_LINKS, MAX_NODES, MAX_PARTITIONS, MAX_SOURCES};
+    ghost use Rattle.nm_topology.specs.Limits.{HasOctets, IsWithinLimits};
     ghost use Rattle.nm_topology.specs.Order.{IsInOrder, IsPlaced, owners_of};
     ghost use Rattle.nm_topology.specs.Wholes.{NetworkValue};
 
@@ -53,7 +56,19 @@ impl Model for Topology {
         × (length t.sources.items ≤ MAX_SOURCES)
         × (length t.receivers.items ≤ MAX_CHANNELS)
         × All (λ s. IsPlaced (length t.nodes.items) (owners_of t.ifaces.items) s) t.sources.items
-        × (t.partitions ≤ MAX_PARTITIONS) };
+        × (t.partitions ≤ MAX_PARTITIONS)
+        × IsWithinLimits (record {
+          stop = t.stop;
+          mtu = t.mtu;
+          nodes = t.nodes.items;
+          ifaces = t.ifaces.items;
+          links = t.links.items;
+          sources = t.sources.items;
+          receivers = t.receivers.items;
+          partitions = t.partitions;
+          digest = t.digest;
+        })
+        × All (λ s. HasOctets s.traffic) t.sources.items };
 
     ghost view = { λ t. record {
       stop = t.stop;
@@ -93,6 +108,7 @@ fn parse(alloc: Global, text: &[u8]) -> Result<Table, TopoFault>
 /// The network that a document says.
 #[tactic(auto, using(crate::proofs::Order::in_order), unfolding(crate::specs::Network::network_of))]
 fn resolve(alloc: Global, document: Document, digest: [u8; 32]) -> Result<Topology, TopoFault>
+    requires { IsInRange document }
     ensures { Gives (λ t. t) result (network_of digest document) }
 {
     let Document {
@@ -243,8 +259,9 @@ impl Topology {
 
 /// What every accepted topology has: the layers above rely on it. Each interface is one end of exactly one link, and is
 /// of a node that is there; whatever it is linked to is another interface, linked back to it over the same rate and
-/// delay; the routes and the raw packets of a node leave by interfaces of its own; a link between partitions delays by at least 1 ns; and
-/// counts are within the limits.
+/// delay; the routes and the raw packets of a node leave by interfaces of its own; a link between partitions delays by
+/// at least 1 ns; counts are within the limits; times, sizes, rates, delays, queues and counts of packets are in their
+/// ranges, and the packets of a raw source come one after another; and no raw packet is empty.
 pub fn accepted_topologies_are_in_order(topology: &Topology)
     ensures order { IsInOrder topology.now.nodes topology.now.ifaces topology.now.links }
     ensures nodes { length topology.now.nodes ≤ MAX_NODES }
@@ -254,6 +271,8 @@ pub fn accepted_topologies_are_in_order(topology: &Topology)
     ensures channels { length topology.now.receivers ≤ MAX_CHANNELS }
     ensures placed { All (λ s. IsPlaced (length topology.now.nodes) (owners_of topology.now.ifaces) s) topology.now.sources }
     ensures partitions { topology.now.partitions ≤ MAX_PARTITIONS }
+    ensures limits { IsWithinLimits topology.now }
+    ensures octets { All (λ s. HasOctets s.traffic) topology.now.sources }
 {
     let _nodes = &topology.nodes;
 }

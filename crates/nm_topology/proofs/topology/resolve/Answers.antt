@@ -1,9 +1,12 @@
-use Rattle.std.proofs.Common.{◌≡◌, All, length, map, Ok, sym, ap, ◌∙◌, subst, arith}
+use Rattle.std.proofs.Common.{◌≡◌, All, true, length, map, Ok, sym, ap, ◌∙◌, subst, arith}
 use Rattle.std.proofs.lemmas.List.{length-map}
-use Rattle.nm_topology.specs.Checks.{routes_at, route_tables, far_end, far_ends}
-use Rattle.nm_topology.specs.Network.{tested, placed_nodes, placed_ifaces}
+use Rattle.nm_topology.specs.Checks.{are_used_once, routes_at, route_tables, far_end, far_ends}
+use Rattle.nm_topology.specs.Network.{numbered, tested, partition_count, placed_nodes, placed_ifaces}
+use Rattle.nm_topology.specs.DocumentTexts.{DocumentText}
+use Rattle.nm_topology.specs.Wholes.{NetworkValue}
 use Rattle.nm_topology.specs.Order.{IsInOrder, IsPlaced, owners_of}
-use Rattle.nm_topology.proofs.Order.{in_order, nodes-length, numbers-length, ifaces-owners}
+use Rattle.nm_topology.proofs.Limits.{IsPutTogether, within_limits, have_octets}
+use Rattle.nm_topology.proofs.Order.{passed as all_passed, in_order, nodes-length, numbers-length, ifaces-owners}
 use Rattle.nm_topology.proofs.topology.resolve.Goals as goal
 
 pub invariant_of-result : goal.invariant_of-result
@@ -46,6 +49,36 @@ invariant_of-result c =
     let sources : All (λ s. IsPlaced (length c.in_ok-nodes.field-0.items) (owners_of c.in_ok-ifaces.field-0.items) s) c.numbers.inside.sources.items =
     subst (λ os. All (λ s. IsPlaced (length c.in_ok-nodes.field-0.items) os s) c.numbers.inside.sources.items) own
     (subst (λ m. All (λ s. IsPlaced m n.owners s) c.numbers.inside.sources.items) count_nodes here) in
+    let said : DocumentText = c.args.document in
+    let said_nodes : N ≡ said.nodes = c.deref.ensures.value ∙ ap (λ v. v.nodes) c.document.view_is in
+    let said_ifaces : F ≡ said.ifaces = c.deref-2.ensures.value ∙ ap (λ v. v.ifaces) c.document.view_is in
+    let said_links : c.deref-3.result.now ≡ said.links = c.deref-3.ensures.value ∙ ap (λ v. v.links) c.document.view_is in
+    let said_routes : c.deref-4.result.now ≡ said.routes = c.deref-4.ensures.value ∙ ap (λ v. v.routes) c.document.view_is in
+    let said_sources : c.document.inside.sources.items ≡ said.sources = ap (λ v. v.sources) c.document.view_is in
+    let read : numbered said.nodes said.ifaces said.links said.routes said.sources ≡ Ok n =
+    cc (a.value, said_nodes, said_ifaces, said_links, said_routes, said_sources) in
+    let used : are_used_once (length said.ifaces) n.links ≡ true =
+    subst (λ fs. are_used_once (length fs) n.links ≡ true) said_ifaces (all_passed (map (λ r. r.partition) N) addresses (length N) (length F) n passed).used in
+    let v : NetworkValue = record {
+      stop = c.document.inside.stop;
+      mtu = c.document.inside.mtu;
+      nodes = c.in_ok-nodes.field-0.items;
+      ifaces = c.in_ok-ifaces.field-0.items;
+      links = c.numbers.inside.links.items;
+      sources = c.numbers.inside.sources.items;
+      receivers = c.in_ok-tables.field-0.receivers.items;
+      partitions = c.partition_count-partitions.result;
+      digest = c.args.digest;
+    } in
+    let put : IsPutTogether said n (route_tables (length N) n.routes) v = record {
+      stop = ap (λ w. w.stop) c.document.view_is;
+      mtu = ap (λ w. w.mtu) c.document.view_is;
+      nodes = nodes ∙ ap (λ ns. placed_nodes ns (route_tables (length N) n.routes)) said_nodes;
+      ifaces = ifaces ∙ ap (λ fs. placed_ifaces fs n.owners (far_ends (length fs) n.links)) said_ifaces;
+      sources = cc (ap (λ w. w.sources) c.numbers.view_is);
+      partitions = c.partition_count-partitions.ensures.value
+          ∙ ap (λ ns. partition_count (map (λ r. r.partition) ns)) (c.deref-8.ensures.value ∙ ap (λ w. w.nodes) c.document.view_is);
+    } in
     let bounds = c.document.invariant in (
       placed,
       omega (arith, c.in_ok-nodes.ensures.len, bounds.0),
@@ -55,4 +88,6 @@ invariant_of-result c =
       w.few,
       sources,
       omega (arith, c.partition_count-partitions.ensures.within),
+      within_limits said n (route_tables (length N) n.routes) v c.requires read used put,
+      have_octets said n (route_tables (length N) n.routes) v c.requires read used put,
     )

@@ -1,0 +1,60 @@
+//! What every event list does.
+
+ghost use Rattle.std.specs.Prelude.{◌≡◌, ℕ, ◌+◌, ◌≤◌, ◌==◌, List, Option, Some, None, OnOk, OnErr, IfSome, IfNone};
+ghost use Rattle.std.specs.Option.{option_map};
+ghost use Rattle.std.specs.FinMap.{FinMap, empty, get, insert, len as size, remove};
+ghost use Rattle.nm_base.specs.Key.{key_cmp};
+ghost use Rattle.nm_base.specs.declared.event.Event.{Event as PendingEvent};
+ghost use Rattle.nm_model.specs.EventList.{least as least_entry};
+
+use nm_base::{Event, Key};
+use std::alloc::{AllocError, Global};
+
+/// The events that are still to come (J. Misra, 1986, section 1). A clause sees a finite map from keys to events, and for
+/// how many more events there is room. Only `reserve` takes memory.
+pub trait EventList: Sized {
+    // The pending events.
+    ghost pending: { Self → FinMap key_cmp (PendingEvent (List ℕ)) };
+
+    // For how many more events there is room.
+    ghost room: { Self → ℕ };
+
+    /// An event list with no event.
+    fn new(alloc: Global) -> Self
+        ensures { pending result ≡ empty };
+
+    /// Makes room for so many more events.
+    ///
+    /// # Errors
+    ///
+    /// `AllocError` where the list could not grow. It has the same events then.
+    fn reserve(&mut self, count: usize) -> Result<(), AllocError>
+        ensures same { pending self.new ≡ pending self.old }
+        ensures room { OnOk result (count ≤ room self.new) };
+
+    /// Adds an event under a key that has none.
+    fn put(&mut self, key: Key, event: Event)
+        requires fresh { get (pending self.old) key ≡ None }
+        requires room { 1 ≤ room self.old }
+        ensures pending { pending self.new ≡ insert (pending self.old) key event }
+        ensures room { room self.old ≤ room self.new + 1 };
+
+    /// The least key.
+    fn least(&self) -> Option<Key>
+        ensures { result ≡ option_map (λ entry. entry.0) (least_entry (pending self.now)) };
+
+    /// Takes the event of the least key out. Its place is room for another.
+    fn take_least(&mut self) -> Option<(Key, Event)>
+        ensures least { result ≡ least_entry (pending self.old) }
+        ensures rest { IfSome result (λ entry. pending self.new ≡ remove (pending self.old) entry.0) }
+        ensures none { IfNone result (pending self.new ≡ pending self.old) }
+        ensures room { IfSome result (λ entry. room self.new ≡ room self.old + 1) };
+
+    /// How many events there are.
+    fn len(&self) -> usize
+        ensures { result ≡ size (pending self.now) };
+
+    /// Whether there is no event.
+    fn is_empty(&self) -> bool
+        ensures { result ≡ (size (pending self.now) == 0) };
+}

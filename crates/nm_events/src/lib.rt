@@ -1,0 +1,8 @@
+//! Event lists: the events of a simulation that are still to come, by key.
+#![tactic(auto)]
+
+pub mod event_list;
+pub mod sorted_list;
+
+pub use event_list::EventList;
+pub use sorted_list::SortedList;

@@ -1,0 +1,3 @@
+pub mod Transmission
+pub mod PortValue
+pub mod Starts

@@ -1,0 +1,192 @@
+//! Ports: drop-tail queues.
+
+ghost use Rattle.std.specs.Prelude.{◌≡◌, ℕ, ◌+◌, ◌≤◌, List, Option, Some, None, OnOk, IfSome, IsSome};
+ghost use Rattle.nm_base.specs.declared.limits.TheConstants.{MAX_DELAY, MAX_RATE, MAX_TIME};
+ghost use Rattle.nm_model.specs.Port.{offered, completed};
+ghost use Rattle.nm_iface.specs.PortValue.{has_room, takes, with_port};
+ghost use Rattle.nm_iface.specs.Starts.{IsStart, handed_back, packet_started, start_in};
+
+use crate::transmission::transmission_time;
+use nm_base::{Time, Twin};
+use std::alloc::{AllocError, Global};
+use std::collections::VecDeque;
+use std::marker::Model;
+
+/// A transmission that starts.
+#[derive(Debug, Drop)]
+pub struct Start {
+    /// The packet, and its copy for the trace.
+    pub twin: Twin,
+    /// When the transmission is complete.
+    pub completes: Time,
+    /// When the packet arrives at the far end of the link.
+    pub arrives: Time,
+}
+
+/// What becomes of a packet that is offered.
+#[derive(Debug, Drop)]
+pub enum Offered {
+    /// Its transmission starts.
+    Started(Start),
+    /// It waits behind others.
+    Queued,
+    /// There is no room, and it is gone.
+    Dropped(Twin),
+}
+
+impl Offered {
+    /// The transmission that starts, if one does.
+    pub fn started(self) -> Option<Start>
+        ensures { result ≡ start_in self }
+    {
+        match self {
+            Offered::Started(start) => Some(start),
+            Offered::Queued | Offered::Dropped(_) => None,
+        }
+    }
+}
+
+/// A port transmits one packet at a time. Further ones wait in the order in which they came, up to a limit, and those past
+/// the limit are dropped and counted (drop-tail).
+#[derive(Drop)]
+pub struct Port {
+    limit: u16,
+    rate: u64,
+    delay: u64,
+    /// When the transmission under way completes.
+    busy_until: Option<Time>,
+    waiting: VecDeque<Twin>,
+    dropped: u64,
+}
+
+impl Model for Port {
+    ghost use Rattle.std.specs.Prelude.{◌≡◌, ◌≤◌, ◌-◌, [], None, map, option_map};
+    ghost use Rattle.std.specs.VecDeque.{deque_len, deque_capacity};
+    ghost use Rattle.std.specs.Option.{IsSome};
+    ghost use Rattle.nm_base.specs.declared.limits.TheConstants.{MAX_DELAY, MAX_RATE};
+    ghost use Rattle.nm_iface.specs.PortValue.{PortValue};
+
+    ghost Value = { PortValue };
+
+    ghost view = { λ p. record {
+      limit = p.limit;
+      rate = p.rate;
+      delay = p.delay;
+      busy = option_map (λ t. record { completes = t; waiting = map (λ w. w.packet) p.waiting.items }) p.busy_until;
+      dropped = p.dropped;
+      room = deque_capacity p.waiting - deque_len p.waiting;
+    } };
+
+    ghost invariant = { λ p. (1 ≤ p.rate) × (p.rate ≤ MAX_RATE) × (p.delay ≤ MAX_DELAY)
+        × (p.busy_until ≡ None → p.waiting.items ≡ []) };
+}
+
+impl Port {
+    /// An idle port behind which so many packets may wait, over a link with this rate in bits per second and this delay in
+    /// nanoseconds. It takes no memory.
+    pub fn new(alloc: Global, limit: u16, rate: u64, delay: u64) -> Self
+        requires least { 1 ≤ rate }
+        requires greatest { rate ≤ MAX_RATE }
+        requires delay { delay ≤ MAX_DELAY }
+        ensures limit { result.limit ≡ limit }
+        ensures rate { result.rate ≡ rate }
+        ensures delay { result.delay ≡ delay }
+        ensures idle { result.busy ≡ None }
+        ensures dropped { result.dropped ≡ 0 }
+    {
+        Port {
+            limit,
+            rate,
+            delay,
+            busy_until: None,
+            waiting: VecDeque::new(alloc),
+            dropped: 0,
+        }
+    }
+
+    /// Makes room for one more packet that waits.
+    ///
+    /// # Errors
+    ///
+    /// `AllocError` where the queue could not grow. Nothing else changed then.
+    pub fn reserve_one(&mut self) -> Result<(), AllocError>
+        ensures same { self.new ≡ record self.old { room = self.new.room } }
+        ensures room { OnOk result (1 ≤ self.new.room) }
+    {
+        self.waiting.reserve(1)
+    }
+
+    /// A packet is offered.
+    ///
+    /// An idle port starts it. Behind a busy one it waits where fewer than the limit wait, and is else dropped. It takes no
+    /// memory.
+    pub fn offer(&mut self, now: Time, twin: Twin) -> Offered
+        requires now { now ≤ MAX_TIME }
+        requires room { 1 ≤ self.old.room }
+        ensures port { self.new ≡ with_port self.old (offered (has_room self.old.limit) (takes self.old.rate) now twin.packet
+            self.old.dropped self.old.busy).0 self.new.room }
+        ensures packet { packet_started (start_in result) ≡ (offered (has_room self.old.limit) (takes self.old.rate) now
+            twin.packet self.old.dropped self.old.busy).1 }
+        ensures start { IfSome (start_in result) (IsStart self.old.rate self.old.delay now twin.packet) }
+        ensures back { IfSome (handed_back result) (λ t. t ≡ twin) }
+    {
+        if self.busy_until.is_none() {
+            let start = transmission(self.rate, self.delay, now, twin);
+            self.busy_until = Some(start.completes);
+            return Offered::Started(start);
+        }
+        if self.waiting.len() < usize::from(self.limit) {
+            self.waiting.push_back(twin).unwrap();
+            return Offered::Queued;
+        }
+        self.dropped = self.dropped.saturating_add(1);
+        Offered::Dropped(twin)
+    }
+
+    /// The transmission under way is complete, and that of the packet at the front of the queue starts, if one waits. It
+    /// takes no memory.
+    pub fn done(&mut self, now: Time) -> Option<Start>
+        requires now { now ≤ MAX_TIME }
+        requires busy { IsSome self.old.busy }
+        ensures port { self.new ≡ with_port self.old
+            (completed (takes self.old.rate) now self.old.dropped self.old.busy).0 self.new.room }
+        ensures packet { packet_started result ≡ (completed (takes self.old.rate) now self.old.dropped self.old.busy).1 }
+        ensures start { IfSome result (λ s. IsStart self.old.rate self.old.delay now s.twin.packet s) }
+        ensures room { self.old.room ≤ self.new.room }
+    {
+        match self.waiting.pop_front() {
+            Some(twin) => {
+                let start = transmission(self.rate, self.delay, now, twin);
+                self.busy_until = Some(start.completes);
+                Some(start)
+            }
+            None => {
+                self.busy_until = None;
+                None
+            }
+        }
+    }
+
+    /// How many packets were dropped. It stops at the greatest `u64`.
+    pub fn dropped(&self) -> u64
+        ensures { result ≡ self.now.dropped }
+    {
+        self.dropped
+    }
+}
+
+/// The transmission that starts now, over a link with this rate and delay.
+fn transmission(rate: u64, delay: u64, now: Time, twin: Twin) -> Start
+    requires least { 1 ≤ rate }
+    requires greatest { rate ≤ MAX_RATE }
+    requires delay { delay ≤ MAX_DELAY }
+    requires now { now ≤ MAX_TIME }
+    ensures { IsStart rate delay now twin.packet result }
+{
+    let completes = now.nanoseconds() + transmission_time(rate, twin.packet.octet_count());
+    Start {
+        twin,
+        completes: Time::from_nanoseconds(completes),
+        arrives: Time::from_nanoseconds(completes + delay),
+    }
+}

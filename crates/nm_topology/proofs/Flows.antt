@@ -1,0 +1,153 @@
+-- The tables of `source` are read to traffic in range.
+use Rattle.std.proofs.Common.{◌≡◌, All, ℕ, suc, ◌+◌, ◌-◌, ◌≤◌, List, [], ◌∷◌, length, Result, Ok, Err, refl, ap, subst, arith}
+use Rattle.std.specs.Prelude.{nat_le, codes}
+use Rattle.std.proofs.lemmas.Bool.Decides.{nat_tests}
+use Rattle.std.proofs.lemmas.List.Elements.{All-nil, All-cons}
+use Rattle.hex.specs.Hex.{decode_of}
+use Rattle.hex.specs.declared.error.FromHexError.{FromHexError}
+use Rattle.toml.specs.Data.{Data, string, array, Items, no_items, item, Members, get_member}
+use Rattle.nm_base.specs.declared.limits.TheConstants.{MAX_COUNT, MAX_INTERVAL, MAX_RAW_PACKETS, MAX_TIME}
+use Rattle.nm_topology.specs.declared.fault.Refusal.{Refusal}
+use Rattle.nm_topology.specs.declared.fault.Refusal.TheVariants.{Kind, TooMany}
+use Rattle.nm_topology.specs.declared.traffic.Flow.{Flow}
+use Rattle.nm_topology.specs.declared.traffic.RawPacket.{RawPacket}
+use Rattle.nm_topology.specs.declared.sources.TrafficRow.TheVariants.{Cbr as CbrRow, Echo as EchoRow, Raw as RawRow}
+use Rattle.nm_topology.specs.declared.sources.SourceKind.{SourceKind}
+use Rattle.nm_topology.specs.declared.sources.SourceKind.TheVariants.{Cbr as CbrKind, Echo as EchoKind, Raw as RawKind}
+use Rattle.nm_topology.specs.Fault.{◌>>=◌}
+use Rattle.nm_topology.specs.Fields.{required, optional, number_in, required_text, only}
+use Rattle.nm_topology.specs.Arrays.{is_table, all_fit, count, in_table}
+use Rattle.nm_topology.specs.Forms.{name_of, usable_address_of}
+use Rattle.nm_topology.specs.SourceTexts.{SourceText}
+use Rattle.nm_topology.specs.Sources.{decoded, octets_of, packet_of, packets_from, packets_of, flow_keys, flow_of, cbr_of, echo_of, raw_of, source_kind_of, source_by, source_of}
+use Rattle.nm_topology.specs.Limits.{FitsFlow, AreRising, FitsPackets}
+use Rattle.nm_topology.specs.Ranges.{FitsRow}
+use Rattle.nm_topology.proofs.Steps.{step, required-within, optional-within, required-holds, both_passed, in_table-holds}
+
+decoded-within : (mtu : ℕ) (r : Result (List ℕ) FromHexError) (octets : List ℕ) → decoded mtu r ≡ Ok octets → (1 ≤ length octets) × (length octets ≤ mtu)
+decoded-within mtu (Ok os) octets e = grind (arith, nat_tests, e)
+decoded-within mtu (Err f) octets e = cc
+
+octets-within : (mtu : ℕ) (d : Data) (octets : List ℕ) → octets_of mtu d ≡ Ok octets → (1 ≤ length octets) × (length octets ≤ mtu)
+octets-within mtu (string s) octets e = decoded-within mtu (decode_of s) octets e
+octets-within mtu _ octets e = cc
+
+-- a raw packet
+abbrev FitsPacket : ℕ → ℕ → RawPacket → Type 0
+FitsPacket mtu least p = (least ≤ p.at) × (p.at ≤ MAX_TIME) × (1 ≤ length p.packet) × (length p.packet ≤ mtu)
+
+packet-read : (known : Result Unit Refusal) (at : Result ℕ Refusal) (octets : Result (List ℕ) Refusal) (p : RawPacket) → (known >>= λ k. at >>= λ a. octets >>= λ o. Ok (record { at = a; packet = o })) ≡ Ok p → (at ≡ Ok p.at) × (octets ≡ Ok p.packet)
+packet-read (Ok k) (Ok a) (Ok o) p e = (cc, cc)
+packet-read (Ok k) (Ok a) (Err r) p e = cc
+packet-read (Ok k) (Err r) octets p e = cc
+packet-read (Err r) at octets p e = cc
+
+packet-fits : (mtu least : ℕ) (t : Members) (p : RawPacket) → packet_of mtu least t ≡ Ok p → FitsPacket mtu least p
+unfolding packet_of
+packet-fits mtu least t p e =
+    let read = packet-read (only (codes "at" ∷ codes "data" ∷ []) t)
+    (required (number_in least MAX_TIME) (get_member (codes "at") t)) (required (octets_of mtu) (get_member (codes "data") t)) p e in
+    let at = required-within least MAX_TIME p.at (get_member (codes "at") t) read.0 in
+    let octets = required-holds (λ os. (1 ≤ length os) × (length os ≤ mtu)) (octets_of mtu) (get_member (codes "data") t) p.packet
+    (λ d h. octets-within mtu d p.packet h) read.1 in
+    (at.0, at.1, octets.0, octets.1)
+
+packets-rise : (mtu least : ℕ) (ds : Items) (ps : List RawPacket) → packets_from mtu least ds ≡ Ok ps → AreRising mtu least ps × All (λ p. 1 ≤ length p.packet) ps × (length ps ≡ count ds)
+packets-rise mtu least no_items ps e =
+    let none : [] ≡ ps = cc in
+    subst (λ qs. AreRising mtu least qs × All (λ p. 1 ≤ length p.packet) qs × (length qs ≡ 0)) none (tt, All-nil (λ p. 1 ≤ length p.packet), refl)
+packets-rise mtu least (item d ds) ps e =
+    let a = step (in_table (packet_of mtu least) d) (λ p. packets_from mtu (p.at + 1) ds >>= λ qs. Ok (p ∷ qs)) ps e in
+    let b = step (packets_from mtu (a.0.at + 1) ds) (λ qs. Ok (a.0 ∷ qs)) ps a.2 in
+    let fits = in_table-holds (FitsPacket mtu least) (packet_of mtu least) (packet-fits mtu least) d a.0 a.1 in
+    let rest = packets-rise mtu (a.0.at + 1) ds b.0 b.1 in
+    let whole : a.0 ∷ b.0 ≡ ps = cc (b.2) in
+    subst (λ qs. AreRising mtu least qs × All (λ p. 1 ≤ length p.packet) qs × (length qs ≡ suc (count ds))) whole
+    ((fits.0, fits.1, fits.3, rest.0), All-cons (λ p. 1 ≤ length p.packet) a.0 b.0 fits.2 rest.1, ap suc rest.2)
+
+pub packets-fit : (mtu : ℕ) (d : Data) (ps : List RawPacket) → packets_of mtu d ≡ Ok ps → FitsPackets mtu ps × All (λ p. 1 ≤ length p.packet) ps
+packets-fit mtu (array ds) ps e =
+    let passed = both_passed (all_fit is_table ds) (nat_le (count ds) MAX_RAW_PACKETS) (packets_from mtu 0 ds) TooMany Kind ps e in
+    let rise = packets-rise mtu 0 ds ps passed.1 in
+    let few : count ds ≤ MAX_RAW_PACKETS = grind (arith, nat_tests, passed.0) in
+    ((rise.0, omega (arith, rise.2, few)), rise.1)
+packets-fit mtu _ ps e = cc
+
+flow-read : (size fill start interval count ttl : Result ℕ Refusal) (f : Flow) → (size >>= λ a. fill >>= λ b. start >>= λ c. interval >>= λ d. count >>= λ g. ttl >>= λ h. Ok (record { size = a; fill = b; start = c; interval = d; count = g; ttl = h })) ≡ Ok f → (size ≡ Ok f.size) × (start ≡ Ok f.start) × (interval ≡ Ok f.interval) × (count ≡ Ok f.count) × (ttl ≡ Ok f.ttl)
+flow-read (Ok a) (Ok b) (Ok c) (Ok d) (Ok g) (Ok h) f e = (cc, cc, cc, cc, cc)
+flow-read (Ok a) (Ok b) (Ok c) (Ok d) (Ok g) (Err r) f e = cc
+flow-read (Ok a) (Ok b) (Ok c) (Ok d) (Err r) ttl f e = cc
+flow-read (Ok a) (Ok b) (Ok c) (Err r) count ttl f e = cc
+flow-read (Ok a) (Ok b) (Err r) interval count ttl f e = cc
+flow-read (Ok a) (Err r) start interval count ttl f e = cc
+flow-read (Err r) fill start interval count ttl f e = cc
+
+flow-fits : (mtu : ℕ) (t : Members) (f : Flow) → 28 ≤ mtu → flow_of mtu t ≡ Ok f → FitsFlow mtu f
+unfolding flow_of
+flow-fits mtu t f room e =
+    let read = flow-read (required (number_in 0 (mtu - 28)) (get_member (codes "size") t)) (optional 0 (number_in 0 255) (get_member (codes "fill") t))
+    (required (number_in 0 MAX_TIME) (get_member (codes "start") t)) (required (number_in 1 MAX_INTERVAL) (get_member (codes "interval") t))
+    (required (number_in 0 MAX_COUNT) (get_member (codes "count") t)) (optional 64 (number_in 1 255) (get_member (codes "ttl") t)) f e in
+    let size = required-within 0 (mtu - 28) f.size (get_member (codes "size") t) read.0 in
+    let start = required-within 0 MAX_TIME f.start (get_member (codes "start") t) read.1 in
+    let interval = required-within 1 MAX_INTERVAL f.interval (get_member (codes "interval") t) read.2 in
+    let count = required-within 0 MAX_COUNT f.count (get_member (codes "count") t) read.3 in
+    let ttl = optional-within 64 1 255 f.ttl (get_member (codes "ttl") t) (omega arith) (omega arith) read.4 in
+    (omega (arith, size.1, room), start.1, interval.0, interval.1, count.1, ttl.0)
+
+cbr-read : (mtu : ℕ) (known : Result Unit Refusal) (node : Result (List ℕ) Refusal) (to source destination : Result ℕ Refusal) (flow : Result Flow Refusal) (s : SourceText) → ((f : Flow) → flow ≡ Ok f → FitsFlow mtu f) → (known >>= λ k. node >>= λ n. to >>= λ a. source >>= λ b. destination >>= λ c. flow >>= λ f. Ok (record { node = n; traffic = CbrRow (record { to = a; source_port = b; destination_port = c; flow = f }) })) ≡ Ok s → FitsRow mtu s.traffic
+unfolding FitsRow
+cbr-read mtu (Ok k) (Ok n) (Ok a) (Ok b) (Ok c) (Ok f) s h e =
+    let row : CbrRow (record { to = a; source_port = b; destination_port = c; flow = f }) ≡ s.traffic = cc in
+    subst (FitsRow mtu) row (h f refl)
+cbr-read mtu (Ok k) (Ok n) (Ok a) (Ok b) (Ok c) (Err r) s h e = cc
+cbr-read mtu (Ok k) (Ok n) (Ok a) (Ok b) (Err r) flow s h e = cc
+cbr-read mtu (Ok k) (Ok n) (Ok a) (Err r) destination flow s h e = cc
+cbr-read mtu (Ok k) (Ok n) (Err r) source destination flow s h e = cc
+cbr-read mtu (Ok k) (Err r) to source destination flow s h e = cc
+cbr-read mtu (Err r) node to source destination flow s h e = cc
+
+echo-read : (mtu : ℕ) (known : Result Unit Refusal) (node : Result (List ℕ) Refusal) (to identifier : Result ℕ Refusal) (flow : Result Flow Refusal) (s : SourceText) → ((f : Flow) → flow ≡ Ok f → FitsFlow mtu f) → (known >>= λ k. node >>= λ n. to >>= λ a. identifier >>= λ b. flow >>= λ f. Ok (record { node = n; traffic = EchoRow (record { to = a; identifier = b; flow = f }) })) ≡ Ok s → FitsRow mtu s.traffic
+unfolding FitsRow
+echo-read mtu (Ok k) (Ok n) (Ok a) (Ok b) (Ok f) s h e =
+    let row : EchoRow (record { to = a; identifier = b; flow = f }) ≡ s.traffic = cc in
+    subst (FitsRow mtu) row (h f refl)
+echo-read mtu (Ok k) (Ok n) (Ok a) (Ok b) (Err r) s h e = cc
+echo-read mtu (Ok k) (Ok n) (Ok a) (Err r) flow s h e = cc
+echo-read mtu (Ok k) (Ok n) (Err r) identifier flow s h e = cc
+echo-read mtu (Ok k) (Err r) to identifier flow s h e = cc
+echo-read mtu (Err r) node to identifier flow s h e = cc
+
+raw-read : (mtu : ℕ) (known : Result Unit Refusal) (node via : Result (List ℕ) Refusal) (packets : Result (List RawPacket) Refusal) (s : SourceText) → ((ps : List RawPacket) → packets ≡ Ok ps → FitsPackets mtu ps × All (λ p. 1 ≤ length p.packet) ps) → (known >>= λ k. node >>= λ n. via >>= λ v. packets >>= λ ps. Ok (record { node = n; traffic = RawRow (record { via = v; packets = ps }) })) ≡ Ok s → FitsRow mtu s.traffic
+unfolding FitsRow
+raw-read mtu (Ok k) (Ok n) (Ok v) (Ok ps) s h e =
+    let row : RawRow (record { via = v; packets = ps }) ≡ s.traffic = cc in
+    subst (FitsRow mtu) row (h ps refl)
+raw-read mtu (Ok k) (Ok n) (Ok v) (Err r) s h e = cc
+raw-read mtu (Ok k) (Ok n) (Err r) packets s h e = cc
+raw-read mtu (Ok k) (Err r) via packets s h e = cc
+raw-read mtu (Err r) node via packets s h e = cc
+
+kind-fits : (kind : SourceKind) (mtu : ℕ) (t : Members) (s : SourceText) → 28 ≤ mtu → source_by kind mtu t ≡ Ok s → FitsRow mtu s.traffic
+unfolding cbr_of echo_of raw_of
+kind-fits CbrKind mtu t s room e =
+    cbr-read mtu (only (codes "kind" ∷ codes "node" ∷ codes "to" ∷ codes "sport" ∷ codes "dport" ∷ flow_keys) t)
+    (required_text name_of (get_member (codes "node") t)) (required_text usable_address_of (get_member (codes "to") t))
+    (required (number_in 0 65535) (get_member (codes "sport") t)) (required (number_in 0 65535) (get_member (codes "dport") t))
+    (flow_of mtu t) s (λ f h. flow-fits mtu t f room h) e
+kind-fits EchoKind mtu t s room e =
+    echo-read mtu (only (codes "kind" ∷ codes "node" ∷ codes "to" ∷ codes "ident" ∷ flow_keys) t)
+    (required_text name_of (get_member (codes "node") t)) (required_text usable_address_of (get_member (codes "to") t))
+    (required (number_in 0 65535) (get_member (codes "ident") t)) (flow_of mtu t) s (λ f h. flow-fits mtu t f room h) e
+kind-fits RawKind mtu t s room e =
+    raw-read mtu (only (codes "kind" ∷ codes "node" ∷ codes "via" ∷ codes "packet" ∷ []) t)
+    (required_text name_of (get_member (codes "node") t)) (required_text name_of (get_member (codes "via") t))
+    (required (packets_of mtu) (get_member (codes "packet") t)) s
+    (λ ps h. required-holds (λ qs. FitsPackets mtu qs × All (λ p. 1 ≤ length p.packet) qs) (packets_of mtu) (get_member (codes "packet") t) ps
+    (λ d g. packets-fit mtu d ps g) h) e
+
+pub source-fits : (mtu : ℕ) → 28 ≤ mtu → (t : Members) (s : SourceText) → source_of mtu t ≡ Ok s → FitsRow mtu s.traffic
+unfolding source_of
+source-fits mtu room t s e =
+    let kind = step (required_text source_kind_of (get_member (codes "kind") t)) (λ k. source_by k mtu t) s e in
+    kind-fits kind.0 mtu t s room kind.2

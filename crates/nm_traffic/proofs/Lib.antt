@@ -1,0 +1,4 @@
+pub mod Networks
+pub mod Options
+pub mod Packets
+pub mod Rising

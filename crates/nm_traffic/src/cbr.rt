@@ -1,0 +1,56 @@
+//! Sources of UDP datagrams at a constant bit rate.
+
+ghost use Rattle.std.specs.Prelude.{◌≡◌, IfOk};
+ghost use Rattle.nm_topology.specs.declared.traffic.Traffic.TheVariants.{Cbr as CbrTraffic};
+ghost use Rattle.nm_traffic.specs.Flow.{cbr_octets};
+ghost use Rattle.nm_traffic.specs.Source.{packet_at};
+
+use crate::flow::time_before;
+use crate::packet::SourcePacket;
+use nm_base::Time;
+use nm_topology::traffic::{Cbr, Flow};
+use std::alloc::{AllocError, Global};
+
+/// A source, and the packet that it hands over each time.
+#[derive(Debug, Drop)]
+pub struct CbrSource {
+    cbr: Cbr,
+    packet: SourcePacket,
+    ghost made: { packet ≡ cbr_octets cbr.flow },
+}
+
+/// The data of the flow, or one zero octet where there are none.
+fn data_packet(alloc: Global, flow: &Flow) -> Result<SourcePacket, AllocError>
+    ensures { IfOk result (λ p. p ≡ cbr_octets flow.now) }
+{
+    let octets = if flow.size == 0 {
+        vec![in alloc; 0; 1]?
+    } else {
+        vec![in alloc; flow.fill; flow.size as usize]?
+    };
+    SourcePacket::of_octets(octets)
+}
+
+impl CbrSource {
+    pub fn new(alloc: Global, cbr: Cbr) -> Result<Self, AllocError>
+        ensures { IfOk result (λ s. s.cbr ≡ cbr) }
+    {
+        let packet = data_packet(alloc, &cbr.flow)?;
+        Ok(CbrSource { cbr, packet })
+    }
+
+    /// Packet `number` and its time, if it comes before `stop`. All packets share their octets.
+    #[tactic(auto, unfolding(crate::specs::Source::packet_at))]
+    pub fn packet(
+        &self,
+        stop: Time,
+        number: u64,
+    ) -> Result<Option<(Time, SourcePacket)>, AllocError>
+        ensures { IfOk result (λ p. p ≡ packet_at stop (CbrTraffic self.now.cbr) number) }
+    {
+        match time_before(&self.cbr.flow, stop, number) {
+            Some(time) => Ok(Some((time, self.packet.clone()?))),
+            None => Ok(None),
+        }
+    }
+}

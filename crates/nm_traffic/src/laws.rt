@@ -1,0 +1,34 @@
+//! Laws of the definitions: each function has an empty body, or calls another law, and its contract is the law.
+
+ghost use Rattle.std.specs.Prelude.{◌≡◌, All};
+ghost use Rattle.nm_topology.specs.Limits.{HasOctets, IsWithinLimits};
+ghost use Rattle.nm_topology.specs.Wholes.{NetworkValue};
+ghost use Rattle.nm_traffic.specs.Orderly.{ArePackets, ComeBeforeStop, EndForGood, FitTheMtu, HaveOctets, TimesRise};
+
+use nm_topology::Topology;
+use nm_topology::topology::accepted_topologies_are_in_order;
+
+/// In every network within the limits the packets of a source come at rising times before the run stops, with no gap in
+/// their numbers; they fit the mtu with the headers that they get, and are no longer than a packet may be. Where no raw
+/// packet is empty, no packet is.
+pub fn times_rise_within_limits()
+    ensures rise { (t : NetworkValue) → IsWithinLimits t → TimesRise t }
+    ensures end { (t : NetworkValue) → IsWithinLimits t → EndForGood t }
+    ensures before { (t : NetworkValue) → ComeBeforeStop t }
+    ensures fit { (t : NetworkValue) → IsWithinLimits t → FitTheMtu t }
+    ensures greatest { (t : NetworkValue) → IsWithinLimits t → ArePackets t }
+    ensures least { (t : NetworkValue) → All (λ s. HasOctets s.traffic) t.sources → HaveOctets t }
+{}
+
+/// The same of an accepted topology.
+pub fn source_times_rise(topology: &Topology)
+    ensures rise { TimesRise topology.now }
+    ensures end { EndForGood topology.now }
+    ensures before { ComeBeforeStop topology.now }
+    ensures fit { FitTheMtu topology.now }
+    ensures greatest { ArePackets topology.now }
+    ensures least { HaveOctets topology.now }
+{
+    accepted_topologies_are_in_order(topology);
+    times_rise_within_limits();
+}

@@ -1,0 +1,58 @@
+//! What a source hands to its node.
+
+ghost use Rattle.std.specs.Prelude.{◌≡◌, ℕ, ◌≤◌, List, length, IfOk};
+
+use bytes::Bytes;
+use nm_base::Packet;
+use std::alloc::AllocError;
+use std::marker::Model;
+
+/// The data of a UDP datagram, or one zero octet for none; an ICMP message; or the octets of a raw packet: which of them
+/// it is the source says. A clause sees the octets.
+#[derive(Clone, Debug, Drop, PartialEq, Eq)]
+pub struct SourcePacket {
+    packet: Packet,
+}
+
+impl Model for SourcePacket {
+    ghost Value = { List ℕ };
+
+    ghost view = { λ p. p.packet };
+
+    ghost inverse = { λ l. record { packet = l } };
+}
+
+impl SourcePacket {
+    /// These octets, for a node.
+    pub fn new(packet: Packet) -> Self
+        ensures { result ≡ packet }
+    {
+        SourcePacket { packet }
+    }
+
+    /// The packet of 1 to 65,535 octets.
+    pub(crate) fn of_octets(octets: Vec<u8>) -> Result<Self, AllocError>
+        requires least { 1 ≤ length octets.items }
+        requires greatest { length octets.items ≤ 65535 }
+        ensures { IfOk result (λ p. p ≡ octets.items) }
+    {
+        let octets = Bytes::from_vec(octets)?;
+        Ok(SourcePacket {
+            packet: Packet::new(octets).unwrap(),
+        })
+    }
+
+    /// The octets.
+    pub fn packet(&self) -> &Packet
+        ensures { result.now ≡ self.now }
+    {
+        &self.packet
+    }
+
+    /// The octets.
+    pub fn into_packet(self) -> Packet
+        ensures { result ≡ self }
+    {
+        self.packet
+    }
+}
