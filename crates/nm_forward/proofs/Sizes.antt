@@ -19,7 +19,7 @@ use Rattle.nm_forward.specs.declared.counter.Counter.TheVariants as count
 use Rattle.nm_forward.specs.State.{NodeStateValue, table_of, counted}
 use Rattle.nm_forward.specs.Row.{arrival_row, row_counter}
 use Rattle.nm_forward.specs.Originate.{consequence_of, Sends, Body, Datagram, Message, Outgoing, body_octets, originated_header, written, originate, error_about, reply_to}
-use Rattle.nm_forward.specs.Reaction.{arrived, handed, handed_by, reaction, FitsTraffic, FitsSource, FitsOrigin}
+use Rattle.nm_forward.specs.Reaction.{arrived, handed, handed_by, reaction, FitsHeaders, FitsSource, FitsOrigin}
 use Rattle.nm_forward.proofs.Sending.{OnSent, concluded-sent, originate-sent, consequence_of-sent, forwarded-from, request-from}
 
 -- the octets of a packet
@@ -143,7 +143,7 @@ module _ (t : NetworkValue) (v : ℕ) (n : NodeStateValue) (x : List ℕ) (least
       (header-least x (forwarded-from (table_of t v) x via f).0)))
       e
 
-  handed-sized : (traffic : Traffic) → FitsTraffic traffic x → (s : ℕ × List ℕ)
+  handed-sized : (traffic : Traffic) → FitsHeaders traffic x → (s : ℕ × List ℕ)
       → (handed t.ifaces (table_of t v) n traffic x).1 ≡ Some s → IsSized s.0 s.1
   handed-sized (Cbr c) fits s e =
       concluded-sent IsSized (originate t.ifaces (table_of t v) n.identification _) n s

@@ -63,15 +63,15 @@ unfoldable pub reaction : NetworkValue → ℕ → NodeStateValue → Origin →
 reaction t v n (Arrival i) x = arrived t.ifaces (table_of t v) n x
 reaction t v n (FromSource j) x = handed_by t v n (slice_get t.sources j) x
 
--- what a source hands over fits a packet
-abbrev pub FitsTraffic : Traffic → List ℕ → Type 0
-FitsTraffic (Cbr c) x = length x ≤ 65507
-FitsTraffic (Echo e) x = length x ≤ 65515
-FitsTraffic (Raw r) x = Unit {0}
+-- what a source hands over fits a packet, with the headers that it gets
+abbrev pub FitsHeaders : Traffic → List ℕ → Type 0
+FitsHeaders (Cbr c) x = length x ≤ 65507
+FitsHeaders (Echo e) x = length x ≤ 65515
+FitsHeaders (Raw r) x = Unit {0}
 
 abbrev pub FitsSource : Option Source → List ℕ → Type 0
 FitsSource None x = Unit {0}
-FitsSource (Some s) x = FitsTraffic s.traffic x
+FitsSource (Some s) x = FitsHeaders s.traffic x
 
 abbrev pub FitsOrigin : NetworkValue → Origin → List ℕ → Type 0
 FitsOrigin t (Arrival i) x = Unit {0}

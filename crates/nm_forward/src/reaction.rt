@@ -6,7 +6,7 @@ ghost use Rattle.nm_forward.specs.State.{table_of};
 ghost use Rattle.nm_forward.specs.Row.{IsPossible};
 ghost use Rattle.nm_forward.specs.Originate.{concluded, consequence_of, originate};
 ghost use Rattle.nm_forward.specs.Prepared.{consequence};
-ghost use Rattle.nm_forward.specs.Reaction.{FitsOrigin, FitsSource, FitsTraffic, arrived, datagram_of, handed, handed_by, reaction, request_of, sent_of};
+ghost use Rattle.nm_forward.specs.Reaction.{FitsOrigin, FitsSource, FitsHeaders, arrived, datagram_of, handed, handed_by, reaction, request_of, sent_of};
 
 use crate::counter::Counter;
 use crate::originate::{error, originate, reply};
@@ -202,7 +202,7 @@ fn take(
     packet: &Packet,
 ) -> Result<Reaction, AllocError>
     requires table { state.old.table ≡ table_of topology.now state.old.table.node }
-    requires fits { FitsTraffic traffic.now packet.now }
+    requires fits { FitsHeaders traffic.now packet.now }
     ensures ok { IfOk result (λ r. (state.new, sent_of r)
         ≡ handed topology.now.ifaces state.old.table state.old traffic.now packet.now) }
     ensures err { OnErr result (state.new ≡ state.old) }
