@@ -53,4 +53,5 @@ no_counts = replicate 19 0
 
 -- the counts with one of them raised by one; a count stops at 2^64 - 1
 unfoldable pub raised : Counter → List ℕ → List ℕ
-raised c counts = slice_set counts (counter_number c) (min (slice_index counts (counter_number c) + 1) (2 ^ 64 - 1))
+raised c counts = let k : ℕ = counter_number c in
+    slice_set counts k (min (slice_index counts k + 1) (2 ^ 64 - 1))

@@ -3,17 +3,19 @@ use Rattle.std.specs.Prelude.{ℕ, ◌≤◌, Bool, true, ◌||◌, ◌&&◌, no
 use Rattle.std.specs.Option.{option_map_or}
 use Rattle.nm_packet.specs.declared.ipv4.Ipv4Header.{Ipv4Header}
 use Rattle.nm_packet.specs.Address.{is_offending}
-use Rattle.nm_packet.specs.Ipv4.{Header, fields_of, payload_of, packet_octets, plain_header, quote_of}
+use Rattle.nm_packet.specs.Ipv4.{Header, fields_of, payload_of, lowered, packet_octets, plain_header, quote_of}
 use Rattle.nm_packet.specs.Udp.{udp_header, datagram_octets}
 use Rattle.nm_packet.specs.Icmp.{icmp_header, icmp_fields_of, icmp_data_of, message_octets}
 use Rattle.nm_topology.specs.Networks.{IfaceValue}
 use Rattle.nm_forward.specs.declared.counter.Counter.{Counter}
 use Rattle.nm_forward.specs.declared.counter.Counter.TheVariants.{Quiet, ToSelf, NoRoute}
+use Rattle.nm_forward.specs.declared.row.Row.{Row}
+use Rattle.nm_forward.specs.declared.row.Row.TheVariants.{BadHeader, BadDestination, NotMine, Unreachable, Expired, Forward, Fragment, BadIcmp, EchoRequest, OtherIcmp, BadUdp, Delivered, ClosedPort, UnknownProtocol}
 use Rattle.nm_forward.specs.Routes.{route_of}
 use Rattle.nm_forward.specs.State.{NodeTable, NodeStateValue, is_own, counted, after_originating}
 
--- what follows the counter of a row: nothing, a further counter alone, a packet that is sent on by an interface, or one
--- that is originated
+-- what follows the counter of a row: nothing, a further counter alone, a packet that is sent on by
+-- an interface, or one that is originated
 pub data Consequence : Type 0 where
   Nothing : Consequence
   Counts : Counter → Consequence
@@ -29,7 +31,8 @@ pub data Body : Type 0 where
   -- an ICMP message, octet by octet
   Whole : List ℕ → Body
 
--- a packet that is to be originated, from the address of the interface by which it leaves unless it says another
+-- a packet that is to be originated, from the address of the interface by which it leaves unless it
+-- says another
 pub record Outgoing : Type 0 where
   pub source : Option ℕ
   pub destination : ℕ
@@ -44,12 +47,14 @@ protocol_of (Whole octets) = 1
 -- the octets of the payload in a packet between these addresses
 abbrev pub body_octets : ℕ → ℕ → Body → List ℕ
 body_octets source destination (Datagram source_port destination_port payload) =
-    datagram_octets source destination (udp_header source_port destination_port (length payload)) payload
+    datagram_octets source destination
+    (udp_header source_port destination_port (length payload)) payload
 body_octets source destination (Message message_type code rest payload) =
     message_octets (icmp_header message_type code rest) payload
 body_octets source destination (Whole octets) = octets
 
--- the header of a packet of this identification from this address: no options, type of service 0, no flags
+-- the header of a packet of this identification from this address: no options, type of service 0,
+-- no flags
 abbrev pub originated_header : ℕ → Outgoing → ℕ → Ipv4Header
 originated_header identification out source = record {
   type_of_service = 0;
@@ -62,7 +67,8 @@ originated_header identification out source = record {
 
 -- the octets of a packet with this header
 abbrev pub written : Ipv4Header → Body → List ℕ
-written h body = packet_octets (plain_header h (length (body_octets h.source h.destination body))) (body_octets h.source h.destination body)
+written h body = let payload : List ℕ = body_octets h.source h.destination body in
+    packet_octets (plain_header h (length payload)) payload
 
 -- the greatest payload that fits a packet
 abbrev pub FitsPacket : Body → Type 0
@@ -70,22 +76,13 @@ FitsPacket (Datagram source_port destination_port payload) = length payload ≤ 
 FitsPacket (Message message_type code rest payload) = length payload ≤ 65507
 FitsPacket (Whole octets) = length octets ≤ 65515
 
--- the address of an interface
+-- the address of an interface, 0 where it isn't there
 abbrev pub iface_address : List IfaceValue → ℕ → ℕ
 iface_address ifaces via = option_map_or (λ i. i.address) (slice_get ifaces via) 0
 
-abbrev pub originate_by : List IfaceValue → ℕ → Outgoing → Option ℕ → Consequence
-originate_by ifaces identification out None = Counts NoRoute
-originate_by ifaces identification out (Some via) = Originates via
-    (written (originated_header identification out (unwrap_or out.source (iface_address ifaces via))) out.body)
-
--- originate a packet: never to an address of the node itself, and only where a route leads
-unfoldable pub originate : List IfaceValue → NodeTable → ℕ → Outgoing → Consequence
-originate ifaces table identification out = if is_own table out.destination then Counts ToSelf
-    else originate_by ifaces identification out (route_of table.routes out.destination)
-
--- the types of ICMP messages about which no error is sent: destination unreachable, source quench, redirect, time
--- exceeded, parameter problem (RFC 792; RFC 1812, section 4.3.2.7); and what has no type
+-- the types of ICMP messages about which no error is sent: destination unreachable, source quench,
+-- redirect, time exceeded, parameter problem (RFC 792; RFC 1812, section 4.3.2.7); and what has no
+-- type
 abbrev pub is_error_message : List ℕ → Bool
 is_error_message [] = true
 is_error_message (t ∷ rest) = (t == 3) || (t == 4) || (t == 5) || (t == 11) || (t == 12)
@@ -104,11 +101,8 @@ error_about p message_type code = record {
   body = Message message_type code (0 ∷ 0 ∷ 0 ∷ 0 ∷ []) (quote_of p);
 }
 
-unfoldable pub error_of : List IfaceValue → NodeTable → ℕ → List ℕ → ℕ → ℕ → Consequence
-error_of ifaces table identification p message_type code = if is_quiet p then Counts Quiet
-    else originate ifaces table identification (error_about p message_type code)
-
--- the reply to an echo request: from where it was sent to, with its identifier, sequence number and data (RFC 792)
+-- the reply to an echo request: from where it was sent to, with its identifier, sequence number and
+-- data (RFC 792)
 abbrev pub reply_to : Header → List ℕ → Outgoing
 reply_to h request = record {
   source = Some h.destination;
@@ -117,12 +111,56 @@ reply_to h request = record {
   body = Message 0 0 (icmp_fields_of request).rest (icmp_data_of request);
 }
 
-unfoldable pub reply_of : List IfaceValue → NodeTable → ℕ → Header → List ℕ → Consequence
-reply_of ifaces table identification h request = if is_offending h.source then Counts Quiet
-    else originate ifaces table identification (reply_to h request)
+-- what a node with these interfaces, tables and identification originates
+module _ (ifaces : List IfaceValue) (table : NodeTable) (identification : ℕ) where
+  -- by this route
+  abbrev pub originate_by : Outgoing → Option ℕ → Consequence
+  originate_by out None = Counts NoRoute
+  originate_by out (Some via) =
+      let source : ℕ = unwrap_or out.source (iface_address ifaces via) in
+      Originates via (written (originated_header identification out source) out.body)
+
+  -- never to an address of the node itself, and only where a route leads (own)
+  unfoldable pub originate : Outgoing → Consequence
+  originate out = if is_own table out.destination then Counts ToSelf
+      else originate_by out (route_of table.routes out.destination)
+
+  -- an error about the packet p, of this type and code (RFC 792)
+  unfoldable pub error_of : List ℕ → ℕ → ℕ → Consequence
+  error_of p message_type code =
+      if is_quiet p then Counts Quiet else originate (error_about p message_type code)
+
+  -- a reply to an echo request that came behind this header (RFC 792)
+  unfoldable pub reply_of : Header → List ℕ → Consequence
+  reply_of h request =
+      if is_offending h.source then Counts Quiet else originate (reply_to h request)
+
+  -- What follows a row for the packet p. Errors: network unreachable (RFC 1812, section 5.2.7.1),
+  -- time exceeded (RFC 1812, section 5.3.1), port and protocol unreachable (RFC 792). A packet that
+  -- is sent on has a time to live one lower and a checksum computed anew (RFC 791, section 3.2).
+  abbrev pub consequence_of : List ℕ → Row → Consequence
+  consequence_of p BadHeader = Nothing
+  consequence_of p BadDestination = Nothing
+  consequence_of p NotMine = Nothing
+  consequence_of p Unreachable = error_of p 3 0
+  consequence_of p Expired = error_of p 11 0
+  consequence_of p (Forward via) =
+      Sends via (packet_octets (lowered (fields_of p)) (payload_of p))
+  consequence_of p Fragment = Nothing
+  consequence_of p BadIcmp = Nothing
+  consequence_of p (EchoRequest request) = reply_of (fields_of p) request
+  consequence_of p OtherIcmp = Nothing
+  consequence_of p BadUdp = Nothing
+  consequence_of p Delivered = Nothing
+  consequence_of p ClosedPort = error_of p 3 3
+  consequence_of p UnknownProtocol = error_of p 3 2
 
 -- the state after, and what is sent by which interface
-abbrev pub concluded : Consequence → NodeStateValue → NodeStateValue × Option (ℕ × List ℕ)
+abbrev pub Outcome : Type 0
+Outcome = NodeStateValue × Option (ℕ × List ℕ)
+
+-- the outcome of a consequence
+abbrev pub concluded : Consequence → NodeStateValue → Outcome
 concluded Nothing n = (n, None)
 concluded (Counts c) n = (counted c n, None)
 concluded (Sends via x) n = (n, Some (via, x))

@@ -2,81 +2,76 @@
 use Rattle.std.specs.Prelude.{ℕ, ◌==◌, ◌≤◌, if◌then◌else◌, List, [], length, Option, Some, None, slice_get}
 use Rattle.nm_base.specs.declared.event.Origin.{Origin}
 use Rattle.nm_base.specs.declared.event.Origin.TheVariants.{Arrival, Source as FromSource}
-use Rattle.nm_packet.specs.Ipv4.{cut_of, fields_of, payload_of, packet_octets, lowered}
+use Rattle.nm_packet.specs.Ipv4.{cut_of}
 use Rattle.nm_topology.specs.declared.traffic.Source.{Source}
+use Rattle.nm_topology.specs.declared.traffic.Cbr.{Cbr as CbrTraffic}
+use Rattle.nm_topology.specs.declared.traffic.Echo.{Echo as EchoTraffic}
 use Rattle.nm_topology.specs.declared.traffic.Traffic.{Traffic}
 use Rattle.nm_topology.specs.declared.traffic.Traffic.TheVariants.{Cbr, Echo, Raw}
 use Rattle.nm_topology.specs.Networks.{IfaceValue}
 use Rattle.nm_topology.specs.Wholes.{NetworkValue}
 use Rattle.nm_forward.specs.declared.row.Row.{Row}
-use Rattle.nm_forward.specs.declared.row.Row.TheVariants.{BadHeader, BadDestination, NotMine, Unreachable, Expired, Forward, Fragment, BadIcmp, EchoRequest, OtherIcmp, BadUdp, Delivered, ClosedPort, UnknownProtocol}
 use Rattle.nm_forward.specs.declared.counter.Counter.TheVariants as count
 use Rattle.nm_forward.specs.declared.reaction.Reaction.{Reaction}
 use Rattle.nm_forward.specs.declared.reaction.Reaction.TheVariants as sent
 use Rattle.nm_forward.specs.State.{NodeTable, NodeStateValue, table_of, counted}
 use Rattle.nm_forward.specs.Row.{arrival_row, row_counter}
-use Rattle.nm_forward.specs.Originate.{Consequence, Nothing, Sends, Datagram, Whole, originate, error_of, reply_of, concluded}
-
--- what follows a row for the packet p: errors of RFC 792 and RFC 1812, section 4.3.2.7, an echo reply, or the packet one
--- hop on (RFC 791, section 3.2)
-abbrev pub consequence_of : List IfaceValue → NodeTable → ℕ → List ℕ → Row → Consequence
-consequence_of ifaces table identification p BadHeader = Nothing
-consequence_of ifaces table identification p BadDestination = Nothing
-consequence_of ifaces table identification p NotMine = Nothing
-consequence_of ifaces table identification p Unreachable = error_of ifaces table identification p 3 0
-consequence_of ifaces table identification p Expired = error_of ifaces table identification p 11 0
-consequence_of ifaces table identification p (Forward via) = Sends via (packet_octets (lowered (fields_of p)) (payload_of p))
-consequence_of ifaces table identification p Fragment = Nothing
-consequence_of ifaces table identification p BadIcmp = Nothing
-consequence_of ifaces table identification p (EchoRequest request) = reply_of ifaces table identification (fields_of p) request
-consequence_of ifaces table identification p OtherIcmp = Nothing
-consequence_of ifaces table identification p BadUdp = Nothing
-consequence_of ifaces table identification p Delivered = Nothing
-consequence_of ifaces table identification p ClosedPort = error_of ifaces table identification p 3 3
-consequence_of ifaces table identification p UnknownProtocol = error_of ifaces table identification p 3 2
+use Rattle.nm_forward.specs.Originate.{Sends, Datagram, Whole, Outgoing, originate, consequence_of, Outcome, concluded}
 
 -- octets arrive: the row's counter rises, and then comes what follows
-unfoldable pub arrived : List IfaceValue → NodeTable → NodeStateValue → List ℕ → NodeStateValue × Option (ℕ × List ℕ)
+unfoldable pub arrived : List IfaceValue → NodeTable → NodeStateValue → List ℕ → Outcome
 arrived ifaces table n x = let row : Row = arrival_row table x in
-    concluded (consequence_of ifaces table n.identification (cut_of x) row) (counted (row_counter row) n)
+    concluded (consequence_of ifaces table n.identification (cut_of x) row)
+    (counted (row_counter row) n)
 
--- a source of the node hands over a packet: its data, of which a source of empty datagrams gives one octet that is not
--- sent; a whole ICMP message; or octets that go by the source's interface as they are
-abbrev pub handed : List IfaceValue → NodeTable → NodeStateValue → Traffic → List ℕ → NodeStateValue × Option (ℕ × List ℕ)
-handed ifaces table n (Cbr c) x = concluded (originate ifaces table n.identification (record {
+-- the packet of a `cbr` source: its data, and where it has none not the octet that stands for them
+abbrev pub datagram_of : CbrTraffic → List ℕ → Outgoing
+datagram_of c x = record {
   source = None;
   destination = c.to;
   time_to_live = c.flow.ttl;
   body = Datagram c.source_port c.destination_port (if c.flow.size == 0 then [] else x);
-})) n
-handed ifaces table n (Echo e) x = concluded (originate ifaces table n.identification (record {
+}
+
+-- the packet of an `echo` source, which hands over a whole ICMP message
+abbrev pub request_of : EchoTraffic → List ℕ → Outgoing
+request_of e x = record {
   source = None;
   destination = e.to;
   time_to_live = e.flow.ttl;
   body = Whole x;
-})) n
+}
+
+-- A source of the node hands over a packet. The octets of a `raw` source go by its interface as
+-- they are.
+abbrev pub handed : List IfaceValue → NodeTable → NodeStateValue → Traffic → List ℕ → Outcome
+handed ifaces table n (Cbr c) x =
+    concluded (originate ifaces table n.identification (datagram_of c x)) n
+handed ifaces table n (Echo e) x =
+    concluded (originate ifaces table n.identification (request_of e x)) n
 handed ifaces table n (Raw r) x = concluded (Sends r.via x) (counted count.Raw n)
 
 -- only a source of the node hands over anything to it
-abbrev pub handed_by : NetworkValue → ℕ → NodeStateValue → Option Source → List ℕ → NodeStateValue × Option (ℕ × List ℕ)
+abbrev pub handed_by : NetworkValue → ℕ → NodeStateValue → Option Source → List ℕ → Outcome
 handed_by t v n None x = (n, None)
-handed_by t v n (Some s) x = if s.node == v then handed t.ifaces (table_of t v) n s.traffic x else (n, None)
+handed_by t v n (Some s) x =
+    if s.node == v then handed t.ifaces (table_of t v) n s.traffic x else (n, None)
 
--- what node v of the network t does with the packet x in the state n: the state after, and at most one packet, with the
--- interface by which it is sent
-unfoldable pub reaction : NetworkValue → ℕ → NodeStateValue → Origin → List ℕ → NodeStateValue × Option (ℕ × List ℕ)
+-- what node v of the network t does with the packet x in the state n: the state after, and at most
+-- one packet, with the interface by which it is sent
+unfoldable pub reaction : NetworkValue → ℕ → NodeStateValue → Origin → List ℕ → Outcome
 reaction t v n (Arrival i) x = arrived t.ifaces (table_of t v) n x
 reaction t v n (FromSource j) x = handed_by t v n (slice_get t.sources j) x
 
--- what a source hands over fits a packet
-abbrev pub FitsTraffic : Traffic → List ℕ → Type 0
-FitsTraffic (Cbr c) x = length x ≤ 65507
-FitsTraffic (Echo e) x = length x ≤ 65515
-FitsTraffic (Raw r) x = Unit {0}
+-- what a source hands over fits a packet, with the headers that it gets
+abbrev pub FitsHeaders : Traffic → List ℕ → Type 0
+FitsHeaders (Cbr c) x = length x ≤ 65507
+FitsHeaders (Echo e) x = length x ≤ 65515
+FitsHeaders (Raw r) x = Unit {0}
 
 abbrev pub FitsSource : Option Source → List ℕ → Type 0
 FitsSource None x = Unit {0}
-FitsSource (Some s) x = FitsTraffic s.traffic x
+FitsSource (Some s) x = FitsHeaders s.traffic x
 
 abbrev pub FitsOrigin : NetworkValue → Origin → List ℕ → Type 0
 FitsOrigin t (Arrival i) x = Unit {0}

@@ -16,12 +16,14 @@ leads n address r = (r.to.length == n) && (network n r.to.address == network n a
 
 -- the route's prefix holds the address: they agree in the first bits, as many as the prefix has
 abbrev pub Holds : ℕ → Route → Type 0
-Holds address r = (r.to.length ≤ 32) × (network r.to.length r.to.address ≡ network r.to.length address)
+Holds address r =
+    (r.to.length ≤ 32) × (network r.to.length r.to.address ≡ network r.to.length address)
 
 -- of the routes whose prefix has fewer than n bits and holds the address, the one with the longest
 unfoldable pub longest_below : ℕ → List Route → ℕ → Option Route
 longest_below zero routes address = None
-longest_below (suc n) routes address = option_or (find (leads n address) routes) (longest_below n routes address)
+longest_below (suc n) routes address =
+    option_or (find (leads n address) routes) (longest_below n routes address)
 
 -- the route with the longest prefix that holds the address
 abbrev pub longest_route : List Route → ℕ → Option Route
@@ -39,8 +41,11 @@ prefix_key n address = n * 2 ^ 32 + network n address
 abbrev pub Vias : Type 0
 Vias = HashMap ℕ ℕ (BuildHasherDefault FoldHasher)
 
--- how routes are laid out: whether a prefix has so many bits, and where the first route to a prefix leads
+-- how routes are laid out: whether a prefix has so many bits, and where the first route to a prefix
+-- leads
 pub record IsLaidOut (routes : List Route) (occurs : List Bool) (vias : Vias) : Type 0 where
-  pub lengths : (n address : ℕ) → n < 33 → slice_index_or occurs n false ≡ false → find (leads n address) routes ≡ None
+  pub lengths : (n address : ℕ) → n < 33 → slice_index_or occurs n false ≡ false
+      → find (leads n address) routes ≡ None
   pub leading : (n address : ℕ) → n < 33 → address < 2 ^ 32
-      → get nat_eq vias (prefix_key n address) ≡ option_map (λ r. r.via) (find (leads n address) routes)
+      → get nat_eq vias (prefix_key n address)
+      ≡ option_map (λ r. r.via) (find (leads n address) routes)

@@ -13,8 +13,8 @@ use Rattle.nm_forward.specs.declared.row.Row.TheVariants.{BadHeader, BadDestinat
 use Rattle.nm_forward.specs.Routes.{route_of}
 use Rattle.nm_forward.specs.State.{NodeTable, is_own, listens}
 
--- a packet for another node, to which this route leads (RFC 1812, sections 5.2.7.1 and 5.3.1). That the route is looked
--- up before the time to live is tested is own.
+-- a packet for another node, to which this route leads (RFC 1812, sections 5.2.7.1 and 5.3.1). That
+-- the route is looked up before the time to live is tested is own.
 abbrev pub transit_row : NodeKind → Option ℕ → ℕ → Row
 transit_row Host route time_to_live = NotMine
 transit_row Router None time_to_live = Unreachable
@@ -32,7 +32,8 @@ icmp_row payload = if is_some (icmp_fault payload) then BadIcmp
 -- a UDP datagram for this node
 abbrev pub udp_row : NodeTable → Ipv4Fields → List ℕ → Row
 udp_row table h payload = if is_some (udp_fault h.source h.destination payload) then BadUdp
-    else (if listens table (udp_fields_of (udp_cut_of payload)).destination_port then Delivered else ClosedPort)
+    else (if listens table (udp_fields_of (udp_cut_of payload)).destination_port then Delivered
+    else ClosedPort)
 
 -- more fragments follow, or others came before (RFC 791, section 3.1)
 abbrev pub is_fragment : Ipv4Fields → Bool
@@ -74,17 +75,6 @@ row_counter UnknownProtocol = count.Proto
 
 -- what the consequence of a row asks of a packet of this time to live
 abbrev pub IsPossible : Row → ℕ → Type 0
-IsPossible BadHeader time_to_live = Unit {0}
-IsPossible BadDestination time_to_live = Unit {0}
-IsPossible NotMine time_to_live = Unit {0}
-IsPossible Unreachable time_to_live = Unit {0}
-IsPossible Expired time_to_live = Unit {0}
 IsPossible (Forward via) time_to_live = 1 ≤ time_to_live
-IsPossible Fragment time_to_live = Unit {0}
-IsPossible BadIcmp time_to_live = Unit {0}
 IsPossible (EchoRequest request) time_to_live = length request ≤ 65515
-IsPossible OtherIcmp time_to_live = Unit {0}
-IsPossible BadUdp time_to_live = Unit {0}
-IsPossible Delivered time_to_live = Unit {0}
-IsPossible ClosedPort time_to_live = Unit {0}
-IsPossible UnknownProtocol time_to_live = Unit {0}
+IsPossible row time_to_live = Unit {0}

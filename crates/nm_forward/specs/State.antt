@@ -32,7 +32,13 @@ addresses_at v ifaces = map (λ i. i.address) (filter (λ i. i.node == v) ifaces
 -- a node that isn't there is a host that knows nothing
 abbrev pub table_from : ℕ → List IfaceValue → Option NodeValue → NodeTable
 table_from v ifaces None = record { node = v; kind = Host; ports = []; routes = []; addresses = [] }
-table_from v ifaces (Some n) = record { node = v; kind = n.kind; ports = n.ports; routes = n.routes; addresses = addresses_at v ifaces }
+table_from v ifaces (Some n) = record {
+  node = v;
+  kind = n.kind;
+  ports = n.ports;
+  routes = n.routes;
+  addresses = addresses_at v ifaces;
+}
 
 -- what the topology says of node v
 unfoldable pub table_of : NetworkValue → ℕ → NodeTable
@@ -60,4 +66,7 @@ counted c n = record n { counters = raised c n.counters }
 
 -- the state after a packet was originated: the identification rises by one modulo 65,536
 abbrev pub after_originating : NodeStateValue → NodeStateValue
-after_originating n = record n { identification = (n.identification + 1) % 65536; counters = raised Originated n.counters }
+after_originating n = record n {
+  identification = (n.identification + 1) % 65536;
+  counters = raised Originated n.counters;
+}

@@ -11,7 +11,8 @@ use std::alloc::{AllocError, Global};
 use std::collections::HashSet;
 use std::marker::Model;
 
-/// The addresses of a node's interfaces, beside a set of them, so that a test goes over no list. A clause sees the list.
+/// The addresses of a node's interfaces, beside a set of them, so that a test goes over no list. A
+/// clause sees the list.
 #[derive(Drop)]
 pub struct Addresses {
     /// In the order of the interfaces.
@@ -28,7 +29,8 @@ impl Model for Addresses {
 
     ghost view = { λ a. a.list.items };
 
-    ghost invariant = { λ a. (q : ℕ) → bag.contains nat_eq a.set q ≡ list_any (nat_eq q) a.list.items };
+    ghost invariant = { λ a. (q : ℕ)
+        → bag.contains nat_eq a.set q ≡ list_any (nat_eq q) a.list.items };
 }
 
 impl Addresses {

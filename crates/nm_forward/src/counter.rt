@@ -3,7 +3,8 @@
 ghost use Rattle.std.specs.Prelude.{◌≡◌, ◌<◌};
 ghost use Rattle.nm_forward.specs.Counter.{counter_name, counter_number};
 
-/// What a node counts. Each arrival raises the counter of the row that fits it, and what follows may raise another.
+/// What a node counts. Each arrival raises the counter of the row that fits it, and what follows
+/// may raise another.
 #[derive(Clone, Copy, Debug, PartialEq, Eq)]
 pub enum Counter {
     /// The header test failed (RFC 791, section 3.1).

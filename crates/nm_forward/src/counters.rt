@@ -6,7 +6,8 @@ ghost use Rattle.nm_forward.specs.Counter.{counter_number, no_counts, raised};
 use crate::counter::{COUNTERS, Counter};
 use std::marker::Model;
 
-/// How often each counter rose, up to 2^64 - 1. A clause sees the counts in the order of the counters' numbers.
+/// How often each counter rose, up to 2^64 - 1. A clause sees the counts in the order of the
+/// counters' numbers.
 #[derive(Debug, Drop)]
 pub struct Counters {
     counts: [u64; COUNTERS],

@@ -1,31 +1,48 @@
 //! Laws of the definitions: each function does nothing, and its contract is the law.
 
 ghost use Rattle.std.specs.Prelude.{◌≡◌, ℕ, ◌≤◌, All, Contains, List, None, Some, length};
+ghost use Rattle.nm_base.specs.declared.limits.TheConstants.{MAX_PACKET_OCTETS};
 ghost use Rattle.nm_base.specs.declared.event.Origin.{Origin};
 ghost use Rattle.nm_topology.specs.declared.parts.Route.{Route};
+ghost use Rattle.nm_topology.specs.Wholes.{NetworkValue};
 ghost use Rattle.nm_forward.specs.Routes.{Holds, longest_route};
 ghost use Rattle.nm_forward.specs.State.{IsIfaceOf, NodeStateValue};
-ghost use Rattle.nm_forward.specs.Reaction.{reaction};
+ghost use Rattle.nm_forward.specs.Reaction.{FitsOrigin, reaction};
 
 use nm_topology::Topology;
 use nm_topology::topology::accepted_topologies_are_in_order;
 
-/// The route to an address is one of the routes, and its prefix holds the address and is the longest that does. There is
-/// one where any prefix holds the address.
+/// The route to an address is one of the routes, and its prefix holds the address and is the
+/// longest that does. There is one where any prefix holds the address.
 pub fn routes_are_longest()
-    ensures found { (routes : List Route) (address : ℕ) (r : Route) → longest_route routes address ≡ Some r
-        → Contains routes r × Holds address r }
-    ensures longest { (routes : List Route) (address : ℕ) (r : Route) → longest_route routes address ≡ Some r
+    ensures found { (routes : List Route) (address : ℕ) (r : Route)
+        → longest_route routes address ≡ Some r → Contains routes r × Holds address r }
+    ensures longest { (routes : List Route) (address : ℕ) (r : Route)
+        → longest_route routes address ≡ Some r
         → All (λ q. Holds address q → q.to.length ≤ r.to.length) routes }
     ensures none { (routes : List Route) (address : ℕ) → longest_route routes address ≡ None
         → All (λ q. Holds address q → ⊥) routes }
 {}
 
-/// Whatever comes to a node, in whatever state, it sends by an interface of its own, and a node that isn't there sends
-/// nothing.
+/// What a node knows of itself stays as it is.
+pub fn a_node_keeps_its_tables()
+    ensures { (t : NetworkValue) (v : ℕ) (n : NodeStateValue) (o : Origin) (x : List ℕ)
+        → (reaction t v n o x).0.table ≡ n.table }
+{}
+
+/// Whatever comes to a node, in whatever state, it sends by an interface of its own. So a node that
+/// isn't there sends nothing: no interface is one of it.
 pub fn a_node_sends_by_its_own_interfaces(topology: &Topology)
     ensures { (v : ℕ) (n : NodeStateValue) (o : Origin) (x : List ℕ) (s : ℕ × List ℕ)
         → (reaction topology.now v n o x).1 ≡ Some s → IsIfaceOf topology.now.ifaces v s.0 }
 {
     accepted_topologies_are_in_order(topology);
 }
+
+/// What a node sends is a packet where what comes to it is one, and a source hands over what fits:
+/// it has 1 to 65,535 octets.
+pub fn a_sent_packet_fits()
+    ensures { (t : NetworkValue) (v : ℕ) (n : NodeStateValue) (o : Origin) (x : List ℕ)
+        (s : ℕ × List ℕ) → 1 ≤ length x → length x ≤ MAX_PACKET_OCTETS → FitsOrigin t o x
+        → (reaction t v n o x).1 ≡ Some s → (1 ≤ length s.1) × (length s.1 ≤ MAX_PACKET_OCTETS) }
+{}

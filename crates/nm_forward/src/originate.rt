@@ -39,8 +39,8 @@ fn write(alloc: Global, header: &Ipv4Header, body: &Body<'_>) -> Result<Packet, 
     }
 }
 
-/// Prepares to originate a packet: not to an address of the node itself, and only where a route leads. It leaves by the
-/// route's interface.
+/// Prepares to originate a packet: not to an address of the node itself, and only where a route
+/// leads. It leaves by the route's interface.
 #[tactic(auto, unfolding(crate::specs::Originate::originate))]
 pub fn originate(
     alloc: Global,
@@ -50,8 +50,8 @@ pub fn originate(
 ) -> Result<Prepared, AllocError>
     requires table { state.now.table ≡ table_of topology.now state.now.table.node }
     requires fits { FitsPacket (body_of outgoing.now.body) }
-    ensures { IfOk result (λ p. consequence p ≡ originate topology.now.ifaces state.now.table state.now.identification
-        (outgoing_of outgoing.now)) }
+    ensures { IfOk result (λ p. consequence p ≡ originate topology.now.ifaces state.now.table
+        state.now.identification (outgoing_of outgoing.now)) }
 {
     if state.is_own(outgoing.destination) {
         return Ok(Prepared::Counts(Counter::ToSelf));
@@ -74,8 +74,9 @@ pub fn originate(
     Ok(Prepared::Originates(via, Twin::new(packet)?))
 }
 
-/// Whether an ICMP payload is a message about which no error is sent: destination unreachable, source quench, redirect,
-/// time exceeded or parameter problem (RFC 792), or nothing. Its checksum is not tested.
+/// Whether an ICMP payload is a message about which no error is sent: destination unreachable,
+/// source quench, redirect, time exceeded or parameter problem (RFC 792), or nothing. Its checksum
+/// is not tested.
 fn is_error_message(payload: &[u8]) -> bool
     ensures { result ≡ is_error_message payload.now }
 {
@@ -85,8 +86,8 @@ fn is_error_message(payload: &[u8]) -> bool
     }
 }
 
-/// Whether no error is sent about the packet (RFC 1812, section 4.3.2.7): it is a later fragment, it comes from an
-/// offending address, or it is an error itself.
+/// Whether no error is sent about the packet (RFC 1812, section 4.3.2.7): it is a later fragment,
+/// it comes from an offending address, or it is an error itself.
 fn is_quiet(packet: &Ipv4View<'_>) -> bool
     ensures { result ≡ is_quiet packet.now }
 {
@@ -106,8 +107,8 @@ pub fn error(
     code: u8,
 ) -> Result<Prepared, AllocError>
     requires { state.now.table ≡ table_of topology.now state.now.table.node }
-    ensures { IfOk result (λ p. consequence p ≡ error_of topology.now.ifaces state.now.table state.now.identification
-        packet.now message_type code) }
+    ensures { IfOk result (λ p. consequence p ≡ error_of topology.now.ifaces state.now.table
+        state.now.identification packet.now message_type code) }
 {
     if is_quiet(packet) {
         return Ok(Prepared::Counts(Counter::Quiet));
@@ -138,8 +139,8 @@ pub fn reply(
 ) -> Result<Prepared, AllocError>
     requires table { state.now.table ≡ table_of topology.now state.now.table.node }
     requires fits { length request.now ≤ 65515 }
-    ensures { IfOk result (λ p. consequence p ≡ reply_of topology.now.ifaces state.now.table state.now.identification
-        (fields_of packet.now) request.now) }
+    ensures { IfOk result (λ p. consequence p ≡ reply_of topology.now.ifaces state.now.table
+        state.now.identification (fields_of packet.now) request.now) }
 {
     if packet.source().is_offending() {
         return Ok(Prepared::Counts(Counter::Quiet));

@@ -14,8 +14,8 @@ use std::marker::Model;
 /// How many lengths a prefix may have: 0 to 32 bits.
 const LENGTHS: usize = 33;
 
-/// The routes of a node, laid out so that a look-up goes over lengths of prefixes and not over routes. A clause sees the
-/// list of routes.
+/// The routes of a node, laid out so that a look-up goes over lengths of prefixes and not over
+/// routes. A clause sees the list of routes.
 #[derive(Drop)]
 pub struct Routes {
     /// In the order in which they were given.
@@ -38,7 +38,8 @@ impl Model for Routes {
     ghost invariant = { λ t. IsLaidOut t.routes.items t.occurs t.vias };
 }
 
-/// The key of the prefix that has so many bits and holds the address: both numbers, one above the other.
+/// The key of the prefix that has so many bits and holds the address: both numbers, one above the
+/// other.
 fn prefix_key(length: u8, address: Address) -> u64
     requires { length ≤ 32 }
     ensures value { result ≡ prefix_key length address }
@@ -87,16 +88,17 @@ impl Routes {
         })
     }
 
-    /// The interface to which the route leads whose prefix is the longest that holds the address (RFC 1812, section
-    /// 5.2.4.3). It takes no memory.
+    /// The interface to which the route leads whose prefix is the longest that holds the address
+    /// (RFC 1812, section 5.2.4.3). It takes no memory.
     pub fn look(&self, address: Address) -> Option<IfaceNo>
         ensures { result ≡ route_of self.now address }
     {
         for length in (0..LENGTHS as u8).rev() {
-            if self.occurs[usize::from(length)] {
-                if let Some(via) = self.vias.get(&prefix_key(length, address)) {
-                    return Some(*via);
-                }
+            if !self.occurs[usize::from(length)] {
+                continue;
+            }
+            if let Some(via) = self.vias.get(&prefix_key(length, address)) {
+                return Some(*via);
             }
         }
         None

@@ -10,6 +10,11 @@ use nm_base::IfaceNo;
 use nm_packet::{Icmp, IcmpView, Ipv4View, Udp, icmp, udp};
 use nm_topology::NodeKind;
 
+/// Type and code of an echo request (RFC 792).
+const ECHO_REQUEST: u8 = 8;
+
+const ECHO_CODE: u8 = 0;
+
 /// The rows, in the order in which they are tried.
 #[derive(Debug, Drop)]
 pub enum Row<'a> {
@@ -70,7 +75,8 @@ impl Row<'_> {
 /// The row of a packet that passed the header test.
 #[tactic(auto, unfolding(crate::specs::Row::packet_row))]
 pub fn packet_row<'a>(state: &NodeState, packet: &Ipv4View<'a>) -> Row<'a>
-    ensures row { result ≡ packet_row state.now.table (fields_of packet.now) (payload_of packet.now) }
+    ensures row { result
+        ≡ packet_row state.now.table (fields_of packet.now) (payload_of packet.now) }
     ensures possible { IsPossible result (fields_of packet.now).time_to_live }
 {
     let destination = packet.destination();
@@ -83,7 +89,8 @@ pub fn packet_row<'a>(state: &NodeState, packet: &Ipv4View<'a>) -> Row<'a>
     transit_row(state.kind(), state.look(destination), packet.time_to_live())
 }
 
-/// The row of a packet for another node, to which this route leads. The time to live is tested last.
+/// The row of a packet for another node, to which this route leads. The time to live is tested
+/// last.
 fn transit_row(kind: NodeKind, route: Option<IfaceNo>, time_to_live: u8) -> Row<'static>
     ensures row { result ≡ transit_row kind route time_to_live }
     ensures possible { IsPossible result time_to_live }
@@ -98,7 +105,8 @@ fn transit_row(kind: NodeKind, route: Option<IfaceNo>, time_to_live: u8) -> Row<
 
 /// The row of a packet for this node.
 fn local_row<'a>(state: &NodeState, packet: &Ipv4View<'a>) -> Row<'a>
-    ensures row { result ≡ local_row state.now.table (fields_of packet.now) (payload_of packet.now) }
+    ensures row { result
+        ≡ local_row state.now.table (fields_of packet.now) (payload_of packet.now) }
     ensures possible { IsPossible result (fields_of packet.now).time_to_live }
 {
     if packet.more_fragments() || packet.fragment_offset() != 0 {
@@ -119,9 +127,8 @@ fn icmp_row(payload: &[u8]) -> Row<'_>
 {
     match Icmp::read(payload) {
         Err(_) => Row::BadIcmp,
-        Ok(message) if message.message_type() == 8 && message.code() == 0 => Row::EchoRequest(
-            message,
-        ),
+        Ok(message) if message.message_type() == ECHO_REQUEST && message.code() == ECHO_CODE =>
+            Row::EchoRequest(message),
         Ok(_) => Row::OtherIcmp,
     }
 }

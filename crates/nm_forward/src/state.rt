@@ -3,7 +3,7 @@
 ghost use Rattle.std.specs.Prelude.{◌≡◌, ◌<◌, IfOk, length, slice_index};
 ghost use Rattle.nm_forward.specs.Counter.{counter_number};
 ghost use Rattle.nm_forward.specs.Routes.{route_of};
-ghost use Rattle.nm_forward.specs.State.{NodeTable, NodeStateValue, first_state, is_own, listens, counted, after_originating};
+ghost use Rattle.nm_forward.specs.State.{first_state, table_of, is_own, listens, counted, after_originating};
 
 use crate::addresses::Addresses;
 use crate::counter::Counter;
@@ -15,8 +15,9 @@ use nm_topology::{NodeKind, Topology};
 use std::alloc::{AllocError, Global};
 use std::marker::Model;
 
-/// The state of a node: what the topology says of it, laid out for look-ups, and what changes with the packets that it
-/// gets. A clause sees the tables as lists, the next identification and the counts.
+/// The state of a node: what the topology says of it, laid out for look-ups, and what changes with
+/// the packets that it gets. A clause sees the tables as lists, the next identification and the
+/// counts.
 #[derive(Drop)]
 pub struct NodeState {
     node: NodeNo,
@@ -34,7 +35,13 @@ impl Model for NodeState {
     ghost Value = { NodeStateValue };
 
     ghost view = { λ s. record {
-      table = record { node = s.node; kind = s.kind; ports = s.ports.items; routes = s.routes; addresses = s.addresses };
+      table = record {
+        node = s.node;
+        kind = s.kind;
+        ports = s.ports.items;
+        routes = s.routes;
+        addresses = s.addresses;
+      };
       identification = s.identification;
       counters = s.counters;
     } };
@@ -49,7 +56,9 @@ impl NodeState {
     #[tactic(auto, unfolding(crate::specs::State::table_of))]
     pub fn new(alloc: Global, topology: &Topology, node: NodeNo) -> Result<Self, AllocError>
         requires { node < length topology.now.nodes }
-        ensures { IfOk result (λ s. s ≡ first_state topology.now node) }
+        ensures first { IfOk result (λ s. s ≡ first_state topology.now node) }
+        // So it is a state that `react` takes.
+        ensures table { IfOk result (λ s. s.table ≡ table_of topology.now s.table.node) }
     {
         let described = topology.node(node);
         Ok(NodeState {
@@ -78,35 +87,35 @@ impl NodeState {
     }
 
     /// Whether it is a host or a router.
-    pub fn kind(&self) -> NodeKind
+    pub(crate) fn kind(&self) -> NodeKind
         ensures { result ≡ self.now.table.kind }
     {
         self.kind
     }
 
     /// The identification of the next packet that the node originates.
-    pub fn identification(&self) -> u16
+    pub(crate) fn identification(&self) -> u16
         ensures { result ≡ self.now.identification }
     {
         self.identification
     }
 
     /// Whether the address is one of the node's own.
-    pub fn is_own(&self, address: Address) -> bool
+    pub(crate) fn is_own(&self, address: Address) -> bool
         ensures { result ≡ is_own self.now.table address }
     {
         self.addresses.contains(address)
     }
 
     /// Whether something listens at this UDP port of the node.
-    pub fn listens(&self, port: u16) -> bool
+    pub(crate) fn listens(&self, port: u16) -> bool
         ensures { result ≡ listens self.now.table port }
     {
         self.ports.iter().any(|open| port == *open)
     }
 
     /// The interface by which the longest route to the address leads.
-    pub fn look(&self, address: Address) -> Option<IfaceNo>
+    pub(crate) fn look(&self, address: Address) -> Option<IfaceNo>
         ensures { result ≡ route_of self.now.table.routes address }
     {
         self.routes.look(address)

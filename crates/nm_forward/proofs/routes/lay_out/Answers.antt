@@ -7,19 +7,26 @@ use Rattle.nm_forward.proofs.Layouts.{laid_out-long, laid_out-known, laid_out-fi
 use Rattle.nm_forward.proofs.routes.lay_out.Goals as goal
 
 pub returns-then-from-ge-LENGTHS : goal.returns-then-from-ge-LENGTHS
-returns-then-from-ge-LENGTHS c = λ routes laid. laid_out-long routes c.args.occurs.now c.args.vias.now c.args.route.now laid (omega arith)
+returns-then-from-ge-LENGTHS c = λ routes laid.
+    laid_out-long routes c.args.occurs.now c.args.vias.now c.args.route.now laid (omega arith)
 
 pub returns-in_ok-insert : goal.returns-in_ok-insert
 returns-in_ok-insert c = λ routes laid.
-    let key : c.prefix_key-key.result ≡ prefix_key c.args.route.now.to.length c.args.route.now.to.address = c.prefix_key-key.ensures.value in
-    let fresh : get nat_eq c.args.vias.now (prefix_key c.args.route.now.to.length c.args.route.now.to.address) ≡ None = grind (arith, common_steps, key, c.if-not-contains_key.ensures) in
-    laid_out-first routes c.args.occurs.now c.args.vias.now c.args.route.now laid
+    let vias = c.args.vias.now in
+    let r = c.args.route.now in
+    let key : c.prefix_key-key.result ≡ prefix_key r.to.length r.to.address =
+    c.prefix_key-key.ensures.value in
+    let fresh : get nat_eq vias (prefix_key r.to.length r.to.address) ≡ None =
+    grind (arith, common_steps, key, c.if-not-contains_key.ensures) in
+    laid_out-first routes c.args.occurs.now vias r laid
     c.from-2.result (omega arith) (omega arith) (omega arith) c.prefix_key-key.ensures.fits
     c.insert.new.self fresh (λ q. rw (← key) (c.in_ok-insert.ensures.updates.0 q))
 
 pub returns-else-not-contains_key : goal.returns-else-not-contains_key
 returns-else-not-contains_key c = λ routes laid.
-    let key : c.prefix_key-key.result ≡ prefix_key c.args.route.now.to.length c.args.route.now.to.address = c.prefix_key-key.ensures.value in
-    laid_out-known routes c.args.occurs.now c.args.vias.now c.args.route.now laid
+    let r = c.args.route.now in
+    let key : c.prefix_key-key.result ≡ prefix_key r.to.length r.to.address =
+    c.prefix_key-key.ensures.value in
+    laid_out-known routes c.args.occurs.now c.args.vias.now r laid
     c.from-2.result (omega arith) (omega arith) (omega arith) c.prefix_key-key.ensures.fits
     (λ none. grind (arith, common_steps, key, none, c.if-not-contains_key.ensures))

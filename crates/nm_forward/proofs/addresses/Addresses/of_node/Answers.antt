@@ -5,4 +5,11 @@ use Rattle.std.proofs.lemmas.List.Folds.{list_any_more}
 use Rattle.nm_forward.proofs.addresses.Addresses.of_node.Goals as goal
 
 pub loop-address-preserved : goal.loop-address-preserved
-loop-address-preserved c = λ q. grind (arith, common_steps, list_any_more (nat_eq q) c.deref-address-items.result.now c.loop-address.address-index 0, c.loop-address.invariant q)
+loop-address-preserved c =
+    λ q. grind (
+      arith,
+      common_steps,
+      list_any_more
+          (nat_eq q) c.deref-address-items.result.now c.loop-address.address-index 0,
+      c.loop-address.invariant q,
+    )

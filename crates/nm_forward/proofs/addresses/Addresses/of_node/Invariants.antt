@@ -5,4 +5,6 @@ use Rattle.std.specs.HashSet as bag
 use Rattle.nm_forward.proofs.addresses.Addresses.of_node.Given as goal
 
 abbrev pub invariant-loop-address : goal.invariant-loop-address
-invariant-loop-address l = (q : ℕ) → bag.contains nat_eq l.set q ≡ list_any (nat_eq q) (take l.address-index l.address-items)
+invariant-loop-address l =
+    (q : ℕ) → bag.contains nat_eq l.set q ≡ list_any (nat_eq q)
+    (take l.address-index l.address-items)
