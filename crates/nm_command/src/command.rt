@@ -1,32 +1,66 @@
-//! What the program does with its words.
+//! The words of the program.
 
-ghost use Rattle.std.specs.Prelude.{◌≡◌};
-ghost use Rattle.std.specs.Io.KnownBytes.{Appends};
-ghost use Rattle.nm_command.specs.Status.{line_of};
+ghost use Rattle.std.specs.Prelude.{◌≡◌, map, option_map, string_bytes};
+ghost use Rattle.std.specs.Str.{bytes_eq};
+ghost use Rattle.nm_command.specs.Command.{command_of, command_value, form_of};
 
-use crate::Status;
-use nm_base::Sink;
-use nm_base::sink::write_all;
-
-/// Does what the words say, and says on `errors` why it did not.
-///
-/// No word is a command yet, so that the answer is always `Status::Usage`.
-pub fn run<O: Sink, E: Sink>(_words: &[String], out: &mut O, errors: &mut E) -> Status
-    ensures status { result ≡ Status.Usage }
-    ensures out { out.new ≡ out.old }
-    ensures line { E.failures errors.new ≡ E.failures errors.old
-        → Appends (E.taken errors.old) (E.taken errors.new) (line_of result) }
-{
-    let _ = out;
-    refuse(Status::Usage, errors)
+/// How the octets of a trace file are written.
+#[derive(Clone, Copy, Debug, PartialEq, Eq)]
+pub enum Form {
+    /// As they are.
+    Octets,
+    /// As lower-case hexadecimal, and a line feed at the end.
+    Hexadecimal,
 }
 
-/// Ends with this status: says its line on `errors`. Where `errors` fails there is nobody to tell, and the status stays.
-pub fn refuse<E: Sink>(status: Status, errors: &mut E) -> Status
-    ensures status { result ≡ status }
-    ensures line { E.failures errors.new ≡ E.failures errors.old
-        → Appends (E.taken errors.old) (E.taken errors.new) (line_of status) }
-{
-    let _ = write_all(errors, status.line());
-    status
+impl Form {
+    /// The form that a command's first word asks for.
+    fn of(word: &str) -> Option<Form>
+        ensures { result ≡ form_of word.now }
+    {
+        if word == "one" {
+            return Some(Form::Octets);
+        }
+        if word == "onehex" {
+            return Some(Form::Hexadecimal);
+        }
+        None
+    }
+}
+
+/// What the program is to do: to write the trace file of one interface. A clause sees the names as octets.
+#[derive(Clone, Copy, Debug, PartialEq, Eq)]
+pub struct Command<'a> {
+    pub form: Form,
+    /// The file with the topology text, or `-`, which is standard input.
+    pub topology: &'a str,
+    /// The name of the interface, or `None`, which is interface 0.
+    pub iface: Option<&'a str>,
+}
+
+impl<'a> Command<'a> {
+    /// The command of the words after the program's name: `one TOPO IFACE` or `onehex TOPO IFACE`, where IFACE may be left
+    /// out. No words are `onehex -`. `None` where the words are no command.
+    pub fn of(words: &'a [String]) -> Option<Command<'a>>
+        ensures { option_map command_value result ≡ command_of (map (λ w. string_bytes w) words.now) }
+    {
+        match words {
+            [] => Some(Command {
+                form: Form::Hexadecimal,
+                topology: "-",
+                iface: None,
+            }),
+            [word, topology] => Some(Command {
+                form: Form::of(word.as_str())?,
+                topology: topology.as_str(),
+                iface: None,
+            }),
+            [word, topology, iface] => Some(Command {
+                form: Form::of(word.as_str())?,
+                topology: topology.as_str(),
+                iface: Some(iface.as_str()),
+            }),
+            _ => None,
+        }
+    }
 }

@@ -4,5 +4,5 @@
 pub mod command;
 pub mod status;
 
-pub use command::{refuse, run};
+pub use command::{Command, Form};
 pub use status::Status;

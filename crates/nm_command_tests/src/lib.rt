@@ -3,3 +3,5 @@
 
 #[cfg(test)]
 mod statuses;
+#[cfg(test)]
+mod words;

@@ -1,11 +1,18 @@
 //! nullsim: a distributed simulator of IPv4 networks whose answers are proved.
+//!
+//! This is its edge: the words, the files and the exit status. All else is `nm_program::run`.
 #![tactic(auto)]
 
+mod source;
+
 use nm_base::StdSink;
-use nm_command::{Status, refuse, run};
+use nm_command::{Command, Status};
+use nm_program::{Input, report, run};
+use source::Source;
 use std::env::Env;
+use std::io::ErrorKind;
 use std::process::ExitCode;
-use std::{env, io};
+use std::{env, fs, io};
 
 /// The words after the program's name.
 fn words<R: Env + Alloc>(rt: &R) -> io::Result<Vec<String<R::A>, R::A>> {
@@ -16,12 +23,42 @@ fn words<R: Env + Alloc>(rt: &R) -> io::Result<Vec<String<R::A>, R::A>> {
     Ok(words)
 }
 
-fn main(rt: HostRuntime) -> ExitCode {
-    let mut out = StdSink::new(rt.stdout());
-    let mut errors = StdSink::new(rt.stderr());
-    let status = match words(&rt) {
-        Ok(words) => run(words.as_slice(), &mut out, &mut errors),
-        Err(_) => refuse(Status::Usage, &mut errors),
+/// The input that the words name: standard input for `-`, and else a file. Words of no command name none.
+fn open(rt: &HostRuntime, words: &[String]) -> Source {
+    let Some(command) = Command::of(words) else {
+        return Source::Missing;
     };
-    ExitCode::from(status.code())
+    if command.topology == "-" {
+        return Source::Standard(rt.reader());
+    }
+    match fs::open(rt, command.topology) {
+        Ok(file) => Source::File(file),
+        Err(_) => Source::Missing,
+    }
+}
+
+/// The program, up to its exit status.
+fn status(rt: &HostRuntime) -> Status {
+    let mut errors = StdSink::new(rt.stderr());
+    let words = match words(rt) {
+        Ok(words) => words,
+        Err(error) if error.kind() == ErrorKind::OutOfMemory => {
+            return report(Status::Memory, &mut errors);
+        }
+        // a word that is not UTF-8
+        Err(_) => return report(Status::Usage, &mut errors),
+    };
+    let mut input = Input::new(open(rt, words.as_slice()));
+    let mut out = StdSink::new(rt.stdout());
+    run(
+        rt.alloc(),
+        words.as_slice(),
+        &mut input,
+        &mut out,
+        &mut errors,
+    )
+}
+
+fn main(rt: HostRuntime) -> ExitCode {
+    ExitCode::from(status(&rt).code())
 }

@@ -1,0 +1,4 @@
+pub mod Input
+pub mod Writing
+pub mod TraceFile
+pub mod Ending

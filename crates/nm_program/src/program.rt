@@ -1,0 +1,134 @@
+//! The program: words and an input in, octets and a status out.
+
+ghost use Rattle.std.specs.Prelude.{◌≡◌, ◌≤◌, ◌<◌, All, IfSome, length, map, option_map, position, string_bytes};
+ghost use Rattle.std.specs.Io.KnownBytes.{Appends};
+ghost use Rattle.std.specs.Str.{bytes_eq};
+ghost use Rattle.nm_base.specs.declared.limits.TheConstants.{MAX_TIME};
+ghost use Rattle.nm_command.specs.Command.{command_of, command_value};
+ghost use Rattle.nm_command.specs.Status.{line_of};
+ghost use Rattle.nm_sim.specs.Trace.{IsTraceBefore};
+ghost use Rattle.nm_program.specs.Ending.{Ends, EndsCommand, ReadsTopology, iface_named};
+
+use crate::input::{Input, InputFault};
+use crate::trace_file::write_trace_file;
+use nm_base::sink::write_all;
+use nm_base::{IfaceNo, Record, Sink};
+use nm_command::{Command, Status};
+use nm_sim::one_list;
+use nm_topology::parts::Iface;
+use nm_topology::topology::accepted_topologies_are_in_order;
+use nm_topology::{TopoFault, Topology};
+use std::alloc::Global;
+use std::io::Read;
+
+/// Does what the words say. The trace file goes to `out` as it is made, and a line to `errors` where the program is not
+/// done; where `errors` fails there is nobody to tell, and the status stays.
+///
+/// The first of these decides: the words, the input, the topology, all else. Memory may be refused at any place.
+pub fn run<I: Read, O: Sink, E: Sink>(
+    alloc: Global,
+    words: &[String],
+    input: &mut Input<I>,
+    out: &mut O,
+    errors: &mut E,
+) -> Status
+    ensures ending { Ends O.taken O.failures (I.remaining input.old.reader) input.old.failures input.new.failures
+        out.old out.new (command_of (map (λ w. string_bytes w) words.now)) result }
+    ensures line { E.failures errors.new ≡ E.failures errors.old
+        → Appends (E.taken errors.old) (E.taken errors.new) (line_of result) }
+{
+    let status = match Command::of(words) {
+        Some(command) => perform(alloc, command, input, out),
+        None => Status::Usage,
+    };
+    report(status, errors)
+}
+
+/// Ends with this status: says its line on `errors`.
+pub fn report<E: Sink>(status: Status, errors: &mut E) -> Status
+    ensures status { result ≡ status }
+    ensures line { E.failures errors.new ≡ E.failures errors.old
+        → Appends (E.taken errors.old) (E.taken errors.new) (line_of status) }
+{
+    let _ = write_all(errors, status.line());
+    status
+}
+
+/// Writes the trace file that a command asks for.
+fn perform<I: Read, O: Sink>(
+    alloc: Global,
+    command: Command<'_>,
+    input: &mut Input<I>,
+    out: &mut O,
+) -> Status
+    ensures { EndsCommand O.taken O.failures (I.remaining input.old.reader) input.old.failures input.new.failures
+        out.old out.new (command_value command.entry) result }
+{
+    let topology = match read_topology(alloc, input) {
+        Ok(topology) => topology,
+        Err(status) => return status,
+    };
+    let Some(iface) = find_iface(&topology, command.iface) else {
+        return Status::NoInterface;
+    };
+    let Some(records) = trace(alloc, &topology) else {
+        return Status::Memory;
+    };
+    match write_trace_file(command.form, iface, records.as_slice(), out) {
+        Ok(()) => Status::Done,
+        Err(_) => Status::File,
+    }
+}
+
+/// The topology whose text an input has. The text is let go.
+fn read_topology<I: Read>(alloc: Global, input: &mut Input<I>) -> Result<Topology, Status>
+    ensures { ReadsTopology (I.remaining input.old.reader) input.old.failures input.new.failures result }
+{
+    let text = match input.read(alloc) {
+        Ok(text) => text,
+        Err(InputFault::Failed | InputFault::TooLong) => return Err(Status::File),
+        Err(InputFault::Memory) => return Err(Status::Memory),
+    };
+    match Topology::read(alloc, text.as_slice()) {
+        Ok(topology) => Ok(topology),
+        Err(TopoFault::Refused(refusal)) => Err(Status::Topology(refusal)),
+        Err(TopoFault::Memory) => Err(Status::Memory),
+    }
+}
+
+/// The interface of this name, or interface 0 where there is no name.
+fn find_iface(topology: &Topology, name: Option<&str>) -> Option<IfaceNo>
+    ensures { result ≡ iface_named topology.now.ifaces (option_map (λ n. n.now) name.entry) }
+{
+    match name {
+        Some(name) => named_iface(topology, name),
+        None if topology.ifaces().is_empty() => None,
+        None => Some(IfaceNo::new(0)),
+    }
+}
+
+/// The interface of this name.
+fn named_iface(topology: &Topology, name: &str) -> Option<IfaceNo>
+    ensures { result ≡ position (λ i. bytes_eq i.name name.now) topology.now.ifaces }
+{
+    accepted_topologies_are_in_order(topology);
+    let index = index_of(topology.ifaces(), name)?;
+    Some(IfaceNo::new(index as u32))
+}
+
+/// Where an interface of this name stands.
+fn index_of(ifaces: &[Iface], name: &str) -> Option<usize>
+    ensures value { result ≡ position (λ i. bytes_eq i.name name.now) ifaces.now }
+    ensures within { IfSome result (λ n. n < length ifaces.now) }
+{
+    ifaces.iter().position(|iface| iface.name() == name)
+}
+
+/// The whole trace, or `None` where memory was refused.
+fn trace(alloc: Global, topology: &Topology) -> Option<Vec<Record>>
+    ensures trace { IfSome result (λ r. IsTraceBefore topology.now topology.now.stop r.items) }
+    ensures times { IfSome result (λ r. All (λ x. x.time ≤ MAX_TIME) r.items) }
+{
+    accepted_topologies_are_in_order(topology);
+    one_list(alloc, topology, topology.stop()).ok()
+}
