@@ -1,5 +1,5 @@
 -- A part after a step stands for the state after that step.
-use Rattle.std.proofs.Common.{◌≡◌, ◌≢◌, ℕ, zero, suc, ◌+◌, ◌<◌, true, ltb, List, [], ◌∷◌, ◌++◌, length, Option, Some, None, refl, sym, ap, ◌∙◌, subst, arith, append_assoc}
+use Rattle.std.proofs.Common.{⊎_elim, cond, slice_get, slice_index, ◌≡◌, ◌≢◌, ℕ, zero, suc, ◌+◌, ◌<◌, true, false, ltb, List, [], ◌∷◌, ◌++◌, length, Option, Some, None, refl, sym, ap, ◌∙◌, subst, arith, append_assoc}
 use Rattle.std.specs.FinMap.{FinMap, get, insert, remove}
 use Rattle.std.specs.Option.{IfSome}
 use Rattle.nm_base.specs.declared.event.Event.{Event}
@@ -25,7 +25,11 @@ use Rattle.nm_sim.specs.Tables.{AllAt}
 use Rattle.nm_sim.specs.Devices.{DevicesValue, IsSame, Stand}
 use Rattle.nm_sim.specs.Effects.{Does, IsPlaceOf, StartsAt, start_of}
 use Rattle.nm_sim.specs.Network.{net_of}
-use Rattle.nm_sim.specs.Part.{PartValue, Stands}
+use Rattle.std.proofs.lemmas.Option.{slice_get_cases, slice_get_past}
+use Rattle.nm_forward.specs.declared.counter.Counter.{Counter}
+use Rattle.nm_forward.specs.Counter.{counter_number}
+use Rattle.nm_iface.specs.PortValue.{counted}
+use Rattle.nm_sim.specs.Part.{PartValue, Stands, count_at, drops_at}
 use Rattle.nm_sim.specs.Timelines.{AreFresh, Told, everywhere}
 use Rattle.nm_sim.proofs.Schedules.{first_fresh, one_more, placed_next, placed_remove, placed_schedule, placed_start, same_some, schedule_append, second_fresh}
 use Rattle.nm_sim.proofs.Beginnings.{told_same}
@@ -146,3 +150,25 @@ of_key (Some e) k h = (e, refl, same_some e.0 k h)
 
 pub pends : (s : State (List ℕ) NodeStateValue) (e : Key × Event (List ℕ)) (k : Key) (before : ℕ) → least s.pending ≡ Some e → e.0 ≡ k → k.time < before → pends_before before s ≡ true
 pends s e k before first same lt = ap (is_before before) first ∙ ap (λ z. ltb z.time before) same ∙ grind (arith, nat_tests)
+
+pub counter_is : (t : NetworkValue) (d : DevicesValue) (s : State (List ℕ) NodeStateValue) → Stand t d s.node s.port → (v : ℕ) (c : Counter)
+    → option_map (λ n. slice_index n.counters (counter_number c)) (slice_get d.nodes v) ≡ count_at t s v c
+counter_is t d s stand v c = ⊎_elim
+    (λ g. let lt : ltb v (length t.nodes) ≡ true = grind (arith, nat_tests, g.1, stand.node_count) in
+    ap (option_map (λ n. slice_index n.counters (counter_number c))) g.2 ∙ ap (λ n. Some (slice_index n.counters (counter_number c))) (stand.nodes v g.0 g.2)
+    ∙ sym (ap (λ b. cond b (Some (slice_index (s.node v).counters (counter_number c))) None) lt))
+    (λ g. let ge : ltb v (length t.nodes) ≡ false = grind (arith, nat_tests, g.0, stand.node_count) in
+    ap (option_map (λ n. slice_index n.counters (counter_number c))) (slice_get_past d.nodes v g.0)
+    ∙ sym (ap (λ b. cond b (Some (slice_index (s.node v).counters (counter_number c))) None) ge))
+    ((slice_get_cases d.nodes v).1)
+
+pub drops_is : (t : NetworkValue) (d : DevicesValue) (s : State (List ℕ) NodeStateValue) → Stand t d s.node s.port → (i : ℕ)
+    → option_map (λ w. w.dropped) (slice_get d.ports i) ≡ drops_at t s i
+drops_is t d s stand i = ⊎_elim
+    (λ g. let lt : ltb i (length t.ifaces) ≡ true = grind (arith, nat_tests, g.1, stand.port_count) in
+    ap (option_map (λ w. w.dropped)) g.2 ∙ ap Some (stand.ports i g.0 g.2).dropped
+    ∙ sym (ap (λ b. cond b (Some (counted (s.port i).dropped)) None) lt))
+    (λ g. let ge : ltb i (length t.ifaces) ≡ false = grind (arith, nat_tests, g.0, stand.port_count) in
+    ap (option_map (λ w. w.dropped)) (slice_get_past d.ports i g.0)
+    ∙ sym (ap (λ b. cond b (Some (counted (s.port i).dropped)) None) ge))
+    ((slice_get_cases d.ports i).1)

@@ -58,7 +58,7 @@ past (x ∷ xs) zero e = absurd cc
 past (x ∷ xs) (suc i) e = let h = past xs i e in omega arith
 
 module _ (t : NetworkValue) (limits : IsWithinLimits t) (fit : FitTheMtu t) where
-  fits_traffic : (traffic : Traffic) (x : List ℕ) → FitsMtu t.mtu traffic (length x) → Rattle.nm_forward.specs.Reaction.FitsTraffic traffic x
+  fits_traffic : (traffic : Traffic) (x : List ℕ) → FitsMtu t.mtu traffic (length x) → Rattle.nm_forward.specs.Reaction.FitsHeaders traffic x
   fits_traffic (Cbr c) x h = let m = limits.greatest_mtu in omega arith
   fits_traffic (Echo e) x h = let m = limits.greatest_mtu in omega arith
   fits_traffic (Raw r) x h = tt

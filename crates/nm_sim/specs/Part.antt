@@ -1,5 +1,5 @@
 -- What contracts see of a part of a simulation, and what it stands for.
-use Rattle.std.specs.Prelude.{◌≡◌, ℕ, ◌≤◌, Bool, true, false, List, length, Option, Some, None, Result, Ok, Err}
+use Rattle.std.specs.Prelude.{◌≡◌, ℕ, ◌≤◌, Bool, true, false, ltb, if◌then◌else◌, slice_index, List, length, Option, Some, None, Result, Ok, Err}
 use Rattle.std.specs.Option.{option_map}
 use Rattle.std.specs.FinMap.{FinMap, get}
 use Rattle.std.specs.declared.alloc.AllocError.{AllocError}
@@ -10,7 +10,10 @@ use Rattle.nm_topology.specs.Wholes.{NetworkValue}
 use Rattle.nm_model.specs.EventList.{least}
 use Rattle.nm_model.specs.Orderly.{IsOrderly}
 use Rattle.nm_model.specs.Run.{State, pends_before, step}
+use Rattle.nm_forward.specs.declared.counter.Counter.{Counter}
+use Rattle.nm_forward.specs.Counter.{counter_number}
 use Rattle.nm_forward.specs.State.{NodeStateValue}
+use Rattle.nm_iface.specs.PortValue.{counted}
 use Rattle.nm_sim.specs.Network.{net_of}
 use Rattle.nm_sim.specs.Devices.{DevicesValue, Stand}
 use Rattle.nm_sim.specs.Effects.{IsPlaceOf}
@@ -45,3 +48,11 @@ abbrev pub Advanced : {L : Type 0} → (L → FinMap key_cmp (Event (List ℕ)))
 Advanced pending t before s old new (Ok false) = (new ≡ old) × (pends_before before s ≡ false)
 Advanced pending t before s old new (Ok true) = Stands pending t new (step (net_of t) everywhere s) × (pends_before before s ≡ true)
 Advanced pending t before s old new (Err e) = Stands pending t new s
+
+-- what node v counted, if it is there
+abbrev pub count_at : NetworkValue → State (List ℕ) NodeStateValue → ℕ → Counter → Option ℕ
+count_at t s v c = if ltb v (length t.nodes) then Some (slice_index (s.node v).counters (counter_number c)) else None
+
+-- how many packets were dropped at interface i, if it is there; the count stops at the greatest of its type
+abbrev pub drops_at : NetworkValue → State (List ℕ) NodeStateValue → ℕ → Option ℕ
+drops_at t s i = if ltb i (length t.ifaces) then Some (counted (s.port i).dropped) else None

@@ -1,6 +1,6 @@
 //! A part of a simulation.
 
-ghost use Rattle.std.specs.Prelude.{◌≡◌, ℕ, ◌+◌, ◌<◌, ◌≤◌, ◌^◌, List, [], Some, IfOk, OnOk, OnErr, length, replicate, slice_get, slice_index};
+ghost use Rattle.std.specs.Prelude.{◌≡◌, ℕ, ◌+◌, ◌<◌, ◌≤◌, ◌^◌, List, [], Some, IfOk, OnOk, OnErr, length, replicate};
 ghost use Rattle.nm_base.specs.declared.event.Event.{Event as PendingEvent};
 ghost use Rattle.nm_base.specs.declared.key.Key.{Key as EventKey};
 ghost use Rattle.std.specs.Option.{option_map};
@@ -11,9 +11,9 @@ ghost use Rattle.nm_sim.specs.Effects.{StartsAt, start_of};
 ghost use Rattle.nm_model.specs.Run.{State, start, step};
 ghost use Rattle.nm_forward.specs.State.{NodeStateValue};
 ghost use Rattle.nm_sim.specs.Network.{net_of};
-ghost use Rattle.nm_sim.specs.Part.{Advanced, Stands, Stepped};
+ghost use Rattle.nm_sim.specs.Part.{Advanced, Stands, Stepped, count_at, drops_at};
+ghost use Rattle.nm_topology.specs.Wholes.{NetworkValue};
 ghost use Rattle.std.specs.FinMap.{empty};
-ghost use Rattle.nm_forward.specs.Counter.{counter_number};
 ghost use Rattle.nm_model.specs.Run.{source_events};
 ghost use Rattle.nm_sim.specs.Devices.{IsStanding};
 ghost use Rattle.nm_sim.specs.Tables.{AllAt};
@@ -153,15 +153,16 @@ impl<L: EventList> Part<L> {
 
     /// What the node counted, if it is there.
     pub fn counter(&self, node: NodeNo, counter: Counter) -> Option<u64>
-        ensures { result ≡ option_map (λ n. slice_index n.counters (counter_number counter))
-            (slice_get self.now.devices.nodes node) }
+        ensures { (t : NetworkValue) (s : State (List ℕ) NodeStateValue) → Stands L.pending t self.now s
+            → result ≡ count_at t s node counter }
     {
         self.devices.counter(node, counter)
     }
 
     /// How many packets were dropped at the interface, if it is there.
     pub fn dropped(&self, iface: IfaceNo) -> Option<u64>
-        ensures { result ≡ option_map (λ w. w.dropped) (slice_get self.now.devices.ports iface) }
+        ensures { (t : NetworkValue) (s : State (List ℕ) NodeStateValue) → Stands L.pending t self.now s
+            → result ≡ drops_at t s iface }
     {
         self.devices.dropped(iface)
     }

@@ -7,5 +7,5 @@ pub loop-number-preserved : goal.loop-number-preserved
 loop-number-preserved c =
     let count : length c.push.new.self.items ≡ c.loop-number.number + 1 = search rules in
     let new : c.in_ok-new.field-0 ≡ first_state c.args.topology.now (length c.loop-number.nodes.items)
-    = c.in_ok-new.ensures ∙ ap (first_state c.args.topology.now) (c.new.ensures ∙ omega (arith, c.loop-number.invariant.0)) in
+    = c.in_ok-new.ensures.first ∙ ap (first_state c.args.topology.now) (c.new.ensures ∙ omega (arith, c.loop-number.invariant.0)) in
     (count, rw (c.in_ok-push.ensures.items) (all_pushed (λ i n. n ≡ first_state c.args.topology.now i) c.loop-number.nodes.items c.in_ok-new.field-0 c.loop-number.invariant.1 new))
