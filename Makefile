@@ -1,15 +1,17 @@
 # make        proves and builds bin/nullsim
 # make run    builds it and runs it on examples/duo.toml
+# make bench  times the program on generated topologies (docs/BENCH.md)
+# make check-pcap  reads the traces of the examples with tshark or tcpdump
 # make test   proves everything from nothing and runs every test; its last line is 'N passed, M failed'
 
-.PHONY: all run test clean toolchain
+.PHONY: all run bench check-pcap test clean toolchain
 
 all: bin/nullsim
 
 toolchain:
 	@command -v rt >/dev/null 2>&1 || { echo "nullsim: the Rattle toolchain is missing: put its command rt on PATH" >&2; exit 1; }
 
-# `rt run` proves, links and runs the program; without words the program only says how it is used.
+# `rt run` proves, links and runs the program; without words the program reads standard input.
 bin/nullsim: toolchain
 	@mkdir -p bin crates/nullsim/out
 	@rm -f crates/nullsim/out/nullsim
@@ -19,7 +21,16 @@ bin/nullsim: toolchain
 .PHONY: bin/nullsim
 
 run: bin/nullsim
-	@bin/nullsim onehex examples/duo.toml || echo "nullsim ended with status $$?"
+	@bin/nullsim onehex examples/duo.toml
+
+bench: bin/nullsim
+	@for kind in line grid star; do \
+	  python3 bench/topology.py $$kind > bin/$$kind.toml; \
+	  python3 bench/time.py $$kind bin/nullsim one bin/$$kind.toml; \
+	done
+
+check-pcap: bin/nullsim
+	@tools/check-pcap.sh bin/nullsim examples/*.toml
 
 test: toolchain
 	@rt ci
