@@ -1,0 +1,86 @@
+//! Topologies of two hosts, their trace files as they stand on disk, and a run of the program in memory.
+
+use nm_base::MemSink;
+use nm_command::Status;
+use nm_program::{Input, run};
+use std::alloc::{AllocError, Global};
+use std::io::Read;
+use std::test::Fail;
+
+/// Two hosts and a link. A topology follows with its `stop` before and its sources after.
+const HOSTS: &str = "mtu = 1500
+node = [ {name = \"a\", kind = \"host\", partition = 0},
+  {name = \"b\", kind = \"host\", partition = 0, ports = [9]} ]
+iface = [ {name = \"a0\", node = \"a\", address = \"10.0.0.1\", queue = 4},
+  {name = \"b0\", node = \"b\", address = \"10.0.0.2\", queue = 4} ]
+link = [ {a = \"a0\", b = \"b0\", rate = 8000000, delay = 1000000} ]
+route = [ {node = \"a\", to = \"10.0.0.0/24\", via = \"a0\"} ]
+";
+
+/// One UDP packet with 72 octets of data, at time 0.
+const SOURCE: &str =
+    "source = [ {kind = \"cbr\", node = \"a\", to = \"10.0.0.2\", sport = 1000, dport = 9,
+  size = 72, start = 0, interval = 1000000, count = 1} ]
+";
+
+const FILE_HEADER: [u8; 24] = [
+    0x4d, 0x3c, 0xb2, 0xa1, 0x02, 0x00, 0x04, 0x00, 0x00, 0x00, 0x00, 0x00, 0x00, 0x00, 0x00, 0x00,
+    0xff, 0xff, 0x00, 0x00, 0x65, 0x00, 0x00, 0x00,
+];
+
+/// What follows a record's time: its two lengths, and the packet but for its 72 zero octets.
+const RECORD: [u8; 36] = [
+    0x64, 0x00, 0x00, 0x00, 0x64, 0x00, 0x00, 0x00, 0x45, 0x00, 0x00, 0x64, 0x00, 0x00, 0x00, 0x00,
+    0x40, 0x11, 0x66, 0x87, 0x0a, 0x00, 0x00, 0x01, 0x0a, 0x00, 0x00, 0x02, 0x03, 0xe8, 0x00, 0x09,
+    0x00, 0x50, 0xe7, 0x5a,
+];
+
+/// The text of two hosts with this `stop`, with or without the source.
+pub fn two_hosts(alloc: Global, stop: u64, has_source: bool) -> Result<String, Fail> {
+    let source = if has_source { SOURCE } else { "" };
+    Ok(format!(in alloc; "format = 1\nstop = {stop}\n{HOSTS}{source}")?)
+}
+
+/// A trace file without a record.
+pub fn empty_file(alloc: Global) -> Result<Vec<u8>, AllocError> {
+    Vec::from_slice(alloc, &FILE_HEADER)
+}
+
+/// The trace file of the one packet at a time, which stands there in eight octets.
+pub fn file_at(alloc: Global, time: [u8; 8]) -> Result<Vec<u8>, AllocError> {
+    let mut octets = empty_file(alloc)?;
+    octets.extend_from_slice(&time)?;
+    octets.extend_from_slice(&RECORD)?;
+    octets.extend_from_slice(&[0; 72])?;
+    Ok(octets)
+}
+
+/// What the program did.
+#[derive(Drop)]
+pub struct Outcome {
+    pub status: Status,
+    pub out: MemSink,
+    pub errors: MemSink,
+}
+
+/// Runs the program on the words of a line and an input, with room for so many octets of output.
+pub fn run_line<I: Read + Drop>(
+    alloc: Global,
+    line: &str,
+    input: I,
+    room: usize,
+) -> Result<Outcome, AllocError> {
+    let mut words = Vec::new(alloc);
+    for word in line.split_whitespace() {
+        words.push(String::from_str(alloc, word)?)?;
+    }
+    let mut input = Input::new(input);
+    let mut out = MemSink::new(alloc, room)?;
+    let mut errors = MemSink::new(alloc, 64)?;
+    let status = run(alloc, words.as_slice(), &mut input, &mut out, &mut errors);
+    Ok(Outcome {
+        status,
+        out,
+        errors,
+    })
+}
