@@ -1,11 +1,11 @@
-//! The simulator with one event list.
+//! The simulator with one event list: a part of a simulation goes on event by event, and its trace is that of the network.
 #![tactic(auto)]
 
-pub mod devices;
-pub mod effect;
+mod devices;
+mod effect;
 pub mod network;
 pub mod part;
-pub mod timeline;
+mod timeline;
 pub mod trace;
 
 pub use part::Part;
