@@ -1,15 +1,16 @@
 # make        proves and builds bin/nullsim
 # make run    builds it and runs it on examples/duo.toml
 # make test   proves everything from nothing and runs every test; its last line is 'N passed, M failed'
+# make cases CASES=FOLDER   builds it and compares its answers with a folder of cases (tools/cases.sh)
 
-.PHONY: all run test clean toolchain
+.PHONY: all run test cases clean toolchain
 
 all: bin/nullsim
 
 toolchain:
 	@command -v rt >/dev/null 2>&1 || { echo "nullsim: the Rattle toolchain is missing: put its command rt on PATH" >&2; exit 1; }
 
-# `rt run` proves, links and runs the program; without words the program only says how it is used.
+# `rt run` proves, links and runs the program; without words it reads a topology, which is empty here, and refuses it.
 bin/nullsim: toolchain
 	@mkdir -p bin crates/nullsim/out
 	@rm -f crates/nullsim/out/nullsim
@@ -20,6 +21,9 @@ bin/nullsim: toolchain
 
 run: bin/nullsim
 	@bin/nullsim onehex examples/duo.toml || echo "nullsim ended with status $$?"
+
+cases: bin/nullsim
+	@tools/cases.sh bin/nullsim "$(CASES)"
 
 test: toolchain
 	@rt ci
