@@ -25,21 +25,23 @@ fn one_packet(rt: HostRuntime) -> Result<(), Fail> {
     let source = first(0, Place::Fire(SourceNo::new(0)));
     let complete = first(100_000, Place::Complete(IfaceNo::new(0)));
     let arrive = first(1_100_000, Place::Arrive(IfaceNo::new(1)));
-    let rows = [
-        (0, None, Some(0), 0),
-        (0, None, Some(0), 0),
-        (1, source, Some(100_000), 1),
-        (0, None, Some(100_000), 1),
-        (100_000, None, Some(100_000), 1),
-        (100_001, complete, Some(1_100_000), 1),
-        (1_100_000, None, Some(1_100_000), 1),
-        (10_000_000, arrive, None, 2),
-        (10_000_000, None, None, 2),
-    ];
-    let befores = rows.map(|(before, _, _, _)| Time::from_nanoseconds(before));
+    let befores = [
+        0, 0, 1, 0, 100_000, 100_001, 1_100_000, 10_000_000, 10_000_000,
+    ]
+    .map(Time::from_nanoseconds);
     let steps = steps_before::<SortedList>(rt.alloc(), &topology, befores.as_slice())?;
-    assert_eq!(rt; steps.len(), rows.len());
-    for (step, (before, done, least, records)) in steps.iter().zip(rows) {
+    assert_eq!(rt; steps.len(), 9);
+    for (step, (done, least, records)) in steps.iter().zip([
+        (None, Some(0), 0),
+        (None, Some(0), 0),
+        (source, Some(100_000), 1),
+        (None, Some(100_000), 1),
+        (None, Some(100_000), 1),
+        (complete, Some(1_100_000), 1),
+        (None, Some(1_100_000), 1),
+        (arrive, None, 2),
+        (None, None, 2),
+    ]) {
         let least = least.map(Time::from_nanoseconds);
         assert_eq!(rt;
             *step,
@@ -47,8 +49,7 @@ fn one_packet(rt: HostRuntime) -> Result<(), Fail> {
                 done,
                 least,
                 records
-            },
-            "before {before}"
+            }
         );
     }
     Ok(())
