@@ -1,6 +1,6 @@
 //! A part of a simulation.
 
-ghost use Rattle.std.specs.Prelude.{◌≡◌, ℕ, ◌+◌, ◌<◌, ◌≤◌, ◌^◌, List, [], Some, IfOk, OnOk, OnErr, length, replicate};
+ghost use Rattle.std.specs.Prelude.{◌≡◌, ℕ, ◌+◌, ◌<◌, ◌≤◌, ◌^◌, List, [], Some, IfOk, OnOk, OnErr, length, ltb, replicate};
 ghost use Rattle.nm_base.specs.declared.event.Event.{Event as PendingEvent};
 ghost use Rattle.nm_base.specs.declared.key.Key.{Key as EventKey};
 ghost use Rattle.std.specs.Option.{option_map};
@@ -53,6 +53,13 @@ impl<L> Model for Part<L> {
     ghost view = { λ p. record { devices = p.devices; timeline = p.timeline; steps = p.steps } };
 
     ghost invariant = { λ p. p.steps ≤ 2 ^ 62 };
+}
+
+/// Whether an event at this time comes before another time.
+fn is_due(time: Time, before: Time) -> bool
+    ensures { result ≡ ltb time before }
+{
+    time < before
 }
 
 /// The timeline of a network at the start of a run: the first packet of each source is to come.
@@ -121,7 +128,7 @@ impl<L: EventList> Part<L> {
         let Some(key) = self.timeline.least() else {
             return Ok(None);
         };
-        if before <= key.time {
+        if !is_due(key.time, before) {
             return Ok(None);
         }
         if self.steps == MAX_STEPS {

@@ -25,7 +25,7 @@ perform-requires-clause-least g c =
     let q : PartValue g.row.L.Denot = record { devices = c.reserve.new.self; timeline = c.reserve-2.new.self; steps = c.self.inside.steps } in
     let stands : Stands g.L.EventList.pending t p z.0 = subst (λ (p : PartValue g.row.L.Denot). Stands g.L.EventList.pending t p z.0) (sym c.self.view_is) z.1 in
     let first = of_key (least z.0.pending) c.in-Some.key (ap (λ m. Rattle.std.specs.Option.option_map (λ e. e.0) (least m)) (sym stands.events) ∙ sym c.least.ensures ∙ c.in-Some.is) in
-    let early : c.in-Some.key.time < c.args.before = grind (arith, common_steps, c.if-le.false, c.le.ensures) in
+    let early : c.in-Some.key.time < c.args.before = grind (arith, common_steps, c.if-not-is_due.false, c.is_due.ensures) in
     let time = ap (λ k. k.time) first.2 in (
       z.0,
       first.0,
@@ -55,7 +55,7 @@ returns g c = record {
       let stands : Stands g.L.EventList.pending t p s = subst (λ (p : PartValue g.row.L.Denot). Stands g.L.EventList.pending t p s) (sym c.self.view_is) h in
       let found = ap (λ m. Rattle.std.specs.Option.option_map (λ e. e.0) (least m)) (sym stands.events) ∙ sym c.least.ensures ∙ c.in-Some.is in
       let first = of_key (least s.pending) c.in-Some.key found in
-      let early : c.in-Some.key.time < c.args.before = grind (arith, common_steps, c.if-le.false, c.le.ensures) in (
+      let early : c.in-Some.key.time < c.args.before = grind (arith, common_steps, c.if-not-is_due.false, c.is_due.ensures) in (
         c.in_ok-perform.ensures.ok s (stands_same g.L.EventList.pending t p q s stands c.reserve.ensures.same c.reserve-2.ensures.events c.reserve-2.ensures.sent c.reserve-2.ensures.records refl),
         pends s first.0 c.in-Some.key c.args.before first.1 first.2 early,
         found,
