@@ -2,7 +2,8 @@
 
 use std::io;
 
-/// Prints the lines that only one of two texts has, and answers whether there is one. Their order does not matter.
+/// Prints the lines that only one of two texts has, and answers whether there is one. Neither their
+/// order matters nor how often a line stands in a text.
 pub fn differ(rt: &impl Print, name: &str, expected: &str, found: &str) -> io::Result<bool> {
     let is_missing = print_lines_beyond(rt, name, "expected", expected, found)?;
     let is_new = print_lines_beyond(rt, name, "found", found, expected)?;

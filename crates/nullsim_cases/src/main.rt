@@ -1,9 +1,9 @@
 //! Compares the simulator with cases from outside, and prints each line that differs.
 //!
-//! The cases in `data/` were made by an independent model of the rules in docs/RULES.md and docs/FORMATS.md, which shares no code
-//! with this repository. `one/NNN.toml` is a topology, and `one/NNN.expect` has all trace files, counters and drops of its
-//! run at `stop`. `bad/NNN.toml` is a topology that was changed at random in one or two places, and `bad/NNN.expect` says
-//! `accepted`, or `fault N`.
+//! An independent model of the rules in docs/RULES.md and docs/FORMATS.md made the cases in `data/`.
+//! `one/NNN.toml` is a topology, and `one/NNN.expect` has the trace file of each interface, the
+//! counters and the drops at `stop`. `bad/NNN.toml` is a topology with one or two random changes,
+//! and `bad/NNN.expect` says `accepted`, or `fault N` with the number of the first fault.
 #![tactic(auto)]
 
 ghost use Rattle.std.specs.Prelude.{◌≤◌, IfOk};

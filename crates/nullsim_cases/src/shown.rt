@@ -32,8 +32,9 @@ pub fn reading_text(alloc: Global, text: &[u8]) -> Result<String, AllocError> {
     }
 }
 
-/// What the run of a topology text shows at `stop`: a line `iface NAME HEX` for each interface, `counter NODE NAME VALUE`
-/// for each counter above 0 and `dropped IFACE VALUE` for each above 0. Of a refused text, the line `fault N`.
+/// What the run of a topology text shows at `stop`: a line `iface NAME HEX` for each interface,
+/// `counter NODE NAME VALUE` for each counter above 0 and `dropped IFACE VALUE` for each above 0.
+/// Of a refused text, the line `fault N`.
 ///
 /// # Errors
 ///
