@@ -1,0 +1,48 @@
+//! The whole run of a network.
+
+ghost use Rattle.std.specs.Prelude.{ℕ, List, IfOk};
+ghost use Rattle.nm_forward.specs.State.{NodeStateValue};
+ghost use Rattle.nm_model.specs.Run.{State};
+ghost use Rattle.nm_sim.specs.Part.{Stands};
+
+use nm_base::Key;
+use nm_events::EventList;
+use nm_sim::Part;
+use nm_topology::Topology;
+use std::alloc::{AllocError, Global};
+
+/// Does the part's first event, if its time is before the network's `stop`: its key, if one was done.
+///
+/// # Errors
+///
+/// `AllocError` where memory was refused.
+fn step_on<L: EventList>(
+    alloc: Global,
+    topology: &Topology,
+    part: &mut Part<L>,
+) -> Result<Option<Key>, AllocError>
+    requires { (s : State (List ℕ) NodeStateValue) × Stands L.pending topology.now part.old s }
+    ensures { (s : State (List ℕ) NodeStateValue) × Stands L.pending topology.now part.new s }
+{
+    part.step(alloc, topology, topology.stop())
+}
+
+/// The part of the whole network, after all events before the network's `stop`.
+///
+/// # Errors
+///
+/// `AllocError` where memory was refused.
+pub fn whole_run<L: EventList + Drop>(
+    alloc: Global,
+    topology: &Topology,
+) -> Result<Part<L>, AllocError>
+    ensures { IfOk result (λ p. (s : State (List ℕ) NodeStateValue) × Stands L.pending topology.now p s) }
+{
+    let mut part = Part::start(alloc, topology)?;
+    for _ in 0..u64::MAX {
+        if step_on(alloc, topology, &mut part)?.is_none() {
+            return Ok(part);
+        }
+    }
+    Err(AllocError)
+}
