@@ -97,9 +97,13 @@ impl Ord for Key {
 
     #[tactic(auto, unfolding(crate::specs::Key::key_cmp))]
     fn cmp(&self, other: &Key) -> Ordering {
-        self.time
-            .cmp(&other.time)
-            .then(self.place.class().cmp(&other.place.class()))
+        // Times mostly differ, and an event list compares keys all the time.
+        let by_time = self.time.cmp(&other.time);
+        if by_time.is_ne() {
+            return by_time;
+        }
+        let by_class = self.place.class().cmp(&other.place.class());
+        by_class
             .then(self.place.index().cmp(&other.place.index()))
             .then(self.place.end().cmp(&other.place.end()))
             .then(self.number.cmp(&other.number))

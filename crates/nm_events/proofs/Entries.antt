@@ -9,8 +9,7 @@ use Rattle.std.specs.FinMap.{entries, entries-from_sorted, entries-insert, same_
 use Rattle.std.specs.Option.{option_to_list, is_some, IfSome}
 use Rattle.std.specs.FinMap.Entries.{below_all, is_sorted-put, by_order}
 use Rattle.nm_base.specs.declared.key.Key.{Key}
-use Rattle.nm_base.specs.Key.{key_cmp, key_cmp_total}
-use Rattle.nm_events.specs.Keys.{key_cmp-IsAntisymmetric}
+use Rattle.nm_base.specs.Key.{key_cmp, key_cmp_total, key_cmp-IsAntisymmetric}
 use Rattle.nm_model.specs.EventList.{least, first_of_list}
 
 truth : (b : Bool) → b ≡ true → T b

@@ -6,46 +6,18 @@ use Rattle.std.proofs.Common.{Ordering, Less, Equal, Greater}
 use Rattle.std.specs.Ordering.{nat_cmp, is_gt, is_lt, is_eq, eq_by_cmp, ordering_then, ordering_reverse}
 use Rattle.std.specs.Cmp.{tied_itself}
 use Rattle.std.specs.Cmp.Lexicographic.{slice_cmp}
-use Rattle.std.specs.FinMap.{FinMap, IsAntisymmetric, nat_cmp-IsAntisymmetric, slice_cmp-IsAntisymmetric, entries, entries_sorted, get, insert, remove, empty, find, is_sorted, get-entries, get-empty, get-insert, get-remove, same_map}
+use Rattle.std.specs.FinMap.{FinMap, entries, entries_sorted, get, insert, remove, empty, find, is_sorted, get-entries, get-empty, get-insert, get-remove, same_map}
 use Rattle.std.specs.FinMap.Entries.{below_all}
 use Rattle.nm_base.specs.declared.key.Place.{Place}
-use Rattle.nm_base.specs.declared.key.Place.TheVariants.{Arrive, Complete, Fire}
 use Rattle.nm_base.specs.declared.key.Key.{Key}
-use Rattle.nm_base.specs.Key.{key_of, class_of, index_of, end_of, key_code, key_cmp, key_cmp_total}
+use Rattle.nm_base.specs.Key.{key_of, class_of, index_of, end_of, key_cmp, key_cmp_total, key_cmp-IsAntisymmetric}
 use Rattle.nm_model.specs.EventList.{IsUpTo, first_of_list, least}
-
-abbrev place_code : Place → List ℕ → List ℕ
-place_code p rest = class_of p ∷ index_of p ∷ end_of p ∷ rest
-
-same_place : (p q : Place) (m n : ℕ) → place_code p (m ∷ []) ≡ place_code q (n ∷ []) → (p ≡ q) × (m ≡ n)
-same_place (Arrive i) (Arrive j) m n e = (cc, cc)
-same_place (Arrive i) (Complete j) m n e = absurd (cc)
-same_place (Arrive i) (Fire j) m n e = absurd (cc)
-same_place (Complete i) (Arrive j) m n e = absurd (cc)
-same_place (Complete i) (Complete j) m n e = (cc, cc)
-same_place (Complete i) (Fire j) m n e = absurd (cc)
-same_place (Fire i) (Arrive j) m n e = absurd (cc)
-same_place (Fire i) (Complete j) m n e = absurd (cc)
-same_place (Fire i) (Fire j) m n e = (cc, cc)
 
 pub same_key : (a b : Key) → a.time ≡ b.time → a.place ≡ b.place → a.number ≡ b.number → a ≡ b
 same_key a b e f g = λ i. record { time = e i; place = f i; number = g i }
 
 pub key_at : (q : Key) (p : Place) → q.place ≡ p → q ≡ key_of q.time p q.number
 key_at q p e = λ i. record { time = q.time; place = e i; number = q.number }
-
-code_time : (s t : ℕ) (xs ys : List ℕ) → s ∷ xs ≡ t ∷ ys → (s ≡ t) × (xs ≡ ys)
-code_time s t xs ys e = (cc, cc)
-
-same_code : (a b : Key) → key_code a ≡ key_code b → a ≡ b
-same_code a b e =
-    let c = code_time a.time b.time (place_code a.place (a.number ∷ [])) (place_code b.place (b.number ∷ [])) e in
-    let p = same_place a.place b.place a.number b.number c.1 in
-    same_key a b c.0 p.0 p.1
-
-pub key_antisymmetric : IsAntisymmetric key_cmp
-unfolding key_cmp
-key_antisymmetric a b e = same_code a b (slice_cmp-IsAntisymmetric nat_cmp-IsAntisymmetric (key_code a) (key_code b) e)
 
 equal_of : (r : Ordering) → is_eq r ≡ true → r ≡ Equal
 equal_of Less e = absurd (true≢false (sym e))
@@ -56,7 +28,7 @@ pub key_decides : (a b : Key) → (a ≡ b) ⊎ (a ≢ b)
 key_decides a b = go (eq_by_cmp key_cmp a b) refl
   where
     go : (r : Bool) → eq_by_cmp key_cmp a b ≡ r → (a ≡ b) ⊎ (a ≢ b)
-    go true e = inl (key_antisymmetric a b (equal_of _ e))
+    go true e = inl (key_cmp-IsAntisymmetric a b (equal_of _ e))
     go false e = inr (λ f. true≢false (sym (ap is_eq (tied_itself key_cmp_total a)) ∙ ap (eq_by_cmp key_cmp a) f ∙ e))
 
 pub tied : (a : Key) → eq_by_cmp key_cmp a a ≡ true
@@ -66,16 +38,19 @@ pub apart : (a b : Key) → a ≢ b → eq_by_cmp key_cmp a b ≡ false
 apart a b h = go (eq_by_cmp key_cmp a b) refl
   where
     go : (r : Bool) → eq_by_cmp key_cmp a b ≡ r → r ≡ false
-    go true e = absurd (h (key_antisymmetric a b (equal_of _ e)))
+    go true e = absurd (h (key_cmp-IsAntisymmetric a b (equal_of _ e)))
     go false e = refl
 
 -- times and the order
 later_nat : (s t : ℕ) → s < t → nat_cmp s t ≡ Less
 later_nat s t h = grind (arith, nat_tests)
 
+abbrev after_time : Key → List ℕ
+after_time k = class_of k.place ∷ index_of k.place ∷ end_of k.place ∷ k.number ∷ []
+
 pub earlier : (a b : Key) → a.time < b.time → key_cmp a b ≡ Less
 unfolding key_cmp
-earlier a b h = ap (λ r. ordering_then r (slice_cmp nat_cmp (place_code a.place (a.number ∷ [])) (place_code b.place (b.number ∷ [])))) (later_nat a.time b.time h)
+earlier a b h = ap (λ r. ordering_then r (slice_cmp nat_cmp (after_time a) (after_time b))) (later_nat a.time b.time h)
 
 pub up_to_earlier : (a b : Key) → a.time < b.time → IsUpTo a b
 unfolding IsUpTo
@@ -97,7 +72,7 @@ two_ways Greater s e h k = absurd (true≢false h)
 
 pub up_to_both : (a b : Key) → IsUpTo a b → IsUpTo b a → a ≡ b
 unfolding IsUpTo
-up_to_both a b h k = key_antisymmetric a b (two_ways (key_cmp a b) (key_cmp b a) (key_cmp_total.antisymm a b) h k)
+up_to_both a b h k = key_cmp-IsAntisymmetric a b (two_ways (key_cmp a b) (key_cmp b a) (key_cmp_total.antisymm a b) h k)
 
 pub up_to_self : (a : Key) → IsUpTo a a
 unfolding IsUpTo
@@ -138,7 +113,7 @@ module _ {X : Type 0} where
   remove_other m k q h = get-remove key_cmp_total m k q ∙ ap (λ b. cond b None (get m q)) (apart q k h)
 
   pub same_events : (m n : FinMap key_cmp X) → ((q : Key) → get m q ≡ get n q) → m ≡ n
-  same_events m n h = same_map key_cmp_total key_antisymmetric m n h
+  same_events m n h = same_map key_cmp_total key_cmp-IsAntisymmetric m n h
 
   least_none_by : (es : List (Key × X)) (q : Key) → first_of_list es ≡ None → find key_cmp q es ≡ None
   least_none_by [] q e = refl
@@ -163,7 +138,7 @@ module _ {X : Type 0} where
   found_after k q v (x ∷ es) h e = go (λ f. found_after k q v es (back_holds _ _ h) f) (eq_by_cmp key_cmp q x.0) refl
     where
       go : (find key_cmp q es ≡ Some v → IsUpTo k q) → (r : Bool) → eq_by_cmp key_cmp q x.0 ≡ r → IsUpTo k q
-      go rest true t = subst (IsUpTo k) (sym (key_antisymmetric q x.0 (equal_of _ t))) (less_up_to k x.0 (front_holds _ _ h))
+      go rest true t = subst (IsUpTo k) (sym (key_cmp-IsAntisymmetric q x.0 (equal_of _ t))) (less_up_to k x.0 (front_holds _ _ h))
       go rest false t = rest (sym (ap (λ b. cond b (Some x.1) (find key_cmp q es)) t) ∙ e)
 
   least_min_by : (es : List (Key × X)) (x : Key × X) (q : Key) (v : X) → T (is_sorted key_cmp es) → first_of_list es ≡ Some x → find key_cmp q es ≡ Some v → IsUpTo x.0 q
@@ -174,7 +149,7 @@ module _ {X : Type 0} where
       same = cc
 
       go : (r : Bool) → eq_by_cmp key_cmp q y.0 ≡ r → IsUpTo y.0 q
-      go true t = subst (IsUpTo y.0) (sym (key_antisymmetric q y.0 (equal_of _ t))) (up_to_self y.0)
+      go true t = subst (IsUpTo y.0) (sym (key_cmp-IsAntisymmetric q y.0 (equal_of _ t))) (up_to_self y.0)
       go false t = found_after y.0 q v es (front_holds _ _ s) (sym (ap (λ b. cond b (Some y.1) (find key_cmp q es)) t) ∙ f)
 
   pub least_min : (m : FinMap key_cmp X) (x : Key × X) (q : Key) (v : X) → least m ≡ Some x → get m q ≡ Some v → IsUpTo x.0 q

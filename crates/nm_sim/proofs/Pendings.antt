@@ -5,8 +5,7 @@ use Rattle.std.specs.Cmp.{tied_itself}
 use Rattle.std.specs.FinMap.{FinMap, get, insert, remove, get-insert, get-remove, same_map}
 use Rattle.nm_base.specs.declared.key.Key.{Key}
 use Rattle.nm_base.specs.declared.key.Place.TheVariants.{Arrive, Complete}
-use Rattle.nm_base.specs.Key.{key_of, key_cmp, key_cmp_total}
-use Rattle.nm_events.specs.Keys.{key_cmp-IsAntisymmetric}
+use Rattle.nm_base.specs.Key.{key_of, key_cmp, key_cmp_total, key_cmp-IsAntisymmetric}
 
 equal : (r : Ordering) → is_eq r ≡ true → r ≡ Equal
 equal Less e = absurd (true≢false (sym e))

@@ -1,0 +1,102 @@
+#!/usr/bin/env python3
+"""Plants bugs in a crate's code, one at a time, and says which goal of the proofs refuses each.
+
+usage: tools/planted.py CRATE [WORD]
+
+The bugs are tools/planted/CRATE.bugs: blocks, each with a line 'bug:' (what is wrong), 'file:' (in the crate), 'check:' (the
+function whose proof is tried first; none: the whole crate), and pairs of lines 'old:' and 'new:'; each old text stands once in the
+file. With WORD only the bugs whose text holds it are tried. The crate must be proved, and is not changed: a copy of it is, beside
+links to the other crates. Prints a row of a table for each bug. A bug whose function is still proved is tried in the whole crate.
+"""
+
+import os
+import re
+import shutil
+import subprocess
+import sys
+import tempfile
+
+ROOT = os.path.dirname(os.path.dirname(os.path.abspath(__file__)))
+
+
+def read_bugs(path):
+    """The blocks of a file, each as its keys and its edits."""
+    bugs = []
+    for line in open(path, encoding="utf-8"):
+        key, _, text = line.rstrip("\n").partition(": ")
+        if not line.strip() or line.startswith("#"):
+            continue
+        if key == "bug":
+            bugs.append({"bug": text, "check": "", "edits": []})
+        elif key == "old":
+            bugs[-1]["edits"].append([text, None])
+        elif key == "new" or line.rstrip("\n") == "new:":
+            bugs[-1]["edits"][-1][1] = text
+        else:
+            bugs[-1][key] = text
+    return bugs
+
+
+def copy_of(crate):
+    """A root with a copy of the crate and links to the others."""
+    root = tempfile.mkdtemp(prefix="planted.")
+    for name in ("crates.txt", "HANDLES"):
+        shutil.copy(os.path.join(ROOT, name), root)
+    os.mkdir(os.path.join(root, "crates"))
+    for name in os.listdir(os.path.join(ROOT, "crates")):
+        here, there = os.path.join(ROOT, "crates", name), os.path.join(root, "crates", name)
+        if name == crate:
+            shutil.copytree(here, there)
+        else:
+            os.symlink(here, there)
+    return root
+
+
+def check(folder, only):
+    """Whether the crate, or one function of it, is proved, and what refused it."""
+    words = ["rt", "check", "--allow-holes"] + (["--only", only] if only else [])
+    run = subprocess.run(words, cwd=folder, stdout=subprocess.PIPE, stderr=subprocess.STDOUT, text=True)
+    goals = []
+    for line in run.stdout.splitlines():
+        refused = re.match(r"fn (\S+?): no proof: .* did not prove (.*)", line)
+        if refused:
+            name = refused.group(1).split("::", 1)[1]
+            goals.append(f"`{name}`: {refused.group(2)}")
+        elif re.search(r"\berror\b(\[|:)", line) and "by-macro" not in line:
+            goals.append(re.sub(r"^.*?error(\[\w+\])?: ", "", line)[:160])
+        elif re.match(r"fn \S+: no proof", line):
+            goals.append(line[:160])
+    return run.returncode == 0, goals, run.stdout
+
+
+def try_bug(folder, bug):
+    path = os.path.join(folder, bug["file"])
+    before = open(path, encoding="utf-8").read()
+    after = before
+    for old, new in bug["edits"]:
+        if after.count(old) != 1:
+            return f"NOT TRIED: the text stands {after.count(old)} times: {old}"
+        after = after.replace(old, new)
+    open(path, "w", encoding="utf-8").write(after)
+    try:
+        proved, goals, _ = check(folder, bug["check"])
+        if proved and bug["check"]:
+            proved, goals, _ = check(folder, "")
+        return "PROVED" if proved else "; ".join(goals[:3]) or "refused with no goal named"
+    finally:
+        open(path, "w", encoding="utf-8").write(before)
+
+
+def main():
+    crate, word = sys.argv[1], sys.argv[2] if len(sys.argv) > 2 else ""
+    root = copy_of(crate)
+    try:
+        for bug in read_bugs(os.path.join(ROOT, "tools", "planted", crate + ".bugs")):
+            if word in bug["bug"]:
+                print(f"| {bug['bug']} | {try_bug(os.path.join(root, 'crates', crate), bug)} |", flush=True)
+    finally:
+        shutil.rmtree(root)
+
+
+if __name__ == "__main__":
+    main()
