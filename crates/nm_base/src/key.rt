@@ -1,9 +1,9 @@
 //! Keys of events: when, where and which.
 
-ghost use Rattle.std.specs.Prelude.{◌≡◌, refl};
+ghost use Rattle.std.specs.Prelude.{◌≡◌, ◌^◌, refl};
 ghost use Rattle.std.specs.Cmp.{partial_order_from_total, partial_equiv_from_equiv, eq_by_cmp_equiv};
 ghost use Rattle.std.specs.Ordering.{as_partial_cmp, eq_by_cmp};
-ghost use Rattle.nm_base.specs.Key.{key_cmp, key_cmp_total, class_of, index_of, end_of};
+ghost use Rattle.nm_base.specs.Key.{key_cmp, key_cmp_total, place_number, IsPlaceOf};
 
 use crate::{IfaceNo, SourceNo, Time};
 use std::cmp::Ordering;
@@ -21,34 +21,15 @@ pub enum Place {
 }
 
 impl Place {
-    /// 0 at an interface, 1 at a source.
-    fn class(self) -> u8
-        ensures { result ≡ class_of self }
+    /// Its number in the order of places. Sources come after every interface that a number of 32 bits can name.
+    fn rank(self) -> u64
+        ensures rank { result ≡ place_number (2 ^ 32) self }
+        ensures place { IsPlaceOf (2 ^ 32) self }
     {
         match self {
-            Place::Arrive(_) | Place::Complete(_) => 0,
-            Place::Fire(_) => 1,
-        }
-    }
-
-    /// The number of the interface or of the source.
-    fn index(self) -> u32
-        ensures { result ≡ index_of self }
-    {
-        match self {
-            Place::Arrive(iface) => iface.number(),
-            Place::Complete(iface) => iface.number(),
-            Place::Fire(source) => source.number(),
-        }
-    }
-
-    /// 1 at a completion, which comes after the interface's arrival.
-    fn end(self) -> u8
-        ensures { result ≡ end_of self }
-    {
-        match self {
-            Place::Arrive(_) | Place::Fire(_) => 0,
-            Place::Complete(_) => 1,
+            Place::Arrive(iface) => 2 * u64::from(iface.number()),
+            Place::Complete(iface) => 2 * u64::from(iface.number()) + 1,
+            Place::Fire(source) => (1 << 33) + u64::from(source.number()),
         }
     }
 }
@@ -97,15 +78,15 @@ impl Ord for Key {
 
     #[tactic(auto, unfolding(crate::specs::Key::key_cmp))]
     fn cmp(&self, other: &Key) -> Ordering {
-        // Times mostly differ, and an event list compares keys all the time.
+        // An event list compares keys all the time, and mostly their times differ.
         let by_time = self.time.cmp(&other.time);
         if by_time.is_ne() {
             return by_time;
         }
-        let by_class = self.place.class().cmp(&other.place.class());
-        by_class
-            .then(self.place.index().cmp(&other.place.index()))
-            .then(self.place.end().cmp(&other.place.end()))
-            .then(self.number.cmp(&other.number))
+        let by_place = self.place.rank().cmp(&other.place.rank());
+        if by_place.is_ne() {
+            return by_place;
+        }
+        self.number.cmp(&other.number)
     }
 }

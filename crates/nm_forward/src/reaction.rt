@@ -14,7 +14,7 @@ use crate::prepared::{Body, Outgoing, Prepared};
 use crate::row::{Row, packet_row};
 use crate::state::NodeState;
 use nm_base::{IfaceNo, Origin, Packet, SourceNo, Twin};
-use nm_packet::{Ipv4, Ipv4View, lower_ttl};
+use nm_packet::{Ipv4, Ipv4View};
 use nm_topology::Topology;
 use nm_topology::traffic::{Cbr, Echo, Traffic};
 use std::alloc::{AllocError, Global};
@@ -94,18 +94,19 @@ fn arrive(
     Ok(conclude(state, prepared))
 }
 
-/// Prepares what follows a row.
+/// Prepares what follows a row. The state stays as it is.
 fn follow(
     alloc: Global,
     topology: &Topology,
-    state: &NodeState,
+    state: &mut NodeState,
     packet: &Ipv4View<'_>,
     row: &Row<'_>,
 ) -> Result<Prepared, AllocError>
-    requires table { state.now.table ≡ table_of topology.now state.now.table.node }
+    requires table { state.old.table ≡ table_of topology.now state.old.table.node }
     requires possible { IsPossible row.now (fields_of packet.now).time_to_live }
-    ensures { IfOk result (λ p. consequence p ≡ consequence_of topology.now.ifaces state.now.table
-        state.now.identification packet.now row.now) }
+    ensures ok { IfOk result (λ p. consequence p ≡ consequence_of topology.now.ifaces state.old.table
+        state.old.identification packet.now row.now) }
+    ensures same { state.new ≡ state.old }
 {
     match row {
         Row::Unreachable => error(
@@ -118,7 +119,7 @@ fn follow(
         ),
         Row::Expired => error(alloc, topology, state, packet, TIME_EXCEEDED, IN_TRANSIT),
         Row::Forward(via) => {
-            let lowered = lower_ttl(alloc, packet)?;
+            let lowered = state.lower_ttl(alloc, packet)?;
             Ok(Prepared::Sends(*via, Twin::new(lowered)?))
         }
         Row::EchoRequest(request) => reply(alloc, topology, state, packet, request),

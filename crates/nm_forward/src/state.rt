@@ -1,6 +1,7 @@
 //! What a node knows of itself and counts.
 
-ghost use Rattle.std.specs.Prelude.{◌≡◌, ◌<◌, IfOk, length, slice_index};
+ghost use Rattle.std.specs.Prelude.{◌≡◌, ◌<◌, ◌≤◌, IfOk, length, slice_index};
+ghost use Rattle.nm_packet.specs.Ipv4.{fields_of, lowered, packet_octets, payload_of};
 ghost use Rattle.nm_forward.specs.Counter.{counter_number};
 ghost use Rattle.nm_forward.specs.Routes.{route_of};
 ghost use Rattle.nm_forward.specs.State.{first_state, table_of, is_own, listens, counted, after_originating};
@@ -9,8 +10,8 @@ use crate::addresses::Addresses;
 use crate::counter::Counter;
 use crate::counters::Counters;
 use crate::routes::Routes;
-use nm_base::{IfaceNo, NodeNo};
-use nm_packet::Address;
+use nm_base::{IfaceNo, NodeNo, Packet};
+use nm_packet::{Address, Ipv4View, PacketBuffer, lower_ttl};
 use nm_topology::{NodeKind, Topology};
 use std::alloc::{AllocError, Global};
 use std::marker::Model;
@@ -27,6 +28,8 @@ pub struct NodeState {
     addresses: Addresses,
     identification: u16,
     counters: Counters,
+    /// What it sends on is cut from this. No clause sees it.
+    buffer: PacketBuffer,
 }
 
 impl Model for NodeState {
@@ -69,6 +72,7 @@ impl NodeState {
             addresses: Addresses::of_node(alloc, topology.ifaces(), node)?,
             identification: 0,
             counters: Counters::new(),
+            buffer: PacketBuffer::new(alloc),
         })
     }
 
@@ -119,6 +123,23 @@ impl NodeState {
         ensures { result ≡ route_of self.now.table.routes address }
     {
         self.routes.look(address)
+    }
+
+    /// The packet one hop on, as `nm_packet::lower_ttl` makes it, in memory of the node's own. The state stays as it is.
+    ///
+    /// # Errors
+    ///
+    /// Where memory for the packet was refused.
+    pub(crate) fn lower_ttl(
+        &mut self,
+        alloc: Global,
+        packet: &Ipv4View<'_>,
+    ) -> Result<Packet, AllocError>
+        requires { 1 ≤ (fields_of packet.now).time_to_live }
+        ensures value { IfOk result (λ p. p ≡ packet_octets (lowered (fields_of packet.now)) (payload_of packet.now)) }
+        ensures same { self.new ≡ self.old }
+    {
+        lower_ttl(alloc, &mut self.buffer, packet)
     }
 
     /// Raises a counter by one.

@@ -1,5 +1,4 @@
 mod Nexts
 mod Differences
-mod Fronts
 mod Turns
 mod Orders

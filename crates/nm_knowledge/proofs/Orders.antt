@@ -5,7 +5,7 @@ use Rattle.nm_model.specs.Lists.{nth}
 use Rattle.nm_model.specs.Knowledge.{Know, IsKnow, IsUnder}
 use Rattle.nm_model.specs.Accept.{TellsApart, accept_data, accept_null}
 use Rattle.nm_knowledge.specs.Order.{Told, Data, Null, accept, IsAccepted, AreAccepted, told_all}
-use Rattle.nm_knowledge.proofs.Fronts.{below_nth, nth_last, prefix_self, prefix_trans, prefix_nth, nth_prefix, prefix_length, prefix_both, prefix_push}
+use Rattle.nm_model.proofs.ListLemmas.{below_nth, nth_last, prefix_self, prefix_trans, prefix_nth, nth_prefix, prefix_length, prefix_both, prefix_push}
 use Rattle.nm_knowledge.proofs.Turns.{known_data, new_data, known_null, next_null}
 
 sides : (m n : ℕ) → (m < n) ⊎ (n ≤ m)

@@ -5,20 +5,8 @@ use Rattle.nm_model.specs.Accept.{New, Known, Raised, Gap, Differs, Late, NotRis
 use Rattle.nm_model.specs.Knowledge.{Know, IsValid, IsUnder}
 use Rattle.nm_model.specs.Lists.{nth, IsPrefix, IsRising}
 use Rattle.nm_model.specs.World.{IsFine}
-use Rattle.nm_model.proofs.ListLemmas.{number_tied, below_nth, nth_push, prefix_nth, prefix_self}
+use Rattle.nm_model.proofs.ListLemmas.{number_tied, below_nth, nth_push, prefix_nth, prefix_push, prefix_self}
 use Rattle.nm_model.proofs.Cut.{and_true}
-
-module _ {A : Type 0} where
-  pub prefix_push : (xs ys : List A) (y : A) → IsPrefix xs ys → nth ys (length xs) ≡ Some y → IsPrefix (xs ++ y ∷ []) ys
-  prefix_push [] [] y a e = absurd (cc)
-  prefix_push [] (z ∷ ys) y a e = let f : z ≡ y = cc in (ys, ap (λ w. w ∷ ys) (sym f))
-  prefix_push (x ∷ xs) [] y a e = absurd (cc)
-  prefix_push (x ∷ xs) (z ∷ ys) y a e =
-      let h = a.1 in
-      let t : xs ++ a.0 ≡ ys = cc in
-      let f : x ≡ z = cc in
-      let r = prefix_push xs ys y (a.0, t) e in
-      (r.0, ap₂ (λ u v. u ∷ v) f r.1)
 
 module _ {P : Type 0} where
   pub last_is : (t : ℕ) (l : List (ℕ × P)) → last_from t l ≡ true → (i : ℕ) × (m : ℕ × P) × (suc i ≡ length l) × (nth l i ≡ Some m) × (t ≤ m.0)

@@ -1,5 +1,5 @@
-mod ListLemmas
-mod Keys
+pub mod ListLemmas
+pub mod Keys
 mod Scheduling
 mod Effects
 mod NewEvents
@@ -27,3 +27,4 @@ mod Orders
 mod TwoHosts
 mod NeverFalling
 mod Queues
+pub mod RecordTimes

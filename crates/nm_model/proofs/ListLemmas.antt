@@ -1,5 +1,5 @@
 -- Lists read at a number, prefixes, and functions changed at a number.
-use Rattle.std.proofs.Common.{◌≡◌, ◌≢◌, ◌⊎◌, inl, inr, ℕ, zero, suc, ◌+◌, ◌<◌, ◌≤◌, Bool, true, false, cond, List, [], ◌∷◌, ◌++◌, length, drop, Option, Some, None, refl, sym, ap, ◌∙◌, subst, arith, ◌==◌, append_assoc, append-nil, length-append, ⊎_elim}
+use Rattle.std.proofs.Common.{◌≡◌, ◌≢◌, ◌⊎◌, inl, inr, ℕ, zero, suc, ◌+◌, ◌<◌, ◌≤◌, Bool, true, false, cond, List, [], ◌∷◌, ◌++◌, length, drop, Option, Some, None, refl, sym, ap, ap₂, ◌∙◌, subst, arith, ◌==◌, append_assoc, append-nil, length-append, ⊎_elim}
 use Rattle.std.proofs.lemmas.Bool.Decides.{nat_tests}
 use Rattle.nm_model.specs.Lists.{nth, IsPrefix, set_at, keep_where}
 
@@ -100,6 +100,25 @@ module _ {A : Type 0} where
 
   pub prefix_length : (xs ys : List A) → IsPrefix xs ys → length xs ≤ length ys
   prefix_length xs ys a = omega (arith, ap length a.1, length-append xs a.0)
+
+  -- two that begin one another are one list
+  pub prefix_both : (xs ys : List A) → IsPrefix xs ys → IsPrefix ys xs → xs ≡ ys
+  prefix_both xs ys a b = go a.0 a.1 (prefix_length ys xs b)
+    where
+      go : (rest : List A) → xs ++ rest ≡ ys → length ys ≤ length xs → xs ≡ ys
+      go [] e h = sym (append-nil xs) ∙ e
+      go (z ∷ rest) e h = absurd (let l = length-append xs (z ∷ rest) in let m = ap length e in omega arith)
+
+  pub prefix_push : (xs ys : List A) (y : A) → IsPrefix xs ys → nth ys (length xs) ≡ Some y → IsPrefix (xs ++ y ∷ []) ys
+  prefix_push [] [] y a e = absurd (cc)
+  prefix_push [] (z ∷ ys) y a e = let f : z ≡ y = cc in (ys, ap (λ w. w ∷ ys) (sym f))
+  prefix_push (x ∷ xs) [] y a e = absurd (let h = a.1 in cc)
+  prefix_push (x ∷ xs) (z ∷ ys) y a e =
+      let h = a.1 in
+      let t : xs ++ a.0 ≡ ys = cc in
+      let f : x ≡ z = cc in
+      let r = prefix_push xs ys y (a.0, t) e in
+      (r.0, ap₂ (λ u v. u ∷ v) f r.1)
 
   -- of two prefixes of one list the shorter is a prefix of the longer
   pub prefix_shorter : (xs ys zs : List A) → IsPrefix xs zs → IsPrefix ys zs → length xs ≤ length ys → IsPrefix xs ys

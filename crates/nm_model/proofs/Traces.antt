@@ -14,7 +14,7 @@ use Rattle.nm_model.specs.Network.{Net, IsNet}
 use Rattle.nm_model.specs.Run.{State, Effect, effect, in_record, out_record, step_at, run, start, one_list, pends_before}
 use Rattle.nm_model.specs.Trace.{passed}
 use Rattle.nm_model.proofs.Keys.{least_has, least_min, up_to_time}
-use Rattle.nm_model.proofs.ListLemmas.{number_tied, number_apart, nth_prefix, prefix_nth, prefix_trans}
+use Rattle.nm_model.proofs.ListLemmas.{number_tied, number_apart, nth_prefix, prefix_nth, prefix_push, prefix_trans}
 use Rattle.nm_model.proofs.Effects.{effect_is}
 use Rattle.nm_model.proofs.NewEvents.{peer_inj, arrived_case, sent_case, sent_prefix, pending_case}
 use Rattle.nm_model.proofs.Invariants.{Invariant, arrival_number}
@@ -22,7 +22,6 @@ use Rattle.nm_model.proofs.Runs.{invariant_run}
 use Rattle.nm_model.specs.Orderly.{IsByNode, IsOrderly}
 use Rattle.nm_model.proofs.Orders.{makes_later, orderly_run}
 use Rattle.nm_model.proofs.CutLaw.{quiet}
-use Rattle.nm_model.proofs.Accepting.{prefix_push}
 
 module _ {P : Type 0} where
   pub passed-append : (d : Dir) (i : ℕ) (k l : List (Record P)) → passed d i (k ++ l) ≡ passed d i k ++ passed d i l

@@ -1,15 +1,15 @@
 -- What is written is in the grammar.
-use Rattle.std.proofs.Common.{◌≡◌, ℕ, ◌+◌, ◌-◌, ◌*◌, ◌≤◌, ◌⊎◌, inl, inr, List, ◌++◌, length, Result, refl, sym, ap, subst, ◌∙◌, arith}
+use Rattle.std.proofs.Common.{◌≡◌, ℕ, ◌+◌, ◌-◌, ◌*◌, ◌≤◌, ◌⊎◌, inl, inr, List, ◌++◌, length, slice_index, slice_set, Result, refl, sym, ap, subst, ◌∙◌, arith}
 use Rattle.std.proofs.lemmas.List.{length-append}
 use Rattle.std.proofs.lemmas.Result.{IfOk-weaker}
 use Rattle.std.specs.Result.{IfOk}
-use Rattle.nm_packet.specs.Octets.{IsOctets}
-use Rattle.nm_packet.specs.Checksum.{word_sum, folded, checksum_of}
-use Rattle.nm_packet.specs.Ipv4.{Header, HeaderFits, header_octets, checked, packet_octets, fields_of, payload_of, IsPacket, IsIpv4, lowered, updated_checksum}
+use Rattle.nm_packet.specs.Octets.{IsOctets, word}
+use Rattle.nm_packet.specs.Checksum.{word_sum, folded, checksum_of, updated_checksum}
+use Rattle.nm_packet.specs.Ipv4.{Header, HeaderFits, header_octets, checked, packet_octets, fields_of, payload_of, IsPacket, IsIpv4, lowered}
 use Rattle.nm_packet.specs.Udp.{UdpHeader, UdpFits, udp_octets, udp_sum, udp_checked, udp_checksum_of, datagram_octets, IsUdp}
 use Rattle.nm_packet.specs.Icmp.{IcmpHeader, IcmpFits, icmp_octets, icmp_checked, message_octets, IsIcmp}
 use Rattle.nm_packet.proofs.Checksums.{folded-checksum_of, folded-udp_checksum_of, udp_checksum_of_le, one_checksum, folded-difference}
-use Rattle.nm_packet.proofs.Grammar.{length-header_octets, IsIpv4-fields}
+use Rattle.nm_packet.proofs.Grammar.{length-header_octets, IsIpv4-fields, spelled-fields}
 
 -- the checksum is a word of the sum
 word_sum-header : (h : Header) (c : ℕ) → word_sum (header_octets (record h { header_checksum = c })) ≡ word_sum (header_octets (record h { header_checksum = 0 })) + c
@@ -100,6 +100,21 @@ updated_checksum-lowered h payload octets is some =
     let same = folded-difference after h.header_checksum 256 (omega arith) (omega arith) (omega arith) full in
     let words : 65535 - h.header_checksum + (65535 - 256) ≡ 65535 - h.header_checksum + (65535 - (h.time_to_live * 256 + h.protocol)) + ((h.time_to_live - 1) * 256 + h.protocol) = omega arith in
     ap (λ (x : ℕ). 65535 - x) (same ∙ ap folded words)
+
+one_hop-spelled : (h : Header) (payload : List ℕ) (sum : ℕ) → slice_set (slice_set (slice_set (header_octets h ++ payload) 8 (h.time_to_live - 1)) 10 (slice_index (word sum) 0)) 11 (slice_index (word sum) 1) ≡ header_octets (record (lowered h) { header_checksum = sum }) ++ payload
+one_hop-spelled h payload sum = refl
+
+-- octets with the time to live and the checksum one hop on
+pub one_hop_is : (xs : List ℕ) (live sum : ℕ) → IsOctets xs → IsPacket xs → live + 1 ≡ (fields_of xs).time_to_live → sum ≡ (checked (lowered (fields_of xs))).header_checksum
+    → slice_set (slice_set (slice_set xs 8 live) 10 (slice_index (word sum) 0)) 11 (slice_index (word sum) 1) ≡ packet_octets (lowered (fields_of xs)) (payload_of xs)
+one_hop_is xs live sum small packet less is =
+    let h = fields_of xs in
+    let payload = payload_of xs in
+    let same : live ≡ h.time_to_live - 1 = omega (arith, less) in
+    ap (λ (l : List ℕ). slice_set (slice_set (slice_set l 8 live) 10 (slice_index (word sum) 0)) 11 (slice_index (word sum) 1)) (spelled-fields xs small packet)
+    ∙ ap (λ (t : ℕ). slice_set (slice_set (slice_set (header_octets h ++ payload) 8 t) 10 (slice_index (word sum) 0)) 11 (slice_index (word sum) 1)) same
+    ∙ one_hop-spelled h payload sum
+    ∙ ap (λ (s : ℕ). header_octets (record (lowered h) { header_checksum = s }) ++ payload) is
 
 -- a writer's packets are in the grammar
 pub packet_written : {E : Type 0} (r : Result (List ℕ) E) (h : Header) (payload : List ℕ) → HeaderFits (record h { header_checksum = 0 }) → h.total_length ≡ 4 * h.ihl + length payload → IfOk r (λ p. p ≡ packet_octets h payload) → IfOk r (IsIpv4 (checked h) payload)

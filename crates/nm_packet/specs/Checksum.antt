@@ -17,3 +17,7 @@ folded (suc n) = n % 65535 + 1
 -- the checksum that is written where all other words have this sum
 abbrev pub checksum_of : ℕ → ℕ
 checksum_of sum = 65535 - folded sum
+
+-- the checksum after one word of the octets changed (RFC 1624, equation 3)
+abbrev pub updated_checksum : ℕ → ℕ → ℕ → ℕ
+updated_checksum checksum old new = checksum_of (65535 - checksum + (65535 - old) + new)

@@ -128,10 +128,6 @@ plain_header h size = record {
 abbrev pub lowered : Header → Header
 lowered h = record h { time_to_live = h.time_to_live - 1 }
 
--- the checksum after one word of the octets changed (RFC 1624, equation 3)
-abbrev pub updated_checksum : ℕ → ℕ → ℕ → ℕ
-updated_checksum checksum old new = checksum_of (65535 - checksum + (65535 - old) + new)
-
 -- what an error message quotes of a packet: its header as it came, and the first eight octets of its payload, or all
 -- of them where there are fewer (RFC 792)
 abbrev pub quote_of : List ℕ → List ℕ

@@ -1,7 +1,7 @@
 //! The Internet checksum (RFC 1071).
 
 ghost use Rattle.std.specs.Prelude.{◌≡◌, ◌+◌};
-ghost use Rattle.nm_packet.specs.Checksum.{checksum_of, folded, word_sum};
+ghost use Rattle.nm_packet.specs.Checksum.{checksum_of, folded, updated_checksum, word_sum};
 
 /// The one's complement sum of two words: a carry out of the high end comes in at the low end.
 fn add_words(a: u16, b: u16) -> u16
@@ -32,4 +32,11 @@ pub(crate) fn checksum_of(octets: &[u8]) -> u16
     ensures { result ≡ checksum_of (word_sum octets.now) }
 {
     !sum_words(0, octets)
+}
+
+/// The checksum after one word of what it is over changed (RFC 1624, equation 3).
+pub(crate) fn updated_checksum(checksum: u16, old: u16, new: u16) -> u16
+    ensures { result ≡ updated_checksum checksum old new }
+{
+    !add_words(add_words(!checksum, !old), new)
 }

@@ -5,7 +5,8 @@ ghost use Rattle.nm_packet.specs.Octets.{IsOctets};
 ghost use Rattle.nm_packet.specs.Ipv4.{Header, HeaderFits, IsIpv4, IsPacket, checked, cut_of, fields_of, header_fault, header_length_of, header_octets, header_of, lowered, packet_octets, payload_of, plain_header, quote_of};
 
 use crate::Address;
-use crate::checksum::{checksum_of, sum_words};
+use crate::buffer::{MAX_CUT_OCTETS, PacketBuffer};
+use crate::checksum::{checksum_of, sum_words, updated_checksum};
 use crate::fault::HeaderFault;
 use crate::octets::{long_word_at, word, word_at};
 use bytes::Bytes;
@@ -314,28 +315,88 @@ pub fn quote(alloc: Global, packet: &Ipv4View<'_>) -> Result<Vec<u8>, AllocError
     Vec::from_slice(alloc, &octets[..end.min(octets.len())])
 }
 
-/// The packet one hop on: its time to live is one less and its header checksum is computed anew, and nothing else
+/// The packet one hop on: its time to live is one less and its header checksum is that of the new header, and nothing else
 /// changes, options and payload included. Asks for a time to live of at least 1; the octets are copied once.
-pub fn lower_ttl(alloc: Global, packet: &Ipv4View<'_>) -> Result<Packet, AllocError>
+///
+/// # Errors
+///
+/// `AllocError` where memory was refused.
+pub fn lower_ttl(
+    alloc: Global,
+    buffer: &mut PacketBuffer,
+    packet: &Ipv4View<'_>,
+) -> Result<Packet, AllocError>
     requires { 1 ≤ (fields_of packet.now).time_to_live }
     ensures value { IfOk result (λ p. p ≡ packet_octets (lowered (fields_of packet.now)) (payload_of packet.now)) }
     ensures grammar { IfOk result (IsIpv4 (checked (lowered (fields_of packet.now))) (payload_of packet.now)) }
 {
-    let mut octets = Vec::from_slice(alloc, packet.octets())?;
-    lower(octets.as_mut_slice());
-    packet_from(octets)
+    let time_to_live = packet.time_to_live() - 1;
+    let checksum = lowered_checksum(packet);
+    let octets = packet.octets();
+    if octets.len() > MAX_CUT_OCTETS {
+        return lowered_alone(alloc, octets, time_to_live, checksum);
+    }
+    lowered_in(alloc, buffer, octets, time_to_live, checksum)
 }
 
-/// Lowers the time to live by one, and writes the header checksum anew.
-fn lower(octets: &mut [u8])
+/// The packet with this time to live and this header checksum, in memory of its own.
+fn lowered_alone(
+    alloc: Global,
+    octets: &[u8],
+    time_to_live: u8,
+    checksum: u16,
+) -> Result<Packet, AllocError>
+    requires packet { IsPacket octets.now }
+    requires small { IsOctets octets.now }
+    requires live { time_to_live + 1 ≡ (fields_of octets.now).time_to_live }
+    requires checksum { checksum ≡ (checked (lowered (fields_of octets.now))).header_checksum }
+    ensures { IfOk result (λ p. p ≡ packet_octets (lowered (fields_of octets.now)) (payload_of octets.now)) }
+{
+    let mut copy = Vec::from_slice(alloc, octets)?;
+    lower(copy.as_mut_slice(), time_to_live, checksum);
+    packet_from(copy)
+}
+
+/// The packet with this time to live and this header checksum, cut from the buffer.
+fn lowered_in(
+    alloc: Global,
+    buffer: &mut PacketBuffer,
+    octets: &[u8],
+    time_to_live: u8,
+    checksum: u16,
+) -> Result<Packet, AllocError>
+    requires packet { IsPacket octets.now }
+    requires small { IsOctets octets.now }
+    requires live { time_to_live + 1 ≡ (fields_of octets.now).time_to_live }
+    requires checksum { checksum ≡ (checked (lowered (fields_of octets.now))).header_checksum }
+    ensures { IfOk result (λ p. p ≡ packet_octets (lowered (fields_of octets.now)) (payload_of octets.now)) }
+{
+    buffer.fill(alloc, octets)?;
+    lower(buffer.block.as_mut_slice(), time_to_live, checksum);
+    buffer.cut()
+}
+
+/// The header checksum of the packet one hop on, by the one word that changes.
+fn lowered_checksum(packet: &Ipv4View<'_>) -> u16
+    requires { 1 ≤ (fields_of packet.now).time_to_live }
+    ensures { result ≡ (checked (lowered (fields_of packet.now))).header_checksum }
+{
+    let octets = packet.octets();
+    let live = word_at(octets, 8);
+    updated_checksum(packet.header_checksum(), live, live - 256)
+}
+
+/// Writes the time to live and the header checksum of the packet one hop on. It reads nothing of what was just copied, which
+/// a processor would have to wait for.
+fn lower(octets: &mut [u8], time_to_live: u8, checksum: u16)
     requires packet { IsPacket octets.old }
-    requires live { 1 ≤ slice_index octets.old 8 }
+    requires small { IsOctets octets.old }
+    requires live { time_to_live + 1 ≡ (fields_of octets.old).time_to_live }
+    requires checksum { checksum ≡ (checked (lowered (fields_of octets.old))).header_checksum }
     ensures { octets.new ≡ packet_octets (lowered (fields_of octets.old)) (payload_of octets.old) }
 {
-    octets[8] -= 1;
-    octets[10] = 0;
-    octets[11] = 0;
-    let [high, low] = word(checksum_of(&octets[..header_length(octets)]));
+    let [high, low] = word(checksum);
+    octets[8] = time_to_live;
     octets[10] = high;
     octets[11] = low;
 }

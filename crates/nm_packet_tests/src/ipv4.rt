@@ -1,6 +1,6 @@
 //! Packets at worked values.
 
-use nm_packet::{Address, HeaderFault, Icmp, Ipv4, Ipv4Header, Udp, lower_ttl, quote, write_ipv4};
+use nm_packet::{Address, HeaderFault, Icmp, Ipv4, Ipv4Header, PacketBuffer, Udp, lower_ttl, quote, write_ipv4};
 use std::alloc::Global;
 use std::test::Fail;
 
@@ -139,6 +139,7 @@ fn have_parts(rt: HostRuntime) -> Result<(), Fail> {
 
 #[test]
 fn lose_one_hop(rt: HostRuntime) -> Result<(), Fail> {
+    let mut buffer = PacketBuffer::new(rt.alloc());
     for (text, zeros, want) in [
         // the checksum becomes 0000 and not ffff
         (
@@ -165,7 +166,7 @@ fn lose_one_hop(rt: HostRuntime) -> Result<(), Fail> {
         let octets = padded(rt.alloc(), text, zeros)?;
         let view = Ipv4::read(octets.as_slice())?;
         assert!(rt; view.time_to_live() >= 1);
-        let lowered = lower_ttl(rt.alloc(), &view)?;
+        let lowered = lower_ttl(rt.alloc(), &mut buffer, &view)?;
         let want = padded(rt.alloc(), want, zeros)?;
         assert_eq!(rt; lowered.octets(), want.as_slice(), "{text}");
     }

@@ -8,5 +8,6 @@ mod Reactings
 mod Schedules
 mod Sendings
 mod Stands
+pub mod Stepping
 mod Steps
 mod Tables

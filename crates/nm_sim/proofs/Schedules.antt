@@ -17,7 +17,7 @@ use Rattle.nm_sim.specs.Effects.{IsPlaceOf}
 use Rattle.nm_sim.specs.Network.{net_of}
 use Rattle.nm_sim.specs.Timelines.{AreFresh, everywhere}
 use Rattle.nm_sim.proofs.Beginnings.{peer_is}
-use Rattle.nm_sim.proofs.Pendings.{get_insert_other, get_remove_other, get_remove_same, same_or_apart}
+use Rattle.nm_model.proofs.Keys.{insert_other, key_decides, remove_other, remove_same}
 use Rattle.nm_sim.proofs.Stands.{set_here, set_there}
 use Rattle.std.proofs.lemmas.Option.{slice_get_cases}
 
@@ -55,7 +55,7 @@ module _ (pending : FinMap key_cmp (Event (List ℕ))) (xs : List (Key × Event 
       go : (o : Option (ℕ × List ℕ)) → o ≡ follows → get pending f.0 ≡ None → ((g : Key × Event (List ℕ)) → nth (next_events place number o) 0 ≡ Some g → f.0 ≢ g.0)
           → get (schedule everywhere (next_events place number o) pending) f.0 ≡ None
       go None h n a = n
-      go (Some y) h n a = get_insert_other pending _ _ f.0 (a _ refl) ∙ n
+      go (Some y) h n a = insert_other pending _ _ f.0 (a _ refl) ∙ n
 
 -- whatever is pending after events are put stands at one of the places
 module _ (P : Place → Type 0) where
@@ -66,15 +66,15 @@ module _ (P : Place → Type 0) where
   placed_schedule [] m h k q y e = k q y e
   placed_schedule (x ∷ es) m h k q y e = ⊎_elim
       (λ same. subst (λ z. P z.place) (sym same) (h 0 x refl))
-      (λ other. placed_schedule es m (λ i f g. h (suc i) f g) k q y (sym (get_insert_other (schedule everywhere es m) x.0 x.1 q other) ∙ e))
-      (same_or_apart q x.0)
+      (λ other. placed_schedule es m (λ i f g. h (suc i) f g) k q y (sym (insert_other (schedule everywhere es m) x.0 x.1 q other) ∙ e))
+      (key_decides q x.0)
 
   pub placed_remove : (m : FinMap key_cmp (Event (List ℕ))) (r : Key) → ((q : Key) (y : Event (List ℕ)) → get m q ≡ Some y → P q.place)
       → (q : Key) (y : Event (List ℕ)) → get (remove m r) q ≡ Some y → P q.place
   placed_remove m r k q y e = ⊎_elim
-      (λ same. absurd (let n = get_remove_same m r in let z : get (remove m r) r ≡ Some y = ap (get (remove m r)) (sym same) ∙ e in cc))
-      (λ other. k q y (sym (get_remove_other m r q other) ∙ e))
-      (same_or_apart q r)
+      (λ same. absurd (let n = remove_same m r in let z : get (remove m r) r ≡ Some y = ap (get (remove m r)) (sym same) ∙ e in cc))
+      (λ other. k q y (sym (remove_other m r q other) ∙ e))
+      (key_decides q r)
 
 module _ (t : NetworkValue) (order : IsInOrder t.nodes t.ifaces t.links) where
   peer_there : (i : ℕ) → i < length t.ifaces → (net_of t).peer i < length t.ifaces

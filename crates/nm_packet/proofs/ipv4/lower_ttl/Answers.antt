@@ -1,11 +1,18 @@
-use Rattle.std.proofs.Common.{◌≡◌, IfOk, arith}
-use Rattle.std.proofs.lemmas.Grind.{common_steps}
-use Rattle.nm_packet.specs.Ipv4.{packet_octets, lowered, fields_of, payload_of}
+use Rattle.std.proofs.Common.{◌≡◌, List, ℕ, Result, IfOk, subst}
+use Rattle.nm_packet.specs.Octets.{IsOctets}
+use Rattle.nm_packet.specs.Ipv4.{IsIpv4, IsPacket, checked, fields_of, lowered, packet_octets, payload_of}
 use Rattle.nm_packet.proofs.RoundTrips.{lowered_written}
 use Rattle.nm_packet.proofs.ipv4.lower_ttl.Goals as goal
 
+written : {E : Type 0} (r : Result (List ℕ) E) (xs ys : List ℕ) → IsOctets xs → IsPacket xs → ys ≡ xs
+    → IfOk r (λ p. p ≡ packet_octets (lowered (fields_of ys)) (payload_of ys)) → IfOk r (IsIpv4 (checked (lowered (fields_of xs))) (payload_of xs))
+written r xs ys small packet same is =
+    lowered_written r xs small packet (subst (λ (l : List ℕ). IfOk r (λ p. p ≡ packet_octets (lowered (fields_of l)) (payload_of l))) same is)
+
+pub returns-then-octets-gt-MAX_CUT_OCTETS-clause-grammar : goal.returns-then-octets-gt-MAX_CUT_OCTETS-clause-grammar
+returns-then-octets-gt-MAX_CUT_OCTETS-clause-grammar c =
+    written c.lowered_alone.result c.args.packet.now _ c.octets-octets.ensures.small c.octets-octets.ensures.packet c.octets-octets.ensures.value c.lowered_alone.ensures
+
 pub returns-clause-grammar : goal.returns-clause-grammar
 returns-clause-grammar c =
-    let xs = c.args.packet.now in
-    let value : IfOk c.packet_from.result (λ p. p ≡ packet_octets (lowered (fields_of xs)) (payload_of xs)) = grind (arith, common_steps) in
-    lowered_written c.packet_from.result xs c.octets.ensures.small c.octets.ensures.packet value
+    written c.lowered_in.result c.args.packet.now _ c.octets-octets.ensures.small c.octets-octets.ensures.packet c.octets-octets.ensures.value c.lowered_in.ensures

@@ -1,4 +1,4 @@
-use Rattle.nm_sim_tests.proofs.Stepping.{stands_stepped}
+use Rattle.nm_sim.proofs.Stepping.{stands_stepped}
 use Rattle.nm_sim_tests.proofs.run.step_before.Goals as goal
 
 pub returns : goal.returns

@@ -1,4 +1,4 @@
-use Rattle.nullsim_cases.proofs.Stepping.{stands_stepped}
+use Rattle.nm_sim.proofs.Stepping.{stands_stepped}
 use Rattle.nullsim_cases.proofs.run.step_on.Goals as goal
 
 pub returns : goal.returns

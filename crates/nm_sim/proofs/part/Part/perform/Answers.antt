@@ -10,7 +10,7 @@ use Rattle.nm_sim.specs.Part.{PartValue, Stands}
 use Rattle.nm_sim.specs.Timelines.{AreFresh, Told, everywhere}
 use Rattle.nm_sim.proofs.Beginnings.{told_same}
 use Rattle.nm_sim.proofs.Parts.{follows_fresh, start_fresh, stands_after, stands_again}
-use Rattle.nm_sim.proofs.Pendings.{get_remove_same}
+use Rattle.nm_model.proofs.Keys.{remove_same}
 use Rattle.nm_sim.proofs.Steps.{can_happen, least_has, number_small}
 use Rattle.nm_sim.proofs.part.Part.perform.Goals as goal
 
@@ -71,7 +71,7 @@ apply-requires-clause-told g c =
     )
 
 pub put-requires-clause-fresh : goal.put-requires-clause-fresh
-put-requires-clause-fresh g c = ap (λ m. get m c.in-Some.key) c.in-Some.ensures.rest ∙ get_remove_same _ c.in-Some.key
+put-requires-clause-fresh g c = ap (λ m. get m c.in-Some.key) c.in-Some.ensures.rest ∙ remove_same _ c.in-Some.key
 
 pub returns-in-Ok-clause-ok : goal.returns-in-Ok-clause-ok
 returns-in-Ok-clause-ok g c = λ s h.
