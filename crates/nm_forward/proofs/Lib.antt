@@ -1,3 +1,4 @@
+pub mod Standing
 pub mod Keeping
 pub mod Layouts
 pub mod Longest

@@ -1,10 +1,13 @@
 //! Laws of the definitions: each function does nothing, and its contract is the law.
 
-ghost use Rattle.std.specs.Prelude.{◌≡◌, ℕ, ◌≤◌, All, Contains, List, None, Some, length};
+ghost use Rattle.std.specs.Prelude.{◌≡◌, ℕ, ◌≤◌, All, Contains, List, None, Some, length, slice_get};
 ghost use Rattle.nm_base.specs.declared.limits.TheConstants.{MAX_PACKET_OCTETS};
 ghost use Rattle.nm_base.specs.declared.event.Origin.{Origin};
 ghost use Rattle.nm_topology.specs.declared.parts.Route.{Route};
 ghost use Rattle.nm_topology.specs.Wholes.{NetworkValue};
+ghost use Rattle.nm_forward.specs.declared.counter.Counter.{Counter};
+ghost use Rattle.nm_forward.specs.declared.counter.TheConstants.Counter.{ALL};
+ghost use Rattle.nm_forward.specs.Counter.{counter_number};
 ghost use Rattle.nm_forward.specs.Routes.{Holds, longest_route};
 ghost use Rattle.nm_forward.specs.State.{IsIfaceOf, NodeStateValue};
 ghost use Rattle.nm_forward.specs.Reaction.{FitsOrigin, reaction};
@@ -45,4 +48,10 @@ pub fn a_sent_packet_fits()
     ensures { (t : NetworkValue) (v : ℕ) (n : NodeStateValue) (o : Origin) (x : List ℕ)
         (s : ℕ × List ℕ) → 1 ≤ length x → length x ≤ MAX_PACKET_OCTETS → FitsOrigin t o x
         → (reaction t v n o x).1 ≡ Some s → (1 ≤ length s.1) × (length s.1 ≤ MAX_PACKET_OCTETS) }
+{}
+
+/// All counters have every counter at its number. There are no others, since they are 19.
+pub fn every_counter_stands_at_its_number()
+    ensures every { (c : Counter) → slice_get ALL (counter_number c) ≡ Some c }
+    ensures count { length ALL ≡ 19 }
 {}

@@ -1,8 +1,8 @@
 //! Ports: drop-tail queues.
 
-ghost use Rattle.std.specs.Prelude.{◌≡◌, ℕ, ◌+◌, ◌≤◌, List, Option, Some, None, OnOk, IfSome, IsSome};
+ghost use Rattle.std.specs.Prelude.{◌≡◌, ℕ, ◌+◌, ◌≤◌, if◌then◌else◌, List, Option, Some, None, OnOk, IfSome, IsSome};
 ghost use Rattle.nm_base.specs.declared.limits.TheConstants.{MAX_DELAY, MAX_RATE, MAX_TIME};
-ghost use Rattle.nm_model.specs.Port.{offered, completed};
+ghost use Rattle.nm_model.specs.Port.{offered, completed, is_refused};
 ghost use Rattle.nm_iface.specs.PortValue.{has_room, takes, with_port};
 ghost use Rattle.nm_iface.specs.Starts.{IsStart, handed_back, packet_started, start_in};
 
@@ -128,7 +128,8 @@ impl Port {
         ensures packet { packet_started (start_in result) ≡ (offered (has_room self.old.limit) (takes self.old.rate) now
             twin.packet self.old.dropped self.old.busy).1 }
         ensures start { IfSome (start_in result) (IsStart self.old.rate self.old.delay now twin.packet) }
-        ensures back { IfSome (handed_back result) (λ t. t ≡ twin) }
+        ensures back { handed_back result ≡ if is_refused (has_room self.old.limit) twin.packet self.old.busy then Some twin else None }
+        ensures left { self.old.room ≤ self.new.room + 1 }
     {
         if self.busy_until.is_none() {
             let start = transmission(self.rate, self.delay, now, twin);

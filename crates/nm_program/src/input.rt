@@ -59,12 +59,13 @@ impl<R: Read> Input<R> {
     ///
     /// # Errors
     ///
-    /// `Failed` where a read failed: the count of failures is one more. `TooLong` where more octets are left. `Memory`
-    /// where memory was refused.
+    /// `Failed` where a read failed: the count of failures is one more, and else as it was. `TooLong` where more octets are
+    /// left. `Memory` where memory was refused.
     pub fn read(&mut self, alloc: Global) -> Result<Vec<u8>, InputFault>
         ensures text { IfOk result (λ octets. IfSome (R.remaining self.old.reader) (λ text. octets.items ≡ text)) }
         ensures most { IfOk result (λ octets. length octets.items ≤ MAX_INPUT_OCTETS) }
         ensures failed { result ≡ Err Failed → self.new.failures ≡ self.old.failures + 1 }
+        ensures kept { (result ≡ Err Failed → ⊥) → self.new.failures ≡ self.old.failures }
         ensures too_long { result ≡ Err TooLong
             → IfSome (R.remaining self.old.reader) (λ text. MAX_INPUT_OCTETS < length text) }
     {

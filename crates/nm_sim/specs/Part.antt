@@ -42,6 +42,12 @@ Stepped pending t before s old new (Ok (Some k)) = Stands pending t new (step (n
     × (pends_before before s ≡ true) × (option_map (λ e. e.0) (least s.pending) ≡ Some k)
 Stepped pending t before s old new (Err e) = Stands pending t new s
 
+-- how many events a step did
+abbrev pub events_done : Result (Option Key) AllocError → ℕ
+events_done (Ok None) = 0
+events_done (Ok (Some k)) = 1
+events_done (Err e) = 0
+
 -- the same where only whether there was an event is answered
 abbrev pub Advanced : {L : Type 0} → (L → FinMap key_cmp (Event (List ℕ))) → NetworkValue → ℕ → State (List ℕ) NodeStateValue
     → PartValue L → PartValue L → Result Bool AllocError → Type 0

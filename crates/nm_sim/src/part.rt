@@ -11,7 +11,7 @@ ghost use Rattle.nm_sim.specs.Effects.{StartsAt, start_of};
 ghost use Rattle.nm_model.specs.Run.{State, start, step};
 ghost use Rattle.nm_forward.specs.State.{NodeStateValue};
 ghost use Rattle.nm_sim.specs.Network.{net_of};
-ghost use Rattle.nm_sim.specs.Part.{Advanced, Stands, Stepped, count_at, drops_at};
+ghost use Rattle.nm_sim.specs.Part.{Advanced, Stands, Stepped, count_at, drops_at, events_done};
 ghost use Rattle.nm_topology.specs.Wholes.{NetworkValue};
 ghost use Rattle.std.specs.FinMap.{empty};
 ghost use Rattle.nm_model.specs.Run.{source_events};
@@ -95,7 +95,8 @@ impl<L: EventList> Part<L> {
     pub fn start(alloc: Global, topology: &Topology) -> Result<Self, AllocError>
     where
         L: Drop,
-        ensures { IfOk result (λ p. Stands L.pending topology.now p (start (net_of topology.now) everywhere [])) }
+        ensures stands { IfOk result (λ p. Stands L.pending topology.now p (start (net_of topology.now) everywhere [])) }
+        ensures steps { IfOk result (λ p. p.steps ≡ 0) }
     {
         every_topology_is_a_network(topology);
         every_state_is_orderly::<Packet, NodeState>();
@@ -124,6 +125,7 @@ impl<L: EventList> Part<L> {
         requires stands { (s : State (List ℕ) NodeStateValue) × Stands L.pending topology.now self.old s }
         ensures step { (s : State (List ℕ) NodeStateValue) → Stands L.pending topology.now self.old s
             → Stepped L.pending topology.now before s self.old self.new result }
+        ensures steps { self.new.steps ≡ self.old.steps + events_done result }
     {
         let Some(key) = self.timeline.least() else {
             return Ok(None);
@@ -241,6 +243,8 @@ impl<L: EventList> Part<L> {
             → Stands L.pending topology.now self.new (step (net_of topology.now) everywhere s)) }
         ensures err { OnErr result ((s : State (List ℕ) NodeStateValue) → Stands L.pending topology.now self.old s
             → Stands L.pending topology.now self.new s) }
+        ensures one { OnOk result (self.new.steps ≡ self.old.steps + 1) }
+        ensures none { OnErr result (self.new.steps ≡ self.old.steps) }
     {
         every_topology_is_a_network(topology);
         accepted_topologies_are_in_order(topology);

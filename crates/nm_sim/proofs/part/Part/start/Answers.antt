@@ -5,8 +5,8 @@ use Rattle.nm_sim.specs.Timelines.{everywhere}
 use Rattle.nm_sim.proofs.Openings.{stands_first}
 use Rattle.nm_sim.proofs.part.Part.start.Goals as goal
 
-pub returns : goal.returns
-returns g c =
+pub returns-clause-stands : goal.returns-clause-stands
+returns-clause-stands g c =
     let t = c.args.topology.now in
     let p : PartValue g.row.L.Denot = record { devices = c.in_ok-devices.devices; timeline = c.in_ok-timeline.timeline; steps = 0 } in
     let made = c.in_ok-timeline.ensures in
