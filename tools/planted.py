@@ -6,7 +6,7 @@ usage: tools/planted.py CRATE [WORD]
 The bugs are tools/planted/CRATE.bugs: blocks, each with a line 'bug:' (what is wrong), 'file:' (in the crate), 'check:' (the
 function whose proof is tried first; none: the whole crate), and pairs of lines 'old:' and 'new:'; each old text stands once in the
 file. With WORD only the bugs whose text holds it are tried. The crate must be proved, and is not changed: a copy of it is, beside
-links to the other crates. Prints a row of a table for each bug. A bug whose function is still proved is tried in the whole crate.
+copies of the crates below it. Prints a row of a table for each bug. A bug whose function is still proved is tried in the whole crate.
 """
 
 import os
@@ -37,18 +37,26 @@ def read_bugs(path):
     return bugs
 
 
+def below(crate, lines):
+    """The crate and the crates of the repository that it stands on."""
+    found = [crate]
+    for name in found:
+        found += [other for other in lines[name] if other in lines and other not in found]
+    return found
+
+
 def copy_of(crate):
-    """A root with a copy of the crate and links to the others."""
+    """A root with a copy of the crate and of those below it, each with what its proofs left in out/. Links to them are refused."""
     root = tempfile.mkdtemp(prefix="planted.")
-    for name in ("crates.txt", "HANDLES"):
-        shutil.copy(os.path.join(ROOT, name), root)
-    os.mkdir(os.path.join(root, "crates"))
-    for name in os.listdir(os.path.join(ROOT, "crates")):
-        here, there = os.path.join(ROOT, "crates", name), os.path.join(root, "crates", name)
-        if name == crate:
-            shutil.copytree(here, there)
-        else:
-            os.symlink(here, there)
+    if os.path.exists(os.path.join(ROOT, "HANDLES")):
+        shutil.copy(os.path.join(ROOT, "HANDLES"), root)
+    listed = [line.split("#")[0].partition(":") for line in open(os.path.join(ROOT, "crates.txt"), encoding="utf-8")]
+    lines = {name.strip(): after.split() for name, _, after in listed if name.strip()}
+    with open(os.path.join(root, "crates.txt"), "w", encoding="utf-8") as listing:
+        for name in lines:
+            if name in below(crate, lines):
+                listing.write(f"{name}: {' '.join(lines[name])}\n")
+                shutil.copytree(os.path.join(ROOT, "crates", name), os.path.join(root, "crates", name))
     return root
 
 
