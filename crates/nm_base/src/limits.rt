@@ -1,6 +1,6 @@
 //! The limits of a simulation, each stated once. What is past a limit is refused, and the refusal names it.
 
-/// The greatest `stop`, and so the greatest time of a record: 10^15 nanoseconds, which is 11 days and 13 hours.
+/// The greatest `stop`, 10^15 nanoseconds, which is 11 days and 13 hours. Each record is before it.
 pub const MAX_TIME: u64 = 1_000_000_000_000_000;
 
 /// The greatest number of octets of a packet: what the total length of an IPv4 header can say (RFC 791, section 3.1).

@@ -1,8 +1,10 @@
 //! Laws of the definitions: each function has an empty body, and its contract is the law.
 
 ghost use Rattle.std.specs.Prelude.{◌≡◌, ℕ, ◌+◌, ◌-◌, ◌*◌, ◌<◌, ◌≤◌, ◌⊎◌, ◌++◌, List, length, None};
-ghost use Rattle.nm_packet.specs.Ipv4.{Header, HeaderFits, IsIpv4, checked, cut_of, fields_of, header_fault, lowered, packet_octets, payload_of};
+ghost use Rattle.nm_packet.specs.declared.icmp.TheConstants as icmp;
+ghost use Rattle.nm_packet.specs.declared.udp.TheConstants as udp;
 ghost use Rattle.nm_packet.specs.Checksum.{updated_checksum};
+ghost use Rattle.nm_packet.specs.Ipv4.{Header, HeaderFits, IsIpv4, checked, cut_of, fields_of, header_fault, lowered, packet_octets, payload_of};
 ghost use Rattle.nm_packet.specs.Udp.{IsUdp, UdpFits, UdpHeader, datagram_octets, udp_checked, udp_cut_of, udp_data_of, udp_fault, udp_fields_of};
 ghost use Rattle.nm_packet.specs.Icmp.{IcmpFits, IcmpHeader, IsIcmp, icmp_checked, icmp_data_of, icmp_fault, icmp_fields_of, message_octets};
 
@@ -63,4 +65,10 @@ pub fn icmp_is_read_as_made()
 pub fn icmp_is_written_well()
     ensures { (h : IcmpHeader) (payload : List ℕ) → IcmpFits (record h { checksum = 0 })
         → IsIcmp (icmp_checked h payload) payload (message_octets h payload) }
+{}
+
+/// The numbers of the two protocols in a header are those of RFC 790.
+pub fn protocol_numbers()
+    ensures icmp { icmp.PROTOCOL ≡ 1 }
+    ensures udp { udp.PROTOCOL ≡ 17 }
 {}

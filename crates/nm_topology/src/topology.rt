@@ -163,7 +163,7 @@ impl Topology {
         resolve(alloc, document, Sha256::digest(text))
     }
 
-    /// The last time that is simulated.
+    /// Where the simulation ends: nothing at this time or later is done.
     pub fn stop(&self) -> Time
         ensures { result ≡ self.now.stop }
     {
