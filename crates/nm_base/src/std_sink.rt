@@ -1,6 +1,7 @@
 //! A sink over a writer of the standard library.
 
-ghost use Rattle.std.specs.Prelude.{◌≡◌, ℕ};
+ghost use Rattle.std.specs.Prelude.{◌≡◌, ℕ, ◌+◌, if◌then◌else◌, is_ok};
+ghost use Rattle.std.specs.Io.KnownBytes.{Keeps};
 
 use crate::failures::FailureCount;
 use crate::sink::{Sink, SinkFault};
@@ -42,6 +43,31 @@ impl<W> StdSink<W> {
     }
 }
 
+impl<W: Write> StdSink<W> {
+    /// The writer failed once more.
+    fn fault(&mut self) -> SinkFault
+        ensures { self.new ≡ record { writer = self.old.writer; failures = self.old.failures + 1 } }
+    {
+        self.failed.rise();
+        SinkFault
+    }
+
+    /// Has the writer hand on what it holds back, as one with a buffer does.
+    ///
+    /// # Errors
+    ///
+    /// `SinkFault` where the writer failed. The count of failures is one more then.
+    pub fn flush(&mut self) -> Result<(), SinkFault>
+        ensures octets { Keeps (W.contents self.old.writer) (W.contents self.new.writer) }
+        ensures faults { self.new.failures ≡ self.old.failures + (if is_ok result then 0 else 1) }
+    {
+        match self.writer.flush() {
+            Ok(()) => Ok(()),
+            Err(_) => Err(self.fault()),
+        }
+    }
+}
+
 impl<W: Write> Sink for StdSink<W> {
     ghost taken = { λ s. W.contents s.writer };
 
@@ -50,10 +76,7 @@ impl<W: Write> Sink for StdSink<W> {
     fn write_some(&mut self, octets: &[u8]) -> Result<usize, SinkFault> {
         match self.writer.write(octets) {
             Ok(count) if count > 0 => Ok(count),
-            Ok(_) | Err(_) => {
-                self.failed.rise();
-                Err(SinkFault)
-            }
+            Ok(_) | Err(_) => Err(self.fault()),
         }
     }
 }

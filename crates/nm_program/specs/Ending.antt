@@ -1,5 +1,5 @@
 -- How the program ends, and why.
-use Rattle.std.specs.Prelude.{◌≡◌, ◌⊎◌, ℕ, ◌+◌, ◌<◌, ◌≤◌, nat_lt, if◌then◌else◌, List, length, position, Option, Some, None, IfSome, Result, Ok, Err}
+use Rattle.std.specs.Prelude.{◌≡◌, ◌⊎◌, Bool, false, ℕ, ◌+◌, ◌<◌, ◌≤◌, nat_lt, if◌then◌else◌, List, length, position, Option, Some, None, IfSome, Result, Ok, Err}
 use Rattle.std.specs.Str.{bytes_eq}
 use Rattle.nm_base.specs.declared.record.Record.{Record}
 use Rattle.nm_topology.specs.Network.{topology_of}
@@ -52,6 +52,11 @@ module _ {S : Type 0} (taken : S → Option (List ℕ)) (failures : S → ℕ) (
   abbrev pub Ends : Option CommandValue → Status → Type 0
   Ends None status = (status ≡ Usage) × (new ≡ old)
   Ends (Some command) status = EndsCommand taken failures told failed_before failed old new command status
+
+-- the status once the output was handed on, or was not: what was written is no more than held back then
+abbrev pub handed_on : Bool → Status → Status
+handed_on false Done = File
+handed_on handed status = status
 
 -- what the reading of a topology answers
 module _ (told : Option (List ℕ)) (failed_before failed : ℕ) where

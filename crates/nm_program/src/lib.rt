@@ -7,4 +7,4 @@ pub mod trace_file;
 pub mod writing;
 
 pub use input::Input;
-pub use program::{report, run};
+pub use program::{conclude, report, run};

@@ -7,7 +7,8 @@ ghost use Rattle.nm_base.specs.declared.limits.TheConstants.{MAX_TIME};
 ghost use Rattle.nm_command.specs.Command.{command_of, command_value};
 ghost use Rattle.nm_command.specs.Status.{line_of};
 ghost use Rattle.nm_sim.specs.Trace.{IsTraceBefore};
-ghost use Rattle.nm_program.specs.Ending.{Ends, EndsCommand, ReadsTopology, iface_named};
+ghost use Rattle.nm_program.specs.Ending.{Ends, EndsCommand, ReadsTopology, handed_on, iface_named};
+ghost use Rattle.nm_command.specs.declared.status.Status.TheVariants.{Done, File};
 
 use crate::input::{Input, InputFault};
 use crate::trace_file::write_trace_file;
@@ -52,6 +53,20 @@ pub fn report<E: Sink>(status: Status, errors: &mut E) -> Status
 {
     let _ = write_all(errors, status.line());
     status
+}
+
+/// The status of a run whose output may have been held back, once it was handed on or could not be. What is not handed
+/// on is not done: its status is `File`, and its line is said.
+pub fn conclude<E: Sink>(status: Status, handed: bool, errors: &mut E) -> Status
+    ensures status { result ≡ handed_on handed status }
+    ensures line { result ≡ File → status ≡ Done → E.failures errors.new ≡ E.failures errors.old
+        → Appends (E.taken errors.old) (E.taken errors.new) (line_of File) }
+    ensures quiet { result ≡ status → errors.new ≡ errors.old }
+{
+    match status {
+        Status::Done if !handed => report(Status::File, errors),
+        _ => status,
+    }
 }
 
 /// Writes the trace file that a command asks for.

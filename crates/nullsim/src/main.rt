@@ -7,10 +7,10 @@ mod source;
 
 use nm_base::StdSink;
 use nm_command::{Command, Status};
-use nm_program::{Input, report, run};
+use nm_program::{Input, conclude, report, run};
 use source::Source;
 use std::env::Env;
-use std::io::ErrorKind;
+use std::io::{BufWriter, ErrorKind};
 use std::process::ExitCode;
 use std::{env, fs, io};
 
@@ -48,15 +48,19 @@ fn status(rt: &HostRuntime) -> Status {
         // a word that is not UTF-8
         Err(_) => return report(Status::Usage, &mut errors),
     };
+    let Ok(writer) = BufWriter::new(rt.alloc(), rt.stdout()) else {
+        return report(Status::Memory, &mut errors);
+    };
     let mut input = Input::new(open(rt, words.as_slice()));
-    let mut out = StdSink::new(rt.stdout());
-    run(
+    let mut out = StdSink::new(writer);
+    let status = run(
         rt.alloc(),
         words.as_slice(),
         &mut input,
         &mut out,
         &mut errors,
-    )
+    );
+    conclude(status, out.flush().is_ok(), &mut errors)
 }
 
 fn main(rt: HostRuntime) -> ExitCode {
