@@ -72,6 +72,7 @@ def check(folder, only):
             goals.append(f"`{name}`: {refused.group(2)}")
         elif re.search(r"\berror\b(\[|:)", line) and "by-macro" not in line:
             goals.append(re.sub(r"^.*?error(\[\w+\])?: ", "", line)[:160])
+            goals[-1] = re.sub(r"^(`[^`]*`): .*", r"the proof of \1", goals[-1])
         elif re.match(r"fn \S+: no proof", line):
             goals.append(line[:160])
     return run.returncode == 0, goals, run.stdout
