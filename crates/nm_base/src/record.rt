@@ -15,7 +15,7 @@ pub enum Dir {
 #[derive(Debug, Drop, PartialEq, Eq)]
 pub struct Record<P = Packet> {
     pub time: Time,
-    pub iface: IfaceNo,
     pub dir: Dir,
+    pub iface: IfaceNo,
     pub packet: P,
 }

@@ -1,7 +1,8 @@
 -- A finite map as the list of its entries in the order of their keys.
-use Rattle.std.proofs.Common.{◌≡◌, ℕ, zero, suc, ◌<◌, ◌≤◌, Bool, true, false, cond, T, List, [], ◌∷◌, ◌++◌, length, Option, Some, None, refl, sym, ap, ◌∙◌, arith, ◌&&◌, true≢false}
+use Rattle.std.proofs.Common.{◌≡◌, ℕ, zero, suc, ◌-◌, ◌<◌, ◌≤◌, Bool, true, false, cond, T, List, [], ◌∷◌, ◌++◌, length, Option, Some, None, refl, sym, ap, ◌∙◌, arith, ◌&&◌, true≢false}
 use Rattle.std.proofs.Common.{Ordering, Less, Equal, Greater}
 use Rattle.std.specs.List.{slice_index_or, insert as insert_at}
+use Rattle.std.proofs.lemmas.List.{get_or_default}
 use Rattle.std.specs.List.Sorted.{IsPartitionPoint, IsPartitionedBy}
 use Rattle.std.specs.Ordering.{is_lt, is_eq, eq_by_cmp, ordering_reverse}
 use Rattle.std.specs.Cmp.{IsTotalOrder}
@@ -74,6 +75,14 @@ module _ {K X : Type 0} {R : K → K → Ordering} (o : IsTotalOrder R) where
       ap is_lt (o.trans x.0 (slice_index_or es j d).0 k a b)
   partitioned k (x ∷ es) h (suc i) zero d le lt e = absurd (omega arith)
   partitioned k (x ∷ es) h (suc i) (suc j) d le lt e = partitioned k es (second _ _ h) i j d (omega arith) (omega arith) e
+
+  -- where the last entry comes before a key, all do
+  pub all_before : (k : K) (es : List (K × X)) (last : K × X) (i : ℕ) → is_sorted R es ≡ true → 0 < length es → last ≡ slice_index_or es (length es - 1) last
+      → is_lt (R last.0 k) ≡ true → i ≡ length es → IsPartitionPoint (λ e. is_lt (R e.0 k) ≡ true) (λ e. is_lt (R e.0 k) ≡ false) es i
+  all_before k es last i h some is before e =
+      ( (λ j d le lt. partitioned k es h j (length es - 1) d (omega (arith, lt, e)) (omega arith)
+      (ap (λ z. is_lt (R z.0 k)) (get_or_default es (length es - 1) d last (omega arith) ∙ sym is) ∙ before))
+      , (λ j d le lt. absurd (omega (arith, le, lt, e))))
 
   -- an entry put where the entries before its key end stands in its place
   pub put_at : (k : K) (v : X) (es : List (K × X)) (i : ℕ) → is_sorted R es ≡ true → find R k es ≡ None → i ≤ length es

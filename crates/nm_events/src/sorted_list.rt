@@ -47,7 +47,11 @@ impl SortedList {
         ensures parted { IsPartitionPoint (λ e. is_lt (key_cmp e.0 key.now) ≡ true)
             (λ e. is_lt (key_cmp e.0 key.now) ≡ false) self.now.entries result }
     {
-        self.entries.partition_point(|entry| entry.0 < *key)
+        // Many new events come last.
+        match self.entries.back() {
+            Some(last) if last.0 < *key => self.entries.len(),
+            _ => self.entries.partition_point(|entry| entry.0 < *key),
+        }
     }
 }
 
