@@ -1,11 +1,14 @@
 //! Inputs, which are read to their end.
 
 ghost use Rattle.std.specs.Prelude.{◌≡◌, ◌+◌, ◌<◌, ◌≤◌, IfOk, IfSome, length};
-ghost use Rattle.nm_program.specs.declared.input.InputFault.TheVariants.{Failed, TooLong};
+ghost use Rattle.std.specs.IoError.{error_kind};
+ghost use Rattle.std.specs.declared.io.ErrorKind.TheVariants.{OutOfMemory};
+ghost use Rattle.nm_program.specs.declared.input.InputFault.TheVariants.{Failed, Memory, TooLong};
 ghost use Rattle.nm_program.specs.declared.input.TheConstants.{MAX_INPUT_OCTETS};
 
 use nm_base::failures::FailureCount;
 use std::alloc::Global;
+use std::io;
 use std::io::{ErrorKind, Read};
 use std::marker::Model;
 use thiserror::Error;
@@ -88,7 +91,19 @@ fn read_to_end<R: Read>(alloc: Global, reader: &mut R) -> Result<Vec<u8>, InputF
     match reader.take(MAX_INPUT_OCTETS + 1).read_to_end(&mut octets) {
         Ok(_) if octets.len() as u64 <= MAX_INPUT_OCTETS => Ok(octets),
         Ok(_) => Err(InputFault::TooLong),
-        Err(error) if error.kind() == ErrorKind::OutOfMemory => Err(InputFault::Memory),
-        Err(_) => Err(InputFault::Failed),
+        Err(error) => Err(fault_of(&error)),
+    }
+}
+
+/// What the error of a read tells: that memory was refused, or that the read failed.
+fn fault_of(error: &io::Error) -> InputFault
+    ensures memory { error_kind error.now ≡ OutOfMemory → result ≡ Memory }
+    ensures failed { (error_kind error.now ≡ OutOfMemory → ⊥) → result ≡ Failed }
+    ensures short { result ≡ TooLong → ⊥ }
+{
+    if error.kind() == ErrorKind::OutOfMemory {
+        InputFault::Memory
+    } else {
+        InputFault::Failed
     }
 }

@@ -6,8 +6,7 @@ ghost use Rattle.nm_pcap.specs.Format.{record_octets};
 ghost use Rattle.nm_program.specs.Writing.{Writes, written};
 ghost use Rattle.nm_program.specs.TraceFile.{records_at, trace_file};
 
-use crate::writing::{write, write_ending};
-use nm_base::sink::CutShort;
+use crate::writing::{WriteFault, write, write_ending};
 use nm_base::{IfaceNo, Record, Sink};
 use nm_command::Form;
 use nm_pcap::format::{file_header_octets, record_header_octets};
@@ -16,13 +15,13 @@ use nm_pcap::format::{file_header_octets, record_header_octets};
 ///
 /// # Errors
 ///
-/// `CutShort` where the sink failed: it took a front of the file.
+/// `WriteFault` where the sink failed: it took a front of the file.
 pub fn write_trace_file<S: Sink>(
     form: Form,
     iface: IfaceNo,
     records: &[Record],
     sink: &mut S,
-) -> Result<(), CutShort>
+) -> Result<(), WriteFault>
     requires { All (λ r. r.time ≤ MAX_TIME) records.now }
     ensures { Writes S.taken S.failures sink.old sink.new result (trace_file form iface records.now) }
 {
@@ -37,7 +36,7 @@ fn write_records<S: Sink>(
     iface: IfaceNo,
     records: &[Record],
     sink: &mut S,
-) -> Result<(), CutShort>
+) -> Result<(), WriteFault>
     requires { All (λ r. r.time ≤ MAX_TIME) records.now }
     ensures { Writes S.taken S.failures sink.old sink.new result
         (written form (flat_map record_octets (records_at iface records.now))) }
@@ -54,7 +53,7 @@ fn write_if_at<S: Sink>(
     iface: IfaceNo,
     record: &Record,
     sink: &mut S,
-) -> Result<(), CutShort>
+) -> Result<(), WriteFault>
     requires { «record».now.time ≤ MAX_TIME }
     ensures { Writes S.taken S.failures sink.old sink.new result
         (written form (flat_map record_octets (records_at iface («record».now ∷ [])))) }
@@ -66,7 +65,7 @@ fn write_if_at<S: Sink>(
 }
 
 /// Writes one record.
-fn write_record<S: Sink>(form: Form, record: &Record, sink: &mut S) -> Result<(), CutShort>
+fn write_record<S: Sink>(form: Form, record: &Record, sink: &mut S) -> Result<(), WriteFault>
     requires { «record».now.time ≤ MAX_TIME }
     ensures { Writes S.taken S.failures sink.old sink.new result (written form (record_octets «record».now)) }
 {
@@ -75,7 +74,12 @@ fn write_record<S: Sink>(form: Form, record: &Record, sink: &mut S) -> Result<()
 }
 
 /// Writes these octets, and then those.
-fn write_two<S: Sink>(form: Form, first: &[u8], second: &[u8], sink: &mut S) -> Result<(), CutShort>
+fn write_two<S: Sink>(
+    form: Form,
+    first: &[u8],
+    second: &[u8],
+    sink: &mut S,
+) -> Result<(), WriteFault>
     ensures { Writes S.taken S.failures sink.old sink.new result (written form (first.now ++ second.now)) }
 {
     write(form, first, sink)?;
