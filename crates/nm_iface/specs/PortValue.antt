@@ -1,6 +1,5 @@
 -- What contracts see of a port.
-use Rattle.std.specs.Prelude.{◌≡◌, ℕ, ◌+◌, ◌-◌, ◌^◌, ◌<◌, ltb, min, max, Bool, List, [], length, map, Option, Some, None}
-use Rattle.nm_base.specs.declared.packet.Twin.{Twin}
+use Rattle.std.specs.Prelude.{ℕ, ◌-◌, ◌^◌, ltb, min, max, Bool, List, length, Option}
 use Rattle.nm_model.specs.Port.{Busy, Port}
 use Rattle.nm_iface.specs.Transmission.{transmission_time}
 
