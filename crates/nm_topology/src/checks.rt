@@ -1,19 +1,17 @@
 //! The tests of a topology whose names are replaced by numbers.
 
-ghost use Rattle.std.specs.Prelude.{◌≡◌, ℕ, ◌<◌, ◌≤◌, ◌==◌, All, length, map, min, slice_index, nat_eq, nat_le, not, IfOk};
-ghost use Rattle.std.specs.List.{list_all, list_any};
-ghost use Rattle.nm_base.specs.declared.limits.TheConstants.{MAX_ROUTES_OF_NODE};
-ghost use Rattle.nm_topology.specs.declared.fault.Refusal.TheVariants.{IfaceUse, DoubleAddress, DoubleRoute, TooMany, CutDelay};
+ghost use Rattle.std.specs.Prelude.{◌≡◌, ℕ, ◌<◌, ◌==◌, All, length, map, min, slice_index, nat_eq, not, IfOk};
+ghost use Rattle.std.specs.List.{list_all};
+ghost use Rattle.nm_topology.specs.declared.fault.Refusal.TheVariants.{IfaceUse, DoubleAddress, DoubleRoute};
 ghost use Rattle.nm_topology.specs.Fault.{Gives};
 ghost use Rattle.nm_topology.specs.Numbers.{has_double};
-ghost use Rattle.nm_topology.specs.Checks.{demand, are_used_once, bump, uses, route_key, same_route, is_undelayed_cut};
+ghost use Rattle.nm_topology.specs.Checks.{demand, are_used_once, bump, uses, route_key, same_route};
 
 use crate::fault::{Refusal, TopoFault};
 use crate::names::distinct;
-use crate::parts::{Far, Link, PlacedRoute, RouteTable};
+use crate::parts::{Link, PlacedRoute};
 use crate::rows::IfaceRow;
-use nm_base::limits::MAX_ROUTES_OF_NODE;
-use nm_base::{IfaceNo, NodeNo};
+use nm_base::IfaceNo;
 use std::alloc::{AllocError, Global};
 
 /// Refuses two interfaces with one address.

@@ -1,7 +1,5 @@
 //! Prefixes of addresses, to which routes lead.
 
-ghost use Rattle.std.specs.Prelude.{◌≡◌, ◌≤◌, ◌==◌, ◌%◌, ◌-◌, ◌^◌};
-
 use nm_packet::Address;
 
 /// A prefix: the addresses that begin with the first `length` bits of `address`, whose other bits are 0 (RFC 4632,
