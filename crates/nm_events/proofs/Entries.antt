@@ -79,10 +79,11 @@ module _ {K X : Type 0} {R : K → K → Ordering} (o : IsTotalOrder R) where
   -- where the last entry comes before a key, all do
   pub all_before : (k : K) (es : List (K × X)) (last : K × X) (i : ℕ) → is_sorted R es ≡ true → 0 < length es → last ≡ slice_index_or es (length es - 1) last
       → is_lt (R last.0 k) ≡ true → i ≡ length es → IsPartitionPoint (λ e. is_lt (R e.0 k) ≡ true) (λ e. is_lt (R e.0 k) ≡ false) es i
-  all_before k es last i h some is before e =
-      ( (λ j d le lt. partitioned k es h j (length es - 1) d (omega (arith, lt, e)) (omega arith)
-      (ap (λ z. is_lt (R z.0 k)) (get_or_default es (length es - 1) d last (omega arith) ∙ sym is) ∙ before))
-      , (λ j d le lt. absurd (omega (arith, le, lt, e))))
+  all_before k es last i h some is before e = (
+    (λ j d le lt. partitioned k es h j (length es - 1) d (omega (arith, lt, e)) (omega arith)
+        (ap (λ z. is_lt (R z.0 k)) (get_or_default es (length es - 1) d last (omega arith) ∙ sym is) ∙ before)),
+    (λ j d le lt. absurd (omega (arith, le, lt, e))),
+  )
 
   -- an entry put where the entries before its key end stands in its place
   pub put_at : (k : K) (v : X) (es : List (K × X)) (i : ℕ) → is_sorted R es ≡ true → find R k es ≡ None → i ≤ length es

@@ -40,5 +40,5 @@ module _ {P N : Type 0} (net : Net P N) (ok : IsNet net) (p : ℕ) (K : Knowledg
         let u = ok.takes_least (net.peer c) b.1 in
         ⊎_elim (λ z. omega arith) (λ z. omega arith) (after_busy ((from_scratch net p K k).port (net.peer c)).busy refl)
 
-pub plain_below : {P N : Type 0} (net : Net P N) (p : ℕ) (K : Knowledge P) (k c : ℕ) → promise net Plain p K k c ≤ promise net Tight p K k c
+pub plain_below : {P N : Type 0} (net : Net P N) (p : ℕ) (K : Knowledge P) (k c : ℕ) → promise net Plain p K k c + net.least_tx (net.peer c) ≤ promise net Tight p K k c
 plain_below net p K k c = omega arith

@@ -1,6 +1,6 @@
 //! Laws of what partitions send and promise.
 
-ghost use Rattle.std.specs.Prelude.{◌≡◌, ℕ, ◌≤◌, true, length, List, Some};
+ghost use Rattle.std.specs.Prelude.{◌≡◌, ℕ, ◌+◌, ◌≤◌, true, length, List, Some};
 ghost use Rattle.nm_base.specs.declared.key.Place.TheVariants.{Arrive};
 ghost use Rattle.nm_model.specs.Lists.{nth, IsPrefix};
 ghost use Rattle.nm_model.specs.Network.{Net, IsNet};
@@ -11,7 +11,7 @@ ghost use Rattle.nm_model.specs.Promise.{Promising, Plain, Tight, promise};
 ghost use Rattle.nm_model.specs.Before.{IsBefore, IsKnowledge, history};
 
 /// What a partition sends is the beginning of what the whole network sends, and its promises are kept: the plain one and
-/// the tight one, which is never below the plain one.
+/// the tight one, which is later than the plain one by the least time of a transmission, or by more.
 pub fn promises_kept<P, N>()
     ensures prefix { (net : Net P N) → IsNet net → (p : ℕ) (K : Knowledge P) → IsKnowledge net p K
         → (k last c : ℕ) → IsWithin net p K k → IsBefore net net.stop last
@@ -23,7 +23,7 @@ pub fn promises_kept<P, N>()
         → length ((from_scratch net p K k).sent c) ≤ i → nth (history net last c) i ≡ Some b
         → (kind : Promising) → promise net kind p K k c ≤ b.0 }
     ensures tighter { (net : Net P N) (p : ℕ) (K : Knowledge P) (k c : ℕ)
-        → promise net Plain p K k c ≤ promise net Tight p K k c }
+        → promise net Plain p K k c + net.least_tx (net.peer c) ≤ promise net Tight p K k c }
 {}
 
 /// The safe time and the promises never fall, whatever is done and whatever more is known.
