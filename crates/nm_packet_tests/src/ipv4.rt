@@ -1,6 +1,8 @@
 //! Packets at worked values.
 
-use nm_packet::{Address, HeaderFault, Icmp, Ipv4, Ipv4Header, PacketBuffer, Udp, lower_ttl, quote, write_ipv4};
+use nm_packet::{
+    Address, HeaderFault, Icmp, Ipv4, Ipv4Header, PacketBuffer, Udp, lower_ttl, quote, write_ipv4,
+};
 use std::alloc::Global;
 use std::test::Fail;
 

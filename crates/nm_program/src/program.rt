@@ -21,6 +21,7 @@ use nm_topology::topology::accepted_topologies_are_in_order;
 use nm_topology::{TopoFault, Topology};
 use std::alloc::Global;
 use std::io::Read;
+use std::mem;
 
 /// Does what the words say. The trace file goes to `out` as it is made, and a line to `errors` where the program is not
 /// done; where `errors` fails there is nobody to tell, and the status stays.
@@ -69,7 +70,7 @@ pub fn conclude<E: Sink>(status: Status, handed: bool, errors: &mut E) -> Status
     }
 }
 
-/// Writes the trace file that a command asks for.
+/// Writes the trace file that a command asks for. The trace's memory is left to the end of the process.
 fn perform<I: Read, O: Sink>(
     alloc: Global,
     command: Command<'_>,
@@ -89,7 +90,10 @@ fn perform<I: Read, O: Sink>(
     let Some(records) = trace(alloc, &topology) else {
         return Status::Memory;
     };
-    match write_trace_file(command.form, iface, records.as_slice(), out) {
+    let written = write_trace_file(command.form, iface, records.as_slice(), out);
+    // The process ends next, and its memory goes back as a whole: packet by packet that takes a tenth of the time of a run.
+    mem::forget(records);
+    match written {
         Ok(()) => Status::Done,
         Err(_) => Status::File,
     }

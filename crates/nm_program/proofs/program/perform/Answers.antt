@@ -20,6 +20,6 @@ returns g c =
           trace = c.in-Some-trace.ensures.trace;
           file = ap (trace_file c.args.command.form c.in-Some.iface) c.as_slice.ensures.value;
         },
-        c.in-Err-write_trace_file.ensures,
+        c.in-Err-written.ensures,
       ),
     ))
