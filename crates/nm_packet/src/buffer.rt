@@ -9,7 +9,7 @@ use std::alloc::{AllocError, Global};
 /// The octets of a block. Blocks are small, so that what a node writes next is still near the processor.
 const BLOCK_OCTETS: usize = 2_048;
 
-/// The greatest packet that is cut from a block. So at most a fifth of a block is left over.
+/// The greatest packet that is cut from a block. So less than a quarter of a block is left over.
 pub(crate) const MAX_CUT_OCTETS: usize = 512;
 
 /// A block of memory that packets are cut from, and then the next. So small packets take no memory of their own. A block

@@ -91,7 +91,7 @@ fn perform<I: Read, O: Sink>(
         return Status::Memory;
     };
     let written = write_trace_file(command.form, iface, records.as_slice(), out);
-    // The process ends next, and its memory goes back as a whole: packet by packet that takes a tenth of the time of a run.
+    // The process ends next, and its memory goes back as a whole: packet by packet that takes a twentieth of a run's time.
     mem::forget(records);
     match written {
         Ok(()) => Status::Done,
