@@ -2,6 +2,7 @@
 #![tactic(auto)]
 
 pub mod event_list;
+mod key_queue;
 pub mod sorted_list;
 
 pub use event_list::EventList;

@@ -1,96 +1,104 @@
-//! An event list as a queue in the order of keys.
+//! An event list as queues in the order of keys.
 
-ghost use Rattle.std.specs.Prelude.{◌≡◌, ℕ, ◌+◌, ◌≤◌, ◌==◌, List, Option, Some, None, OnOk, IfSome, IfNone};
-ghost use Rattle.std.specs.Prelude.{true, false, length};
+ghost use Rattle.std.specs.Prelude.{◌≡◌, ◌+◌, ◌≤◌, ◌==◌, OnOk, IfSome, IfNone};
 ghost use Rattle.std.specs.Option.{option_map};
-ghost use Rattle.std.specs.List.Sorted.{IsPartitionPoint};
-ghost use Rattle.std.specs.Ordering.{is_lt};
-ghost use Rattle.nm_base.specs.Key.{key_cmp};
 ghost use Rattle.std.specs.FinMap.{empty, get, insert, len as size, remove};
+ghost use Rattle.nm_base.specs.Key.{key_cmp};
 ghost use Rattle.nm_model.specs.EventList.{least as least_entry};
+ghost use Rattle.nm_events.specs.Held.{completes_first};
 
 use crate::event_list::EventList;
-use nm_base::{Event, Key};
+use crate::key_queue::KeyQueue;
+use nm_base::{Event, Key, Packet};
 use std::alloc::{AllocError, Global};
-use std::collections::VecDeque;
 use std::marker::Model;
 
-/// Keeps the events in the order of their keys, the least first. An event is put by a search and a move of the events
-/// before or behind it, whichever are fewer; the least is taken in constant time.
+/// Keeps completions and deliveries apart, each in the order of their keys: events of one kind mostly come in that order,
+/// so that a new one is put behind the others. The least event is the first of one of the two queues.
+///
+/// Each queue has room for all events, whichever kind they are of.
 #[derive(Drop)]
 pub struct SortedList {
-    entries: VecDeque<(Key, Event)>,
+    completions: KeyQueue<()>,
+    deliveries: KeyQueue<Packet>,
 }
 
 impl Model for SortedList {
-    ghost use Rattle.std.specs.Prelude.{◌≡◌, true};
-    ghost use Rattle.std.specs.Prelude.{◌-◌};
-    ghost use Rattle.std.specs.FinMap.{is_sorted};
-    ghost use Rattle.std.specs.VecDeque.{deque_len, deque_capacity};
-    ghost use Rattle.nm_base.specs.Key.{key_cmp};
-    ghost use Rattle.nm_events.specs.Held.{Held};
+    ghost use Rattle.std.specs.Prelude.{◌≤◌, ◌+◌, ◌-◌, min, length};
+    ghost use Rattle.nm_events.specs.Held.{Held, Holds};
 
     ghost Value = { Held };
 
     ghost view = { λ s. record {
-      entries = s.entries.items;
-      room = deque_capacity s.entries - deque_len s.entries;
+      completions = s.completions.entries;
+      deliveries = s.deliveries.entries;
+      room = min s.completions.capacity s.deliveries.capacity - (length s.completions.entries + length s.deliveries.entries);
     } };
 
-    ghost invariant = { λ s. is_sorted key_cmp s.entries.items ≡ true };
+    ghost invariant = { λ s. Holds s.completions.entries s.deliveries.entries (min s.completions.capacity s.deliveries.capacity) };
 }
 
 impl SortedList {
-    /// How many events have a lesser key. They come first.
-    fn place(&self, key: &Key) -> usize
-        ensures bound { result ≤ length self.now.entries }
-        ensures parted { IsPartitionPoint (λ e. is_lt (key_cmp e.0 key.now) ≡ true)
-            (λ e. is_lt (key_cmp e.0 key.now) ≡ false) self.now.entries result }
+    /// Whether the least event is a completion.
+    fn completes_first(&self) -> bool
+        ensures { result ≡ completes_first self.now }
     {
-        // Many new events come last.
-        match self.entries.back() {
-            Some(last) if last.0 < *key => self.entries.len(),
-            _ => self.entries.partition_point(|entry| entry.0 < *key),
+        match (self.completions.first(), self.deliveries.first()) {
+            (Some(completion), Some(delivery)) => *completion < *delivery,
+            (completion, _) => completion.is_some(),
         }
     }
 }
 
 impl EventList for SortedList {
-    ghost use Rattle.std.specs.FinMap.{from_sorted};
+    ghost use Rattle.nm_events.specs.Held.{pending_of};
 
-    ghost pending = { λ s. from_sorted s.entries };
+    ghost pending = { pending_of };
 
     ghost room = { λ s. s.room };
 
     fn new(alloc: Global) -> Self {
         SortedList {
-            entries: VecDeque::new(alloc),
+            completions: KeyQueue::new(alloc),
+            deliveries: KeyQueue::new(alloc),
         }
     }
 
     fn reserve(&mut self, count: usize) -> Result<(), AllocError> {
-        self.entries.reserve(count)
+        let total = self.len().checked_add(count).ok_or(AllocError)?;
+        self.completions.reserve_total(total)?;
+        self.deliveries.reserve_total(total)
     }
 
     fn put(&mut self, key: Key, event: Event) {
-        let place = self.place(&key);
-        self.entries.insert(place, (key, event)).unwrap();
+        match event {
+            Event::Completion => self.completions.put(key, ()),
+            Event::Delivery(packet) => self.deliveries.put(key, packet),
+        }
     }
 
     fn least(&self) -> Option<Key> {
-        let (key, _) = self.entries.front()?;
-        Some(*key)
+        if self.completes_first() {
+            return self.completions.first().copied();
+        }
+        self.deliveries.first().copied()
     }
 
     fn take_least(&mut self) -> Option<(Key, Event)> {
-        self.entries.pop_front()
+        if self.completes_first() {
+            let (key, _) = self.completions.take_first()?;
+            Some((key, Event::Completion))
+        } else {
+            let (key, packet) = self.deliveries.take_first()?;
+            Some((key, Event::Delivery(packet)))
+        }
     }
 
     fn len(&self) -> usize {
-        self.entries.len()
+        self.completions.len() + self.deliveries.len()
     }
 
     fn is_empty(&self) -> bool {
-        self.entries.is_empty()
+        self.len() == 0
     }
 }

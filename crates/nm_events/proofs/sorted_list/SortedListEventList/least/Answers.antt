@@ -1,15 +1,18 @@
-use Rattle.std.proofs.Common.{◌∙◌, ap, sym, rules, arith, length, ◌<◌}
-use Rattle.std.proofs.lemmas.Grind.{common_steps}
+use Rattle.std.proofs.Common.{◌≡◌, ◌∙◌, true, false, rules}
 use Rattle.std.specs.Option.{option_map}
-use Rattle.nm_events.proofs.Entries.{least_is, first_none, first_at}
+use Rattle.nm_model.specs.EventList.{first_of_list}
+use Rattle.nm_events.specs.Held.{is_first}
+use Rattle.nm_events.proofs.Held.{least_completion, least_delivery}
 use Rattle.nm_events.proofs.sorted_list.SortedListEventList.least.Goals as goal
 
-pub returns-in_err-key : goal.returns-in_err-key
-returns-in_err-key c =
-    let empty : 0 < length c.self.inside.entries.items → ⊥ = grind (arith, common_steps, c.in_err-key.ensures.item) in
-    rw (← c.self.view_is) (c.from_residual.ensures ∙ ap (option_map (λ e. e.0)) (first_none _ empty ∙ sym (least_is c.self.inside.entries.items c.self.invariant)))
+pub returns-then-completes_first : goal.returns-then-completes_first
+returns-then-completes_first c =
+    let e : is_first (first_of_list c.self.inside.completions.entries) (first_of_list c.self.inside.deliveries.entries) ≡ true = search rules in
+    let first : c.copied.result ≡ option_map (λ e. e.0) (first_of_list c.self.inside.completions.entries) = search rules in
+    rw (← c.self.view_is) (first ∙ least_completion _ _ _ c.self.invariant e)
 
 pub returns : goal.returns
 returns c =
-    let some : 0 < length c.self.inside.entries.items = grind (arith, common_steps, c.in_ok-key.ensures.item) in
-    rw (← c.self.view_is) (ap (option_map (λ e. e.0)) (first_at c.self.inside.entries.items c.in_ok-key.field-0.now some (search rules) ∙ sym (least_is c.self.inside.entries.items c.self.invariant)))
+    let e : is_first (first_of_list c.self.inside.completions.entries) (first_of_list c.self.inside.deliveries.entries) ≡ false = search rules in
+    let first : c.copied-2.result ≡ option_map (λ e. e.0) (first_of_list c.self.inside.deliveries.entries) = search rules in
+    rw (← c.self.view_is) (first ∙ least_delivery _ _ _ c.self.invariant e)

@@ -1,9 +1,8 @@
-use Rattle.std.proofs.Common.{◌≡◌, length, sym, ◌∙◌, rules}
-use Rattle.nm_base.specs.Key.{key_cmp_total}
-use Rattle.nm_events.proofs.Entries.{len_of}
+use Rattle.std.proofs.Common.{◌≡◌, ◌+◌, length, sym, ◌∙◌, rules}
+use Rattle.nm_events.proofs.Held.{count_all}
 use Rattle.nm_events.proofs.sorted_list.SortedListEventList.len.Goals as goal
 
 pub returns : goal.returns
 returns c =
-    let l : c.len.result ≡ length c.self.inside.entries.items = search rules in
-    rw (← c.self.view_is) (l ∙ sym (len_of key_cmp_total _ c.self.invariant))
+    let count : c.len.result + c.len-2.result ≡ length c.self.inside.completions.entries + length c.self.inside.deliveries.entries = search rules in
+    rw (← c.self.view_is) (count ∙ sym (count_all _ _ _ c.self.invariant))

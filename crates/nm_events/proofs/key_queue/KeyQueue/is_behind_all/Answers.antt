@@ -1,0 +1,13 @@
+use Rattle.std.proofs.Common.{◌≡◌, ◌-◌, ◌<◌, ◌∙◌, sym, length, arith, rules}
+use Rattle.std.proofs.lemmas.Grind.{common_steps}
+use Rattle.std.specs.List.{slice_index_or}
+use Rattle.nm_base.specs.Key.{key_cmp_total}
+use Rattle.nm_events.proofs.Queued.{put_behind}
+use Rattle.nm_events.proofs.key_queue.KeyQueue.is_behind_all.Goals as goal
+
+pub returns-in-Some : goal.returns-in-Some
+returns-in-Some g c before value =
+    let some : 0 < length c.self.inside.entries.items = grind (arith, common_steps, c.in-Some.ensures.variant) in
+    let last : c.in-Some.last.now ≡ slice_index_or c.self.inside.entries.items (length c.self.inside.entries.items - 1) c.in-Some.last.now = search rules in
+    rw (← c.self.view_is) (put_behind key_cmp_total c.args.key.now value c.self.inside.entries.items c.in-Some.last.now c.self.invariant some last
+    (sym c.lt.ensures ∙ before))
