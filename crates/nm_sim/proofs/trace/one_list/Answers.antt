@@ -1,6 +1,6 @@
 use Rattle.std.proofs.Common.{◌≡◌, suc, ◌+◌, true, min, Ok, sym, ap, ◌∙◌, subst, arith, ⊎_elim}
 use Rattle.std.proofs.lemmas.Bool.{cases_lt}
-use Rattle.std.specs.FinMap.{from_sorted}
+use Rattle.nm_events.specs.Held.{pending_of}
 use Rattle.nm_model.specs.Run.{one_list, pends_before}
 use Rattle.nm_sim.specs.Network.{net_of}
 use Rattle.nm_sim.specs.Part.{Advanced, Stands}
@@ -12,7 +12,7 @@ returns-then-not-branch c =
     let s = one_list (net_of t) c.loop-done.done in
     let before : c.earlier-before.result ≡ min c.args.until t.stop = c.earlier-before.ensures ∙ ap (min c.args.until) c.stop.ensures in
     let stands = c.loop-done.invariant.0 in
-    let ended = subst (λ b. Advanced (λ e. from_sorted e.entries) t c.earlier-before.result s c.loop-done.part c.advance.new.self (Ok b)) c.if-not-branch.true
+    let ended = subst (λ b. Advanced pending_of t c.earlier-before.result s c.loop-done.part c.advance.new.self (Ok b)) c.if-not-branch.true
     (c.in_ok-advance.ensures.advance s stands) in (
       c.loop-done.done,
       record {
@@ -26,10 +26,10 @@ pub loop-done-preserved : goal.loop-done-preserved
 loop-done-preserved c =
     let t = c.args.topology.now in
     let s = one_list (net_of t) c.loop-done.done in
-    let more = subst (λ b. Advanced (λ e. from_sorted e.entries) t c.earlier-before.result s c.loop-done.part c.advance.new.self (Ok b)) c.if-not-branch.false
+    let more = subst (λ b. Advanced pending_of t c.earlier-before.result s c.loop-done.part c.advance.new.self (Ok b)) c.if-not-branch.false
     (c.in_ok-advance.ensures.advance s c.loop-done.invariant.0) in
     let next : suc c.loop-done.done ≡ c.loop-done.done + 1 = omega arith in (
-      subst (λ n. Stands (λ e. from_sorted e.entries) t c.advance.new.self (one_list (net_of t) n)) next more.0,
+      subst (λ n. Stands pending_of t c.advance.new.self (one_list (net_of t) n)) next more.0,
       λ m h. ⊎_elim
           (λ l. c.loop-done.invariant.1 m l)
           (λ g. let same : c.loop-done.done ≡ m = omega (arith, g, h) in subst (λ k. pends_before c.earlier-before.result (one_list (net_of t) k) ≡ true) same more.1)
