@@ -1,4 +1,4 @@
--- Completions and deliveries together are a finite map.
+-- Queues of events, one after another, are a finite map.
 use Rattle.std.proofs.Common.{◌≡◌, ◌⊎◌, inl, inr, ℕ, ◌+◌, ◌-◌, ◌≤◌, Bool, true, false, cond, List, [], ◌∷◌, ◌++◌, map, length, Option, Some, None, refl, sym, ap, ◌∙◌, arith, ◌&&◌, true≢false, subst}
 use Rattle.std.specs.Bool.{⊤}
 use Rattle.std.proofs.Common.{Ordering, Less, Equal, Greater}
@@ -12,7 +12,9 @@ use Rattle.nm_base.specs.declared.event.Event.TheVariants.{Completion, Delivery}
 use Rattle.nm_base.specs.declared.key.Key.{Key}
 use Rattle.nm_base.specs.Key.{key_cmp, key_cmp_total, key_cmp-IsAntisymmetric}
 use Rattle.nm_model.specs.EventList.{first_of_list, least}
-use Rattle.nm_events.specs.Held.{Holds, events_of, is_first}
+use Rattle.nm_events.specs.Held.{Holds, events_of, first_key, is_before, kind_of}
+use Rattle.nm_events.specs.declared.sorted_list.Kind.{Kind}
+use Rattle.nm_events.specs.declared.sorted_list.Kind.TheVariants as kind
 use Rattle.nm_events.proofs.Queued.{truth, first, second, less, equal, greater, below_later, sorted_after}
 
 some_none : {A : Type 0} (a : A) → Some a ≡ None → ⊥
@@ -113,229 +115,420 @@ module _ {K A B : Type 0} {R : K → K → Ordering} (o : IsTotalOrder R) where
       go (inl h) = absurd (found_first o c cs h)
       go (inr h) = h
 
-module _ {K A B E : Type 0} {R : K → K → Ordering} (o : IsTotalOrder R) (f : A → E) (g : B → E) where
-  -- both lists as one
-  abbrev both : List (K × A) → List (K × B) → List (K × E)
-  both cs ds = map (λ e. (e.0, f e.1)) cs ++ map (λ e. (e.0, g e.1)) ds
+abbrev or_else : {E : Type 0} → Option E → Option E → Option E
+or_else (Some x) r = Some x
+or_else None r = r
 
-  abbrev together : List (K × A) → List (K × B) → FinMap R E
-  together cs ds = from_entries (both cs ds)
+-- the values of a queue, as those of all
+abbrev pub run : {K X E : Type 0} → (X → E) → List (K × X) → List (K × E)
+run f es = map (λ e. (e.0, f e.1)) es
 
-  abbrev found : Option A → Option B → Option E
-  found (Some a) b = Some (f a)
-  found None b = option_map g b
-
-  find_both : (q : K) (cs : List (K × A)) (ds : List (K × B)) → find R q (both cs ds) ≡ found (find R q cs) (find R q ds)
-  find_both q [] [] = refl
-  find_both q [] (d ∷ ds) =
-      elim (eq_by_cmp R q d.0) as (λ b. cond b (Some (g d.1)) (find R q (both [] ds)) ≡ option_map g (cond b (Some d.1) (find R q ds))) [
+module _ {K E : Type 0} (R : K → K → Ordering) where
+  find_append : (q : K) (us vs : List (K × E)) → find R q (us ++ vs) ≡ or_else (find R q us) (find R q vs)
+  find_append q [] vs = refl
+  find_append q (u ∷ us) vs =
+      elim (eq_by_cmp R q u.0) as (λ b. cond b (Some u.1) (find R q (us ++ vs)) ≡ or_else (cond b (Some u.1) (find R q us)) (find R q vs)) [
         | true ↦ refl
-        | false ↦ find_both q [] ds
-      ]
-  find_both q (c ∷ cs) ds =
-      elim (eq_by_cmp R q c.0) as (λ b. cond b (Some (f c.1)) (find R q (both cs ds)) ≡ found (cond b (Some c.1) (find R q cs)) (find R q ds)) [
-        | true ↦ refl
-        | false ↦ find_both q cs ds
+        | false ↦ find_append q us vs
       ]
 
-  get_together : (q : K) (cs : List (K × A)) (ds : List (K × B)) → get (together cs ds) q ≡ found (find R q cs) (find R q ds)
-  get_together q cs ds = get-from_entries o (both cs ds) q ∙ find_both q cs ds
+  none_append : (q : K) (us vs : List (K × E)) → find R q us ≡ None → find R q vs ≡ None → find R q (us ++ vs) ≡ None
+  none_append q us vs a b = find_append q us vs ∙ ap (λ r. or_else r (find R q vs)) a ∙ b
 
-  found_none : (a : Option A) (b : Option B) → found a b ≡ None → (a ≡ None) × (b ≡ None)
-  found_none (Some a) b e = absurd (some_none (f a) e)
-  found_none None (Some b) e = absurd (some_none (g b) e)
-  found_none None None e = (refl, refl)
+  below_append : (k : K) (us vs : List (K × E)) → below_all R k us ≡ true → below_all R k vs ≡ true → below_all R k (us ++ vs) ≡ true
+  below_append k [] vs h i = i
+  below_append k (u ∷ us) vs h i = ap (λ b. b && below_all R k (us ++ vs)) (first _ _ h) ∙ below_append k us vs (second _ _ h) i
 
-  -- a key without an entry is in neither list
-  pub in_neither : (k : K) (cs : List (K × A)) (ds : List (K × B)) → get (together cs ds) k ≡ None → (find R k cs ≡ None) × (find R k ds ≡ None)
-  in_neither k cs ds none = found_none _ _ (sym (get_together k cs ds) ∙ none)
+module _ {K X E : Type 0} (R : K → K → Ordering) (f : X → E) where
+  find_run : (q : K) (es : List (K × X)) → find R q (run f es) ≡ option_map f (find R q es)
+  find_run q [] = refl
+  find_run q (e ∷ es) =
+      elim (eq_by_cmp R q e.0) as (λ b. cond b (Some (f e.1)) (find R q (run f es)) ≡ option_map f (cond b (Some e.1) (find R q es))) [
+        | true ↦ refl
+        | false ↦ find_run q es
+      ]
 
-  pub put_one : IsAntisymmetric R → (k : K) (a : A) (cs : List (K × A)) (ds : List (K × B)) → together (put R k a cs) ds ≡ insert (together cs ds) k (f a)
-  put_one same k a cs ds = same_map o same _ _ (λ q. get_together q (put R k a cs) ds
-      ∙ ap (λ r. found r (find R q ds)) (find-put R o q k a cs)
-      ∙ go q (eq_by_cmp R q k)
-      ∙ sym (get-insert o (together cs ds) k (f a) q ∙ ap (cond (eq_by_cmp R q k) (Some (f a))) (get_together q cs ds)))
-    where
-      go : (q : K) (b : Bool) → found (cond b (Some a) (find R q cs)) (find R q ds) ≡ cond b (Some (f a)) (found (find R q cs) (find R q ds))
-      go q true = refl
-      go q false = refl
+  none_run : (q : K) (es : List (K × X)) → find R q es ≡ None → find R q (run f es) ≡ None
+  none_run q es none = find_run q es ∙ ap (option_map f) none
 
-  pub put_other : IsAntisymmetric R → (k : K) (b : B) (cs : List (K × A)) (ds : List (K × B)) → find R k cs ≡ None → together cs (put R k b ds) ≡ insert (together cs ds) k (g b)
-  put_other same k b cs ds none = same_map o same _ _ (λ q. get_together q cs (put R k b ds)
-      ∙ ap (found (find R q cs)) (find-put R o q k b ds)
+  below_run : (k : K) (es : List (K × X)) → below_all R k es ≡ true → below_all R k (run f es) ≡ true
+  below_run k [] h = refl
+  below_run k (e ∷ es) h = ap (λ b. b && below_all R k (run f es)) (first _ _ h) ∙ below_run k es (second _ _ h)
+
+-- a queue between others
+module _ {K X E : Type 0} {R : K → K → Ordering} (o : IsTotalOrder R) (same : IsAntisymmetric R) (f : X → E) (us vs : List (K × E)) where
+  abbrev among : List (K × X) → FinMap R E
+  among es = from_entries (us ++ (run f es ++ vs))
+
+  get_among : (q : K) (es : List (K × X)) → get (among es) q ≡ or_else (find R q us) (or_else (option_map f (find R q es)) (find R q vs))
+  get_among q es = get-from_entries o (us ++ (run f es ++ vs)) q ∙ find_append R q us (run f es ++ vs)
+      ∙ ap (or_else (find R q us)) (find_append R q (run f es) vs ∙ ap (λ r. or_else r (find R q vs)) (find_run R f q es))
+
+  -- what is put into the queue is put into all
+  pub put_among : (k : K) (x : X) (es : List (K × X)) → find R k us ≡ None → among (put R k x es) ≡ insert (among es) k (f x)
+  put_among k x es none = same_map o same _ _ (λ q. get_among q (put R k x es)
+      ∙ ap (λ r. or_else (find R q us) (or_else (option_map f r) (find R q vs))) (find-put R o q k x es)
       ∙ go q (eq_by_cmp R q k) refl
-      ∙ sym (get-insert o (together cs ds) k (g b) q ∙ ap (cond (eq_by_cmp R q k) (Some (g b))) (get_together q cs ds)))
+      ∙ sym (get-insert o (among es) k (f x) q ∙ ap (cond (eq_by_cmp R q k) (Some (f x))) (get_among q es)))
     where
-      go : (q : K) (t : Bool) → eq_by_cmp R q k ≡ t → found (find R q cs) (cond t (Some b) (find R q ds)) ≡ cond t (Some (g b)) (found (find R q cs) (find R q ds))
-      go q true e = ap (λ r. found r (Some b)) (sym (find_tied R o q k (equal (R q k) e) cs) ∙ none)
+      go : (q : K) (t : Bool) → eq_by_cmp R q k ≡ t → or_else (find R q us) (or_else (option_map f (cond t (Some x) (find R q es))) (find R q vs))
+          ≡ cond t (Some (f x)) (or_else (find R q us) (or_else (option_map f (find R q es)) (find R q vs)))
+      go q true e = ap (λ r. or_else r (Some (f x))) (sym (find_tied R o q k (equal (R q k) e) us) ∙ none)
       go q false e = refl
 
-  below_both : (k : K) (cs : List (K × A)) (ds : List (K × B)) → below_all R k cs ≡ true → below_all R k ds ≡ true → below_all R k (both cs ds) ≡ true
-  below_both k [] [] h i = refl
-  below_both k [] (d ∷ ds) h i = ap (λ b. b && below_all R k (both [] ds)) (first _ _ i) ∙ below_both k [] ds refl (second _ _ i)
-  below_both k (c ∷ cs) ds h i = ap (λ b. b && below_all R k (both cs ds)) (first _ _ h) ∙ below_both k cs ds (second _ _ h) i
+  module _ (e : K × X) (es : List (K × X)) (sorted : is_sorted R (e ∷ es) ≡ true) (before_us : below_all R e.0 us ≡ true) (before_vs : below_all R e.0 vs ≡ true) where
+    among_put : among (e ∷ es) ≡ insert (among es) e.0 (f e.1)
+    among_put = ap among (sym (put_first o e.0 e.1 es (first _ _ sorted))) ∙ put_among e.0 e.1 es (none_below o e.0 us before_us)
 
-  below_together : (k : K) (cs : List (K × A)) (ds : List (K × B)) → below_all R k cs ≡ true → below_all R k ds ≡ true → below_all R k (entries (together cs ds)) ≡ true
-  below_together k cs ds h i = below_entries o k (both cs ds) (below_both k cs ds h i)
+    before_all : below_all R e.0 (entries (among es)) ≡ true
+    before_all = below_entries o e.0 (us ++ (run f es ++ vs)) (below_append R e.0 us (run f es ++ vs) before_us (below_append R e.0 (run f es) vs (below_run R f e.0 es (first _ _ sorted)) before_vs))
 
-  -- where the first of the one list comes before the other list, it is the first of both
-  pub first_one : (c : K × A) (cs : List (K × A)) (ds : List (K × B)) → is_sorted R (c ∷ cs) ≡ true → below_all R c.0 ds ≡ true
-      → first_of_list (entries (together (c ∷ cs) ds)) ≡ Some (c.0, f c.1)
-  first_one c cs ds h i = first_put o (together cs ds) c.0 (f c.1) (below_together c.0 cs ds (first _ _ h) i)
+    -- where the first of the queue comes before the other queues, it is the first of all
+    pub first_among : first_of_list (entries (among (e ∷ es))) ≡ Some (e.0, f e.1)
+    first_among = ap (λ m. first_of_list (entries m)) among_put ∙ first_put o (among es) e.0 (f e.1) before_all
 
-  pub rest_one : IsAntisymmetric R → (c : K × A) (cs : List (K × A)) (ds : List (K × B)) → is_sorted R (c ∷ cs) ≡ true → below_all R c.0 ds ≡ true
-      → together cs ds ≡ remove (together (c ∷ cs) ds) c.0
-  rest_one same c cs ds h i = put_taken o same (together cs ds) c.0 (f c.1) (below_together c.0 cs ds (first _ _ h) i)
+    -- and to take it out leaves the others
+    pub rest_among : among es ≡ remove (among (e ∷ es)) e.0
+    rest_among = put_taken o same (among es) e.0 (f e.1) before_all ∙ ap (λ m. remove m e.0) (sym among_put)
 
-  other_put : IsAntisymmetric R → (d : K × B) (cs : List (K × A)) (ds : List (K × B)) → is_sorted R (d ∷ ds) ≡ true → below_all R d.0 cs ≡ true
-      → together cs (d ∷ ds) ≡ insert (together cs ds) d.0 (g d.1)
-  other_put same d cs ds h i = ap (together cs) (sym (put_first o d.0 d.1 ds (first _ _ h))) ∙ put_other same d.0 d.1 cs ds (none_below o d.0 cs i)
+-- how many there are
+pub count_runs : {K X E : Type 0} {R : K → K → Ordering} (o : IsTotalOrder R) (f : X → E) (es : List (K × X)) (vs : List (K × E)) → is_sorted R es ≡ true → Apart R es vs
+    → len (from_entries {R = R} (run f es ++ vs)) ≡ length es + len (from_entries {R = R} vs)
+count_runs o f [] vs h apart = omega arith
+count_runs {R = R} o f (e ∷ es) vs h apart =
+    len_put o (from_entries (run f es ++ vs)) e.0 (f e.1)
+    (get-from_entries o (run f es ++ vs) e.0 ∙ none_append R e.0 (run f es) vs (none_run R f e.0 es (none_below o e.0 es (first _ _ h))) (not_in_other o e es vs apart))
+    ∙ ap (λ n. n + 1) (count_runs o f es vs (second _ _ h) (apart_rest o e es vs apart)) ∙ omega arith
 
-  pub first_other : IsAntisymmetric R → (d : K × B) (cs : List (K × A)) (ds : List (K × B)) → is_sorted R (d ∷ ds) ≡ true → below_all R d.0 cs ≡ true
-      → first_of_list (entries (together cs (d ∷ ds))) ≡ Some (d.0, g d.1)
-  first_other same d cs ds h i = ap (λ m. first_of_list (entries m)) (other_put same d cs ds h i)
-      ∙ first_put o (together cs ds) d.0 (g d.1) (below_together d.0 cs ds i (first _ _ h))
+append_assoc : {A : Type 0} (xs ys zs : List A) → (xs ++ ys) ++ zs ≡ xs ++ (ys ++ zs)
+append_assoc [] ys zs = refl
+append_assoc (x ∷ xs) ys zs = ap (λ l. x ∷ l) (append_assoc xs ys zs)
 
-  pub rest_other : IsAntisymmetric R → (d : K × B) (cs : List (K × A)) (ds : List (K × B)) → is_sorted R (d ∷ ds) ≡ true → below_all R d.0 cs ≡ true
-      → together cs ds ≡ remove (together cs (d ∷ ds)) d.0
-  rest_other same d cs ds h i = put_taken o same (together cs ds) d.0 (g d.1) (below_together d.0 cs ds i (first _ _ h))
-      ∙ ap (λ m. remove m d.0) (sym (other_put same d cs ds h i))
+append_nil : {A : Type 0} (xs : List A) → xs ++ [] ≡ xs
+append_nil [] = refl
+append_nil (x ∷ xs) = ap (λ l. x ∷ l) (append_nil xs)
 
-  pub len_together : (cs : List (K × A)) (ds : List (K × B)) → is_sorted R cs ≡ true → is_sorted R ds ≡ true → Apart R cs ds → len (together cs ds) ≡ length cs + length ds
-  len_together [] [] h i apart = len-empty R E
-  len_together [] (d ∷ ds) h i apart =
-      len_put o (together [] ds) d.0 (g d.1) (get_together d.0 [] ds ∙ ap (option_map g) (none_below o d.0 ds (first _ _ i)))
-      ∙ ap (λ n. n + 1) (len_together [] ds refl (second _ _ i) (λ q. inl refl)) ∙ omega arith
-  len_together (c ∷ cs) ds h i apart =
-      len_put o (together cs ds) c.0 (f c.1) (get_together c.0 cs ds ∙ ap (λ r. found r (find R c.0 ds)) (none_below o c.0 cs (first _ _ h))
-      ∙ ap (option_map g) (not_in_other o c cs ds apart))
-      ∙ ap (λ n. n + 1) (len_together cs ds (second _ _ h) i (apart_rest o c cs ds apart)) ∙ omega arith
+-- the last of three queues stands between the first two and nothing
+last_of : {A : Type 0} (xs ys zs : List A) → xs ++ (ys ++ zs) ≡ (xs ++ ys) ++ (zs ++ [])
+last_of xs ys zs = ap (λ l. xs ++ (ys ++ l)) (sym (append_nil zs)) ∙ sym (append_assoc xs ys (zs ++ []))
 
--- a completion that is first comes before every delivery
-before_deliveries : {A B : Type 0} (c : Key × A) (ds : List (Key × B)) → is_sorted key_cmp ds ≡ true → is_first (Some c) (first_of_list ds) ≡ true
-    → below_all key_cmp c.0 ds ≡ true
-before_deliveries c [] h e = refl
-before_deliveries c (d ∷ ds) h e =
-    ap (λ b. b && below_all key_cmp c.0 ds) e ∙ below_later key_cmp_total c.0 d.0 ds (less (key_cmp c.0 d.0) e) (first _ _ h)
+abbrev completed : ⊤ → Event (List ℕ)
+completed u = Completion
 
--- a delivery that is first comes before every completion
-before_completions : {A B : Type 0} (d : Key × B) (cs : List (Key × A)) (ds : List (Key × B)) → is_sorted key_cmp cs ≡ true → Apart key_cmp cs (d ∷ ds)
-    → is_first (first_of_list cs) (Some d) ≡ false → below_all key_cmp d.0 cs ≡ true
-before_completions d [] ds h apart e = refl
-before_completions d (c ∷ cs) ds h apart e =
-    let g = greater (key_cmp c.0 d.0) e (unequal (eq_by_cmp key_cmp c.0 d.0) (not_in_other key_cmp_total c cs (d ∷ ds) apart)) in
-    let l = key_cmp_total.antisymm d.0 c.0 ∙ ap ordering_reverse g in
-    ap (λ r. is_lt r && below_all key_cmp d.0 cs) l ∙ below_later key_cmp_total d.0 c.0 cs l (first _ _ h)
+abbrev delivered : List ℕ → Event (List ℕ)
+delivered p = Delivery p
+
+abbrev pub all_of : List (Key × ⊤) → List (Key × List ℕ) → List (Key × List ℕ) → FinMap key_cmp (Event (List ℕ))
+all_of cs xs ys = from_entries (events_of cs xs ys)
+
+-- the places of the three kinds
+module _ (cs : List (Key × ⊤)) (xs ys : List (Key × List ℕ)) where
+  abbrev beside_completions : List (Key × Event (List ℕ))
+  beside_completions = run delivered xs ++ run delivered ys
+
+  abbrev before_sources : List (Key × Event (List ℕ))
+  before_sources = run completed cs ++ run delivered xs
+
+  as_completions : all_of cs xs ys ≡ among key_cmp_total key_cmp-IsAntisymmetric completed [] beside_completions cs
+  as_completions = refl
+
+  as_arrivals : all_of cs xs ys ≡ among key_cmp_total key_cmp-IsAntisymmetric delivered (run completed cs) (run delivered ys) xs
+  as_arrivals = refl
+
+  as_sources : all_of cs xs ys ≡ among key_cmp_total key_cmp-IsAntisymmetric delivered before_sources [] ys
+  as_sources = ap (λ l. from_entries l) (last_of (run completed cs) (run delivered xs) (run delivered ys))
+
+either : {P Q S : Type 0} → P ⊎ Q → P ⊎ S → P ⊎ (Q × S)
+either (inl p) s = inl p
+either (inr q) (inl p) = inl p
+either (inr q) (inr s) = inr (q, s)
+
+pub count_all : (cs : List (Key × ⊤)) (xs ys : List (Key × List ℕ)) (n : ℕ) → Holds cs xs ys n → len (all_of cs xs ys) ≡ length cs + length xs + length ys
+count_all cs xs ys n h =
+    let last : len (from_entries {R = key_cmp} (run delivered ys)) ≡ length ys
+    = ap (λ l. len (from_entries {R = key_cmp} l)) (sym (append_nil (run delivered ys)))
+    ∙ count_runs key_cmp_total delivered ys [] h.sources (λ q. inr refl) ∙ ap (λ n. length ys + n) (len-empty key_cmp (Event (List ℕ))) ∙ omega arith in
+    let rest = count_runs key_cmp_total delivered xs (run delivered ys) h.arrivals (λ q. right q (h.apart_deliveries q)) in
+    let all = count_runs key_cmp_total completed cs (run delivered xs ++ run delivered ys) h.completions (λ q. both q (either (h.apart_arrivals q) (h.apart_sources q))) in
+    all ∙ ap (λ n. length cs + n) (rest ∙ ap (λ n. length xs + n) last) ∙ omega arith
   where
-    unequal : (b : Bool) → cond b (Some d.1) (find key_cmp c.0 ds) ≡ None → b ≡ false
+    right : (q : Key) → (find key_cmp q xs ≡ None) ⊎ (find key_cmp q ys ≡ None) → (find key_cmp q xs ≡ None) ⊎ (find key_cmp q (run delivered ys) ≡ None)
+    right q (inl a) = inl a
+    right q (inr b) = inr (none_run key_cmp delivered q ys b)
+
+    both : (q : Key) → (find key_cmp q cs ≡ None) ⊎ ((find key_cmp q xs ≡ None) × (find key_cmp q ys ≡ None))
+        → (find key_cmp q cs ≡ None) ⊎ (find key_cmp q (run delivered xs ++ run delivered ys) ≡ None)
+    both q (inl a) = inl a
+    both q (inr b) = inr (none_append key_cmp q (run delivered xs) (run delivered ys) (none_run key_cmp delivered q xs b.0) (none_run key_cmp delivered q ys b.1))
+
+-- a key that comes before the first of a queue comes before all of it
+before_queue : {A : Type 0} (a : Key) (es : List (Key × A)) → is_sorted key_cmp es ≡ true → is_before (Some a) (first_key es) ≡ true → below_all key_cmp a es ≡ true
+before_queue a [] h e = refl
+before_queue a (x ∷ es) h e = ap (λ b. b && below_all key_cmp a es) e ∙ below_later key_cmp_total a x.0 es (less (key_cmp a x.0) e) (first _ _ h)
+
+-- and so does one that its first doesn't come before, where the two aren't the same
+behind_queue : {A B : Type 0} (d : Key × B) (ds : List (Key × B)) (es : List (Key × A)) → is_sorted key_cmp es ≡ true → Apart key_cmp es (d ∷ ds)
+    → is_before (first_key es) (Some d.0) ≡ false → below_all key_cmp d.0 es ≡ true
+behind_queue d ds [] h apart e = refl
+behind_queue d ds (x ∷ es) h apart e =
+    let g = greater (key_cmp x.0 d.0) e (unequal (eq_by_cmp key_cmp x.0 d.0) (not_in_other key_cmp_total x es (d ∷ ds) apart)) in
+    let l = key_cmp_total.antisymm d.0 x.0 ∙ ap ordering_reverse g in
+    ap (λ r. is_lt r && below_all key_cmp d.0 es) l ∙ below_later key_cmp_total d.0 x.0 es l (first _ _ h)
+  where
+    unequal : (b : Bool) → cond b (Some d.1) (find key_cmp x.0 ds) ≡ None → b ≡ false
     unequal true n = absurd (some_none d.1 n)
     unequal false n = refl
 
-abbrev pub all_of : List (Key × ⊤) → List (Key × List ℕ) → FinMap key_cmp (Event (List ℕ))
-all_of cs ds = from_entries (events_of cs ds)
+-- what the kind of the least event says
+completion_is : (c x y : Option Key) → kind_of c x y ≡ kind.Completion → is_before c (cond (is_before x y) x y) ≡ true
+completion_is c x y = go (is_before c (cond (is_before x y) x y)) (is_before x y)
+  where
+    go : (a b : Bool) → cond a kind.Completion (cond b kind.Arrival kind.Source) ≡ kind.Completion → a ≡ true
+    go true b e = refl
+    go false true e = absurd cc
+    go false false e = absurd cc
 
-completion_first : (c : Key × ⊤) (cs : List (Key × ⊤)) (ds : List (Key × List ℕ)) (n : ℕ) → Holds (c ∷ cs) ds n → is_first (Some c) (first_of_list ds) ≡ true
-    → (Some (c.0, Completion) ≡ least (all_of (c ∷ cs) ds)) × (all_of cs ds ≡ remove (all_of (c ∷ cs) ds) c.0)
+arrival_is : (c x y : Option Key) → kind_of c x y ≡ kind.Arrival → (is_before x y ≡ true) × (is_before c x ≡ false)
+arrival_is c x y = go (is_before x y)
+  where
+    not_first : (a : Bool) → cond a kind.Completion kind.Arrival ≡ kind.Arrival → a ≡ false
+    not_first true e = absurd cc
+    not_first false e = refl
+
+    never : (a : Bool) → cond a kind.Completion kind.Source ≡ kind.Arrival → ⊥
+    never true e = absurd cc
+    never false e = absurd cc
+
+    go : (b : Bool) → cond (is_before c (cond b x y)) kind.Completion (cond b kind.Arrival kind.Source) ≡ kind.Arrival → (b ≡ true) × (is_before c x ≡ false)
+    go true e = (refl, not_first (is_before c x) e)
+    go false e = absurd (never (is_before c y) e)
+
+source_is : (c x y : Option Key) → kind_of c x y ≡ kind.Source → (is_before x y ≡ false) × (is_before c y ≡ false)
+source_is c x y = go (is_before x y)
+  where
+    not_first : (a : Bool) → cond a kind.Completion kind.Source ≡ kind.Source → a ≡ false
+    not_first true e = absurd cc
+    not_first false e = refl
+
+    never : (a : Bool) → cond a kind.Completion kind.Arrival ≡ kind.Source → ⊥
+    never true e = absurd cc
+    never false e = absurd cc
+
+    go : (b : Bool) → cond (is_before c (cond b x y)) kind.Completion (cond b kind.Arrival kind.Source) ≡ kind.Source → (b ≡ false) × (is_before c y ≡ false)
+    go true e = absurd (never (is_before c x) e)
+    go false e = (refl, not_first (is_before c y) e)
+
+-- a completion that is the least comes before the other queues
+completion_before : (c : Key) (xs ys : List (Key × List ℕ)) → is_sorted key_cmp xs ≡ true → is_sorted key_cmp ys ≡ true → Apart key_cmp xs ys
+    → is_before (Some c) (cond (is_before (first_key xs) (first_key ys)) (first_key xs) (first_key ys)) ≡ true
+    → (below_all key_cmp c xs ≡ true) × (below_all key_cmp c ys ≡ true)
+completion_before c [] ys h i apart e = (refl, before_queue c ys i e)
+completion_before c (x ∷ xs) ys h i apart e = go (is_before (Some x.0) (first_key ys)) refl e
+  where
+    behind : (ys : List (Key × List ℕ)) → is_sorted key_cmp ys ≡ true → Apart key_cmp (x ∷ xs) ys → is_before (Some x.0) (first_key ys) ≡ false
+        → is_before (Some c) (first_key ys) ≡ true → below_all key_cmp c (x ∷ xs) ≡ true
+    behind [] i apart f e = absurd (true≢false f)
+    behind (y ∷ ys) i apart f e =
+        below_later key_cmp_total c y.0 (x ∷ xs) (less (key_cmp c y.0) e) (behind_queue y ys (x ∷ xs) h apart f)
+
+    go : (b : Bool) → is_before (Some x.0) (first_key ys) ≡ b → is_before (Some c) (cond b (Some x.0) (first_key ys)) ≡ true
+        → (below_all key_cmp c (x ∷ xs) ≡ true) × (below_all key_cmp c ys ≡ true)
+    go true f e = (before_queue c (x ∷ xs) h e, below_later key_cmp_total c x.0 ys (less (key_cmp c x.0) e) (before_queue x.0 ys i f))
+    go false f e = (behind ys i apart f e, before_queue c ys i e)
+
+-- the completion that is taken is the least event, and the others are left
+completion_first : (c : Key × ⊤) (cs : List (Key × ⊤)) (xs ys : List (Key × List ℕ)) (n : ℕ) → Holds (c ∷ cs) xs ys n
+    → kind_of (Some c.0) (first_key xs) (first_key ys) ≡ kind.Completion
+    → (Some (c.0, Completion) ≡ least (all_of (c ∷ cs) xs ys)) × (all_of cs xs ys ≡ remove (all_of (c ∷ cs) xs ys) c.0)
 unfolding least
-completion_first c cs ds n h e =
-    let before = before_deliveries c ds h.deliveries e in (
-      sym (first_one key_cmp_total (λ a. Completion) (λ b. Delivery b) c cs ds h.completions before),
-      rest_one key_cmp_total (λ a. Completion) (λ b. Delivery b) key_cmp-IsAntisymmetric c cs ds h.completions before,
+completion_first c cs xs ys n h e =
+    let before = completion_before c.0 xs ys h.arrivals h.sources h.apart_deliveries (completion_is (Some c.0) (first_key xs) (first_key ys) e) in
+    let others = below_append key_cmp c.0 (run delivered xs) (run delivered ys) (below_run key_cmp delivered c.0 xs before.0) (below_run key_cmp delivered c.0 ys before.1) in (
+      sym (first_among key_cmp_total key_cmp-IsAntisymmetric completed [] (beside_completions cs xs ys) c cs h.completions refl others),
+      rest_among key_cmp_total key_cmp-IsAntisymmetric completed [] (beside_completions cs xs ys) c cs h.completions refl others,
     )
 
-delivery_first : (d : Key × List ℕ) (cs : List (Key × ⊤)) (ds : List (Key × List ℕ)) (n : ℕ) → Holds cs (d ∷ ds) n → is_first (first_of_list cs) (Some d) ≡ false
-    → (Some (d.0, Delivery d.1) ≡ least (all_of cs (d ∷ ds))) × (all_of cs ds ≡ remove (all_of cs (d ∷ ds)) d.0)
+arrival_first : (x : Key × List ℕ) (cs : List (Key × ⊤)) (xs ys : List (Key × List ℕ)) (n : ℕ) → Holds cs (x ∷ xs) ys n
+    → kind_of (first_key cs) (Some x.0) (first_key ys) ≡ kind.Arrival
+    → (Some (x.0, Delivery x.1) ≡ least (all_of cs (x ∷ xs) ys)) × (all_of cs xs ys ≡ remove (all_of cs (x ∷ xs) ys) x.0)
 unfolding least
-delivery_first d cs ds n h e =
-    let before = before_completions d cs ds h.completions h.apart e in (
-      sym (first_other key_cmp_total (λ a. Completion) (λ b. Delivery b) key_cmp-IsAntisymmetric d cs ds h.deliveries before),
-      rest_other key_cmp_total (λ a. Completion) (λ b. Delivery b) key_cmp-IsAntisymmetric d cs ds h.deliveries before,
+arrival_first x cs xs ys n h e =
+    let is = arrival_is (first_key cs) (Some x.0) (first_key ys) e in
+    let before = below_run key_cmp completed x.0 cs (behind_queue x xs cs h.completions h.apart_arrivals is.1) in
+    let behind = below_run key_cmp delivered x.0 ys (before_queue x.0 ys h.sources is.0) in (
+      sym (first_among key_cmp_total key_cmp-IsAntisymmetric delivered (run completed cs) (run delivered ys) x xs h.arrivals before behind),
+      rest_among key_cmp_total key_cmp-IsAntisymmetric delivered (run completed cs) (run delivered ys) x xs h.arrivals before behind,
     )
 
--- what is taken is the first of both, and the others are left
-pub completion_taken : (cs new : List (Key × ⊤)) (ds : List (Key × List ℕ)) (n : ℕ) (c : Key × ⊤) → Holds cs ds n → is_first (first_of_list cs) (first_of_list ds) ≡ true
-    → cs ≡ c ∷ new → (Some (c.0, Completion) ≡ least (all_of cs ds)) × (all_of new ds ≡ remove (all_of cs ds) c.0)
-completion_taken cs new ds n c h e is =
-    subst (λ l. (Some (c.0, Completion) ≡ least (all_of l ds)) × (all_of new ds ≡ remove (all_of l ds) c.0)) (sym is)
-    (completion_first c new ds n (subst (λ l. Holds l ds n) is h) (ap (λ l. is_first (first_of_list l) (first_of_list ds)) (sym is) ∙ e))
-
-pub delivery_taken : (cs : List (Key × ⊤)) (ds new : List (Key × List ℕ)) (n : ℕ) (d : Key × List ℕ) → Holds cs ds n → is_first (first_of_list cs) (first_of_list ds) ≡ false
-    → ds ≡ d ∷ new → (Some (d.0, Delivery d.1) ≡ least (all_of cs ds)) × (all_of cs new ≡ remove (all_of cs ds) d.0)
-delivery_taken cs ds new n d h e is =
-    subst (λ l. (Some (d.0, Delivery d.1) ≡ least (all_of cs l)) × (all_of cs new ≡ remove (all_of cs l) d.0)) (sym is)
-    (delivery_first d cs new n (subst (λ l. Holds cs l n) is h) (ap (λ l. is_first (first_of_list cs) (first_of_list l)) (sym is) ∙ e))
-
-none_first : (cs : List (Key × ⊤)) → is_first {Y = List ℕ} (first_of_list cs) None ≡ false → None ≡ least (all_of cs [])
+source_first : (y : Key × List ℕ) (cs : List (Key × ⊤)) (xs ys : List (Key × List ℕ)) (n : ℕ) → Holds cs xs (y ∷ ys) n
+    → kind_of (first_key cs) (first_key xs) (Some y.0) ≡ kind.Source
+    → (Some (y.0, Delivery y.1) ≡ least (all_of cs xs (y ∷ ys))) × (all_of cs xs ys ≡ remove (all_of cs xs (y ∷ ys)) y.0)
 unfolding least
-none_first [] e = sym (ap first_of_list (none_length (entries (empty {X = Event (List ℕ)} {R = key_cmp})) (sym (len-entries (empty {X = Event (List ℕ)} {R = key_cmp})) ∙ len-empty key_cmp (Event (List ℕ)))))
-none_first (c ∷ cs) e = absurd (true≢false e)
+source_first y cs xs ys n h e =
+    let is = source_is (first_key cs) (first_key xs) (Some y.0) e in
+    let before = below_append key_cmp y.0 (run completed cs) (run delivered xs)
+    (below_run key_cmp completed y.0 cs (behind_queue y ys cs h.completions h.apart_sources is.1))
+    (below_run key_cmp delivered y.0 xs (behind_queue y ys xs h.arrivals h.apart_deliveries is.0)) in (
+      sym (ap (λ m. first_of_list (entries m)) (as_sources cs xs (y ∷ ys))
+          ∙ first_among key_cmp_total key_cmp-IsAntisymmetric delivered (before_sources cs xs ys) [] y ys h.sources before refl),
+      as_sources cs xs ys ∙ rest_among key_cmp_total key_cmp-IsAntisymmetric delivered (before_sources cs xs ys) [] y ys h.sources before refl
+          ∙ ap (λ m. remove m y.0) (sym (as_sources cs xs (y ∷ ys))),
+    )
+
+none_first : (cs : List (Key × ⊤)) (xs : List (Key × List ℕ)) → kind_of (first_key cs) (first_key xs) None ≡ kind.Source → None ≡ least (all_of cs xs [])
+unfolding least
+none_first [] [] e =
+    sym (ap first_of_list (none_length (entries (empty {X = Event (List ℕ)} {R = key_cmp}))
+    (sym (len-entries (empty {X = Event (List ℕ)} {R = key_cmp})) ∙ len-empty key_cmp (Event (List ℕ)))))
+none_first (c ∷ cs) [] e = absurd cc
+none_first [] (x ∷ xs) e = absurd cc
+none_first (c ∷ cs) (x ∷ xs) e = absurd (true≢false (source_is (Some c.0) (Some x.0) None e).0)
+
+abbrev kind_in : List (Key × ⊤) → List (Key × List ℕ) → List (Key × List ℕ) → Kind
+kind_in cs xs ys = kind_of (first_key cs) (first_key xs) (first_key ys)
+
+pub completion_taken : (cs new : List (Key × ⊤)) (xs ys : List (Key × List ℕ)) (n : ℕ) (c : Key × ⊤) → Holds cs xs ys n → kind_in cs xs ys ≡ kind.Completion
+    → cs ≡ c ∷ new → (Some (c.0, Completion) ≡ least (all_of cs xs ys)) × (all_of new xs ys ≡ remove (all_of cs xs ys) c.0)
+completion_taken cs new xs ys n c h e is =
+    subst (λ l. (Some (c.0, Completion) ≡ least (all_of l xs ys)) × (all_of new xs ys ≡ remove (all_of l xs ys) c.0)) (sym is)
+    (completion_first c new xs ys n (subst (λ l. Holds l xs ys n) is h) (ap (λ l. kind_in l xs ys) (sym is) ∙ e))
+
+pub arrival_taken : (cs : List (Key × ⊤)) (xs new ys : List (Key × List ℕ)) (n : ℕ) (x : Key × List ℕ) → Holds cs xs ys n → kind_in cs xs ys ≡ kind.Arrival
+    → xs ≡ x ∷ new → (Some (x.0, Delivery x.1) ≡ least (all_of cs xs ys)) × (all_of cs new ys ≡ remove (all_of cs xs ys) x.0)
+arrival_taken cs xs new ys n x h e is =
+    subst (λ l. (Some (x.0, Delivery x.1) ≡ least (all_of cs l ys)) × (all_of cs new ys ≡ remove (all_of cs l ys) x.0)) (sym is)
+    (arrival_first x cs new ys n (subst (λ l. Holds cs l ys n) is h) (ap (λ l. kind_in cs l ys) (sym is) ∙ e))
+
+pub source_taken : (cs : List (Key × ⊤)) (xs ys new : List (Key × List ℕ)) (n : ℕ) (y : Key × List ℕ) → Holds cs xs ys n → kind_in cs xs ys ≡ kind.Source
+    → ys ≡ y ∷ new → (Some (y.0, Delivery y.1) ≡ least (all_of cs xs ys)) × (all_of cs xs new ≡ remove (all_of cs xs ys) y.0)
+source_taken cs xs ys new n y h e is =
+    subst (λ l. (Some (y.0, Delivery y.1) ≡ least (all_of cs xs l)) × (all_of cs xs new ≡ remove (all_of cs xs l) y.0)) (sym is)
+    (source_first y cs xs new n (subst (λ l. Holds cs xs l n) is h) (ap (λ l. kind_in cs xs l) (sym is) ∙ e))
 
 none_of : {A : Type 0} (es : List A) → None ≡ first_of_list es → es ≡ []
 none_of [] e = refl
 none_of (x ∷ es) e = absurd (some_none x (sym e))
 
-pub none_taken : (cs : List (Key × ⊤)) (ds : List (Key × List ℕ)) → is_first (first_of_list cs) (first_of_list ds) ≡ false → None ≡ first_of_list ds
-    → None ≡ least (all_of cs ds)
-none_taken cs ds e none =
-    subst (λ l. None ≡ least (all_of cs l)) (sym (none_of ds none)) (none_first cs (ap (is_first (first_of_list cs)) none ∙ e))
+pub none_taken : (cs : List (Key × ⊤)) (xs ys : List (Key × List ℕ)) → kind_in cs xs ys ≡ kind.Source → None ≡ first_of_list ys → None ≡ least (all_of cs xs ys)
+none_taken cs xs ys e none =
+    subst (λ l. None ≡ least (all_of cs xs l)) (sym (none_of ys none)) (none_first cs xs (ap (kind_of (first_key cs) (first_key xs)) (ap (option_map (λ e. e.0)) none) ∙ e))
+
+-- the least key
+pub least_completion : (cs : List (Key × ⊤)) (xs ys : List (Key × List ℕ)) (n : ℕ) → Holds cs xs ys n → kind_in cs xs ys ≡ kind.Completion
+    → first_key cs ≡ option_map (λ e. e.0) (least (all_of cs xs ys))
+unfolding least
+least_completion [] xs ys n h e = absurd (true≢false (sym (completion_is None (first_key xs) (first_key ys) e)))
+least_completion (c ∷ cs) xs ys n h e = ap (option_map (λ e. e.0)) (completion_first c cs xs ys n h e).0
+
+pub least_arrival : (cs : List (Key × ⊤)) (xs ys : List (Key × List ℕ)) (n : ℕ) → Holds cs xs ys n → kind_in cs xs ys ≡ kind.Arrival
+    → first_key xs ≡ option_map (λ e. e.0) (least (all_of cs xs ys))
+unfolding least
+least_arrival cs [] ys n h e = absurd (true≢false (sym (arrival_is (first_key cs) None (first_key ys) e).0))
+least_arrival cs (x ∷ xs) ys n h e = ap (option_map (λ e. e.0)) (arrival_first x cs xs ys n h e).0
+
+pub least_source : (cs : List (Key × ⊤)) (xs ys : List (Key × List ℕ)) (n : ℕ) → Holds cs xs ys n → kind_in cs xs ys ≡ kind.Source
+    → first_key ys ≡ option_map (λ e. e.0) (least (all_of cs xs ys))
+unfolding least
+least_source cs xs [] n h e = ap (option_map (λ e. e.0)) (none_first cs xs e)
+least_source cs xs (y ∷ ys) n h e = ap (option_map (λ e. e.0)) (source_first y cs xs ys n h e).0
+
+-- a key that is not pending is in no queue
+pub record IsFree (k : Key) (cs : List (Key × ⊤)) (xs ys : List (Key × List ℕ)) : Type 0 where
+  pub completions : find key_cmp k cs ≡ None
+  pub arrivals : find key_cmp k xs ≡ None
+  pub sources : find key_cmp k ys ≡ None
+
+none_left : {E : Type 0} (a b : Option E) → or_else a b ≡ None → (a ≡ None) × (b ≡ None)
+none_left (Some a) b e = absurd (some_none a e)
+none_left None b e = (refl, e)
+
+none_in_run : {K X E : Type 0} (R : K → K → Ordering) (f : X → E) (q : K) (es : List (K × X)) → find R q (run f es) ≡ None → find R q es ≡ None
+none_in_run {X = X} R f q es none = go (find R q es) (sym (find_run R f q es) ∙ none)
+  where
+    go : (r : Option X) → option_map f r ≡ None → r ≡ None
+    go None e = refl
+    go (Some x) e = absurd (some_none (f x) e)
+
+pub free : (k : Key) (cs : List (Key × ⊤)) (xs ys : List (Key × List ℕ)) → get (all_of cs xs ys) k ≡ None → IsFree k cs xs ys
+free k cs xs ys none =
+    let all = sym (get-from_entries key_cmp_total (events_of cs xs ys) k) ∙ none in
+    let one = none_left _ _ (sym (find_append key_cmp k (run completed cs) (run delivered xs ++ run delivered ys)) ∙ all) in
+    let two = none_left _ _ (sym (find_append key_cmp k (run delivered xs) (run delivered ys)) ∙ one.1) in
+    record {
+      completions = none_in_run key_cmp completed k cs one.0;
+      arrivals = none_in_run key_cmp delivered k xs two.0;
+      sources = none_in_run key_cmp delivered k ys two.1;
+    }
 
 length_put : {A : Type 0} (k : Key) (a : A) (es : List (Key × A)) → is_sorted key_cmp es ≡ true → find key_cmp k es ≡ None → length (put key_cmp k a es) ≡ length es + 1
 length_put k a es h none =
     length-put key_cmp key_cmp_total k a es (truth _ h) ∙ ap (λ r. cond (is_some r) (length es) (length es + 1)) none
 
-pub least_completion : (cs : List (Key × ⊤)) (ds : List (Key × List ℕ)) (n : ℕ) → Holds cs ds n → is_first (first_of_list cs) (first_of_list ds) ≡ true
-    → option_map (λ e. e.0) (first_of_list cs) ≡ option_map (λ e. e.0) (least (all_of cs ds))
-least_completion [] ds n h e = absurd (true≢false (sym e))
-least_completion (c ∷ cs) ds n h e = ap (option_map (λ e. e.0)) (completion_first c cs ds n h e).0
-
-pub least_delivery : (cs : List (Key × ⊤)) (ds : List (Key × List ℕ)) (n : ℕ) → Holds cs ds n → is_first (first_of_list cs) (first_of_list ds) ≡ false
-    → option_map (λ e. e.0) (first_of_list ds) ≡ option_map (λ e. e.0) (least (all_of cs ds))
-least_delivery cs [] n h e = ap (option_map (λ e. e.0)) (none_first cs e)
-least_delivery cs (d ∷ ds) n h e = ap (option_map (λ e. e.0)) (delivery_first d cs ds n h e).0
-
-pub count_all : (cs : List (Key × ⊤)) (ds : List (Key × List ℕ)) (n : ℕ) → Holds cs ds n → len (all_of cs ds) ≡ length cs + length ds
-count_all cs ds n h = len_together key_cmp_total (λ a. Completion) (λ b. Delivery b) cs ds h.completions h.deliveries h.apart
-
--- a key that is not pending is in neither list
-pub free : (k : Key) (cs : List (Key × ⊤)) (ds : List (Key × List ℕ)) → get (all_of cs ds) k ≡ None → (find key_cmp k cs ≡ None) × (find key_cmp k ds ≡ None)
-free k cs ds none = in_neither key_cmp_total (λ a. Completion) (λ b. Delivery b) k cs ds none
-
 -- what holds once an event was put
-pub record WasPut (cs : List (Key × ⊤)) (ds : List (Key × List ℕ)) (before_room capacity : ℕ) (before : FinMap key_cmp (Event (List ℕ))) (k : Key) (e : Event (List ℕ)) : Type 0 where
-  pub holds : Holds cs ds capacity
-  pub pending : all_of cs ds ≡ insert before k e
-  pub room : before_room ≤ capacity - (length cs + length ds) + 1
+pub record WasPut (cs : List (Key × ⊤)) (xs ys : List (Key × List ℕ)) (room_before capacity : ℕ) (before : FinMap key_cmp (Event (List ℕ))) (k : Key) (e : Event (List ℕ)) : Type 0 where
+  pub holds : Holds cs xs ys capacity
+  pub pending : all_of cs xs ys ≡ insert before k e
+  pub room : room_before ≤ capacity - (length cs + length xs + length ys) + 1
 
--- a completion is put
-pub completion_put : (k : Key) (cs new : List (Key × ⊤)) (ds : List (Key × List ℕ)) (n m : ℕ) → Holds cs ds n → get (all_of cs ds) k ≡ None
-    → 1 ≤ n - (length cs + length ds) → n ≤ m → new ≡ put key_cmp k tt cs → WasPut new ds (n - (length cs + length ds)) m (all_of cs ds) k Completion
-completion_put k cs new ds n m h none room more is =
-    let none_of = free k cs ds none in
-    let count = ap length is ∙ length_put k tt cs h.completions none_of.0 in
-    record {
-      holds = record {
-        completions = sorted_after key_cmp_total k tt cs new h.completions is;
-        deliveries = h.deliveries;
-        apart = subst (λ l. Apart key_cmp l ds) (sym is) (apart_put key_cmp_total k tt cs ds none_of.1 h.apart);
-        fits = omega (arith, count, room, more);
-      };
-      pending = ap (λ l. all_of l ds) is ∙ put_one key_cmp_total (λ a. Completion) (λ b. Delivery b) key_cmp-IsAntisymmetric k tt cs ds;
-      room = omega (arith, count, more);
-    }
+module _ (k : Key) (cs : List (Key × ⊤)) (xs ys : List (Key × List ℕ)) (n m : ℕ) (h : Holds cs xs ys n) (fresh : get (all_of cs xs ys) k ≡ None)
+    (room : 1 ≤ n - (length cs + length xs + length ys)) (more : n ≤ m) where
+  abbrev left : ℕ
+  left = n - (length cs + length xs + length ys)
 
--- a delivery is put
-pub delivery_put : (k : Key) (p : List ℕ) (cs : List (Key × ⊤)) (ds new : List (Key × List ℕ)) (n m : ℕ) → Holds cs ds n → get (all_of cs ds) k ≡ None
-    → 1 ≤ n - (length cs + length ds) → n ≤ m → new ≡ put key_cmp k p ds → WasPut cs new (n - (length cs + length ds)) m (all_of cs ds) k (Delivery p)
-delivery_put k p cs ds new n m h none room more is =
-    let none_of = free k cs ds none in
-    let count = ap length is ∙ length_put k p ds h.deliveries none_of.1 in
-    record {
-      holds = record {
-        completions = h.completions;
-        deliveries = sorted_after key_cmp_total k p ds new h.deliveries is;
-        apart = subst (λ l. Apart key_cmp cs l) (sym is) (λ q. swapped (apart_put key_cmp_total k p ds cs none_of.0 (λ j. swapped (h.apart j)) q));
-        fits = omega (arith, count, room, more);
-      };
-      pending = ap (λ l. all_of cs l) is ∙ put_other key_cmp_total (λ a. Completion) (λ b. Delivery b) key_cmp-IsAntisymmetric k p cs ds none_of.0;
-      room = omega (arith, count, more);
-    }
+  pub completion_put : (new : List (Key × ⊤)) → new ≡ put key_cmp k tt cs → WasPut new xs ys left m (all_of cs xs ys) k Completion
+  completion_put new is =
+      let f = free k cs xs ys fresh in
+      let count = ap length is ∙ length_put k tt cs h.completions f.completions in
+      record {
+        holds = record {
+          completions = sorted_after key_cmp_total k tt cs new h.completions is;
+          arrivals = h.arrivals;
+          sources = h.sources;
+          apart_arrivals = subst (λ l. Apart key_cmp l xs) (sym is) (apart_put key_cmp_total k tt cs xs f.arrivals h.apart_arrivals);
+          apart_sources = subst (λ l. Apart key_cmp l ys) (sym is) (apart_put key_cmp_total k tt cs ys f.sources h.apart_sources);
+          apart_deliveries = h.apart_deliveries;
+          fits = omega (arith, count, room, more);
+        };
+        pending = ap (λ l. all_of l xs ys) is ∙ put_among key_cmp_total key_cmp-IsAntisymmetric completed [] (beside_completions cs xs ys) k tt cs refl;
+        room = omega (arith, count, more);
+      }
+
+  pub arrival_put : (p : List ℕ) (new : List (Key × List ℕ)) → new ≡ put key_cmp k p xs → WasPut cs new ys left m (all_of cs xs ys) k (Delivery p)
+  arrival_put p new is =
+      let f = free k cs xs ys fresh in
+      let count = ap length is ∙ length_put k p xs h.arrivals f.arrivals in
+      record {
+        holds = record {
+          completions = h.completions;
+          arrivals = sorted_after key_cmp_total k p xs new h.arrivals is;
+          sources = h.sources;
+          apart_arrivals = subst (λ l. Apart key_cmp cs l) (sym is) (λ q. swapped (apart_put key_cmp_total k p xs cs f.completions (λ j. swapped (h.apart_arrivals j)) q));
+          apart_sources = h.apart_sources;
+          apart_deliveries = subst (λ l. Apart key_cmp l ys) (sym is) (apart_put key_cmp_total k p xs ys f.sources h.apart_deliveries);
+          fits = omega (arith, count, room, more);
+        };
+        pending = ap (λ l. all_of cs l ys) is
+            ∙ put_among key_cmp_total key_cmp-IsAntisymmetric delivered (run completed cs) (run delivered ys) k p xs (none_run key_cmp completed k cs f.completions);
+        room = omega (arith, count, more);
+      }
+
+  pub source_put : (p : List ℕ) (new : List (Key × List ℕ)) → new ≡ put key_cmp k p ys → WasPut cs xs new left m (all_of cs xs ys) k (Delivery p)
+  source_put p new is =
+      let f = free k cs xs ys fresh in
+      let count = ap length is ∙ length_put k p ys h.sources f.sources in
+      let none = none_append key_cmp k (run completed cs) (run delivered xs) (none_run key_cmp completed k cs f.completions) (none_run key_cmp delivered k xs f.arrivals) in
+      record {
+        holds = record {
+          completions = h.completions;
+          arrivals = h.arrivals;
+          sources = sorted_after key_cmp_total k p ys new h.sources is;
+          apart_arrivals = h.apart_arrivals;
+          apart_sources = subst (λ l. Apart key_cmp cs l) (sym is) (λ q. swapped (apart_put key_cmp_total k p ys cs f.completions (λ j. swapped (h.apart_sources j)) q));
+          apart_deliveries = subst (λ l. Apart key_cmp xs l) (sym is) (λ q. swapped (apart_put key_cmp_total k p ys xs f.arrivals (λ j. swapped (h.apart_deliveries j)) q));
+          fits = omega (arith, count, room, more);
+        };
+        pending = ap (λ l. all_of cs xs l) is ∙ as_sources cs xs (put key_cmp k p ys)
+            ∙ put_among key_cmp_total key_cmp-IsAntisymmetric delivered (before_sources cs xs ys) [] k p ys none
+            ∙ ap (λ m. insert m k (Delivery p)) (sym (as_sources cs xs ys));
+        room = omega (arith, count, more);
+      }

@@ -1,5 +1,6 @@
 -- What contracts see of a sorted event list.
-use Rattle.std.specs.Prelude.{◌≡◌, ◌⊎◌, ℕ, ◌+◌, ◌≤◌, length, Bool, true, false, List, ◌++◌, map, Option, Some, None, ⊤}
+use Rattle.std.specs.Prelude.{◌≡◌, ◌⊎◌, ℕ, ◌+◌, ◌≤◌, length, Bool, true, false, cond, List, ◌++◌, map, Option, Some, None, ⊤}
+use Rattle.std.specs.Option.{option_map}
 use Rattle.std.specs.FinMap.{FinMap, find, from_entries, is_sorted}
 use Rattle.std.specs.Ordering.{is_lt}
 use Rattle.nm_base.specs.declared.event.Event.{Event}
@@ -7,33 +8,50 @@ use Rattle.nm_base.specs.declared.event.Event.TheVariants.{Completion, Delivery}
 use Rattle.nm_base.specs.declared.key.Key.{Key}
 use Rattle.nm_base.specs.Key.{key_cmp}
 use Rattle.nm_model.specs.EventList.{first_of_list}
+use Rattle.nm_events.specs.declared.sorted_list.Kind.{Kind}
+use Rattle.nm_events.specs.declared.sorted_list.Kind.TheVariants as kind
 
--- the completions and the deliveries that are still to come, each in the order of their keys, and for how many more
--- events of either kind there is room
+-- the completions, the arrivals and the packets of sources that are still to come, each in the order of their keys, and
+-- for how many more events of any kind there is room
 pub record Held : Type 0 where
   pub completions : List (Key × ⊤)
-  pub deliveries : List (Key × List ℕ)
+  pub arrivals : List (Key × List ℕ)
+  pub sources : List (Key × List ℕ)
   pub room : ℕ
 
 -- the events by their keys
-abbrev pub events_of : List (Key × ⊤) → List (Key × List ℕ) → List (Key × Event (List ℕ))
-events_of cs ds = map (λ e. (e.0, Completion)) cs ++ map (λ e. (e.0, Delivery e.1)) ds
+abbrev pub events_of : List (Key × ⊤) → List (Key × List ℕ) → List (Key × List ℕ) → List (Key × Event (List ℕ))
+events_of cs xs ys = map (λ e. (e.0, Completion)) cs ++ (map (λ e. (e.0, Delivery e.1)) xs ++ map (λ e. (e.0, Delivery e.1)) ys)
 
 abbrev pub pending_of : Held → FinMap key_cmp (Event (List ℕ))
-pending_of h = from_entries (events_of h.completions h.deliveries)
+pending_of h = from_entries (events_of h.completions h.arrivals h.sources)
 
--- both in the order of their keys, which no completion has in common with a delivery, and no more than there is room for
-pub record Holds (cs : List (Key × ⊤)) (ds : List (Key × List ℕ)) (capacity : ℕ) : Type 0 where
+-- no key is in both
+abbrev pub AreApart : {A B : Type 0} → List (Key × A) → List (Key × B) → Type 0
+AreApart xs ys = (key : Key) → (find key_cmp key xs ≡ None) ⊎ (find key_cmp key ys ≡ None)
+
+-- each in the order of their keys, which they do not share, and no more than there is room for
+pub record Holds (cs : List (Key × ⊤)) (xs ys : List (Key × List ℕ)) (capacity : ℕ) : Type 0 where
   pub completions : is_sorted key_cmp cs ≡ true
-  pub deliveries : is_sorted key_cmp ds ≡ true
-  pub apart : (key : Key) → (find key_cmp key cs ≡ None) ⊎ (find key_cmp key ds ≡ None)
-  pub fits : length cs + length ds ≤ capacity
+  pub arrivals : is_sorted key_cmp xs ≡ true
+  pub sources : is_sorted key_cmp ys ≡ true
+  pub apart_arrivals : AreApart cs xs
+  pub apart_sources : AreApart cs ys
+  pub apart_deliveries : AreApart xs ys
+  pub fits : length cs + length xs + length ys ≤ capacity
 
-abbrev pub is_first : {X Y : Type 0} → Option (Key × X) → Option (Key × Y) → Bool
-is_first None d = false
-is_first (Some c) None = true
-is_first (Some c) (Some d) = is_lt (key_cmp c.0 d.0)
+abbrev pub first_key : {A : Type 0} → List (Key × A) → Option Key
+first_key es = option_map (λ e. e.0) (first_of_list es)
 
--- whether the least event is a completion
-abbrev pub completes_first : Held → Bool
-completes_first h = is_first (first_of_list h.completions) (first_of_list h.deliveries)
+-- whether a key comes before another, where none comes after all
+abbrev pub is_before : Option Key → Option Key → Bool
+is_before None b = false
+is_before (Some a) None = true
+is_before (Some a) (Some b) = is_lt (key_cmp a b)
+
+-- of which kind the least of the first completion, arrival and packet of a source is
+abbrev pub kind_of : Option Key → Option Key → Option Key → Kind
+kind_of c x y = cond (is_before c (cond (is_before x y) x y)) kind.Completion (cond (is_before x y) kind.Arrival kind.Source)
+
+abbrev pub least_kind : Held → Kind
+least_kind h = kind_of (first_key h.completions) (first_key h.arrivals) (first_key h.sources)

@@ -5,22 +5,32 @@ ghost use Rattle.std.specs.Option.{option_map};
 ghost use Rattle.std.specs.FinMap.{empty, get, insert, len as size, remove};
 ghost use Rattle.nm_base.specs.Key.{key_cmp};
 ghost use Rattle.nm_model.specs.EventList.{least as least_entry};
-ghost use Rattle.nm_events.specs.Held.{completes_first};
+ghost use Rattle.nm_events.specs.Held.{is_before as comes_before, least_kind};
 
 use crate::event_list::EventList;
 use crate::key_queue::KeyQueue;
-use nm_base::{Event, Key, Packet};
+use nm_base::{Event, Key, Packet, Place};
 use std::alloc::{AllocError, Global};
 use std::marker::Model;
 
-/// Keeps completions and deliveries apart, each in the order of their keys: events of one kind mostly come in that order,
-/// so that a new one is put behind the others. The least event is the first of one of the two queues.
+/// The kinds of events, each with a queue of its own.
+#[derive(Clone, Copy, Debug)]
+enum Kind {
+    Completion,
+    Arrival,
+    Source,
+}
+
+/// Keeps the events of each kind in the order of their keys: those of one kind mostly come in that order, so that a new
+/// one is put behind the others. The least event is the first of one of the queues.
 ///
 /// Each queue has room for all events, whichever kind they are of.
 #[derive(Drop)]
 pub struct SortedList {
     completions: KeyQueue<()>,
-    deliveries: KeyQueue<Packet>,
+    arrivals: KeyQueue<Packet>,
+    /// What sources hand over.
+    sources: KeyQueue<Packet>,
 }
 
 impl Model for SortedList {
@@ -31,21 +41,41 @@ impl Model for SortedList {
 
     ghost view = { λ s. record {
       completions = s.completions.entries;
-      deliveries = s.deliveries.entries;
-      room = min s.completions.capacity s.deliveries.capacity - (length s.completions.entries + length s.deliveries.entries);
+      arrivals = s.arrivals.entries;
+      sources = s.sources.entries;
+      room = min (min s.completions.capacity s.arrivals.capacity) s.sources.capacity
+          - (length s.completions.entries + length s.arrivals.entries + length s.sources.entries);
     } };
 
-    ghost invariant = { λ s. Holds s.completions.entries s.deliveries.entries (min s.completions.capacity s.deliveries.capacity) };
+    ghost invariant = { λ s. Holds s.completions.entries s.arrivals.entries s.sources.entries
+        (min (min s.completions.capacity s.arrivals.capacity) s.sources.capacity) };
+}
+
+/// Whether a key comes before another, where none comes after all.
+fn is_before(key: Option<&Key>, other: Option<&Key>) -> bool
+    ensures { result ≡ comes_before (option_map (λ k. k.now) key.entry) (option_map (λ k. k.now) other.entry) }
+{
+    match (key, other) {
+        (Some(key), Some(other)) => *key < *other,
+        (key, _) => key.is_some(),
+    }
 }
 
 impl SortedList {
-    /// Whether the least event is a completion.
-    fn completes_first(&self) -> bool
-        ensures { result ≡ completes_first self.now }
+    /// Of which kind the least event is. Where there is none, it is said to be a source's.
+    fn least_kind(&self) -> Kind
+        ensures { result ≡ least_kind self.now }
     {
-        match (self.completions.first(), self.deliveries.first()) {
-            (Some(completion), Some(delivery)) => *completion < *delivery,
-            (completion, _) => completion.is_some(),
+        let arrival = self.arrivals.first();
+        let source = self.sources.first();
+        let arrives = is_before(arrival, source);
+        let delivery = if arrives { arrival } else { source };
+        if is_before(self.completions.first(), delivery) {
+            Kind::Completion
+        } else if arrives {
+            Kind::Arrival
+        } else {
+            Kind::Source
         }
     }
 }
@@ -60,42 +90,55 @@ impl EventList for SortedList {
     fn new(alloc: Global) -> Self {
         SortedList {
             completions: KeyQueue::new(alloc),
-            deliveries: KeyQueue::new(alloc),
+            arrivals: KeyQueue::new(alloc),
+            sources: KeyQueue::new(alloc),
         }
     }
 
     fn reserve(&mut self, count: usize) -> Result<(), AllocError> {
         let total = self.len().checked_add(count).ok_or(AllocError)?;
         self.completions.reserve_total(total)?;
-        self.deliveries.reserve_total(total)
+        self.arrivals.reserve_total(total)?;
+        self.sources.reserve_total(total)
     }
 
     fn put(&mut self, key: Key, event: Event) {
         match event {
             Event::Completion => self.completions.put(key, ()),
-            Event::Delivery(packet) => self.deliveries.put(key, packet),
+            Event::Delivery(packet) => match key.place {
+                Place::Fire(_) => self.sources.put(key, packet),
+                Place::Arrive(_) | Place::Complete(_) => self.arrivals.put(key, packet),
+            },
         }
     }
 
     fn least(&self) -> Option<Key> {
-        if self.completes_first() {
-            return self.completions.first().copied();
+        match self.least_kind() {
+            Kind::Completion => self.completions.first().copied(),
+            Kind::Arrival => self.arrivals.first().copied(),
+            Kind::Source => self.sources.first().copied(),
         }
-        self.deliveries.first().copied()
     }
 
     fn take_least(&mut self) -> Option<(Key, Event)> {
-        if self.completes_first() {
-            let (key, _) = self.completions.take_first()?;
-            Some((key, Event::Completion))
-        } else {
-            let (key, packet) = self.deliveries.take_first()?;
-            Some((key, Event::Delivery(packet)))
+        match self.least_kind() {
+            Kind::Completion => {
+                let (key, _) = self.completions.take_first()?;
+                Some((key, Event::Completion))
+            }
+            Kind::Arrival => {
+                let (key, packet) = self.arrivals.take_first()?;
+                Some((key, Event::Delivery(packet)))
+            }
+            Kind::Source => {
+                let (key, packet) = self.sources.take_first()?;
+                Some((key, Event::Delivery(packet)))
+            }
         }
     }
 
     fn len(&self) -> usize {
-        self.completions.len() + self.deliveries.len()
+        self.completions.len() + self.arrivals.len() + self.sources.len()
     }
 
     fn is_empty(&self) -> bool {
