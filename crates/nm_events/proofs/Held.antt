@@ -12,7 +12,8 @@ use Rattle.nm_base.specs.declared.event.Event.TheVariants.{Completion, Delivery}
 use Rattle.nm_base.specs.declared.key.Key.{Key}
 use Rattle.nm_base.specs.Key.{key_cmp, key_cmp_total, key_cmp-IsAntisymmetric}
 use Rattle.nm_model.specs.EventList.{first_of_list, least}
-use Rattle.nm_events.specs.Held.{Holds, events_of, first_key, is_before, kind_of}
+use Rattle.nm_events.specs.Held.{Holds, events_of, is_before, kind_of}
+use Rattle.nm_events.specs.Queued.{first_key}
 use Rattle.nm_events.specs.declared.sorted_list.Kind.{Kind}
 use Rattle.nm_events.specs.declared.sorted_list.Kind.TheVariants as kind
 use Rattle.nm_events.proofs.Queued.{truth, first, second, less, equal, greater, below_later, sorted_after}
@@ -243,8 +244,8 @@ either (inl p) s = inl p
 either (inr q) (inl p) = inl p
 either (inr q) (inr s) = inr (q, s)
 
-pub count_all : (cs : List (Key × ⊤)) (xs ys : List (Key × List ℕ)) (n : ℕ) → Holds cs xs ys n → len (all_of cs xs ys) ≡ length cs + length xs + length ys
-count_all cs xs ys n h =
+pub count_all : (cs : List (Key × ⊤)) (xs ys : List (Key × List ℕ)) (r n : ℕ) → Holds cs xs ys r n → len (all_of cs xs ys) ≡ length cs + length xs + length ys
+count_all cs xs ys r n h =
     let last : len (from_entries {R = key_cmp} (run delivered ys)) ≡ length ys
     = ap (λ l. len (from_entries {R = key_cmp} l)) (sym (append_nil (run delivered ys)))
     ∙ count_runs key_cmp_total delivered ys [] h.sources (λ q. inr refl) ∙ ap (λ n. length ys + n) (len-empty key_cmp (Event (List ℕ))) ∙ omega arith in
@@ -337,22 +338,22 @@ completion_before c (x ∷ xs) ys h i apart e = go (is_before (Some x.0) (first_
     go false f e = (behind ys i apart f e, before_queue c ys i e)
 
 -- the completion that is taken is the least event, and the others are left
-completion_first : (c : Key × ⊤) (cs : List (Key × ⊤)) (xs ys : List (Key × List ℕ)) (n : ℕ) → Holds (c ∷ cs) xs ys n
+completion_first : (c : Key × ⊤) (cs : List (Key × ⊤)) (xs ys : List (Key × List ℕ)) (r n : ℕ) → Holds (c ∷ cs) xs ys r n
     → kind_of (Some c.0) (first_key xs) (first_key ys) ≡ kind.Completion
     → (Some (c.0, Completion) ≡ least (all_of (c ∷ cs) xs ys)) × (all_of cs xs ys ≡ remove (all_of (c ∷ cs) xs ys) c.0)
 unfolding least
-completion_first c cs xs ys n h e =
+completion_first c cs xs ys r n h e =
     let before = completion_before c.0 xs ys h.arrivals h.sources h.apart_deliveries (completion_is (Some c.0) (first_key xs) (first_key ys) e) in
     let others = below_append key_cmp c.0 (run delivered xs) (run delivered ys) (below_run key_cmp delivered c.0 xs before.0) (below_run key_cmp delivered c.0 ys before.1) in (
       sym (first_among key_cmp_total key_cmp-IsAntisymmetric completed [] (beside_completions cs xs ys) c cs h.completions refl others),
       rest_among key_cmp_total key_cmp-IsAntisymmetric completed [] (beside_completions cs xs ys) c cs h.completions refl others,
     )
 
-arrival_first : (x : Key × List ℕ) (cs : List (Key × ⊤)) (xs ys : List (Key × List ℕ)) (n : ℕ) → Holds cs (x ∷ xs) ys n
+arrival_first : (x : Key × List ℕ) (cs : List (Key × ⊤)) (xs ys : List (Key × List ℕ)) (r n : ℕ) → Holds cs (x ∷ xs) ys r n
     → kind_of (first_key cs) (Some x.0) (first_key ys) ≡ kind.Arrival
     → (Some (x.0, Delivery x.1) ≡ least (all_of cs (x ∷ xs) ys)) × (all_of cs xs ys ≡ remove (all_of cs (x ∷ xs) ys) x.0)
 unfolding least
-arrival_first x cs xs ys n h e =
+arrival_first x cs xs ys r n h e =
     let is = arrival_is (first_key cs) (Some x.0) (first_key ys) e in
     let before = below_run key_cmp completed x.0 cs (behind_queue x xs cs h.completions h.apart_arrivals is.1) in
     let behind = below_run key_cmp delivered x.0 ys (before_queue x.0 ys h.sources is.0) in (
@@ -360,11 +361,11 @@ arrival_first x cs xs ys n h e =
       rest_among key_cmp_total key_cmp-IsAntisymmetric delivered (run completed cs) (run delivered ys) x xs h.arrivals before behind,
     )
 
-source_first : (y : Key × List ℕ) (cs : List (Key × ⊤)) (xs ys : List (Key × List ℕ)) (n : ℕ) → Holds cs xs (y ∷ ys) n
+source_first : (y : Key × List ℕ) (cs : List (Key × ⊤)) (xs ys : List (Key × List ℕ)) (r n : ℕ) → Holds cs xs (y ∷ ys) r n
     → kind_of (first_key cs) (first_key xs) (Some y.0) ≡ kind.Source
     → (Some (y.0, Delivery y.1) ≡ least (all_of cs xs (y ∷ ys))) × (all_of cs xs ys ≡ remove (all_of cs xs (y ∷ ys)) y.0)
 unfolding least
-source_first y cs xs ys n h e =
+source_first y cs xs ys r n h e =
     let is = source_is (first_key cs) (first_key xs) (Some y.0) e in
     let before = below_append key_cmp y.0 (run completed cs) (run delivered xs)
     (below_run key_cmp completed y.0 cs (behind_queue y ys cs h.completions h.apart_sources is.1))
@@ -387,23 +388,23 @@ none_first (c ∷ cs) (x ∷ xs) e = absurd (true≢false (source_is (Some c.0) 
 abbrev kind_in : List (Key × ⊤) → List (Key × List ℕ) → List (Key × List ℕ) → Kind
 kind_in cs xs ys = kind_of (first_key cs) (first_key xs) (first_key ys)
 
-pub completion_taken : (cs new : List (Key × ⊤)) (xs ys : List (Key × List ℕ)) (n : ℕ) (c : Key × ⊤) → Holds cs xs ys n → kind_in cs xs ys ≡ kind.Completion
+pub completion_taken : (cs new : List (Key × ⊤)) (xs ys : List (Key × List ℕ)) (r n : ℕ) (c : Key × ⊤) → Holds cs xs ys r n → kind_in cs xs ys ≡ kind.Completion
     → cs ≡ c ∷ new → (Some (c.0, Completion) ≡ least (all_of cs xs ys)) × (all_of new xs ys ≡ remove (all_of cs xs ys) c.0)
-completion_taken cs new xs ys n c h e is =
+completion_taken cs new xs ys r n c h e is =
     subst (λ l. (Some (c.0, Completion) ≡ least (all_of l xs ys)) × (all_of new xs ys ≡ remove (all_of l xs ys) c.0)) (sym is)
-    (completion_first c new xs ys n (subst (λ l. Holds l xs ys n) is h) (ap (λ l. kind_in l xs ys) (sym is) ∙ e))
+    (completion_first c new xs ys r n (subst (λ l. Holds l xs ys r n) is h) (ap (λ l. kind_in l xs ys) (sym is) ∙ e))
 
-pub arrival_taken : (cs : List (Key × ⊤)) (xs new ys : List (Key × List ℕ)) (n : ℕ) (x : Key × List ℕ) → Holds cs xs ys n → kind_in cs xs ys ≡ kind.Arrival
+pub arrival_taken : (cs : List (Key × ⊤)) (xs new ys : List (Key × List ℕ)) (r n : ℕ) (x : Key × List ℕ) → Holds cs xs ys r n → kind_in cs xs ys ≡ kind.Arrival
     → xs ≡ x ∷ new → (Some (x.0, Delivery x.1) ≡ least (all_of cs xs ys)) × (all_of cs new ys ≡ remove (all_of cs xs ys) x.0)
-arrival_taken cs xs new ys n x h e is =
+arrival_taken cs xs new ys r n x h e is =
     subst (λ l. (Some (x.0, Delivery x.1) ≡ least (all_of cs l ys)) × (all_of cs new ys ≡ remove (all_of cs l ys) x.0)) (sym is)
-    (arrival_first x cs new ys n (subst (λ l. Holds cs l ys n) is h) (ap (λ l. kind_in cs l ys) (sym is) ∙ e))
+    (arrival_first x cs new ys r n (subst (λ l. Holds cs l ys r n) is h) (ap (λ l. kind_in cs l ys) (sym is) ∙ e))
 
-pub source_taken : (cs : List (Key × ⊤)) (xs ys new : List (Key × List ℕ)) (n : ℕ) (y : Key × List ℕ) → Holds cs xs ys n → kind_in cs xs ys ≡ kind.Source
+pub source_taken : (cs : List (Key × ⊤)) (xs ys new : List (Key × List ℕ)) (r n : ℕ) (y : Key × List ℕ) → Holds cs xs ys r n → kind_in cs xs ys ≡ kind.Source
     → ys ≡ y ∷ new → (Some (y.0, Delivery y.1) ≡ least (all_of cs xs ys)) × (all_of cs xs new ≡ remove (all_of cs xs ys) y.0)
-source_taken cs xs ys new n y h e is =
+source_taken cs xs ys new r n y h e is =
     subst (λ l. (Some (y.0, Delivery y.1) ≡ least (all_of cs xs l)) × (all_of cs xs new ≡ remove (all_of cs xs l) y.0)) (sym is)
-    (source_first y cs xs new n (subst (λ l. Holds cs xs l n) is h) (ap (λ l. kind_in cs xs l) (sym is) ∙ e))
+    (source_first y cs xs new r n (subst (λ l. Holds cs xs l r n) is h) (ap (λ l. kind_in cs xs l) (sym is) ∙ e))
 
 none_of : {A : Type 0} (es : List A) → None ≡ first_of_list es → es ≡ []
 none_of [] e = refl
@@ -414,23 +415,23 @@ none_taken cs xs ys e none =
     subst (λ l. None ≡ least (all_of cs xs l)) (sym (none_of ys none)) (none_first cs xs (ap (kind_of (first_key cs) (first_key xs)) (ap (option_map (λ e. e.0)) none) ∙ e))
 
 -- the least key
-pub least_completion : (cs : List (Key × ⊤)) (xs ys : List (Key × List ℕ)) (n : ℕ) → Holds cs xs ys n → kind_in cs xs ys ≡ kind.Completion
+pub least_completion : (cs : List (Key × ⊤)) (xs ys : List (Key × List ℕ)) (r n : ℕ) → Holds cs xs ys r n → kind_in cs xs ys ≡ kind.Completion
     → first_key cs ≡ option_map (λ e. e.0) (least (all_of cs xs ys))
 unfolding least
-least_completion [] xs ys n h e = absurd (true≢false (sym (completion_is None (first_key xs) (first_key ys) e)))
-least_completion (c ∷ cs) xs ys n h e = ap (option_map (λ e. e.0)) (completion_first c cs xs ys n h e).0
+least_completion [] xs ys r n h e = absurd (true≢false (sym (completion_is None (first_key xs) (first_key ys) e)))
+least_completion (c ∷ cs) xs ys r n h e = ap (option_map (λ e. e.0)) (completion_first c cs xs ys r n h e).0
 
-pub least_arrival : (cs : List (Key × ⊤)) (xs ys : List (Key × List ℕ)) (n : ℕ) → Holds cs xs ys n → kind_in cs xs ys ≡ kind.Arrival
+pub least_arrival : (cs : List (Key × ⊤)) (xs ys : List (Key × List ℕ)) (r n : ℕ) → Holds cs xs ys r n → kind_in cs xs ys ≡ kind.Arrival
     → first_key xs ≡ option_map (λ e. e.0) (least (all_of cs xs ys))
 unfolding least
-least_arrival cs [] ys n h e = absurd (true≢false (sym (arrival_is (first_key cs) None (first_key ys) e).0))
-least_arrival cs (x ∷ xs) ys n h e = ap (option_map (λ e. e.0)) (arrival_first x cs xs ys n h e).0
+least_arrival cs [] ys r n h e = absurd (true≢false (sym (arrival_is (first_key cs) None (first_key ys) e).0))
+least_arrival cs (x ∷ xs) ys r n h e = ap (option_map (λ e. e.0)) (arrival_first x cs xs ys r n h e).0
 
-pub least_source : (cs : List (Key × ⊤)) (xs ys : List (Key × List ℕ)) (n : ℕ) → Holds cs xs ys n → kind_in cs xs ys ≡ kind.Source
+pub least_source : (cs : List (Key × ⊤)) (xs ys : List (Key × List ℕ)) (r n : ℕ) → Holds cs xs ys r n → kind_in cs xs ys ≡ kind.Source
     → first_key ys ≡ option_map (λ e. e.0) (least (all_of cs xs ys))
 unfolding least
-least_source cs xs [] n h e = ap (option_map (λ e. e.0)) (none_first cs xs e)
-least_source cs xs (y ∷ ys) n h e = ap (option_map (λ e. e.0)) (source_first y cs xs ys n h e).0
+least_source cs xs [] r n h e = ap (option_map (λ e. e.0)) (none_first cs xs e)
+least_source cs xs (y ∷ ys) r n h e = ap (option_map (λ e. e.0)) (source_first y cs xs ys r n h e).0
 
 -- a key that is not pending is in no queue
 pub record IsFree (k : Key) (cs : List (Key × ⊤)) (xs ys : List (Key × List ℕ)) : Type 0 where
@@ -464,18 +465,28 @@ length_put : {A : Type 0} (k : Key) (a : A) (es : List (Key × A)) → is_sorted
 length_put k a es h none =
     length-put key_cmp key_cmp_total k a es (truth _ h) ∙ ap (λ r. cond (is_some r) (length es) (length es + 1)) none
 
+pub reserved : (cs new_cs : List (Key × ⊤)) (xs new_xs ys new_ys : List (Key × List ℕ)) (r n count m : ℕ) → Holds cs xs ys r n
+    → new_cs ≡ cs → new_xs ≡ xs → new_ys ≡ ys → length cs + length xs + length ys + count ≤ m → Holds new_cs new_xs new_ys count m
+reserved cs new_cs xs new_xs ys new_ys r n count m h a b c fits =
+    subst (λ l. Holds l new_xs new_ys count m) (sym a) (subst (λ l. Holds cs l new_ys count m) (sym b) (subst (λ l. Holds cs xs l count m) (sym c)
+    record {
+      completions = h.completions;
+      arrivals = h.arrivals;
+      sources = h.sources;
+      apart_arrivals = h.apart_arrivals;
+      apart_sources = h.apart_sources;
+      apart_deliveries = h.apart_deliveries;
+      fits = fits;
+    }))
+
 -- what holds once an event was put
-pub record WasPut (cs : List (Key × ⊤)) (xs ys : List (Key × List ℕ)) (room_before capacity : ℕ) (before : FinMap key_cmp (Event (List ℕ))) (k : Key) (e : Event (List ℕ)) : Type 0 where
-  pub holds : Holds cs xs ys capacity
+pub record WasPut (cs : List (Key × ⊤)) (xs ys : List (Key × List ℕ)) (room capacity : ℕ) (before : FinMap key_cmp (Event (List ℕ))) (k : Key) (e : Event (List ℕ)) : Type 0 where
+  pub holds : Holds cs xs ys room capacity
   pub pending : all_of cs xs ys ≡ insert before k e
-  pub room : room_before ≤ capacity - (length cs + length xs + length ys) + 1
 
-module _ (k : Key) (cs : List (Key × ⊤)) (xs ys : List (Key × List ℕ)) (n m : ℕ) (h : Holds cs xs ys n) (fresh : get (all_of cs xs ys) k ≡ None)
-    (room : 1 ≤ n - (length cs + length xs + length ys)) (more : n ≤ m) where
-  abbrev left : ℕ
-  left = n - (length cs + length xs + length ys)
-
-  pub completion_put : (new : List (Key × ⊤)) → new ≡ put key_cmp k tt cs → WasPut new xs ys left m (all_of cs xs ys) k Completion
+module _ (k : Key) (cs : List (Key × ⊤)) (xs ys : List (Key × List ℕ)) (r n m : ℕ) (h : Holds cs xs ys r n) (fresh : get (all_of cs xs ys) k ≡ None)
+    (room : 1 ≤ r) (more : n ≤ m) where
+  pub completion_put : (new : List (Key × ⊤)) → new ≡ put key_cmp k tt cs → WasPut new xs ys (r - 1) m (all_of cs xs ys) k Completion
   completion_put new is =
       let f = free k cs xs ys fresh in
       let count = ap length is ∙ length_put k tt cs h.completions f.completions in
@@ -487,13 +498,12 @@ module _ (k : Key) (cs : List (Key × ⊤)) (xs ys : List (Key × List ℕ)) (n 
           apart_arrivals = subst (λ l. Apart key_cmp l xs) (sym is) (apart_put key_cmp_total k tt cs xs f.arrivals h.apart_arrivals);
           apart_sources = subst (λ l. Apart key_cmp l ys) (sym is) (apart_put key_cmp_total k tt cs ys f.sources h.apart_sources);
           apart_deliveries = h.apart_deliveries;
-          fits = omega (arith, count, room, more);
+          fits = let old = h.fits in omega (arith, count, room, more, old);
         };
         pending = ap (λ l. all_of l xs ys) is ∙ put_among key_cmp_total key_cmp-IsAntisymmetric completed [] (beside_completions cs xs ys) k tt cs refl;
-        room = omega (arith, count, more);
       }
 
-  pub arrival_put : (p : List ℕ) (new : List (Key × List ℕ)) → new ≡ put key_cmp k p xs → WasPut cs new ys left m (all_of cs xs ys) k (Delivery p)
+  pub arrival_put : (p : List ℕ) (new : List (Key × List ℕ)) → new ≡ put key_cmp k p xs → WasPut cs new ys (r - 1) m (all_of cs xs ys) k (Delivery p)
   arrival_put p new is =
       let f = free k cs xs ys fresh in
       let count = ap length is ∙ length_put k p xs h.arrivals f.arrivals in
@@ -505,14 +515,13 @@ module _ (k : Key) (cs : List (Key × ⊤)) (xs ys : List (Key × List ℕ)) (n 
           apart_arrivals = subst (λ l. Apart key_cmp cs l) (sym is) (λ q. swapped (apart_put key_cmp_total k p xs cs f.completions (λ j. swapped (h.apart_arrivals j)) q));
           apart_sources = h.apart_sources;
           apart_deliveries = subst (λ l. Apart key_cmp l ys) (sym is) (apart_put key_cmp_total k p xs ys f.sources h.apart_deliveries);
-          fits = omega (arith, count, room, more);
+          fits = let old = h.fits in omega (arith, count, room, more, old);
         };
         pending = ap (λ l. all_of cs l ys) is
             ∙ put_among key_cmp_total key_cmp-IsAntisymmetric delivered (run completed cs) (run delivered ys) k p xs (none_run key_cmp completed k cs f.completions);
-        room = omega (arith, count, more);
       }
 
-  pub source_put : (p : List ℕ) (new : List (Key × List ℕ)) → new ≡ put key_cmp k p ys → WasPut cs xs new left m (all_of cs xs ys) k (Delivery p)
+  pub source_put : (p : List ℕ) (new : List (Key × List ℕ)) → new ≡ put key_cmp k p ys → WasPut cs xs new (r - 1) m (all_of cs xs ys) k (Delivery p)
   source_put p new is =
       let f = free k cs xs ys fresh in
       let count = ap length is ∙ length_put k p ys h.sources f.sources in
@@ -525,10 +534,9 @@ module _ (k : Key) (cs : List (Key × ⊤)) (xs ys : List (Key × List ℕ)) (n 
           apart_arrivals = h.apart_arrivals;
           apart_sources = subst (λ l. Apart key_cmp cs l) (sym is) (λ q. swapped (apart_put key_cmp_total k p ys cs f.completions (λ j. swapped (h.apart_sources j)) q));
           apart_deliveries = subst (λ l. Apart key_cmp xs l) (sym is) (λ q. swapped (apart_put key_cmp_total k p ys xs f.arrivals (λ j. swapped (h.apart_deliveries j)) q));
-          fits = omega (arith, count, room, more);
+          fits = let old = h.fits in omega (arith, count, room, more, old);
         };
         pending = ap (λ l. all_of cs xs l) is ∙ as_sources cs xs (put key_cmp k p ys)
             ∙ put_among key_cmp_total key_cmp-IsAntisymmetric delivered (before_sources cs xs ys) [] k p ys none
             ∙ ap (λ m. insert m k (Delivery p)) (sym (as_sources cs xs ys));
-        room = omega (arith, count, more);
       }

@@ -1,13 +1,12 @@
 -- What contracts see of a sorted event list.
 use Rattle.std.specs.Prelude.{◌≡◌, ◌⊎◌, ℕ, ◌+◌, ◌≤◌, length, Bool, true, false, cond, List, ◌++◌, map, Option, Some, None, ⊤}
-use Rattle.std.specs.Option.{option_map}
+use Rattle.nm_events.specs.Queued.{first_key}
 use Rattle.std.specs.FinMap.{FinMap, find, from_entries, is_sorted}
 use Rattle.std.specs.Ordering.{is_lt}
 use Rattle.nm_base.specs.declared.event.Event.{Event}
 use Rattle.nm_base.specs.declared.event.Event.TheVariants.{Completion, Delivery}
 use Rattle.nm_base.specs.declared.key.Key.{Key}
 use Rattle.nm_base.specs.Key.{key_cmp}
-use Rattle.nm_model.specs.EventList.{first_of_list}
 use Rattle.nm_events.specs.declared.sorted_list.Kind.{Kind}
 use Rattle.nm_events.specs.declared.sorted_list.Kind.TheVariants as kind
 
@@ -30,18 +29,15 @@ pending_of h = from_entries (events_of h.completions h.arrivals h.sources)
 abbrev pub AreApart : {A B : Type 0} → List (Key × A) → List (Key × B) → Type 0
 AreApart xs ys = (key : Key) → (find key_cmp key xs ≡ None) ⊎ (find key_cmp key ys ≡ None)
 
--- each in the order of their keys, which they do not share, and no more than there is room for
-pub record Holds (cs : List (Key × ⊤)) (xs ys : List (Key × List ℕ)) (capacity : ℕ) : Type 0 where
+-- each in the order of their keys, which they do not share, and with room for so many more
+pub record Holds (cs : List (Key × ⊤)) (xs ys : List (Key × List ℕ)) (room capacity : ℕ) : Type 0 where
   pub completions : is_sorted key_cmp cs ≡ true
   pub arrivals : is_sorted key_cmp xs ≡ true
   pub sources : is_sorted key_cmp ys ≡ true
   pub apart_arrivals : AreApart cs xs
   pub apart_sources : AreApart cs ys
   pub apart_deliveries : AreApart xs ys
-  pub fits : length cs + length xs + length ys ≤ capacity
-
-abbrev pub first_key : {A : Type 0} → List (Key × A) → Option Key
-first_key es = option_map (λ e. e.0) (first_of_list es)
+  pub fits : length cs + length xs + length ys + room ≤ capacity
 
 -- whether a key comes before another, where none comes after all
 abbrev pub is_before : Option Key → Option Key → Bool

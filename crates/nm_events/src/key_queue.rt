@@ -4,10 +4,10 @@ ghost use Rattle.std.specs.Prelude.{◌≡◌, ℕ, ◌+◌, ◌≤◌, ◌<◌,
 ghost use Rattle.std.specs.Prelude.{true, false, length};
 ghost use Rattle.std.specs.Option.{option_map, option_to_list};
 ghost use Rattle.std.specs.FinMap.{find, is_sorted, put as put_in_order};
-ghost use Rattle.std.specs.List.Sorted.{IsPartitionPoint};
-ghost use Rattle.std.specs.Ordering.{is_lt};
+ghost use Rattle.std.specs.VecDeque.{deque_capacity, deque_len};
 ghost use Rattle.nm_base.specs.Key.{key_cmp};
 ghost use Rattle.nm_model.specs.EventList.{first_of_list};
+ghost use Rattle.nm_events.specs.Queued.{first_key};
 
 use nm_base::Key;
 use std::alloc::{AllocError, Global};
@@ -19,6 +19,8 @@ use std::marker::Model;
 #[derive(Drop)]
 pub(crate) struct KeyQueue<X> {
     entries: VecDeque<(Key, X)>,
+    /// The least key. An event list looks at it far more often than it changes.
+    first: Option<Key>,
 }
 
 impl<X> Model for KeyQueue<X> {
@@ -26,13 +28,51 @@ impl<X> Model for KeyQueue<X> {
     ghost use Rattle.std.specs.FinMap.{is_sorted};
     ghost use Rattle.std.specs.VecDeque.{deque_capacity};
     ghost use Rattle.nm_base.specs.Key.{key_cmp};
-    ghost use Rattle.nm_events.specs.Queued.{Queued};
+    ghost use Rattle.nm_events.specs.Queued.{Queued, first_key};
 
     ghost Value = { Queued X };
 
     ghost view = { λ q. record { entries = q.entries.items; capacity = deque_capacity q.entries } };
 
-    ghost invariant = { λ q. is_sorted key_cmp q.entries.items ≡ true };
+    ghost invariant = { λ q. (is_sorted key_cmp q.entries.items ≡ true) × (q.first ≡ first_key q.entries.items) };
+}
+
+/// The key of the first entry.
+fn first_of<X>(entries: &VecDeque<(Key, X)>) -> Option<Key>
+    ensures { result ≡ first_key entries.now.items }
+{
+    let (key, _) = entries.front()?;
+    Some(*key)
+}
+
+/// Whether every entry has a lesser key.
+fn is_behind_all<X>(entries: &VecDeque<(Key, X)>, key: &Key) -> bool
+    requires { is_sorted key_cmp entries.now.items ≡ true }
+    ensures { result ≡ true → (value : X) → put_in_order key_cmp key.now value entries.now.items
+        ≡ entries.now.items ++ (key.now, value) ∷ [] }
+{
+    match entries.back() {
+        Some(last) => last.0 < *key,
+        None => true,
+    }
+}
+
+/// Puts an entry in its place.
+fn put<X>(entries: &mut VecDeque<(Key, X)>, key: Key, value: X)
+    requires sorted { is_sorted key_cmp entries.old.items ≡ true }
+    requires fresh { find key_cmp key entries.old.items ≡ None }
+    requires room { deque_len entries.old < deque_capacity entries.old }
+    ensures entries { entries.new.items ≡ put_in_order key_cmp key value entries.old.items }
+    ensures sorted { is_sorted key_cmp entries.new.items ≡ true }
+    ensures capacity { deque_capacity entries.old ≤ deque_capacity entries.new }
+{
+    // Many new entries come last.
+    if is_behind_all(entries, &key) {
+        entries.push_back((key, value)).unwrap();
+        return;
+    }
+    let place = entries.partition_point(|entry| entry.0 < key);
+    entries.insert(place, (key, value)).unwrap();
 }
 
 impl<X> KeyQueue<X> {
@@ -42,6 +82,7 @@ impl<X> KeyQueue<X> {
     {
         KeyQueue {
             entries: VecDeque::new(alloc),
+            first: None,
         }
     }
 
@@ -67,31 +108,15 @@ impl<X> KeyQueue<X> {
         ensures sorted { is_sorted key_cmp self.new.entries ≡ true }
         ensures capacity { self.old.capacity ≤ self.new.capacity }
     {
-        // Many new values come last.
-        if self.is_behind_all(&key) {
-            self.entries.push_back((key, value)).unwrap();
-            return;
-        }
-        let place = self.entries.partition_point(|entry| entry.0 < key);
-        self.entries.insert(place, (key, value)).unwrap();
-    }
-
-    /// Whether every value has a lesser key.
-    fn is_behind_all(&self, key: &Key) -> bool
-        ensures { result ≡ true → (value : X) → put_in_order key_cmp key.now value self.now.entries ≡ self.now.entries ++ (key.now, value) ∷ [] }
-    {
-        match self.entries.back() {
-            Some(last) => last.0 < *key,
-            None => true,
-        }
+        put(&mut self.entries, key, value);
+        self.first = first_of(&self.entries);
     }
 
     /// The least key.
     pub(crate) fn first(&self) -> Option<&Key>
-        ensures { option_map (λ k. k.now) result ≡ option_map (λ e. e.0) (first_of_list self.now.entries) }
+        ensures { option_map (λ k. k.now) result ≡ first_key self.now.entries }
     {
-        let (key, _) = self.entries.front()?;
-        Some(key)
+        self.first.as_ref()
     }
 
     /// Takes the value of the least key out.
@@ -100,8 +125,11 @@ impl<X> KeyQueue<X> {
         ensures rest { self.old.entries ≡ option_to_list result ++ self.new.entries }
         ensures sorted { is_sorted key_cmp self.new.entries ≡ true }
         ensures capacity { self.new.capacity ≡ self.old.capacity }
+        ensures fits { self.old.capacity < 2 ^ 64 }
     {
-        self.entries.pop_front()
+        let taken = self.entries.pop_front();
+        self.first = first_of(&self.entries);
+        taken
     }
 
     /// How many values there are.

@@ -24,17 +24,19 @@ enum Kind {
 /// Keeps the events of each kind in the order of their keys: those of one kind mostly come in that order, so that a new
 /// one is put behind the others. The least event is the first of one of the queues.
 ///
-/// Each queue has room for all events, whichever kind they are of.
+/// Each queue has room for all events, whichever kind they are of, and for as many more as `room` says.
 #[derive(Drop)]
 pub struct SortedList {
     completions: KeyQueue<()>,
     arrivals: KeyQueue<Packet>,
     /// What sources hand over.
     sources: KeyQueue<Packet>,
+    /// For how many more events every queue has room.
+    room: usize,
 }
 
 impl Model for SortedList {
-    ghost use Rattle.std.specs.Prelude.{◌≤◌, ◌+◌, ◌-◌, min, length};
+    ghost use Rattle.std.specs.Prelude.{min};
     ghost use Rattle.nm_events.specs.Held.{Held, Holds};
 
     ghost Value = { Held };
@@ -43,11 +45,10 @@ impl Model for SortedList {
       completions = s.completions.entries;
       arrivals = s.arrivals.entries;
       sources = s.sources.entries;
-      room = min (min s.completions.capacity s.arrivals.capacity) s.sources.capacity
-          - (length s.completions.entries + length s.arrivals.entries + length s.sources.entries);
+      room = s.room;
     } };
 
-    ghost invariant = { λ s. Holds s.completions.entries s.arrivals.entries s.sources.entries
+    ghost invariant = { λ s. Holds s.completions.entries s.arrivals.entries s.sources.entries s.room
         (min (min s.completions.capacity s.arrivals.capacity) s.sources.capacity) };
 }
 
@@ -92,17 +93,24 @@ impl EventList for SortedList {
             completions: KeyQueue::new(alloc),
             arrivals: KeyQueue::new(alloc),
             sources: KeyQueue::new(alloc),
+            room: 0,
         }
     }
 
     fn reserve(&mut self, count: usize) -> Result<(), AllocError> {
+        if count <= self.room {
+            return Ok(());
+        }
         let total = self.len().checked_add(count).ok_or(AllocError)?;
         self.completions.reserve_total(total)?;
         self.arrivals.reserve_total(total)?;
-        self.sources.reserve_total(total)
+        self.sources.reserve_total(total)?;
+        self.room = count;
+        Ok(())
     }
 
     fn put(&mut self, key: Key, event: Event) {
+        self.room -= 1;
         match event {
             Event::Completion => self.completions.put(key, ()),
             Event::Delivery(packet) => match key.place {
@@ -124,14 +132,17 @@ impl EventList for SortedList {
         match self.least_kind() {
             Kind::Completion => {
                 let (key, _) = self.completions.take_first()?;
+                self.room += 1;
                 Some((key, Event::Completion))
             }
             Kind::Arrival => {
                 let (key, packet) = self.arrivals.take_first()?;
+                self.room += 1;
                 Some((key, Event::Delivery(packet)))
             }
             Kind::Source => {
                 let (key, packet) = self.sources.take_first()?;
+                self.room += 1;
                 Some((key, Event::Delivery(packet)))
             }
         }

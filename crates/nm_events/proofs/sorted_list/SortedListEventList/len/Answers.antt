@@ -6,4 +6,4 @@ pub returns : goal.returns
 returns c =
     let count : c.len.result + c.len-2.result + c.len-3.result
     ≡ length c.self.inside.completions.entries + length c.self.inside.arrivals.entries + length c.self.inside.sources.entries = search rules in
-    rw (← c.self.view_is) (count ∙ sym (count_all _ _ _ _ c.self.invariant))
+    rw (← c.self.view_is) (count ∙ sym (count_all _ _ _ _ _ c.self.invariant))
