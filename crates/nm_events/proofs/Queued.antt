@@ -7,7 +7,9 @@ use Rattle.std.specs.List.Sorted.{IsPartitionPoint, IsPartitionedBy}
 use Rattle.std.specs.Ordering.{is_lt, is_eq, eq_by_cmp, ordering_reverse}
 use Rattle.std.specs.Cmp.{IsTotalOrder}
 use Rattle.std.specs.FinMap.{find, put, is_sorted}
-use Rattle.std.specs.Option.{option_to_list}
+use Rattle.std.specs.Option.{is_none, option_to_list}
+use Rattle.nm_base.specs.declared.key.Key.{Key}
+use Rattle.nm_events.specs.Queued.{first_key}
 use Rattle.std.specs.FinMap.Entries.{below_all, is_sorted-put, by_order}
 
 pub truth : (b : Bool) → b ≡ true → T b
@@ -111,3 +113,8 @@ module _ {K X : Type 0} {R : K → K → Ordering} (o : IsTotalOrder R) where
   pub sorted_rest : (r : Option (K × X)) (es ys : List (K × X)) → es ≡ option_to_list r ++ ys → is_sorted R es ≡ true → is_sorted R ys ≡ true
   sorted_rest None es ys e h = ap (is_sorted R) (sym e) ∙ h
   sorted_rest (Some x) es ys e h = second _ _ (ap (is_sorted R) (sym e) ∙ h)
+
+-- what is put behind others is not the first
+pub first_kept : {A : Type 0} (es : List (Key × A)) (x : Key × A) → is_none (first_key es) ≡ false → first_key es ≡ first_key (es ++ x ∷ [])
+first_kept [] x some = absurd (true≢false some)
+first_kept (e ∷ es) x some = refl

@@ -57,8 +57,10 @@ fn is_behind_all<X>(entries: &VecDeque<(Key, X)>, key: &Key) -> bool
     }
 }
 
-/// Puts an entry in its place.
-fn put<X>(entries: &mut VecDeque<(Key, X)>, key: Key, value: X)
+/// Puts an entry in its place, which is not behind all.
+#[cold]
+#[inline(never)]
+fn put_within<X>(entries: &mut VecDeque<(Key, X)>, key: Key, value: X)
     requires sorted { is_sorted key_cmp entries.old.items ≡ true }
     requires fresh { find key_cmp key entries.old.items ≡ None }
     requires room { deque_len entries.old < deque_capacity entries.old }
@@ -66,11 +68,6 @@ fn put<X>(entries: &mut VecDeque<(Key, X)>, key: Key, value: X)
     ensures sorted { is_sorted key_cmp entries.new.items ≡ true }
     ensures capacity { deque_capacity entries.old ≤ deque_capacity entries.new }
 {
-    // Many new entries come last.
-    if is_behind_all(entries, &key) {
-        entries.push_back((key, value)).unwrap();
-        return;
-    }
     let place = entries.partition_point(|entry| entry.0 < key);
     entries.insert(place, (key, value)).unwrap();
 }
@@ -101,6 +98,7 @@ impl<X> KeyQueue<X> {
     }
 
     /// Adds a value under a key that has none.
+    #[inline(always)]
     pub(crate) fn put(&mut self, key: Key, value: X)
         requires fresh { find key_cmp key self.old.entries ≡ None }
         requires room { length self.old.entries < self.old.capacity }
@@ -108,7 +106,15 @@ impl<X> KeyQueue<X> {
         ensures sorted { is_sorted key_cmp self.new.entries ≡ true }
         ensures capacity { self.old.capacity ≤ self.new.capacity }
     {
-        put(&mut self.entries, key, value);
+        // Many new values come last.
+        if is_behind_all(&self.entries, &key) {
+            self.entries.push_back((key, value)).unwrap();
+            if self.first.is_none() {
+                self.first = Some(key);
+            }
+            return;
+        }
+        put_within(&mut self.entries, key, value);
         self.first = first_of(&self.entries);
     }
 
@@ -120,6 +126,7 @@ impl<X> KeyQueue<X> {
     }
 
     /// Takes the value of the least key out.
+    #[inline(always)]
     pub(crate) fn take_first(&mut self) -> Option<(Key, X)>
         ensures first { result ≡ first_of_list self.old.entries }
         ensures rest { self.old.entries ≡ option_to_list result ++ self.new.entries }

@@ -53,6 +53,7 @@ impl Model for SortedList {
 }
 
 /// Whether a key comes before another, where none comes after all.
+#[inline(always)]
 fn is_before(key: Option<&Key>, other: Option<&Key>) -> bool
     ensures { result ≡ comes_before (option_map (λ k. k.now) key.entry) (option_map (λ k. k.now) other.entry) }
 {
@@ -109,6 +110,7 @@ impl EventList for SortedList {
         Ok(())
     }
 
+    #[inline(always)]
     fn put(&mut self, key: Key, event: Event) {
         self.room -= 1;
         match event {
