@@ -15,10 +15,9 @@ use Rattle.nm_forward.specs.State.{NodeStateValue}
 use Rattle.nm_forward.specs.Reaction.{reaction}
 use Rattle.nm_iface.specs.declared.port.Start.{Start}
 use Rattle.nm_traffic.specs.Source.{source_at}
-use Rattle.nm_sim.specs.declared.effect.Effect.{Effect as Done}
 use Rattle.nm_sim.specs.Network.{net_of}
 use Rattle.nm_sim.specs.Devices.{DevicesValue, Stand}
-use Rattle.nm_sim.specs.Effects.{Does, IsEffect, Reacts, Sends, StartsAt, start_at, start_of}
+use Rattle.nm_sim.specs.Effects.{Does, Done, IsEffect, Reacts, Sends, StartsAt, start_at, start_of}
 use Rattle.nm_iface.specs.PortValue.{PortValue, takes, with_port}
 use Rattle.nm_iface.specs.Starts.{IsStart, packet_started}
 use Rattle.nm_sim.proofs.Sendings.{start_of_at}
@@ -33,7 +32,7 @@ module _ (net : Net (List ℕ) NodeStateValue) (ports : ℕ → Port (List ℕ))
   came_is None = refl
   came_is (Some s) = refl
 
-  follows_is : (sent : Option (ℕ × List ℕ)) → (sent_on net ports time came n sent follows).follows ≡ follows
+  pub follows_is : (sent : Option (ℕ × List ℕ)) → (sent_on net ports time came n sent follows).follows ≡ follows
   follows_is None = refl
   follows_is (Some s) = refl
 

@@ -11,3 +11,4 @@ mod Stands
 pub mod Stepping
 mod Steps
 mod Tables
+mod Takings

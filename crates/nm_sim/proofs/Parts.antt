@@ -1,6 +1,6 @@
 -- A part after a step stands for the state after that step.
-use Rattle.std.proofs.Common.{⊎_elim, cond, slice_get, slice_index, ◌≡◌, ◌≢◌, ℕ, zero, suc, ◌+◌, ◌<◌, true, false, ltb, List, [], ◌∷◌, ◌++◌, length, Option, Some, None, refl, sym, ap, ◌∙◌, subst, arith, append_assoc}
-use Rattle.std.specs.FinMap.{FinMap, get, insert, remove}
+use Rattle.std.proofs.Common.{⊎_elim, cond, slice_get, slice_index, ◌≡◌, ℕ, zero, suc, ◌+◌, ◌<◌, true, false, ltb, List, [], ◌∷◌, ◌++◌, length, Option, Some, None, refl, sym, ap, ◌∙◌, subst, arith, append-nil, append_assoc}
+use Rattle.std.specs.FinMap.{FinMap, insert, remove}
 use Rattle.std.specs.Option.{IfSome}
 use Rattle.nm_base.specs.declared.event.Event.{Event}
 use Rattle.nm_base.specs.declared.key.Key.{Key}
@@ -8,12 +8,12 @@ use Rattle.nm_base.specs.Key.{key_cmp}
 use Rattle.nm_topology.specs.Order.{IsInOrder}
 use Rattle.nm_topology.specs.Wholes.{NetworkValue}
 use Rattle.nm_model.specs.EventList.{least, schedule}
-use Rattle.nm_model.specs.Lists.{nth}
+use Rattle.nm_model.specs.Lists.{nth, set_at}
+use Rattle.nm_model.specs.Network.{node_of}
 use Rattle.nm_model.specs.Orderly.{IsOrderly}
-use Rattle.nm_model.specs.Run.{Effect, State, effect, in_record, made, next_events, out_record, sent_after, start_events, step, step_at}
+use Rattle.nm_model.specs.Run.{Effect, State, effect, in_record, next_events, out_record, sent_after, start_events, step, step_at, turned}
 use Rattle.nm_forward.specs.State.{NodeStateValue}
 use Rattle.nm_iface.specs.declared.port.Start.{Start}
-use Rattle.nm_sim.specs.declared.effect.Effect.{Effect as Done}
 use Rattle.nm_model.specs.EventList.{is_before}
 use Rattle.nm_model.specs.Port.{Port}
 use Rattle.nm_model.specs.Run.{pends_before}
@@ -23,15 +23,15 @@ use Rattle.std.specs.Option.{option_map}
 use Rattle.std.proofs.lemmas.Bool.Decides.{nat_tests}
 use Rattle.nm_sim.specs.Tables.{AllAt}
 use Rattle.nm_sim.specs.Devices.{DevicesValue, IsSame, Stand}
-use Rattle.nm_sim.specs.Effects.{Does, IsPlaceOf, StartsAt, start_of}
+use Rattle.nm_sim.specs.Effects.{Done, IsPlaceOf, StartsAt, start_of}
 use Rattle.nm_sim.specs.Network.{net_of}
 use Rattle.std.proofs.lemmas.Option.{slice_get_cases, slice_get_past}
 use Rattle.nm_forward.specs.declared.counter.Counter.{Counter}
 use Rattle.nm_forward.specs.Counter.{counter_number}
 use Rattle.nm_iface.specs.PortValue.{counted}
-use Rattle.nm_sim.specs.Part.{PartValue, Stands, count_at, drops_at}
-use Rattle.nm_sim.specs.Timelines.{AreFresh, Told, everywhere}
-use Rattle.nm_sim.proofs.Schedules.{first_fresh, one_more, placed_next, placed_remove, placed_schedule, placed_start, same_some, schedule_append, second_fresh}
+use Rattle.nm_sim.specs.Part.{IsUnderWay, PartValue, Stands, Taken, count_at, drops_at}
+use Rattle.nm_sim.specs.Timelines.{Told, everywhere}
+use Rattle.nm_sim.proofs.Schedules.{one_more, placed_next, placed_remove, placed_schedule, placed_start, same_some, schedule_append}
 use Rattle.nm_sim.proofs.Beginnings.{told_same}
 use Rattle.nm_sim.proofs.Pendings.{put_back}
 use Rattle.nm_sim.proofs.Steps.{least_has}
@@ -40,76 +40,63 @@ begins_within : (t : NetworkValue) (time : ℕ) (o : Option (ℕ × Start)) → 
 begins_within t time None h = tt
 begins_within t time (Some z) h = h.0
 
-module _ {L : Type 0} (pending : L → FinMap key_cmp (Event (List ℕ))) (t : NetworkValue) (p : PartValue L) (s : State (List ℕ) NodeStateValue)
-    (stands : Stands pending t p s) (e : Key × Event (List ℕ)) (first : least s.pending ≡ Some e) where
-  abbrev does_at : Effect (List ℕ) NodeStateValue
-  does_at = effect (net_of t) s.node s.port e.0.time e.0.place e.0.number e.1
+-- an event that is under way is done with the transmission that starts
+pub stands_after : {L : Type 0} (pending : L → FinMap key_cmp (Event (List ℕ))) (t : NetworkValue) (k : Key) (e : Event (List ℕ)) (done : Done) (p q : PartValue L)
+    (s : State (List ℕ) NodeStateValue) → IsInOrder t.nodes t.ifaces t.links → IsOrderly (net_of t) everywhere (step (net_of t) everywhere s)
+    → IsUnderWay pending t k e done p s → q.devices ≡ p.devices
+    → Told t q.timeline (sent_after (net_of t) k.time s.sent (start_of done.start))
+    → pending q.timeline.events ≡ schedule everywhere (start_events (net_of t) k.time s.sent (start_of done.start)) (pending p.timeline.events)
+    → q.timeline.records ≡ p.timeline.records ++ out_record k.time (start_of done.start)
+    → q.steps ≡ p.steps + 1
+    → Stands pending t q (step (net_of t) everywhere s)
+stands_after pending t k e done p q s order orderly way devices told events records steps =
+    let taken = way.taken in
+    let does = way.does.does in
+    let m : Effect (List ℕ) NodeStateValue = effect (net_of t) s.node s.port k.time k.place k.number e in
+    let here : IsPlaceOf t k.place = taken.placed k e (least_has s.pending (k, e) taken.first) in
+    let events' : pending q.timeline.events ≡ schedule everywhere (start_events (net_of t) k.time s.sent m.start ++ next_events k.place k.number m.follows) (remove s.pending k)
+    = events ∙ ap (schedule everywhere (start_events (net_of t) k.time s.sent (start_of done.start))) taken.events
+    ∙ (λ i. schedule everywhere (start_events (net_of t) k.time s.sent (does.start i)) (schedule everywhere (next_events k.place k.number (does.follows i)) (remove s.pending k)))
+    ∙ sym (schedule_append (start_events (net_of t) k.time s.sent m.start) (next_events k.place k.number m.follows) (remove s.pending k)) in
+    let records' : q.timeline.records ≡ s.records ++ (in_record k.time m.came ++ out_record k.time m.start)
+    = records ∙ ap (λ l. l ++ out_record k.time (start_of done.start)) taken.records
+    ∙ (λ i. (s.records ++ in_record k.time (does.came i)) ++ out_record k.time (does.start i))
+    ∙ append_assoc s.records (in_record k.time m.came) (out_record k.time m.start) in
+    let within = subst (λ o. IfSome o (λ z. z.0 < length t.ifaces)) does.start (begins_within t k.time done.start does.begins) in
+    let again : step_at (net_of t) everywhere s (Some (k, e)) ≡ step (net_of t) everywhere s = ap (step_at (net_of t) everywhere s) (sym taken.first) in
+    subst (Stands pending t q) again record {
+      orderly = subst (IsOrderly (net_of t) everywhere) (sym again) orderly;
+      devices = subst (λ d. Stand t d (set_at s.node (node_of (net_of t) k.place) m.after) (turned s.port m.turn)) (sym devices) way.does.stand;
+      told = subst (λ o. Told t q.timeline (sent_after (net_of t) k.time s.sent o)) does.start told;
+      few = λ c. let f = one_more t k.time p.steps s.sent m.start taken.few c in omega (arith, f, steps);
+      events = events';
+      placed = placed_schedule (IsPlaceOf t) (start_events (net_of t) k.time s.sent m.start ++ next_events k.place k.number m.follows) (remove s.pending k)
+          (either (start_events (net_of t) k.time s.sent m.start) (next_events k.place k.number m.follows)
+          (placed_start t order k.time s.sent m.start within) (placed_next (IsPlaceOf t) k.place k.number m.follows here))
+          (placed_remove (IsPlaceOf t) s.pending k taken.placed);
+      records = records';
+    }
+  where
+    either : (xs ys : List (Key × Event (List ℕ))) → ((i : ℕ) (f : Key × Event (List ℕ)) → nth xs i ≡ Some f → IsPlaceOf t f.0.place)
+        → ((i : ℕ) (f : Key × Event (List ℕ)) → nth ys i ≡ Some f → IsPlaceOf t f.0.place)
+        → (i : ℕ) (f : Key × Event (List ℕ)) → nth (xs ++ ys) i ≡ Some f → IsPlaceOf t f.0.place
+    either [] ys h k i f z = k i f z
+    either (x ∷ xs) ys h k zero f z = h zero f z
+    either (x ∷ xs) ys h k (suc i) f z = either xs ys (λ j. h (suc j)) k i f z
 
-  module _ (done : Done) (start : start_of done.start ≡ does_at.start) (follows : done.follows ≡ does_at.follows)
-      (fresh : (m : ℕ) (f : Key × Event (List ℕ)) → nth (made (net_of t) s e) m ≡ Some f → get (remove s.pending e.0) f.0 ≡ None)
-      (apart : (m n : ℕ) (f g : Key × Event (List ℕ)) → m < n → nth (made (net_of t) s e) m ≡ Some f → nth (made (net_of t) s e) n ≡ Some g → f.0 ≢ g.0) where
-    -- the source's next event is new
-    pub follows_fresh : AreFresh (remove s.pending e.0) (next_events e.0.place e.0.number done.follows)
-    follows_fresh = subst (λ o. AreFresh (remove s.pending e.0) (next_events e.0.place e.0.number o)) (sym follows)
-        (second_fresh (remove s.pending e.0) (start_events (net_of t) e.0.time s.sent does_at.start) e.0.place e.0.number does_at.follows fresh apart)
-
-    -- and then those of the transmission that starts
-    pub start_fresh : AreFresh (schedule everywhere (next_events e.0.place e.0.number done.follows) (remove s.pending e.0))
-        (start_events (net_of t) e.0.time s.sent (start_of done.start))
-    start_fresh = subst (λ (o : Option (ℕ × List ℕ) × Option (ℕ × List ℕ)). AreFresh (schedule everywhere (next_events e.0.place e.0.number o.1) (remove s.pending e.0))
-        (start_events (net_of t) e.0.time s.sent o.0)) (sym (λ k. (start k, follows k)))
-        (first_fresh (remove s.pending e.0) (start_events (net_of t) e.0.time s.sent does_at.start) e.0.place e.0.number does_at.follows fresh apart)
-
-  pub stands_after : IsInOrder t.nodes t.ifaces t.links → IsOrderly (net_of t) everywhere (step (net_of t) everywhere s)
-      → (done : Done) (q : PartValue L) → Does t s.node s.port e.0 e.1 q.devices done
-      → Told t q.timeline (sent_after (net_of t) e.0.time s.sent (start_of done.start))
-      → pending q.timeline.events ≡ schedule everywhere (start_events (net_of t) e.0.time s.sent (start_of done.start))
-      (schedule everywhere (next_events e.0.place e.0.number done.follows) (remove s.pending e.0))
-      → q.timeline.records ≡ (p.timeline.records ++ in_record e.0.time done.came) ++ out_record e.0.time (start_of done.start)
-      → q.steps ≡ p.steps + 1
-      → Stands pending t q (step (net_of t) everywhere s)
-  stands_after order orderly done q does told events records steps =
-      let here : IsPlaceOf t e.0.place = stands.placed e.0 e.1 (least_has s.pending e first) in
-      let events' : pending q.timeline.events ≡ schedule everywhere (start_events (net_of t) e.0.time s.sent does_at.start ++ next_events e.0.place e.0.number does_at.follows) (remove s.pending e.0)
-      = events ∙ (λ k. schedule everywhere (start_events (net_of t) e.0.time s.sent (does.does.start k)) (schedule everywhere (next_events e.0.place e.0.number (does.does.follows k)) (remove s.pending e.0)))
-      ∙ sym (schedule_append (start_events (net_of t) e.0.time s.sent does_at.start) (next_events e.0.place e.0.number does_at.follows) (remove s.pending e.0)) in
-      let records' : q.timeline.records ≡ s.records ++ (in_record e.0.time does_at.came ++ out_record e.0.time does_at.start)
-      = records ∙ (λ k. (stands.records k ++ in_record e.0.time (does.does.came k)) ++ out_record e.0.time (does.does.start k))
-      ∙ append_assoc s.records (in_record e.0.time does_at.came) (out_record e.0.time does_at.start) in
-      let within = subst (λ o. IfSome o (λ z. z.0 < length t.ifaces)) does.does.start (begins_within t e.0.time done.start does.does.begins) in
-      let again : step_at (net_of t) everywhere s (Some e) ≡ step (net_of t) everywhere s = ap (step_at (net_of t) everywhere s) (sym first) in
-      subst (Stands pending t q) again record {
-        orderly = subst (IsOrderly (net_of t) everywhere) (sym again) orderly;
-        devices = does.stand;
-        told = subst (λ o. Told t q.timeline (sent_after (net_of t) e.0.time s.sent o)) does.does.start told;
-        few = λ c. let f = one_more t e.0.time p.steps s.sent does_at.start stands.few c in omega (arith, f, steps);
-        events = events';
-        placed = placed_schedule (IsPlaceOf t) (start_events (net_of t) e.0.time s.sent does_at.start ++ next_events e.0.place e.0.number does_at.follows) (remove s.pending e.0)
-            (either (start_events (net_of t) e.0.time s.sent does_at.start) (next_events e.0.place e.0.number does_at.follows)
-            (placed_start t order e.0.time s.sent does_at.start within) (placed_next (IsPlaceOf t) e.0.place e.0.number does_at.follows here))
-            (placed_remove (IsPlaceOf t) s.pending e.0 stands.placed);
-        records = records';
-      }
-    where
-      either : (xs ys : List (Key × Event (List ℕ))) → ((i : ℕ) (f : Key × Event (List ℕ)) → nth xs i ≡ Some f → IsPlaceOf t f.0.place)
-          → ((i : ℕ) (f : Key × Event (List ℕ)) → nth ys i ≡ Some f → IsPlaceOf t f.0.place)
-          → (i : ℕ) (f : Key × Event (List ℕ)) → nth (xs ++ ys) i ≡ Some f → IsPlaceOf t f.0.place
-      either [] ys h k i f z = k i f z
-      either (x ∷ xs) ys h k zero f z = h zero f z
-      either (x ∷ xs) ys h k (suc i) f z = either xs ys (λ j. h (suc j)) k i f z
-
--- an event that was taken and put back
-pub stands_again : {L : Type 0} (pending : L → FinMap key_cmp (Event (List ℕ))) (t : NetworkValue) (p q : PartValue L) (s : State (List ℕ) NodeStateValue) → Stands pending t p s
-    → (e : Key × Event (List ℕ)) → least s.pending ≡ Some e → q.devices ≡ p.devices → q.timeline.sent ≡ p.timeline.sent → q.timeline.records ≡ p.timeline.records → q.steps ≡ p.steps
-    → pending q.timeline.events ≡ insert (remove (pending p.timeline.events) e.0) e.0 e.1 → Stands pending t q s
-stands_again pending t p q s h e first devices sent records steps events = record {
+-- an event that was taken out is put back
+pub stands_again : {L : Type 0} (pending : L → FinMap key_cmp (Event (List ℕ))) (t : NetworkValue) (k : Key) (e : Event (List ℕ)) (p q : PartValue L)
+    (s : State (List ℕ) NodeStateValue) → Taken pending t k e None None p s → Stand t p.devices s.node s.port
+    → q.devices ≡ p.devices → q.timeline.sent ≡ p.timeline.sent → q.timeline.records ≡ p.timeline.records → q.steps ≡ p.steps
+    → pending q.timeline.events ≡ insert (pending p.timeline.events) k e → Stands pending t q s
+stands_again pending t k e p q s h stand devices sent records steps events = record {
   orderly = h.orderly;
-  devices = subst (λ d. Stand t d s.node s.port) (sym devices) h.devices;
+  devices = subst (λ d. Stand t d s.node s.port) (sym devices) stand;
   told = told_same t p.timeline q.timeline s.sent sent h.told;
   few = λ c. let l = h.few c in omega (arith, l, steps);
-  events = events ∙ ap (λ m. insert (remove m e.0) e.0 e.1) h.events ∙ put_back s.pending e.0 e.1 (least_has s.pending e first);
+  events = events ∙ ap (λ m. insert m k e) h.events ∙ put_back s.pending k e (least_has s.pending (k, e) h.first);
   placed = h.placed;
-  records = records ∙ h.records;
+  records = records ∙ h.records ∙ append-nil s.records;
 }
 
 stand_same : (t : NetworkValue) (d e : DevicesValue) (node : ℕ → NodeStateValue) (port : ℕ → Port (List ℕ)) → Stand t d node port → IsSame d e → Stand t e node port

@@ -1,5 +1,5 @@
 -- A part that stands for a state of its network's run does so after a step too.
-use Rattle.std.proofs.Common.{◌≡◌, ℕ, List, Option, Some, None, Result, Ok, Err, sym, subst}
+use Rattle.std.proofs.Common.{ℕ, List, Option, Some, None, Result, Ok, Err, sym, subst}
 use Rattle.std.specs.FinMap.{FinMap}
 use Rattle.std.specs.declared.alloc.AllocError.{AllocError}
 use Rattle.nm_base.specs.declared.event.Event.{Event}

@@ -70,10 +70,7 @@ module _ (t : NetworkValue) (limits : IsWithinLimits t) (fit : FitTheMtu t) wher
       go None f = tt
       go (Some s) f = fits_traffic s.traffic a.1 (fit j n s a f e)
 
-module _ (t : NetworkValue) (limits : IsWithinLimits t) (fit : FitTheMtu t) (rise : TimesRise t) (end : EndForGood t) (before : ComeBeforeStop t)
-    (s : State (List ℕ) NodeStateValue) (orderly : IsOrderly (net_of t) everywhere s)
-    (placed : (q : Key) (y : Event (List ℕ)) → get s.pending q ≡ Some y → IsPlaceOf t q.place)
-    (d : DevicesValue) (stand : Stand t d s.node s.port) where
+module _ (t : NetworkValue) (s : State (List ℕ) NodeStateValue) (orderly : IsOrderly (net_of t) everywhere s) (d : DevicesValue) (stand : Stand t d s.node s.port) where
   busy_at : (i : ℕ) (b : Busy (List ℕ)) → (s.port i).busy ≡ Some b → i < length t.ifaces → IsBusy (slice_get d.ports i)
   busy_at i b e h = go (slice_get d.ports i) refl
     where
@@ -81,6 +78,14 @@ module _ (t : NetworkValue) (limits : IsWithinLimits t) (fit : FitTheMtu t) (ris
       go None f = absurd (let n = past d.ports i f in omega (arith, n, h, stand.port_count))
       go (Some w) f = let p = stand.ports i w f in subst IsSome (sym (p.busy ∙ e)) refl
 
+  -- where a completion is pending, the interface transmits
+  pub is_busy : (i time number : ℕ) (y : Event (List ℕ)) → get s.pending (key_of time (Complete i) number) ≡ Some y → i < length t.ifaces → IsBusy (slice_get d.ports i)
+  is_busy i time number y e h = let c = orderly.completion i time number y e in busy_at i c.0 c.2 h
+
+module _ (t : NetworkValue) (limits : IsWithinLimits t) (fit : FitTheMtu t) (rise : TimesRise t) (end : EndForGood t) (before : ComeBeforeStop t)
+    (s : State (List ℕ) NodeStateValue) (orderly : IsOrderly (net_of t) everywhere s)
+    (placed : (q : Key) (y : Event (List ℕ)) → get s.pending q ≡ Some y → IsPlaceOf t q.place)
+    (d : DevicesValue) (stand : Stand t d s.node s.port) where
   -- an event that is pending can happen
   pub can_happen : (k : Key) (y : Event (List ℕ)) → get s.pending k ≡ Some y → CanHappen t d k.place k.number y
   unfolding net_of
@@ -89,7 +94,7 @@ module _ (t : NetworkValue) (limits : IsWithinLimits t) (fit : FitTheMtu t) (ris
       go : (p : Place) (z : Event (List ℕ)) → IsPlaceOf t p → get s.pending (key_of k.time p k.number) ≡ Some z → CanHappen t d p k.number z
       go (Arrive i) (Delivery x) h f = h
       go (Arrive i) Completion h f = absurd (let a = orderly.arrival i k.time k.number Completion f in let b = a.1 in cc)
-      go (Complete i) Completion h f = let c = orderly.completion i k.time k.number Completion f in (h, busy_at i c.0 c.2 h)
+      go (Complete i) Completion h f = (h, is_busy t s orderly d stand i k.time k.number Completion f h)
       go (Complete i) (Delivery x) h f = absurd (let c = orderly.completion i k.time k.number (Delivery x) f in let b = c.1 in cc)
       go (Fire j) (Delivery x) h f =
           let c = orderly.source j k.time k.number (Delivery x) f in

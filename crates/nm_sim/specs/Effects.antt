@@ -18,7 +18,6 @@ use Rattle.nm_forward.specs.Reaction.{FitsOrigin, reaction}
 use Rattle.nm_iface.specs.PortValue.{PortValue}
 use Rattle.nm_iface.specs.declared.port.Start.{Start}
 use Rattle.nm_iface.specs.Starts.{IsStart}
-use Rattle.nm_sim.specs.declared.effect.Effect.{Effect as Done}
 use Rattle.nm_sim.specs.Devices.{DevicesValue, Stand}
 use Rattle.nm_sim.specs.Network.{far_of, net_of}
 
@@ -55,6 +54,13 @@ start_at i (Some s) = Some (i, s)
 -- the transmission that starts at this time, by an interface that is there
 abbrev pub StartsAt : NetworkValue → ℕ → ℕ × Start → Type 0
 StartsAt t time s = (s.0 < length t.ifaces) × IsStart (far_of t s.0).rate (far_of t s.0).delay time s.1.twin.packet s.1
+
+-- What was done beside the change of a node and of one port: the packet that arrived, and where, the transmission that starts, and where, and
+-- the source's next packet, and when it comes.
+pub record Done : Type 0 where
+  pub came : Option (ℕ × List ℕ)
+  pub start : Option (ℕ × Start)
+  pub follows : Option (ℕ × List ℕ)
 
 -- what was done is this effect
 pub record IsEffect (t : NetworkValue) (time : ℕ) (e : Done) (m : Effect (List ℕ) NodeStateValue) : Type 0 where

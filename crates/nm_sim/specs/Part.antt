@@ -1,22 +1,24 @@
 -- What contracts see of a part of a simulation, and what it stands for.
-use Rattle.std.specs.Prelude.{◌≡◌, ℕ, ◌≤◌, Bool, true, false, ltb, if◌then◌else◌, slice_index, List, length, Option, Some, None, Result, Ok, Err}
+use Rattle.std.specs.Prelude.{◌≡◌, ℕ, ◌+◌, ◌^◌, ◌<◌, ◌≤◌, ◌++◌, Bool, true, false, ltb, if◌then◌else◌, slice_index, List, length, Option, Some, None, Result, Ok, Err}
 use Rattle.std.specs.Option.{option_map}
-use Rattle.std.specs.FinMap.{FinMap, get}
+use Rattle.std.specs.FinMap.{FinMap, get, remove}
 use Rattle.std.specs.declared.alloc.AllocError.{AllocError}
 use Rattle.nm_base.specs.declared.event.Event.{Event}
 use Rattle.nm_base.specs.declared.key.Key.{Key}
 use Rattle.nm_base.specs.Key.{key_cmp}
 use Rattle.nm_topology.specs.Wholes.{NetworkValue}
-use Rattle.nm_model.specs.EventList.{least}
+use Rattle.nm_model.specs.EventList.{least, schedule}
 use Rattle.nm_model.specs.Orderly.{IsOrderly}
-use Rattle.nm_model.specs.Run.{State, pends_before, step}
+use Rattle.nm_model.specs.Run.{State, in_record, next_events, pends_before, step}
 use Rattle.nm_forward.specs.declared.counter.Counter.{Counter}
 use Rattle.nm_forward.specs.Counter.{counter_number}
 use Rattle.nm_forward.specs.State.{NodeStateValue}
 use Rattle.nm_iface.specs.PortValue.{counted}
 use Rattle.nm_sim.specs.Network.{net_of}
 use Rattle.nm_sim.specs.Devices.{DevicesValue, Stand}
-use Rattle.nm_sim.specs.Effects.{IsPlaceOf}
+use Rattle.nm_sim.specs.Effects.{Does, Done, IsPlaceOf}
+use Rattle.nm_sim.specs.Tables.{AllAt}
+use Rattle.nm_base.specs.declared.limits.TheConstants.{MAX_TIME}
 use Rattle.nm_sim.specs.Timelines.{TimelineValue, Told, everywhere}
 
 pub record PartValue (L : Type 0) : Type 0 where
@@ -33,6 +35,43 @@ pub record Stands {L : Type 0} (pending : L → FinMap key_cmp (Event (List ℕ)
   pub events : pending p.timeline.events ≡ s.pending
   pub placed : (q : Key) (y : Event (List ℕ)) → get s.pending q ≡ Some y → IsPlaceOf t q.place
   pub records : p.timeline.records ≡ s.records
+
+-- An event was taken out of a part that stood for this state. If a packet came with it, the trace has it, and if another follows at its source,
+-- that is pending.
+pub record Taken {L : Type 0} (pending : L → FinMap key_cmp (Event (List ℕ))) (t : NetworkValue) (k : Key) (e : Event (List ℕ))
+    (came follows : Option (ℕ × List ℕ)) (p : PartValue L) (s : State (List ℕ) NodeStateValue) : Type 0 where
+  pub first : least s.pending ≡ Some (k, e)
+  pub orderly : IsOrderly (net_of t) everywhere s
+  pub told : Told t p.timeline s.sent
+  pub few : (c : ℕ) → length (s.sent c) ≤ p.steps
+  pub events : pending p.timeline.events ≡ schedule everywhere (next_events k.place k.number follows) (remove s.pending k)
+  pub placed : (q : Key) (y : Event (List ℕ)) → get s.pending q ≡ Some y → IsPlaceOf t q.place
+  pub records : p.timeline.records ≡ s.records ++ in_record k.time came
+
+-- it was taken out and nothing of it is done, and there is memory for all that it may do
+pub record IsReady {L : Type 0} (pending : L → FinMap key_cmp (Event (List ℕ))) (room_of : L → ℕ) (t : NetworkValue) (k : Key) (e : Event (List ℕ))
+    (p : PartValue L) (s : State (List ℕ) NodeStateValue) : Type 0 where
+  pub taken : Taken pending t k e None None p s
+  pub devices : Stand t p.devices s.node s.port
+  pub time : k.time ≤ MAX_TIME
+  pub steps : p.steps < 2 ^ 62
+  pub ports : AllAt (λ i w. 1 ≤ w.room) p.devices.ports
+  pub room : 3 ≤ room_of p.timeline.events
+  pub spare : 2 ≤ p.timeline.spare
+
+-- it was done, but that no transmission started yet
+pub record IsUnderWay {L : Type 0} (pending : L → FinMap key_cmp (Event (List ℕ))) (t : NetworkValue) (k : Key) (e : Event (List ℕ))
+    (done : Done) (p : PartValue L) (s : State (List ℕ) NodeStateValue) : Type 0 where
+  pub taken : Taken pending t k e done.came done.follows p s
+  pub does : Does t s.node s.port k e p.devices done
+
+-- what became of it: it was done, or is back where it was
+abbrev pub Performed : {L : Type 0} → (L → FinMap key_cmp (Event (List ℕ))) → (L → ℕ) → NetworkValue → Key → Event (List ℕ)
+    → PartValue L → PartValue L → Result Unit AllocError → Type 0
+Performed pending room t k e old new (Ok u) = ((s : State (List ℕ) NodeStateValue) → IsReady pending room t k e old s
+    → Stands pending t new (step (net_of t) everywhere s)) × (new.steps ≡ old.steps + 1)
+Performed pending room t k e old new (Err x) = ((s : State (List ℕ) NodeStateValue) → IsReady pending room t k e old s
+    → Stands pending t new s) × (new.steps ≡ old.steps)
 
 -- what a step answers, and what the part stands for after it
 abbrev pub Stepped : {L : Type 0} → (L → FinMap key_cmp (Event (List ℕ))) → NetworkValue → ℕ → State (List ℕ) NodeStateValue

@@ -20,7 +20,7 @@ ghost use Rattle.nm_forward.specs.Counter.{counter_number};
 ghost use Rattle.std.specs.Option.{option_map};
 ghost use Rattle.nm_sim.specs.Effects.{CanHappen, Does, IsBusy, Reacts, Sends, start_at as start_at_iface};
 
-use crate::effect::Effect;
+use crate::fired::Fired;
 use nm_base::{Event, IfaceNo, Key, NodeNo, Origin, Packet, Place, SourceNo, Time};
 use nm_forward::laws::a_node_sends_by_its_own_interfaces;
 use nm_forward::{Counter, NodeState, Reaction, react};
@@ -182,7 +182,7 @@ impl Devices {
     }
 
     /// What a node sends is offered to its interface: the transmission that starts, and where, if one does.
-    fn send(
+    pub fn send(
         &mut self,
         topology: &Topology,
         time: Time,
@@ -232,144 +232,75 @@ impl Devices {
         )
     }
 
-    /// A packet arrives at an interface. The packet comes back where memory was refused; nothing changed then.
-    fn arrive(
+    /// What the node of an interface does with a packet that arrives there. An `Err` changes nothing.
+    pub fn arrive(
         &mut self,
         alloc: Global,
         topology: &Topology,
-        time: Time,
         iface: IfaceNo,
-        packet: Packet,
-    ) -> Result<Effect, Packet>
-        requires time { time ≤ MAX_TIME }
+        packet: &Packet,
+    ) -> Result<Reaction, AllocError>
         requires place { iface < length topology.now.ifaces }
-        requires room { AllAt (λ i w. 1 ≤ w.room) self.old.ports }
         requires stand { IsStanding topology.now self.old }
         ensures err { OnErr result (self.new ≡ self.old) }
-        ensures back { IfErr result (λ p. p ≡ packet) }
-        ensures does { (states : ℕ → NodeStateValue) (ports : ℕ → PortState (List ℕ)) (number : ℕ)
-            → Stand topology.now self.old states ports
-            → IfOk result (Does topology.now states ports (key_of time (Arrive iface) number) (Delivery packet) self.new) }
+        ensures ports { self.new.ports ≡ self.old.ports }
+        ensures own { IfOk result (λ r. IfSome (sent_of r) (λ s. s.0 < length topology.now.ifaces)) }
+        ensures reacts { (states : ℕ → NodeStateValue) (ports : ℕ → PortState (List ℕ)) → Stand topology.now self.old states ports
+            → IfOk result (λ r. Reacts topology.now states ports ((net_of topology.now).owner iface) (Arrival iface) packet.now
+            self.new (sent_of r)) }
     {
         accepted_topologies_are_in_order(topology);
         let node = topology.iface(iface).node();
         let origin = Origin::Arrival(iface);
-        let Ok(reaction) = self.react(alloc, topology, node, origin, &packet) else {
-            return Err(packet);
-        };
-        let start = self.send(topology, time, reaction);
-        Ok(Effect {
-            came: Some((iface, packet)),
-            start,
-            follows: None,
-        })
+        self.react(alloc, topology, node, origin, packet)
     }
 
-    /// A transmission is complete, and that of the packet that waits first starts, if one does.
-    fn complete(&mut self, topology: &Topology, time: Time, iface: IfaceNo) -> Effect
+    /// A transmission is complete, and that of the packet that waits first starts, if one does: which, and where.
+    pub fn complete(
+        &mut self,
+        topology: &Topology,
+        time: Time,
+        iface: IfaceNo,
+    ) -> Option<(IfaceNo, Start)>
         requires time { time ≤ MAX_TIME }
         requires place { iface < length topology.now.ifaces }
         requires busy { IsBusy (slice_get self.old.ports iface) }
         requires count { length self.old.ports ≡ length topology.now.ifaces }
         ensures does { (states : ℕ → NodeStateValue) (ports : ℕ → PortState (List ℕ)) (number : ℕ)
             → Stand topology.now self.old states ports
-            → Does topology.now states ports (key_of time (Complete iface) number) Completion self.new result }
+            → Does topology.now states ports (key_of time (Complete iface) number) Completion self.new
+            (record { came = None; start = result; follows = None }) }
     {
         let start = self.ports[iface.index()].done(time);
-        Effect {
-            came: None,
-            start: start_at(iface, start),
-            follows: None,
-        }
+        start_at(iface, start)
     }
 
-    /// A source hands a packet over. The packet comes back where memory was refused; nothing changed then.
-    fn fire(
+    /// What the node of a source does with a packet that the source hands over, and the source's next packet. An `Err`
+    /// changes nothing.
+    pub fn fire(
         &mut self,
         alloc: Global,
         topology: &Topology,
-        time: Time,
         source: SourceNo,
         number: u64,
-        packet: Packet,
-    ) -> Result<Effect, Packet>
-        requires time { time ≤ MAX_TIME }
+        packet: &Packet,
+    ) -> Result<Fired, AllocError>
         requires place { source < length topology.now.sources }
-        requires fits { FitsOrigin topology.now (FromSource source) packet }
+        requires fits { FitsOrigin topology.now (FromSource source) packet.now }
         requires number { number < 2 ^ 63 }
-        requires room { AllAt (λ i w. 1 ≤ w.room) self.old.ports }
         requires stand { IsStanding topology.now self.old }
         ensures err { OnErr result (self.new ≡ self.old) }
-        ensures back { IfErr result (λ p. p ≡ packet) }
-        ensures does { (states : ℕ → NodeStateValue) (ports : ℕ → PortState (List ℕ))
-            → Stand topology.now self.old states ports
-            → IfOk result (Does topology.now states ports (key_of time (Fire source) number) (Delivery packet) self.new) }
+        ensures ports { self.new.ports ≡ self.old.ports }
+        ensures own { IfOk result (λ f. IfSome (sent_of f.reaction) (λ s. s.0 < length topology.now.ifaces)) }
+        ensures follows { IfOk result (λ f. f.follows ≡ source_at topology.now source (number + 1)) }
+        ensures reacts { (states : ℕ → NodeStateValue) (ports : ℕ → PortState (List ℕ)) → Stand topology.now self.old states ports
+            → IfOk result (λ f. Reacts topology.now states ports ((net_of topology.now).source_node source) (FromSource source)
+            packet.now self.new (sent_of f.reaction)) }
     {
-        accepted_topologies_are_in_order(topology);
-        let Ok(follows) = self.sources[source.index()].next(alloc, number + 1) else {
-            return Err(packet);
-        };
+        let follows = self.sources[source.index()].next(alloc, number + 1)?;
         let node = node_of(topology, source);
         let origin = Origin::Source(source);
-        let Ok(reaction) = self.react(alloc, topology, node, origin, &packet) else {
-            return Err(packet);
-        };
-        let start = self.send(topology, time, reaction);
-        Ok(Effect {
-            came: None,
-            start,
-            follows,
-        })
-    }
-
-    /// What an event does to its node and to one port, and what follows from it. The event comes back where memory was
-    /// refused; nothing changed then.
-    pub fn effect(
-        &mut self,
-        alloc: Global,
-        topology: &Topology,
-        key: Key,
-        event: Event,
-    ) -> Result<Effect, Event>
-        requires time { key.time ≤ MAX_TIME }
-        requires happens { CanHappen topology.now self.old key.place key.number event }
-        requires room { AllAt (λ i w. 1 ≤ w.room) self.old.ports }
-        requires stand { IsStanding topology.now self.old }
-        ensures err { OnErr result (self.new ≡ self.old) }
-        ensures back { IfErr result (λ e. e ≡ event) }
-        ensures does { (states : ℕ → NodeStateValue) (ports : ℕ → PortState (List ℕ))
-            → Stand topology.now self.old states ports
-            → IfOk result (Does topology.now states ports key event self.new) }
-    {
-        let Key {
-            time,
-            place,
-            number,
-        } = key;
-        match event {
-            Event::Completion => match place {
-                Place::Complete(iface) => Ok(self.complete(topology, time, iface)),
-                Place::Arrive(_) | Place::Fire(_) => Err(Event::Completion),
-            },
-            Event::Delivery(packet) => match place {
-                Place::Arrive(iface) => delivered(self.arrive(
-                    alloc, topology, time, iface, packet,
-                )),
-                Place::Fire(source) => {
-                    delivered(self.fire(alloc, topology, time, source, number, packet))
-                }
-                Place::Complete(_) => Err(Event::Delivery(packet)),
-            },
-        }
-    }
-}
-
-/// The effect, or the event of the packet that came back.
-fn delivered(effect: Result<Effect, Packet>) -> Result<Effect, Event>
-    ensures { MatchResult effect (λ e. result ≡ Ok e) (λ p. result ≡ Err (Delivery p)) }
-{
-    match effect {
-        Ok(effect) => Ok(effect),
-        Err(packet) => Err(Event::Delivery(packet)),
+        let reaction = self.react(alloc, topology, node, origin, packet)?;
+        Ok(Fired { reaction, follows })
     }
 }

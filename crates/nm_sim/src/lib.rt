@@ -2,7 +2,7 @@
 #![tactic(auto)]
 
 mod devices;
-mod effect;
+mod fired;
 pub mod network;
 pub mod part;
 mod timeline;

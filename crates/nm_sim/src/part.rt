@@ -1,31 +1,33 @@
 //! A part of a simulation.
 
-ghost use Rattle.std.specs.Prelude.{◌≡◌, ℕ, ◌+◌, ◌<◌, ◌≤◌, ◌^◌, List, [], Some, IfOk, OnOk, OnErr, length, ltb, replicate};
+ghost use Rattle.std.specs.Prelude.{◌≡◌, ℕ, ◌+◌, ◌<◌, ◌≤◌, ◌^◌, List, [], Option, Some, Ok, IfOk, OnOk, OnErr, length, ltb, replicate};
 ghost use Rattle.nm_base.specs.declared.event.Event.{Event as PendingEvent};
+ghost use Rattle.nm_base.specs.declared.event.Event.TheVariants.{Completion, Delivery};
+ghost use Rattle.nm_base.specs.declared.event.Origin.TheVariants.{Source as FromSource};
 ghost use Rattle.nm_base.specs.declared.key.Key.{Key as EventKey};
+ghost use Rattle.nm_base.specs.declared.key.Place.{Place as EventPlace};
+ghost use Rattle.nm_base.specs.declared.key.Place.TheVariants.{Arrive, Complete, Fire};
+ghost use Rattle.nm_base.specs.Key.{key_of};
 ghost use Rattle.std.specs.Option.{option_map};
-ghost use Rattle.std.specs.Prelude.{◌++◌, IfSome};
 ghost use Rattle.nm_model.specs.EventList.{least, schedule};
-ghost use Rattle.nm_model.specs.Run.{in_record, out_record, next_events, start_events, sent_after};
-ghost use Rattle.nm_sim.specs.Effects.{StartsAt, start_of};
-ghost use Rattle.nm_model.specs.Run.{State, start, step};
+ghost use Rattle.nm_model.specs.Run.{State, start, step, source_events};
 ghost use Rattle.nm_forward.specs.State.{NodeStateValue};
+ghost use Rattle.nm_forward.specs.Reaction.{FitsOrigin};
 ghost use Rattle.nm_sim.specs.Network.{net_of};
-ghost use Rattle.nm_sim.specs.Part.{Advanced, Stands, Stepped, count_at, drops_at, events_done};
+ghost use Rattle.nm_sim.specs.Part.{Advanced, IsReady, IsUnderWay, Performed, Stands, Stepped, count_at, drops_at, events_done};
 ghost use Rattle.nm_topology.specs.Wholes.{NetworkValue};
 ghost use Rattle.std.specs.FinMap.{empty};
-ghost use Rattle.nm_model.specs.Run.{source_events};
 ghost use Rattle.nm_sim.specs.Devices.{IsStanding};
 ghost use Rattle.nm_sim.specs.Tables.{AllAt};
-ghost use Rattle.nm_sim.specs.Timelines.{AreFresh, IsFew, Told, everywhere};
+ghost use Rattle.nm_sim.specs.Timelines.{everywhere};
 
 use crate::devices::Devices;
-use crate::effect::Effect;
 use crate::network::every_topology_is_a_network;
 use crate::timeline::Timeline;
-use nm_base::{IfaceNo, Key, NodeNo, Packet, Record, SourceNo, Time};
+use nm_base::{Event, IfaceNo, Key, NodeNo, Packet, Place, Record, SourceNo, Time};
 use nm_events::EventList;
 use nm_forward::{Counter, NodeState};
+use nm_iface::Start;
 use nm_model::orderly::{every_state_is_orderly, new_keys_are_new};
 use nm_topology::Topology;
 use nm_topology::topology::accepted_topologies_are_in_order;
@@ -200,38 +202,8 @@ impl<L: EventList> Part<L> {
         self.timeline.into_records()
     }
 
-    /// What an event did becomes part of what passed and of what is to come.
-    fn apply(&mut self, topology: &Topology, key: Key, effect: Effect)
-        requires number { key.number < 2 ^ 63 }
-        requires room { 3 ≤ L.room self.old.timeline.events }
-        requires spare { 2 ≤ self.old.timeline.spare }
-        requires begins { IfSome effect.start (StartsAt topology.now key.time) }
-        requires follows { AreFresh (L.pending self.old.timeline.events) (next_events key.place key.number effect.follows) }
-        requires told { (sent : ℕ → List (ℕ × List ℕ)) × Told topology.now self.old.timeline sent × IsFew sent
-            × AreFresh (schedule everywhere (next_events key.place key.number effect.follows) (L.pending self.old.timeline.events))
-            (start_events (net_of topology.now) key.time sent (start_of effect.start)) }
-        ensures events { (sent : ℕ → List (ℕ × List ℕ)) → Told topology.now self.old.timeline sent → L.pending self.new.timeline.events
-            ≡ schedule everywhere (start_events (net_of topology.now) key.time sent (start_of effect.start))
-            (schedule everywhere (next_events key.place key.number effect.follows) (L.pending self.old.timeline.events)) }
-        ensures told { (sent : ℕ → List (ℕ × List ℕ)) → Told topology.now self.old.timeline sent
-            → Told topology.now self.new.timeline (sent_after (net_of topology.now) key.time sent (start_of effect.start)) }
-        ensures records { self.new.timeline.records ≡ (self.old.timeline.records ++ in_record key.time effect.came)
-            ++ out_record key.time (start_of effect.start) }
-        ensures devices { self.new.devices ≡ self.old.devices }
-        ensures steps { self.new.steps ≡ self.old.steps }
-    {
-        let Effect {
-            came,
-            start,
-            follows,
-        } = effect;
-        let time = key.time;
-        self.timeline.follows(key, follows);
-        self.timeline.arrived(time, came);
-        self.timeline.begins(topology, time, start);
-    }
-
     /// Does the event of the least key, for which there is memory. An `Err` leaves the event where it was.
+    #[inline(always)]
     fn perform(&mut self, alloc: Global, topology: &Topology) -> Result<(), AllocError>
         requires least { (s : State (List ℕ) NodeStateValue) × (e : EventKey × PendingEvent (List ℕ))
             × Stands L.pending topology.now self.old s × (least s.pending ≡ Some e) × (e.0.time < topology.now.stop) }
@@ -246,25 +218,148 @@ impl<L: EventList> Part<L> {
         ensures one { OnOk result (self.new.steps ≡ self.old.steps + 1) }
         ensures none { OnErr result (self.new.steps ≡ self.old.steps) }
     {
-        every_topology_is_a_network(topology);
         accepted_topologies_are_in_order(topology);
-        source_times_rise(topology);
-        every_state_is_orderly::<Packet, NodeState>();
-        new_keys_are_new::<Packet, NodeState>();
         let Some((key, event)) = self.timeline.take_least() else {
             return Ok(());
         };
-        let same = Key { ..key };
-        match self.devices.effect(alloc, topology, same, event) {
-            Ok(effect) => {
-                self.apply(topology, key, effect);
-                self.steps += 1;
-                Ok(())
-            }
-            Err(event) => {
-                self.timeline.put(key, event);
-                Err(AllocError)
-            }
+        self.happen(alloc, topology, key, event)
+    }
+
+    /// An event that was taken out happens. An `Err` puts it back.
+    #[inline(always)]
+    fn happen(
+        &mut self,
+        alloc: Global,
+        topology: &Topology,
+        key: Key,
+        event: Event,
+    ) -> Result<(), AllocError>
+        requires { (s : State (List ℕ) NodeStateValue) × IsReady L.pending L.room topology.now key event self.old s }
+        ensures { Performed L.pending L.room topology.now key event self.old self.new result }
+    {
+        accepted_topologies_are_in_order(topology);
+        source_times_rise(topology);
+        let Key {
+            time,
+            place,
+            number,
+        } = key;
+        match event {
+            Event::Completion => match place {
+                Place::Complete(iface) => {
+                    self.complete(topology, time, iface);
+                    Ok(())
+                }
+                Place::Arrive(_) | Place::Fire(_) => unreachable!(),
+            },
+            Event::Delivery(packet) => match place {
+                Place::Arrive(iface) => self.arrive(alloc, topology, time, iface, number, packet),
+                Place::Fire(source) => self.fire(alloc, topology, time, source, number, packet),
+                Place::Complete(_) => unreachable!(),
+            },
         }
+    }
+
+    /// A packet arrives. An `Err` puts the event back.
+    #[inline(always)]
+    fn arrive(
+        &mut self,
+        alloc: Global,
+        topology: &Topology,
+        time: Time,
+        iface: IfaceNo,
+        number: u64,
+        packet: Packet,
+    ) -> Result<(), AllocError>
+        requires { (s : State (List ℕ) NodeStateValue)
+            × IsReady L.pending L.room topology.now (key_of time (Arrive iface) number) (Delivery packet) self.old s }
+        ensures { Performed L.pending L.room topology.now (key_of time (Arrive iface) number) (Delivery packet)
+            self.old self.new result }
+    {
+        let Ok(reaction) = self.devices.arrive(alloc, topology, iface, &packet) else {
+            let place = Place::Arrive(iface);
+            let key = Key {
+                time,
+                place,
+                number,
+            };
+            self.timeline.put(key, Event::Delivery(packet));
+            return Err(AllocError);
+        };
+        self.timeline.arrived(time, iface, packet);
+        let start = self.devices.send(topology, time, reaction);
+        self.conclude(topology, time, start);
+        Ok(())
+    }
+
+    /// A transmission is complete.
+    #[inline(always)]
+    fn complete(&mut self, topology: &Topology, time: Time, iface: IfaceNo)
+        requires { (number : ℕ) × (s : State (List ℕ) NodeStateValue)
+            × IsReady L.pending L.room topology.now (key_of time (Complete iface) number) Completion self.old s }
+        ensures { (number : ℕ)
+            → Performed L.pending L.room topology.now (key_of time (Complete iface) number) Completion self.old self.new (Ok tt) }
+    {
+        let start = self.devices.complete(topology, time, iface);
+        self.conclude(topology, time, start);
+    }
+
+    /// A source hands a packet over. An `Err` puts the event back.
+    #[inline(always)]
+    fn fire(
+        &mut self,
+        alloc: Global,
+        topology: &Topology,
+        time: Time,
+        source: SourceNo,
+        number: u64,
+        packet: Packet,
+    ) -> Result<(), AllocError>
+        requires fits { FitsOrigin topology.now (FromSource source) packet }
+        requires number { number < 2 ^ 63 }
+        requires ready { (s : State (List ℕ) NodeStateValue)
+            × IsReady L.pending L.room topology.now (key_of time (Fire source) number) (Delivery packet) self.old s }
+        ensures { Performed L.pending L.room topology.now (key_of time (Fire source) number) (Delivery packet)
+            self.old self.new result }
+    {
+        every_topology_is_a_network(topology);
+        new_keys_are_new::<Packet, NodeState>();
+        let place = Place::Fire(source);
+        let key = Key {
+            time,
+            place,
+            number,
+        };
+        let Ok(fired) = self.devices.fire(alloc, topology, source, number, &packet) else {
+            self.timeline.put(key, Event::Delivery(packet));
+            return Err(AllocError);
+        };
+        self.timeline.follows(key, fired.follows);
+        let start = self.devices.send(topology, time, fired.reaction);
+        self.conclude(topology, time, start);
+        Ok(())
+    }
+
+    /// The event that is under way is done, with the transmission that starts, if one does.
+    #[inline(always)]
+    fn conclude(&mut self, topology: &Topology, time: Time, start: Option<(IfaceNo, Start)>)
+        requires steps { self.old.steps < 2 ^ 62 }
+        requires room { 2 ≤ L.room self.old.timeline.events }
+        requires spare { 1 ≤ self.old.timeline.spare }
+        requires under_way { (q : EventPlace) × (n : ℕ) × (e : PendingEvent (List ℕ)) × (came follows : Option (ℕ × List ℕ))
+            × (s : State (List ℕ) NodeStateValue) × IsUnderWay L.pending topology.now (key_of time q n) e
+            (record { came = came; start = start; follows = follows }) self.old s }
+        ensures stands { (q : EventPlace) (n : ℕ) (e : PendingEvent (List ℕ)) (came follows : Option (ℕ × List ℕ))
+            (s : State (List ℕ) NodeStateValue) → IsUnderWay L.pending topology.now (key_of time q n) e
+            (record { came = came; start = start; follows = follows }) self.old s
+            → Stands L.pending topology.now self.new (step (net_of topology.now) everywhere s) }
+        ensures steps { self.new.steps ≡ self.old.steps + 1 }
+    {
+        every_topology_is_a_network(topology);
+        accepted_topologies_are_in_order(topology);
+        every_state_is_orderly::<Packet, NodeState>();
+        new_keys_are_new::<Packet, NodeState>();
+        self.timeline.begins(topology, time, start);
+        self.steps += 1;
     }
 }

@@ -127,24 +127,22 @@ impl<L: EventList> Timeline<L> {
         }
     }
 
-    /// A packet arrived, if one did.
-    pub fn arrived(&mut self, time: Time, came: Option<(IfaceNo, Packet)>)
+    /// A packet arrived.
+    pub fn arrived(&mut self, time: Time, iface: IfaceNo, packet: Packet)
         requires { 1 ≤ self.old.spare }
         ensures others { self.new ≡ record self.old { records = self.new.records; spare = self.new.spare } }
-        ensures records { self.new.records ≡ self.old.records ++ in_record time came }
+        ensures records { self.new.records ≡ self.old.records ++ in_record time (Some (iface, packet)) }
         ensures spare { self.old.spare ≤ self.new.spare + 1 }
     {
-        if let Some((iface, packet)) = came {
-            let dir = Dir::In;
-            self.records
-                .push(Record {
-                    time,
-                    iface,
-                    dir,
-                    packet,
-                })
-                .unwrap();
-        }
+        let dir = Dir::In;
+        self.records
+            .push(Record {
+                time,
+                iface,
+                dir,
+                packet,
+            })
+            .unwrap();
     }
 
     /// The source's next packet is to come, if there is one.

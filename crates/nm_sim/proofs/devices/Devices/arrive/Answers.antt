@@ -1,10 +1,13 @@
-use Rattle.std.proofs.Common.{refl, sym, ◌∙◌}
-use Rattle.nm_sim.proofs.Doings.{arrives_by}
+use Rattle.std.proofs.Common.{sym, ◌∙◌, subst}
+use Rattle.std.specs.Result.{IfOk}
+use Rattle.nm_base.specs.declared.event.Origin.TheVariants.{Arrival}
+use Rattle.nm_forward.specs.Reaction.{sent_of}
+use Rattle.nm_sim.specs.Effects.{Reacts}
 use Rattle.nm_sim.proofs.Networks.{owner_is}
 use Rattle.nm_sim.proofs.devices.Devices.arrive.Goals as goal
 
-pub returns-clause-does : goal.returns-clause-does
-returns-clause-does c = λ states ports number s.
-    let r = c.in-Ok.ensures.reacts states ports s in
+pub returns-clause-reacts : goal.returns-clause-reacts
+returns-clause-reacts c = λ states ports s.
     let owner = owner_is c.args.topology.now c.args.iface c.iface.result.now c.iface.ensures ∙ sym c.node-node.ensures in
-    arrives_by c.args.topology.now states ports c.args.time c.node-node.result c.args.iface number c.args.packet _ _ _ _ _ owner r (c.send-start.ensures.sends _ ports r.stand) refl refl refl
+    subst (λ v. IfOk c.react.result (λ r. Reacts c.args.topology.now states ports v (Arrival c.args.iface) c.args.packet.now c.react.new.self (sent_of r)))
+    (sym owner) (c.react.ensures.reacts states ports s)

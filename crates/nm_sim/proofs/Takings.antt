@@ -1,0 +1,186 @@
+-- An event is taken out of a part, and goes on.
+use Rattle.std.specs.declared.alloc.AllocError.{AllocError}
+use Rattle.std.specs.Result.{OnErr, OnOk}
+use Rattle.std.proofs.Common.{Result, Ok, Err, ◌+◌, ◌≤◌, ◌^◌, ◌≡◌, ◌≢◌, ℕ, suc, ◌<◌, ◌++◌, List, Option, Some, None, refl, sym, ap, ◌∙◌, subst, arith, append-nil}
+use Rattle.std.specs.FinMap.{FinMap, get, remove}
+use Rattle.nm_base.specs.declared.event.Event.{Event}
+use Rattle.nm_base.specs.declared.event.Event.TheVariants.{Delivery}
+use Rattle.nm_base.specs.declared.event.Origin.TheVariants.{Arrival, Source}
+use Rattle.nm_base.specs.declared.key.Key.{Key}
+use Rattle.nm_base.specs.declared.limits.TheConstants.{MAX_TIME}
+use Rattle.nm_base.specs.declared.key.Place.TheVariants.{Arrive, Fire}
+use Rattle.nm_base.specs.Key.{key_cmp, key_of}
+use Rattle.nm_topology.specs.Wholes.{NetworkValue}
+use Rattle.nm_model.specs.EventList.{least, schedule}
+use Rattle.nm_model.specs.Lists.{nth, set_at}
+use Rattle.nm_model.specs.Run.{Effect, State, effect, in_record, made, next_events, start_events, step}
+use Rattle.nm_forward.specs.State.{NodeStateValue}
+use Rattle.nm_forward.specs.Reaction.{reaction}
+use Rattle.nm_iface.specs.declared.port.Start.{Start}
+use Rattle.nm_traffic.specs.Source.{source_at}
+use Rattle.nm_sim.specs.Devices.{DevicesValue}
+use Rattle.nm_sim.specs.Tables.{AllAt}
+use Rattle.nm_sim.specs.Effects.{Reacts, Sends, start_of}
+use Rattle.nm_sim.specs.Network.{net_of}
+use Rattle.nm_sim.specs.Part.{IsReady, IsUnderWay, PartValue, Performed, Stands, Taken}
+use Rattle.nm_sim.specs.Timelines.{AreFresh, TimelineValue, Told, everywhere}
+use Rattle.nm_sim.proofs.Beginnings.{told_same}
+use Rattle.nm_sim.proofs.Doings.{arrives_by, fires_by, follows_is}
+use Rattle.nm_sim.proofs.Schedules.{first_fresh, same_some, second_fresh}
+use Rattle.nm_model.proofs.Keys.{remove_same}
+
+module _ {L : Type 0} (pending : L → FinMap key_cmp (Event (List ℕ))) (t : NetworkValue) (k : Key) (e : Event (List ℕ)) (p q : PartValue L) (s : State (List ℕ) NodeStateValue) where
+  pub taken_out : Stands pending t p s → Some (k, e) ≡ least (pending p.timeline.events) → pending q.timeline.events ≡ remove (pending p.timeline.events) k
+      → q.timeline.sent ≡ p.timeline.sent → q.timeline.records ≡ p.timeline.records → q.steps ≡ p.steps → Taken pending t k e None None q s
+  taken_out h first events sent records steps = record {
+    first = ap (λ m. least m) (sym h.events) ∙ sym first;
+    orderly = h.orderly;
+    told = told_same t p.timeline q.timeline s.sent sent h.told;
+    few = λ c. let l = h.few c in omega (arith, l, steps);
+    events = events ∙ ap (λ m. remove m k) h.events;
+    placed = h.placed;
+    records = records ∙ h.records ∙ sym (append-nil s.records);
+  }
+
+  -- its devices change
+  pub taken_same : {came follows : Option (ℕ × List ℕ)} → Taken pending t k e came follows p s → q.timeline ≡ p.timeline → q.steps ≡ p.steps → Taken pending t k e came follows q s
+  taken_same h line steps = record {
+    first = h.first;
+    orderly = h.orderly;
+    told = subst (λ (l : TimelineValue L). Told t l s.sent) (sym line) h.told;
+    few = λ c. let l = h.few c in omega (arith, l, steps);
+    events = ap (λ (l : TimelineValue L). pending l.events) line ∙ h.events;
+    placed = h.placed;
+    records = ap (λ (l : TimelineValue L). l.records) line ∙ h.records;
+  }
+
+  -- a packet came with it
+  pub taken_came : (came : Option (ℕ × List ℕ)) → Taken pending t k e None None p s → pending q.timeline.events ≡ pending p.timeline.events
+      → q.timeline.sent ≡ p.timeline.sent → q.timeline.records ≡ p.timeline.records ++ in_record k.time came → q.steps ≡ p.steps → Taken pending t k e came None q s
+  taken_came came h events sent records steps = record {
+    first = h.first;
+    orderly = h.orderly;
+    told = told_same t p.timeline q.timeline s.sent sent h.told;
+    few = λ c. let l = h.few c in omega (arith, l, steps);
+    events = events ∙ h.events;
+    placed = h.placed;
+    records = records ∙ ap (λ l. l ++ in_record k.time came) (h.records ∙ append-nil s.records);
+  }
+
+  -- another follows at its source
+  pub taken_follows : (follows : Option (ℕ × List ℕ)) → Taken pending t k e None None p s
+      → pending q.timeline.events ≡ schedule everywhere (next_events k.place k.number follows) (pending p.timeline.events)
+      → q.timeline.sent ≡ p.timeline.sent → q.timeline.records ≡ p.timeline.records → q.steps ≡ p.steps → Taken pending t k e None follows q s
+  taken_follows follows h events sent records steps = record {
+    first = h.first;
+    orderly = h.orderly;
+    told = told_same t p.timeline q.timeline s.sent sent h.told;
+    few = λ c. let l = h.few c in omega (arith, l, steps);
+    events = events ∙ ap (schedule everywhere (next_events k.place k.number follows)) h.events;
+    placed = h.placed;
+    records = records ∙ h.records;
+  }
+
+module _ {L : Type 0} (pending : L → FinMap key_cmp (Event (List ℕ))) (t : NetworkValue) (k : Key) (e : Event (List ℕ)) (p : PartValue L) (s : State (List ℕ) NodeStateValue) where
+  -- its key is free
+  pub key_is_free : Taken pending t k e None None p s → get (pending p.timeline.events) k ≡ None
+  key_is_free h = ap (λ m. get m k) h.events ∙ remove_same s.pending k
+
+  abbrev does_at : Effect (List ℕ) NodeStateValue
+  does_at = effect (net_of t) s.node s.port k.time k.place k.number e
+
+  module _ (follows : Option (ℕ × List ℕ)) (same : follows ≡ does_at.follows)
+      (fresh : (m : ℕ) (f : Key × Event (List ℕ)) → nth (made (net_of t) s (k, e)) m ≡ Some f → get (remove s.pending k) f.0 ≡ None)
+      (apart : (m n : ℕ) (f g : Key × Event (List ℕ)) → m < n → nth (made (net_of t) s (k, e)) m ≡ Some f → nth (made (net_of t) s (k, e)) n ≡ Some g → f.0 ≢ g.0) where
+    -- the source's next event is new
+    pub follows_fresh : Taken pending t k e None None p s → AreFresh (pending p.timeline.events) (next_events k.place k.number follows)
+    follows_fresh h = subst (λ m. AreFresh m (next_events k.place k.number follows)) (sym h.events)
+        (subst (λ o. AreFresh (remove s.pending k) (next_events k.place k.number o)) (sym same)
+        (second_fresh (remove s.pending k) (start_events (net_of t) k.time s.sent does_at.start) k.place k.number does_at.follows fresh apart))
+
+    -- and then those of the transmission that starts
+    pub start_fresh : (came : Option (ℕ × List ℕ)) (start : Option (ℕ × Start)) → start_of start ≡ does_at.start → Taken pending t k e came follows p s
+        → AreFresh (pending p.timeline.events) (start_events (net_of t) k.time s.sent (start_of start))
+    start_fresh came start begins h = subst (λ m. AreFresh m (start_events (net_of t) k.time s.sent (start_of start))) (sym h.events)
+        (subst (λ (o : Option (ℕ × List ℕ) × Option (ℕ × List ℕ)). AreFresh (schedule everywhere (next_events k.place k.number o.1) (remove s.pending k))
+        (start_events (net_of t) k.time s.sent o.0)) (sym (λ i. (begins i, same i)))
+        (first_fresh (remove s.pending k) (start_events (net_of t) k.time s.sent does_at.start) k.place k.number does_at.follows fresh apart))
+
+-- what follows when source j hands a packet over
+pub fires_next : (t : NetworkValue) (s : State (List ℕ) NodeStateValue) (time j number : ℕ) (x : List ℕ)
+    → source_at t j (suc number) ≡ (effect (net_of t) s.node s.port time (Fire j) number (Delivery x)).follows
+unfolding net_of
+fires_next t s time j number x =
+    let v = (net_of t).source_node j in
+    sym (follows_is (net_of t) s.port time None (reaction t v (s.node v) (Source j) x).0 (source_at t j (suc number)) (reaction t v (s.node v) (Source j) x).1)
+
+module _ {L : Type 0} (pending : L → FinMap key_cmp (Event (List ℕ))) (room_of : L → ℕ) (t : NetworkValue) (time number : ℕ) (p q : PartValue L) (s : State (List ℕ) NodeStateValue) where
+  -- a packet arrived, and what its node sent was offered to a port
+  pub arrives_on : (i : ℕ) (x : List ℕ) (d : DevicesValue) (sent : Option (ℕ × List ℕ)) (begun : Option (ℕ × Start))
+      → IsReady pending room_of t (key_of time (Arrive i) number) (Delivery x) p s
+      → Reacts t s.node s.port ((net_of t).owner i) (Arrival i) x d sent
+      → Sends t (set_at s.node ((net_of t).owner i) (reaction t ((net_of t).owner i) (s.node ((net_of t).owner i)) (Arrival i) x).0) s.port time sent q.devices begun
+      → pending q.timeline.events ≡ pending p.timeline.events → q.timeline.sent ≡ p.timeline.sent
+      → q.timeline.records ≡ p.timeline.records ++ in_record time (Some (i, x)) → q.steps ≡ p.steps
+      → IsUnderWay pending t (key_of time (Arrive i) number) (Delivery x) (record { came = Some (i, x); start = begun; follows = None }) q s
+  arrives_on i x d sent begun ready r o events line records steps = record {
+    taken = taken_came pending t _ _ p q s (Some (i, x)) ready.taken events line records steps;
+    does = arrives_by t s.node s.port time ((net_of t).owner i) i number x d q.devices sent begun _ refl r o refl refl refl;
+  }
+
+  -- a source handed a packet over, and what its node sent was offered to a port
+  pub fires_on : (j : ℕ) (x : List ℕ) (d : DevicesValue) (sent : Option (ℕ × List ℕ)) (begun : Option (ℕ × Start)) (follows : Option (ℕ × List ℕ))
+      → IsReady pending room_of t (key_of time (Fire j) number) (Delivery x) p s
+      → Reacts t s.node s.port ((net_of t).source_node j) (Source j) x d sent
+      → Sends t (set_at s.node ((net_of t).source_node j) (reaction t ((net_of t).source_node j) (s.node ((net_of t).source_node j)) (Source j) x).0) s.port time sent q.devices begun
+      → follows ≡ source_at t j (suc number)
+      → pending q.timeline.events ≡ schedule everywhere (next_events (Fire j) number follows) (pending p.timeline.events) → q.timeline.sent ≡ p.timeline.sent
+      → q.timeline.records ≡ p.timeline.records → q.steps ≡ p.steps
+      → IsUnderWay pending t (key_of time (Fire j) number) (Delivery x) (record { came = None; start = begun; follows = follows }) q s
+  fires_on j x d sent begun follows ready r o next events line records steps = record {
+    taken = taken_follows pending t _ _ p q s follows ready.taken events line records steps;
+    does = fires_by t s.node s.port time ((net_of t).source_node j) j number x d q.devices sent begun _ refl r o refl refl next;
+  }
+
+-- the event of the least key comes before the end
+pub time_is : {L : Type 0} (pending : L → FinMap key_cmp (Event (List ℕ))) (t : NetworkValue) (p : PartValue L) (s : State (List ℕ) NodeStateValue) → Stands pending t p s → (k : Key) (e : Event (List ℕ))
+    → Some (k, e) ≡ least (pending p.timeline.events) → (f : Key × Event (List ℕ)) → least s.pending ≡ Some f → f.0.time < t.stop → t.stop ≤ MAX_TIME → k.time ≤ MAX_TIME
+time_is pending t p s h k e first f least_is early stop =
+    let same : (k, e) ≡ f = same_some (k, e) f (first ∙ ap (λ m. least m) h.events ∙ least_is) in
+    let time : k.time ≡ f.0.time = ap (λ (y : Key × Event (List ℕ)). y.0.time) same in
+    omega (arith, time, early, stop)
+
+-- it is taken out, where there is memory for all that it may do
+pub ready_at : {L : Type 0} (pending : L → FinMap key_cmp (Event (List ℕ))) (room_of : L → ℕ) (t : NetworkValue) (k : Key) (e : Event (List ℕ)) (d : DevicesValue) (line after : TimelineValue L) (steps : ℕ)
+    → Some (k, e) ≡ least (pending line.events) → pending after.events ≡ remove (pending line.events) k → after ≡ record line { events = after.events }
+    → k.time ≤ MAX_TIME → steps < 2 ^ 62 → AllAt (λ i w. 1 ≤ w.room) d.ports → 3 ≤ room_of after.events → 2 ≤ line.spare
+    → (s : State (List ℕ) NodeStateValue) → Stands pending t (record { devices = d; timeline = line; steps = steps }) s
+    → IsReady pending room_of t k e (record { devices = d; timeline = after; steps = steps }) s
+ready_at pending room_of t k e d line after steps first rest others time few ports room spare s stands = record {
+  taken = taken_out pending t k e (record { devices = d; timeline = line; steps = steps }) (record { devices = d; timeline = after; steps = steps }) s
+      stands first rest (ap (λ l. l.sent) others) (ap (λ l. l.records) others) refl;
+  devices = stands.devices;
+  time = time;
+  steps = few;
+  ports = ports;
+  room = room;
+  spare = let e = ap (λ l. l.spare) others in omega (arith, e, spare);
+}
+
+module _ {L : Type 0} (pending : L → FinMap key_cmp (Event (List ℕ))) (room_of : L → ℕ) (t : NetworkValue) (k : Key) (e : Event (List ℕ)) (p q new : PartValue L)
+    (ready : (s : State (List ℕ) NodeStateValue) → Stands pending t p s → IsReady pending room_of t k e q s) where
+  pub performed_ok : (r : Result Unit AllocError) → Performed pending room_of t k e q new r
+      → OnOk r ((s : State (List ℕ) NodeStateValue) → Stands pending t p s → Stands pending t new (step (net_of t) everywhere s))
+  performed_ok (Ok u) h = λ s z. h.0 s (ready s z)
+  performed_ok (Err x) h = tt
+
+  pub performed_err : (r : Result Unit AllocError) → Performed pending room_of t k e q new r
+      → OnErr r ((s : State (List ℕ) NodeStateValue) → Stands pending t p s → Stands pending t new s)
+  performed_err (Ok u) h = tt
+  performed_err (Err x) h = λ s z. h.0 s (ready s z)
+
+-- how many events were done
+pub performed_one : {L : Type 0} (pending : L → FinMap key_cmp (Event (List ℕ))) (room_of : L → ℕ) (t : NetworkValue) (k : Key) (e : Event (List ℕ)) (q new : PartValue L)
+    (r : Result Unit AllocError) → Performed pending room_of t k e q new r → OnOk r (new.steps ≡ q.steps + 1) × OnErr r (new.steps ≡ q.steps)
+performed_one pending room_of t k e q new (Ok u) h = (h.1, tt)
+performed_one pending room_of t k e q new (Err x) h = (tt, h.1)

@@ -1,0 +1,47 @@
+use Rattle.std.proofs.Common.{None, refl, sym, subst}
+use Rattle.nm_base.specs.declared.event.Event.TheVariants.{Completion}
+use Rattle.nm_base.specs.declared.key.Place.TheVariants.{Complete}
+use Rattle.nm_base.specs.Key.{key_of}
+use Rattle.nm_sim.specs.Part.{IsReady, PartValue}
+use Rattle.nm_sim.proofs.Steps.{is_busy, least_has}
+use Rattle.nm_sim.proofs.Takings.{taken_same}
+use Rattle.nm_sim.proofs.part.Part.complete.Goals as goal
+
+pub complete-start-requires-clause-place : goal.complete-start-requires-clause-place
+complete-start-requires-clause-place g c =
+    let taken = c.requires.2.taken in
+    taken.placed _ _ (least_has c.requires.1.pending _ taken.first)
+
+pub complete-start-requires-clause-busy : goal.complete-start-requires-clause-busy
+complete-start-requires-clause-busy g c =
+    let s = c.requires.1 in
+    let ready = subst (λ (p : PartValue g.row.L.Denot). IsReady g.L.EventList.pending g.L.EventList.room c.args.topology.now (key_of c.args.time (Complete c.args.iface) c.requires.0) Completion p s) (sym c.self.view_is) c.requires.2 in
+    let there = least_has s.pending (key_of c.args.time (Complete c.args.iface) c.requires.0, Completion) ready.taken.first in
+    is_busy c.args.topology.now s ready.taken.orderly c.self.inside.devices ready.devices c.args.iface c.args.time c.requires.0 Completion there (ready.taken.placed _ _ there)
+
+pub conclude-requires-clause-under_way : goal.conclude-requires-clause-under_way
+conclude-requires-clause-under_way g c =
+    let s = c.requires.1 in
+    let p : PartValue g.row.L.Denot = record { devices = c.self.inside.devices; timeline = c.self.inside.timeline; steps = c.self.inside.steps } in
+    let q : PartValue g.row.L.Denot = record { devices = c.complete-start.new.self; timeline = c.self.inside.timeline; steps = c.self.inside.steps } in
+    let k = key_of c.args.time (Complete c.args.iface) c.requires.0 in
+    let ready = subst (λ (p : PartValue g.row.L.Denot). IsReady g.L.EventList.pending g.L.EventList.room c.args.topology.now k Completion p s) (sym c.self.view_is) c.requires.2 in (
+      Complete c.args.iface,
+      c.requires.0,
+      Completion,
+      None,
+      None,
+      s,
+      record { taken = taken_same g.L.EventList.pending c.args.topology.now k Completion p q s ready.taken refl refl; does = c.complete-start.ensures.does s.node s.port c.requires.0 ready.devices },
+    )
+
+pub returns : goal.returns
+returns g c = rw (← c.self.view_is) (λ number. (
+  λ s ready.
+      let p : PartValue g.row.L.Denot = record { devices = c.self.inside.devices; timeline = c.self.inside.timeline; steps = c.self.inside.steps } in
+      let q : PartValue g.row.L.Denot = record { devices = c.complete-start.new.self; timeline = c.self.inside.timeline; steps = c.self.inside.steps } in
+      let k = key_of c.args.time (Complete c.args.iface) number in
+      c.conclude.ensures.stands (Complete c.args.iface) number Completion None None s
+      (record { taken = taken_same g.L.EventList.pending c.args.topology.now k Completion p q s ready.taken refl refl; does = c.complete-start.ensures.does s.node s.port number ready.devices }),
+  c.conclude.ensures.steps,
+))

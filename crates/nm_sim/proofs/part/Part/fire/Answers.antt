@@ -1,0 +1,87 @@
+use Rattle.std.proofs.Common.{◌≡◌, ◌+◌, suc, None, refl, sym, ap, ◌∙◌, subst, arith}
+use Rattle.nm_base.specs.declared.event.Event.TheVariants.{Delivery}
+use Rattle.nm_base.specs.declared.key.Place.TheVariants.{Fire}
+use Rattle.nm_base.specs.Key.{key_of}
+use Rattle.nm_forward.specs.Reaction.{sent_of}
+use Rattle.nm_traffic.specs.Source.{source_at}
+use Rattle.nm_sim.specs.Network.{net_of}
+use Rattle.nm_sim.specs.Part.{IsReady, PartValue}
+use Rattle.nm_sim.specs.Timelines.{everywhere}
+use Rattle.nm_sim.proofs.Parts.{stands_again}
+use Rattle.nm_sim.proofs.Steps.{least_has}
+use Rattle.nm_sim.proofs.Takings.{fires_next, fires_on, follows_fresh, key_is_free}
+use Rattle.nm_sim.proofs.part.Part.fire.Goals as goal
+
+pub fire-requires-clause-place : goal.fire-requires-clause-place
+fire-requires-clause-place g c =
+    let taken = c.requires.ready.1.taken in
+    taken.placed _ _ (least_has c.requires.ready.0.pending _ taken.first)
+
+pub put-requires-clause-fresh : goal.put-requires-clause-fresh
+put-requires-clause-fresh g c =
+    let s = c.requires.ready.0 in
+    let p : PartValue g.row.L.Denot = record { devices = c.self.inside.devices; timeline = c.self.inside.timeline; steps = c.self.inside.steps } in
+    let k = key_of c.args.time (Fire c.args.source) c.args.number in
+    let ready = subst (λ (p : PartValue g.row.L.Denot). IsReady g.L.EventList.pending g.L.EventList.room c.args.topology.now k (Delivery c.args.packet) p s) (sym c.self.view_is) c.requires.ready.1 in
+    key_is_free g.L.EventList.pending c.args.topology.now k (Delivery c.args.packet) p s ready.taken
+
+pub returns-in_default : goal.returns-in_default
+returns-in_default g c = rw (← c.self.view_is) (
+  λ s ready.
+      let p : PartValue g.row.L.Denot = record { devices = c.self.inside.devices; timeline = c.self.inside.timeline; steps = c.self.inside.steps } in
+      let q : PartValue g.row.L.Denot = record { devices = c.fire.new.self; timeline = c.put.new.self; steps = c.self.inside.steps } in
+      stands_again g.L.EventList.pending c.args.topology.now (key_of c.args.time (Fire c.args.source) c.args.number) (Delivery c.args.packet) p q s ready.taken ready.devices
+      c.in_default.ensures.err (ap (λ l. l.sent) c.put.ensures.others) (ap (λ l. l.records) c.put.ensures.others) refl c.put.ensures.events,
+  refl,
+)
+
+pub follows-requires-clause-fresh : goal.follows-requires-clause-fresh
+follows-requires-clause-fresh g c =
+    let s = c.requires.ready.0 in
+    let t = c.args.topology.now in
+    let net = net_of t in
+    let isnet = c.every_topology_is_a_network.ensures.network in
+    let p : PartValue g.row.L.Denot = record { devices = c.self.inside.devices; timeline = c.self.inside.timeline; steps = c.self.inside.steps } in
+    let k = key_of c.args.time (Fire c.args.source) c.args.number in
+    let e = Delivery c.args.packet in
+    let ready = subst (λ (p : PartValue g.row.L.Denot). IsReady g.L.EventList.pending g.L.EventList.room t k (Delivery c.args.packet) p s) (sym c.self.view_is) c.requires.ready.1 in
+    let fresh = c.new_keys_are_new.ensures.fresh net isnet everywhere (λ q r h. refl) s ready.taken.orderly (k, e) ready.taken.first in
+    let apart = c.new_keys_are_new.ensures.apart net isnet s (k, e) in
+    let n : c.args.number + 1 ≡ suc c.args.number = omega arith in
+    follows_fresh g.L.EventList.pending t k e p s c.in-Ok.fired.follows
+    (c.in-Ok.ensures.follows ∙ ap (source_at t c.args.source) n ∙ fires_next t s c.args.time c.args.source c.args.number c.args.packet) fresh apart ready.taken
+
+pub conclude-requires-clause-under_way : goal.conclude-requires-clause-under_way
+conclude-requires-clause-under_way g c =
+    let s = c.requires.ready.0 in
+    let t = c.args.topology.now in
+    let p : PartValue g.row.L.Denot = record { devices = c.self.inside.devices; timeline = c.self.inside.timeline; steps = c.self.inside.steps } in
+    let q : PartValue g.row.L.Denot = record { devices = c.send-start.new.self; timeline = c.follows.new.self; steps = c.self.inside.steps } in
+    let ready = subst (λ (p : PartValue g.row.L.Denot). IsReady g.L.EventList.pending g.L.EventList.room t (key_of c.args.time (Fire c.args.source) c.args.number) (Delivery c.args.packet) p s) (sym c.self.view_is) c.requires.ready.1 in
+    let r = c.in-Ok.ensures.reacts s.node s.port ready.devices in
+    let n : c.args.number + 1 ≡ suc c.args.number = omega arith in (
+      Fire c.args.source,
+      c.args.number,
+      Delivery c.args.packet,
+      None,
+      c.in-Ok.fired.follows,
+      s,
+      fires_on g.L.EventList.pending g.L.EventList.room t c.args.time c.args.number p q s c.args.source c.args.packet c.fire.new.self (sent_of c.in-Ok.fired.reaction) c.send-start.result c.in-Ok.fired.follows
+          ready r (c.send-start.ensures.sends _ s.port r.stand) (c.in-Ok.ensures.follows ∙ ap (source_at t c.args.source) n) c.follows.ensures.events
+          (ap (λ l. l.sent) c.follows.ensures.others) (ap (λ l. l.records) c.follows.ensures.others) refl,
+    )
+
+pub returns : goal.returns
+returns g c = rw (← c.self.view_is) (
+  λ s ready.
+      let t = c.args.topology.now in
+      let p : PartValue g.row.L.Denot = record { devices = c.self.inside.devices; timeline = c.self.inside.timeline; steps = c.self.inside.steps } in
+      let q : PartValue g.row.L.Denot = record { devices = c.send-start.new.self; timeline = c.follows.new.self; steps = c.self.inside.steps } in
+      let r = c.in-Ok.ensures.reacts s.node s.port ready.devices in
+      let n : c.args.number + 1 ≡ suc c.args.number = omega arith in
+      c.conclude.ensures.stands (Fire c.args.source) c.args.number (Delivery c.args.packet) None c.in-Ok.fired.follows s
+      (fires_on g.L.EventList.pending g.L.EventList.room t c.args.time c.args.number p q s c.args.source c.args.packet c.fire.new.self (sent_of c.in-Ok.fired.reaction) c.send-start.result c.in-Ok.fired.follows
+      ready r (c.send-start.ensures.sends _ s.port r.stand) (c.in-Ok.ensures.follows ∙ ap (source_at t c.args.source) n) c.follows.ensures.events
+      (ap (λ l. l.sent) c.follows.ensures.others) (ap (λ l. l.records) c.follows.ensures.others) refl),
+  c.conclude.ensures.steps,
+)
