@@ -1,8 +1,9 @@
 -- Queues of events, one after another, are a finite map.
-use Rattle.std.proofs.Common.{◌≡◌, ◌⊎◌, inl, inr, ℕ, ◌+◌, ◌-◌, ◌≤◌, Bool, true, false, cond, List, [], ◌∷◌, ◌++◌, map, length, Option, Some, None, refl, sym, ap, ◌∙◌, arith, ◌&&◌, true≢false, subst}
+use Rattle.std.proofs.Common.{◌≡◌, ◌⊎◌, inl, inr, ℕ, ◌+◌, ◌-◌, ◌≤◌, Bool, true, false, cond, List, [], ◌∷◌, ◌++◌, map, length, Option, Some, None, refl, sym, ap, ◌∙◌, arith, ◌&&◌, ◌||◌, ltb, true≢false, subst}
 use Rattle.std.specs.Bool.{⊤}
+use Rattle.std.proofs.lemmas.Bool.Decides.{nat_tests}
 use Rattle.std.proofs.Common.{Ordering, Less, Equal, Greater}
-use Rattle.std.specs.Ordering.{is_lt, is_eq, eq_by_cmp, ordering_reverse}
+use Rattle.std.specs.Ordering.{is_gt, is_lt, is_eq, eq_by_cmp, ordering_reverse}
 use Rattle.std.specs.Cmp.{IsTotalOrder, eq_by_cmp_equiv}
 use Rattle.std.specs.FinMap.{FinMap, entries, entries-insert, same_map, IsAntisymmetric, from_entries, get, get-entries, get-insert, get-remove, get-from_entries, insert, remove, empty, len, len-empty, len-entries, len-insert, find, put, is_sorted}
 use Rattle.std.specs.Option.{is_some, option_map}
@@ -11,8 +12,9 @@ use Rattle.nm_base.specs.declared.event.Event.{Event}
 use Rattle.nm_base.specs.declared.event.Event.TheVariants.{Completion, Delivery}
 use Rattle.nm_base.specs.declared.key.Key.{Key}
 use Rattle.nm_base.specs.Key.{key_cmp, key_cmp_total, key_cmp-IsAntisymmetric}
-use Rattle.nm_model.specs.EventList.{first_of_list, least}
-use Rattle.nm_events.specs.Held.{Holds, events_of, is_before, kind_of}
+use Rattle.nm_model.specs.EventList.{IsUpTo, first_of_list, least, is_before as is_before_time}
+use Rattle.nm_model.proofs.Keys.{up_to_time}
+use Rattle.nm_events.specs.Held.{Holds, events_of, is_before, is_early, kind_of}
 use Rattle.nm_events.specs.Queued.{first_key}
 use Rattle.nm_events.specs.declared.sorted_list.Kind.{Kind}
 use Rattle.nm_events.specs.declared.sorted_list.Kind.TheVariants as kind
@@ -432,6 +434,76 @@ pub least_source : (cs : List (Key × ⊤)) (xs ys : List (Key × List ℕ)) (r 
 unfolding least
 least_source cs xs [] r n h e = ap (option_map (λ e. e.0)) (none_first cs xs e)
 least_source cs xs (y ∷ ys) r n h e = ap (option_map (λ e. e.0)) (source_first y cs xs ys r n h e).0
+
+-- whether an event comes before a time is seen by the first of each queue
+early_less : (t : ℕ) (a b : Key) → is_lt (key_cmp a b) ≡ true → ltb b.time t ≡ true → ltb a.time t ≡ true
+unfolding IsUpTo
+early_less t a b l e =
+    let le = up_to_time a b (ap is_gt (less (key_cmp a b) l)) in
+    grind (arith, nat_tests, le, e)
+
+early_first : {A : Type 0} (t : ℕ) (a : Key) (es : List (Key × A)) → below_all key_cmp a es ≡ true → is_early t (first_key es) ≡ true → ltb a.time t ≡ true
+early_first t a [] h e = absurd (true≢false (sym e))
+early_first t a (x ∷ es) h e = early_less t a x.0 (first _ _ h) e
+
+either_first : (a b : Bool) → (b ≡ true → a ≡ true) → a || b ≡ a
+either_first true b h = refl
+either_first false true h = sym (h refl)
+either_first false false h = refl
+
+either_second : (a b : Bool) → (a ≡ true → b ≡ true) → a || b ≡ b
+either_second true b h = sym (h refl)
+either_second false b h = refl
+
+completion_due : (t : ℕ) (cs : List (Key × ⊤)) (xs ys : List (Key × List ℕ)) (r n : ℕ) → Holds cs xs ys r n → kind_in cs xs ys ≡ kind.Completion
+    → (is_early t (first_key cs) || is_early t (first_key xs)) || is_early t (first_key ys) ≡ is_before_time t (least (all_of cs xs ys))
+completion_due t [] xs ys r n h e = absurd (true≢false (sym (completion_is None (first_key xs) (first_key ys) e)))
+completion_due t (c ∷ cs) xs ys r n h e =
+    let before = completion_before c.0 xs ys h.arrivals h.sources h.apart_deliveries (completion_is (Some c.0) (first_key xs) (first_key ys) e) in
+    ap (λ b. b || is_early t (first_key ys)) (either_first (ltb c.0.time t) (is_early t (first_key xs)) (early_first t c.0 xs before.0))
+    ∙ either_first (ltb c.0.time t) (is_early t (first_key ys)) (early_first t c.0 ys before.1)
+    ∙ ap (is_before_time t) (completion_first c cs xs ys r n h e).0
+
+arrival_due : (t : ℕ) (cs : List (Key × ⊤)) (xs ys : List (Key × List ℕ)) (r n : ℕ) → Holds cs xs ys r n → kind_in cs xs ys ≡ kind.Arrival
+    → (is_early t (first_key cs) || is_early t (first_key xs)) || is_early t (first_key ys) ≡ is_before_time t (least (all_of cs xs ys))
+arrival_due t cs [] ys r n h e = absurd (true≢false (sym (arrival_is (first_key cs) None (first_key ys) e).0))
+arrival_due t cs (x ∷ xs) ys r n h e =
+    let is = arrival_is (first_key cs) (Some x.0) (first_key ys) e in
+    let before = behind_queue x xs cs h.completions h.apart_arrivals is.1 in
+    ap (λ b. b || is_early t (first_key ys)) (either_second (is_early t (first_key cs)) (ltb x.0.time t) (early_first t x.0 cs before))
+    ∙ either_first (ltb x.0.time t) (is_early t (first_key ys)) (early_first t x.0 ys (before_queue x.0 ys h.sources is.0))
+    ∙ ap (is_before_time t) (arrival_first x cs xs ys r n h e).0
+
+none_due : (t : ℕ) (cs : List (Key × ⊤)) (xs : List (Key × List ℕ)) → kind_in cs xs [] ≡ kind.Source
+    → (is_early t (first_key cs) || is_early t (first_key xs)) || false ≡ is_before_time t (least (all_of cs xs []))
+none_due t [] [] e = ap (is_before_time t) (none_first [] [] e)
+none_due t (c ∷ cs) [] e = absurd cc
+none_due t [] (x ∷ xs) e = absurd cc
+none_due t (c ∷ cs) (x ∷ xs) e = absurd (true≢false (source_is (Some c.0) (Some x.0) None e).0)
+
+source_due : (t : ℕ) (cs : List (Key × ⊤)) (xs ys : List (Key × List ℕ)) (r n : ℕ) → Holds cs xs ys r n → kind_in cs xs ys ≡ kind.Source
+    → (is_early t (first_key cs) || is_early t (first_key xs)) || is_early t (first_key ys) ≡ is_before_time t (least (all_of cs xs ys))
+source_due t cs xs [] r n h e = none_due t cs xs e
+source_due t cs xs (y ∷ ys) r n h e =
+    let is = source_is (first_key cs) (first_key xs) (Some y.0) e in
+    let one = early_first t y.0 cs (behind_queue y ys cs h.completions h.apart_sources is.1) in
+    let two = early_first t y.0 xs (behind_queue y ys xs h.arrivals h.apart_deliveries is.0) in
+    either_second (is_early t (first_key cs) || is_early t (first_key xs)) (ltb y.0.time t) (either_of (is_early t (first_key cs)) (is_early t (first_key xs)) one two)
+    ∙ ap (is_before_time t) (source_first y cs xs ys r n h e).0
+  where
+    either_of : (a b : Bool) → (a ≡ true → ltb y.0.time t ≡ true) → (b ≡ true → ltb y.0.time t ≡ true) → a || b ≡ true → ltb y.0.time t ≡ true
+    either_of true b f g e = f refl
+    either_of false b f g e = g e
+
+pub due : (t : ℕ) (cs : List (Key × ⊤)) (xs ys : List (Key × List ℕ)) (r n : ℕ) → Holds cs xs ys r n
+    → (is_early t (first_key cs) || is_early t (first_key xs)) || is_early t (first_key ys) ≡ is_before_time t (least (all_of cs xs ys))
+due t cs xs ys r n h = go (kind_in cs xs ys) refl
+  where
+    go : (k : Kind) → kind_in cs xs ys ≡ k
+        → (is_early t (first_key cs) || is_early t (first_key xs)) || is_early t (first_key ys) ≡ is_before_time t (least (all_of cs xs ys))
+    go kind.Completion e = completion_due t cs xs ys r n h e
+    go kind.Arrival e = arrival_due t cs xs ys r n h e
+    go kind.Source e = source_due t cs xs ys r n h e
 
 -- a key that is not pending is in no queue
 pub record IsFree (k : Key) (cs : List (Key × ⊤)) (xs ys : List (Key × List ℕ)) : Type 0 where

@@ -1,5 +1,5 @@
 -- What contracts see of a sorted event list.
-use Rattle.std.specs.Prelude.{◌≡◌, ◌⊎◌, ℕ, ◌+◌, ◌≤◌, length, Bool, true, false, cond, List, ◌++◌, map, Option, Some, None, ⊤}
+use Rattle.std.specs.Prelude.{◌≡◌, ◌⊎◌, ℕ, ◌+◌, ◌≤◌, length, ltb, Bool, true, false, cond, List, ◌++◌, map, Option, Some, None, ⊤}
 use Rattle.nm_events.specs.Queued.{first_key}
 use Rattle.std.specs.FinMap.{FinMap, find, from_entries, is_sorted}
 use Rattle.std.specs.Ordering.{is_lt}
@@ -51,3 +51,8 @@ kind_of c x y = cond (is_before c (cond (is_before x y) x y)) kind.Completion (c
 
 abbrev pub least_kind : Held → Kind
 least_kind h = kind_of (first_key h.completions) (first_key h.arrivals) (first_key h.sources)
+
+-- whether a key is there and before a time
+abbrev pub is_early : ℕ → Option Key → Bool
+is_early t None = false
+is_early t (Some k) = ltb k.time t

@@ -5,9 +5,9 @@ ghost use Rattle.std.specs.Option.{option_map};
 ghost use Rattle.std.specs.FinMap.{FinMap, empty, get, insert, len as size, remove};
 ghost use Rattle.nm_base.specs.Key.{key_cmp};
 ghost use Rattle.nm_base.specs.declared.event.Event.{Event as PendingEvent};
-ghost use Rattle.nm_model.specs.EventList.{least as least_entry};
+ghost use Rattle.nm_model.specs.EventList.{is_before, least as least_entry};
 
-use nm_base::{Event, Key};
+use nm_base::{Event, Key, Time};
 use std::alloc::{AllocError, Global};
 
 /// The events that are still to come (J. Misra, 1986, section 1). A clause sees a finite map from keys to events, and for
@@ -42,6 +42,10 @@ pub trait EventList: Sized {
     /// The least key.
     fn least(&self) -> Option<Key>
         ensures { result ≡ option_map (λ entry. entry.0) (least_entry (pending self.now)) };
+
+    /// Whether an event comes before this time.
+    fn is_due(&self, before: Time) -> bool
+        ensures { result ≡ is_before before (least_entry (pending self.now)) };
 
     /// Takes the event of the least key out. Its place is room for another.
     fn take_least(&mut self) -> Option<(Key, Event)>

@@ -5,11 +5,11 @@ ghost use Rattle.std.specs.Option.{option_map};
 ghost use Rattle.std.specs.FinMap.{empty, get, insert, len as size, remove};
 ghost use Rattle.nm_base.specs.Key.{key_cmp};
 ghost use Rattle.nm_model.specs.EventList.{least as least_entry};
-ghost use Rattle.nm_events.specs.Held.{is_before as comes_before, least_kind};
+ghost use Rattle.nm_events.specs.Held.{is_before as comes_before, is_early, least_kind};
 
 use crate::event_list::EventList;
 use crate::key_queue::KeyQueue;
-use nm_base::{Event, Key, Packet, Place};
+use nm_base::{Event, Key, Packet, Place, Time};
 use std::alloc::{AllocError, Global};
 use std::marker::Model;
 
@@ -60,6 +60,17 @@ fn is_before(key: Option<&Key>, other: Option<&Key>) -> bool
     match (key, other) {
         (Some(key), Some(other)) => *key < *other,
         (key, _) => key.is_some(),
+    }
+}
+
+/// Whether a key is there and before a time.
+#[inline(always)]
+fn is_early(key: Option<&Key>, before: Time) -> bool
+    ensures { result ≡ is_early before (option_map (λ k. k.now) key.entry) }
+{
+    match key {
+        Some(key) => key.time < before,
+        None => false,
     }
 }
 
@@ -128,6 +139,12 @@ impl EventList for SortedList {
             Kind::Arrival => self.arrivals.first().copied(),
             Kind::Source => self.sources.first().copied(),
         }
+    }
+
+    fn is_due(&self, before: Time) -> bool {
+        is_early(self.completions.first(), before)
+            | is_early(self.arrivals.first(), before)
+            | is_early(self.sources.first(), before)
     }
 
     fn take_least(&mut self) -> Option<(Key, Event)> {
