@@ -24,6 +24,7 @@ use crate::fired::Fired;
 use nm_base::{Event, IfaceNo, Key, NodeNo, Origin, Packet, Place, SourceNo, Time};
 use nm_forward::laws::a_node_sends_by_its_own_interfaces;
 use nm_forward::{Counter, NodeState, Reaction, react};
+use nm_iface::port::Offered;
 use nm_iface::{Port, Start};
 use nm_topology::Topology;
 use nm_topology::topology::accepted_topologies_are_in_order;
@@ -182,6 +183,7 @@ impl Devices {
     }
 
     /// What a node sends is offered to its interface: the transmission that starts, and where, if one does.
+    #[inline(always)]
     pub fn send(
         &mut self,
         topology: &Topology,
@@ -199,9 +201,10 @@ impl Devices {
             return None;
         };
         self.used = Some(iface);
-        let offered = self.ports[iface.index()].offer(time, twin);
-        let start = offered.started()?;
-        Some((iface, start))
+        match self.ports[iface.index()].offer(time, twin) {
+            Offered::Started(start) => Some((iface, start)),
+            Offered::Queued | Offered::Dropped(_) => None,
+        }
     }
 
     /// What a node does with a packet. An `Err` changes nothing.
