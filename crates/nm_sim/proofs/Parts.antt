@@ -1,5 +1,5 @@
 -- A part after a step stands for the state after that step.
-use Rattle.std.proofs.Common.{⊎_elim, cond, slice_get, slice_index, ◌≡◌, ℕ, zero, suc, ◌+◌, ◌<◌, true, false, ltb, List, [], ◌∷◌, ◌++◌, length, Option, Some, None, refl, sym, ap, ◌∙◌, subst, arith, append-nil, append_assoc}
+use Rattle.std.proofs.Common.{true≢false, ⊎_elim, cond, slice_get, slice_index, ◌≡◌, ℕ, zero, suc, ◌+◌, ◌<◌, true, false, ltb, List, [], ◌∷◌, ◌++◌, length, Option, Some, None, refl, sym, ap, ◌∙◌, subst, arith, append-nil, append_assoc}
 use Rattle.std.specs.FinMap.{FinMap, insert, remove}
 use Rattle.std.specs.Option.{IfSome}
 use Rattle.nm_base.specs.declared.event.Event.{Event}
@@ -7,7 +7,7 @@ use Rattle.nm_base.specs.declared.key.Key.{Key}
 use Rattle.nm_base.specs.Key.{key_cmp}
 use Rattle.nm_topology.specs.Order.{IsInOrder}
 use Rattle.nm_topology.specs.Wholes.{NetworkValue}
-use Rattle.nm_model.specs.EventList.{least, schedule}
+use Rattle.nm_model.specs.EventList.{schedule}
 use Rattle.nm_model.specs.Lists.{nth, set_at}
 use Rattle.nm_model.specs.Network.{node_of}
 use Rattle.nm_model.specs.Orderly.{IsOrderly}
@@ -16,7 +16,6 @@ use Rattle.nm_forward.specs.State.{NodeStateValue}
 use Rattle.nm_iface.specs.declared.port.Start.{Start}
 use Rattle.nm_model.specs.EventList.{is_before}
 use Rattle.nm_model.specs.Port.{Port}
-use Rattle.nm_model.specs.Run.{pends_before}
 use Rattle.nm_forward.specs.State.{table_of}
 use Rattle.nm_traffic.specs.Source.{source_of}
 use Rattle.std.specs.Option.{option_map}
@@ -31,7 +30,7 @@ use Rattle.nm_forward.specs.Counter.{counter_number}
 use Rattle.nm_iface.specs.PortValue.{counted}
 use Rattle.nm_sim.specs.Part.{IsUnderWay, PartValue, Stands, Taken, count_at, drops_at}
 use Rattle.nm_sim.specs.Timelines.{Told, everywhere}
-use Rattle.nm_sim.proofs.Schedules.{one_more, placed_next, placed_remove, placed_schedule, placed_start, same_some, schedule_append}
+use Rattle.nm_sim.proofs.Schedules.{one_more, placed_next, placed_remove, placed_schedule, placed_start, schedule_append}
 use Rattle.nm_sim.proofs.Beginnings.{told_same}
 use Rattle.nm_sim.proofs.Pendings.{put_back}
 use Rattle.nm_sim.proofs.Steps.{least_has}
@@ -130,13 +129,10 @@ stands_same pending t p q s h same events sent records steps = record {
   records = records ∙ h.records;
 }
 
--- the event of a least key
-pub of_key : {X : Type 0} (o : Option (Key × X)) (k : Key) → option_map (λ e. e.0) o ≡ Some k → (e : Key × X) × (o ≡ Some e) × (e.0 ≡ k)
-of_key None k h = absurd cc
-of_key (Some e) k h = (e, refl, same_some e.0 k h)
-
-pub pends : (s : State (List ℕ) NodeStateValue) (e : Key × Event (List ℕ)) (k : Key) (before : ℕ) → least s.pending ≡ Some e → e.0 ≡ k → k.time < before → pends_before before s ≡ true
-pends s e k before first same lt = ap (is_before before) first ∙ ap (λ z. ltb z.time before) same ∙ grind (arith, nat_tests)
+-- the event that is due
+pub due_entry : (before : ℕ) (o : Option (Key × Event (List ℕ))) → is_before before o ≡ true → (e : Key × Event (List ℕ)) × (o ≡ Some e) × (e.0.time < before)
+due_entry before None h = absurd (true≢false (sym h))
+due_entry before (Some e) h = (e, refl, grind (arith, nat_tests, h))
 
 pub counter_is : (t : NetworkValue) (d : DevicesValue) (s : State (List ℕ) NodeStateValue) → Stand t d s.node s.port → (v : ℕ) (c : Counter)
     → option_map (λ n. slice_index n.counters (counter_number c)) (slice_get d.nodes v) ≡ count_at t s v c

@@ -87,6 +87,12 @@ events_done (Ok None) = 0
 events_done (Ok (Some k)) = 1
 events_done (Err e) = 0
 
+-- how many events were done where only whether there was one is answered
+abbrev pub events_counted : Result Bool AllocError → ℕ
+events_counted (Ok false) = 0
+events_counted (Ok true) = 1
+events_counted (Err e) = 0
+
 -- the same where only whether there was an event is answered
 abbrev pub Advanced : {L : Type 0} → (L → FinMap key_cmp (Event (List ℕ))) → NetworkValue → ℕ → State (List ℕ) NodeStateValue
     → PartValue L → PartValue L → Result Bool AllocError → Type 0

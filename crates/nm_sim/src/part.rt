@@ -1,6 +1,6 @@
 //! A part of a simulation.
 
-ghost use Rattle.std.specs.Prelude.{◌≡◌, ℕ, ◌+◌, ◌<◌, ◌≤◌, ◌^◌, List, [], Option, Some, Ok, IfOk, OnOk, OnErr, length, ltb, replicate};
+ghost use Rattle.std.specs.Prelude.{◌≡◌, ℕ, ◌+◌, ◌<◌, ◌≤◌, ◌^◌, List, [], Option, Some, Ok, IfOk, OnOk, OnErr, length, replicate};
 ghost use Rattle.nm_base.specs.declared.event.Event.{Event as PendingEvent};
 ghost use Rattle.nm_base.specs.declared.event.Event.TheVariants.{Completion, Delivery};
 ghost use Rattle.nm_base.specs.declared.event.Origin.TheVariants.{Source as FromSource};
@@ -14,7 +14,7 @@ ghost use Rattle.nm_model.specs.Run.{State, start, step, source_events};
 ghost use Rattle.nm_forward.specs.State.{NodeStateValue};
 ghost use Rattle.nm_forward.specs.Reaction.{FitsOrigin};
 ghost use Rattle.nm_sim.specs.Network.{net_of};
-ghost use Rattle.nm_sim.specs.Part.{Advanced, IsReady, IsUnderWay, Performed, Stands, Stepped, count_at, drops_at, events_done};
+ghost use Rattle.nm_sim.specs.Part.{Advanced, IsReady, IsUnderWay, Performed, Stands, Stepped, count_at, drops_at, events_counted, events_done};
 ghost use Rattle.nm_topology.specs.Wholes.{NetworkValue};
 ghost use Rattle.std.specs.FinMap.{empty};
 ghost use Rattle.nm_sim.specs.Devices.{IsStanding};
@@ -55,13 +55,6 @@ impl<L> Model for Part<L> {
     ghost view = { λ p. record { devices = p.devices; timeline = p.timeline; steps = p.steps } };
 
     ghost invariant = { λ p. p.steps ≤ 2 ^ 62 };
-}
-
-/// Whether an event at this time comes before another time.
-fn is_due(time: Time, before: Time) -> bool
-    ensures { result ≡ ltb time before }
-{
-    time < before
 }
 
 /// The timeline of a network at the start of a run: the first packet of each source is to come.
@@ -132,16 +125,11 @@ impl<L: EventList> Part<L> {
         let Some(key) = self.timeline.least() else {
             return Ok(None);
         };
-        if !is_due(key.time, before) {
-            return Ok(None);
+        if self.advance(alloc, topology, before)? {
+            Ok(Some(key))
+        } else {
+            Ok(None)
         }
-        if self.steps == MAX_STEPS {
-            return Err(AllocError);
-        }
-        self.devices.reserve()?;
-        self.timeline.reserve()?;
-        self.perform(alloc, topology)?;
-        Ok(Some(key))
     }
 
     /// Does an event as `step` does, and answers whether there was one.
@@ -155,11 +143,18 @@ impl<L: EventList> Part<L> {
         requires stands { (s : State (List ℕ) NodeStateValue) × Stands L.pending topology.now self.old s }
         ensures advance { (s : State (List ℕ) NodeStateValue) → Stands L.pending topology.now self.old s
             → Advanced L.pending topology.now before s self.old self.new result }
+        ensures steps { self.new.steps ≡ self.old.steps + events_counted result }
     {
-        match self.step(alloc, topology, before)? {
-            Some(_) => Ok(true),
-            None => Ok(false),
+        if !self.timeline.is_due(before) {
+            return Ok(false);
         }
+        if self.steps == MAX_STEPS {
+            return Err(AllocError);
+        }
+        self.devices.reserve()?;
+        self.timeline.reserve()?;
+        self.perform(alloc, topology)?;
+        Ok(true)
     }
 
     /// What the node counted, if it is there.

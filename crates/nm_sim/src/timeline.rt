@@ -7,7 +7,7 @@ ghost use Rattle.nm_base.specs.Key.{key_of};
 ghost use Rattle.nm_base.specs.declared.key.Place.TheVariants.{Arrive, Complete};
 ghost use Rattle.nm_base.specs.declared.event.Event.TheVariants.{Completion, Delivery};
 ghost use Rattle.nm_base.specs.declared.record.Dir.TheVariants.{In, Out};
-ghost use Rattle.nm_model.specs.EventList.{least};
+ghost use Rattle.nm_model.specs.EventList.{is_before, least};
 ghost use Rattle.nm_model.specs.Run.{first_event, in_record, out_record, next_events, start_events, sent_after};
 ghost use Rattle.nm_model.specs.EventList.{schedule};
 ghost use Rattle.nm_sim.specs.Effects.{StartsAt, start_of};
@@ -83,6 +83,13 @@ impl<L: EventList> Timeline<L> {
         ensures { result ≡ option_map (λ entry. entry.0) (least (L.pending self.now.events)) }
     {
         self.events.least()
+    }
+
+    /// Whether an event comes before this time.
+    pub fn is_due(&self, before: Time) -> bool
+        ensures { result ≡ is_before before (least (L.pending self.now.events)) }
+    {
+        self.events.is_due(before)
     }
 
     /// Takes the event of the least key out.
