@@ -172,6 +172,7 @@ impl<L: EventList> Timeline<L> {
     }
 
     /// A transmission starts, if one does: its completion and its arrival are to come.
+    #[inline(always)]
     pub fn begins(&mut self, topology: &Topology, time: Time, start: Option<(IfaceNo, Start)>)
         requires begins { IfSome start (StartsAt topology.now time) }
         requires told { (sent : ℕ → List (ℕ × List ℕ)) × Told topology.now self.old sent × IsFew sent
