@@ -194,6 +194,7 @@ impl<L: EventList> Timeline<L> {
     }
 
     /// A transmission starts at an interface, towards its peer: its completion and its arrival are to come.
+    #[inline(always)]
     fn starts(&mut self, time: Time, iface: IfaceNo, peer: IfaceNo, start: Start)
         requires peer { peer < length self.old.sent }
         requires count { slice_index self.old.sent peer < 2 ^ 63 }

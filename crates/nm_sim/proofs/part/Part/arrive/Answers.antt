@@ -37,18 +37,24 @@ go_on-requires-clause-reacted g c =
     let p : PartValue g.row.L.Denot = record { devices = c.self.inside.devices; timeline = c.self.inside.timeline; steps = c.self.inside.steps } in
     let q : PartValue g.row.L.Denot = record { devices = c.arrive.new.self; timeline = c.arrived.new.self; steps = c.self.inside.steps } in
     let ready = subst (λ (p : PartValue g.row.L.Denot). IsReady g.L.EventList.pending g.L.EventList.room c.args.topology.now (key_of c.args.time (Arrive c.args.iface) c.args.number) (Delivery c.args.packet) p s) (sym c.self.view_is) c.requires.1 in (
-      Arrive c.args.iface, c.args.number, Delivery c.args.packet, Some (c.args.iface, c.args.packet), None, _, s,
+      Arrive c.args.iface,
+      c.args.number,
+      Delivery c.args.packet,
+      Some (c.args.iface, c.args.packet),
+      None,
+      _,
+      s,
       arrives_on g.L.EventList.pending g.L.EventList.room c.args.topology.now c.args.time c.args.number p q s c.args.packet (sent_of c.in-Ok.reaction) c.args.iface
           ready (c.in-Ok.ensures.reacts s.node s.port ready.devices) (ap (λ l. g.L.EventList.pending l.events) c.arrived.ensures.others) (ap (λ l. l.sent) c.arrived.ensures.others) c.arrived.ensures.records refl,
     )
 
 pub returns : goal.returns
 returns g c = rw (← c.self.view_is) (
-      λ s ready.
+  λ s ready.
       let p : PartValue g.row.L.Denot = record { devices = c.self.inside.devices; timeline = c.self.inside.timeline; steps = c.self.inside.steps } in
       let q : PartValue g.row.L.Denot = record { devices = c.arrive.new.self; timeline = c.arrived.new.self; steps = c.self.inside.steps } in
       c.go_on.ensures.stands (Arrive c.args.iface) c.args.number (Delivery c.args.packet) (Some (c.args.iface, c.args.packet)) None _ s
       (arrives_on g.L.EventList.pending g.L.EventList.room c.args.topology.now c.args.time c.args.number p q s c.args.packet (sent_of c.in-Ok.reaction) c.args.iface
       ready (c.in-Ok.ensures.reacts s.node s.port ready.devices) (ap (λ l. g.L.EventList.pending l.events) c.arrived.ensures.others) (ap (λ l. l.sent) c.arrived.ensures.others) c.arrived.ensures.records refl),
-      c.go_on.ensures.steps,
-    )
+  c.go_on.ensures.steps,
+)

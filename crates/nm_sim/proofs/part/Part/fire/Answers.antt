@@ -59,7 +59,13 @@ go_on-requires-clause-reacted g c =
     let q : PartValue g.row.L.Denot = record { devices = c.fire.new.self; timeline = c.follows.new.self; steps = c.self.inside.steps } in
     let ready = subst (λ (p : PartValue g.row.L.Denot). IsReady g.L.EventList.pending g.L.EventList.room t (key_of c.args.time (Fire c.args.source) c.args.number) (Delivery c.args.packet) p s) (sym c.self.view_is) c.requires.ready.1 in
     let n : c.args.number + 1 ≡ suc c.args.number = omega arith in (
-      Fire c.args.source, c.args.number, Delivery c.args.packet, None, c.in-Ok.fired.follows, _, s,
+      Fire c.args.source,
+      c.args.number,
+      Delivery c.args.packet,
+      None,
+      c.in-Ok.fired.follows,
+      _,
+      s,
       fires_on g.L.EventList.pending g.L.EventList.room t c.args.time c.args.number p q s c.args.packet (sent_of c.in-Ok.fired.reaction) c.args.source c.in-Ok.fired.follows
           ready (c.in-Ok.ensures.reacts s.node s.port ready.devices) (c.in-Ok.ensures.follows ∙ ap (source_at t c.args.source) n) c.follows.ensures.events
           (ap (λ l. l.sent) c.follows.ensures.others) (ap (λ l. l.records) c.follows.ensures.others) refl,
@@ -67,7 +73,7 @@ go_on-requires-clause-reacted g c =
 
 pub returns : goal.returns
 returns g c = rw (← c.self.view_is) (
-      λ s ready.
+  λ s ready.
       let t = c.args.topology.now in
       let p : PartValue g.row.L.Denot = record { devices = c.self.inside.devices; timeline = c.self.inside.timeline; steps = c.self.inside.steps } in
       let q : PartValue g.row.L.Denot = record { devices = c.fire.new.self; timeline = c.follows.new.self; steps = c.self.inside.steps } in
@@ -76,5 +82,5 @@ returns g c = rw (← c.self.view_is) (
       (fires_on g.L.EventList.pending g.L.EventList.room t c.args.time c.args.number p q s c.args.packet (sent_of c.in-Ok.fired.reaction) c.args.source c.in-Ok.fired.follows
       ready (c.in-Ok.ensures.reacts s.node s.port ready.devices) (c.in-Ok.ensures.follows ∙ ap (source_at t c.args.source) n) c.follows.ensures.events
       (ap (λ l. l.sent) c.follows.ensures.others) (ap (λ l. l.records) c.follows.ensures.others) refl),
-      c.go_on.ensures.steps,
-    )
+  c.go_on.ensures.steps,
+)
