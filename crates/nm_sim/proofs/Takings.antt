@@ -22,7 +22,7 @@ use Rattle.nm_sim.specs.Devices.{DevicesValue}
 use Rattle.nm_sim.specs.Tables.{AllAt}
 use Rattle.nm_sim.specs.Effects.{Reacts, Sends, start_of}
 use Rattle.nm_sim.specs.Network.{net_of}
-use Rattle.nm_sim.specs.Part.{IsReady, IsUnderWay, PartValue, Performed, Stands, Taken}
+use Rattle.nm_sim.specs.Part.{HasReacted, IsReady, IsUnderWay, PartValue, Performed, Stands, Taken}
 use Rattle.nm_sim.specs.Timelines.{AreFresh, TimelineValue, Told, everywhere}
 use Rattle.nm_sim.proofs.Beginnings.{told_same}
 use Rattle.nm_sim.proofs.Doings.{arrives_by, fires_by, follows_is}
@@ -114,33 +114,43 @@ fires_next t s time j number x =
     let v = (net_of t).source_node j in
     sym (follows_is (net_of t) s.port time None (reaction t v (s.node v) (Source j) x).0 (source_at t j (suc number)) (reaction t v (s.node v) (Source j) x).1)
 
-module _ {L : Type 0} (pending : L → FinMap key_cmp (Event (List ℕ))) (room_of : L → ℕ) (t : NetworkValue) (time number : ℕ) (p q : PartValue L) (s : State (List ℕ) NodeStateValue) where
-  -- a packet arrived, and what its node sent was offered to a port
-  pub arrives_on : (i : ℕ) (x : List ℕ) (d : DevicesValue) (sent : Option (ℕ × List ℕ)) (begun : Option (ℕ × Start))
-      → IsReady pending room_of t (key_of time (Arrive i) number) (Delivery x) p s
-      → Reacts t s.node s.port ((net_of t).owner i) (Arrival i) x d sent
-      → Sends t (set_at s.node ((net_of t).owner i) (reaction t ((net_of t).owner i) (s.node ((net_of t).owner i)) (Arrival i) x).0) s.port time sent q.devices begun
+module _ {L : Type 0} (pending : L → FinMap key_cmp (Event (List ℕ))) (room_of : L → ℕ) (t : NetworkValue) (time number : ℕ) (p q : PartValue L) (s : State (List ℕ) NodeStateValue)
+    (x : List ℕ) (sent : Option (ℕ × List ℕ)) where
+  -- a packet arrived, and its node reacted
+  pub arrives_on : (i : ℕ) → IsReady pending room_of t (key_of time (Arrive i) number) (Delivery x) p s
+      → Reacts t s.node s.port ((net_of t).owner i) (Arrival i) x q.devices sent
       → pending q.timeline.events ≡ pending p.timeline.events → q.timeline.sent ≡ p.timeline.sent
       → q.timeline.records ≡ p.timeline.records ++ in_record time (Some (i, x)) → q.steps ≡ p.steps
-      → IsUnderWay pending t (key_of time (Arrive i) number) (Delivery x) (record { came = Some (i, x); start = begun; follows = None }) q s
-  arrives_on i x d sent begun ready r o events line records steps = record {
+      → HasReacted pending t (key_of time (Arrive i) number) (Delivery x) (Some (i, x)) None sent
+      (set_at s.node ((net_of t).owner i) (reaction t ((net_of t).owner i) (s.node ((net_of t).owner i)) (Arrival i) x).0) q s
+  arrives_on i ready r events line records steps = record {
     taken = taken_came pending t _ _ p q s (Some (i, x)) ready.taken events line records steps;
-    does = arrives_by t s.node s.port time ((net_of t).owner i) i number x d q.devices sent begun _ refl r o refl refl refl;
+    stand = r.stand;
+    does = λ d start o. arrives_by t s.node s.port time ((net_of t).owner i) i number x q.devices d sent start _ refl r o refl refl refl;
   }
 
-  -- a source handed a packet over, and what its node sent was offered to a port
-  pub fires_on : (j : ℕ) (x : List ℕ) (d : DevicesValue) (sent : Option (ℕ × List ℕ)) (begun : Option (ℕ × Start)) (follows : Option (ℕ × List ℕ))
-      → IsReady pending room_of t (key_of time (Fire j) number) (Delivery x) p s
-      → Reacts t s.node s.port ((net_of t).source_node j) (Source j) x d sent
-      → Sends t (set_at s.node ((net_of t).source_node j) (reaction t ((net_of t).source_node j) (s.node ((net_of t).source_node j)) (Source j) x).0) s.port time sent q.devices begun
+  -- a source handed a packet over, and its node reacted
+  pub fires_on : (j : ℕ) (follows : Option (ℕ × List ℕ)) → IsReady pending room_of t (key_of time (Fire j) number) (Delivery x) p s
+      → Reacts t s.node s.port ((net_of t).source_node j) (Source j) x q.devices sent
       → follows ≡ source_at t j (suc number)
       → pending q.timeline.events ≡ schedule everywhere (next_events (Fire j) number follows) (pending p.timeline.events) → q.timeline.sent ≡ p.timeline.sent
       → q.timeline.records ≡ p.timeline.records → q.steps ≡ p.steps
-      → IsUnderWay pending t (key_of time (Fire j) number) (Delivery x) (record { came = None; start = begun; follows = follows }) q s
-  fires_on j x d sent begun follows ready r o next events line records steps = record {
+      → HasReacted pending t (key_of time (Fire j) number) (Delivery x) None follows sent
+      (set_at s.node ((net_of t).source_node j) (reaction t ((net_of t).source_node j) (s.node ((net_of t).source_node j)) (Source j) x).0) q s
+  fires_on j follows ready r next events line records steps = record {
     taken = taken_follows pending t _ _ p q s follows ready.taken events line records steps;
-    does = fires_by t s.node s.port time ((net_of t).source_node j) j number x d q.devices sent begun _ refl r o refl refl next;
+    stand = r.stand;
+    does = λ d start o. fires_by t s.node s.port time ((net_of t).source_node j) j number x q.devices d sent start _ refl r o refl refl next;
   }
+
+-- and what it sends was offered to a port
+pub sends_on : {L : Type 0} (pending : L → FinMap key_cmp (Event (List ℕ))) (t : NetworkValue) (k : Key) (e : Event (List ℕ)) (came follows sent : Option (ℕ × List ℕ)) (start : Option (ℕ × Start))
+    (node : ℕ → NodeStateValue) (p q : PartValue L) (s : State (List ℕ) NodeStateValue) → HasReacted pending t k e came follows sent node p s → Sends t node s.port k.time sent q.devices start
+    → q.timeline ≡ p.timeline → q.steps ≡ p.steps → IsUnderWay pending t k e (record { came = came; start = start; follows = follows }) q s
+sends_on pending t k e came follows sent start node p q s h o line steps = record {
+  taken = taken_same pending t k e p q s h.taken line steps;
+  does = h.does q.devices start o;
+}
 
 -- the event of the least key comes before the end
 pub time_is : {L : Type 0} (pending : L → FinMap key_cmp (Event (List ℕ))) (t : NetworkValue) (p : PartValue L) (s : State (List ℕ) NodeStateValue) → Stands pending t p s → (k : Key) (e : Event (List ℕ))

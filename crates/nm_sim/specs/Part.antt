@@ -13,10 +13,11 @@ use Rattle.nm_model.specs.Run.{State, in_record, next_events, pends_before, step
 use Rattle.nm_forward.specs.declared.counter.Counter.{Counter}
 use Rattle.nm_forward.specs.Counter.{counter_number}
 use Rattle.nm_forward.specs.State.{NodeStateValue}
+use Rattle.nm_iface.specs.declared.port.Start.{Start}
 use Rattle.nm_iface.specs.PortValue.{counted}
 use Rattle.nm_sim.specs.Network.{net_of}
 use Rattle.nm_sim.specs.Devices.{DevicesValue, Stand}
-use Rattle.nm_sim.specs.Effects.{Does, Done, IsPlaceOf}
+use Rattle.nm_sim.specs.Effects.{Does, Done, IsPlaceOf, Sends}
 use Rattle.nm_sim.specs.Tables.{AllAt}
 use Rattle.nm_base.specs.declared.limits.TheConstants.{MAX_TIME}
 use Rattle.nm_sim.specs.Timelines.{TimelineValue, Told, everywhere}
@@ -58,6 +59,14 @@ pub record IsReady {L : Type 0} (pending : L → FinMap key_cmp (Event (List ℕ
   pub ports : AllAt (λ i w. 1 ≤ w.room) p.devices.ports
   pub room : 3 ≤ room_of p.timeline.events
   pub spare : 2 ≤ p.timeline.spare
+
+-- its node has reacted, but nothing of what the node sends was offered to a port yet
+pub record HasReacted {L : Type 0} (pending : L → FinMap key_cmp (Event (List ℕ))) (t : NetworkValue) (k : Key) (e : Event (List ℕ))
+    (came follows sent : Option (ℕ × List ℕ)) (node : ℕ → NodeStateValue) (p : PartValue L) (s : State (List ℕ) NodeStateValue) : Type 0 where
+  pub taken : Taken pending t k e came follows p s
+  pub stand : Stand t p.devices node s.port
+  pub does : (d : DevicesValue) (start : Option (ℕ × Start)) → Sends t node s.port k.time sent d start
+      → Does t s.node s.port k e d (record { came = came; start = start; follows = follows })
 
 -- it was done, but that no transmission started yet
 pub record IsUnderWay {L : Type 0} (pending : L → FinMap key_cmp (Event (List ℕ))) (t : NetworkValue) (k : Key) (e : Event (List ℕ))

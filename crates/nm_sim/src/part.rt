@@ -1,20 +1,21 @@
 //! A part of a simulation.
 
-ghost use Rattle.std.specs.Prelude.{◌≡◌, ℕ, ◌+◌, ◌<◌, ◌≤◌, ◌^◌, List, [], Option, Some, Ok, IfOk, OnOk, OnErr, length, replicate};
+ghost use Rattle.std.specs.Prelude.{◌≡◌, ℕ, ◌+◌, ◌<◌, ◌≤◌, ◌^◌, List, [], Option, Some, Ok, IfOk, IfSome, OnOk, OnErr, length, replicate};
 ghost use Rattle.nm_base.specs.declared.event.Event.{Event as PendingEvent};
 ghost use Rattle.nm_base.specs.declared.event.Event.TheVariants.{Completion, Delivery};
 ghost use Rattle.nm_base.specs.declared.event.Origin.TheVariants.{Source as FromSource};
 ghost use Rattle.nm_base.specs.declared.key.Key.{Key as EventKey};
 ghost use Rattle.nm_base.specs.declared.key.Place.{Place as EventPlace};
 ghost use Rattle.nm_base.specs.declared.key.Place.TheVariants.{Arrive, Complete, Fire};
+ghost use Rattle.nm_base.specs.declared.limits.TheConstants.{MAX_TIME};
 ghost use Rattle.nm_base.specs.Key.{key_of};
 ghost use Rattle.std.specs.Option.{option_map};
 ghost use Rattle.nm_model.specs.EventList.{least, schedule};
 ghost use Rattle.nm_model.specs.Run.{State, start, step, source_events};
 ghost use Rattle.nm_forward.specs.State.{NodeStateValue};
-ghost use Rattle.nm_forward.specs.Reaction.{FitsOrigin};
+ghost use Rattle.nm_forward.specs.Reaction.{FitsOrigin, sent_of};
 ghost use Rattle.nm_sim.specs.Network.{net_of};
-ghost use Rattle.nm_sim.specs.Part.{Advanced, IsReady, IsUnderWay, Performed, Stands, Stepped, count_at, drops_at, events_counted, events_done};
+ghost use Rattle.nm_sim.specs.Part.{Advanced, HasReacted, IsReady, IsUnderWay, Performed, Stands, Stepped, count_at, drops_at, events_counted, events_done};
 ghost use Rattle.nm_topology.specs.Wholes.{NetworkValue};
 ghost use Rattle.std.specs.FinMap.{empty};
 ghost use Rattle.nm_sim.specs.Devices.{IsStanding};
@@ -26,7 +27,7 @@ use crate::network::every_topology_is_a_network;
 use crate::timeline::Timeline;
 use nm_base::{Event, IfaceNo, Key, NodeNo, Packet, Place, Record, SourceNo, Time};
 use nm_events::EventList;
-use nm_forward::{Counter, NodeState};
+use nm_forward::{Counter, NodeState, Reaction};
 use nm_iface::Start;
 use nm_model::orderly::{every_state_is_orderly, new_keys_are_new};
 use nm_topology::Topology;
@@ -215,7 +216,7 @@ impl<L: EventList> Part<L> {
     {
         accepted_topologies_are_in_order(topology);
         let Some((key, event)) = self.timeline.take_least() else {
-            return Ok(());
+            unreachable!()
         };
         self.happen(alloc, topology, key, event)
     }
@@ -282,8 +283,7 @@ impl<L: EventList> Part<L> {
             return Err(AllocError);
         };
         self.timeline.arrived(time, iface, packet);
-        let start = self.devices.send(topology, time, reaction);
-        self.conclude(topology, time, start);
+        self.go_on(topology, time, reaction);
         Ok(())
     }
 
@@ -330,9 +330,29 @@ impl<L: EventList> Part<L> {
             return Err(AllocError);
         };
         self.timeline.follows(key, fired.follows);
-        let start = self.devices.send(topology, time, fired.reaction);
-        self.conclude(topology, time, start);
+        self.go_on(topology, time, fired.reaction);
         Ok(())
+    }
+
+    /// The event that is under way is done: what its node sends is offered to a port, and a transmission starts, if one does.
+    fn go_on(&mut self, topology: &Topology, time: Time, reaction: Reaction)
+        requires time { time ≤ MAX_TIME }
+        requires own { IfSome (sent_of reaction) (λ z. z.0 < length topology.now.ifaces) }
+        requires steps { self.old.steps < 2 ^ 62 }
+        requires ports { AllAt (λ i w. 1 ≤ w.room) self.old.devices.ports }
+        requires room { 2 ≤ L.room self.old.timeline.events }
+        requires spare { 1 ≤ self.old.timeline.spare }
+        requires reacted { (q : EventPlace) × (n : ℕ) × (e : PendingEvent (List ℕ)) × (came follows : Option (ℕ × List ℕ))
+            × (node : ℕ → NodeStateValue) × (s : State (List ℕ) NodeStateValue)
+            × HasReacted L.pending topology.now (key_of time q n) e came follows (sent_of reaction) node self.old s }
+        ensures stands { (q : EventPlace) (n : ℕ) (e : PendingEvent (List ℕ)) (came follows : Option (ℕ × List ℕ))
+            (node : ℕ → NodeStateValue) (s : State (List ℕ) NodeStateValue)
+            → HasReacted L.pending topology.now (key_of time q n) e came follows (sent_of reaction) node self.old s
+            → Stands L.pending topology.now self.new (step (net_of topology.now) everywhere s) }
+        ensures steps { self.new.steps ≡ self.old.steps + 1 }
+    {
+        let start = self.devices.send(topology, time, reaction);
+        self.conclude(topology, time, start);
     }
 
     /// The event that is under way is done, with the transmission that starts, if one does.

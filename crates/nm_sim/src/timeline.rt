@@ -179,6 +179,7 @@ impl<L: EventList> Timeline<L> {
     }
 
     /// A transmission starts, if one does: its completion and its arrival are to come.
+    #[inline(always)]
     pub fn begins(&mut self, topology: &Topology, time: Time, start: Option<(IfaceNo, Start)>)
         requires begins { IfSome start (StartsAt topology.now time) }
         requires told { (sent : ℕ → List (ℕ × List ℕ)) × Told topology.now self.old sent × IsFew sent
@@ -200,6 +201,7 @@ impl<L: EventList> Timeline<L> {
     }
 
     /// A transmission starts at an interface, towards its peer: its completion and its arrival are to come.
+    #[inline(always)]
     fn starts(&mut self, time: Time, iface: IfaceNo, peer: IfaceNo, start: Start)
         requires peer { peer < length self.old.sent }
         requires count { slice_index self.old.sent peer < 2 ^ 63 }

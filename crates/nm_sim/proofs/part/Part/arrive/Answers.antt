@@ -31,31 +31,30 @@ returns-in_default g c = rw (← c.self.view_is) (
   refl,
 )
 
-pub conclude-requires-clause-under_way : goal.conclude-requires-clause-under_way
-conclude-requires-clause-under_way g c =
+pub go_on-requires-clause-reacted : goal.go_on-requires-clause-reacted
+go_on-requires-clause-reacted g c =
     let s = c.requires.0 in
     let p : PartValue g.row.L.Denot = record { devices = c.self.inside.devices; timeline = c.self.inside.timeline; steps = c.self.inside.steps } in
-    let q : PartValue g.row.L.Denot = record { devices = c.send-start.new.self; timeline = c.arrived.new.self; steps = c.self.inside.steps } in
-    let ready = subst (λ (p : PartValue g.row.L.Denot). IsReady g.L.EventList.pending g.L.EventList.room c.args.topology.now (key_of c.args.time (Arrive c.args.iface) c.args.number) (Delivery c.args.packet) p s) (sym c.self.view_is) c.requires.1 in
-    let r = c.in-Ok.ensures.reacts s.node s.port ready.devices in (
+    let q : PartValue g.row.L.Denot = record { devices = c.arrive.new.self; timeline = c.arrived.new.self; steps = c.self.inside.steps } in
+    let ready = subst (λ (p : PartValue g.row.L.Denot). IsReady g.L.EventList.pending g.L.EventList.room c.args.topology.now (key_of c.args.time (Arrive c.args.iface) c.args.number) (Delivery c.args.packet) p s) (sym c.self.view_is) c.requires.1 in (
       Arrive c.args.iface,
       c.args.number,
       Delivery c.args.packet,
       Some (c.args.iface, c.args.packet),
       None,
+      _,
       s,
-      arrives_on g.L.EventList.pending g.L.EventList.room c.args.topology.now c.args.time c.args.number p q s c.args.iface c.args.packet c.arrive.new.self (sent_of c.in-Ok.reaction) c.send-start.result
-          ready r (c.send-start.ensures.sends _ s.port r.stand) (ap (λ l. g.L.EventList.pending l.events) c.arrived.ensures.others) (ap (λ l. l.sent) c.arrived.ensures.others) c.arrived.ensures.records refl,
+      arrives_on g.L.EventList.pending g.L.EventList.room c.args.topology.now c.args.time c.args.number p q s c.args.packet (sent_of c.in-Ok.reaction) c.args.iface
+          ready (c.in-Ok.ensures.reacts s.node s.port ready.devices) (ap (λ l. g.L.EventList.pending l.events) c.arrived.ensures.others) (ap (λ l. l.sent) c.arrived.ensures.others) c.arrived.ensures.records refl,
     )
 
 pub returns : goal.returns
 returns g c = rw (← c.self.view_is) (
   λ s ready.
       let p : PartValue g.row.L.Denot = record { devices = c.self.inside.devices; timeline = c.self.inside.timeline; steps = c.self.inside.steps } in
-      let q : PartValue g.row.L.Denot = record { devices = c.send-start.new.self; timeline = c.arrived.new.self; steps = c.self.inside.steps } in
-      let r = c.in-Ok.ensures.reacts s.node s.port ready.devices in
-      c.conclude.ensures.stands (Arrive c.args.iface) c.args.number (Delivery c.args.packet) (Some (c.args.iface, c.args.packet)) None s
-      (arrives_on g.L.EventList.pending g.L.EventList.room c.args.topology.now c.args.time c.args.number p q s c.args.iface c.args.packet c.arrive.new.self (sent_of c.in-Ok.reaction) c.send-start.result
-      ready r (c.send-start.ensures.sends _ s.port r.stand) (ap (λ l. g.L.EventList.pending l.events) c.arrived.ensures.others) (ap (λ l. l.sent) c.arrived.ensures.others) c.arrived.ensures.records refl),
-  c.conclude.ensures.steps,
+      let q : PartValue g.row.L.Denot = record { devices = c.arrive.new.self; timeline = c.arrived.new.self; steps = c.self.inside.steps } in
+      c.go_on.ensures.stands (Arrive c.args.iface) c.args.number (Delivery c.args.packet) (Some (c.args.iface, c.args.packet)) None _ s
+      (arrives_on g.L.EventList.pending g.L.EventList.room c.args.topology.now c.args.time c.args.number p q s c.args.packet (sent_of c.in-Ok.reaction) c.args.iface
+      ready (c.in-Ok.ensures.reacts s.node s.port ready.devices) (ap (λ l. g.L.EventList.pending l.events) c.arrived.ensures.others) (ap (λ l. l.sent) c.arrived.ensures.others) c.arrived.ensures.records refl),
+  c.go_on.ensures.steps,
 )

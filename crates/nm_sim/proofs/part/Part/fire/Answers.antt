@@ -51,23 +51,23 @@ follows-requires-clause-fresh g c =
     follows_fresh g.L.EventList.pending t k e p s c.in-Ok.fired.follows
     (c.in-Ok.ensures.follows ∙ ap (source_at t c.args.source) n ∙ fires_next t s c.args.time c.args.source c.args.number c.args.packet) fresh apart ready.taken
 
-pub conclude-requires-clause-under_way : goal.conclude-requires-clause-under_way
-conclude-requires-clause-under_way g c =
+pub go_on-requires-clause-reacted : goal.go_on-requires-clause-reacted
+go_on-requires-clause-reacted g c =
     let s = c.requires.ready.0 in
     let t = c.args.topology.now in
     let p : PartValue g.row.L.Denot = record { devices = c.self.inside.devices; timeline = c.self.inside.timeline; steps = c.self.inside.steps } in
-    let q : PartValue g.row.L.Denot = record { devices = c.send-start.new.self; timeline = c.follows.new.self; steps = c.self.inside.steps } in
+    let q : PartValue g.row.L.Denot = record { devices = c.fire.new.self; timeline = c.follows.new.self; steps = c.self.inside.steps } in
     let ready = subst (λ (p : PartValue g.row.L.Denot). IsReady g.L.EventList.pending g.L.EventList.room t (key_of c.args.time (Fire c.args.source) c.args.number) (Delivery c.args.packet) p s) (sym c.self.view_is) c.requires.ready.1 in
-    let r = c.in-Ok.ensures.reacts s.node s.port ready.devices in
     let n : c.args.number + 1 ≡ suc c.args.number = omega arith in (
       Fire c.args.source,
       c.args.number,
       Delivery c.args.packet,
       None,
       c.in-Ok.fired.follows,
+      _,
       s,
-      fires_on g.L.EventList.pending g.L.EventList.room t c.args.time c.args.number p q s c.args.source c.args.packet c.fire.new.self (sent_of c.in-Ok.fired.reaction) c.send-start.result c.in-Ok.fired.follows
-          ready r (c.send-start.ensures.sends _ s.port r.stand) (c.in-Ok.ensures.follows ∙ ap (source_at t c.args.source) n) c.follows.ensures.events
+      fires_on g.L.EventList.pending g.L.EventList.room t c.args.time c.args.number p q s c.args.packet (sent_of c.in-Ok.fired.reaction) c.args.source c.in-Ok.fired.follows
+          ready (c.in-Ok.ensures.reacts s.node s.port ready.devices) (c.in-Ok.ensures.follows ∙ ap (source_at t c.args.source) n) c.follows.ensures.events
           (ap (λ l. l.sent) c.follows.ensures.others) (ap (λ l. l.records) c.follows.ensures.others) refl,
     )
 
@@ -76,12 +76,11 @@ returns g c = rw (← c.self.view_is) (
   λ s ready.
       let t = c.args.topology.now in
       let p : PartValue g.row.L.Denot = record { devices = c.self.inside.devices; timeline = c.self.inside.timeline; steps = c.self.inside.steps } in
-      let q : PartValue g.row.L.Denot = record { devices = c.send-start.new.self; timeline = c.follows.new.self; steps = c.self.inside.steps } in
-      let r = c.in-Ok.ensures.reacts s.node s.port ready.devices in
+      let q : PartValue g.row.L.Denot = record { devices = c.fire.new.self; timeline = c.follows.new.self; steps = c.self.inside.steps } in
       let n : c.args.number + 1 ≡ suc c.args.number = omega arith in
-      c.conclude.ensures.stands (Fire c.args.source) c.args.number (Delivery c.args.packet) None c.in-Ok.fired.follows s
-      (fires_on g.L.EventList.pending g.L.EventList.room t c.args.time c.args.number p q s c.args.source c.args.packet c.fire.new.self (sent_of c.in-Ok.fired.reaction) c.send-start.result c.in-Ok.fired.follows
-      ready r (c.send-start.ensures.sends _ s.port r.stand) (c.in-Ok.ensures.follows ∙ ap (source_at t c.args.source) n) c.follows.ensures.events
+      c.go_on.ensures.stands (Fire c.args.source) c.args.number (Delivery c.args.packet) None c.in-Ok.fired.follows _ s
+      (fires_on g.L.EventList.pending g.L.EventList.room t c.args.time c.args.number p q s c.args.packet (sent_of c.in-Ok.fired.reaction) c.args.source c.in-Ok.fired.follows
+      ready (c.in-Ok.ensures.reacts s.node s.port ready.devices) (c.in-Ok.ensures.follows ∙ ap (source_at t c.args.source) n) c.follows.ensures.events
       (ap (λ l. l.sent) c.follows.ensures.others) (ap (λ l. l.records) c.follows.ensures.others) refl),
-  c.conclude.ensures.steps,
+  c.go_on.ensures.steps,
 )
