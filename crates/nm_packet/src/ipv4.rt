@@ -6,7 +6,7 @@ ghost use Rattle.nm_packet.specs.Ipv4.{Header, HeaderFits, IsIpv4, IsPacket, che
 
 use crate::Address;
 use crate::buffer::{MAX_CUT_OCTETS, PacketBuffer};
-use crate::checksum::{checksum_of, sum_words, updated_checksum};
+use crate::checksum::{checksum_of, sum_header, updated_checksum};
 use crate::fault::HeaderFault;
 use crate::octets::{long_word_at, word, word_at};
 use bytes::Bytes;
@@ -62,7 +62,7 @@ fn tested(octets: &[u8]) -> Result<Ipv4View<'_>, HeaderFault>
     if header_length < LEAST_HEADER_OCTETS || octets.len() < header_length {
         return Err(HeaderFault::Ihl);
     }
-    if sum_words(0, &octets[..header_length]) != 0xffff {
+    if sum_header(&octets[..header_length]) != 0xffff {
         return Err(HeaderFault::Checksum);
     }
     let total_length = usize::from(word_at(octets, 2));
