@@ -13,8 +13,16 @@ fn add_words(a: u16, b: u16) -> u16
     sum + u16::from(carry)
 }
 
-/// The same of four words each, side by side. What is carried from one to the next comes in at the low end when the sum is
+/// The same of two words each, side by side. What is carried from one to the other comes in at the low end when the sum is
 /// folded.
+fn add_two_words(a: u32, b: u32) -> u32
+    ensures { folded result ≡ folded (a + b) }
+{
+    let (sum, carry) = a.overflowing_add(b);
+    sum + u32::from(carry)
+}
+
+/// The same of four words each.
 fn add_four_words(a: u64, b: u64) -> u64
     ensures { folded result ≡ folded (a + b) }
 {
@@ -22,17 +30,16 @@ fn add_four_words(a: u64, b: u64) -> u64
     sum + u64::from(carry)
 }
 
-/// The word that a sum folds to.
-fn fold(sum: u64) -> u16
-    ensures { result ≡ folded sum }
+/// The one's complement sum of four words.
+fn fold(four: u64) -> u16
+    ensures { result ≡ folded four }
 {
-    match sum {
-        0 => 0,
-        _ => ((sum - 1) % 65535 + 1) as u16,
-    }
+    let two = add_two_words((four >> 32) as u32, (four % 0x1_0000_0000) as u32);
+    add_words((two >> 16) as u16, (two % 0x1_0000) as u16)
 }
 
 /// The one's complement sum of `start` and of the octets as 16-bit words, an odd last octet being padded with a zero.
+#[inline(never)]
 pub(crate) fn sum_words(start: u16, octets: &[u8]) -> u16
     ensures { result ≡ folded (start + word_sum octets.now) }
 {

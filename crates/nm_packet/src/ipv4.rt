@@ -1,6 +1,6 @@
 //! IPv4 packets (RFC 791, section 3.1).
 
-ghost use Rattle.std.specs.Prelude.{IfOk, Ok, ◌++◌, ◌≡◌, ◌+◌, ◌==◌, ◌%◌, ◌<◌, ◌≤◌, List, ℕ, length, None, Some, MatchResult, slice_index};
+ghost use Rattle.std.specs.Prelude.{IfOk, Ok, ◌++◌, ◌≡◌, ◌+◌, ◌==◌, ◌%◌, ◌<◌, ◌≤◌, List, ℕ, length, None, Some, MatchResult};
 ghost use Rattle.nm_packet.specs.Octets.{IsOctets};
 ghost use Rattle.nm_packet.specs.Ipv4.{Header, HeaderFits, IsIpv4, IsPacket, checked, cut_of, fields_of, header_fault, header_length_of, header_octets, header_of, lowered, packet_octets, payload_of, plain_header, quote_of};
 
