@@ -39,6 +39,7 @@ fn fold(four: u64) -> u16
 }
 
 /// The one's complement sum of `start` and of the octets as 16-bit words, an odd last octet being padded with a zero.
+// Not inlined, so that reading a header without options, which does not come here, keeps its numbers in registers.
 #[inline(never)]
 pub(crate) fn sum_words(start: u16, octets: &[u8]) -> u16
     ensures { result ≡ folded (start + word_sum octets.now) }
