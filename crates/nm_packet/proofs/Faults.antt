@@ -1,5 +1,5 @@
 -- The first test that fails, from the facts that the tests before it passed.
-use Rattle.std.proofs.Common.{◌≡◌, ℕ, ◌+◌, ◌/◌, ◌<◌, ◌≤◌, ◌⊎◌, true, List, length, take, slice_index, Some, None, nat_lt, refl, sym, ap, ◌∙◌, arith, inl, inr}
+use Rattle.std.proofs.Common.{◌≡◌, ℕ, ◌/◌, ◌<◌, ◌≤◌, ◌⊎◌, true, List, length, take, slice_index, Some, None, nat_lt, refl, sym, ap, ◌∙◌, arith, inl, inr}
 use Rattle.std.proofs.lemmas.Bool.{lt-ltb, le-ltb, eq-eqb, or_right}
 use Rattle.std.proofs.lemmas.List.{get_or-take, take-take, length-take-le}
 use Rattle.nm_packet.specs.Octets.{word_at}
@@ -8,10 +8,8 @@ use Rattle.nm_packet.specs.Ipv4.{header_fault, header_length_of, header_of, cut_
 use Rattle.nm_packet.specs.declared.fault.HeaderFault.TheVariants.{Total}
 
 -- the sum of the header as the code takes it
-pub header_sum : (octets : List ℕ) (n sum : ℕ) → n ≡ header_length_of octets → sum ≡ folded (0 + word_sum (take n octets)) → sum ≡ 65535 → folded (word_sum (header_of octets)) ≡ 65535
-header_sum octets n sum is e full =
-    let start : word_sum (header_of octets) ≡ 0 + word_sum (header_of octets) = omega arith in
-    ap folded start ∙ ap (λ (k : ℕ). folded (0 + word_sum (take k octets))) (sym is) ∙ sym e ∙ full
+pub header_sum : (octets : List ℕ) (n sum : ℕ) → n ≡ header_length_of octets → sum ≡ folded (word_sum (take n octets)) → sum ≡ 65535 → folded (word_sum (header_of octets)) ≡ 65535
+header_sum octets n sum is e full = ap (λ (k : ℕ). folded (word_sum (take k octets))) (sym is) ∙ sym e ∙ full
 
 module _ (octets : List ℕ) (least : 20 ≤ length octets) (version : slice_index octets 0 / 16 ≡ 4) (ihl : 20 ≤ header_length_of octets) (header : header_length_of octets ≤ length octets) (checksum : folded (word_sum (header_of octets)) ≡ 65535) where
   pub total_fault : (word_at octets 2 < header_length_of octets) ⊎ (length octets < word_at octets 2) → header_fault octets ≡ Some Total

@@ -1,6 +1,6 @@
 //! Addresses of IPv4.
 
-ghost use Rattle.std.specs.Prelude.{◌≡◌, ℕ, ◌^◌, ◌<◌, IfSome, IsNone, Some};
+ghost use Rattle.std.specs.Prelude.{◌≡◌, ℕ, ◌^◌, ◌<◌, IfSome, Some};
 ghost use Rattle.nm_packet.specs.Address.{address_text, is_offending};
 ghost use Rattle.nm_packet.specs.Octets.{long_word, long_word_at};
 

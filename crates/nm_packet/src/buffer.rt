@@ -39,7 +39,8 @@ impl PacketBuffer {
         if self.block.capacity() < octets.len() {
             self.block = BytesMut::with_capacity(alloc, octets.len().max(BLOCK_OCTETS))?;
         }
-        self.block.extend_from_slice(octets)
+        self.block.extend_reserved(octets);
+        Ok(())
     }
 
     /// Cuts off what it was filled with.

@@ -1,6 +1,6 @@
 //! ICMP messages (RFC 792).
 
-ghost use Rattle.std.specs.Prelude.{◌≡◌, ◌+◌, ◌<◌, ◌≤◌, List, [], ℕ, length, Some, None, Ok, IfOk, MatchResult};
+ghost use Rattle.std.specs.Prelude.{◌≡◌, ◌+◌, ◌≤◌, List, [], ℕ, length, Some, None, Ok, IfOk, MatchResult};
 ghost use Rattle.nm_packet.specs.Ipv4.{IsIpv4, checked, packet_octets, plain_header};
 ghost use Rattle.nm_packet.specs.Icmp.{IcmpHeader, IsIcmp, icmp_checked, icmp_data_of, icmp_fault, icmp_fields_of, icmp_header, icmp_octets, message_octets};
 ghost use Rattle.nm_packet.specs.Octets.{word_at};

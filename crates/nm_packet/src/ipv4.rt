@@ -1,12 +1,12 @@
 //! IPv4 packets (RFC 791, section 3.1).
 
-ghost use Rattle.std.specs.Prelude.{IfOk, Ok, ◌++◌, ◌≡◌, ◌+◌, ◌==◌, ◌%◌, ◌<◌, ◌≤◌, List, ℕ, length, None, Some, MatchResult, slice_index};
+ghost use Rattle.std.specs.Prelude.{IfOk, Ok, ◌++◌, ◌≡◌, ◌+◌, ◌==◌, ◌%◌, ◌<◌, ◌≤◌, List, ℕ, length, None, Some, MatchResult};
 ghost use Rattle.nm_packet.specs.Octets.{IsOctets};
 ghost use Rattle.nm_packet.specs.Ipv4.{Header, HeaderFits, IsIpv4, IsPacket, checked, cut_of, fields_of, header_fault, header_length_of, header_octets, header_of, lowered, packet_octets, payload_of, plain_header, quote_of};
 
 use crate::Address;
 use crate::buffer::{MAX_CUT_OCTETS, PacketBuffer};
-use crate::checksum::{checksum_of, sum_words, updated_checksum};
+use crate::checksum::{checksum_of, sum_header, updated_checksum};
 use crate::fault::HeaderFault;
 use crate::octets::{long_word_at, word, word_at};
 use bytes::Bytes;
@@ -62,7 +62,7 @@ fn tested(octets: &[u8]) -> Result<Ipv4View<'_>, HeaderFault>
     if header_length < LEAST_HEADER_OCTETS || octets.len() < header_length {
         return Err(HeaderFault::Ihl);
     }
-    if sum_words(0, &octets[..header_length]) != 0xffff {
+    if sum_header(&octets[..header_length]) != 0xffff {
         return Err(HeaderFault::Checksum);
     }
     let total_length = usize::from(word_at(octets, 2));

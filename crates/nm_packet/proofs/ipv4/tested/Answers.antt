@@ -7,7 +7,7 @@ use Rattle.nm_packet.proofs.ipv4.tested.Goals.{then-total_length-header_length-v
 
 pub returns-then-total_length-header_length : goal.returns-then-total_length-header_length
 returns-then-total_length-header_length c =
-    let sum = header_sum c.args.octets.now _ _ c.header_length-header_length.ensures c.sum_words.ensures c.if-sum_words.false in
+    let sum = header_sum c.args.octets.now _ _ c.header_length-header_length.ensures c.sum_header.ensures c.if-sum_header.false in
     let fault = total_fault c.args.octets.now (omega arith) (omega arith) (omega arith) (omega arith) sum in
     elim c.then-total_length-header_length.branch [
       | then-total_length-header_length-via-then-total_length-header_length w ↦ record { exact = fault (inl (omega arith)); packet = search rules }
@@ -17,14 +17,14 @@ returns-then-total_length-header_length c =
 pub invariant_of-result : goal.invariant_of-result
 invariant_of-result c =
     let octets = c.args.octets.now in
-    let sum = header_sum octets _ _ c.header_length-header_length.ensures c.sum_words.ensures c.if-sum_words.false in
+    let sum = header_sum octets _ _ c.header_length-header_length.ensures c.sum_header.ensures c.if-sum_header.false in
     let packet = IsPacket-cut octets (omega arith) (omega arith) (omega arith) (omega arith) sum (omega arith) (omega arith) (omega arith) in
     let small = IsOctets-take (word_at octets 2) octets (λ i. omega (arith, c.type_inv.octets i)) in
     rw (c.from-total_length.ensures ∙ c.word_at.ensures) (packet, small)
 
 pub returns : goal.returns
 returns c =
-    let sum = header_sum c.args.octets.now _ _ c.header_length-header_length.ensures c.sum_words.ensures c.if-sum_words.false in
+    let sum = header_sum c.args.octets.now _ _ c.header_length-header_length.ensures c.sum_header.ensures c.if-sum_header.false in
     let none = no_fault c.args.octets.now (omega arith) (omega arith) (omega arith) (omega arith) sum (omega arith) (omega arith) in
     record {
       exact = (none, ap (λ (n : ℕ). take n c.args.octets.now) (c.from-total_length.ensures ∙ c.word_at.ensures));
