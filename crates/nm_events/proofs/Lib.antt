@@ -1,2 +1,3 @@
 mod Held
 mod Queued
+mod Runs
