@@ -1,7 +1,7 @@
 //! Queues in the order of keys.
 
-ghost use Rattle.std.specs.Prelude.{◌≡◌, ℕ, ◌+◌, ◌≤◌, ◌<◌, ◌^◌, List, [], ◌∷◌, ◌++◌, Option, None, OnOk, IfSome, IfNone};
-ghost use Rattle.std.specs.Prelude.{true, false, length};
+ghost use Rattle.std.specs.Prelude.{◌≡◌, ◌+◌, ◌≤◌, ◌<◌, ◌^◌, [], ◌∷◌, ◌++◌, Option, None, OnOk};
+ghost use Rattle.std.specs.Prelude.{true, length};
 ghost use Rattle.std.specs.Option.{option_map, option_to_list};
 ghost use Rattle.std.specs.FinMap.{find, is_sorted, put as put_in_order};
 ghost use Rattle.std.specs.VecDeque.{deque_capacity, deque_len};

@@ -1,10 +1,7 @@
 //! An event list as queues in the order of keys.
 
-ghost use Rattle.std.specs.Prelude.{◌≡◌, ◌+◌, ◌≤◌, ◌==◌, OnOk, IfSome, IfNone};
+ghost use Rattle.std.specs.Prelude.{◌≡◌, ◌+◌, ◌==◌};
 ghost use Rattle.std.specs.Option.{option_map};
-ghost use Rattle.std.specs.FinMap.{empty, get, insert, len as size, remove};
-ghost use Rattle.nm_base.specs.Key.{key_cmp};
-ghost use Rattle.nm_model.specs.EventList.{least as least_entry};
 ghost use Rattle.nm_events.specs.Held.{is_before as comes_before, is_early, least_kind};
 
 use crate::event_list::EventList;

@@ -1,14 +1,12 @@
 //! The nodes, ports and sources of a simulation.
 
-ghost use Rattle.std.specs.Prelude.{◌≡◌, ◌⊎◌, ℕ, slice_get, slice_index, ◌+◌, ◌≤◌, ◌<◌, ◌^◌, List, Option, Some, None, OnOk, OnErr, IfOk, IfErr, IfSome, MatchResult, Ok, Err, length};
+ghost use Rattle.std.specs.Prelude.{◌≡◌, ℕ, slice_get, slice_index, ◌+◌, ◌≤◌, ◌<◌, ◌^◌, List, Option, Some, None, OnOk, OnErr, IfOk, IfSome, Ok, Err, length};
 ghost use Rattle.nm_base.specs.declared.limits.TheConstants.{MAX_TIME};
 ghost use Rattle.nm_base.specs.declared.event.Origin.TheVariants.{Arrival, Source as FromSource};
-ghost use Rattle.nm_base.specs.declared.key.Place.TheVariants.{Arrive, Complete, Fire};
-ghost use Rattle.nm_base.specs.declared.event.Event.TheVariants.{Completion, Delivery};
+ghost use Rattle.nm_base.specs.declared.key.Place.TheVariants.{Complete};
+ghost use Rattle.nm_base.specs.declared.event.Event.TheVariants.{Completion};
 ghost use Rattle.nm_model.specs.Network.{node_of};
-ghost use Rattle.nm_model.specs.Lists.{set_at};
 ghost use Rattle.nm_model.specs.Port.{Port as PortState, idle_port};
-ghost use Rattle.nm_model.specs.Run.{effect as effect_of, turned};
 ghost use Rattle.nm_forward.specs.State.{NodeStateValue, first_state};
 ghost use Rattle.nm_forward.specs.Reaction.{FitsOrigin, sent_of};
 ghost use Rattle.nm_base.specs.Key.{key_of};
@@ -18,7 +16,7 @@ ghost use Rattle.nm_sim.specs.Devices.{Stand, IsPortOf, IsSame, IsStanding};
 ghost use Rattle.nm_traffic.specs.Source.{source_at, source_of};
 ghost use Rattle.nm_forward.specs.Counter.{counter_number};
 ghost use Rattle.std.specs.Option.{option_map};
-ghost use Rattle.nm_sim.specs.Effects.{CanHappen, Does, IsBusy, Reacts, Sends, start_at as start_at_iface};
+ghost use Rattle.nm_sim.specs.Effects.{Does, IsBusy, Reacts, Sends, start_at as start_at_iface};
 
 use crate::fired::Fired;
 use nm_base::{Event, IfaceNo, Key, NodeNo, Origin, Packet, Place, SourceNo, Time};
