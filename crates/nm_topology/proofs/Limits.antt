@@ -22,7 +22,7 @@ use Rattle.nm_topology.specs.Resolving.{owner_of, link_between, placed_route, pl
 use Rattle.nm_topology.specs.Checks.{numbers_from, uses, are_used_once, far_end, far_ends}
 use Rattle.nm_topology.specs.Networks.{IfaceValue}
 use Rattle.nm_topology.specs.Wholes.{Numbered, NetworkValue}
-use Rattle.nm_topology.specs.Network.{numbered, partition_count, placed_nodes, placed_ifaces}
+use Rattle.nm_topology.specs.Network.{numbered, numbered_by, partition_count, placed_nodes, placed_ifaces}
 use Rattle.nm_topology.specs.Limits.{FitsTraffic, HasOctets, IsWithinLimits}
 use Rattle.nm_topology.specs.Ranges.{IsLinkInRange, FitsRow, IsInRange}
 use Rattle.nm_topology.proofs.Ends.{far-a, far-b, far-on, uses-on}
@@ -170,7 +170,7 @@ module _ (d : DocumentText) (t : Numbered) (tables : List (List Route)) (v : Net
     (used : are_used_once (length d.ifaces) t.links ≡ true)
     (put : IsPutTogether d t tables v) where
   names : (ns : Names) × (is : Names) × (all_of (link_between is) d.links ≡ Ok t.links) × (all_of (placed_source ns is t.owners) d.sources ≡ Ok t.sources)
-  unfolding numbered
+  unfolding numbered numbered_by
   names = by-names (distinct_names (map (λ n. n.name) d.nodes)) (distinct_names (map (λ i. i.name) d.ifaces)) (λ ns. all_of (owner_of ns) d.ifaces)
       (λ is. all_of (link_between is) d.links) (λ ns is os. all_of (placed_route ns is os) d.routes) (λ ns is os. all_of (placed_source ns is os) d.sources) t read
 

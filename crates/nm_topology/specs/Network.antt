@@ -22,16 +22,21 @@ use Rattle.nm_topology.specs.Checks.{demand, numbers_from, are_used_once, same_r
 use Rattle.nm_topology.specs.Networks.{NodeValue, IfaceValue}
 use Rattle.nm_topology.specs.Wholes.{Numbered, NetworkValue}
 
--- numbers in place of names
-unfoldable pub numbered : List NodeText → List IfaceText → List LinkText → List RouteText → List SourceText → Result Numbered Refusal
-numbered nodes ifaces links routes sources = do
-  node_names ← distinct_names (map (λ n. n.name) nodes)
-  iface_names ← distinct_names (map (λ i. i.name) ifaces)
+-- numbers in place of these names
+unfoldable pub numbered_by : List (List ℕ) → List (List ℕ) → List IfaceText → List LinkText → List RouteText → List SourceText → Result Numbered Refusal
+numbered_by node_names iface_names ifaces links routes sources = do
   owners ← all_of (owner_of node_names) ifaces
   ends ← all_of (link_between iface_names) links
   placed ← all_of (placed_route node_names iface_names owners) routes
   traffic ← all_of (placed_source node_names iface_names owners) sources
   Ok (record { owners = owners; links = ends; routes = placed; sources = traffic })
+
+-- numbers in place of names
+unfoldable pub numbered : List NodeText → List IfaceText → List LinkText → List RouteText → List SourceText → Result Numbered Refusal
+numbered nodes ifaces links routes sources = do
+  node_names ← distinct_names (map (λ n. n.name) nodes)
+  iface_names ← distinct_names (map (λ i. i.name) ifaces)
+  numbered_by node_names iface_names ifaces links routes sources
 
 -- the greatest partition plus one
 abbrev pub partition_count : List ℕ → ℕ
