@@ -1,28 +1,42 @@
-# make        proves and builds bin/nullsim
-# make run    builds it and runs it on examples/duo.toml
-# make bench  times the program on generated topologies (docs/BENCH.md)
-# make check-pcap  reads the traces of the examples with tshark or tcpdump
-# make cases CASES=FOLDER   builds it and compares its answers with a folder of cases (tools/cases.sh)
-# make test   proves everything from nothing and runs every test; its last line is 'N passed, M failed'
+# `make help` lists the targets.
 
-.PHONY: all run bench cases check-pcap test clean toolchain
+.PHONY: all help try run bench cases check-pcap test gate-times clean toolchain
+
+# The topology and the interface of `make try` and `make run`; the folder of `make cases`; how many crates `make` proves at a time.
+TOPO = examples/duo.toml
+IFACE =
+CASES =
+JOBS =
 
 all: bin/nullsim
+
+help:
+	@echo 'make             proves what the program needs, and builds bin/nullsim (the first time 10 to 25 minutes; JOBS=N: N crates at a time)'
+	@echo 'make try         runs the program before it is proved, in a minute: TOPO=FILE and IFACE=NAME choose what it shows'
+	@echo 'make run         builds it and shows a trace in hexadecimal; TOPO and IFACE as for make try'
+	@echo 'make bench       times it on generated topologies (docs/BENCH.md)'
+	@echo 'make cases       compares it with cases of an independent model; CASES=FOLDER: with those of a folder'
+	@echo 'make check-pcap  reads the traces of the examples with tshark, or else tcpdump, one of which it needs'
+	@echo 'make test        the gate: proves everything from nothing and runs every test; the last line is N passed, M failed'
+	@echo 'make gate-times  the gate, with the processor minutes of each crate (docs/GATE.md)'
+	@echo 'make clean       removes what was built'
+	@echo 'All need the Rattle toolchain (rt) on PATH and python3, check-pcap python3 of 3.11 or later; none needs a network.'
 
 toolchain:
 	@command -v rt >/dev/null 2>&1 || { echo "nullsim: the Rattle toolchain is missing: put its command rt on PATH" >&2; exit 1; }
 
-# `rt run` proves, links and runs the program; without words it reads a topology, which is empty here, and refuses it.
-bin/nullsim: toolchain
-	@mkdir -p bin crates/nullsim/out
-	@rm -f crates/nullsim/out/nullsim
-	@cd crates/nullsim && rt run </dev/null >out/build.log 2>&1; test -x out/nullsim || { tail -n 20 out/build.log >&2; exit 1; }
-	@cp crates/nullsim/out/nullsim bin/nullsim
+SOURCES := crates.txt $(shell find crates -name out -prune -o -name '*_tests' -prune -o -name nullsim_cases -prune -o \
+  \( -name '*.rt' -o -name '*.antt' \) -print)
 
-.PHONY: bin/nullsim
+bin/nullsim: $(SOURCES) | toolchain
+	@tools/build nullsim $@ $(JOBS)
+
+try: toolchain
+	@echo 'nullsim: what runs now is not proved yet: make proves it' >&2
+	@cd crates/nullsim && rt try --data topology.toml='$(abspath $(TOPO))' -- onehex topology.toml $(IFACE)
 
 run: bin/nullsim
-	@bin/nullsim onehex examples/duo.toml
+	@bin/nullsim onehex '$(TOPO)' $(IFACE)
 
 bench: bin/nullsim
 	@for kind in line grid star; do \
@@ -31,13 +45,16 @@ bench: bin/nullsim
 	done
 
 cases: bin/nullsim
-	@tools/cases.sh bin/nullsim "$(CASES)"
+	@tools/cases.sh bin/nullsim $(if $(CASES),'$(CASES)',crates/nullsim_cases/data/networks crates/nullsim_cases/data/readings)
 
 check-pcap: bin/nullsim
-	@tools/check-pcap.sh bin/nullsim examples/*.toml
+	@tools/check-pcap bin/nullsim examples/*.toml
 
 test: toolchain
 	@rt ci
+
+gate-times: toolchain
+	@tools/gate-times --write
 
 clean:
 	@rm -rf bin crates/*/out
