@@ -16,6 +16,9 @@ impl Model for FailureCount {
     ghost also_owns = { λ _. ftrue };
 }
 
+// It owns nothing, so it may go to another thread.
+unsafe impl Send for FailureCount {}
+
 impl FailureCount {
     /// No failure so far.
     pub fn new() -> Self

@@ -1,11 +1,11 @@
 //! A sink over a writer of the standard library.
 
-ghost use Rattle.std.specs.Prelude.{◌≡◌, ℕ, ◌+◌, if◌then◌else◌, is_ok};
+ghost use Rattle.std.specs.Prelude.{◌≡◌, ℕ, ◌+◌, if◌then◌else◌, is_ok, nat_lt, MatchResult, None, Some};
 ghost use Rattle.std.specs.Io.KnownBytes.{Keeps};
 
 use crate::failures::FailureCount;
 use crate::sink::{Sink, SinkFault};
-use std::io::Write;
+use std::io::{self, Write};
 use std::marker::Model;
 
 /// Writes to a file, a stream or memory. A write that fails or that takes nothing is a fault. A clause sees the writer
@@ -68,15 +68,26 @@ impl<W: Write> StdSink<W> {
     }
 }
 
+/// How many octets a writer took by its answer, or `None` where it failed: it answered an error, or took nothing of a list that is not
+/// empty.
+fn taken_count(answer: io::Result<usize>) -> Option<usize>
+    ensures { MatchResult answer (λ n. result ≡ (if nat_lt 0 n then Some n else None)) (λ _. result ≡ None) }
+{
+    match answer {
+        Ok(count) if count > 0 => Some(count),
+        Ok(_) | Err(_) => None,
+    }
+}
+
 impl<W: Write> Sink for StdSink<W> {
     ghost taken = { λ s. W.contents s.writer };
 
     ghost failures = { λ s. s.failures };
 
     fn write_some(&mut self, octets: &[u8]) -> Result<usize, SinkFault> {
-        match self.writer.write(octets) {
-            Ok(count) if count > 0 => Ok(count),
-            Ok(_) | Err(_) => Err(self.fault()),
+        match taken_count(self.writer.write(octets)) {
+            Some(count) => Ok(count),
+            None => Err(self.fault()),
         }
     }
 }
