@@ -4,190 +4,76 @@
 
 ghost use Rattle.std.specs.Prelude.{◌≡◌, ℕ};
 
-use std::marker::Model;
+use std::marker::{Model, PhantomData};
+
+/// The number of a thing of one kind, from 0.
+#[derive_where(Clone, Copy, Debug, PartialEq, Eq)]
+pub struct Number<K> {
+    number: u32,
+    kind: PhantomData<K>,
+}
+
+impl<K> Model for Number<K> {
+    ghost Value = { ℕ };
+
+    ghost view = { λ s. s.number };
+
+    ghost inverse = { λ n. record { number = n; kind = record {} } };
+}
+
+impl<K> Number<K> {
+    /// The thing with this number.
+    pub fn new(number: u32) -> Self
+        ensures { result ≡ number }
+    {
+        Number {
+            number,
+            kind: PhantomData,
+        }
+    }
+
+    /// The number itself.
+    pub fn number(self) -> u32
+        ensures { result ≡ self }
+    {
+        self.number
+    }
+
+    /// The number as the index of a table of all things of its kind.
+    pub fn index(self) -> usize
+        ensures { result ≡ self }
+    {
+        self.number as usize
+    }
+}
+
+/// Nodes.
+pub enum Node {}
 
 /// The number of a node, from 0 in the order of the topology text.
-#[derive(Clone, Copy, Debug, PartialEq, Eq)]
-pub struct NodeNo {
-    number: u32,
-}
+pub type NodeNo = Number<Node>;
 
-impl Model for NodeNo {
-    ghost Value = { ℕ };
-
-    ghost view = { λ s. s.number };
-
-    ghost inverse = { λ n. record { number = n } };
-}
-
-impl NodeNo {
-    /// A node by its number.
-    pub fn new(number: u32) -> Self
-        ensures { result ≡ number }
-    {
-        NodeNo { number }
-    }
-
-    /// The number itself.
-    pub fn number(self) -> u32
-        ensures { result ≡ self }
-    {
-        self.number
-    }
-
-    /// The number as the index of a table of all nodes.
-    pub fn index(self) -> usize
-        ensures { result ≡ self }
-    {
-        self.number as usize
-    }
-}
+/// Interfaces.
+pub enum Iface {}
 
 /// The number of an interface, from 0 in the order of the topology text.
-#[derive(Clone, Copy, Debug, PartialEq, Eq)]
-pub struct IfaceNo {
-    number: u32,
-}
+pub type IfaceNo = Number<Iface>;
 
-impl Model for IfaceNo {
-    ghost Value = { ℕ };
-
-    ghost view = { λ s. s.number };
-
-    ghost inverse = { λ n. record { number = n } };
-}
-
-impl IfaceNo {
-    /// An interface by its number.
-    pub fn new(number: u32) -> Self
-        ensures { result ≡ number }
-    {
-        IfaceNo { number }
-    }
-
-    /// The number itself.
-    pub fn number(self) -> u32
-        ensures { result ≡ self }
-    {
-        self.number
-    }
-
-    /// The number as the index of a table of all interfaces.
-    pub fn index(self) -> usize
-        ensures { result ≡ self }
-    {
-        self.number as usize
-    }
-}
+/// Channels.
+pub enum Chan {}
 
 /// The number of a channel, one direction of a link between two partitions, from 0 in the order of the receiving
 /// interfaces' numbers.
-#[derive(Clone, Copy, Debug, PartialEq, Eq)]
-pub struct ChanNo {
-    number: u32,
-}
+pub type ChanNo = Number<Chan>;
 
-impl Model for ChanNo {
-    ghost Value = { ℕ };
-
-    ghost view = { λ s. s.number };
-
-    ghost inverse = { λ n. record { number = n } };
-}
-
-impl ChanNo {
-    /// A channel by its number.
-    pub fn new(number: u32) -> Self
-        ensures { result ≡ number }
-    {
-        ChanNo { number }
-    }
-
-    /// The number itself.
-    pub fn number(self) -> u32
-        ensures { result ≡ self }
-    {
-        self.number
-    }
-
-    /// The number as the index of a table of all channels.
-    pub fn index(self) -> usize
-        ensures { result ≡ self }
-    {
-        self.number as usize
-    }
-}
+/// Partitions.
+pub enum Part {}
 
 /// The number of a partition, as the topology text gives it.
-#[derive(Clone, Copy, Debug, PartialEq, Eq)]
-pub struct PartNo {
-    number: u32,
-}
+pub type PartNo = Number<Part>;
 
-impl Model for PartNo {
-    ghost Value = { ℕ };
-
-    ghost view = { λ s. s.number };
-
-    ghost inverse = { λ n. record { number = n } };
-}
-
-impl PartNo {
-    /// A partition by its number.
-    pub fn new(number: u32) -> Self
-        ensures { result ≡ number }
-    {
-        PartNo { number }
-    }
-
-    /// The number itself.
-    pub fn number(self) -> u32
-        ensures { result ≡ self }
-    {
-        self.number
-    }
-
-    /// The number as the index of a table of all partitions.
-    pub fn index(self) -> usize
-        ensures { result ≡ self }
-    {
-        self.number as usize
-    }
-}
+/// Sources of traffic.
+pub enum Source {}
 
 /// The number of a source of traffic, from 0 in the order of the topology text.
-#[derive(Clone, Copy, Debug, PartialEq, Eq)]
-pub struct SourceNo {
-    number: u32,
-}
-
-impl Model for SourceNo {
-    ghost Value = { ℕ };
-
-    ghost view = { λ s. s.number };
-
-    ghost inverse = { λ n. record { number = n } };
-}
-
-impl SourceNo {
-    /// A source by its number.
-    pub fn new(number: u32) -> Self
-        ensures { result ≡ number }
-    {
-        SourceNo { number }
-    }
-
-    /// The number itself.
-    pub fn number(self) -> u32
-        ensures { result ≡ self }
-    {
-        self.number
-    }
-
-    /// The number as the index of a table of all sources.
-    pub fn index(self) -> usize
-        ensures { result ≡ self }
-    {
-        self.number as usize
-    }
-}
+pub type SourceNo = Number<Source>;
