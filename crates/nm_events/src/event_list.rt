@@ -27,10 +27,11 @@ pub trait EventList: Sized {
     ///
     /// # Errors
     ///
-    /// `AllocError` where the list could not grow. It has the same events then.
+    /// `AllocError` where the list could not grow. It has the same events then, and room for as many more as it had.
     fn reserve(&mut self, count: usize) -> Result<(), AllocError>
         ensures same { pending self.new ≡ pending self.old }
-        ensures room { OnOk result (count ≤ room self.new) };
+        ensures room { OnOk result (count ≤ room self.new) }
+        ensures keeps { room self.old ≤ room self.new };
 
     /// Adds an event under a key that has none.
     fn put(&mut self, key: Key, event: Event)

@@ -108,10 +108,11 @@ impl Port {
     ///
     /// # Errors
     ///
-    /// `AllocError` where the queue could not grow. Nothing else changed then.
+    /// `AllocError` where the queue could not grow. Nothing changed then, but that there may be more room.
     pub fn reserve_one(&mut self) -> Result<(), AllocError>
         ensures same { self.new ≡ record self.old { room = self.new.room } }
         ensures room { OnOk result (1 ≤ self.new.room) }
+        ensures keeps { self.old.room ≤ self.new.room }
     {
         self.waiting.reserve(1)
     }
