@@ -1,9 +1,9 @@
 -- What accepting frames and joining do to knowledge that is valid for a history.
-use Rattle.std.proofs.Common.{◌≡◌, ℕ, suc, ◌<◌, ◌≤◌, Bool, true, false, cond, ltb, ◌==◌, List, [], ◌∷◌, ◌++◌, length, Option, Some, None, refl, sym, ap, ap₂, ◌∙◌, subst, arith, true≢false, ⊎_elim, length-append}
+use Rattle.std.proofs.Common.{◌≡◌, ℕ, suc, ◌<◌, ◌≤◌, Bool, true, false, cond, ltb, ◌==◌, List, [], ◌∷◌, ◌++◌, length, Option, Some, None, refl, sym, ap, ◌∙◌, subst, arith, true≢false, ⊎_elim, length-append}
 use Rattle.std.proofs.lemmas.Bool.Decides.{nat_tests}
 use Rattle.nm_model.specs.Accept.{New, Known, Raised, Gap, Differs, Late, NotRising, Contrary, Accepted, last_from, same_message, data_at, accept_data, null_at, accept_null}
 use Rattle.nm_model.specs.Knowledge.{Know, IsValid, IsUnder}
-use Rattle.nm_model.specs.Lists.{nth, IsPrefix, IsRising}
+use Rattle.nm_model.specs.Lists.{nth, IsRising}
 use Rattle.nm_model.specs.World.{IsFine}
 use Rattle.nm_model.proofs.ListLemmas.{number_tied, below_nth, nth_push, prefix_nth, prefix_push, prefix_self}
 use Rattle.nm_model.proofs.Cut.{and_true}

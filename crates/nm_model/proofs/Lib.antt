@@ -28,3 +28,4 @@ mod TwoHosts
 mod NeverFalling
 mod Queues
 pub mod RecordTimes
+mod StepLaws

@@ -14,5 +14,6 @@ pub mod promise;
 pub mod replica;
 pub mod rounds;
 pub mod run;
+pub mod steps;
 pub mod trace;
 pub mod world;
