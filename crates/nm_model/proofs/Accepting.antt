@@ -1,11 +1,14 @@
 -- What accepting frames and joining do to knowledge that is valid for a history.
 use Rattle.std.proofs.Common.{◌≡◌, ℕ, suc, ◌<◌, ◌≤◌, Bool, true, false, cond, ltb, ◌==◌, List, [], ◌∷◌, ◌++◌, length, Option, Some, None, refl, sym, ap, ◌∙◌, subst, arith, true≢false, ⊎_elim, length-append}
+use Rattle.std.proofs.lemmas.Bool.{cases_lt}
 use Rattle.std.proofs.lemmas.Bool.Decides.{nat_tests}
 use Rattle.nm_model.specs.Accept.{New, Known, Raised, Gap, Differs, Late, NotRising, Contrary, Accepted, last_from, same_message, data_at, accept_data, null_at, accept_null}
-use Rattle.nm_model.specs.Knowledge.{Know, IsValid, IsUnder}
-use Rattle.nm_model.specs.Lists.{nth, IsRising}
+use Rattle.nm_model.specs.Knowledge.{Knowledge, Know, IsValid, IsUnder}
+use Rattle.nm_model.specs.Lists.{nth, IsRising, set_at}
+use Rattle.nm_model.specs.Network.{Net}
+use Rattle.nm_model.specs.Replica.{IsUnderAll}
 use Rattle.nm_model.specs.World.{IsFine}
-use Rattle.nm_model.proofs.ListLemmas.{number_tied, below_nth, nth_push, prefix_nth, prefix_push, prefix_self}
+use Rattle.nm_model.proofs.ListLemmas.{number_tied, same_number, set_here, set_there, below_nth, nth_prefix, nth_push, prefix_nth, prefix_push, prefix_self, prefix_trans}
 use Rattle.nm_model.proofs.Cut.{and_true}
 
 module _ {P : Type 0} where
@@ -16,6 +19,16 @@ module _ {P : Type 0} where
 
   pub under_self : (a : Know P) → IsUnder a a
   under_self a = record { begins = prefix_self a.list; later = λ n x le e. absurd (let lt = below_nth a.list n x e in omega arith); clock = omega arith }
+
+  pub under_both : (a b d : Know P) → IsUnder a b → IsUnder b d → IsUnder a d
+  under_both a b d h k = record {
+    begins = prefix_trans a.list b.list d.list h.begins k.begins;
+    later = λ n x le e. ⊎_elim
+        (λ lt. h.later n x le (nth_prefix b.list d.list n x k.begins lt e))
+        (λ ge. let up = k.later n x ge e in let c = h.clock in omega arith)
+        (cases_lt n (length b.list));
+    clock = let c = h.clock in let e = k.clock in omega arith;
+  }
 
   pub valid_next : (a : Know P) (H : List (ℕ × P)) → IsRising H → IsValid a H → (b : ℕ × P) → nth H (length a.list) ≡ Some b → IsValid (record { list = a.list ++ b ∷ []; clock = b.0 }) H
   valid_next a H rising v b e = record {
@@ -105,3 +118,10 @@ module _ {P : Type 0} where
           at_length : (z : Bool) → (n == length a.list) ≡ z → IsFine (cond z (cond {A = Accepted P} (ltb a.clock t) (record { answer = Raised; after = record a { clock = t } }) (record { answer = Known; after = a })) (record { answer = Gap (length a.list); after = a })).answer × IsValid (cond z (cond {A = Accepted P} (ltb a.clock t) (record { answer = Raised; after = record a { clock = t } }) (record { answer = Known; after = a })) (record { answer = Gap (length a.list); after = a })).after H
           at_length true g = raised (grind (arith, nat_tests)) (ltb a.clock t)
           at_length false g = (tt, v)
+
+module _ {P N : Type 0} (net : Net P N) (p : ℕ) (K : Knowledge P) where
+  pub under_set : (c : ℕ) (a : Know P) → IsUnder (K c) a → IsUnderAll net p K (set_at K c a)
+  under_set c a u d ch = ⊎_elim
+      (λ e. subst (λ z. IsUnder (K z) ((set_at K c a) z)) (sym e) (subst (IsUnder (K c)) (sym (set_here K c a)) u))
+      (λ e. subst (IsUnder (K d)) (sym (set_there K c a d e)) (under_self (K d)))
+      (same_number d c)

@@ -1,5 +1,5 @@
 -- A partition and the whole network at the start.
-use Rattle.std.proofs.Common.{◌≡◌, inl, inr, ℕ, zero, suc, ◌+◌, ◌<◌, Bool, true, false, cond, not, List, [], ◌∷◌, Some, None, refl, sym, ap, ◌∙◌, subst, arith, ⊎_elim}
+use Rattle.std.proofs.Common.{◌≡◌, inl, inr, ℕ, zero, suc, ◌+◌, ◌<◌, Bool, true, false, cond, not, List, [], ◌++◌, ◌∷◌, Some, None, refl, sym, ap, ◌∙◌, subst, arith, ⊎_elim}
 use Rattle.std.specs.FinMap.{FinMap, get, empty}
 use Rattle.nm_base.specs.declared.key.Place.{Place}
 use Rattle.nm_base.specs.declared.key.Place.TheVariants.{Arrive, Fire}
@@ -7,7 +7,7 @@ use Rattle.nm_base.specs.declared.key.Key.{Key}
 use Rattle.nm_base.specs.Key.{key_of, key_cmp}
 use Rattle.nm_model.specs.EventList.{schedule}
 use Rattle.nm_model.specs.Replica.{inbox_below, from_scratch, message_events, inbox_events}
-use Rattle.nm_model.specs.Knowledge.{Knowledge}
+use Rattle.nm_model.specs.Knowledge.{Knowledge, no_knowledge}
 use Rattle.nm_model.specs.Partition.{in_part, comes_in, is_inbox}
 use Rattle.nm_model.specs.Lists.{nth}
 use Rattle.nm_model.specs.Network.{Net, IsNet}
@@ -115,3 +115,13 @@ module _ {P N : Type 0} (net : Net P N) (p : ℕ) where
 
 pub orderly_part : {P N : Type 0} (net : Net P N) → IsNet net → (p : ℕ) (K : Knowledge P) (k : ℕ) → IsOrderly net (in_part net p) (from_scratch net p K k)
 orderly_part net ok p K k = orderly_run net ok (in_part net p) (part_by_node net p) k _ (orderly_begun net p ok K)
+
+-- over no knowledge nothing is pending on channels
+module _ {P N : Type 0} (net : Net P N) (p : ℕ) where
+  pub no_messages : (n : ℕ) → inbox_below net p (no_knowledge {P = P}) n ≡ []
+  no_messages zero = refl
+  no_messages (suc c) = go (comes_in net p c) ∙ no_messages c
+    where
+      go : (b : Bool) → cond b (message_events c 0 (no_knowledge {P = P} c).list) [] ++ inbox_below net p (no_knowledge {P = P}) c ≡ inbox_below net p (no_knowledge {P = P}) c
+      go true = refl
+      go false = refl

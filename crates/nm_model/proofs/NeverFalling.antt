@@ -1,10 +1,12 @@
 -- Promises never fall: neither when events are done nor when more is known.
-use Rattle.std.proofs.Common.{◌≡◌, ℕ, zero, suc, ◌+◌, ◌-◌, ◌<◌, ◌≤◌, min, max, true, Option, Some, None, refl, sym, ap, ◌∙◌, subst, arith, true≢false, ⊎_elim}
+use Rattle.std.proofs.Common.{◌≡◌, ◌⊎◌, inl, inr, ℕ, zero, suc, ◌+◌, ◌-◌, ◌<◌, ◌≤◌, min, max, true, Option, Some, None, refl, sym, ap, ◌∙◌, subst, arith, true≢false, ⊎_elim}
+use Rattle.std.proofs.lemmas.Bool.{cases_lt}
 use Rattle.std.specs.FinMap.{get}
 use Rattle.nm_base.specs.declared.key.Place.TheVariants.{Complete}
 use Rattle.nm_base.specs.declared.key.Key.{Key}
 use Rattle.nm_base.specs.declared.event.Event.{Event}
 use Rattle.nm_model.specs.EventList.{least, next_time}
+use Rattle.nm_model.specs.Lists.{IsPrefix}
 use Rattle.nm_model.specs.Network.{Net, IsNet}
 use Rattle.nm_model.specs.Port.{Busy, busy_until}
 use Rattle.nm_model.specs.Run.{State, step_at}
@@ -14,7 +16,7 @@ use Rattle.nm_model.specs.Replica.{from_scratch, safe_time, new_messages, IsWith
 use Rattle.nm_model.specs.Promise.{Promising, Plain, Tight, next_cause, promise}
 use Rattle.nm_model.specs.Before.{same_place}
 use Rattle.nm_model.proofs.Keys.{key_at, least_has, least_min, least_none, up_to_time}
-use Rattle.nm_model.proofs.ListLemmas.{some_inj, bool_cases}
+use Rattle.nm_model.proofs.ListLemmas.{some_inj, bool_cases, prefix_self, prefix_trans}
 use Rattle.nm_model.proofs.Scheduling.{put_from}
 use Rattle.nm_model.proofs.Cut.{safe_stop}
 use Rattle.nm_model.proofs.CutLaw.{least_busy, until_at_most}
@@ -115,3 +117,34 @@ module _ {P N : Type 0} (net : Net P N) (ok : IsNet net) (p : ℕ) where
       let a = told_rises K J under k w kind c in
       let b = steps_rise J (m - k) k (subst (IsWithin net p J) (sym e) v) kind c in
       let f = ap (λ n. promise net kind p J n c) e in omega arith
+
+  -- what was sent and recorded only grows
+  pub sent_grows : (K J : Knowledge P) → IsUnderAll net p K J → (k m : ℕ) → k ≤ m → IsWithin net p K k → (c : ℕ) → IsPrefix ((from_scratch net p K k).sent c) ((from_scratch net p J m).sent c)
+  sent_grows K J under k m le w c =
+      subst (λ l. IsPrefix l ((from_scratch net p J m).sent c)) (ap (λ (s : State P N). s.sent c) (books net ok p K J under k w))
+      ((from_since net ok p J k m 0 le (λ q y e. omega arith)).grows c)
+
+  step_records : (s : State P N) (o : Option (Key × Event P)) → IsPrefix s.records (step_at net (in_part net p) s o).records
+  step_records s None = prefix_self s.records
+  step_records s (Some e) = (_, refl)
+
+  steps_records : (J : Knowledge P) (d k : ℕ) → IsPrefix (from_scratch net p J k).records (from_scratch net p J (d + k)).records
+  steps_records J zero k = let e : k ≡ 0 + k = omega arith in subst (λ n. IsPrefix (from_scratch net p J k).records (from_scratch net p J n).records) e (prefix_self _)
+  steps_records J (suc d) k =
+      let e : suc (d + k) ≡ suc d + k = omega arith in
+      subst (λ n. IsPrefix (from_scratch net p J k).records (from_scratch net p J n).records) e
+      (prefix_trans _ _ _ (steps_records J d k) (step_records (from_scratch net p J (d + k)) (least (from_scratch net p J (d + k)).pending)))
+
+  pub records_grow : (K J : Knowledge P) → IsUnderAll net p K J → (k m : ℕ) → k ≤ m → IsWithin net p K k → IsPrefix (from_scratch net p K k).records (from_scratch net p J m).records
+  records_grow K J under k m le w =
+      let e : m - k + k ≡ m = omega arith in
+      subst (λ l. IsPrefix l (from_scratch net p J m).records) (ap (λ (s : State P N). s.records) (books net ok p K J under k w))
+      (subst (λ n. IsPrefix (from_scratch net p J k).records (from_scratch net p J n).records) e (steps_records J (m - k) k))
+
+-- the next event that may cause a message, or the time at which none is left
+pub cause_is : {P : Type 0} (t s : ℕ) (o : Option (Key × Event P)) → (next_time (min t s) o ≡ t) ⊎ (next_time (min t s) o ≡ s) ⊎ ((e : Key × Event P) × (o ≡ Some e) × (next_time (min t s) o ≡ e.0.time))
+cause_is t s None = ⊎_elim (λ h. inl (omega arith)) (λ h. inr (inl (omega arith))) (cases_lt t s)
+cause_is t s (Some e) = ⊎_elim
+    (λ h. ⊎_elim (λ k. inl (omega arith)) (λ k. inr (inl (omega arith))) (cases_lt t s))
+    (λ h. inr (inr (e, refl, omega arith)))
+    (cases_lt (min t s) e.0.time)

@@ -4,7 +4,7 @@ use Rattle.std.specs.FinMap.{FinMap, get, insert}
 use Rattle.nm_base.specs.declared.key.Place.TheVariants.{Arrive}
 use Rattle.nm_base.specs.declared.key.Key.{Key}
 use Rattle.nm_base.specs.Key.{key_of, key_cmp}
-use Rattle.nm_model.specs.Replica.{from_scratch, safe_time, IsWithin, IsUnderAll}
+use Rattle.nm_model.specs.Replica.{from_scratch, safe_time, IsWithin}
 use Rattle.nm_model.specs.Knowledge.{Knowledge, Know, IsUnder}
 use Rattle.nm_model.specs.Partition.{in_part, comes_in}
 use Rattle.nm_model.specs.Lists.{nth, set_at}
@@ -18,16 +18,10 @@ use Rattle.nm_model.proofs.Scheduling.{put_absent}
 use Rattle.nm_model.proofs.Begin.{messages_are, no_source}
 use Rattle.nm_model.proofs.CutLaw.{least_busy}
 use Rattle.nm_model.proofs.Books.{alien, more, new_among, more_has, not_by_channel, books}
-use Rattle.nm_model.proofs.Accepting.{under_self}
+use Rattle.nm_model.proofs.Accepting.{under_self, under_set}
 use Rattle.nm_base.specs.declared.event.Event.{Event}
 
 module _ {P N : Type 0} (net : Net P N) (ok : IsNet net) (p : ℕ) (K : Knowledge P) where
-  under_set : (c : ℕ) (a : Know P) → IsUnder (K c) a → IsUnderAll net p K (set_at K c a)
-  under_set c a u d ch = ⊎_elim
-      (λ e. subst (λ z. IsUnder (K z) ((set_at K c a) z)) (sym e) (subst (IsUnder (K c)) (sym (set_here K c a)) u))
-      (λ e. subst (IsUnder (K d)) (sym (set_there K c a d e)) (under_self (K d)))
-      (same_number d c)
-
   -- what is pending on a channel is a message of K
   pub told_pending : (k : ℕ) → IsWithin net p K k → (c t n : ℕ) (x : Event P) → comes_in net p c ≡ true → get (from_scratch net p K k).pending (key_of t (Arrive c) n) ≡ Some x → (y : P) × (x ≡ Delivery y) × (nth (K c).list n ≡ Some (t, y))
   told_pending zero w c t n x ch e = let m = messages_are net p K c t n x (sym (no_source net p (key_of t (Arrive c) n) c refl (in_part net p) _) ∙ e) in (m.1, m.2, m.3)
@@ -60,12 +54,12 @@ module _ {P N : Type 0} (net : Net P N) (ok : IsNet net) (p : ℕ) (K : Knowledg
       pub key_new : get (from_scratch net p K k).pending its_key ≡ None
       key_new = ⊎_elim (λ e. e) (λ e. absurd (let f = told_pending k w c b.0 (length (K c).list) e.0 ch e.1 in let lt = below_nth (K c).list (length (K c).list) (b.0, f.0) f.2 in omega arith)) (option_cases (get (from_scratch net p K k).pending its_key))
 
-      one_more : (m : FinMap key_cmp (Event P)) (q : Key) → get (more net ok p K (set_at K c longer) (under_set c longer longer_under) m) q ≡ get (insert m its_key (Delivery b.1)) q
+      one_more : (m : FinMap key_cmp (Event P)) (q : Key) → get (more net ok p K (set_at K c longer) (under_set net p K c longer longer_under) m) q ≡ get (insert m its_key (Delivery b.1)) q
       one_more m q = ⊎_elim
-          (λ e. subst (λ z. get (more net ok p K (set_at K c longer) (under_set c longer longer_under) m) z ≡ get (insert m its_key (Delivery b.1)) z) (sym e)
-          (more_has net ok p K (set_at K c longer) (under_set c longer longer_under) m c (length (K c).list) b.0 b.1 ch (omega arith) (ap (λ a. nth a.list (length (K c).list)) (set_here K c longer) ∙ nth_last (K c).list b)
+          (λ e. subst (λ z. get (more net ok p K (set_at K c longer) (under_set net p K c longer longer_under) m) z ≡ get (insert m its_key (Delivery b.1)) z) (sym e)
+          (more_has net ok p K (set_at K c longer) (under_set net p K c longer longer_under) m c (length (K c).list) b.0 b.1 ch (omega arith) (ap (λ a. nth a.list (length (K c).list)) (set_here K c longer) ∙ nth_last (K c).list b)
           ∙ sym (insert_same m its_key (Delivery b.1))))
-          (λ e. put_absent (λ z. true) _ m q (absent_unless q _ (λ v a. e (only v (new_among net ok p K (set_at K c longer) (under_set c longer longer_under) q v a)))) ∙ sym (insert_other m its_key (Delivery b.1) q e))
+          (λ e. put_absent (λ z. true) _ m q (absent_unless q _ (λ v a. e (only v (new_among net ok p K (set_at K c longer) (under_set net p K c longer longer_under) q v a)))) ∙ sym (insert_other m its_key (Delivery b.1) q e))
           (key_decides q its_key)
         where
           only : (v : Event P) → ((d : ℕ) × (q.place ≡ Arrive d) × (comes_in net p d ≡ true) × (length (K d).list ≤ q.number) × (z : P) × (v ≡ Delivery z) × (nth ((set_at K c longer) d).list q.number ≡ Some (q.time, z))) → q ≡ its_key
@@ -81,7 +75,7 @@ module _ {P N : Type 0} (net : Net P N) (ok : IsNet net) (p : ℕ) (K : Knowledg
               (same_number r.0 c)
 
       pub told_one : from_scratch net p (set_at K c longer) k ≡ record (from_scratch net p K k) { pending = insert (from_scratch net p K k).pending its_key (Delivery b.1) }
-      told_one = books net ok p K (set_at K c longer) (under_set c longer longer_under) k w
+      told_one = books net ok p K (set_at K c longer) (under_set net p K c longer longer_under) k w
           ∙ ap (λ m. record (from_scratch net p K k) { pending = m }) (same_events _ _ (one_more (from_scratch net p K k).pending))
 
     -- a greater clock
@@ -92,8 +86,8 @@ module _ {P N : Type 0} (net : Net P N) (ok : IsNet net) (p : ℕ) (K : Knowledg
       raised_under : IsUnder (K c) raised
       raised_under = record { begins = prefix_self (K c).list; later = λ i x li e. absurd (let lt = below_nth _ i x e in omega arith); clock = le }
 
-      no_more : (m : FinMap key_cmp (Event P)) (q : Key) → get (more net ok p K (set_at K c raised) (under_set c raised raised_under) m) q ≡ get m q
-      no_more m q = put_absent (λ z. true) _ m q (absent_unless q _ (λ v a. none v (new_among net ok p K (set_at K c raised) (under_set c raised raised_under) q v a)))
+      no_more : (m : FinMap key_cmp (Event P)) (q : Key) → get (more net ok p K (set_at K c raised) (under_set net p K c raised raised_under) m) q ≡ get m q
+      no_more m q = put_absent (λ z. true) _ m q (absent_unless q _ (λ v a. none v (new_among net ok p K (set_at K c raised) (under_set net p K c raised raised_under) q v a)))
         where
           none : (v : Event P) → ((d : ℕ) × (q.place ≡ Arrive d) × (comes_in net p d ≡ true) × (length (K d).list ≤ q.number) × (z : P) × (v ≡ Delivery z) × (nth ((set_at K c raised) d).list q.number ≡ Some (q.time, z))) → ⊥
           none v r =
@@ -105,5 +99,5 @@ module _ {P N : Type 0} (net : Net P N) (ok : IsNet net) (p : ℕ) (K : Knowledg
               let lt = below_nth (K r.0).list q.number (q.time, r.4) f in let le' = r.3 in omega arith
 
       pub told_clock : from_scratch net p (set_at K c raised) k ≡ from_scratch net p K k
-      told_clock = books net ok p K (set_at K c raised) (under_set c raised raised_under) k w
+      told_clock = books net ok p K (set_at K c raised) (under_set net p K c raised raised_under) k w
           ∙ ap (λ m. record (from_scratch net p K k) { pending = m }) (same_events _ _ (no_more (from_scratch net p K k).pending))

@@ -1,5 +1,5 @@
 -- What the records of a run say.
-use Rattle.std.proofs.Common.{◌≡◌, ◌≢◌, ◌⊎◌, inl, inr, ℕ, zero, suc, ◌+◌, ◌<◌, ◌≤◌, Bool, true, false, cond, List, [], ◌∷◌, ◌++◌, length, Option, Some, None, refl, sym, ap, ap₂, ◌∙◌, subst, arith, ⊎_elim, append-nil, length-append}
+use Rattle.std.proofs.Common.{◌≡◌, ◌≢◌, ◌⊎◌, inl, inr, ℕ, zero, suc, ◌+◌, ◌<◌, ◌≤◌, Bool, true, false, cond, ◌==◌, true≢false, List, [], ◌∷◌, ◌++◌, length, Option, Some, None, refl, sym, ap, ap₂, ◌∙◌, subst, arith, ⊎_elim, append-nil, length-append}
 use Rattle.std.proofs.lemmas.Bool.{cases_lt}
 use Rattle.std.specs.FinMap.{get}
 use Rattle.nm_base.specs.declared.key.Place.{Place}
@@ -8,13 +8,15 @@ use Rattle.nm_base.specs.declared.event.Event.{Event}
 use Rattle.nm_base.specs.declared.record.Dir.{Dir}
 use Rattle.nm_base.specs.declared.record.Dir.TheVariants.{In, Out}
 use Rattle.nm_base.specs.declared.record.Record.{Record}
-use Rattle.nm_model.specs.Lists.{nth, IsPrefix}
+use Rattle.nm_model.specs.Lists.{nth, IsPrefix, keep_where}
 use Rattle.nm_model.specs.EventList.{least}
 use Rattle.nm_model.specs.Network.{Net, IsNet}
 use Rattle.nm_model.specs.Run.{State, Effect, effect, in_record, out_record, step_at, run, start, one_list, pends_before}
 use Rattle.nm_model.specs.Trace.{passed}
+use Rattle.nm_model.specs.Before.{trace}
+use Rattle.nm_model.specs.Partition.{is_own_record}
 use Rattle.nm_model.proofs.Keys.{least_has, least_min, up_to_time}
-use Rattle.nm_model.proofs.ListLemmas.{number_tied, number_apart, nth_prefix, prefix_nth, prefix_push, prefix_trans}
+use Rattle.nm_model.proofs.ListLemmas.{number_is, number_tied, number_apart, nth_prefix, prefix_nth, prefix_push, prefix_trans}
 use Rattle.nm_model.proofs.Effects.{effect_is}
 use Rattle.nm_model.proofs.NewEvents.{peer_inj, arrived_case, sent_case, sent_prefix, pending_case}
 use Rattle.nm_model.proofs.Invariants.{Invariant, arrival_number}
@@ -243,3 +245,20 @@ module _ {P N : Type 0} (net : Net P N) (ok : IsNet net) (here : Place → Bool)
   pub ordered_run : (n : ℕ) (messages : List (Key × Event P)) → IsOrderly net here (start net here messages) → Ordered (run net here n (start net here messages))
   ordered_run zero messages g = record { before = λ m r f. absurd (cc); order = λ m n a b le e f. absurd (cc) }
   ordered_run (suc n) messages g = ordered_step (run net here n (start net here messages)) (orderly_run net ok here by_node n _ g) (ordered_run n messages g) _ refl
+
+-- an interface's records are those of its partition
+module _ {P N : Type 0} (net : Net P N) (p i : ℕ) (own : (net.part (net.owner i) == p) ≡ true) where
+  kept : (l : List (Record P)) → keep_where (λ r. r.iface == i) (keep_where (is_own_record net p) l) ≡ keep_where (λ r. r.iface == i) l
+  kept [] = refl
+  kept (r ∷ l) = go (r.iface == i) refl (is_own_record net p r) refl (kept l)
+    where
+      go : (z : Bool) → (r.iface == i) ≡ z → (y : Bool) → is_own_record net p r ≡ y
+          → keep_where (λ r. r.iface == i) (keep_where (is_own_record net p) l) ≡ keep_where (λ r. r.iface == i) l
+          → keep_where (λ r. r.iface == i) (cond y (r ∷ keep_where (is_own_record net p) l) (keep_where (is_own_record net p) l)) ≡ cond z (r ∷ keep_where (λ r. r.iface == i) l) (keep_where (λ r. r.iface == i) l)
+      go true e true f h = ap (λ b. cond b (r ∷ keep_where (λ r. r.iface == i) (keep_where (is_own_record net p) l)) (keep_where (λ r. r.iface == i) (keep_where (is_own_record net p) l))) e ∙ ap (λ t. r ∷ t) h
+      go false e true f h = ap (λ b. cond b (r ∷ keep_where (λ r. r.iface == i) (keep_where (is_own_record net p) l)) (keep_where (λ r. r.iface == i) (keep_where (is_own_record net p) l))) e ∙ h
+      go false e false f h = h
+      go true e false f h = absurd (true≢false (sym (ap (λ j. net.part (net.owner j) == p) (number_is r.iface i e) ∙ own) ∙ f))
+
+  pub same_records : (last : ℕ) → keep_where (λ r. r.iface == i) (trace net p last) ≡ keep_where (λ r. r.iface == i) (one_list net last).records
+  same_records last = kept (one_list net last).records

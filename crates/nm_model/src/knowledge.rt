@@ -25,6 +25,12 @@ pub fn accept_laws<P>()
         → IsFine (accept_null a n t).answer × IsValid (accept_null a n t).after H }
 {}
 
+/// Knowledge is under itself, and under whatever that which it is under is under.
+pub fn under_laws<P>()
+    ensures reflexive { (a : Know P) → IsUnder a a }
+    ensures transitive { (a b d : Know P) → IsUnder a b → IsUnder b d → IsUnder a d }
+{}
+
 /// The join of knowledge that is valid for one history is the least that both are under.
 pub fn join_laws<P>()
     ensures idempotent { (a : Know P) → join a a ≡ a }

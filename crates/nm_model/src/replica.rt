@@ -8,9 +8,10 @@ ghost use Rattle.nm_base.specs.Key.{key_of};
 ghost use Rattle.nm_model.specs.Lists.{IsPrefix, set_at};
 ghost use Rattle.nm_model.specs.Network.{Net, IsNet};
 ghost use Rattle.nm_model.specs.Run.{one_list};
-ghost use Rattle.nm_model.specs.Knowledge.{Knowledge};
+ghost use Rattle.nm_model.specs.Knowledge.{Knowledge, Know, IsUnder, no_knowledge};
 ghost use Rattle.nm_model.specs.Partition.{in_part, comes_in};
-ghost use Rattle.nm_model.specs.Replica.{from_scratch, safe_time, IsWithin, IsUnderAll, with_new, Agrees};
+ghost use Rattle.nm_model.specs.Replica.{from_scratch, inbox_events, safe_time, IsWithin, IsUnderAll, with_new, Agrees};
+ghost use Rattle.nm_model.specs.Promise.{Promising, promise};
 ghost use Rattle.nm_model.specs.Before.{IsBefore, IsCount, IsKnowledge, events_at, trace};
 
 /// The cut law: a partition over valid knowledge computes its part of the whole network. `agrees`: each of its states is
@@ -63,4 +64,39 @@ pub fn told_one_more<P, N>()
         → IsWithin net p K k → (c : ℕ) → comes_in net p c ≡ true → (t : ℕ) → (K c).clock ≤ t
         → from_scratch net p (set_at K c (record { list = (K c).list; clock = t })) k
         ≡ from_scratch net p K k }
+{}
+
+/// More of one channel is more knowledge.
+pub fn more_of_one_channel_is_more<P, N>()
+    ensures { (net : Net P N) (p : ℕ) (K : Knowledge P) (c : ℕ) (a : Know P) → IsUnder (K c) a
+        → IsUnderAll net p K (set_at K c a) }
+{}
+
+/// What was put on a channel and what was recorded stays, whatever is done and whatever more is known.
+pub fn what_was_done_stays<P, N>()
+    ensures sent { (net : Net P N) → IsNet net → (p : ℕ) (K J : Knowledge P) → IsUnderAll net p K J
+        → (k m : ℕ) → k ≤ m → IsWithin net p K k → (c : ℕ)
+        → IsPrefix ((from_scratch net p K k).sent c) ((from_scratch net p J m).sent c) }
+    ensures records { (net : Net P N) → IsNet net → (p : ℕ) (K J : Knowledge P) → IsUnderAll net p K J
+        → (k m : ℕ) → k ≤ m → IsWithin net p K k
+        → IsPrefix (from_scratch net p K k).records (from_scratch net p J m).records }
+{}
+
+/// Over no knowledge a partition begins with its sources' events alone.
+pub fn nothing_known_puts_nothing<P, N>()
+    ensures { (net : Net P N) (p : ℕ) → inbox_events net p no_knowledge ≡ [] }
+{}
+
+/// Who knows the same of each incoming channel has the same states and makes the same promises, whoever it is.
+pub fn equal_knowledge_gives_equal_states<P, N>()
+    ensures states { (net : Net P N) → IsNet net → (p : ℕ) (K J : Knowledge P)
+        → ((c : ℕ) → comes_in net p c ≡ true → K c ≡ J c)
+        → (k : ℕ) → IsWithin net p K k → from_scratch net p J k ≡ from_scratch net p K k }
+    ensures within { (net : Net P N) → IsNet net → (p : ℕ) (K J : Knowledge P)
+        → ((c : ℕ) → comes_in net p c ≡ true → K c ≡ J c)
+        → (k : ℕ) → IsWithin net p K k → IsWithin net p J k }
+    ensures promises { (net : Net P N) → IsNet net → (p : ℕ) (K J : Knowledge P)
+        → ((c : ℕ) → comes_in net p c ≡ true → K c ≡ J c)
+        → (kind : Promising) (k c : ℕ) → IsWithin net p K k
+        → promise net kind p J k c ≡ promise net kind p K k c }
 {}

@@ -1,14 +1,16 @@
 //! Laws of traces.
 
-ghost use Rattle.std.specs.Prelude.{◌≡◌, ℕ, ◌+◌, ◌<◌, ◌≤◌, false, length, List, Some};
+ghost use Rattle.std.specs.Prelude.{◌≡◌, ℕ, ◌+◌, ◌<◌, ◌≤◌, ◌==◌, false, length, List, Some};
 ghost use Rattle.nm_base.specs.declared.record.Dir.TheVariants.{In, Out};
 ghost use Rattle.nm_base.specs.declared.record.Record.{Record};
-ghost use Rattle.nm_model.specs.Lists.{nth};
+ghost use Rattle.nm_model.specs.Lists.{nth, keep_where};
 ghost use Rattle.nm_model.specs.Network.{Net, IsNet};
 ghost use Rattle.nm_model.specs.Run.{one_list, pends_before};
 ghost use Rattle.nm_model.specs.Knowledge.{Knowledge, Know};
 ghost use Rattle.nm_model.specs.Replica.{from_scratch};
 ghost use Rattle.nm_model.specs.Trace.{passed};
+ghost use Rattle.nm_model.specs.Partition.{receiver_of};
+ghost use Rattle.nm_model.specs.Before.{trace};
 
 /// The count of arrivals in a state is that of its records, so it says nothing of its own.
 pub fn arrivals_are_recorded<P, N>()
@@ -46,4 +48,11 @@ pub fn records_in_order<P, N>()
     ensures part { (net : Net P N) → IsNet net → (p : ℕ) (K : Knowledge P) (n j k : ℕ)
         (a b : Record P) → j ≤ k → nth (from_scratch net p K n).records j ≡ Some a
         → nth (from_scratch net p K n).records k ≡ Some b → a.time ≤ b.time }
+{}
+
+/// The records of an interface in the trace of its partition are those in the trace of the whole network.
+pub fn interfaces_have_their_records<P, N>()
+    ensures { (net : Net P N) (p i last : ℕ) → p ≡ receiver_of net i
+        → keep_where (λ r. r.iface == i) (trace net p last)
+        ≡ keep_where (λ r. r.iface == i) (one_list net last).records }
 {}
