@@ -44,7 +44,7 @@ none_below : (f : ℕ → Option Fault) (n : ℕ) → ((i : ℕ) → i < n → f
 none_below f zero h = refl
 none_below f (suc n) h = none_both _ _ (none_below f n (λ i lt. h i (omega arith))) (h n (omega arith))
 
-guard_none : (b : Bool) (o : Option Fault) → cond b o None ≡ None → b ≡ true → o ≡ None
+pub guard_none : (b : Bool) (o : Option Fault) → cond b o None ≡ None → b ≡ true → o ≡ None
 guard_none true o e h = e
 guard_none false o e h = absurd (true≢false (sym h))
 
@@ -52,7 +52,7 @@ none_guard : (b : Bool) (o : Option Fault) → (b ≡ true → o ≡ None) → c
 none_guard true o h = h refl
 none_guard false o h = refl
 
-test_true : (b : Bool) (f : Fault) → cond b None (Some f) ≡ None → b ≡ true
+pub test_true : (b : Bool) (f : Fault) → cond b None (Some f) ≡ None → b ≡ true
 test_true true f e = refl
 test_true false f e = absurd (cc)
 
@@ -60,7 +60,7 @@ true_test : (b : Bool) (f : Fault) → b ≡ true → cond b None (Some f) ≡ N
 true_test b f e = ap (λ z. cond z None (Some f)) e
 
 module _ {A : Type 0} (f : A → Option Fault) where
-  of_none : (l : List A) → first_of f l ≡ None → (i : ℕ) (x : A) → nth l i ≡ Some x → f x ≡ None
+  pub of_none : (l : List A) → first_of f l ≡ None → (i : ℕ) (x : A) → nth l i ≡ Some x → f x ≡ None
   of_none [] e i x g = absurd (cc)
   of_none (y ∷ l) e zero x g = let s : y ≡ x = cc in ap f (sym s) ∙ left_none (f y) (first_of f l) e
   of_none (y ∷ l) e (suc i) x g = of_none l (right_none (f y) (first_of f l) e) i x g
@@ -70,7 +70,7 @@ module _ {A : Type 0} (f : A → Option Fault) where
   none_of (y ∷ l) h = none_both _ _ (h 0 y refl) (none_of l (λ i x g. h (suc i) x g))
 
 module _ {P : Type 0} where
-  part_there : (p : ℕ) (l : List (Book P)) → has_part p l ≡ true → (i : ℕ) × (b : Book P) × (nth l i ≡ Some b) × (b.part ≡ p)
+  pub part_there : (p : ℕ) (l : List (Book P)) → has_part p l ≡ true → (i : ℕ) × (b : Book P) × (nth l i ≡ Some b) × (b.part ≡ p)
   part_there p [] h = absurd (true≢false (sym h))
   part_there p (b ∷ l) h = go (b.part == p) refl h (λ k. part_there p l k)
     where
@@ -78,7 +78,7 @@ module _ {P : Type 0} where
       go true e k rest = (0, b, refl, number_is b.part p e)
       go false e k rest = let r = rest k in (suc r.0, r.1, r.2, r.3)
 
-  there_part : (p : ℕ) (l : List (Book P)) (i : ℕ) (b : Book P) → nth l i ≡ Some b → b.part ≡ p → has_part p l ≡ true
+  pub there_part : (p : ℕ) (l : List (Book P)) (i : ℕ) (b : Book P) → nth l i ≡ Some b → b.part ≡ p → has_part p l ≡ true
   there_part p [] i b e f = absurd (cc)
   there_part p (d ∷ l) zero b e f = let s : d ≡ b = cc in let t : (d.part == p) ≡ true = ap (λ z. z.part == p) s ∙ ap (λ z. z == p) f ∙ number_tied p in ap (λ z. z || has_part p l) t
   there_part p (d ∷ l) (suc i) b e f = go (d.part == p) (there_part p l i b e f)
@@ -88,7 +88,7 @@ module _ {P : Type 0} where
       go false h = h
 
   module _ (same : P → P → Bool) (eq : IsReflexive same) (tells : TellsApart same) (c : ℕ) where
-    prefix_none : (n : ℕ) (k l : List (ℕ × P)) → prefix_fault same c n k l ≡ None → IsPrefix k l
+    pub prefix_none : (n : ℕ) (k l : List (ℕ × P)) → prefix_fault same c n k l ≡ None → IsPrefix k l
     prefix_none n [] l e = (l, refl)
     prefix_none n (x ∷ k) [] e = absurd (cc)
     prefix_none n (x ∷ k) (y ∷ l) e = go (same_message same x y) refl e (λ f. prefix_none (suc n) k l f)
@@ -135,7 +135,7 @@ none_promise p t z f (inr h) = ap (λ y. cond (ltb p t && not y) (Some f) None) 
     go false = refl
 
 module _ {P N : Type 0} (net : Net P N) (same : P → P → Bool) (eq : IsReflexive same) (tells : TellsApart same) (kind : Promising) where
-  channel_none : (c : ℕ) (r s : Book P) → channel_fault net same kind c r s ≡ None → Matches net kind c r s
+  pub channel_none : (c : ℕ) (r s : Book P) → channel_fault net same kind c r s ≡ None → Matches net kind c r s
   channel_none c r s e =
       let a = r.replica.knowledge c in
       let out = outgoing net s.part s.replica c in

@@ -22,6 +22,7 @@ mod Traces
 mod Numbers
 mod Faults
 mod Certifying
+mod CertifyFaults
 mod SameKnowledge
 mod Orders
 mod TwoHosts

@@ -1,5 +1,5 @@
 -- The certificate: when finished books agree with one another, with no premise on who told them what they know.
-use Rattle.std.specs.Prelude.{◌≡◌, ◌⊎◌, ℕ, zero, suc, ◌<◌, ◌≤◌, Bool, true, false, cond, not, ◌&&◌, ◌||◌, ◌==◌, ltb, length, List, [], ◌∷◌, Option, Some, None}
+use Rattle.std.specs.Prelude.{◌≡◌, ◌≢◌, ◌⊎◌, ℕ, zero, suc, ◌<◌, ◌≤◌, Bool, true, false, cond, not, ◌&&◌, ◌||◌, ◌==◌, ltb, length, List, [], ◌∷◌, Option, Some, None}
 use Rattle.nm_model.specs.Lists.{nth, IsPrefix}
 use Rattle.nm_model.specs.Network.{Net}
 use Rattle.nm_model.specs.Run.{pends_before}
@@ -97,3 +97,53 @@ module _ {P N : Type 0} (net : Net P N) (same : P → P → Bool) (kind : Promis
       or_else (first_below (λ p. cond (has_part p books) None (Some (MissingPart p))) net.parts)
       (or_else (first_of (λ (b : Book P). cond (is_done net b.part b.replica) None (Some (UnfinishedPart b.part))) books)
       (first_of (book_fault books) books))
+
+module _ {P N : Type 0} (net : Net P N) (kind : Promising) where
+  -- what a fault shows of book r's knowledge of channel c beside book s: the first number at which the sender's message is another or none; the sender's next
+  -- message and that it is before the clock; or that the clock is past both the promise and the last message
+  abbrev pub Misses : ℕ → Book P → Book P → Fault → Type 0
+  Misses c r s (PrefixFault d n) =
+      (d ≡ c) × ((x : ℕ × P) × (nth (r.replica.knowledge c).list n ≡ Some x) × (nth (outgoing net s.part s.replica c) n ≢ Some x)
+      × ((m : ℕ) → m < n → nth (r.replica.knowledge c).list m ≡ nth (outgoing net s.part s.replica c) m))
+  Misses c r s (ClockFault d) =
+      (d ≡ c) × IsPrefix (r.replica.knowledge c).list (outgoing net s.part s.replica c)
+      × ((b : ℕ × P) × (nth (outgoing net s.part s.replica c) (length (r.replica.knowledge c).list) ≡ Some b) × (b.0 < (r.replica.knowledge c).clock))
+  Misses c r s (PromiseFault d) =
+      (d ≡ c) × IsPrefix (r.replica.knowledge c).list (outgoing net s.part s.replica c)
+      × (promise net kind s.part s.replica.knowledge s.replica.ran c < (r.replica.knowledge c).clock)
+      × (last_from (r.replica.knowledge c).clock (r.replica.knowledge c).list ≡ false)
+  Misses c r s (MissingPart p) = ⊥
+  Misses c r s (UnfinishedPart p) = ⊥
+
+  -- the first two books that do not match: by receiving book, then channel, then sending book
+  pub record IsFirstMismatch (books : List (Book P)) (f : Fault) : Type 0 where
+    pub i : ℕ
+    pub c : ℕ
+    pub j : ℕ
+    pub r : Book P
+    pub s : Book P
+    pub receives : nth books i ≡ Some r
+    pub comes : comes_in net r.part c ≡ true
+    pub sends : nth books j ≡ Some s
+    pub from : s.part ≡ sender_of net c
+    pub misses : Misses c r s f
+    pub books_before : (k l d : ℕ) (q t : Book P) → k < i → nth books k ≡ Some q → nth books l ≡ Some t → comes_in net q.part d ≡ true → t.part ≡ sender_of net d → Matches net kind d q t
+    pub channels_before : (d l : ℕ) (t : Book P) → d < c → comes_in net r.part d ≡ true → nth books l ≡ Some t → t.part ≡ sender_of net d → Matches net kind d r t
+    pub senders_before : (l : ℕ) (t : Book P) → l < j → nth books l ≡ Some t → t.part ≡ sender_of net c → Matches net kind c r t
+
+  -- each partition has a book
+  abbrev pub AreThere : List (Book P) → ℕ → Type 0
+  AreThere books n = (p : ℕ) → p < n → (i : ℕ) × (b : Book P) × (nth books i ≡ Some b) × (b.part ≡ p)
+
+  -- the books below this number are done
+  abbrev pub AreDone : List (Book P) → ℕ → Type 0
+  AreDone books n = (i : ℕ) (b : Book P) → i < n → nth books i ≡ Some b → is_done net b.part b.replica ≡ true
+
+  -- what the certificate's fault shows: the least partition that has no book; else the first book that is not done; else the first two books that do not match
+  abbrev pub FaultShows : List (Book P) → Fault → Type 0
+  FaultShows books (MissingPart p) = (p < net.parts) × AreThere books p × ((i : ℕ) (b : Book P) → nth books i ≡ Some b → b.part ≢ p)
+  FaultShows books (UnfinishedPart p) =
+      AreThere books net.parts × ((i : ℕ) × (b : Book P) × (nth books i ≡ Some b) × (b.part ≡ p) × (is_done net b.part b.replica ≡ false) × AreDone books i)
+  FaultShows books (PrefixFault c n) = AreThere books net.parts × AreDone books (length books) × IsFirstMismatch books (PrefixFault c n)
+  FaultShows books (ClockFault c) = AreThere books net.parts × AreDone books (length books) × IsFirstMismatch books (ClockFault c)
+  FaultShows books (PromiseFault c) = AreThere books net.parts × AreDone books (length books) × IsFirstMismatch books (PromiseFault c)

@@ -8,7 +8,7 @@ ghost use Rattle.nm_model.specs.Replica.{IsWithin};
 ghost use Rattle.nm_model.specs.Promise.{Promising};
 ghost use Rattle.nm_model.specs.Before.{IsBefore, trace};
 ghost use Rattle.nm_model.specs.World.{Replica, fresh, state_of};
-ghost use Rattle.nm_model.specs.Certificate.{Book, AreFinished, IsCertified, is_done, certify};
+ghost use Rattle.nm_model.specs.Certificate.{Book, Fault, FaultShows, AreFinished, IsCertified, is_done, certify};
 
 /// Finished books whose lists and clocks agree have the whole network's traces, whatever told them what they know. Nothing
 /// is asked of who sent what: the argument goes by time, since a message up to a time comes from events before it.
@@ -33,6 +33,14 @@ pub fn certify_is_exact<P, N>()
     ensures complete { (net : Net P N) (same : P → P → Bool) → IsReflexive same → TellsApart same
         → (kind : Promising) (books : List (Book P))
         → IsCertified net kind books → certify net same kind books ≡ None }
+{}
+
+/// A fault of the certificate shows what it says: the least partition that has no book; else the first book that is not done; else, by
+/// receiving book, channel and sending book, the first two that do not match, and where.
+pub fn certify_faults_are_right<P, N>()
+    ensures { (net : Net P N) → IsNet net → (same : P → P → Bool) → IsReflexive same
+        → TellsApart same → (kind : Promising) (books : List (Book P)) (f : Fault)
+        → certify net same kind books ≡ Some f → FaultShows net kind books f }
 {}
 
 /// A partition that isn't there has an empty book, which is done from the start.
