@@ -30,3 +30,4 @@ mod NeverFalling
 mod Queues
 pub mod RecordTimes
 mod StepLaws
+mod RoundSteps

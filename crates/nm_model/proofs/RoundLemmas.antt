@@ -1,6 +1,5 @@
 -- After so many rounds every partition is done.
-use Rattle.std.proofs.Common.{◌≡◌, ℕ, zero, suc, ◌+◌, ◌*◌, ◌≤◌, ◌==◌, min, Bool, true, false, cond, ltb, List, [], ◌∷◌, ◌++◌, length, drop, Option, Some, None, refl, sym, ap, ap₂, ◌∙◌, subst, arith, ⊎_elim, append_assoc, append-nil, length-append, mul_comm, ◌-◌, ◌/◌}
-use Rattle.std.proofs.lemmas.Bool.{cases_lt}
+use Rattle.std.proofs.Common.{◌≡◌, ℕ, zero, suc, ◌+◌, ◌*◌, ◌≤◌, ◌==◌, min, Bool, true, false, cond, ltb, List, [], ◌∷◌, ◌++◌, length, drop, Option, Some, None, refl, sym, ap, ap₂, ◌∙◌, subst, arith, append_assoc, append-nil, length-append, mul_comm, ◌-◌, ◌/◌}
 use Rattle.std.proofs.lemmas.Bool.Decides.{nat_tests}
 use Rattle.std.proofs.Math.Seq.{drop-append_seam}
 use Rattle.nm_base.specs.declared.key.Place.TheVariants.{Arrive}
@@ -17,31 +16,21 @@ use Rattle.nm_model.specs.Run.{pends_before}
 use Rattle.nm_model.specs.Rounds.{round_count, given, hear_list, hear, promised, heard_on, IsRounds}
 use Rattle.nm_model.specs.World.{Replica}
 use Rattle.nm_model.proofs.Keys.{least_has}
-use Rattle.nm_model.proofs.ListLemmas.{number_tied, nth_prefix, prefix_nth}
+use Rattle.nm_model.proofs.ListLemmas.{number_tied, prefix_nth}
 use Rattle.nm_model.proofs.Cut.{safe_stop}
 use Rattle.nm_model.proofs.CutLaw.{quiet, out_prefix}
 use Rattle.nm_model.proofs.Promises.{out_later}
 use Rattle.nm_model.specs.Promise.{Promising, Plain, Tight, lookahead}
 use Rattle.nm_model.proofs.Books.{books, within_more}
-use Rattle.nm_model.proofs.Accepting.{last_is, under_self, data_under, null_under, null_valid, valid_next}
+use Rattle.nm_model.proofs.Accepting.{last_is, under_self, under_both, data_under, null_under, null_valid, valid_next}
 use Rattle.nm_model.proofs.Certified.{from_since}
-use Rattle.nm_model.proofs.Stated.{times, within_only, exact, count}
+use Rattle.nm_model.proofs.Stated.{times, before, within_only, exact, count}
 use Rattle.nm_base.specs.declared.event.Event.{Event}
 
 module _ {P : Type 0} (same : P → P → Bool) where
   past_end : {A : Type 0} (l : List A) → nth l (length l) ≡ None
   past_end [] = refl
   past_end (x ∷ l) = past_end l
-
-  under_trans : (x y z : Know P) → IsUnder x y → IsUnder y z → IsUnder x z
-  under_trans x y z u v = record {
-    begins = (u.begins.0 ++ v.begins.0, sym (append_assoc x.list u.begins.0 v.begins.0) ∙ ap (λ m. m ++ v.begins.0) u.begins.1 ∙ v.begins.1);
-    later = λ i c le e. ⊎_elim
-        (λ lt. u.later i c le (nth_prefix _ _ i c v.begins lt e))
-        (λ ge. let h = v.later i c ge e in let k = u.clock in omega arith)
-        (cases_lt i (length y.list));
-    clock = let s = u.clock in let t = v.clock in omega arith;
-  }
 
   -- the next true message is new
   data_new : (a : Know P) (H : List (ℕ × P)) → IsRising H → IsValid a H → (b : ℕ × P) → nth H (length a.list) ≡ Some b → (accept_data same a (length a.list) b).after ≡ record { list = a.list ++ b ∷ []; clock = b.0 }
@@ -80,7 +69,7 @@ module _ {P : Type 0} (same : P → P → Bool) where
 
   list_under : (a : Know P) (n : ℕ) (l : List (ℕ × P)) → IsUnder a (hear_list same a n l)
   list_under a n [] = under_self a
-  list_under a n (b ∷ l) = under_trans _ _ _ (data_under same a n b) (list_under (accept_data same a n b).after (suc n) l)
+  list_under a n (b ∷ l) = under_both _ _ _ (data_under same a n b) (list_under (accept_data same a n b).after (suc n) l)
 
   -- a null message with the right count raises the clock
   null_clock : (a : Know P) (n t : ℕ) → n ≡ length a.list → ((accept_null a n t).after.list ≡ a.list) × (t ≤ (accept_null a n t).after.clock)
@@ -104,7 +93,7 @@ module _ {P : Type 0} (same : P → P → Bool) where
       let b = hear_list same a (length a.list) (drop (length a.list) out) in
       let list : (hear_list same a (length a.list) (drop (length a.list) out)).list ≡ out = l.0 ∙ rest in
       let c = null_clock b (length out) t (ap length (sym list)) in
-      (c.0 ∙ list, c.1, (null_valid b H l.1 (length out) t later).1, under_trans _ _ _ (list_under a (length a.list) (drop (length a.list) out)) (null_under b (length out) t))
+      (c.0 ∙ list, c.1, (null_valid b H l.1 (length out) t later).1, under_both _ _ _ (list_under a (length a.list) (drop (length a.list) out)) (null_under b (length out) t))
 
 module _ {P N : Type 0} (net : Net P N) where
   pub safe_at_least : (p : ℕ) (K : Knowledge P) (t n : ℕ) → t ≤ net.stop → ((c : ℕ) → comes_in net p c ≡ true → t ≤ (K c).clock) → t ≤ safe_among net p K n
@@ -242,6 +231,10 @@ module _ {P N : Type 0} (net : Net P N) (ok : IsNet net) (same : P → P → Boo
 module _ {P N : Type 0} (net : Net P N) (ok : IsNet net) (same : P → P → Bool) (eq : (x : P) → same x x ≡ true) (kind : Promising) (b : ℕ → ℕ → Replica P) (rounds : IsRounds net same kind b) where
   pub known_true : (j p : ℕ) → IsKnowledge net p (b j p).knowledge
   known_true j p last ends c ch = rounds_valid net ok same eq last ends kind b rounds 0 (λ q d dh. omega arith) j p c ch
+
+  -- a round never goes back
+  pub ran_on_there : (j p : ℕ) → (b j p).ran ≤ (b (suc j) p).ran
+  ran_on_there j p = let l = before net ok net.stop in ran_on net ok same eq l.0 l.1 kind b rounds 0 (λ q d dh. omega arith) j (after net ok same eq l.0 l.1 kind b rounds 0 (λ q d dh. omega arith) j) p
 
   pub traces_early : (j p last : ℕ) → safe_time net p (b j p).knowledge ≡ net.stop → IsBefore net net.stop last → (from_scratch net p (b j p).knowledge (b (suc j) p).ran).records ≡ trace net p last
   traces_early j p last safe e = exact net ok p (b j p).knowledge (known_true j p) (b (suc j) p).ran last (rounds.runs j p) (subst (λ t. IsBefore net t last) (sym safe) e)

@@ -1,7 +1,7 @@
 //! Laws of rounds.
 
-ghost use Rattle.std.specs.Prelude.{◌≡◌, ℕ, suc, ◌*◌, ◌≤◌, Bool, List, true, false};
-ghost use Rattle.nm_model.specs.Network.{Net, IsNet};
+ghost use Rattle.std.specs.Prelude.{◌≡◌, ℕ, suc, ◌*◌, ◌<◌, ◌≤◌, Bool, List, true, false};
+ghost use Rattle.nm_model.specs.Network.{Net, IsNet, IsParted};
 ghost use Rattle.nm_model.specs.Run.{pends_before};
 ghost use Rattle.nm_model.specs.Knowledge.{Knowledge, Know};
 ghost use Rattle.nm_model.specs.Accept.{IsReflexive};
@@ -9,7 +9,7 @@ ghost use Rattle.nm_model.specs.Partition.{comes_in};
 ghost use Rattle.nm_model.specs.Replica.{from_scratch, safe_time};
 ghost use Rattle.nm_model.specs.Promise.{Promising, lookahead};
 ghost use Rattle.nm_model.specs.Before.{IsBefore, IsKnowledge, trace};
-ghost use Rattle.nm_model.specs.World.{Replica};
+ghost use Rattle.nm_model.specs.World.{Replica, Step, replica_after};
 ghost use Rattle.nm_model.specs.Rounds.{IsRounds, round_count};
 
 /// Where each channel's lookahead is at least `lead`, all is done in the round after `j` of them, once `j * lead` reaches
@@ -39,4 +39,12 @@ pub fn rounds_bound<P, N>()
     ensures enough { (stop lead : ℕ) → 1 ≤ lead → stop ≤ round_count stop lead * lead }
     ensures alone { (net : Net P N) (p : ℕ) → ((c : ℕ) → comes_in net p c ≡ true → ⊥)
         → (K : Knowledge P) → safe_time net p K ≡ net.stop }
+{}
+
+/// Rounds are one of the ways that the world may go: the books after so many rounds are replicas 0 after some steps of it, so all that
+/// holds over every list of steps holds of them.
+pub fn rounds_are_steps<P, N>()
+    ensures { (net : Net P N) → IsNet net → IsParted net → (same : P → P → Bool) → IsReflexive same
+        → (kind : Promising) (b : ℕ → ℕ → Replica P) → IsRounds net same kind b → (j : ℕ)
+        → (steps : List Step) × ((p : ℕ) → p < net.parts → replica_after net same steps p 0 ≡ b j p) }
 {}
