@@ -3,7 +3,7 @@
 use crate::{IfaceNo, Packet, SourceNo};
 
 /// What a pending event brings to its node. Its `Key` says when and where.
-#[derive(Debug, Drop)]
+#[derive(Drop)]
 pub enum Event<P = Packet> {
     /// A packet, which arrives at an interface or comes from a source.
     Delivery(P),
@@ -12,7 +12,7 @@ pub enum Event<P = Packet> {
 }
 
 /// Where a packet that a node reacts to comes from.
-#[derive(Clone, Copy, Debug, PartialEq, Eq)]
+#[derive(Clone, Copy)]
 pub enum Origin {
     /// It arrived at this interface of the node.
     Arrival(IfaceNo),

@@ -70,7 +70,7 @@ impl Packet {
 }
 
 /// Two equal packets, one to send on and one to record, so that every copy is made before anything changes.
-#[derive(Debug, Drop)]
+#[derive(Drop)]
 pub struct Twin {
     pub packet: Packet,
     pub copy: Packet,

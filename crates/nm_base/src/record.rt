@@ -3,7 +3,7 @@
 use crate::{IfaceNo, Packet, Time};
 
 /// Which way a packet passed its interface.
-#[derive(Clone, Copy, Debug, PartialEq, Eq)]
+#[derive(Clone, Copy, PartialEq, Eq)]
 pub enum Dir {
     /// The packet arrived.
     In,
@@ -12,7 +12,7 @@ pub enum Dir {
 }
 
 /// One line of a trace: a packet that arrived at an interface, or whose transmission started there.
-#[derive(Debug, Drop, PartialEq, Eq)]
+#[derive(Drop, PartialEq, Eq)]
 pub struct Record<P = Packet> {
     pub time: Time,
     pub dir: Dir,

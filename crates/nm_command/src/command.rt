@@ -29,7 +29,7 @@ impl Form {
 }
 
 /// What the program is to do: to write the trace file of one interface. A clause sees the names as octets.
-#[derive(Clone, Copy, Debug, PartialEq, Eq)]
+#[derive(Clone, Copy)]
 pub struct Command<'a> {
     pub form: Form,
     /// The file with the topology text, or `-`, which is standard input.

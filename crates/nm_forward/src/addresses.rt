@@ -1,6 +1,7 @@
 //! The addresses of a node.
 
-ghost use Rattle.std.specs.Prelude.{◌≡◌, nat_eq, IfOk};
+ghost use Rattle.std.specs.Prelude.{◌≡◌, ℕ, nat_eq, IfOk};
+ghost use Rattle.std.specs.HashSet as bag;
 ghost use Rattle.std.specs.List.{list_any};
 ghost use Rattle.nm_forward.specs.State.{addresses_at};
 
@@ -33,20 +34,35 @@ impl Model for Addresses {
         → bag.contains nat_eq a.set q ≡ list_any (nat_eq q) a.list.items };
 }
 
+/// These addresses as a set.
+fn set_of(alloc: Global, list: &[Address]) -> Result<HashSet<u32>, AllocError>
+    ensures { IfOk result (λ s. (q : ℕ) → bag.contains nat_eq s q ≡ list_any (nat_eq q) list.now) }
+{
+    let mut set = HashSet::new(alloc);
+    for address in list {
+        set.insert(address.bits())?;
+    }
+    Ok(set)
+}
+
 impl Addresses {
+    /// The addresses of the interfaces of this node, in the order of the interfaces.
+    fn list_of(alloc: Global, ifaces: &[Iface], node: NodeNo) -> Result<Vec<Address>, AllocError>
+        ensures { IfOk result (λ v. v.items ≡ addresses_at node ifaces.now) }
+    {
+        ifaces
+            .iter()
+            .filter(|iface| iface.node() == node)
+            .map(|iface| iface.address())
+            .collect(alloc)
+    }
+
     /// The addresses of the interfaces of this node.
     pub fn of_node(alloc: Global, ifaces: &[Iface], node: NodeNo) -> Result<Self, AllocError>
         ensures { IfOk result (λ a. a ≡ addresses_at node ifaces.now) }
     {
-        let list: Vec<Address> = ifaces
-            .iter()
-            .filter(|iface| iface.node() == node)
-            .map(|iface| iface.address())
-            .collect(alloc)?;
-        let mut set = HashSet::new(alloc);
-        for address in &list {
-            set.insert(address.bits())?;
-        }
+        let list = Self::list_of(alloc, ifaces, node)?;
+        let set = set_of(alloc, &list)?;
         Ok(Addresses { list, set })
     }
 

@@ -5,7 +5,7 @@ ghost use Rattle.nm_forward.specs.Counter.{counter_name, counter_number};
 
 /// What a node counts. Each arrival raises the counter of the row that fits it, and what follows
 /// may raise another.
-#[derive(Clone, Copy, Debug, PartialEq, Eq)]
+#[derive(Clone, Copy)]
 pub enum Counter {
     /// The header test failed (RFC 791, section 3.1).
     Header,

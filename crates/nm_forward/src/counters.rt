@@ -8,7 +8,7 @@ use std::marker::Model;
 
 /// How often each counter rose, up to 2^64 - 1. A clause sees the counts in the order of the
 /// counters' numbers.
-#[derive(Debug, Drop)]
+#[derive(Drop)]
 pub struct Counters {
     counts: [u64; COUNTERS],
 }

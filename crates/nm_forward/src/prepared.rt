@@ -9,7 +9,7 @@ use nm_base::{IfaceNo, Twin};
 use nm_packet::{Address, icmp, udp};
 
 /// What follows the counter of a row, with its memory taken.
-#[derive(Debug, Drop)]
+#[derive(Drop)]
 pub enum Prepared {
     Nothing,
     /// A further counter rises.
@@ -21,7 +21,7 @@ pub enum Prepared {
 }
 
 /// The payload of a packet that is to be originated.
-#[derive(Clone, Copy, Debug)]
+#[derive(Clone, Copy)]
 pub enum Body<'a> {
     /// A UDP datagram.
     Datagram {
@@ -53,7 +53,7 @@ impl Body<'_> {
 }
 
 /// A packet that is to be originated.
-#[derive(Clone, Copy, Debug)]
+#[derive(Clone, Copy)]
 pub struct Outgoing<'a> {
     /// The address that it comes from, if not that of the interface by which it leaves.
     pub source: Option<Address>,

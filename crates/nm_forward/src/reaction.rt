@@ -33,7 +33,7 @@ const TIME_EXCEEDED: u8 = 11;
 const IN_TRANSIT: u8 = 0;
 
 /// What a node sends: at most one packet, by one interface.
-#[derive(Debug, Drop)]
+#[derive(Drop)]
 pub enum Reaction {
     Nothing,
     Send(IfaceNo, Twin),

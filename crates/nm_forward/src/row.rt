@@ -16,7 +16,7 @@ const ECHO_REQUEST: u8 = 8;
 const ECHO_CODE: u8 = 0;
 
 /// The rows, in the order in which they are tried.
-#[derive(Debug, Drop)]
+#[derive(Drop)]
 pub enum Row<'a> {
     /// The header test fails (RFC 791, section 3.1).
     BadHeader,

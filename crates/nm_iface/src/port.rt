@@ -13,7 +13,7 @@ use std::collections::VecDeque;
 use std::marker::Model;
 
 /// A transmission that starts.
-#[derive(Debug, Drop)]
+#[derive(Drop)]
 pub struct Start {
     /// The packet, and its copy for the trace.
     pub twin: Twin,
@@ -24,7 +24,7 @@ pub struct Start {
 }
 
 /// What becomes of a packet that is offered.
-#[derive(Debug, Drop)]
+#[derive(Drop)]
 pub enum Offered {
     /// Its transmission starts.
     Started(Start),

@@ -3,20 +3,16 @@
 ghost use Rattle.std.specs.Prelude.{◌≡◌};
 ghost use Rattle.nm_packet.specs.Fault.{header_fault_number, icmp_fault_number, udp_fault_number};
 
+use std::fmt;
 use thiserror::Error;
 
 /// Why octets are no IPv4 packet (RFC 791, section 3.1). Tested in this order.
 #[derive(Clone, Copy, Debug, PartialEq, Eq, Error)]
 pub enum HeaderFault {
-    #[error("fewer than 20 octets")]
     Short = 1,
-    #[error("the version is not 4")]
     Version = 2,
-    #[error("the header length is below 20 octets, or above the octets that came")]
     Ihl = 3,
-    #[error("the header checksum is wrong")]
     Checksum = 4,
-    #[error("the total length is below the header length, or above the octets that came")]
     Total = 5,
 }
 
@@ -27,16 +23,32 @@ impl HeaderFault {
     {
         self as u8
     }
+
+    /// The fault in words.
+    fn message(self) -> &'static str {
+        match self {
+            HeaderFault::Short => "fewer than 20 octets",
+            HeaderFault::Version => "the version is not 4",
+            HeaderFault::Ihl =>
+                "the header length is below 20 octets, or above the octets that came",
+            HeaderFault::Checksum => "the header checksum is wrong",
+            HeaderFault::Total =>
+                "the total length is below the header length, or above the octets that came",
+        }
+    }
+}
+
+impl fmt::Display for HeaderFault {
+    fn fmt<W: fmt::Write>(&self, f: &mut fmt::Formatter<W>) -> fmt::Result {
+        f.write_str(self.message())
+    }
 }
 
 /// Why octets are no UDP datagram (RFC 768). Tested in this order.
 #[derive(Clone, Copy, Debug, PartialEq, Eq, Error)]
 pub enum UdpFault {
-    #[error("fewer than 8 octets")]
     Short = 1,
-    #[error("the length is below 8 octets, or above the octets that came")]
     Length = 2,
-    #[error("the checksum is wrong")]
     Checksum = 3,
 }
 
@@ -47,14 +59,27 @@ impl UdpFault {
     {
         self as u8
     }
+
+    /// The fault in words.
+    fn message(self) -> &'static str {
+        match self {
+            UdpFault::Short => "fewer than 8 octets",
+            UdpFault::Length => "the length is below 8 octets, or above the octets that came",
+            UdpFault::Checksum => "the checksum is wrong",
+        }
+    }
+}
+
+impl fmt::Display for UdpFault {
+    fn fmt<W: fmt::Write>(&self, f: &mut fmt::Formatter<W>) -> fmt::Result {
+        f.write_str(self.message())
+    }
 }
 
 /// Why octets are no ICMP message (RFC 792). Tested in this order.
 #[derive(Clone, Copy, Debug, PartialEq, Eq, Error)]
 pub enum IcmpFault {
-    #[error("fewer than 8 octets")]
     Short = 1,
-    #[error("the checksum is wrong")]
     Checksum = 2,
 }
 
@@ -64,5 +89,19 @@ impl IcmpFault {
         ensures { result ≡ icmp_fault_number self }
     {
         self as u8
+    }
+
+    /// The fault in words.
+    fn message(self) -> &'static str {
+        match self {
+            IcmpFault::Short => "fewer than 8 octets",
+            IcmpFault::Checksum => "the checksum is wrong",
+        }
+    }
+}
+
+impl fmt::Display for IcmpFault {
+    fn fmt<W: fmt::Write>(&self, f: &mut fmt::Formatter<W>) -> fmt::Result {
+        f.write_str(self.message())
     }
 }

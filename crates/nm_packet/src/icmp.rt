@@ -20,11 +20,11 @@ const HEADER_OCTETS: usize = 8;
 pub const PROTOCOL: u8 = 1;
 
 /// The protocol ICMP.
-#[derive(Clone, Copy, Debug)]
+#[derive(Clone, Copy)]
 pub struct Icmp;
 
 /// A message that passed the tests. A clause sees its octets.
-#[derive(Debug, Drop)]
+#[derive(Drop)]
 pub struct IcmpView<'a> {
     octets: &'a [u8],
 }

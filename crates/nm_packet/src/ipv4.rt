@@ -21,11 +21,11 @@ const LEAST_HEADER_OCTETS: usize = 20;
 const QUOTED_PAYLOAD_OCTETS: usize = 8;
 
 /// The protocol IPv4.
-#[derive(Clone, Copy, Debug)]
+#[derive(Clone, Copy)]
 pub struct Ipv4;
 
 /// A packet whose header passed the tests, over the octets up to its total length. A clause sees these octets.
-#[derive(Debug, Drop)]
+#[derive(Drop)]
 pub struct Ipv4View<'a> {
     octets: &'a [u8],
 }
@@ -205,7 +205,7 @@ impl<'a> Ipv4View<'a> {
 }
 
 /// The fields that a writer of packets chooses. The rest is plain: no options, no flags, no fragment.
-#[derive(Clone, Copy, Debug)]
+#[derive(Clone, Copy)]
 pub struct Ipv4Header {
     pub type_of_service: u8,
     pub identification: u16,

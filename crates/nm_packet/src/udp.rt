@@ -21,11 +21,11 @@ const HEADER_OCTETS: usize = 8;
 pub const PROTOCOL: u8 = 17;
 
 /// The protocol UDP.
-#[derive(Clone, Copy, Debug)]
+#[derive(Clone, Copy)]
 pub struct Udp;
 
 /// A datagram that passed the tests, over the octets up to its length. A clause sees these octets.
-#[derive(Debug, Drop)]
+#[derive(Drop)]
 pub struct UdpView<'a> {
     octets: &'a [u8],
 }

@@ -8,9 +8,9 @@ ghost use Rattle.nm_program.specs.declared.input.TheConstants.{MAX_INPUT_OCTETS}
 
 use nm_base::failures::FailureCount;
 use std::alloc::Global;
-use std::io;
 use std::io::{ErrorKind, Read};
 use std::marker::Model;
+use std::{fmt, io};
 use thiserror::Error;
 
 /// The greatest number of octets of an input: 64 MiB.
@@ -20,14 +20,28 @@ pub const MAX_INPUT_OCTETS: u64 = 67_108_864;
 #[derive(Clone, Copy, Debug, PartialEq, Eq, Error)]
 pub enum InputFault {
     /// A read failed.
-    #[error("the input could not be read")]
     Failed,
     /// There are more than 67,108,864 octets.
-    #[error("the input is too long")]
     TooLong,
     /// Memory was refused.
-    #[error("out of memory")]
     Memory,
+}
+
+impl InputFault {
+    /// The fault in words.
+    fn message(self) -> &'static str {
+        match self {
+            InputFault::Failed => "the input could not be read",
+            InputFault::TooLong => "the input is too long",
+            InputFault::Memory => "out of memory",
+        }
+    }
+}
+
+impl fmt::Display for InputFault {
+    fn fmt<W: fmt::Write>(&self, f: &mut fmt::Formatter<W>) -> fmt::Result {
+        f.write_str(self.message())
+    }
 }
 
 /// An input over a reader of the standard library. A clause sees the reader and how often reading it has failed.

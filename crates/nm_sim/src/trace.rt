@@ -1,6 +1,11 @@
 //! The trace of a network.
 
-ghost use Rattle.std.specs.Prelude.{◌≡◌, min, IfOk};
+ghost use Rattle.std.specs.Prelude.{◌≡◌, ℕ, ◌≤◌, min, IfOk, OnOk};
+ghost use Rattle.nm_events.specs.Held.{pending_of};
+ghost use Rattle.nm_model.specs.Before.{IsBefore};
+ghost use Rattle.nm_model.specs.Run.{one_list};
+ghost use Rattle.nm_sim.specs.Network.{net_of};
+ghost use Rattle.nm_sim.specs.Part.{Stands};
 ghost use Rattle.nm_sim.specs.Trace.{IsTraceBefore};
 
 use crate::part::{MAX_STEPS, Part};
@@ -16,6 +21,26 @@ fn earlier(a: Time, b: Time) -> Time
     if a < b { a } else { b }
 }
 
+/// Does the events of a part that stands at the start of a run, as far as they are before a time.
+fn run(
+    alloc: Global,
+    topology: &Topology,
+    before: Time,
+    part: &mut Part<SortedList>,
+) -> Result<(), AllocError>
+    requires before { before ≤ topology.now.stop }
+    requires stands { Stands pending_of topology.now part.old (one_list (net_of topology.now) 0) }
+    ensures { OnOk result ((n : ℕ) × IsBefore (net_of topology.now) before n
+        × Stands pending_of topology.now part.new (one_list (net_of topology.now) n)) }
+{
+    for done in 0..MAX_STEPS + 1 {
+        if !part.advance(alloc, topology, before)? {
+            return Ok(());
+        }
+    }
+    Err(AllocError)
+}
+
 /// The whole trace of a network before a time and before its `stop`, by one event list (J. Misra, 1986, section 1): what
 /// every other way of running it is compared with.
 ///
@@ -27,10 +52,6 @@ pub fn one_list(alloc: Global, topology: &Topology, until: Time) -> Result<Vec<R
 {
     let before = earlier(until, topology.stop());
     let mut part = Part::<SortedList>::start(alloc, topology)?;
-    for done in 0..MAX_STEPS + 1 {
-        if !part.advance(alloc, topology, before)? {
-            return Ok(part.into_trace());
-        }
-    }
-    Err(AllocError)
+    run(alloc, topology, before, &mut part)?;
+    Ok(part.into_trace())
 }

@@ -10,4 +10,5 @@ pub mod Ranges
 pub mod Searches
 pub mod Steps
 pub mod Uses
+pub mod Whole
 pub mod Wires

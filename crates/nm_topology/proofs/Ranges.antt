@@ -14,7 +14,7 @@ use Rattle.nm_topology.specs.SourceTexts.{SourceText}
 use Rattle.nm_topology.specs.Rows.{node_of, iface_of, link_of, route_of}
 use Rattle.nm_topology.specs.Sources.{source_of}
 use Rattle.nm_topology.specs.DocumentTexts.{DocumentText}
-use Rattle.nm_topology.specs.Document.{document_of}
+use Rattle.nm_topology.specs.Document.{document_of, with_tables}
 use Rattle.nm_topology.specs.Ranges.{IsLinkInRange, FitsRow, IsInRange}
 use Rattle.nm_topology.proofs.Steps.{step, required-within, optional-holds, in_table-holds}
 use Rattle.nm_topology.proofs.Flows.{source-fits}
@@ -97,7 +97,7 @@ document-read (Ok k) (Err r) stop mtu nodes ifaces links routes sources d e = cc
 document-read (Err r) format stop mtu nodes ifaces links routes sources d e = cc
 
 pub document_in_range : (t : Members) (d : DocumentText) → document_of t ≡ Ok d → IsInRange d
-unfolding document_of
+unfolding document_of with_tables
 document_in_range t d e =
     let sources : ℕ → Result (List SourceText) Refusal = λ m. optional [] (array_of is_table MAX_SOURCES (in_table (source_of m))) (get_member (codes "source") t) in
     let read = document-read

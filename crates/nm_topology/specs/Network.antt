@@ -10,6 +10,7 @@ use Rattle.nm_base.specs.declared.limits.TheConstants.{MAX_CHANNELS, MAX_ROUTES_
 use Rattle.nm_topology.specs.declared.fault.Refusal.{Refusal}
 use Rattle.nm_topology.specs.declared.fault.Refusal.TheVariants.{Text, Range, TooMany, IfaceUse, DoubleAddress, DoubleRoute, CutDelay}
 use Rattle.nm_topology.specs.declared.parts.Far.{Far}
+use Rattle.nm_topology.specs.declared.parts.PlacedRoute.{PlacedRoute}
 use Rattle.nm_topology.specs.declared.parts.Route.{Route}
 use Rattle.nm_topology.specs.Fault.{◌>>=◌}
 use Rattle.nm_topology.specs.Texts.{NodeText, IfaceText, LinkText, RouteText}
@@ -65,31 +66,44 @@ abbrev pub channel_from : ℕ → List ℕ → ℕ → Option ℕ
 channel_from n [] iface = None
 channel_from n (r ∷ rs) iface = if r == iface then Some n else channel_from (suc n) rs iface
 
+-- no node has too many routes, of so many nodes
+abbrev pub tested_tables : ℕ → List PlacedRoute → Result Unit Refusal
+tested_tables nodes routes = demand (list_all (λ table. nat_le (length table) MAX_ROUTES_OF_NODE) (route_tables nodes routes)) TooMany
+
+-- there are not too many channels, and each link between partitions delays by something
+abbrev pub tested_ends : List ℕ → ℕ → Numbered → Result Unit Refusal
+tested_ends parts ifaces t =
+    demand (nat_le (length (receivers_of parts t.owners (far_ends ifaces t.links))) MAX_CHANNELS) TooMany >>= λ few.
+    demand (not (list_any (is_undelayed_cut parts t.owners) t.links)) CutDelay
+
 -- partitions by node, addresses by interface, the numbers of all else; how many nodes and interfaces
 abbrev pub tested : List ℕ → List ℕ → ℕ → ℕ → Numbered → Result Unit Refusal
 tested parts addresses nodes ifaces t =
     demand (are_used_once ifaces t.links) IfaceUse >>= λ used.
     demand (not (has_double nat_eq addresses)) DoubleAddress >>= λ different.
     demand (not (has_double same_route t.routes)) DoubleRoute >>= λ single.
-    demand (list_all (λ table. nat_le (length table) MAX_ROUTES_OF_NODE) (route_tables nodes t.routes)) TooMany >>= λ short.
-    demand (nat_le (length (receivers_of parts t.owners (far_ends ifaces t.links))) MAX_CHANNELS) TooMany >>= λ few.
-    demand (not (list_any (is_undelayed_cut parts t.owners) t.links)) CutDelay
+    tested_tables nodes t.routes >>= λ short.
+    tested_ends parts ifaces t
+
+-- a document and its numbers, put together
+abbrev pub put_together : List ℕ → DocumentText → Numbered → NetworkValue
+put_together digest d t = record {
+  stop = d.stop;
+  mtu = d.mtu;
+  nodes = placed_nodes d.nodes (route_tables (length d.nodes) t.routes);
+  ifaces = placed_ifaces d.ifaces t.owners (far_ends (length d.ifaces) t.links);
+  links = t.links;
+  sources = t.sources;
+  receivers = receivers_of (map (λ n. n.partition) d.nodes) t.owners (far_ends (length d.ifaces) t.links);
+  partitions = partition_count (map (λ n. n.partition) d.nodes);
+  digest = digest;
+}
 
 unfoldable pub network_of : List ℕ → DocumentText → Result NetworkValue Refusal
 network_of digest d = do
   t ← numbered d.nodes d.ifaces d.links d.routes d.sources
   good ← tested (map (λ n. n.partition) d.nodes) (map (λ i. i.address) d.ifaces) (length d.nodes) (length d.ifaces) t
-  Ok (record {
-    stop = d.stop;
-    mtu = d.mtu;
-    nodes = placed_nodes d.nodes (route_tables (length d.nodes) t.routes);
-    ifaces = placed_ifaces d.ifaces t.owners (far_ends (length d.ifaces) t.links);
-    links = t.links;
-    sources = t.sources;
-    receivers = receivers_of (map (λ n. n.partition) d.nodes) t.owners (far_ends (length d.ifaces) t.links);
-    partitions = partition_count (map (λ n. n.partition) d.nodes);
-    digest = digest;
-  })
+  Ok (put_together digest d t)
 
 -- the TOML document of a text of octets
 abbrev pub parsed : List ℕ → Result Members Refusal

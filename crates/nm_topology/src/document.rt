@@ -1,7 +1,8 @@
 //! A whole topology text as it is read, with names in place of numbers.
 
+ghost use Rattle.std.specs.Prelude.{◌≤◌};
 ghost use Rattle.toml.specs.View.{table_view};
-ghost use Rattle.nm_topology.specs.Document.{document_of};
+ghost use Rattle.nm_topology.specs.Document.{document_of, with_tables};
 ghost use Rattle.nm_topology.specs.Fault.{Gives};
 
 use crate::arrays::optional_array;
@@ -41,6 +42,28 @@ impl Model for Document {
     ghost view = { λ d. record { stop = d.stop; mtu = d.mtu; nodes = d.nodes.items; ifaces = d.ifaces.items; links = d.links.items; routes = d.routes.items; sources = d.sources.items } };
 }
 
+/// Reads the arrays of tables of a text that stops then and has packets of at most so many octets.
+#[tactic(auto, unfolding(crate::specs::Document::with_tables))]
+fn read_tables(alloc: Global, stop: Time, mtu: u16, table: &Table) -> Result<Document, TopoFault>
+    requires { 28 ≤ mtu }
+    ensures { Gives (λ x. x) result (with_tables stop mtu (table_view table.now)) }
+{
+    let nodes = optional_array(alloc, mtu, table, "node", MAX_NODES)?;
+    let ifaces = optional_array(alloc, mtu, table, "iface", MAX_IFACES)?;
+    let links = optional_array(alloc, mtu, table, "link", MAX_LINKS)?;
+    let routes = optional_array(alloc, mtu, table, "route", MAX_ROUTES)?;
+    let sources = optional_array(alloc, mtu, table, "source", MAX_SOURCES)?;
+    Ok(Document {
+        stop,
+        mtu,
+        nodes,
+        ifaces,
+        links,
+        routes,
+        sources,
+    })
+}
+
 /// Reads the top table.
 #[tactic(auto, unfolding(crate::specs::Document::document_of))]
 pub fn read_document(alloc: Global, table: &Table) -> Result<Document, TopoFault>
@@ -55,18 +78,5 @@ pub fn read_document(alloc: Global, table: &Table) -> Result<Document, TopoFault
     required_number(table, "format", 1, 1)?;
     let stop = required_number(table, "stop", 1, MAX_TIME)?;
     let mtu = required_number(table, "mtu", MIN_MTU, MAX_MTU)? as u16;
-    let nodes = optional_array(alloc, mtu, table, "node", MAX_NODES)?;
-    let ifaces = optional_array(alloc, mtu, table, "iface", MAX_IFACES)?;
-    let links = optional_array(alloc, mtu, table, "link", MAX_LINKS)?;
-    let routes = optional_array(alloc, mtu, table, "route", MAX_ROUTES)?;
-    let sources = optional_array(alloc, mtu, table, "source", MAX_SOURCES)?;
-    Ok(Document {
-        stop: Time::from_nanoseconds(stop),
-        mtu,
-        nodes,
-        ifaces,
-        links,
-        routes,
-        sources,
-    })
+    read_tables(alloc, Time::from_nanoseconds(stop), mtu, table)
 }

@@ -5,36 +5,24 @@ ghost use Rattle.nm_topology.specs.declared.fault.TopoFault.TheVariants.{Memory}
 ghost use Rattle.nm_topology.specs.Fault.{refusal_number, fault_number};
 
 use std::alloc::{AllocError, AllocFailed};
+use std::fmt;
 use thiserror::Error;
 
 /// What is wrong with a topology text: the first fault in the reading order (docs/FORMATS.md).
 #[derive(Clone, Copy, Debug, PartialEq, Eq, Error)]
 pub enum Refusal {
-    #[error("not a TOML document in UTF-8")]
     Text,
-    #[error("a required key is missing")]
     Missing,
-    #[error("a key that the table does not have")]
     UnknownKey,
-    #[error("a value of another type")]
     Kind,
-    #[error("a value out of its range or form")]
     Range,
-    #[error("more members than the limit")]
     TooMany,
-    #[error("two nodes or two interfaces with one name")]
     DoubleName,
-    #[error("a name of nothing that is there")]
     NoSuch,
-    #[error("an interface that is not on exactly one end of one link")]
     IfaceUse,
-    #[error("two interfaces with one address")]
     DoubleAddress,
-    #[error("two routes of one node with one prefix")]
     DoubleRoute,
-    #[error("no delay on a link between two partitions")]
     CutDelay,
-    #[error("not hexadecimal")]
     Hex,
 }
 
@@ -69,6 +57,31 @@ impl Refusal {
             Refusal::CutDelay => 12,
             Refusal::Hex => 13,
         }
+    }
+
+    /// What is wrong, in words.
+    fn message(self) -> &'static str {
+        match self {
+            Refusal::Text => "not a TOML document in UTF-8",
+            Refusal::Missing => "a required key is missing",
+            Refusal::UnknownKey => "a key that the table does not have",
+            Refusal::Kind => "a value of another type",
+            Refusal::Range => "a value out of its range or form",
+            Refusal::TooMany => "more members than the limit",
+            Refusal::DoubleName => "two nodes or two interfaces with one name",
+            Refusal::NoSuch => "a name of nothing that is there",
+            Refusal::IfaceUse => "an interface that is not on exactly one end of one link",
+            Refusal::DoubleAddress => "two interfaces with one address",
+            Refusal::DoubleRoute => "two routes of one node with one prefix",
+            Refusal::CutDelay => "no delay on a link between two partitions",
+            Refusal::Hex => "not hexadecimal",
+        }
+    }
+}
+
+impl fmt::Display for Refusal {
+    fn fmt<W: fmt::Write>(&self, f: &mut fmt::Formatter<W>) -> fmt::Result {
+        f.write_str(self.message())
     }
 }
 

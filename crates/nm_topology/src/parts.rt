@@ -29,7 +29,7 @@ pub struct Route {
 }
 
 /// A route, and whose it is.
-#[derive(Clone, Copy, Debug, PartialEq, Eq)]
+#[derive(Clone, Copy)]
 pub struct PlacedRoute {
     pub node: NodeNo,
     pub route: Route,
@@ -46,7 +46,7 @@ pub struct Far {
 }
 
 /// The routes of one node, in the order of the text. A clause sees the list.
-#[derive(Debug, Drop)]
+#[derive(Drop)]
 pub struct RouteTable {
     routes: Vec<Route>,
 }
@@ -88,7 +88,7 @@ impl RouteTable {
 }
 
 /// A node.
-#[derive(Debug, Drop)]
+#[derive(Drop)]
 pub struct Node {
     name: String,
     kind: NodeKind,
@@ -160,7 +160,7 @@ impl Node {
 }
 
 /// An interface.
-#[derive(Debug, Drop)]
+#[derive(Drop)]
 pub struct Iface {
     name: String,
     node: NodeNo,

@@ -16,7 +16,7 @@ use crate::document::{Document, read_document};
 use crate::fault::{Refusal, TopoFault};
 use crate::numbering::{Numbers, number};
 use crate::parts::{Iface, Link, Node};
-use crate::placing::{self, Wiring};
+use crate::placing::{self, Placed};
 use crate::traffic::Source;
 use nm_base::limits::MAX_TEXT_OCTETS;
 use nm_base::{ChanNo, IfaceNo, NodeNo, Time};
@@ -26,7 +26,7 @@ use std::marker::Model;
 use toml::Table;
 
 /// A network that is in order: what every part of nullsim runs on.
-#[derive(Debug, Drop)]
+#[derive(Drop)]
 pub struct Topology {
     stop: Time,
     mtu: u16,
@@ -121,15 +121,14 @@ fn resolve(alloc: Global, document: Document, digest: [u8; 32]) -> Result<Topolo
         sources,
     } = document;
     let numbers = number(alloc, &nodes, &ifaces, &links, &routes, sources)?;
-    let parts = placing::partitions(alloc, &nodes)?;
-    let Wiring {
-        tables,
-        far,
-        receivers,
-    } = placing::wire(alloc, &parts, &ifaces, &numbers)?;
     let partitions = placing::partition_count(&nodes);
+    let Placed {
+        nodes,
+        ifaces,
+        receivers,
+    } = placing::place(alloc, nodes, ifaces, &numbers)?;
     let Numbers {
-        owners,
+        owners: _,
         links,
         routes: _,
         sources,
@@ -137,8 +136,8 @@ fn resolve(alloc: Global, document: Document, digest: [u8; 32]) -> Result<Topolo
     Ok(Topology {
         stop,
         mtu,
-        nodes: placing::nodes(alloc, nodes, tables)?,
-        ifaces: placing::ifaces(alloc, ifaces, owners, far)?,
+        nodes,
+        ifaces,
         links,
         sources,
         receivers,

@@ -40,14 +40,14 @@ pub struct Echo {
 }
 
 /// Octets that are handed to an interface as they are.
-#[derive(Debug, Drop)]
+#[derive(Drop)]
 pub struct RawPacket {
     pub at: Time,
     pub packet: Packet,
 }
 
 /// Packets that are handed to an interface as they are, one after another.
-#[derive(Debug, Drop)]
+#[derive(Drop)]
 pub struct Raw {
     via: IfaceNo,
     packets: Vec<RawPacket>,
@@ -85,7 +85,7 @@ impl Raw {
 }
 
 /// What a source sends.
-#[derive(Debug, Drop)]
+#[derive(Drop)]
 pub enum Traffic {
     Cbr(Cbr),
     Echo(Echo),
@@ -93,7 +93,7 @@ pub enum Traffic {
 }
 
 /// A source of traffic at a node.
-#[derive(Debug, Drop)]
+#[derive(Drop)]
 pub struct Source {
     pub node: NodeNo,
     pub traffic: Traffic,

@@ -12,7 +12,7 @@ use nm_topology::traffic::{Cbr, Flow};
 use std::alloc::{AllocError, Global};
 
 /// A source, and the packet that it hands over each time.
-#[derive(Debug, Drop)]
+#[derive(Drop)]
 pub struct CbrSource {
     cbr: Cbr,
     packet: SourcePacket,

@@ -22,7 +22,7 @@ const CODE: u8 = 0;
 const SEQUENCE_NUMBERS: u64 = 65_536;
 
 /// A source, and the data of each of its requests.
-#[derive(Debug, Drop)]
+#[derive(Drop)]
 pub struct EchoSource {
     echo: Echo,
     octets: Vec<u8>,

@@ -14,7 +14,7 @@ use nm_topology::traffic::{Raw, Traffic};
 use std::alloc::{AllocError, Global};
 
 /// A source by its kind, with what all of its packets share.
-#[derive(Debug, Drop)]
+#[derive(Drop)]
 pub enum Kind {
     Cbr(CbrSource),
     Echo(EchoSource),

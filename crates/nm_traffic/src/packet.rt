@@ -9,7 +9,7 @@ use std::marker::Model;
 
 /// The data of a UDP datagram, or one zero octet for none; an ICMP message; or the octets of a raw
 /// packet: which of them it is the source says. A clause sees the octets.
-#[derive(Clone, Debug, Drop, PartialEq, Eq)]
+#[derive(Clone, Drop)]
 pub struct SourcePacket {
     packet: Packet,
 }

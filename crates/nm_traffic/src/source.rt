@@ -12,7 +12,7 @@ use std::alloc::{AllocError, Global};
 use std::marker::Model;
 
 /// A source of traffic. A clause sees when the run stops, and the source as the topology says it.
-#[derive(Debug, Drop)]
+#[derive(Drop)]
 pub struct Source {
     stop: Time,
     kind: Kind,

@@ -1,37 +1,14 @@
-use Rattle.std.proofs.Common.{◌≡◌, suc, ◌+◌, true, min, Ok, sym, ap, ◌∙◌, subst, arith, ⊎_elim}
-use Rattle.std.proofs.lemmas.Bool.{cases_lt}
-use Rattle.nm_events.specs.Held.{pending_of}
-use Rattle.nm_model.specs.Run.{one_list, pends_before}
+use Rattle.std.proofs.Common.{◌≡◌, min, ap, ◌∙◌, subst}
+use Rattle.nm_model.specs.Before.{IsBefore}
 use Rattle.nm_sim.specs.Network.{net_of}
-use Rattle.nm_sim.specs.Part.{Advanced, Stands}
 use Rattle.nm_sim.proofs.trace.one_list.Goals as goal
 
-pub returns-then-not-branch : goal.returns-then-not-branch
-returns-then-not-branch c =
+pub returns : goal.returns
+returns c =
     let t = c.args.topology.now in
-    let s = one_list (net_of t) c.loop-done.done in
     let before : c.earlier-before.result ≡ min c.args.until t.stop = c.earlier-before.ensures ∙ ap (min c.args.until) c.stop.ensures in
-    let stands = c.loop-done.invariant.0 in
-    let ended = subst (λ b. Advanced pending_of t c.earlier-before.result s c.loop-done.part c.advance.new.self (Ok b)) c.if-not-branch.true
-    (c.in_ok-advance.ensures.advance s stands) in (
-      c.loop-done.done,
-      record {
-        over = ap (λ b. pends_before b s) (sym before) ∙ ended.1;
-        first = λ m h. ap (λ b. pends_before b (one_list (net_of t) m)) (sym before) ∙ c.loop-done.invariant.1 m h;
-      },
-      c.into_trace.ensures ∙ ap (λ p. p.timeline.records) ended.0 ∙ stands.records,
-    )
-
-pub loop-done-preserved : goal.loop-done-preserved
-loop-done-preserved c =
-    let t = c.args.topology.now in
-    let s = one_list (net_of t) c.loop-done.done in
-    let more = subst (λ b. Advanced pending_of t c.earlier-before.result s c.loop-done.part c.advance.new.self (Ok b)) c.if-not-branch.false
-    (c.in_ok-advance.ensures.advance s c.loop-done.invariant.0) in
-    let next : suc c.loop-done.done ≡ c.loop-done.done + 1 = omega arith in (
-      subst (λ n. Stands pending_of t c.advance.new.self (one_list (net_of t) n)) next more.0,
-      λ m h. ⊎_elim
-          (λ l. c.loop-done.invariant.1 m l)
-          (λ g. let same : c.loop-done.done ≡ m = omega (arith, g, h) in subst (λ k. pends_before c.earlier-before.result (one_list (net_of t) k) ≡ true) same more.1)
-          (cases_lt m c.loop-done.done),
+    let ran = c.in_ok-run.ensures in (
+      ran.0,
+      subst (λ b. IsBefore (net_of t) b ran.0) before ran.1,
+      c.into_trace.ensures ∙ ran.2.records,
     )

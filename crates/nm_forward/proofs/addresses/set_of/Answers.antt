@@ -2,7 +2,7 @@ use Rattle.std.proofs.Common.{arith}
 use Rattle.std.specs.Prelude.{nat_eq}
 use Rattle.std.proofs.lemmas.Grind.{common_steps}
 use Rattle.std.proofs.lemmas.List.Folds.{list_any_more}
-use Rattle.nm_forward.proofs.addresses.Addresses.of_node.Goals as goal
+use Rattle.nm_forward.proofs.addresses.set_of.Goals as goal
 
 pub loop-address-preserved : goal.loop-address-preserved
 loop-address-preserved c =
@@ -10,6 +10,6 @@ loop-address-preserved c =
       arith,
       common_steps,
       list_any_more
-          (nat_eq q) c.deref-address-items.result.now c.loop-address.address-index 0,
+          (nat_eq q) c.args.list.now c.loop-address.address-index 0,
       c.loop-address.invariant q,
     )

@@ -3,7 +3,7 @@ use Rattle.nm_model.specs.Run.{one_list, pends_before}
 use Rattle.nm_sim.specs.Network.{net_of}
 use Rattle.nm_sim.specs.Part.{Stands}
 use Rattle.nm_events.specs.Held.{pending_of}
-use Rattle.nm_sim.proofs.trace.one_list.Given as goal
+use Rattle.nm_sim.proofs.trace.run.Given as goal
 
 abbrev pub invariant-loop-done : goal.invariant-loop-done
 invariant-loop-done l =

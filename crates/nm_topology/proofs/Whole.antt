@@ -1,0 +1,137 @@
+-- A document and its numbers, put together, are in order and within the limits.
+use Rattle.std.proofs.Common.{◌≡◌, All, ℕ, ◌<◌, ◌≤◌, List, length, map, Result, Ok, refl, sym, ap, ◌∙◌, subst, arith}
+use Rattle.std.specs.Prelude.{slice_index}
+use Rattle.nm_base.specs.declared.limits.TheConstants.{MAX_CHANNELS, MAX_IFACES, MAX_LINKS, MAX_NODES, MAX_PARTITIONS, MAX_SOURCES}
+use Rattle.nm_topology.specs.declared.fault.Refusal.{Refusal}
+use Rattle.nm_topology.specs.declared.parts.Link.{Link}
+use Rattle.nm_topology.specs.declared.parts.Route.{Route}
+use Rattle.nm_topology.specs.declared.traffic.Source.{Source}
+use Rattle.nm_topology.specs.Fault.{◌>>=◌}
+use Rattle.nm_topology.specs.Texts.{NodeText, IfaceText, LinkText, RouteText}
+use Rattle.nm_topology.specs.SourceTexts.{SourceText}
+use Rattle.nm_topology.specs.DocumentTexts.{DocumentText}
+use Rattle.nm_topology.specs.Networks.{NodeValue, IfaceValue}
+use Rattle.nm_topology.specs.Wholes.{Numbered, NetworkValue}
+use Rattle.nm_topology.specs.Checks.{routes_at, route_tables, far_end, far_ends}
+use Rattle.nm_topology.specs.Network.{numbered, tested, partition_count, placed_nodes, placed_ifaces, receivers_of, put_together, network_of}
+use Rattle.nm_topology.specs.Limits.{HasOctets, IsWithinLimits}
+use Rattle.nm_topology.specs.Order.{IsInOrder, IsPlaced, owners_of}
+use Rattle.nm_topology.specs.Ranges.{IsInRange}
+use Rattle.nm_topology.proofs.Limits.{IsPutTogether, within_limits, have_octets}
+use Rattle.nm_topology.proofs.Order.{passed as all_passed, in_order, nodes-length, numbers-length, ifaces-owners, ifaces-length}
+
+-- the tables of a text, and what numbering gives of them
+pub record IsRead (ns : List NodeText) (is : List IfaceText) (ls : List LinkText) (rs : List RouteText) (ss : List SourceText) (t : Numbered) : Type 0 where
+  pub owners : (length t.owners ≡ length is) × All (λ o. o < length ns) t.owners
+  pub counts : (length t.links ≡ length ls) × (length t.sources ≡ length ss)
+  pub links : All (λ l. (l.a < length is) × (l.b < length is)) t.links
+  pub vias : All (λ r. (r.route.via < length is) × (slice_index t.owners r.route.via ≡ r.node)) t.routes
+  pub sources : All (λ s. IsPlaced (length ns) t.owners s) t.sources
+  pub value : numbered ns is ls rs ss ≡ Ok t
+
+pub read_along : {ns ms : List NodeText} {is js : List IfaceText} {ls ks : List LinkText} {rs qs : List RouteText} {ss : List SourceText} {t : Numbered}
+    → ns ≡ ms → is ≡ js → ls ≡ ks → rs ≡ qs → IsRead ns is ls rs ss t → IsRead ms js ks qs ss t
+read_along {ns} {ms} {is} {js} {ls} {ks} {rs} {qs} {ss} {t} n i l r h =
+    subst (λ xs. IsRead ms js ks xs ss t) r
+    (subst (λ xs. IsRead ms js xs rs ss t) l
+    (subst (λ xs. IsRead ms xs ls rs ss t) i
+    (subst (λ xs. IsRead xs is ls rs ss t) n h)))
+
+-- what a topology keeps
+abbrev pub IsSound : NetworkValue → Type 0
+IsSound v =
+    IsInOrder v.nodes v.ifaces v.links
+    × (length v.nodes ≤ MAX_NODES)
+    × (length v.ifaces ≤ MAX_IFACES)
+    × (length v.links ≤ MAX_LINKS)
+    × (length v.sources ≤ MAX_SOURCES)
+    × (length v.receivers ≤ MAX_CHANNELS)
+    × All (λ s. IsPlaced (length v.nodes) (owners_of v.ifaces) s) v.sources
+    × (v.partitions ≤ MAX_PARTITIONS)
+    × IsWithinLimits v
+    × All (λ s. HasOctets s.traffic) v.sources
+
+-- a document and its numbers, put together part by part
+pub record IsMade (digest : List ℕ) (d : DocumentText) (t : Numbered) (v : NetworkValue) : Type 0 where
+  pub stop : v.stop ≡ d.stop
+  pub mtu : v.mtu ≡ d.mtu
+  pub nodes : v.nodes ≡ placed_nodes d.nodes (route_tables (length d.nodes) t.routes)
+  pub ifaces : v.ifaces ≡ placed_ifaces d.ifaces t.owners (far_ends (length d.ifaces) t.links)
+  pub links : v.links ≡ t.links
+  pub sources : v.sources ≡ t.sources
+  pub receivers : v.receivers ≡ receivers_of (map (λ n. n.partition) d.nodes) t.owners (far_ends (length d.ifaces) t.links)
+  pub partitions : v.partitions ≡ partition_count (map (λ n. n.partition) d.nodes)
+  pub same_digest : v.digest ≡ digest
+
+unfoldable network : ℕ → ℕ → List NodeValue → List IfaceValue → List Link → List Source → List ℕ → ℕ → List ℕ → NetworkValue
+network a b ns is ls ss rs p e = record { stop = a; mtu = b; nodes = ns; ifaces = is; links = ls; sources = ss; receivers = rs; partitions = p; digest = e }
+
+pub made : {digest : List ℕ} {d : DocumentText} {t : Numbered} {v : NetworkValue} → IsMade digest d t v → v ≡ put_together digest d t
+unfolding network
+made {digest} {d} {t} {v} m =
+    let w = put_together digest d t in
+    ap (λ x. network x v.mtu v.nodes v.ifaces v.links v.sources v.receivers v.partitions v.digest) m.stop
+    ∙ ap (λ x. network w.stop x v.nodes v.ifaces v.links v.sources v.receivers v.partitions v.digest) m.mtu
+    ∙ ap (λ x. network w.stop w.mtu x v.ifaces v.links v.sources v.receivers v.partitions v.digest) m.nodes
+    ∙ ap (λ x. network w.stop w.mtu w.nodes x v.links v.sources v.receivers v.partitions v.digest) m.ifaces
+    ∙ ap (λ x. network w.stop w.mtu w.nodes w.ifaces x v.sources v.receivers v.partitions v.digest) m.links
+    ∙ ap (λ x. network w.stop w.mtu w.nodes w.ifaces w.links x v.receivers v.partitions v.digest) m.sources
+    ∙ ap (λ x. network w.stop w.mtu w.nodes w.ifaces w.links w.sources x v.partitions v.digest) m.receivers
+    ∙ ap (λ x. network w.stop w.mtu w.nodes w.ifaces w.links w.sources w.receivers x v.digest) m.partitions
+    ∙ ap (λ x. network w.stop w.mtu w.nodes w.ifaces w.links w.sources w.receivers w.partitions x) m.same_digest
+
+-- what a document keeps
+abbrev pub IsCounted : DocumentText → Type 0
+IsCounted d = (length d.nodes ≤ MAX_NODES) × (length d.ifaces ≤ MAX_IFACES) × (length d.links ≤ MAX_LINKS) × (length d.sources ≤ MAX_SOURCES)
+
+module _ (d : DocumentText) (t : Numbered) (digest : List ℕ)
+    (read : IsRead d.nodes d.ifaces d.links d.routes d.sources t)
+    (passed : tested (map (λ n. n.partition) d.nodes) (map (λ i. i.address) d.ifaces) (length d.nodes) (length d.ifaces) t ≡ Ok tt) where
+  abbrev tables : List (List Route)
+  tables = route_tables (length d.nodes) t.routes
+
+  abbrev v : NetworkValue
+  v = put_together digest d t
+
+  put : IsPutTogether d t tables v
+  put = record { stop = refl; mtu = refl; nodes = refl; ifaces = refl; sources = refl; partitions = refl }
+
+  order : IsInOrder v.nodes v.ifaces v.links
+  order = in_order d.nodes d.ifaces t (map (λ i. i.address) d.ifaces) read.owners.0 read.owners.1 read.links read.vias passed
+
+  nodes-count : length v.nodes ≡ length d.nodes
+  nodes-count = nodes-length d.nodes tables (numbers-length (λ j. routes_at j t.routes) (length d.nodes) 0)
+
+  far-count : length (far_ends (length d.ifaces) t.links) ≡ length d.ifaces
+  far-count = numbers-length (λ i. far_end i t.links) (length d.ifaces) 0
+
+  ifaces-count : length v.ifaces ≡ length d.ifaces
+  ifaces-count = ifaces-length d.ifaces t.owners (far_ends (length d.ifaces) t.links) read.owners.0 far-count
+
+  owners-are : t.owners ≡ owners_of v.ifaces
+  owners-are = sym (ifaces-owners d.ifaces t.owners (far_ends (length d.ifaces) t.links) read.owners.0 far-count)
+
+  sources : All (λ s. IsPlaced (length v.nodes) (owners_of v.ifaces) s) v.sources
+  sources = subst (λ os. All (λ s. IsPlaced (length v.nodes) os s) t.sources) owners-are
+      (subst (λ m. All (λ s. IsPlaced m t.owners s) t.sources) (sym nodes-count) read.sources)
+
+  pub sound : IsInRange d → IsCounted d → length v.receivers ≤ MAX_CHANNELS → v.partitions ≤ MAX_PARTITIONS → IsSound v
+  sound range counts few parts =
+      let used = (all_passed (map (λ n. n.partition) d.nodes) (map (λ i. i.address) d.ifaces) (length d.nodes) (length d.ifaces) t passed).used in (
+        order,
+        subst (λ m. m ≤ MAX_NODES) (sym nodes-count) counts.0,
+        subst (λ m. m ≤ MAX_IFACES) (sym ifaces-count) counts.1,
+        subst (λ m. m ≤ MAX_LINKS) (sym read.counts.0) counts.2,
+        subst (λ m. m ≤ MAX_SOURCES) (sym read.counts.1) counts.3,
+        few,
+        sources,
+        parts,
+        within_limits d t tables v range read.value used put,
+        have_octets d t tables v range read.value used put,
+      )
+
+  pub network-read : network_of digest d ≡ Ok (put_together digest d t)
+  unfolding network_of
+  network-read =
+      ap (λ r. r >>= λ n. tested (map (λ n. n.partition) d.nodes) (map (λ i. i.address) d.ifaces) (length d.nodes) (length d.ifaces) n >>= λ good. Ok (put_together digest d n)) read.value
+      ∙ ap (λ r. r >>= λ good. Ok (put_together digest d t)) passed
