@@ -1,6 +1,6 @@
 use Rattle.std.proofs.Common.{◌≡◌, ◌≤◌, length, map, Ok, refl, sym, ap, ◌∙◌, subst}
 use Rattle.nm_base.specs.declared.limits.TheConstants.{MAX_CHANNELS, MAX_PARTITIONS}
-use Rattle.nm_topology.specs.Network.{partition_count, put_together, network_of}
+use Rattle.nm_topology.specs.Network.{partition_count, network_of}
 use Rattle.nm_topology.specs.DocumentTexts.{DocumentText}
 use Rattle.nm_topology.specs.Ranges.{IsInRange}
 use Rattle.nm_topology.specs.Wholes.{Numbered, NetworkValue}
