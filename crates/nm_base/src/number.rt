@@ -10,6 +10,7 @@ use std::marker::{Model, PhantomData};
 #[derive_where(Clone, Copy, Debug, PartialEq, Eq)]
 pub struct Number<K> {
     number: u32,
+    #[derive_where(skip)]
     kind: PhantomData<K>,
 }
 
