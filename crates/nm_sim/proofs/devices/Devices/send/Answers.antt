@@ -17,6 +17,12 @@ invariant_of-self c =
     all_set (λ j w. (1 ≤ w.room) ⊎ (Some c.in-Send.iface ≡ Some j)) c.self.inside.ports.items c.index.result c.offer.new.self
     (λ j w h g. inl (room j w g)) (inr (ap Some (sym c.index.ensures)))
 
+pub offer-requires-clause-room : goal.offer-requires-clause-room
+offer-requires-clause-room c =
+    let room = subst (λ (v : DevicesValue). AllAt (λ i w. 1 ≤ w.room) v.ports) (sym c.self.view_is) c.requires.room in
+    let here : slice_get c.self.inside.ports.items c.in-Send.iface ≡ Some c.index_mut.result.now = search (rules, slice_get_read) in
+    room c.in-Send.iface c.index_mut.result.now here
+
 pub returns-in-Started : goal.returns-in-Started
 returns-in-Started c = rw (← c.self.view_is, c.in-Send.is) record {
   sends = λ node port s.
