@@ -1,5 +1,5 @@
 use Rattle.nm_sim.proofs.Stepping.{stands_stepped}
-use Rattle.nullsim_cases.proofs.run.step_on.Goals as goal
+use Rattle.nullsim_cases.proofs.run.step_before.Goals as goal
 
 pub returns : goal.returns
 returns g c =
