@@ -16,7 +16,11 @@ pub fn differs(rt: &impl Print, name: &str, expected: &str, found: &str) -> io::
 /// Prints the lines of `text` that are not in the same place of `other`.
 fn print_lines_beside(rt: &impl Print, side: &str, text: &str, other: &str) -> io::Result<()> {
     for (number, line) in text.lines().enumerate() {
-        if other.lines().nth(number).is_none_or(|beside| beside != line) {
+        if other
+            .lines()
+            .nth(number)
+            .is_none_or(|beside| beside != line)
+        {
             println!(rt; "  {side}: {line}")?;
         }
     }

@@ -29,7 +29,10 @@ fn run_file<R: Files + AllocGlobal + Print>(rt: &R, folder: &str, name: &str) ->
     }
     if let Some(stem) = name.strip_suffix(".expect") {
         // its text has to be there, and is run with it
-        fs::metadata(rt, format!(in rt.alloc(); "cases/{folder}/{stem}.toml")?.as_str())?;
+        fs::metadata(
+            rt,
+            format!(in rt.alloc(); "cases/{folder}/{stem}.toml")?.as_str(),
+        )?;
         return Ok(Tally::new());
     }
     Err(io::Error::other("a file that is neither a pair nor a table"))

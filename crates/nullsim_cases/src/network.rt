@@ -71,7 +71,11 @@ fn push_node(text: &mut String, node: &Node) -> Result<(), AllocError> {
         NodeKind::Router => "router",
     };
     let partition = node.partition().number();
-    write!(text, "node {} {kind} partition {partition} ports", node.name())?;
+    write!(
+        text,
+        "node {} {kind} partition {partition} ports",
+        node.name()
+    )?;
     for port in node.ports() {
         write!(text, " {port}")?;
     }
@@ -87,7 +91,10 @@ fn push_node(text: &mut String, node: &Node) -> Result<(), AllocError> {
 fn push_iface(text: &mut String, iface: &Iface) -> Result<(), AllocError> {
     let (name, address) = (iface.name(), iface.address());
     let (node, queue) = (iface.node().number(), iface.queue());
-    writeln!(text, "iface {name} node {node} address {address} queue {queue}")?;
+    writeln!(
+        text,
+        "iface {name} node {node} address {address} queue {queue}"
+    )?;
     let far = iface.far();
     writeln!(text, "far {} {} {}", far.peer.number(), far.rate, far.delay)
 }
