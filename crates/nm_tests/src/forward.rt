@@ -84,21 +84,26 @@ fn lead_to(
 
 #[test]
 fn routes_take_the_longest(rt: HostRuntime) -> Result<(), Fail> {
-    let all = route([0, 0, 0, 0], 0, 0);
-    let eight = route([10, 0, 0, 0], 8, 1);
-    let more = route([10, 0, 1, 0], 24, 2);
     lead_to(
         &rt,
-        &[all, eight, more],
+        &[
+            route([0, 0, 0, 0], 0, 0),
+            route([10, 0, 0, 0], 8, 1),
+            route([10, 0, 1, 0], 24, 2),
+        ],
         &[
             ([10, 0, 1, 9], Some(2)),
             ([10, 0, 2, 9], Some(1)),
             ([11, 0, 0, 1], Some(0)),
         ],
-    )?;
+    )
+}
+
+#[test]
+fn routes_take_none_where_none_holds(rt: HostRuntime) -> Result<(), Fail> {
     lead_to(
         &rt,
-        &[eight, more],
+        &[route([10, 0, 0, 0], 8, 1), route([10, 0, 1, 0], 24, 2)],
         &[
             ([10, 0, 1, 9], Some(2)),
             ([10, 0, 2, 9], Some(1)),
@@ -238,15 +243,28 @@ impl Bench {
     }
 }
 
-/// A node of the trio takes nothing from a source.
-fn takes_nothing(rt: &(impl Abort + AllocGlobal), node: u32, source: u32) -> Result<(), Fail> {
+/// A node of the trio at the start of a run.
+fn node_of_trio(rt: &(impl Abort + AllocGlobal), node: u32) -> Result<Bench, Fail> {
     let topology = Topology::read(rt.alloc(), TRIO.as_bytes())?;
-    let mut bench = Bench::new(rt, topology, node)?;
-    let octets = Bytes::copy_from_slice(rt.alloc(), b"\0")?;
-    let packet = Packet::new(octets).ok_or("one octet fits")?;
+    Ok(Bench::new(rt, topology, node)?)
+}
+
+/// A packet of one octet.
+fn one_octet(alloc: Global) -> Result<Packet, Fail> {
+    let octets = Bytes::copy_from_slice(alloc, b"\0")?;
+    Ok(Packet::new(octets).ok_or("one octet fits")?)
+}
+
+/// A node sends nothing of what a source hands over, and counts nothing.
+fn takes_nothing(
+    rt: &(impl Abort + AllocGlobal),
+    bench: &mut Bench,
+    source: u32,
+    packet: &Packet,
+) -> Result<(), AllocError> {
     let origin = Origin::Source(SourceNo::new(source));
-    let reaction = bench.react(rt, origin, &packet)?;
-    holds(rt, "nothing is sent", matches!(reaction, Reaction::Nothing));
+    let is_nothing = matches!(bench.react(rt, origin, packet)?, Reaction::Nothing);
+    holds(rt, "nothing is sent", is_nothing);
     for counter in Counter::ALL {
         eq_number(rt, counter.name(), bench.count(counter), 0);
     }
@@ -256,8 +274,10 @@ fn takes_nothing(rt: &(impl Abort + AllocGlobal), node: u32, source: u32) -> Res
 /// A node takes nothing from a source of another node, nor from one that isn't there.
 #[test]
 fn sources_are_of_one_node(rt: HostRuntime) -> Result<(), Fail> {
+    let packet = one_octet(rt.alloc())?;
     for (node, source) in [(1, 0), (2, 0), (0, 3), (0, 6), (0, u32::MAX)] {
-        takes_nothing(&rt, node, source)?;
+        let mut bench = node_of_trio(&rt, node)?;
+        takes_nothing(&rt, &mut bench, source, &packet)?;
     }
     Ok(())
 }

@@ -182,17 +182,24 @@ fn faults_say_what_is_wrong(rt: HostRuntime) -> Result<(), Fail> {
 /// Messages as their times and last octets, and a clock.
 type Shown = (&'static [(u64, u8)], u64);
 
-/// Rows of two knowledges of a channel, what their merger answers, and what the first is then.
-fn merge(
-    rt: &(impl Abort + AllocGlobal),
-    rows: &[(Shown, Shown, Result<(), KnowFault>, Shown)],
-) -> Result<(), Fail> {
-    for (row, (ours, theirs, answer, after)) in rows.iter().enumerate() {
-        let mut know = know_of(rt.alloc(), ours.0, ours.1)?;
-        let other = know_of(rt.alloc(), theirs.0, theirs.1)?;
-        assert!(rt; know.merge(&other) == *answer, "row {row}");
-        assert!(rt; is_known(&know, after.0, after.1), "row {row}");
-        assert!(rt; is_known(&other, theirs.0, theirs.1), "row {row}");
+/// Two knowledges of a channel, what their merger answers, and what the first is then.
+type Merger = (Shown, Shown, Result<(), KnowFault>, Shown);
+
+/// A merger is as said, and leaves the second as it was.
+fn merge_one(rt: &(impl Abort + AllocGlobal), row: &Merger) -> Result<(), Fail> {
+    let (ours, theirs, answer, after) = row;
+    let mut know = know_of(rt.alloc(), ours.0, ours.1)?;
+    let other = know_of(rt.alloc(), theirs.0, theirs.1)?;
+    holds(rt, "the answer", know.merge(&other) == *answer);
+    holds(rt, "the first", is_known(&know, after.0, after.1));
+    holds(rt, "the second", is_known(&other, theirs.0, theirs.1));
+    Ok(())
+}
+
+/// Mergers are as said.
+fn merge(rt: &(impl Abort + AllocGlobal), rows: &[Merger]) -> Result<(), Fail> {
+    for row in rows {
+        merge_one(rt, row)?;
     }
     Ok(())
 }

@@ -398,14 +398,10 @@ fn packets_are_written_with_a_datagram(rt: HostRuntime) -> Result<(), Fail> {
 /// A router's answer to a packet that may live no longer.
 #[test]
 fn packets_are_written_with_a_message(rt: HostRuntime) -> Result<(), Fail> {
-    let quoted = padded(
-        rt.alloc(),
-        "45000064000000000111a4870a0000010a00010203e800090050e65a",
-        0,
-    )?;
-    assert!(rt; quoted.len() <= 68);
+    let quoted =
+        b"\x45\x00\x00\x64\x00\x00\x00\x00\x01\x11\xa4\x87\x0a\x00\x00\x01\x0a\x00\x01\x02\x03\xe8\x00\x09\x00\x50\xe6\x5a";
     let header = header(64, 1, [10, 0, 0, 2], [10, 0, 0, 1]);
-    let error = Icmp::write_packet(rt.alloc(), &header, 11, 0, [0; 4], quoted.as_slice())?;
+    let error = Icmp::write_packet(rt.alloc(), &header, 11, 0, [0; 4], quoted)?;
     let want = padded(
         rt.alloc(),
         "4500003800000000400166c30a0000020a0000010b000a640000000045000064000000000111a4870a0000010a00010203e800090050e65a",

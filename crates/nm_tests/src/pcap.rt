@@ -7,7 +7,7 @@ use crate::same::{eq_octets, holds};
 use bytes::Bytes;
 use nm_base::{Dir, IfaceNo, MemSink, Packet, Record, StdSink, Time};
 use nm_pcap::{PcapFault, PcapOut};
-use std::alloc::Global;
+use std::alloc::{AllocError, Global};
 use std::io::{self, Write};
 use std::process::Abort;
 use std::test::Fail;
@@ -56,22 +56,23 @@ fn file(alloc: Global) -> Result<Vec<u8>, Fail> {
     Ok(octets)
 }
 
-/// A sink of this budget has a front of the file, and the writer says so once.
-fn is_cut(
-    rt: &(impl Abort + AllocGlobal),
-    record: &Record,
-    whole: &[u8],
-    budget: usize,
-) -> Result<(), Fail>
-    requires { «record».now.time ≡ 0 }
-{
+/// What a sink of this budget answers to the header and to the record.
+fn answers_at(budget: usize) -> (Result<(), PcapFault>, Result<(), PcapFault>) {
     let written = budget as u64;
     let fault = Err(PcapFault::File { written });
-    let (start, put) = match budget {
+    match budget {
         0..24 => (fault, Err(PcapFault::Failed)),
         24..140 => (Ok(()), fault),
         _ => (Ok(()), Ok(())),
-    };
+    }
+}
+
+/// A sink of this budget has a front of the file, and the writer says so once.
+fn is_cut(rt: &(impl Abort + AllocGlobal), record: &Record, front: &[u8]) -> Result<(), AllocError>
+    requires { «record».now.time ≡ 0 }
+{
+    let budget = front.len();
+    let (start, put) = answers_at(budget);
     let mut out = PcapOut::new(MemSink::new(rt.alloc(), budget)?);
     assert!(rt; out.start() == start, "budget {budget}");
     assert!(rt; out.put(record) == put, "budget {budget}");
@@ -79,8 +80,7 @@ fn is_cut(
         let again = out.put(record);
         assert!(rt; again == Err(PcapFault::Failed), "budget {budget}");
     }
-    assert!(rt; budget <= whole.len());
-    eq_octets(rt, "a front", out.sink().octets(), &whole[..budget]);
+    eq_octets(rt, "a front", out.sink().octets(), front);
     Ok(())
 }
 
@@ -89,8 +89,9 @@ fn each_budget(rt: HostRuntime) -> Result<(), Fail> {
     let octets = packet_octets(rt.alloc())?;
     let record = record_of(rt.alloc(), 0, octets.as_slice())?;
     let whole = file(rt.alloc())?;
+    assert!(rt; whole.len() == 140);
     for budget in 0..=140 {
-        is_cut(&rt, &record, whole.as_slice(), budget)?;
+        is_cut(&rt, &record, &whole.as_slice()[..budget])?;
     }
     Ok(())
 }
@@ -131,6 +132,16 @@ fn one_octet_a_call(rt: HostRuntime) -> Result<(), Fail> {
     Ok(())
 }
 
+/// The file of one record.
+fn file_of(rt: &(impl Abort + AllocGlobal), record: &Record) -> Result<PcapOut<MemSink>, AllocError>
+    requires { «record».now.time ≤ 1000000000000000 }
+{
+    let mut out = PcapOut::new(MemSink::new(rt.alloc(), 65_575)?);
+    holds(rt, "the header", out.start() == Ok(()));
+    holds(rt, "the record", out.put(record) == Ok(()));
+    Ok(out)
+}
+
 /// The record of so many octets at this time has this header.
 fn record_header_is(
     rt: &(impl Abort + AllocGlobal),
@@ -142,9 +153,7 @@ fn record_header_is(
 {
     let octets = vec![in rt.alloc(); 7u8; count]?;
     let record = record_of(rt.alloc(), nanoseconds, octets.as_slice())?;
-    let mut out = PcapOut::new(MemSink::new(rt.alloc(), 65_575)?);
-    holds(rt, "the header", out.start() == Ok(()));
-    holds(rt, "the record", out.put(&record) == Ok(()));
+    let out = file_of(rt, &record)?;
     let file = out.sink().octets();
     assert!(rt; file.len() >= 40);
     eq_octets(rt, "header", &file[24..40], header);

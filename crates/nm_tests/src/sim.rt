@@ -3,6 +3,7 @@
 use crate::run::{Step, steps_before};
 use crate::same::eq_number;
 use crate::texts::DUO;
+use nm_base::limits::{MAX_PACKET_OCTETS, MAX_RATE};
 use nm_base::{IfaceNo, Key, NodeNo, Place, SourceNo, Time};
 use nm_events::SortedList;
 use nm_forward::Counter;
@@ -15,13 +16,12 @@ use std::test::Fail;
 /// Rows of a rate, a count of octets, and the time that they take.
 fn take(rt: &impl Abort, rows: &[(u64, usize, u64)]) {
     for (rate, octets, want) in rows {
-        assert!(rt; *rate >= 1 && *octets <= 65_535);
-        eq_number(
-            rt,
-            "a transmission",
-            transmission_time(*rate, *octets),
-            *want,
-        );
+        let (rate, octets) = (*rate, *octets);
+        assert!(rt; rate >= 1);
+        assert!(rt; rate <= MAX_RATE);
+        assert!(rt; octets <= MAX_PACKET_OCTETS);
+        let found = transmission_time(rate, octets);
+        eq_number(rt, "a transmission", found, *want);
     }
 }
 
@@ -52,18 +52,17 @@ fn first(time: u64, place: Place) -> Option<Key> {
     })
 }
 
-/// A step before a time, in nanoseconds; the key of the event that is done, the least time of what is to come, and how
-/// many records there are.
-type Row = (u64, Option<Key>, Option<u64>, usize);
+/// The key of the event that a step does, the least time of what is to come then, and how many records there are.
+type Row = (Option<Key>, Option<u64>, usize);
 
 /// Each of these steps, one after another, does and leaves what is said.
 fn do_and_leave(rt: &impl Abort, steps: &[Step], rows: &[Row]) {
     assert!(rt; steps.len() == rows.len());
-    for (step, (before, done, least, records)) in steps.iter().zip(rows) {
+    for (number, (step, (done, least, records))) in steps.iter().zip(rows).enumerate() {
         let least = least.map(Time::from_nanoseconds);
-        assert!(rt; step.done == *done, "done before {before}");
-        assert!(rt; step.least == least, "left before {before}");
-        assert!(rt; step.records == *records, "records before {before}");
+        assert!(rt; step.done == *done, "done by step {number}");
+        assert!(rt; step.least == least, "left by step {number}");
+        assert!(rt; step.records == *records, "records after step {number}");
     }
 }
 
@@ -74,21 +73,37 @@ fn steps_of_one_packet(rt: HostRuntime) -> Result<(), Fail> {
     let source = first(0, Place::Fire(SourceNo::new(0)));
     let complete = first(100_000, Place::Complete(IfaceNo::new(0)));
     let arrive = first(1_100_000, Place::Arrive(IfaceNo::new(1)));
-    let rows: [Row; 9] = [
-        (0, None, Some(0), 0),
-        (0, None, Some(0), 0),
-        (1, source, Some(100_000), 1),
-        (0, None, Some(100_000), 1),
-        (100_000, None, Some(100_000), 1),
-        (100_001, complete, Some(1_100_000), 1),
-        (1_100_000, None, Some(1_100_000), 1),
-        (10_000_000, arrive, None, 2),
-        (10_000_000, None, None, 2),
-    ];
-    let befores = rows.map(|(before, _, _, _)| Time::from_nanoseconds(before));
+    let befores = [
+        0, 0, 1, 0, 100_000, 100_001, 1_100_000, 10_000_000, 10_000_000,
+    ]
+    .map(Time::from_nanoseconds);
     let steps = steps_before::<SortedList>(rt.alloc(), &topology, befores.as_slice())?;
-    do_and_leave(&rt, steps.as_slice(), &rows);
+    do_and_leave(
+        &rt,
+        steps.as_slice(),
+        &[
+            (None, Some(0), 0),
+            (None, Some(0), 0),
+            (source, Some(100_000), 1),
+            (None, Some(100_000), 1),
+            (None, Some(100_000), 1),
+            (complete, Some(1_100_000), 1),
+            (None, Some(1_100_000), 1),
+            (arrive, None, 2),
+            (None, None, 2),
+        ],
+    );
     Ok(())
+}
+
+/// Rows of a number, and of what is counted at the node and dropped at the interface with this number.
+fn counts_are(rt: &impl Abort, part: &Part<SortedList>, rows: &[(u32, Option<u64>)]) {
+    for (number, want) in rows {
+        let counted = part.counter(NodeNo::new(*number), Counter::Udp);
+        assert!(rt; counted == *want, "node {number}");
+        let dropped = part.dropped(IfaceNo::new(*number));
+        assert!(rt; dropped == *want, "interface {number}");
+    }
 }
 
 /// What a part has not is neither counted nor dropped there.
@@ -96,11 +111,10 @@ fn steps_of_one_packet(rt: HostRuntime) -> Result<(), Fail> {
 fn not_there(rt: HostRuntime) -> Result<(), Fail> {
     let topology = Topology::read(rt.alloc(), DUO.as_bytes())?;
     let part = Part::<SortedList>::start(rt.alloc(), &topology)?;
-    for (number, want) in [(0, Some(0)), (1, Some(0)), (2, None), (u32::MAX, None)] {
-        let counted = part.counter(NodeNo::new(number), Counter::Udp);
-        assert!(rt; counted == want, "node {number}");
-        let dropped = part.dropped(IfaceNo::new(number));
-        assert!(rt; dropped == want, "interface {number}");
-    }
+    counts_are(
+        &rt,
+        &part,
+        &[(0, Some(0)), (1, Some(0)), (2, None), (u32::MAX, None)],
+    );
     Ok(())
 }

@@ -75,17 +75,28 @@ fn packet_of(alloc: Global, source: &Source, number: u64) -> Result<(Time, Sourc
     }
 }
 
-/// Packet `number` comes at this time and has these octets, in hexadecimal.
+/// A packet has these octets, in hexadecimal.
 fn packet_is(
     rt: &(impl Abort + AllocGlobal),
-    source: &Source,
-    (number, time): (u64, u64),
+    packet: SourcePacket,
     octets: &str,
 ) -> Result<(), Fail> {
-    let (at, packet) = packet_of(rt.alloc(), source, number)?;
     let want = hex::decode(rt.alloc(), octets)?;
-    assert!(rt; at.nanoseconds() == time, "packet {number}");
     eq_octets(rt, octets, packet.into_packet().octets(), want.as_slice());
+    Ok(())
+}
+
+/// Rows of a packet's number, of its time, and of its octets in hexadecimal.
+fn packets_are(
+    rt: &(impl Abort + AllocGlobal),
+    source: &Source,
+    rows: &[(u64, u64, &str)],
+) -> Result<(), Fail> {
+    for (number, time, octets) in rows {
+        let (at, packet) = packet_of(rt.alloc(), source, *number)?;
+        assert!(rt; at.nanoseconds() == *time, "packet {number}");
+        packet_is(rt, packet, octets)?;
+    }
     Ok(())
 }
 
@@ -107,19 +118,22 @@ count = 3
 #[test]
 fn datagrams(rt: HostRuntime) -> Result<(), Fail> {
     let source = source_of(rt.alloc(), 1_000, THREE, 0)?;
-    packet_is(&rt, &source, (0, 5), "070707")?;
-    packet_is(&rt, &source, (1, 15), "070707")?;
-    packet_is(&rt, &source, (2, 25), "070707")?;
+    packets_are(
+        &rt,
+        &source,
+        &[(0, 5, "070707"), (1, 15, "070707"), (2, 25, "070707")],
+    )?;
     come_at(&rt, &source, &[(3, None), (4, None), (u64::MAX, None)])
 }
 
-/// Rows of a `stop` and what comes before it.
-fn datagrams_before(
+/// Rows of a `stop`, and of what the first source of this text sends before it.
+fn come_before(
     rt: &(impl Abort + AllocGlobal),
+    sources: &str,
     rows: &[(u64, &[(u64, Option<u64>)])],
 ) -> Result<(), Fail> {
     for (stop, packets) in rows {
-        let source = source_of(rt.alloc(), *stop, THREE, 0)?;
+        let source = source_of(rt.alloc(), *stop, sources, 0)?;
         come_at(rt, &source, packets)?;
     }
     Ok(())
@@ -127,8 +141,9 @@ fn datagrams_before(
 
 #[test]
 fn datagrams_when_the_run_stops(rt: HostRuntime) -> Result<(), Fail> {
-    datagrams_before(
+    come_before(
         &rt,
+        THREE,
         &[
             (26, &[(2, Some(25))]),
             (25, &[(2, None), (1, Some(15))]),
@@ -157,7 +172,7 @@ count = 2
 #[test]
 fn datagrams_without_data(rt: HostRuntime) -> Result<(), Fail> {
     let source = source_of(rt.alloc(), 1, NO_DATA, 0)?;
-    packet_is(&rt, &source, (0, 0), "00")?;
+    packets_are(&rt, &source, &[(0, 0, "00")])?;
     come_at(&rt, &source, &[(1, None)])
 }
 
@@ -218,11 +233,17 @@ count = 65538
 #[test]
 fn requests(rt: HostRuntime) -> Result<(), Fail> {
     let source = source_of(rt.alloc(), 1_000_000, REQUESTS, 1)?;
-    packet_is(&rt, &source, (0, 100), "08008f1f12340000ababab")?;
-    packet_is(&rt, &source, (1, 101), "08008f1e12340001ababab")?;
-    packet_is(&rt, &source, (65_535, 65_635), "08008f1f1234ffffababab")?;
-    packet_is(&rt, &source, (65_536, 65_636), "08008f1f12340000ababab")?;
-    packet_is(&rt, &source, (65_537, 65_637), "08008f1e12340001ababab")?;
+    packets_are(
+        &rt,
+        &source,
+        &[
+            (0, 100, "08008f1f12340000ababab"),
+            (1, 101, "08008f1e12340001ababab"),
+            (65_535, 65_635, "08008f1f1234ffffababab"),
+            (65_536, 65_636, "08008f1f12340000ababab"),
+            (65_537, 65_637, "08008f1e12340001ababab"),
+        ],
+    )?;
     come_at(
         &rt,
         &source,
@@ -246,7 +267,7 @@ count = 1
 #[test]
 fn requests_without_data(rt: HostRuntime) -> Result<(), Fail> {
     let source = source_of(rt.alloc(), 1, EMPTY, 0)?;
-    packet_is(&rt, &source, (0, 0), "0800f7fe00010000")
+    packets_are(&rt, &source, &[(0, 0, "0800f7fe00010000")])
 }
 
 /// Three packets, the last of which comes as the run stops at 9.
@@ -261,16 +282,22 @@ packet = [ {at = 0, data = "45"}, {at = 3, data = "00ff"}, {at = 9, data = "0102
 #[test]
 fn raw_packets(rt: HostRuntime) -> Result<(), Fail> {
     let source = source_of(rt.alloc(), 10, RAW, 0)?;
-    packet_is(&rt, &source, (0, 0), "45")?;
-    packet_is(&rt, &source, (1, 3), "00ff")?;
-    packet_is(&rt, &source, (2, 9), "0102")?;
+    packets_are(
+        &rt,
+        &source,
+        &[(0, 0, "45"), (1, 3, "00ff"), (2, 9, "0102")],
+    )?;
     come_at(&rt, &source, &[(3, None), (u64::MAX, None)])
 }
 
 #[test]
 fn raw_packets_when_the_run_stops(rt: HostRuntime) -> Result<(), Fail> {
-    let nine = source_of(rt.alloc(), 9, RAW, 0)?;
-    come_at(&rt, &nine, &[(1, Some(3)), (2, None)])?;
-    let one = source_of(rt.alloc(), 1, RAW, 0)?;
-    come_at(&rt, &one, &[(0, Some(0)), (1, None)])
+    come_before(
+        &rt,
+        RAW,
+        &[
+            (9, &[(1, Some(3)), (2, None)]),
+            (1, &[(0, Some(0)), (1, None)]),
+        ],
+    )
 }

@@ -5,7 +5,8 @@ use nm_events::SortedList;
 use nm_forward::Counter;
 use nm_sim::Part;
 use nm_topology::Topology;
-use std::alloc::{AllocError, Global};
+use std::alloc::AllocError;
+use std::fmt::Write;
 
 /// The words that stand beside names and values.
 #[derive(Clone, Copy)]
@@ -35,42 +36,50 @@ impl Words {
     }
 }
 
-/// Adds the counters above 0.
-pub fn push_counters(
+/// Adds a node's counters above 0.
+fn push_counters(
     text: &mut String,
-    alloc: Global,
-    topology: &Topology,
     part: &Part<SortedList>,
+    (number, name): (u32, &str),
     words: Words,
 ) -> Result<(), AllocError> {
     let before = words.before_counter;
-    for (number, node) in (0..u32::MAX).zip(topology.nodes()) {
-        for counter in Counter::ALL {
-            let value = part.counter(NodeNo::new(number), counter).unwrap_or(0);
-            if value > 0 {
-                let (node, name) = (node.name(), counter.name());
-                text.push_str(format!(in alloc; "{before}{node} {name} {value}\n")?.as_str())?;
-            }
+    for counter in Counter::ALL {
+        let value = part.counter(NodeNo::new(number), counter).unwrap_or(0);
+        if value > 0 {
+            writeln!(text, "{before}{name} {} {value}", counter.name())?;
         }
     }
     Ok(())
 }
 
-/// Adds the interfaces at which packets were dropped.
-pub fn push_drops(
+/// Adds an interface, if packets were dropped there.
+fn push_drops(
     text: &mut String,
-    alloc: Global,
+    part: &Part<SortedList>,
+    (number, name): (u32, &str),
+    words: Words,
+) -> Result<(), AllocError> {
+    let (before, behind) = (words.before_iface, words.behind_iface);
+    let value = part.dropped(IfaceNo::new(number)).unwrap_or(0);
+    if value == 0 {
+        return Ok(());
+    }
+    writeln!(text, "{before}{name}{behind} {value}")
+}
+
+/// Adds the counters above 0 of each node, and then the interfaces at which packets were dropped.
+pub fn push_counted(
+    text: &mut String,
     topology: &Topology,
     part: &Part<SortedList>,
     words: Words,
 ) -> Result<(), AllocError> {
-    let (before, behind) = (words.before_iface, words.behind_iface);
+    for (number, node) in (0..u32::MAX).zip(topology.nodes()) {
+        push_counters(text, part, (number, node.name()), words)?;
+    }
     for (number, iface) in (0..u32::MAX).zip(topology.ifaces()) {
-        let value = part.dropped(IfaceNo::new(number)).unwrap_or(0);
-        if value > 0 {
-            let name = iface.name();
-            text.push_str(format!(in alloc; "{before}{name}{behind} {value}\n")?.as_str())?;
-        }
+        push_drops(text, part, (number, iface.name()), words)?;
     }
     Ok(())
 }

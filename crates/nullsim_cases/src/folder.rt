@@ -3,8 +3,18 @@
 use crate::pair::run_pair;
 use crate::table::run_table;
 use crate::tally::Tally;
+use std::alloc::Global;
+use std::fs::DirEntry;
 use std::rt::Files;
 use std::{fs, io};
+
+/// The name of an entry of a folder.
+fn name_of<R: Files>(alloc: Global, entry: io::Result<DirEntry<R>>) -> io::Result<String>
+where
+    R: Drop,
+{
+    Ok(String::from_str(alloc, entry?.file_name())?)
+}
 
 /// The names in a folder, in their order.
 pub fn names_in<R: Files + AllocGlobal + Clone + Drop>(
@@ -13,29 +23,58 @@ pub fn names_in<R: Files + AllocGlobal + Clone + Drop>(
 ) -> io::Result<Vec<String>> {
     let mut names = Vec::new(rt.alloc());
     for entry in fs::read_dir(rt, folder)? {
-        names.push(String::from_str(rt.alloc(), entry?.file_name())?)?;
+        names.push(name_of(rt.alloc(), entry)?)?;
     }
     names.sort_unstable();
     Ok(names)
 }
 
-/// Runs the cases of a file, whose name is without its end.
-fn run_file<R: Files + AllocGlobal + Print>(rt: &R, folder: &str, name: &str) -> io::Result<Tally> {
-    if let Some(stem) = name.strip_suffix(".cases") {
-        return run_table(rt, folder, stem);
+/// What is expected is run with its text, which has to be there.
+fn run_half<R: Files + AllocGlobal>(rt: &R, stem: &str) -> io::Result<Tally> {
+    let path = format!(in rt.alloc(); "{stem}.toml")?;
+    fs::metadata(rt, path.as_str())?;
+    Ok(Tally::new())
+}
+
+/// Runs the cases of the file at a path.
+fn run_file<R: Files + AllocGlobal + Print>(rt: &R, path: &str) -> io::Result<Tally> {
+    if path.ends_with(".cases") {
+        return run_table(rt, path);
     }
-    if let Some(stem) = name.strip_suffix(".toml") {
-        return run_pair(rt, folder, stem);
+    if let Some(stem) = path.strip_suffix(".toml") {
+        return run_pair(rt, stem);
     }
-    if let Some(stem) = name.strip_suffix(".expect") {
-        // its text has to be there, and is run with it
-        fs::metadata(
-            rt,
-            format!(in rt.alloc(); "cases/{folder}/{stem}.toml")?.as_str(),
-        )?;
-        return Ok(Tally::new());
+    if let Some(stem) = path.strip_suffix(".expect") {
+        return run_half(rt, stem);
     }
     Err(io::Error::other("a file that is neither a pair nor a table"))
+}
+
+/// Runs the cases of a file of a folder, and prints what is wrong with the file.
+fn run_named<R: Files + AllocGlobal + Print>(
+    rt: &R,
+    folder: &str,
+    name: &str,
+) -> io::Result<Tally> {
+    let path = format!(in rt.alloc(); "cases/{folder}/{name}")?;
+    let tally = run_file(rt, path.as_str());
+    if let Err(error) = &tally {
+        println!(rt; "{path}: {error}")?;
+    }
+    tally
+}
+
+/// Runs the cases of these files of a folder.
+fn run_all<R: Files + AllocGlobal + Print>(
+    rt: &R,
+    folder: &str,
+    names: &[String],
+) -> io::Result<Tally> {
+    let mut tally = Tally::new();
+    for name in names {
+        tally.add(run_named(rt, folder, name.as_str())?);
+    }
+    Ok(tally)
 }
 
 /// Runs the cases of a folder.
@@ -44,15 +83,6 @@ pub fn run_folder<R: Files + AllocGlobal + Print + Clone + Drop>(
     folder: &str,
 ) -> io::Result<Tally> {
     let path = format!(in rt.alloc(); "cases/{folder}")?;
-    let mut tally = Tally::new();
-    for name in names_in(rt, path.as_str())?.iter() {
-        match run_file(rt, folder, name.as_str()) {
-            Ok(cases) => tally.add(cases),
-            Err(error) => {
-                println!(rt; "{folder}/{name}: {error}")?;
-                return Err(error);
-            }
-        }
-    }
-    Ok(tally)
+    let names = names_in(rt, path.as_str())?;
+    run_all(rt, folder, names.as_slice())
 }

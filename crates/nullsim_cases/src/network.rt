@@ -19,68 +19,76 @@
 //! packet TIME HEX                                          of the source before it
 //! ```
 
-use nm_base::IfaceNo;
-use nm_topology::parts::{Iface, Link, Node};
-use nm_topology::traffic::{Flow, Raw, Traffic};
+use nm_base::{ChanNo, IfaceNo};
+use nm_topology::parts::{Iface, Link, Node, Route};
+use nm_topology::traffic::{Flow, Raw, RawPacket, Source, Traffic};
 use nm_topology::{NodeKind, Topology};
 use std::alloc::{AllocError, Global};
 use std::fmt::Write;
 
-/// Adds all that was read.
-pub fn push_network(
-    text: &mut String,
-    alloc: Global,
-    topology: &Topology,
-) -> Result<(), AllocError> {
-    push_whole(text, alloc, topology)?;
+/// The lines of all that was read.
+pub fn network_text(alloc: Global, topology: &Topology) -> Result<String, AllocError> {
+    let mut text = String::new(alloc);
+    push_whole(&mut text, topology)?;
+    push_digest(&mut text, alloc, topology)?;
+    push_parts(&mut text, topology)?;
+    push_sources(&mut text, alloc, topology.sources())?;
+    Ok(text)
+}
+
+/// Adds what is said of the network as a whole.
+fn push_whole(text: &mut String, topology: &Topology) -> Result<(), AllocError> {
+    let (stop, mtu) = (topology.stop().nanoseconds(), topology.mtu());
+    let partitions = topology.partitions();
+    write!(
+        text,
+        "stop {stop}\nmtu {mtu}\npartitions {partitions}\nreceivers"
+    )?;
+    for iface in topology.receivers() {
+        write!(text, " {}", iface.number())?;
+    }
+    text.push('\n')
+}
+
+/// Adds the digest.
+fn push_digest(text: &mut String, alloc: Global, topology: &Topology) -> Result<(), AllocError> {
+    let digest = hex::encode(alloc, topology.digest())?;
+    writeln!(text, "digest {digest}")
+}
+
+/// Adds the nodes, the interfaces and the links.
+fn push_parts(text: &mut String, topology: &Topology) -> Result<(), AllocError> {
     for node in topology.nodes() {
         push_node(text, node)?;
+        push_routes(text, node.routes())?;
     }
     for (number, iface) in (0..u32::MAX).zip(topology.ifaces()) {
         push_iface(text, iface)?;
-        if let Some(channel) = topology.channel_of(IfaceNo::new(number)) {
-            writeln!(text, "channel {}", channel.number())?;
-        }
+        push_channel(text, topology.channel_of(IfaceNo::new(number)))?;
     }
     for link in topology.links() {
         push_link(text, link)?;
     }
-    for source in topology.sources() {
-        push_source(text, alloc, source.node.number(), &source.traffic)?;
-    }
     Ok(())
 }
 
-/// Adds what is said of the network as a whole.
-fn push_whole(text: &mut String, alloc: Global, topology: &Topology) -> Result<(), AllocError> {
-    writeln!(text, "stop {}", topology.stop().nanoseconds())?;
-    writeln!(text, "mtu {}", topology.mtu())?;
-    writeln!(text, "partitions {}", topology.partitions())?;
-    text.push_str("receivers")?;
-    for iface in topology.receivers() {
-        write!(text, " {}", iface.number())?;
-    }
-    let digest = hex::encode(alloc, topology.digest())?;
-    writeln!(text, "\ndigest {digest}")
-}
-
-/// Adds a node and its routes.
+/// Adds a node.
 fn push_node(text: &mut String, node: &Node) -> Result<(), AllocError> {
     let kind = match node.kind() {
         NodeKind::Host => "host",
         NodeKind::Router => "router",
     };
-    let partition = node.partition().number();
-    write!(
-        text,
-        "node {} {kind} partition {partition} ports",
-        node.name()
-    )?;
+    let (name, partition) = (node.name(), node.partition().number());
+    write!(text, "node {name} {kind} partition {partition} ports")?;
     for port in node.ports() {
         write!(text, " {port}")?;
     }
-    text.push('\n')?;
-    for route in node.routes() {
+    text.push('\n')
+}
+
+/// Adds the routes of a node.
+fn push_routes(text: &mut String, routes: &[Route]) -> Result<(), AllocError> {
+    for route in routes {
         let (address, length) = (route.to.address, route.to.length);
         writeln!(text, "route {address}/{length} via {}", route.via.number())?;
     }
@@ -99,20 +107,31 @@ fn push_iface(text: &mut String, iface: &Iface) -> Result<(), AllocError> {
     writeln!(text, "far {} {} {}", far.peer.number(), far.rate, far.delay)
 }
 
+/// Adds the channel of an interface, where it receives one.
+fn push_channel(text: &mut String, channel: Option<ChanNo>) -> Result<(), AllocError> {
+    match channel {
+        Some(channel) => writeln!(text, "channel {}", channel.number()),
+        None => Ok(()),
+    }
+}
+
 /// Adds a link.
 fn push_link(text: &mut String, link: &Link) -> Result<(), AllocError> {
     let (a, b) = (link.a.number(), link.b.number());
     writeln!(text, "link {a} {b} {} {}", link.rate, link.delay)
 }
 
-/// Adds a source of this node.
-fn push_source(
-    text: &mut String,
-    alloc: Global,
-    node: u32,
-    traffic: &Traffic,
-) -> Result<(), AllocError> {
-    write!(text, "source {node} ")?;
+/// Adds the sources.
+fn push_sources(text: &mut String, alloc: Global, sources: &[Source]) -> Result<(), AllocError> {
+    for source in sources {
+        write!(text, "source {} ", source.node.number())?;
+        push_traffic(text, alloc, &source.traffic)?;
+    }
+    Ok(())
+}
+
+/// Adds what a source sends.
+fn push_traffic(text: &mut String, alloc: Global, traffic: &Traffic) -> Result<(), AllocError> {
     match traffic {
         Traffic::Cbr(cbr) => {
             let (source, destination) = (cbr.source_port, cbr.destination_port);
@@ -139,8 +158,13 @@ fn push_flow(text: &mut String, flow: Flow) -> Result<(), AllocError> {
 fn push_raw(text: &mut String, alloc: Global, raw: &Raw) -> Result<(), AllocError> {
     writeln!(text, "raw via {}", raw.via().number())?;
     for raw_packet in raw.packets() {
-        let octets = hex::encode(alloc, raw_packet.packet.octets())?;
-        writeln!(text, "packet {} {octets}", raw_packet.at.nanoseconds())?;
+        push_packet(text, alloc, raw_packet)?;
     }
     Ok(())
+}
+
+/// Adds a packet.
+fn push_packet(text: &mut String, alloc: Global, packet: &RawPacket) -> Result<(), AllocError> {
+    let octets = hex::encode(alloc, packet.packet.octets())?;
+    writeln!(text, "packet {} {octets}", packet.at.nanoseconds())
 }

@@ -5,18 +5,18 @@
 //! packets were dropped. In each other folder it is the line `accepted`, or `fault N` with the number of the first fault.
 //! Lines that begin with `#` are comments.
 
-use crate::compare::differs;
-use crate::show::Show;
+use crate::compare::{differs, push_line};
+use crate::show::{Show, View};
 use crate::tally::Tally;
 use nm_base::Time;
 use std::alloc::{AllocError, Global};
 use std::rt::Files;
 use std::{fs, io};
 
-/// What the pairs of a folder show.
-fn shown_in(folder: &str) -> Show {
-    if folder == "networks" {
-        Show::Files
+/// What the pair at a path shows.
+fn shown_at(path: &str) -> Show {
+    if path.starts_with("cases/networks/") {
+        Show::Run(View::Files)
     } else {
         Show::Reading
     }
@@ -27,26 +27,31 @@ fn without_comments(alloc: Global, text: &str) -> Result<String, AllocError> {
     let mut lines = String::new(alloc);
     for line in text.lines() {
         if !line.starts_with('#') {
-            lines.push_str(line)?;
-            lines.push('\n')?;
+            push_line(&mut lines, line)?;
         }
     }
     Ok(lines)
 }
 
-/// Runs a case.
-pub fn run_pair<R: Files + AllocGlobal + Print>(
-    rt: &R,
-    folder: &str,
-    stem: &str,
-) -> io::Result<Tally> {
-    let name = format!(in rt.alloc(); "cases/{folder}/{stem}")?;
-    let text = fs::read(rt, format!(in rt.alloc(); "{name}.toml")?.as_str())?;
-    let expected = fs::read_to_string(rt, format!(in rt.alloc(); "{name}.expect")?.as_str())?;
-    let expected = without_comments(rt.alloc(), expected.as_str())?;
-    let until = Time::from_nanoseconds(u64::MAX);
-    let found = shown_in(folder).text(rt.alloc(), text.as_slice(), until)?;
-    let mut tally = Tally::new();
-    tally.count(differs(rt, name.as_str(), expected.as_str(), found.as_str())?);
-    Ok(tally)
+/// The lines that are to be shown.
+fn expected_of<R: Files + AllocGlobal>(rt: &R, stem: &str) -> io::Result<String> {
+    let path = format!(in rt.alloc(); "{stem}.expect")?;
+    let text = fs::read_to_string(rt, path.as_str())?;
+    Ok(without_comments(rt.alloc(), text.as_str())?)
+}
+
+/// The lines that are shown.
+fn found_of<R: Files + AllocGlobal>(rt: &R, stem: &str) -> io::Result<String> {
+    let path = format!(in rt.alloc(); "{stem}.toml")?;
+    let text = fs::read(rt, path.as_str())?;
+    let before = Time::from_nanoseconds(u64::MAX);
+    shown_at(stem).text(rt.alloc(), text.as_slice(), before)
+}
+
+/// Runs the case at a path, which is without its end.
+pub fn run_pair<R: Files + AllocGlobal + Print>(rt: &R, stem: &str) -> io::Result<Tally> {
+    let expected = expected_of(rt, stem)?;
+    let found = found_of(rt, stem)?;
+    let differs = differs(rt, stem, expected.as_str(), found.as_str())?;
+    Ok(Tally::of_case(differs))
 }

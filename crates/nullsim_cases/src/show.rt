@@ -9,11 +9,11 @@
 //!
 //! Of a text that is refused, each of them is the line `fault N`, with the number of the first fault.
 
-use crate::counted::{Words, push_counters, push_drops};
-use crate::network::push_network;
+use crate::counted::{Words, push_counted};
+use crate::network::network_text;
 use crate::records::push_records;
 use crate::run::run_before;
-use crate::trace_file::push_ifaces;
+use crate::trace_file::push_files;
 use nm_base::Time;
 use nm_events::SortedList;
 use nm_sim::{Part, one_list};
@@ -28,11 +28,18 @@ pub enum Show {
     Reading,
     /// What was read.
     Network,
-    /// The records of a run, its counters and its drops.
+    /// What a run did.
+    Run(View),
+}
+
+/// What is shown of a run.
+#[derive(Clone, Copy)]
+pub enum View {
+    /// Its records, its counters and its drops.
     Trace,
     /// Its counters and its drops alone.
     Counts,
-    /// The trace file of each interface, the counters and the drops, as the independent model writes them.
+    /// The trace file of each interface, its counters and its drops, as the independent model writes them.
     Files,
 }
 
@@ -42,8 +49,8 @@ impl Show {
         match name {
             "reading" => Some(Show::Reading),
             "network" => Some(Show::Network),
-            "trace" => Some(Show::Trace),
-            "counts" => Some(Show::Counts),
+            "trace" => Some(Show::Run(View::Trace)),
+            "counts" => Some(Show::Run(View::Counts)),
             _ => None,
         }
     }
@@ -51,7 +58,7 @@ impl Show {
     /// The lines that are shown of a text, of what was done before a time.
     pub fn text(self, alloc: Global, text: &[u8], before: Time) -> io::Result<String> {
         match Topology::read(alloc, text) {
-            Ok(topology) => self.of_network(alloc, &topology, before),
+            Ok(topology) => self.text_of(alloc, &topology, before),
             Err(fault) => {
                 let number = fault.number();
                 Ok(format!(in alloc; "fault {number}\n")?)
@@ -60,40 +67,42 @@ impl Show {
     }
 
     /// The lines that are shown of a network.
-    fn of_network(self, alloc: Global, topology: &Topology, before: Time) -> io::Result<String> {
-        let mut text = String::new(alloc);
+    fn text_of(self, alloc: Global, topology: &Topology, before: Time) -> io::Result<String> {
         match self {
-            Show::Reading => text.push_str("accepted\n")?,
-            Show::Network => push_network(&mut text, alloc, topology)?,
-            _ => self.push_run(&mut text, alloc, topology, before)?,
+            Show::Reading => Ok(String::from_str(alloc, "accepted\n")?),
+            Show::Network => Ok(network_text(alloc, topology)?),
+            Show::Run(view) => {
+                let part = run_before::<SortedList>(alloc, topology, before)?;
+                view.text_of(alloc, topology, &part, before)
+            }
         }
-        Ok(text)
     }
+}
 
-    /// Adds the lines that are shown of a run.
-    fn push_run(
+impl View {
+    /// The lines that are shown of the part of a whole network after all events before a time.
+    fn text_of(
         self,
-        text: &mut String,
         alloc: Global,
         topology: &Topology,
+        part: &Part<SortedList>,
         before: Time,
-    ) -> io::Result<()> {
-        let part = run_before::<SortedList>(alloc, topology, before)?;
-        let mut words = Words::of_tables();
-        match self {
-            Show::Files => {
-                words = Words::of_pairs();
-                push_ifaces(text, alloc, topology, part.trace())?;
+    ) -> io::Result<String> {
+        let mut text = String::new(alloc);
+        let words = match self {
+            View::Trace => {
+                push_records(&mut text, alloc, topology, part.trace())?;
+                push_difference(&mut text, alloc, topology, part, before)?;
+                Words::of_tables()
             }
-            Show::Trace => {
-                push_records(text, alloc, topology, part.trace())?;
-                push_difference(text, alloc, topology, &part, before)?;
+            View::Counts => Words::of_tables(),
+            View::Files => {
+                push_files(&mut text, alloc, topology, part.trace())?;
+                Words::of_pairs()
             }
-            _ => {}
-        }
-        push_counters(text, alloc, topology, &part, words)?;
-        push_drops(text, alloc, topology, &part, words)?;
-        Ok(())
+        };
+        push_counted(&mut text, topology, part, words)?;
+        Ok(text)
     }
 }
 
@@ -106,8 +115,8 @@ fn push_difference(
     before: Time,
 ) -> Result<(), AllocError> {
     let records = one_list(alloc, topology, before)?;
-    if records.as_slice() != part.trace() {
-        text.push_str("the trace of one event list is another\n")?;
+    if records.as_slice() == part.trace() {
+        return Ok(());
     }
-    Ok(())
+    text.push_str("the trace of one event list is another\n")
 }

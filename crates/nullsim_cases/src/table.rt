@@ -34,49 +34,79 @@ mod lines;
 
 use crate::change::changed;
 use crate::compare::differs;
-use crate::show::Show;
 use crate::tally::Tally;
-use lines::{Case, read_table};
+use lines::{Case, Table, read_table};
+use std::alloc::Global;
 use std::rt::Files;
 use std::{fs, io};
 
-/// Runs a case of a table, and answers whether it differs.
-fn case_differs<R: AllocGlobal + Print>(
-    rt: &R,
-    table: &str,
-    text: &str,
-    show: Show,
-    case: &Case,
-) -> io::Result<bool> {
-    let text = changed(rt.alloc(), text, case.changes.as_slice())?;
-    let found = show.text(rt.alloc(), text.as_str().as_bytes(), case.before)?;
-    let name = format!(in rt.alloc(); "{table}, {}", case.name)?;
-    differs(rt, name.as_str(), case.expected.as_str(), found.as_str())
-}
-
-/// Runs the cases of a table.
-pub fn run_table<R: Files + AllocGlobal + Print>(
-    rt: &R,
-    folder: &str,
-    stem: &str,
-) -> io::Result<Tally> {
-    let name = format!(in rt.alloc(); "cases/{folder}/{stem}.cases")?;
-    let lines = fs::read_to_string(rt, name.as_str())?;
-    let table = read_table(rt, lines.as_str())?;
+/// What a case of a table shows, whose text is this with the case's changes.
+fn found_of(alloc: Global, table: &Table, text: &str, case: &Case) -> io::Result<String> {
     let Some(show) = table.show else {
         return Err(io::Error::other("a table that shows nothing"));
     };
-    let path = format!(in rt.alloc(); "texts/{}", table.text)?;
-    let text = fs::read_to_string(rt, path.as_str())?;
-    let mut tally = Tally::new();
-    for case in table.cases.iter() {
-        match case_differs(rt, name.as_str(), text.as_str(), show, case) {
-            Ok(differs) => tally.count(differs),
-            Err(error) => {
-                println!(rt; "case {}: {error}", case.name)?;
-                return Err(error);
-            }
+    let text = changed(alloc, text, case.changes.as_slice())?;
+    show.text(alloc, text.as_str().as_bytes(), case.before)
+}
+
+/// Compares what a case shows.
+fn compare<R: AllocGlobal + Print>(
+    rt: &R,
+    path: &str,
+    case: &Case,
+    found: &str,
+) -> io::Result<Tally> {
+    let name = format!(in rt.alloc(); "{path}, {}", case.name)?;
+    let differs = differs(rt, name.as_str(), case.expected.as_str(), found)?;
+    Ok(Tally::of_case(differs))
+}
+
+/// Runs a case of the table at a path, and prints what is wrong with its changes.
+fn run_case<R: AllocGlobal + Print>(
+    rt: &R,
+    path: &str,
+    table: &Table,
+    text: &str,
+    case: &Case,
+) -> io::Result<Tally> {
+    match found_of(rt.alloc(), table, text, case) {
+        Ok(found) => compare(rt, path, case, found.as_str()),
+        Err(error) => {
+            println!(rt; "case {}: {error}", case.name)?;
+            Err(error)
         }
     }
+}
+
+/// Runs the cases of the table at a path, with the text that they change.
+fn run_cases<R: AllocGlobal + Print>(
+    rt: &R,
+    path: &str,
+    table: &Table,
+    text: &str,
+) -> io::Result<Tally> {
+    let mut tally = Tally::new();
+    for case in table.cases.iter() {
+        tally.add(run_case(rt, path, table, text, case)?);
+    }
     Ok(tally)
+}
+
+/// The table at a path.
+fn table_at<R: Files + AllocGlobal + Print>(rt: &R, path: &str) -> io::Result<Table> {
+    let lines = fs::read_to_string(rt, path)?;
+    read_table(rt, lines.as_str())
+}
+
+/// The text that the cases of a table change.
+fn text_of<R: Files + AllocGlobal>(rt: &R, table: &Table) -> io::Result<String> {
+    let path = format!(in rt.alloc(); "texts/{}", table.text)?;
+    fs::read_to_string(rt, path.as_str())
+}
+
+/// Runs the cases of the table at a path.
+pub fn run_table<R: Files + AllocGlobal + Print>(rt: &R, path: &str) -> io::Result<Tally> {
+    let table = table_at(rt, path)?;
+    let text = text_of(rt, &table)?;
+    run_cases(rt, path, &table, text.as_str())
 }

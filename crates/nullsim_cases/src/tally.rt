@@ -18,10 +18,12 @@ impl Tally {
         }
     }
 
-    /// Counts a case.
-    pub fn count(&mut self, differs: bool) {
-        self.ran = self.ran.saturating_add(1);
-        self.differing = self.differing.saturating_add(u64::from(differs));
+    /// One case.
+    pub fn of_case(differs: bool) -> Self {
+        Tally {
+            ran: 1,
+            differing: u64::from(differs),
+        }
     }
 
     /// Counts the cases of another tally too.

@@ -9,29 +9,11 @@ use nm_command::Form;
 use nm_program::trace_file::write_trace_file;
 use nm_topology::Topology;
 use std::alloc::Global;
+use std::fmt::Write;
 use std::io::{self, ErrorKind};
 
 /// The greatest number of octets of an interface's trace file in hexadecimal.
 const MAX_FILE_DIGITS: usize = 1_048_576;
-
-/// Adds a line `iface NAME HEX` for each interface, with its trace file.
-///
-/// # Errors
-///
-/// `OutOfMemory` also where a trace file has more than 1,048,576 hexadecimal digits.
-pub fn push_ifaces(
-    text: &mut String,
-    alloc: Global,
-    topology: &Topology,
-    records: &[Record],
-) -> io::Result<()> {
-    for (number, iface) in (0..u32::MAX).zip(topology.ifaces()) {
-        let file = trace_text(alloc, IfaceNo::new(number), records)?;
-        let name = iface.name();
-        text.push_str(format!(in alloc; "iface {name} {file}")?.as_str())?;
-    }
-    Ok(())
-}
 
 /// The trace file of an interface in hexadecimal, and a line feed.
 fn trace_text(alloc: Global, iface: IfaceNo, records: &[Record]) -> io::Result<String> {
@@ -55,4 +37,33 @@ fn are_in_time(records: &[Record]) -> bool
     records
         .iter()
         .all(|record| record.time.nanoseconds() <= MAX_TIME)
+}
+
+/// Adds a line `iface NAME HEX` with the trace file of an interface.
+///
+/// # Errors
+///
+/// `OutOfMemory` also where a trace file has more than 1,048,576 hexadecimal digits.
+fn push_file(
+    text: &mut String,
+    alloc: Global,
+    (number, name): (u32, &str),
+    records: &[Record],
+) -> io::Result<()> {
+    let file = trace_text(alloc, IfaceNo::new(number), records)?;
+    write!(text, "iface {name} {file}")?;
+    Ok(())
+}
+
+/// Adds the trace file of each interface.
+pub fn push_files(
+    text: &mut String,
+    alloc: Global,
+    topology: &Topology,
+    records: &[Record],
+) -> io::Result<()> {
+    for (number, iface) in (0..u32::MAX).zip(topology.ifaces()) {
+        push_file(text, alloc, (number, iface.name()), records)?;
+    }
+    Ok(())
 }

@@ -1,6 +1,7 @@
 //! Reading the lines of a table.
 
 use crate::change::Change;
+use crate::compare::push_line;
 use crate::show::Show;
 use nm_base::Time;
 use std::alloc::{AllocError, Global};
@@ -133,23 +134,28 @@ impl Table {
     }
 }
 
-/// Reads the lines of a table, and prints the line that is in no form.
+/// Reads a line of a table, and prints what is wrong with it.
+fn read_line(
+    rt: &(impl AllocGlobal + Print),
+    table: &mut Table,
+    number: u64,
+    line: &str,
+) -> io::Result<()> {
+    let answer = table.take_line(rt.alloc(), line);
+    if let Err(error) = &answer {
+        println!(rt; "line {number}: {error}")?;
+    }
+    answer
+}
+
+/// Reads the lines of a table.
 pub fn read_table(rt: &(impl AllocGlobal + Print), lines: &str) -> io::Result<Table> {
     let mut table = Table::new(rt.alloc());
     for (number, line) in (1..u64::MAX).zip(lines.lines()) {
-        if let Err(error) = table.take_line(rt.alloc(), line) {
-            println!(rt; "line {number}: {error}")?;
-            return Err(error);
-        }
+        read_line(rt, &mut table, number, line)?;
     }
     if table.cases.is_empty() {
         return Err(io::Error::other("a table without a case"));
     }
     Ok(table)
-}
-
-/// Adds a line to a text.
-fn push_line(text: &mut String, line: &str) -> Result<(), AllocError> {
-    text.push_str(line)?;
-    text.push('\n')
 }
