@@ -1,33 +1,36 @@
-//! The lines in which two texts differ.
+//! Lines of texts, and those in which two texts differ.
 
+use std::alloc::AllocError;
 use std::io;
 
-/// Prints the lines that only one of two texts has, and answers whether there is one. Neither their
-/// order matters nor how often a line stands in a text.
-pub fn differ(rt: &impl Print, name: &str, expected: &str, found: &str) -> io::Result<bool> {
-    let is_missing = print_lines_beyond(rt, name, "expected", expected, found)?;
-    let is_new = print_lines_beyond(rt, name, "found", found, expected)?;
-    Ok(is_missing || is_new)
+/// Adds a line to a text.
+pub fn push_line(text: &mut String, line: &str) -> Result<(), AllocError> {
+    text.push_str(line)?;
+    text.push('\n')
 }
 
-/// Prints the lines of `text` that are not lines of `other`, and answers whether there is one.
-fn print_lines_beyond(
-    rt: &impl Print,
-    name: &str,
-    side: &str,
-    text: &str,
-    other: &str,
-) -> io::Result<bool> {
-    let mut any = false;
-    for line in text.lines() {
-        if !has_line(other, line) {
-            println!(rt; "{name}: {side}: {line}")?;
-            any = true;
+/// Prints the lines of two texts that differ from the other's line in the same place, and answers whether there is one.
+pub fn differs(rt: &impl Print, name: &str, expected: &str, found: &str) -> io::Result<bool> {
+    if expected == found {
+        return Ok(false);
+    }
+    println!(rt; "{name} differs")?;
+    print_lines_beside(rt, "expected", expected, found)?;
+    print_lines_beside(rt, "found", found, expected)?;
+    Ok(true)
+}
+
+/// Whether this is the line of a text in this place.
+fn is_line(text: &str, number: usize, line: &str) -> bool {
+    text.lines().nth(number).is_some_and(|other| other == line)
+}
+
+/// Prints the lines of `text` that are not in the same place of `other`.
+fn print_lines_beside(rt: &impl Print, side: &str, text: &str, other: &str) -> io::Result<()> {
+    for (number, line) in text.lines().enumerate() {
+        if !is_line(other, number, line) {
+            println!(rt; "  {side}: {line}")?;
         }
     }
-    Ok(any)
-}
-
-fn has_line(text: &str, line: &str) -> bool {
-    text.lines().any(|other| other == line)
+    Ok(())
 }

@@ -1,84 +1,42 @@
-//! Compares the simulator with cases from outside, and prints each line that differs.
+//! Compares the simulator with the cases in `data/cases/`, and prints each line that differs.
 //!
-//! An independent model of the rules in docs/RULES.md and docs/FORMATS.md made the cases in `data/`.
-//! `one/NNN.toml` is a topology, and `one/NNN.expect` has the trace file of each interface, the
-//! counters and the drops at `stop`. `bad/NNN.toml` is a topology with one or two random changes,
-//! and `bad/NNN.expect` says `accepted`, or `fault N` with the number of the first fault.
+//! No case comes from this program. Those in `networks` and `readings` were made by an independent model of the rules in
+//! docs/RULES.md and docs/FORMATS.md, the others by hand. A case is added by adding its files, or some lines to a table:
+//! each folder of `data/cases/` is listed, and each file in it is run. Nothing else has to be changed but `stdout`, which
+//! says how many cases each folder has.
+//!
+//! A folder has files of two forms:
+//!
+//! - A *pair* is a topology text `NAME.toml` and what it shows, `NAME.expect` (module `pair`).
+//! - A *table* `NAME.cases` has many cases, each some changes of one text of `data/texts/` (module `table`).
+//!
+//! The program prints for each folder how many cases were run and how many differ. Where a case differs it ends with an
+//! error, and where a file is not in its form it ends there and then.
 #![tactic(auto)]
 
-ghost use Rattle.std.specs.Prelude.{◌≤◌, IfOk};
-
+mod change;
 mod compare;
+mod counted;
+mod folder;
+mod network;
+mod pair;
+mod records;
 mod run;
-mod shown;
+mod show;
+mod table;
+mod tally;
+mod trace_file;
 
-use compare::differ;
-use shown::{reading_text, run_text};
-use std::alloc::Global;
-use std::rt::Files;
-use std::{fs, io};
-
-/// How many cases there are of each kind: their numbers count from 0.
-const RUNS: u32 = 60;
-
-const READINGS: u32 = 150;
-
-/// What a case is about.
-#[derive(Clone, Copy)]
-enum Kind {
-    /// What the run of a topology shows.
-    Run,
-    /// Whether a topology is accepted.
-    Reading,
-}
-
-impl Kind {
-    /// The folder of its cases.
-    fn folder(self) -> &'static str {
-        match self {
-            Kind::Run => "one",
-            Kind::Reading => "bad",
-        }
-    }
-
-    /// What the simulator shows of a topology text.
-    fn shown(self, alloc: Global, text: &[u8]) -> io::Result<String> {
-        match self {
-            Kind::Run => run_text(alloc, text),
-            Kind::Reading => Ok(reading_text(alloc, text)?),
-        }
-    }
-}
-
-/// Compares a case, and answers whether it differs.
-fn case_differs<R: Files + AllocGlobal + Print>(
-    rt: &R,
-    kind: Kind,
-    number: u32,
-) -> io::Result<bool> {
-    let folder = kind.folder();
-    let name = format!(in rt.alloc(); "{folder}/{number:03}")?;
-    let topology = fs::read(rt, format!(in rt.alloc(); "{name}.toml")?.as_str())?;
-    let expected = fs::read_to_string(rt, format!(in rt.alloc(); "{name}.expect")?.as_str())?;
-    let found = kind.shown(rt.alloc(), topology.as_slice())?;
-    differ(rt, name.as_str(), expected.as_str(), found.as_str())
-}
-
-/// How many of the first `count` cases of a kind differ.
-fn differing<R: Files + AllocGlobal + Print>(rt: &R, kind: Kind, count: u32) -> io::Result<u32>
-    ensures { IfOk result (λ total. total ≤ count) }
-{
-    let mut total = 0;
-    for number in 0..count {
-        if case_differs(rt, kind, number)? {
-            total += 1;
-        }
-    }
-    Ok(total)
-}
+use folder::{names_in, run_folder};
+use std::io;
+use tally::Tally;
 
 fn main(rt: HostRuntime) -> io::Result<()> {
-    let runs = differing(&rt, Kind::Run, RUNS)?;
-    let readings = differing(&rt, Kind::Reading, READINGS)?;
-    println!(rt; "{} cases, {} differ", RUNS + READINGS, runs + readings)
+    let mut all = Tally::new();
+    for folder in names_in(&rt, "cases")?.iter() {
+        let tally = run_folder(&rt, folder.as_str())?;
+        println!(rt; "{folder}: {} cases, {} differ", tally.ran, tally.differing)?;
+        all.add(tally);
+    }
+    all.conclude()
 }

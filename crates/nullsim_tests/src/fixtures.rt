@@ -5,6 +5,7 @@ use nm_command::Status;
 use nm_program::{Input, run};
 use std::alloc::{AllocError, Global};
 use std::io::Read;
+use std::process::Abort;
 use std::test::Fail;
 
 /// Two hosts and a link. A topology follows with its `stop` before and its sources after.
@@ -55,25 +56,31 @@ pub fn file_at(alloc: Global, time: [u8; 8]) -> Result<Vec<u8>, AllocError> {
     Ok(octets)
 }
 
+/// The words of a line.
+pub fn words_of(alloc: Global, line: &str) -> Result<Vec<String>, AllocError> {
+    let mut words = Vec::new(alloc);
+    for word in line.split_whitespace() {
+        words.push(String::from_str(alloc, word)?)?;
+    }
+    Ok(words)
+}
+
 /// What the program did.
 #[derive(Drop)]
-pub struct Outcome {
-    pub status: Status,
-    pub out: MemSink,
-    pub errors: MemSink,
+struct Outcome {
+    status: Status,
+    out: MemSink,
+    errors: MemSink,
 }
 
 /// Runs the program on the words of a line and an input, with room for so many octets of output.
-pub fn run_line<I: Read + Drop>(
+fn run_line<I: Read + Drop>(
     alloc: Global,
     line: &str,
     input: I,
     room: usize,
 ) -> Result<Outcome, AllocError> {
-    let mut words = Vec::new(alloc);
-    for word in line.split_whitespace() {
-        words.push(String::from_str(alloc, word)?)?;
-    }
+    let words = words_of(alloc, line)?;
     let mut input = Input::new(input);
     let mut out = MemSink::new(alloc, room)?;
     let mut errors = MemSink::new(alloc, 64)?;
@@ -83,4 +90,32 @@ pub fn run_line<I: Read + Drop>(
         out,
         errors,
     })
+}
+
+/// The program ends with this status and its line, and writes nothing.
+pub fn ends<I: Read + Drop>(
+    rt: &(impl Abort + AllocGlobal),
+    line: &str,
+    input: I,
+    status: Status,
+) -> Result<(), Fail> {
+    let ended = run_line(rt.alloc(), line, input, 8)?;
+    assert!(rt; ended.status == status, "{line}");
+    assert!(rt; ended.errors.octets() == status.line(), "{line}");
+    assert!(rt; ended.out.octets().is_empty(), "{line}");
+    Ok(())
+}
+
+/// The program with so much room writes these octets, and ends with this status and its line.
+pub fn writes(
+    rt: &(impl Abort + AllocGlobal),
+    (line, text): (&str, &str),
+    room: usize,
+    (octets, status): (&[u8], Status),
+) -> Result<(), Fail> {
+    let ended = run_line(rt.alloc(), line, text.as_bytes(), room)?;
+    assert!(rt; ended.status == status, "{line}");
+    assert!(rt; ended.errors.octets() == status.line(), "{line}");
+    assert!(rt; ended.out.octets() == octets, "{line}");
+    Ok(())
 }

@@ -1,6 +1,8 @@
-//! Tests of the program, by its one function over words, an input and sinks.
+//! Tests of the program: its words, its ways to end, and its one function over words, an input and sinks.
 #![tactic(auto)]
 
+#[cfg(test)]
+mod commands;
 #[cfg(test)]
 mod fixtures;
 #[cfg(test)]

@@ -1,0 +1,283 @@
+//! `nm_forward`: the names of counters, look-ups of routes beside a plain scan, and whose sources a node takes from.
+
+ghost use Rattle.std.specs.Prelude.{◌≡◌};
+ghost use Rattle.nm_forward.specs.State.{table_of};
+
+use crate::same::{eq_number, eq_text, holds};
+use crate::texts::TRIO;
+use bytes::Bytes;
+use nm_base::{IfaceNo, NodeNo, Packet, SourceNo};
+use nm_forward::{Counter, NodeState, Origin, Reaction, Routes, react};
+use nm_packet::Address;
+use nm_topology::parts::Route;
+use nm_topology::{Prefix, Topology};
+use std::alloc::{AllocError, Global};
+use std::process::Abort;
+use std::test::Fail;
+
+fn have_names(rt: &impl Abort, names: &[&str]) {
+    assert!(rt; names.len() == Counter::ALL.len());
+    for (counter, name) in Counter::ALL.iter().zip(names.iter()) {
+        eq_text(rt, counter.name(), name);
+    }
+}
+
+#[test]
+fn counters_have_names(rt: HostRuntime) {
+    have_names(
+        &rt,
+        &[
+            "header",
+            "baddest",
+            "notmine",
+            "nonet",
+            "ttl",
+            "forwarded",
+            "fragment",
+            "icmpbad",
+            "echo",
+            "icmp",
+            "udpbad",
+            "udp",
+            "port",
+            "proto",
+            "quiet",
+            "self",
+            "noroute",
+            "originated",
+            "raw",
+        ],
+    );
+}
+
+#[test]
+fn counters_are_numbered(rt: HostRuntime) {
+    for (number, counter) in Counter::ALL.iter().enumerate() {
+        eq_number(&rt, counter.name(), counter.index() as u64, number as u64);
+    }
+}
+
+fn route(octets: [u8; 4], length: u8, via: u32) -> Route {
+    Route {
+        to: Prefix {
+            address: Address::from_octets(octets),
+            length,
+        },
+        via: IfaceNo::new(via),
+    }
+}
+
+/// Rows of an address and of what a look-up of it finds among these routes.
+fn lead_to(
+    rt: &(impl Abort + AllocGlobal),
+    routes: &[Route],
+    rows: &[([u8; 4], Option<u32>)],
+) -> Result<(), Fail> {
+    let routes = Routes::new(rt.alloc(), routes)?;
+    for (octets, want) in rows {
+        let via = routes.look(Address::from_octets(*octets));
+        let found = via.map(|via| via.number());
+        assert!(rt; found == *want, "{octets:?}: {found:?}");
+    }
+    Ok(())
+}
+
+#[test]
+fn routes_take_the_longest(rt: HostRuntime) -> Result<(), Fail> {
+    lead_to(
+        &rt,
+        &[
+            route([0, 0, 0, 0], 0, 0),
+            route([10, 0, 0, 0], 8, 1),
+            route([10, 0, 1, 0], 24, 2),
+        ],
+        &[
+            ([10, 0, 1, 9], Some(2)),
+            ([10, 0, 2, 9], Some(1)),
+            ([11, 0, 0, 1], Some(0)),
+        ],
+    )
+}
+
+#[test]
+fn routes_take_none_where_none_holds(rt: HostRuntime) -> Result<(), Fail> {
+    lead_to(
+        &rt,
+        &[route([10, 0, 0, 0], 8, 1), route([10, 0, 1, 0], 24, 2)],
+        &[
+            ([10, 0, 1, 9], Some(2)),
+            ([10, 0, 2, 9], Some(1)),
+            ([11, 0, 0, 1], None),
+        ],
+    )
+}
+
+#[test]
+fn routes_take_one_address(rt: HostRuntime) -> Result<(), Fail> {
+    lead_to(
+        &rt,
+        &[
+            route([10, 0, 0, 1], 32, 1),
+            route([0, 0, 0, 0], 0, 0),
+            route([10, 0, 0, 1], 32, 2),
+            route([128, 0, 0, 0], 1, 3),
+            route([10, 0, 0, 1], 33, 4),
+        ],
+        &[
+            ([10, 0, 0, 1], Some(1)),
+            ([10, 0, 0, 0], Some(0)),
+            ([10, 0, 0, 2], Some(0)),
+            ([127, 255, 255, 255], Some(0)),
+            ([128, 0, 0, 0], Some(3)),
+            ([255, 255, 255, 255], Some(3)),
+        ],
+    )
+}
+
+#[test]
+fn routes_lead_nowhere_where_there_are_none(rt: HostRuntime) -> Result<(), Fail> {
+    lead_to(
+        &rt,
+        &[],
+        &[([0, 0, 0, 0], None), ([255, 255, 255, 255], None)],
+    )
+}
+
+/// The next of a sequence of numbers that look random (Knuth's MMIX generator).
+fn next(seed: u64) -> u64 {
+    seed.wrapping_mul(6_364_136_223_846_793_005)
+        .wrapping_add(1_442_695_040_888_963_407)
+}
+
+/// An address of few bits, so that many prefixes hold it.
+fn address(seed: u64) -> u32 {
+    (seed >> 32) as u32 & 0xc0a8_c0e7
+}
+
+fn many_routes(alloc: Global) -> Result<Vec<Route>, AllocError> {
+    let mut routes = Vec::new(alloc);
+    let mut seed = 1;
+    for via in 0..300u32 {
+        seed = next(seed);
+        let length = ((seed >> 20) % 33) as u8;
+        let bits = u64::from(address(seed)) >> (32 - length) << (32 - length);
+        routes.push(Route {
+            to: Prefix {
+                address: Address::from_bits(bits as u32),
+                length,
+            },
+            via: IfaceNo::new(via),
+        })?;
+    }
+    Ok(routes)
+}
+
+/// Goes over all routes.
+fn scanned(routes: &[Route], address: u32) -> Option<u32> {
+    let mut best: Option<(u8, u32)> = None;
+    for route in routes {
+        let Prefix {
+            address: network,
+            length,
+        } = route.to;
+        if length <= 32
+            && u64::from(network.bits() ^ address) >> (32 - length) == 0
+            && best.is_none_or(|(longest, _)| longest < length)
+        {
+            best = Some((length, route.via.number()));
+        }
+    }
+    Some(best?.1)
+}
+
+#[test]
+fn routes_are_those_of_a_scan(rt: HostRuntime) -> Result<(), Fail> {
+    let all = many_routes(rt.alloc())?;
+    let routes = Routes::new(rt.alloc(), &all)?;
+    let mut seed = 2;
+    for _ in 0..2_000 {
+        seed = next(seed);
+        let bits = address(seed);
+        let via = routes.look(Address::from_bits(bits));
+        let found = via.map(|via| via.number());
+        assert!(rt; found == scanned(&all, bits), "{bits}");
+    }
+    Ok(())
+}
+
+/// A node of a network, and its state.
+#[derive(Drop)]
+pub struct Bench {
+    topology: Topology,
+    state: NodeState,
+    ghost table: { state.table ≡ table_of topology state.table.node },
+}
+
+impl Bench {
+    /// The node at the start of a run.
+    pub fn new(
+        rt: &(impl Abort + AllocGlobal),
+        topology: Topology,
+        node: u32,
+    ) -> Result<Self, AllocError> {
+        let node = NodeNo::new(node);
+        assert!(rt; node.index() < topology.nodes().len());
+        let state = NodeState::new(rt.alloc(), &topology, node)?;
+        Ok(Bench { topology, state })
+    }
+
+    /// What the node does with a packet, which has at most 65,507 octets.
+    pub fn react(
+        &mut self,
+        rt: &(impl Abort + AllocGlobal),
+        origin: Origin,
+        packet: &Packet,
+    ) -> Result<Reaction, AllocError> {
+        assert!(rt; packet.octet_count() <= 65_507);
+        react(rt.alloc(), &self.topology, &mut self.state, origin, packet)
+    }
+
+    /// How often the node counted this.
+    pub fn count(&self, counter: Counter) -> u64 {
+        self.state.counter(counter)
+    }
+}
+
+/// A node of the trio at the start of a run.
+fn node_of_trio(rt: &(impl Abort + AllocGlobal), node: u32) -> Result<Bench, Fail> {
+    let topology = Topology::read(rt.alloc(), TRIO.as_bytes())?;
+    Ok(Bench::new(rt, topology, node)?)
+}
+
+/// A packet of one octet.
+fn one_octet(alloc: Global) -> Result<Packet, Fail> {
+    let octets = Bytes::copy_from_slice(alloc, b"\0")?;
+    Ok(Packet::new(octets).ok_or("one octet fits")?)
+}
+
+/// A node sends nothing of what a source hands over, and counts nothing.
+fn takes_nothing(
+    rt: &(impl Abort + AllocGlobal),
+    bench: &mut Bench,
+    source: u32,
+    packet: &Packet,
+) -> Result<(), AllocError> {
+    let origin = Origin::Source(SourceNo::new(source));
+    let is_nothing = matches!(bench.react(rt, origin, packet)?, Reaction::Nothing);
+    holds(rt, "nothing is sent", is_nothing);
+    for counter in Counter::ALL {
+        eq_number(rt, counter.name(), bench.count(counter), 0);
+    }
+    Ok(())
+}
+
+/// A node takes nothing from a source of another node, nor from one that isn't there.
+#[test]
+fn sources_are_of_one_node(rt: HostRuntime) -> Result<(), Fail> {
+    let packet = one_octet(rt.alloc())?;
+    for (node, source) in [(1, 0), (2, 0), (0, 3), (0, 6), (0, u32::MAX)] {
+        let mut bench = node_of_trio(&rt, node)?;
+        takes_nothing(&rt, &mut bench, source, &packet)?;
+    }
+    Ok(())
+}

@@ -1,0 +1,301 @@
+//! A refused growth is an error after which nothing has changed, and the same call then answers as if nothing had been
+//! refused: what these tests show where an allocation is made to fail (`rt try --test --fail-alloc N`).
+//!
+//! What a test only needs is asked for twice, so that it is there even where memory was refused.
+
+use crate::forward::Bench;
+use crate::knowledge::is_known;
+use crate::run::run_steps;
+use crate::same::{eq_number, eq_numbers, eq_octets, holds};
+use crate::texts::{DUO, RING, TRIO};
+use bytes::Bytes;
+use nm_base::{IfaceNo, NodeNo, Packet, Record, SourceNo, Time};
+use nm_events::SortedList;
+use nm_forward::{Counter, Origin, Reaction};
+use nm_knowledge::{Accepted, Know, KnowFault};
+use nm_packet::Icmp;
+use nm_sim::{Part, one_list};
+use nm_topology::{Refusal, TopoFault, Topology};
+use nm_traffic::{Source, SourcePacket};
+use std::alloc::{AllocError, Global};
+use std::process::Abort;
+use std::test::Fail;
+
+/// The first of two answers that is no error.
+fn either<T: Drop, E: Drop>(first: Result<T, E>, second: Result<T, E>) -> Result<T, E> {
+    match first {
+        Ok(value) => Ok(value),
+        Err(_) => second,
+    }
+}
+
+/// A network, which has to be accepted.
+fn network(alloc: Global, text: &str) -> Result<Topology, TopoFault> {
+    let first = Topology::read(alloc, text.as_bytes());
+    either(first, Topology::read(alloc, text.as_bytes()))
+}
+
+/// A packet of from 1 to 65,535 octets.
+fn packet_of(alloc: Global, octets: &[u8]) -> Result<Packet, Fail> {
+    let first = Bytes::copy_from_slice(alloc, octets);
+    let octets = either(first, Bytes::copy_from_slice(alloc, octets))?;
+    Ok(Packet::new(octets).ok_or("from 1 to 65,535 octets")?)
+}
+
+/// A text whose fault is the last that is looked for.
+const CUT: &str = r#"format = 1
+stop = 1
+mtu = 1500
+node = [ {name = "a", kind = "host", partition = 0}, {name = "b", kind = "host", partition = 1} ]
+iface = [ {name = "a0", node = "a", address = "10.0.0.1", queue = 0}, {name = "b0", node = "b", address = "10.0.0.2", queue = 0} ]
+link = [ {a = "a0", b = "b0", rate = 1000, delay = 0} ]
+source = [ {kind = "raw", node = "a", via = "a0", packet = [ {at = 0, data = "45"} ]} ]
+"#;
+
+/// A text is refused for this, or at the first of two calls for memory.
+fn is_refused(rt: &(impl Abort + AllocGlobal), text: &str, refusal: Refusal) {
+    let want = TopoFault::Refused(refusal);
+    let first = Topology::read(rt.alloc(), text.as_bytes()).err();
+    let second = Topology::read(rt.alloc(), text.as_bytes()).err();
+    assert!(rt;
+        first == Some(want) || first == Some(TopoFault::Memory),
+        "{text}"
+    );
+    assert!(rt; second == Some(want), "{text}");
+}
+
+#[test]
+fn topology_refused(rt: HostRuntime) {
+    is_refused(&rt, CUT, Refusal::CutDelay);
+    is_refused(&rt, "format = 1\nstop = ", Refusal::Text);
+    is_refused(&rt, "format = 1\nstop = 1", Refusal::Missing);
+}
+
+#[test]
+fn topology_read(rt: HostRuntime) -> Result<(), Fail> {
+    let first = Topology::read(rt.alloc(), DUO.as_bytes());
+    let second = Topology::read(rt.alloc(), DUO.as_bytes());
+    if let Err(fault) = first {
+        holds(&rt, "memory", fault == TopoFault::Memory);
+    }
+    let topology = either(first, second)?;
+    eq_numbers(
+        &rt,
+        "members",
+        &[
+            topology.nodes().len() as u64,
+            topology.ifaces().len() as u64,
+            topology.links().len() as u64,
+            topology.sources().len() as u64,
+        ],
+        &[2, 2, 1, 1],
+    );
+    Ok(())
+}
+
+#[test]
+fn icmp_write(rt: HostRuntime) -> Result<(), Fail> {
+    let first = Icmp::write(rt.alloc(), 8, 0, [0, 7, 0, 0], b"\xab");
+    let second = Icmp::write(rt.alloc(), 8, 0, [0, 7, 0, 0], b"\xab");
+    let octets = either(first, second)?;
+    let want = b"\x08\x00\x4c\xf8\x00\x07\x00\x00\xab";
+    eq_octets(&rt, "a message", octets.as_slice(), want);
+    Ok(())
+}
+
+/// A datagram whose time to live is over.
+const LATE: &[u8] =
+    b"\x45\x00\x00\x1e\x00\x00\x00\x00\x00\x11\xa5\xcd\x0a\x00\x00\x01\x0a\x00\x01\x02\x03\xe8\x00\x09\x00\x0a\xfe\xff\xe7\xe6";
+
+/// The error about it.
+const TIME_EXCEEDED: &[u8] =
+    b"\x45\x00\x00\x38\x00\x00\x00\x00\x40\x01\x66\xc3\x0a\x00\x00\x02\x0a\x00\x00\x01\x0b\x00\xf2\x04\x00\x00\x00\x00\x45\x00\x00\x1e\x00\x00\x00\x00\x00\x11\xa5\xcd\x0a\x00\x00\x01\x0a\x00\x01\x02\x03\xe8\x00\x09\x00\x0a\xfe\xff";
+
+/// The router of the trio.
+fn router(rt: &(impl Abort + AllocGlobal)) -> Result<Bench, Fail> {
+    match Bench::new(rt, network(rt.alloc(), TRIO)?, 1) {
+        Ok(bench) => Ok(bench),
+        Err(_) => Ok(Bench::new(rt, network(rt.alloc(), TRIO)?, 1)?),
+    }
+}
+
+/// What a node does with a packet that arrives, asked again where memory was refused.
+fn react_at_last(
+    rt: &(impl Abort + AllocGlobal),
+    bench: &mut Bench,
+    packet: &Packet,
+) -> Result<Reaction, AllocError> {
+    let first = bench.react(rt, Origin::Arrival(IfaceNo::new(1)), packet);
+    if first.is_ok() {
+        return first;
+    }
+    bench.react(rt, Origin::Arrival(IfaceNo::new(1)), packet)
+}
+
+/// A refused reaction counts nothing and takes no identification.
+#[test]
+fn react(rt: HostRuntime) -> Result<(), Fail> {
+    let mut bench = router(&rt)?;
+    let packet = packet_of(rt.alloc(), LATE)?;
+    let Reaction::Send(via, twin) = react_at_last(&rt, &mut bench, &packet)? else {
+        return Err("an error is sent".into());
+    };
+    eq_number(&rt, "interface", u64::from(via.number()), 1);
+    eq_octets(&rt, "the error", twin.packet.octets(), TIME_EXCEEDED);
+    eq_octets(&rt, "its twin", twin.copy.octets(), TIME_EXCEEDED);
+    eq_number(&rt, "ttl", bench.count(Counter::Ttl), 1);
+    eq_number(&rt, "originated", bench.count(Counter::Originated), 1);
+    Ok(())
+}
+
+/// The ring's part after so many steps, of which a refused one counts too.
+fn part_after(alloc: Global, topology: &Topology, steps: usize) -> Result<Part<SortedList>, Fail> {
+    let first = run_steps(alloc, topology, steps);
+    Ok(either(first, run_steps(alloc, topology, steps))?)
+}
+
+/// Records have these times.
+fn times_are(rt: &impl Abort, records: &[Record], times: &[u64]) {
+    eq_number(rt, "records", records.len() as u64, times.len() as u64);
+    for (found, want) in records.iter().zip(times) {
+        eq_number(rt, "a record", found.time.nanoseconds(), *want);
+    }
+}
+
+/// A node counted this twice.
+fn counts_two(rt: &impl Abort, part: &Part<SortedList>, node: u32, counter: Counter) {
+    let value = part.counter(NodeNo::new(node), counter);
+    assert!(rt; value == Some(2), "node {node}");
+}
+
+/// The ring's ten events, with one step more.
+#[test]
+fn part_step(rt: HostRuntime) -> Result<(), Fail> {
+    let topology = network(rt.alloc(), RING)?;
+    let part = part_after(rt.alloc(), &topology, 11)?;
+    times_are(
+        &rt,
+        part.trace(),
+        &[
+            0, 1_100_000, 1_100_000, 2_000_000, 2_200_000, 3_100_000, 3_100_000, 4_200_000,
+        ],
+    );
+    counts_two(&rt, &part, 0, Counter::Originated);
+    counts_two(&rt, &part, 1, Counter::Forwarded);
+    counts_two(&rt, &part, 2, Counter::Udp);
+    Ok(())
+}
+
+#[test]
+fn part_whole(rt: HostRuntime) -> Result<(), Fail> {
+    let topology = network(rt.alloc(), RING)?;
+    let first = one_list(rt.alloc(), &topology, topology.stop());
+    let second = one_list(rt.alloc(), &topology, topology.stop());
+    eq_number(&rt, "records", either(first, second)?.len() as u64, 8);
+    Ok(())
+}
+
+/// One echo request.
+const REQUEST: &str = r#"format = 1
+stop = 1
+mtu = 1500
+node = [ {name = "a", kind = "host", partition = 0} ]
+iface = [ {name = "a0", node = "a", address = "10.0.0.1", queue = 4},
+  {name = "a1", node = "a", address = "10.0.0.2", queue = 4} ]
+link = [ {a = "a0", b = "a1", rate = 8000000, delay = 0} ]
+source = [
+  {kind = "echo", node = "a", to = "10.0.0.2", ident = 1, size = 0, start = 0, interval = 1, count = 1} ]
+"#;
+
+/// The source of the request.
+fn requests(alloc: Global) -> Result<Source, Fail> {
+    let topology = network(alloc, REQUEST)?;
+    let number = SourceNo::new(0);
+    if topology.sources().is_empty() {
+        return Err("there is one source".into());
+    }
+    let first = Source::new(alloc, &topology, number);
+    Ok(either(first, Source::new(alloc, &topology, number))?)
+}
+
+/// The first packet of a source, asked for twice.
+fn first_of(alloc: Global, source: &Source) -> Result<(Time, SourcePacket), Fail> {
+    let first = source.next(alloc, 0);
+    match either(first, source.next(alloc, 0))? {
+        Some(packet) => Ok(packet),
+        None => Err("there is one packet".into()),
+    }
+}
+
+#[test]
+fn source_next(rt: HostRuntime) -> Result<(), Fail> {
+    let source = requests(rt.alloc())?;
+    let (time, packet) = first_of(rt.alloc(), &source)?;
+    eq_number(&rt, "time", time.nanoseconds(), 0);
+    let want = b"\x08\x00\xf7\xfe\x00\x01\x00\x00";
+    eq_octets(&rt, "a request", packet.packet().octets(), want);
+    Ok(())
+}
+
+/// The messages that a channel is told.
+const MESSAGES: &[(u64, u8)] = &[(10, 0), (11, 1), (12, 2), (13, 3), (14, 4)];
+
+/// A channel that knows nothing yet is told a message for each of its numbers. A refused one changes nothing.
+fn tell(
+    rt: &(impl Abort + AllocGlobal),
+    know: &mut Know,
+    number: usize,
+    message: (u64, u8),
+) -> Result<(), Fail> {
+    let (time, octet) = message;
+    let packet = packet_of(rt.alloc(), &[1, 2, octet])?;
+    let at = Time::from_nanoseconds(time);
+    let clock = know.clock().nanoseconds();
+    let mut answer = know.accept_data(number as u64, at, &packet);
+    if answer == Err(KnowFault::Memory) {
+        assert!(rt; number <= MESSAGES.len());
+        holds(rt, "as it was", is_known(know, &MESSAGES[..number], clock));
+        answer = know.accept_data(number as u64, at, &packet);
+    }
+    assert!(rt; answer == Ok(Accepted::New), "message {number}");
+    Ok(())
+}
+
+/// A channel that was told them all.
+fn told(rt: &(impl Abort + AllocGlobal)) -> Result<Know, Fail> {
+    let mut know = Know::new(rt.alloc());
+    for (number, message) in MESSAGES.iter().enumerate() {
+        tell(rt, &mut know, number, *message)?;
+    }
+    Ok(know)
+}
+
+#[test]
+fn know_accept_data(rt: HostRuntime) -> Result<(), Fail> {
+    let know = told(&rt)?;
+    holds(&rt, "all are known", is_known(&know, MESSAGES, 14));
+    Ok(())
+}
+
+#[test]
+fn know_copy(rt: HostRuntime) -> Result<(), Fail> {
+    let know = told(&rt)?;
+    let first = know.copy(rt.alloc());
+    let copy = either(first, know.copy(rt.alloc()))?;
+    holds(&rt, "all are known", is_known(&copy, MESSAGES, 14));
+    Ok(())
+}
+
+#[test]
+fn know_merge(rt: HostRuntime) -> Result<(), Fail> {
+    let know = told(&rt)?;
+    let mut late = Know::new(rt.alloc());
+    let mut merged = late.merge(&know);
+    if merged == Err(KnowFault::Memory) {
+        holds(&rt, "as it was", is_known(&late, &[], 0));
+        merged = late.merge(&know);
+    }
+    holds(&rt, "merged", merged == Ok(()));
+    holds(&rt, "all are known", is_known(&late, MESSAGES, 14));
+    Ok(())
+}

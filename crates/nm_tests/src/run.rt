@@ -1,0 +1,86 @@
+//! Runs of a part.
+
+ghost use Rattle.std.specs.Prelude.{ℕ, List, IfOk};
+ghost use Rattle.nm_forward.specs.State.{NodeStateValue};
+ghost use Rattle.nm_model.specs.Run.{State};
+ghost use Rattle.nm_sim.specs.Part.{Stands};
+
+use nm_base::{Key, Time};
+use nm_events::EventList;
+use nm_sim::Part;
+use nm_topology::Topology;
+use std::alloc::{AllocError, Global};
+
+/// Does the part's first event, if its time is before `before` and before the network's `stop`: its key, if one was done.
+///
+/// # Errors
+///
+/// `AllocError` where memory was refused. No part of the event was done then.
+fn step_before<L: EventList>(
+    alloc: Global,
+    topology: &Topology,
+    part: &mut Part<L>,
+    before: Time,
+) -> Result<Option<Key>, AllocError>
+    requires { (s : State (List ℕ) NodeStateValue) × Stands L.pending topology.now part.old s }
+    ensures { (s : State (List ℕ) NodeStateValue) × Stands L.pending topology.now part.new s }
+{
+    let stop = topology.stop();
+    let before = if before < stop { before } else { stop };
+    part.step(alloc, topology, before)
+}
+
+/// The part of the whole network after so many steps, of which a refused one counts too.
+///
+/// # Errors
+///
+/// `AllocError` where memory was refused at the start.
+pub fn run_steps<L: EventList + Drop>(
+    alloc: Global,
+    topology: &Topology,
+    count: usize,
+) -> Result<Part<L>, AllocError>
+    ensures { IfOk result (λ p. (s : State (List ℕ) NodeStateValue) × Stands L.pending topology.now p s) }
+{
+    let mut part = Part::start(alloc, topology)?;
+    for _ in 0..count {
+        let _done = step_before(alloc, topology, &mut part, topology.stop());
+    }
+    Ok(part)
+}
+
+/// What a step did, and what it left.
+#[derive(Drop, PartialEq, Eq)]
+pub struct Step {
+    /// The key of the event that was done.
+    pub done: Option<Key>,
+    /// The least time of what is to come.
+    pub least: Option<Time>,
+    /// How many records there are.
+    pub records: usize,
+}
+
+/// A step before each of these times, one after another.
+///
+/// # Errors
+///
+/// `AllocError` where memory was refused.
+pub fn steps_before<L: EventList + Drop>(
+    alloc: Global,
+    topology: &Topology,
+    befores: &[Time],
+) -> Result<Vec<Step>, AllocError> {
+    let mut part = Part::<L>::start(alloc, topology)?;
+    let mut steps = Vec::new(alloc);
+    for before in befores {
+        let done = step_before(alloc, topology, &mut part, *before)?;
+        let least = part.least();
+        let records = part.trace().len();
+        steps.push(Step {
+            done,
+            least,
+            records,
+        })?;
+    }
+    Ok(steps)
+}

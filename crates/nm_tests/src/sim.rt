@@ -1,0 +1,120 @@
+//! `nm_sim` and `nm_iface`: how long transmissions take, a step at a time, and what a part has not.
+
+use crate::run::{Step, steps_before};
+use crate::same::eq_number;
+use crate::texts::DUO;
+use nm_base::limits::{MAX_PACKET_OCTETS, MAX_RATE};
+use nm_base::{IfaceNo, Key, NodeNo, Place, SourceNo, Time};
+use nm_events::SortedList;
+use nm_forward::Counter;
+use nm_iface::transmission_time;
+use nm_sim::Part;
+use nm_topology::Topology;
+use std::process::Abort;
+use std::test::Fail;
+
+/// Rows of a rate, a count of octets, and the time that they take.
+fn take(rt: &impl Abort, rows: &[(u64, usize, u64)]) {
+    for (rate, octets, want) in rows {
+        let (rate, octets) = (*rate, *octets);
+        assert!(rt; rate >= 1);
+        assert!(rt; rate <= MAX_RATE);
+        assert!(rt; octets <= MAX_PACKET_OCTETS);
+        let found = transmission_time(rate, octets);
+        eq_number(rt, "a transmission", found, *want);
+    }
+}
+
+#[test]
+fn transmission_times(rt: HostRuntime) {
+    take(
+        &rt,
+        &[
+            (1_000_000_000_000, 1, 1),
+            (3_000, 1, 2_666_667),
+            (1_000, 65_535, 524_280_000_000),
+            (8_000_000, 100, 100_000),
+            (8_000_001, 100, 100_000),
+            (7_999_999, 100, 100_001),
+            (1_000_000_000_000, 125, 1),
+            (1_000_000_000_000, 126, 2),
+            (1, 65_535, 524_280_000_000_000),
+        ],
+    );
+}
+
+/// The first event at a place.
+fn first(time: u64, place: Place) -> Option<Key> {
+    Some(Key {
+        time: Time::from_nanoseconds(time),
+        place,
+        number: 0,
+    })
+}
+
+/// The key of the event that a step does, the least time of what is to come then, and how many records there are.
+type Row = (Option<Key>, Option<u64>, usize);
+
+/// Each of these steps, one after another, does and leaves what is said.
+fn do_and_leave(rt: &impl Abort, steps: &[Step], rows: &[Row]) {
+    assert!(rt; steps.len() == rows.len());
+    for (number, (step, (done, least, records))) in steps.iter().zip(rows).enumerate() {
+        let least = least.map(Time::from_nanoseconds);
+        assert!(rt; step.done == *done, "done by step {number}");
+        assert!(rt; step.least == least, "left by step {number}");
+        assert!(rt; step.records == *records, "records after step {number}");
+    }
+}
+
+/// An event at the very time before which a step is asked for is not done, and nothing changes.
+#[test]
+fn steps_of_one_packet(rt: HostRuntime) -> Result<(), Fail> {
+    let topology = Topology::read(rt.alloc(), DUO.as_bytes())?;
+    let source = first(0, Place::Fire(SourceNo::new(0)));
+    let complete = first(100_000, Place::Complete(IfaceNo::new(0)));
+    let arrive = first(1_100_000, Place::Arrive(IfaceNo::new(1)));
+    let befores = [
+        0, 0, 1, 0, 100_000, 100_001, 1_100_000, 10_000_000, 10_000_000,
+    ]
+    .map(Time::from_nanoseconds);
+    let steps = steps_before::<SortedList>(rt.alloc(), &topology, befores.as_slice())?;
+    do_and_leave(
+        &rt,
+        steps.as_slice(),
+        &[
+            (None, Some(0), 0),
+            (None, Some(0), 0),
+            (source, Some(100_000), 1),
+            (None, Some(100_000), 1),
+            (None, Some(100_000), 1),
+            (complete, Some(1_100_000), 1),
+            (None, Some(1_100_000), 1),
+            (arrive, None, 2),
+            (None, None, 2),
+        ],
+    );
+    Ok(())
+}
+
+/// Rows of a number, and of what is counted at the node and dropped at the interface with this number.
+fn counts_are(rt: &impl Abort, part: &Part<SortedList>, rows: &[(u32, Option<u64>)]) {
+    for (number, want) in rows {
+        let counted = part.counter(NodeNo::new(*number), Counter::Udp);
+        assert!(rt; counted == *want, "node {number}");
+        let dropped = part.dropped(IfaceNo::new(*number));
+        assert!(rt; dropped == *want, "interface {number}");
+    }
+}
+
+/// What a part has not is neither counted nor dropped there.
+#[test]
+fn not_there(rt: HostRuntime) -> Result<(), Fail> {
+    let topology = Topology::read(rt.alloc(), DUO.as_bytes())?;
+    let part = Part::<SortedList>::start(rt.alloc(), &topology)?;
+    counts_are(
+        &rt,
+        &part,
+        &[(0, Some(0)), (1, Some(0)), (2, None), (u32::MAX, None)],
+    );
+    Ok(())
+}

@@ -1,0 +1,45 @@
+//! A text with another piece in the place of one of its pieces.
+
+use std::alloc::Global;
+use std::io;
+
+/// A change of a text.
+#[derive(Drop)]
+pub struct Change {
+    /// Whether the piece is replaced wherever it stands, and not at its first place alone.
+    pub is_everywhere: bool,
+    /// The piece.
+    pub old: String,
+    /// What takes its place, if that was said yet.
+    pub new: Option<String>,
+}
+
+impl Change {
+    /// The text with the change made.
+    ///
+    /// # Errors
+    ///
+    /// Where the text does not have the piece, or nothing was to take its place.
+    fn made(&self, alloc: Global, text: &str) -> io::Result<String> {
+        let old = self.old.as_str();
+        let Some(new) = &self.new else {
+            return Err(io::Error::other("a piece with nothing in its place"));
+        };
+        if !text.contains(old) {
+            return Err(io::Error::other("the text has no such piece"));
+        }
+        if self.is_everywhere {
+            return Ok(text.replace(alloc, old, new.as_str())?);
+        }
+        Ok(text.replacen(alloc, old, new.as_str(), 1)?)
+    }
+}
+
+/// The text with these changes made, one after another.
+pub fn changed(alloc: Global, text: &str, changes: &[Change]) -> io::Result<String> {
+    let mut text = String::from_str(alloc, text)?;
+    for change in changes {
+        text = change.made(alloc, text.as_str())?;
+    }
+    Ok(text)
+}

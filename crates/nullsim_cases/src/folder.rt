@@ -1,0 +1,88 @@
+//! The files of a folder of cases.
+
+use crate::pair::run_pair;
+use crate::table::run_table;
+use crate::tally::Tally;
+use std::alloc::Global;
+use std::fs::DirEntry;
+use std::rt::Files;
+use std::{fs, io};
+
+/// The name of an entry of a folder.
+fn name_of<R: Files>(alloc: Global, entry: io::Result<DirEntry<R>>) -> io::Result<String>
+where
+    R: Drop,
+{
+    Ok(String::from_str(alloc, entry?.file_name())?)
+}
+
+/// The names in a folder, in their order.
+pub fn names_in<R: Files + AllocGlobal + Clone + Drop>(
+    rt: &R,
+    folder: &str,
+) -> io::Result<Vec<String>> {
+    let mut names = Vec::new(rt.alloc());
+    for entry in fs::read_dir(rt, folder)? {
+        names.push(name_of(rt.alloc(), entry)?)?;
+    }
+    names.sort_unstable();
+    Ok(names)
+}
+
+/// What is expected is run with its text, which has to be there.
+fn run_half<R: Files + AllocGlobal>(rt: &R, stem: &str) -> io::Result<Tally> {
+    let path = format!(in rt.alloc(); "{stem}.toml")?;
+    fs::metadata(rt, path.as_str())?;
+    Ok(Tally::new())
+}
+
+/// Runs the cases of the file at a path.
+fn run_file<R: Files + AllocGlobal + Print>(rt: &R, path: &str) -> io::Result<Tally> {
+    if path.ends_with(".cases") {
+        return run_table(rt, path);
+    }
+    if let Some(stem) = path.strip_suffix(".toml") {
+        return run_pair(rt, stem);
+    }
+    if let Some(stem) = path.strip_suffix(".expect") {
+        return run_half(rt, stem);
+    }
+    Err(io::Error::other("a file that is neither a pair nor a table"))
+}
+
+/// Runs the cases of a file of a folder, and prints what is wrong with the file.
+fn run_named<R: Files + AllocGlobal + Print>(
+    rt: &R,
+    folder: &str,
+    name: &str,
+) -> io::Result<Tally> {
+    let path = format!(in rt.alloc(); "cases/{folder}/{name}")?;
+    let tally = run_file(rt, path.as_str());
+    if let Err(error) = &tally {
+        println!(rt; "{path}: {error}")?;
+    }
+    tally
+}
+
+/// Runs the cases of these files of a folder.
+fn run_all<R: Files + AllocGlobal + Print>(
+    rt: &R,
+    folder: &str,
+    names: &[String],
+) -> io::Result<Tally> {
+    let mut tally = Tally::new();
+    for name in names {
+        tally.add(run_named(rt, folder, name.as_str())?);
+    }
+    Ok(tally)
+}
+
+/// Runs the cases of a folder.
+pub fn run_folder<R: Files + AllocGlobal + Print + Clone + Drop>(
+    rt: &R,
+    folder: &str,
+) -> io::Result<Tally> {
+    let path = format!(in rt.alloc(); "cases/{folder}")?;
+    let names = names_in(rt, path.as_str())?;
+    run_all(rt, folder, names.as_slice())
+}
