@@ -45,7 +45,7 @@ bench: bin/nullsim
 	done
 
 cases: bin/nullsim
-	@tools/cases.sh bin/nullsim $(if $(CASES),'$(CASES)',crates/nullsim_cases/data/networks crates/nullsim_cases/data/readings)
+	@tools/cases.sh bin/nullsim $(if $(CASES),'$(CASES)',crates/nullsim_cases/data/cases/networks crates/nullsim_cases/data/cases/readings)
 
 check-pcap: bin/nullsim
 	@tools/check-pcap bin/nullsim examples/*.toml
