@@ -256,7 +256,7 @@ fn one_octet(alloc: Global) -> Result<Packet, Fail> {
 }
 
 /// A node sends nothing of what a source hands over, and counts nothing.
-fn takes_nothing(
+fn does_nothing(
     rt: &(impl Abort + AllocGlobal),
     bench: &mut Bench,
     source: u32,
@@ -271,13 +271,23 @@ fn takes_nothing(
     Ok(())
 }
 
+/// A node of the trio takes nothing from a source.
+fn takes_nothing(
+    rt: &(impl Abort + AllocGlobal),
+    node: u32,
+    source: u32,
+    packet: &Packet,
+) -> Result<(), Fail> {
+    let mut bench = node_of_trio(rt, node)?;
+    Ok(does_nothing(rt, &mut bench, source, packet)?)
+}
+
 /// A node takes nothing from a source of another node, nor from one that isn't there.
 #[test]
 fn sources_are_of_one_node(rt: HostRuntime) -> Result<(), Fail> {
     let packet = one_octet(rt.alloc())?;
     for (node, source) in [(1, 0), (2, 0), (0, 3), (0, 6), (0, u32::MAX)] {
-        let mut bench = node_of_trio(&rt, node)?;
-        takes_nothing(&rt, &mut bench, source, &packet)?;
+        takes_nothing(&rt, node, source, &packet)?;
     }
     Ok(())
 }

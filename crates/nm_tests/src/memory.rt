@@ -132,17 +132,23 @@ fn react_at_last(
     bench.react(rt, Origin::Arrival(IfaceNo::new(1)), packet)
 }
 
+/// The error about the late datagram leaves by the interface that it came by.
+fn is_time_exceeded(rt: &impl Abort, reaction: &Reaction) {
+    let Reaction::Send(via, twin) = reaction else {
+        return holds(rt, "an error is sent", false);
+    };
+    eq_number(rt, "interface", u64::from(via.number()), 1);
+    eq_octets(rt, "the error", twin.packet.octets(), TIME_EXCEEDED);
+    eq_octets(rt, "its twin", twin.copy.octets(), TIME_EXCEEDED);
+}
+
 /// A refused reaction counts nothing and takes no identification.
 #[test]
 fn react(rt: HostRuntime) -> Result<(), Fail> {
     let mut bench = router(&rt)?;
     let packet = packet_of(rt.alloc(), LATE)?;
-    let Reaction::Send(via, twin) = react_at_last(&rt, &mut bench, &packet)? else {
-        return Err("an error is sent".into());
-    };
-    eq_number(&rt, "interface", u64::from(via.number()), 1);
-    eq_octets(&rt, "the error", twin.packet.octets(), TIME_EXCEEDED);
-    eq_octets(&rt, "its twin", twin.copy.octets(), TIME_EXCEEDED);
+    let reaction = react_at_last(&rt, &mut bench, &packet)?;
+    is_time_exceeded(&rt, &reaction);
     eq_number(&rt, "ttl", bench.count(Counter::Ttl), 1);
     eq_number(&rt, "originated", bench.count(Counter::Originated), 1);
     Ok(())
