@@ -13,7 +13,7 @@ use Rattle.nm_base.specs.declared.key.Key.{Key}
 use Rattle.nm_base.specs.Key.{key_cmp, key_cmp_total, key_cmp-IsAntisymmetric}
 use Rattle.nm_model.specs.EventList.{IsUpTo, first_of_list, least, is_before as is_before_time}
 use Rattle.nm_model.proofs.Keys.{up_to_time}
-use Rattle.nm_events.specs.Held.{Holds, events_of, is_before, is_early, kind_of}
+use Rattle.nm_events.specs.Held.{IsHeld, events_of, comes_before, is_early, kind_of}
 use Rattle.nm_events.specs.Queued.{first_key}
 use Rattle.nm_events.specs.declared.sorted_list.Kind.{Kind}
 use Rattle.nm_events.specs.declared.sorted_list.Kind.TheVariants as kind
@@ -51,7 +51,7 @@ either (inl p) s = inl p
 either (inr q) (inl p) = inl p
 either (inr q) (inr s) = inr (q, s)
 
-pub count_all : (cs : List (Key × ⊤)) (xs ys : List (Key × List ℕ)) (r n : ℕ) → Holds cs xs ys r n → len (all_of cs xs ys) ≡ length cs + length xs + length ys
+pub count_all : (cs : List (Key × ⊤)) (xs ys : List (Key × List ℕ)) (r n : ℕ) → IsHeld cs xs ys r n → len (all_of cs xs ys) ≡ length cs + length xs + length ys
 count_all cs xs ys r n h =
     let last : len (from_entries {R = key_cmp} (run delivered ys)) ≡ length ys
     = ap (λ l. len (from_entries {R = key_cmp} l)) (sym (append_nil (run delivered ys)))
@@ -70,13 +70,13 @@ count_all cs xs ys r n h =
     both q (inr b) = inr (none_append key_cmp q (run delivered xs) (run delivered ys) (none_run key_cmp delivered q xs b.0) (none_run key_cmp delivered q ys b.1))
 
 -- a key that comes before the first of a queue comes before all of it
-before_queue : {A : Type 0} (a : Key) (es : List (Key × A)) → is_sorted key_cmp es ≡ true → is_before (Some a) (first_key es) ≡ true → below_all key_cmp a es ≡ true
+before_queue : {A : Type 0} (a : Key) (es : List (Key × A)) → is_sorted key_cmp es ≡ true → comes_before (Some a) (first_key es) ≡ true → below_all key_cmp a es ≡ true
 before_queue a [] h e = refl
 before_queue a (x ∷ es) h e = ap (λ b. b && below_all key_cmp a es) e ∙ below_later key_cmp_total a x.0 es (less (key_cmp a x.0) e) (first _ _ h)
 
 -- and so does one that its first doesn't come before, where the two aren't the same
 behind_queue : {A B : Type 0} (d : Key × B) (ds : List (Key × B)) (es : List (Key × A)) → is_sorted key_cmp es ≡ true → Apart key_cmp es (d ∷ ds)
-    → is_before (first_key es) (Some d.0) ≡ false → below_all key_cmp d.0 es ≡ true
+    → comes_before (first_key es) (Some d.0) ≡ false → below_all key_cmp d.0 es ≡ true
 behind_queue d ds [] h apart e = refl
 behind_queue d ds (x ∷ es) h apart e =
     let g = greater (key_cmp x.0 d.0) e (unequal (eq_by_cmp key_cmp x.0 d.0) (not_in_other key_cmp_total x es (d ∷ ds) apart)) in
@@ -88,16 +88,16 @@ behind_queue d ds (x ∷ es) h apart e =
     unequal false n = refl
 
 -- what the kind of the least event says
-completion_is : (c x y : Option Key) → kind_of c x y ≡ kind.Completion → is_before c (cond (is_before x y) x y) ≡ true
-completion_is c x y = go (is_before c (cond (is_before x y) x y)) (is_before x y)
+completion_is : (c x y : Option Key) → kind_of c x y ≡ kind.Completion → comes_before c (cond (comes_before x y) x y) ≡ true
+completion_is c x y = go (comes_before c (cond (comes_before x y) x y)) (comes_before x y)
   where
     go : (a b : Bool) → cond a kind.Completion (cond b kind.Arrival kind.Source) ≡ kind.Completion → a ≡ true
     go true b e = refl
     go false true e = absurd cc
     go false false e = absurd cc
 
-arrival_is : (c x y : Option Key) → kind_of c x y ≡ kind.Arrival → (is_before x y ≡ true) × (is_before c x ≡ false)
-arrival_is c x y = go (is_before x y)
+arrival_is : (c x y : Option Key) → kind_of c x y ≡ kind.Arrival → (comes_before x y ≡ true) × (comes_before c x ≡ false)
+arrival_is c x y = go (comes_before x y)
   where
     not_first : (a : Bool) → cond a kind.Completion kind.Arrival ≡ kind.Arrival → a ≡ false
     not_first true e = absurd cc
@@ -107,12 +107,12 @@ arrival_is c x y = go (is_before x y)
     never true e = absurd cc
     never false e = absurd cc
 
-    go : (b : Bool) → cond (is_before c (cond b x y)) kind.Completion (cond b kind.Arrival kind.Source) ≡ kind.Arrival → (b ≡ true) × (is_before c x ≡ false)
-    go true e = (refl, not_first (is_before c x) e)
-    go false e = absurd (never (is_before c y) e)
+    go : (b : Bool) → cond (comes_before c (cond b x y)) kind.Completion (cond b kind.Arrival kind.Source) ≡ kind.Arrival → (b ≡ true) × (comes_before c x ≡ false)
+    go true e = (refl, not_first (comes_before c x) e)
+    go false e = absurd (never (comes_before c y) e)
 
-source_is : (c x y : Option Key) → kind_of c x y ≡ kind.Source → (is_before x y ≡ false) × (is_before c y ≡ false)
-source_is c x y = go (is_before x y)
+source_is : (c x y : Option Key) → kind_of c x y ≡ kind.Source → (comes_before x y ≡ false) × (comes_before c y ≡ false)
+source_is c x y = go (comes_before x y)
   where
     not_first : (a : Bool) → cond a kind.Completion kind.Source ≡ kind.Source → a ≡ false
     not_first true e = absurd cc
@@ -122,30 +122,30 @@ source_is c x y = go (is_before x y)
     never true e = absurd cc
     never false e = absurd cc
 
-    go : (b : Bool) → cond (is_before c (cond b x y)) kind.Completion (cond b kind.Arrival kind.Source) ≡ kind.Source → (b ≡ false) × (is_before c y ≡ false)
-    go true e = absurd (never (is_before c x) e)
-    go false e = (refl, not_first (is_before c y) e)
+    go : (b : Bool) → cond (comes_before c (cond b x y)) kind.Completion (cond b kind.Arrival kind.Source) ≡ kind.Source → (b ≡ false) × (comes_before c y ≡ false)
+    go true e = absurd (never (comes_before c x) e)
+    go false e = (refl, not_first (comes_before c y) e)
 
 -- a completion that is the least comes before the other queues
 completion_before : (c : Key) (xs ys : List (Key × List ℕ)) → is_sorted key_cmp xs ≡ true → is_sorted key_cmp ys ≡ true → Apart key_cmp xs ys
-    → is_before (Some c) (cond (is_before (first_key xs) (first_key ys)) (first_key xs) (first_key ys)) ≡ true
+    → comes_before (Some c) (cond (comes_before (first_key xs) (first_key ys)) (first_key xs) (first_key ys)) ≡ true
     → (below_all key_cmp c xs ≡ true) × (below_all key_cmp c ys ≡ true)
 completion_before c [] ys h i apart e = (refl, before_queue c ys i e)
-completion_before c (x ∷ xs) ys h i apart e = go (is_before (Some x.0) (first_key ys)) refl e
+completion_before c (x ∷ xs) ys h i apart e = go (comes_before (Some x.0) (first_key ys)) refl e
   where
-    behind : (ys : List (Key × List ℕ)) → is_sorted key_cmp ys ≡ true → Apart key_cmp (x ∷ xs) ys → is_before (Some x.0) (first_key ys) ≡ false
-        → is_before (Some c) (first_key ys) ≡ true → below_all key_cmp c (x ∷ xs) ≡ true
+    behind : (ys : List (Key × List ℕ)) → is_sorted key_cmp ys ≡ true → Apart key_cmp (x ∷ xs) ys → comes_before (Some x.0) (first_key ys) ≡ false
+        → comes_before (Some c) (first_key ys) ≡ true → below_all key_cmp c (x ∷ xs) ≡ true
     behind [] i apart f e = absurd (true≢false f)
     behind (y ∷ ys) i apart f e =
         below_later key_cmp_total c y.0 (x ∷ xs) (less (key_cmp c y.0) e) (behind_queue y ys (x ∷ xs) h apart f)
 
-    go : (b : Bool) → is_before (Some x.0) (first_key ys) ≡ b → is_before (Some c) (cond b (Some x.0) (first_key ys)) ≡ true
+    go : (b : Bool) → comes_before (Some x.0) (first_key ys) ≡ b → comes_before (Some c) (cond b (Some x.0) (first_key ys)) ≡ true
         → (below_all key_cmp c (x ∷ xs) ≡ true) × (below_all key_cmp c ys ≡ true)
     go true f e = (before_queue c (x ∷ xs) h e, below_later key_cmp_total c x.0 ys (less (key_cmp c x.0) e) (before_queue x.0 ys i f))
     go false f e = (behind ys i apart f e, before_queue c ys i e)
 
 -- the completion that is taken is the least event, and the others are left
-completion_first : (c : Key × ⊤) (cs : List (Key × ⊤)) (xs ys : List (Key × List ℕ)) (r n : ℕ) → Holds (c ∷ cs) xs ys r n
+completion_first : (c : Key × ⊤) (cs : List (Key × ⊤)) (xs ys : List (Key × List ℕ)) (r n : ℕ) → IsHeld (c ∷ cs) xs ys r n
     → kind_of (Some c.0) (first_key xs) (first_key ys) ≡ kind.Completion
     → (Some (c.0, Completion) ≡ least (all_of (c ∷ cs) xs ys)) × (all_of cs xs ys ≡ remove (all_of (c ∷ cs) xs ys) c.0)
 unfolding least
@@ -156,7 +156,7 @@ completion_first c cs xs ys r n h e =
       rest_among key_cmp_total key_cmp-IsAntisymmetric completed [] (beside_completions cs xs ys) c cs h.completions refl others,
     )
 
-arrival_first : (x : Key × List ℕ) (cs : List (Key × ⊤)) (xs ys : List (Key × List ℕ)) (r n : ℕ) → Holds cs (x ∷ xs) ys r n
+arrival_first : (x : Key × List ℕ) (cs : List (Key × ⊤)) (xs ys : List (Key × List ℕ)) (r n : ℕ) → IsHeld cs (x ∷ xs) ys r n
     → kind_of (first_key cs) (Some x.0) (first_key ys) ≡ kind.Arrival
     → (Some (x.0, Delivery x.1) ≡ least (all_of cs (x ∷ xs) ys)) × (all_of cs xs ys ≡ remove (all_of cs (x ∷ xs) ys) x.0)
 unfolding least
@@ -168,7 +168,7 @@ arrival_first x cs xs ys r n h e =
       rest_among key_cmp_total key_cmp-IsAntisymmetric delivered (run completed cs) (run delivered ys) x xs h.arrivals before behind,
     )
 
-source_first : (y : Key × List ℕ) (cs : List (Key × ⊤)) (xs ys : List (Key × List ℕ)) (r n : ℕ) → Holds cs xs (y ∷ ys) r n
+source_first : (y : Key × List ℕ) (cs : List (Key × ⊤)) (xs ys : List (Key × List ℕ)) (r n : ℕ) → IsHeld cs xs (y ∷ ys) r n
     → kind_of (first_key cs) (first_key xs) (Some y.0) ≡ kind.Source
     → (Some (y.0, Delivery y.1) ≡ least (all_of cs xs (y ∷ ys))) × (all_of cs xs ys ≡ remove (all_of cs xs (y ∷ ys)) y.0)
 unfolding least
@@ -195,23 +195,23 @@ none_first (c ∷ cs) (x ∷ xs) e = absurd (true≢false (source_is (Some c.0) 
 abbrev kind_in : List (Key × ⊤) → List (Key × List ℕ) → List (Key × List ℕ) → Kind
 kind_in cs xs ys = kind_of (first_key cs) (first_key xs) (first_key ys)
 
-pub completion_taken : (cs new : List (Key × ⊤)) (xs ys : List (Key × List ℕ)) (r n : ℕ) (c : Key × ⊤) → Holds cs xs ys r n → kind_in cs xs ys ≡ kind.Completion
+pub completion_taken : (cs new : List (Key × ⊤)) (xs ys : List (Key × List ℕ)) (r n : ℕ) (c : Key × ⊤) → IsHeld cs xs ys r n → kind_in cs xs ys ≡ kind.Completion
     → cs ≡ c ∷ new → (Some (c.0, Completion) ≡ least (all_of cs xs ys)) × (all_of new xs ys ≡ remove (all_of cs xs ys) c.0)
 completion_taken cs new xs ys r n c h e is =
     subst (λ l. (Some (c.0, Completion) ≡ least (all_of l xs ys)) × (all_of new xs ys ≡ remove (all_of l xs ys) c.0)) (sym is)
-    (completion_first c new xs ys r n (subst (λ l. Holds l xs ys r n) is h) (ap (λ l. kind_in l xs ys) (sym is) ∙ e))
+    (completion_first c new xs ys r n (subst (λ l. IsHeld l xs ys r n) is h) (ap (λ l. kind_in l xs ys) (sym is) ∙ e))
 
-pub arrival_taken : (cs : List (Key × ⊤)) (xs new ys : List (Key × List ℕ)) (r n : ℕ) (x : Key × List ℕ) → Holds cs xs ys r n → kind_in cs xs ys ≡ kind.Arrival
+pub arrival_taken : (cs : List (Key × ⊤)) (xs new ys : List (Key × List ℕ)) (r n : ℕ) (x : Key × List ℕ) → IsHeld cs xs ys r n → kind_in cs xs ys ≡ kind.Arrival
     → xs ≡ x ∷ new → (Some (x.0, Delivery x.1) ≡ least (all_of cs xs ys)) × (all_of cs new ys ≡ remove (all_of cs xs ys) x.0)
 arrival_taken cs xs new ys r n x h e is =
     subst (λ l. (Some (x.0, Delivery x.1) ≡ least (all_of cs l ys)) × (all_of cs new ys ≡ remove (all_of cs l ys) x.0)) (sym is)
-    (arrival_first x cs new ys r n (subst (λ l. Holds cs l ys r n) is h) (ap (λ l. kind_in cs l ys) (sym is) ∙ e))
+    (arrival_first x cs new ys r n (subst (λ l. IsHeld cs l ys r n) is h) (ap (λ l. kind_in cs l ys) (sym is) ∙ e))
 
-pub source_taken : (cs : List (Key × ⊤)) (xs ys new : List (Key × List ℕ)) (r n : ℕ) (y : Key × List ℕ) → Holds cs xs ys r n → kind_in cs xs ys ≡ kind.Source
+pub source_taken : (cs : List (Key × ⊤)) (xs ys new : List (Key × List ℕ)) (r n : ℕ) (y : Key × List ℕ) → IsHeld cs xs ys r n → kind_in cs xs ys ≡ kind.Source
     → ys ≡ y ∷ new → (Some (y.0, Delivery y.1) ≡ least (all_of cs xs ys)) × (all_of cs xs new ≡ remove (all_of cs xs ys) y.0)
 source_taken cs xs ys new r n y h e is =
     subst (λ l. (Some (y.0, Delivery y.1) ≡ least (all_of cs xs l)) × (all_of cs xs new ≡ remove (all_of cs xs l) y.0)) (sym is)
-    (source_first y cs xs new r n (subst (λ l. Holds cs xs l r n) is h) (ap (λ l. kind_in cs xs l) (sym is) ∙ e))
+    (source_first y cs xs new r n (subst (λ l. IsHeld cs xs l r n) is h) (ap (λ l. kind_in cs xs l) (sym is) ∙ e))
 
 none_of : {A : Type 0} (es : List A) → None ≡ first_of_list es → es ≡ []
 none_of [] e = refl
@@ -222,19 +222,19 @@ none_taken cs xs ys e none =
     subst (λ l. None ≡ least (all_of cs xs l)) (sym (none_of ys none)) (none_first cs xs (ap (kind_of (first_key cs) (first_key xs)) (ap (option_map (λ e. e.0)) none) ∙ e))
 
 -- the least key
-pub least_completion : (cs : List (Key × ⊤)) (xs ys : List (Key × List ℕ)) (r n : ℕ) → Holds cs xs ys r n → kind_in cs xs ys ≡ kind.Completion
+pub least_completion : (cs : List (Key × ⊤)) (xs ys : List (Key × List ℕ)) (r n : ℕ) → IsHeld cs xs ys r n → kind_in cs xs ys ≡ kind.Completion
     → first_key cs ≡ option_map (λ e. e.0) (least (all_of cs xs ys))
 unfolding least
 least_completion [] xs ys r n h e = absurd (true≢false (sym (completion_is None (first_key xs) (first_key ys) e)))
 least_completion (c ∷ cs) xs ys r n h e = ap (option_map (λ e. e.0)) (completion_first c cs xs ys r n h e).0
 
-pub least_arrival : (cs : List (Key × ⊤)) (xs ys : List (Key × List ℕ)) (r n : ℕ) → Holds cs xs ys r n → kind_in cs xs ys ≡ kind.Arrival
+pub least_arrival : (cs : List (Key × ⊤)) (xs ys : List (Key × List ℕ)) (r n : ℕ) → IsHeld cs xs ys r n → kind_in cs xs ys ≡ kind.Arrival
     → first_key xs ≡ option_map (λ e. e.0) (least (all_of cs xs ys))
 unfolding least
 least_arrival cs [] ys r n h e = absurd (true≢false (sym (arrival_is (first_key cs) None (first_key ys) e).0))
 least_arrival cs (x ∷ xs) ys r n h e = ap (option_map (λ e. e.0)) (arrival_first x cs xs ys r n h e).0
 
-pub least_source : (cs : List (Key × ⊤)) (xs ys : List (Key × List ℕ)) (r n : ℕ) → Holds cs xs ys r n → kind_in cs xs ys ≡ kind.Source
+pub least_source : (cs : List (Key × ⊤)) (xs ys : List (Key × List ℕ)) (r n : ℕ) → IsHeld cs xs ys r n → kind_in cs xs ys ≡ kind.Source
     → first_key ys ≡ option_map (λ e. e.0) (least (all_of cs xs ys))
 unfolding least
 least_source cs xs [] r n h e = ap (option_map (λ e. e.0)) (none_first cs xs e)
@@ -260,7 +260,7 @@ either_second : (a b : Bool) → (a ≡ true → b ≡ true) → a || b ≡ b
 either_second true b h = sym (h refl)
 either_second false b h = refl
 
-completion_due : (t : ℕ) (cs : List (Key × ⊤)) (xs ys : List (Key × List ℕ)) (r n : ℕ) → Holds cs xs ys r n → kind_in cs xs ys ≡ kind.Completion
+completion_due : (t : ℕ) (cs : List (Key × ⊤)) (xs ys : List (Key × List ℕ)) (r n : ℕ) → IsHeld cs xs ys r n → kind_in cs xs ys ≡ kind.Completion
     → (is_early t (first_key cs) || is_early t (first_key xs)) || is_early t (first_key ys) ≡ is_before_time t (least (all_of cs xs ys))
 completion_due t [] xs ys r n h e = absurd (true≢false (sym (completion_is None (first_key xs) (first_key ys) e)))
 completion_due t (c ∷ cs) xs ys r n h e =
@@ -269,7 +269,7 @@ completion_due t (c ∷ cs) xs ys r n h e =
     ∙ either_first (ltb c.0.time t) (is_early t (first_key ys)) (early_first t c.0 ys before.1)
     ∙ ap (is_before_time t) (completion_first c cs xs ys r n h e).0
 
-arrival_due : (t : ℕ) (cs : List (Key × ⊤)) (xs ys : List (Key × List ℕ)) (r n : ℕ) → Holds cs xs ys r n → kind_in cs xs ys ≡ kind.Arrival
+arrival_due : (t : ℕ) (cs : List (Key × ⊤)) (xs ys : List (Key × List ℕ)) (r n : ℕ) → IsHeld cs xs ys r n → kind_in cs xs ys ≡ kind.Arrival
     → (is_early t (first_key cs) || is_early t (first_key xs)) || is_early t (first_key ys) ≡ is_before_time t (least (all_of cs xs ys))
 arrival_due t cs [] ys r n h e = absurd (true≢false (sym (arrival_is (first_key cs) None (first_key ys) e).0))
 arrival_due t cs (x ∷ xs) ys r n h e =
@@ -286,7 +286,7 @@ none_due t (c ∷ cs) [] e = absurd cc
 none_due t [] (x ∷ xs) e = absurd cc
 none_due t (c ∷ cs) (x ∷ xs) e = absurd (true≢false (source_is (Some c.0) (Some x.0) None e).0)
 
-source_due : (t : ℕ) (cs : List (Key × ⊤)) (xs ys : List (Key × List ℕ)) (r n : ℕ) → Holds cs xs ys r n → kind_in cs xs ys ≡ kind.Source
+source_due : (t : ℕ) (cs : List (Key × ⊤)) (xs ys : List (Key × List ℕ)) (r n : ℕ) → IsHeld cs xs ys r n → kind_in cs xs ys ≡ kind.Source
     → (is_early t (first_key cs) || is_early t (first_key xs)) || is_early t (first_key ys) ≡ is_before_time t (least (all_of cs xs ys))
 source_due t cs xs [] r n h e = none_due t cs xs e
 source_due t cs xs (y ∷ ys) r n h e =
@@ -300,7 +300,7 @@ source_due t cs xs (y ∷ ys) r n h e =
     either_of true b f g e = f refl
     either_of false b f g e = g e
 
-pub due : (t : ℕ) (cs : List (Key × ⊤)) (xs ys : List (Key × List ℕ)) (r n : ℕ) → Holds cs xs ys r n
+pub due : (t : ℕ) (cs : List (Key × ⊤)) (xs ys : List (Key × List ℕ)) (r n : ℕ) → IsHeld cs xs ys r n
     → (is_early t (first_key cs) || is_early t (first_key xs)) || is_early t (first_key ys) ≡ is_before_time t (least (all_of cs xs ys))
 due t cs xs ys r n h = go (kind_in cs xs ys) refl
   where
@@ -342,10 +342,10 @@ length_put : {A : Type 0} (k : Key) (a : A) (es : List (Key × A)) → is_sorted
 length_put k a es h none =
     length-put key_cmp key_cmp_total k a es (truth _ h) ∙ ap (λ r. cond (is_some r) (length es) (length es + 1)) none
 
-pub reserved : (cs new_cs : List (Key × ⊤)) (xs new_xs ys new_ys : List (Key × List ℕ)) (r n count m : ℕ) → Holds cs xs ys r n
-    → new_cs ≡ cs → new_xs ≡ xs → new_ys ≡ ys → length cs + length xs + length ys + count ≤ m → Holds new_cs new_xs new_ys count m
+pub reserved : (cs new_cs : List (Key × ⊤)) (xs new_xs ys new_ys : List (Key × List ℕ)) (r n count m : ℕ) → IsHeld cs xs ys r n
+    → new_cs ≡ cs → new_xs ≡ xs → new_ys ≡ ys → length cs + length xs + length ys + count ≤ m → IsHeld new_cs new_xs new_ys count m
 reserved cs new_cs xs new_xs ys new_ys r n count m h a b c fits =
-    subst (λ l. Holds l new_xs new_ys count m) (sym a) (subst (λ l. Holds cs l new_ys count m) (sym b) (subst (λ l. Holds cs xs l count m) (sym c)
+    subst (λ l. IsHeld l new_xs new_ys count m) (sym a) (subst (λ l. IsHeld cs l new_ys count m) (sym b) (subst (λ l. IsHeld cs xs l count m) (sym c)
     record {
       completions = h.completions;
       arrivals = h.arrivals;
@@ -358,10 +358,10 @@ reserved cs new_cs xs new_xs ys new_ys r n count m h a b c fits =
 
 -- what holds once an event was put
 pub record WasPut (cs : List (Key × ⊤)) (xs ys : List (Key × List ℕ)) (room capacity : ℕ) (before : FinMap key_cmp (Event (List ℕ))) (k : Key) (e : Event (List ℕ)) : Type 0 where
-  pub holds : Holds cs xs ys room capacity
+  pub holds : IsHeld cs xs ys room capacity
   pub pending : all_of cs xs ys ≡ insert before k e
 
-module _ (k : Key) (cs : List (Key × ⊤)) (xs ys : List (Key × List ℕ)) (r n m : ℕ) (h : Holds cs xs ys r n) (fresh : get (all_of cs xs ys) k ≡ None)
+module _ (k : Key) (cs : List (Key × ⊤)) (xs ys : List (Key × List ℕ)) (r n m : ℕ) (h : IsHeld cs xs ys r n) (fresh : get (all_of cs xs ys) k ≡ None)
     (room : 1 ≤ r) (more : n ≤ m) where
   pub completion_put : (new : List (Key × ⊤)) → new ≡ put key_cmp k tt cs → WasPut new xs ys (r - 1) m (all_of cs xs ys) k Completion
   completion_put new is =

@@ -30,7 +30,7 @@ abbrev pub AreApart : {A B : Type 0} → List (Key × A) → List (Key × B) →
 AreApart xs ys = (key : Key) → (find key_cmp key xs ≡ None) ⊎ (find key_cmp key ys ≡ None)
 
 -- each in the order of their keys, which they do not share, and with room for so many more
-pub record Holds (cs : List (Key × ⊤)) (xs ys : List (Key × List ℕ)) (room capacity : ℕ) : Type 0 where
+pub record IsHeld (cs : List (Key × ⊤)) (xs ys : List (Key × List ℕ)) (room capacity : ℕ) : Type 0 where
   pub completions : is_sorted key_cmp cs ≡ true
   pub arrivals : is_sorted key_cmp xs ≡ true
   pub sources : is_sorted key_cmp ys ≡ true
@@ -40,14 +40,14 @@ pub record Holds (cs : List (Key × ⊤)) (xs ys : List (Key × List ℕ)) (room
   pub fits : length cs + length xs + length ys + room ≤ capacity
 
 -- whether a key comes before another, where none comes after all
-abbrev pub is_before : Option Key → Option Key → Bool
-is_before None b = false
-is_before (Some a) None = true
-is_before (Some a) (Some b) = is_lt (key_cmp a b)
+abbrev pub comes_before : Option Key → Option Key → Bool
+comes_before None b = false
+comes_before (Some a) None = true
+comes_before (Some a) (Some b) = is_lt (key_cmp a b)
 
 -- of which kind the least of the first completion, arrival and packet of a source is
 abbrev pub kind_of : Option Key → Option Key → Option Key → Kind
-kind_of c x y = cond (is_before c (cond (is_before x y) x y)) kind.Completion (cond (is_before x y) kind.Arrival kind.Source)
+kind_of c x y = cond (comes_before c (cond (comes_before x y) x y)) kind.Completion (cond (comes_before x y) kind.Arrival kind.Source)
 
 abbrev pub least_kind : Held → Kind
 least_kind h = kind_of (first_key h.completions) (first_key h.arrivals) (first_key h.sources)

@@ -2,7 +2,7 @@
 
 ghost use Rattle.std.specs.Prelude.{◌≡◌, ◌+◌, ◌==◌};
 ghost use Rattle.std.specs.Option.{option_map};
-ghost use Rattle.nm_events.specs.Held.{is_before as comes_before, is_early, least_kind};
+ghost use Rattle.nm_events.specs.Held.{comes_before, is_early, least_kind};
 
 use crate::event_list::EventList;
 use crate::key_queue::KeyQueue;
@@ -34,7 +34,7 @@ pub struct SortedList {
 
 impl Model for SortedList {
     ghost use Rattle.std.specs.Prelude.{min};
-    ghost use Rattle.nm_events.specs.Held.{Held, Holds};
+    ghost use Rattle.nm_events.specs.Held.{Held, IsHeld};
 
     ghost Value = { Held };
 
@@ -45,7 +45,7 @@ impl Model for SortedList {
       room = s.room;
     } };
 
-    ghost invariant = { λ s. Holds s.completions.entries s.arrivals.entries s.sources.entries s.room
+    ghost invariant = { λ s. IsHeld s.completions.entries s.arrivals.entries s.sources.entries s.room
         (min (min s.completions.capacity s.arrivals.capacity) s.sources.capacity) };
 }
 

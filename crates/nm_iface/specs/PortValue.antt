@@ -23,9 +23,9 @@ abbrev pub takes : ℕ → List ℕ → ℕ
 takes rate packet = transmission_time rate (max 1 (length packet))
 
 -- a count stops at the greatest that its type holds
-abbrev pub counted : ℕ → ℕ
-counted n = min n (2 ^ 64 - 1)
+abbrev pub saturated : ℕ → ℕ
+saturated n = min n (2 ^ 64 - 1)
 
 -- the port after, with memory for so many packets
 abbrev pub with_port : PortValue → Port (List ℕ) → ℕ → PortValue
-with_port p after room = record p { busy = after.busy; dropped = counted after.dropped; room = room }
+with_port p after room = record p { busy = after.busy; dropped = saturated after.dropped; room = room }

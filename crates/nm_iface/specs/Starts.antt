@@ -7,7 +7,7 @@ use Rattle.nm_iface.specs.declared.port.Offered.TheVariants.{Started, Queued, Dr
 use Rattle.nm_iface.specs.PortValue.{takes}
 
 -- of this packet at this time, over a link with this rate and delay
-pub record IsStart (rate delay now : ℕ) (octets : List ℕ) (s : Start) : Type 0 where
+pub record IsTransmission (rate delay now : ℕ) (octets : List ℕ) (s : Start) : Type 0 where
   pub packet : s.twin.packet ≡ octets
   pub completes : s.completes ≡ now + takes rate octets
   pub arrives : s.arrives ≡ now + takes rate octets + delay

@@ -4,7 +4,7 @@ ghost use Rattle.std.specs.Prelude.{◌≡◌, ℕ, ◌+◌, ◌≤◌, if◌the
 ghost use Rattle.nm_base.specs.declared.limits.TheConstants.{MAX_DELAY, MAX_RATE, MAX_TIME};
 ghost use Rattle.nm_model.specs.Port.{offered, completed, is_refused};
 ghost use Rattle.nm_iface.specs.PortValue.{has_room, takes, with_port};
-ghost use Rattle.nm_iface.specs.Starts.{IsStart, handed_back, packet_started, start_in};
+ghost use Rattle.nm_iface.specs.Starts.{IsTransmission, handed_back, packet_started, start_in};
 
 use crate::transmission::transmission_time;
 use nm_base::{Time, Twin};
@@ -128,7 +128,7 @@ impl Port {
             self.old.dropped self.old.busy).0 self.new.room }
         ensures packet { packet_started (start_in result) ≡ (offered (has_room self.old.limit) (takes self.old.rate) now
             twin.packet self.old.dropped self.old.busy).1 }
-        ensures start { IfSome (start_in result) (IsStart self.old.rate self.old.delay now twin.packet) }
+        ensures start { IfSome (start_in result) (IsTransmission self.old.rate self.old.delay now twin.packet) }
         ensures back { handed_back result ≡ if is_refused (has_room self.old.limit) twin.packet self.old.busy then Some twin else None }
         ensures left { self.old.room ≤ self.new.room + 1 }
     {
@@ -153,7 +153,7 @@ impl Port {
         ensures port { self.new ≡ with_port self.old
             (completed (takes self.old.rate) now self.old.dropped self.old.busy).0 self.new.room }
         ensures packet { packet_started result ≡ (completed (takes self.old.rate) now self.old.dropped self.old.busy).1 }
-        ensures start { IfSome result (λ s. IsStart self.old.rate self.old.delay now s.twin.packet s) }
+        ensures start { IfSome result (λ s. IsTransmission self.old.rate self.old.delay now s.twin.packet s) }
         ensures room { self.old.room ≤ self.new.room }
     {
         match self.waiting.pop_front() {
@@ -183,7 +183,7 @@ fn transmission(rate: u64, delay: u64, now: Time, twin: Twin) -> Start
     requires greatest { rate ≤ MAX_RATE }
     requires delay { delay ≤ MAX_DELAY }
     requires now { now ≤ MAX_TIME }
-    ensures { IsStart rate delay now twin.packet result }
+    ensures { IsTransmission rate delay now twin.packet result }
 {
     let completes = now.nanoseconds() + transmission_time(rate, twin.packet.octet_count());
     Start {

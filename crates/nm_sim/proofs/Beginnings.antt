@@ -14,17 +14,17 @@ use Rattle.nm_model.specs.Run.{start_events, sent_after}
 use Rattle.nm_iface.specs.declared.port.Start.{Start}
 use Rattle.nm_sim.specs.Network.{net_of, far_from}
 use Rattle.nm_sim.specs.Effects.{StartsAt}
-use Rattle.nm_sim.specs.Timelines.{AreFresh, TimelineValue, Told, everywhere}
-use Rattle.nm_sim.proofs.Stands.{set_here, set_there}
+use Rattle.nm_sim.specs.Timelines.{AreFresh, TimelineValue, TimelineRepresents, everywhere}
+use Rattle.nm_sim.proofs.Represents.{set_here, set_there}
 
 pub peer_is : (t : NetworkValue) (i : ℕ) (x : IfaceValue) → slice_get t.ifaces i ≡ Some x → (net_of t).peer i ≡ x.far.peer
 unfolding net_of
 peer_is t i x e = ap (λ o. (far_from i o).peer) e
 
-module _ {L : Type 0} (t : NetworkValue) (line : TimelineValue L) (time : ℕ) (sent : ℕ → List (ℕ × List ℕ)) (told : Told t line sent) (i : ℕ) (st : Start) (begins : StartsAt t time (i, st))
+module _ {L : Type 0} (t : NetworkValue) (line : TimelineValue L) (time : ℕ) (sent : ℕ → List (ℕ × List ℕ)) (numbered : TimelineRepresents t line sent) (i : ℕ) (st : Start) (begins : StartsAt t time (i, st))
     (p : ℕ) (peer : (net_of t).peer i ≡ p) (there : p < length t.ifaces) where
   number_is : slice_index line.sent p ≡ length (sent ((net_of t).peer i))
-  number_is = told.numbers p there ∙ ap (λ c. length (sent c)) (sym peer)
+  number_is = numbered.numbers p there ∙ ap (λ c. length (sent c)) (sym peer)
 
   completes_is : st.completes ≡ time + (net_of t).tx i st.twin.packet
   unfolding net_of
@@ -55,10 +55,10 @@ module _ {L : Type 0} (t : NetworkValue) (line : TimelineValue L) (time : ℕ) (
       → after ≡ schedule everywhere (start_events (net_of t) time sent (Some (i, st.twin.packet))) pending
   begun_events pending after e = e ∙ λ k. insert (insert pending (arrival_key k) (Delivery st.twin.packet)) (completion_key k) Completion
 
-  pub begun_told : (after : TimelineValue L) → after.sent ≡ slice_set line.sent p (slice_index line.sent p + 1)
-      → Told t after (sent_after (net_of t) time sent (Some (i, st.twin.packet)))
-  begun_told after e = record {
-    count = ap length e ∙ length-set line.sent p (slice_index line.sent p + 1) ∙ told.count;
+  pub begun_numbered : (after : TimelineValue L) → after.sent ≡ slice_set line.sent p (slice_index line.sent p + 1)
+      → TimelineRepresents t after (sent_after (net_of t) time sent (Some (i, st.twin.packet)))
+  begun_numbered after e = record {
+    count = ap length e ∙ length-set line.sent p (slice_index line.sent p + 1) ∙ numbered.count;
     numbers = λ c h. ap (λ l. slice_index l c) e ∙ go c h (c == p) refl;
   }
     where
@@ -70,7 +70,7 @@ module _ {L : Type 0} (t : NetworkValue) (line : TimelineValue L) (time : ℕ) (
       go c h true q =
           let e1 : c ≡ p = grind (arith, nat_tests, q) in
           let put = sent ((net_of t).peer i) ++ message ∷ [] in
-          let within : p < length line.sent = omega (arith, there, told.count) in
+          let within : p < length line.sent = omega (arith, there, numbered.count) in
           ap (λ j. slice_index (slice_set line.sent p (slice_index line.sent p + 1)) j) e1
           ∙ get_or-set_same line.sent p (slice_index line.sent p + 1) 0 within
           ∙ ap (λ k. k + 1) number_is
@@ -79,11 +79,11 @@ module _ {L : Type 0} (t : NetworkValue) (line : TimelineValue L) (time : ℕ) (
           ∙ ap (λ j. length (set_at sent ((net_of t).peer i) put j)) (peer ∙ sym e1)
       go c h false q =
           let e1 : c ≢ p = λ f. true≢false (sym (grind (arith, nat_tests, f)) ∙ q) in
-          get_or-set_other line.sent p c (slice_index line.sent p + 1) 0 e1 ∙ told.numbers c h
+          get_or-set_other line.sent p c (slice_index line.sent p + 1) 0 e1 ∙ numbered.numbers c h
           ∙ ap length (sym (set_there sent ((net_of t).peer i) (sent ((net_of t).peer i) ++ message ∷ []) c (λ f. e1 (f ∙ peer))))
 
-pub told_same : {L : Type 0} (t : NetworkValue) (a b : TimelineValue L) (sent : ℕ → List (ℕ × List ℕ)) → b.sent ≡ a.sent → Told t a sent → Told t b sent
-told_same t a b sent e h = record {
+pub numbered_same : {L : Type 0} (t : NetworkValue) (a b : TimelineValue L) (sent : ℕ → List (ℕ × List ℕ)) → b.sent ≡ a.sent → TimelineRepresents t a sent → TimelineRepresents t b sent
+numbered_same t a b sent e h = record {
   count = ap length e ∙ h.count;
   numbers = λ c l. ap (λ z. slice_index z c) e ∙ h.numbers c l;
 }

@@ -16,12 +16,12 @@ use Rattle.nm_forward.specs.Reaction.{reaction}
 use Rattle.nm_iface.specs.declared.port.Start.{Start}
 use Rattle.nm_traffic.specs.Source.{source_at}
 use Rattle.nm_sim.specs.Network.{net_of}
-use Rattle.nm_sim.specs.Devices.{DevicesValue, Stand}
+use Rattle.nm_sim.specs.Devices.{DevicesValue, DevicesRepresent}
 use Rattle.nm_sim.specs.Effects.{Does, Done, IsEffect, Reacts, Sends, StartsAt, start_at, start_of}
 use Rattle.nm_iface.specs.PortValue.{PortValue, takes, with_port}
-use Rattle.nm_iface.specs.Starts.{IsStart, packet_started}
+use Rattle.nm_iface.specs.Starts.{IsTransmission, packet_started}
 use Rattle.nm_sim.proofs.Sendings.{start_of_at}
-use Rattle.nm_sim.proofs.Stands.{port_after, port_turned, same_done, set_same}
+use Rattle.nm_sim.proofs.Represents.{port_after, port_turned, same_done, set_same}
 
 module _ (net : Net (List ℕ) NodeStateValue) (ports : ℕ → Port (List ℕ)) (time : ℕ) (came : Option (ℕ × List ℕ)) (n : NodeStateValue) (follows : Option (ℕ × List ℕ)) where
   after_is : (sent : Option (ℕ × List ℕ)) → (sent_on net ports time came n sent follows).after ≡ n
@@ -42,12 +42,12 @@ module _ (t : NetworkValue) (node : ℕ → NodeStateValue) (port : ℕ → Port
   abbrev effect_is : Effect (List ℕ) NodeStateValue
   effect_is = sent_on (net_of t) port time came (reaction t v (node v) o x).0 (reaction t v (node v) o x).1 follows
 
-  reacted_stand : Stand t e (set_at node v effect_is.after) (turned port effect_is.turn)
+  reacted_stand : DevicesRepresent t e (set_at node v effect_is.after) (turned port effect_is.turn)
   reacted_stand =
       let a = after_is (net_of t) port time came (reaction t v (node v) o x).0 follows (reaction t v (node v) o x).1 in
-      subst (λ n. Stand t e (set_at node v n) (turned port effect_is.turn)) (sym a)
-      (subst (λ z. Stand t e (set_at node v (reaction t v (node v) o x).0) (turned port (sent_on (net_of t) port time came (reaction t v (node v) o x).0 z follows).turn))
-      r.sends (s.stand (reaction t v (node v) o x).0 came follows))
+      subst (λ n. DevicesRepresent t e (set_at node v n) (turned port effect_is.turn)) (sym a)
+      (subst (λ z. DevicesRepresent t e (set_at node v (reaction t v (node v) o x).0) (turned port (sent_on (net_of t) port time came (reaction t v (node v) o x).0 z follows).turn))
+      r.sends (s.represented (reaction t v (node v) o x).0 came follows))
 
   reacted_does : (done : Done) → done.came ≡ came → done.start ≡ begun → done.follows ≡ follows → IsEffect t time done effect_is
   reacted_does done a b c = record {
@@ -68,7 +68,7 @@ arrives_by t node port time v i number x d e sent begun done owner r s a b c =
     subst (λ w. Reacts t node port w (Arrival i) x d sent → Sends t (set_at node w (reaction t w (node w) (Arrival i) x).0) port time sent e begun
     → Does t node port (key_of time (Arrive i) number) (Delivery x) e done) owner
     (λ r' s'. record {
-      stand = reacted_stand t node port time ((net_of t).owner i) (Arrival i) x d e sent begun r' s' (Some (i, x)) None;
+      represented = reacted_stand t node port time ((net_of t).owner i) (Arrival i) x d e sent begun r' s' (Some (i, x)) None;
       does = reacted_does t node port time ((net_of t).owner i) (Arrival i) x d e sent begun r' s' (Some (i, x)) None done a b c;
     }) r s
 
@@ -82,24 +82,24 @@ fires_by t node port time v j number x d e sent begun done owner r s a b c =
     subst (λ w. Reacts t node port w (Source j) x d sent → Sends t (set_at node w (reaction t w (node w) (Source j) x).0) port time sent e begun
     → Does t node port (key_of time (Fire j) number) (Delivery x) e done) owner
     (λ r' s'. record {
-      stand = reacted_stand t node port time ((net_of t).source_node j) (Source j) x d e sent begun r' s' None (source_at t j (suc number));
+      represented = reacted_stand t node port time ((net_of t).source_node j) (Source j) x d e sent begun r' s' None (source_at t j (suc number));
       does = reacted_does t node port time ((net_of t).source_node j) (Source j) x d e sent begun r' s' None (source_at t j (suc number)) done a b c;
     }) r s
 
 -- a transmission of interface i is complete
-module _ (t : NetworkValue) (d e : DevicesValue) (node : ℕ → NodeStateValue) (port : ℕ → Port (List ℕ)) (s : Stand t d node port) (time i number : ℕ)
+module _ (t : NetworkValue) (d e : DevicesValue) (node : ℕ → NodeStateValue) (port : ℕ → Port (List ℕ)) (s : DevicesRepresent t d node port) (time i number : ℕ)
     (w : PortValue) (room : ℕ) (start : Option Start) (here : slice_get d.ports i ≡ Some w) (within : i < length t.ifaces) where
-  starts_packet : (o : Option Start) → IfSome o (λ z. IsStart w.rate w.delay time z.twin.packet z) → IfSome (start_at i o) (StartsAt t time)
+  starts_packet : (o : Option Start) → IfSome o (λ z. IsTransmission w.rate w.delay time z.twin.packet z) → IfSome (start_at i o) (StartsAt t time)
   starts_packet None h = tt
-  starts_packet (Some z) h = let p = s.ports i w here in (within, subst (λ (y : ℕ × ℕ). IsStart y.0 y.1 time z.twin.packet z) (λ k. (p.rate k, p.delay k)) h)
+  starts_packet (Some z) h = let p = s.ports i w here in (within, subst (λ (y : ℕ × ℕ). IsTransmission y.0 y.1 time z.twin.packet z) (λ k. (p.rate k, p.delay k)) h)
 
-  same_node : Stand t e node (set_at port i (completed ((net_of t).tx i) time (port i).dropped (port i).busy).0)
-      → Stand t e (set_at node ((net_of t).owner i) (node ((net_of t).owner i))) (set_at port i (completed ((net_of t).tx i) time (port i).dropped (port i).busy).0)
-  same_node z = subst (λ f. Stand t e f (set_at port i (completed ((net_of t).tx i) time (port i).dropped (port i).busy).0)) (sym (λ k v. set_same node ((net_of t).owner i) v k)) z
+  same_node : DevicesRepresent t e node (set_at port i (completed ((net_of t).tx i) time (port i).dropped (port i).busy).0)
+      → DevicesRepresent t e (set_at node ((net_of t).owner i) (node ((net_of t).owner i))) (set_at port i (completed ((net_of t).tx i) time (port i).dropped (port i).busy).0)
+  same_node z = subst (λ f. DevicesRepresent t e f (set_at port i (completed ((net_of t).tx i) time (port i).dropped (port i).busy).0)) (sym (λ k v. set_same node ((net_of t).owner i) v k)) z
 
   pub completes_by : e.nodes ≡ d.nodes → e.ports ≡ slice_set d.ports i (with_port w (completed (takes w.rate) time w.dropped w.busy).0 room) → e.sources ≡ d.sources
       → packet_started start ≡ (completed (takes w.rate) time w.dropped w.busy).1
-      → IfSome start (λ z. IsStart w.rate w.delay time z.twin.packet z)
+      → IfSome start (λ z. IsTransmission w.rate w.delay time z.twin.packet z)
       → (done : Done) → done.came ≡ None → done.start ≡ start_at i start → done.follows ≡ None
       → Does t node port (key_of time (Complete i) number) Completion e done
   completes_by nodes ports sources packet begins done a b c =
@@ -107,7 +107,7 @@ module _ (t : NetworkValue) (d e : DevicesValue) (node : ℕ → NodeStateValue)
       let same = same_done t i w (port i) p time in
       let after = port_after t i w (port i) p time (completed (takes w.rate) time w.dropped w.busy) (completed ((net_of t).tx i) time (port i).dropped (port i).busy) room same in
       record {
-        stand = same_node (port_turned t d e node port s i _ _ nodes ports sources after);
+        represented = same_node (port_turned t d e node port s i _ _ nodes ports sources after);
         does = record {
           came = a;
           start = ap start_of b ∙ start_of_at i start ∙ ap (at_iface i) (packet ∙ same.2);

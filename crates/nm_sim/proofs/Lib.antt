@@ -7,7 +7,7 @@ mod Pendings
 mod Reactings
 mod Schedules
 mod Sendings
-mod Stands
+mod Represents
 pub mod Stepping
 mod Steps
 mod Tables

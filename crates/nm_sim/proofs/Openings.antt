@@ -15,10 +15,10 @@ use Rattle.nm_model.specs.Port.{idle_port}
 use Rattle.nm_model.specs.Run.{first_event, source_events, start}
 use Rattle.nm_forward.specs.State.{first_state}
 use Rattle.nm_traffic.specs.Source.{source_at}
-use Rattle.nm_sim.specs.Devices.{Stand}
-use Rattle.nm_sim.specs.Effects.{IsPlaceOf}
+use Rattle.nm_sim.specs.Devices.{DevicesRepresent}
+use Rattle.nm_sim.specs.Effects.{IsPlaceIn}
 use Rattle.nm_sim.specs.Network.{net_of}
-use Rattle.nm_sim.specs.Part.{PartValue, Stands}
+use Rattle.nm_sim.specs.Part.{PartValue, Represents}
 use Rattle.nm_sim.specs.Timelines.{AreFresh, everywhere}
 use Rattle.nm_sim.proofs.Schedules.{placed_schedule, same_some, schedule_append}
 
@@ -67,23 +67,23 @@ module _ (t : NetworkValue) where
   opened_more n o e = ap (λ r. schedule everywhere (first_event n r) (schedule everywhere (source_events (net_of t) n) empty)) e
       ∙ sym (schedule_append (first_event n ((net_of t).source n 0)) (source_events (net_of t) n) empty)
 
-  placed_first : (q : Key) → IsBelow (length t.sources) q.place → IsPlaceOf t q.place
+  placed_first : (q : Key) → IsBelow (length t.sources) q.place → IsPlaceIn t q.place
   placed_first q h = go q.place h
     where
-      go : (p : Place) → IsBelow (length t.sources) p → IsPlaceOf t p
+      go : (p : Place) → IsBelow (length t.sources) p → IsPlaceIn t p
       go (Arrive i) k = absurd k
       go (Complete i) k = absurd k
       go (Fire j) k = k
 
-  pub stands_first : {L : Type 0} (pending : L → FinMap key_cmp (Event (List ℕ))) (p : PartValue L) → IsOrderly (net_of t) everywhere (start (net_of t) everywhere [])
-      → Stand t p.devices (first_state t) (λ i. idle_port) → p.timeline.sent ≡ replicate (length t.ifaces) 0
+  pub represents_first : {L : Type 0} (pending : L → FinMap key_cmp (Event (List ℕ))) (p : PartValue L) → IsOrderly (net_of t) everywhere (start (net_of t) everywhere [])
+      → DevicesRepresent t p.devices (first_state t) (λ i. idle_port) → p.timeline.sent ≡ replicate (length t.ifaces) 0
       → pending p.timeline.events ≡ schedule everywhere (source_events (net_of t) (length t.sources)) empty → p.timeline.records ≡ []
-      → Stands pending t p (start (net_of t) everywhere [])
+      → Represents pending t p (start (net_of t) everywhere [])
   unfolding net_of
-  stands_first pending p orderly stand sent events records = record {
+  represents_first pending p orderly represented sent events records = record {
     orderly = orderly;
-    devices = stand;
-    told = record {
+    devices = represented;
+    numbered = record {
       count = ap length sent ∙ length-replicate (length t.ifaces) 0;
       numbers = λ c h. ap (λ l. slice_index l c) sent ∙ zeros (length t.ifaces) c;
     };

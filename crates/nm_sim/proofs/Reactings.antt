@@ -13,9 +13,9 @@ use Rattle.nm_model.specs.Port.{Port}
 use Rattle.nm_forward.specs.State.{IsIfaceOf, NodeStateValue, table_of, table_from}
 use Rattle.nm_forward.specs.Originate.{Consequence, Nothing, Counts, Sends, Originates, concluded}
 use Rattle.nm_forward.specs.Reaction.{reaction, arrived, handed, handed_by}
-use Rattle.nm_sim.specs.Devices.{DevicesValue, Stand}
+use Rattle.nm_sim.specs.Devices.{DevicesValue, DevicesRepresent}
 use Rattle.nm_sim.specs.Effects.{Reacts}
-use Rattle.nm_sim.proofs.Stands.{node_changed}
+use Rattle.nm_sim.proofs.Represents.{node_changed}
 
 concluded_keeps : (c : Consequence) (n : NodeStateValue) → (concluded c n).0.table ≡ n.table
 concluded_keeps Nothing n = refl
@@ -49,7 +49,7 @@ table_node t v = go (slice_get t.nodes v)
     go None = refl
     go (Some n) = refl
 
-module _ (t : NetworkValue) (d e : DevicesValue) (node : ℕ → NodeStateValue) (port : ℕ → Port (List ℕ)) (s : Stand t d node port) (v : ℕ) (n : NodeStateValue) (here : slice_get d.nodes v ≡ Some n) where
+module _ (t : NetworkValue) (d e : DevicesValue) (node : ℕ → NodeStateValue) (port : ℕ → Port (List ℕ)) (s : DevicesRepresent t d node port) (v : ℕ) (n : NodeStateValue) (here : slice_get d.nodes v ≡ Some n) where
   pub table_is : n.table ≡ table_of t n.table.node
   table_is = s.tables v n here ∙ ap (table_of t) (sym (ap (λ z. z.node) (s.tables v n here) ∙ table_node t v))
 
@@ -60,7 +60,7 @@ module _ (t : NetworkValue) (d e : DevicesValue) (node : ℕ → NodeStateValue)
       let r : ◌≡◌ {A = NodeStateValue × Option (ℕ × List ℕ)} (m, sent) (reaction t v (node v) o x) = q ∙ (λ k. reaction t (at k) (s.nodes v n here k) o x) in
       let table : m.table ≡ table_of t v = ap (λ z. z.0.table) q ∙ keeps_table t n.table.node n o x ∙ s.tables v n here in
       record {
-        stand = subst (λ z. Stand t e (set_at node v z) port) (ap (λ z. z.0) r) (node_changed t d e node port s v m nodes ports sources table);
+        represented = subst (λ z. DevicesRepresent t e (set_at node v z) port) (ap (λ z. z.0) r) (node_changed t d e node port s v m nodes ports sources table);
         sends = ap (λ z. z.1) r;
       }
 

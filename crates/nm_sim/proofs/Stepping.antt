@@ -1,4 +1,4 @@
--- A part that stands for a state of its network's run does so after a step too.
+-- A part that represents a state of its network's run does so after a step too.
 use Rattle.std.proofs.Common.{ℕ, List, Option, Some, None, Result, Ok, Err, sym, subst}
 use Rattle.std.specs.FinMap.{FinMap}
 use Rattle.std.specs.declared.alloc.AllocError.{AllocError}
@@ -9,13 +9,13 @@ use Rattle.nm_topology.specs.Wholes.{NetworkValue}
 use Rattle.nm_model.specs.Run.{State, step}
 use Rattle.nm_forward.specs.State.{NodeStateValue}
 use Rattle.nm_sim.specs.Network.{net_of}
-use Rattle.nm_sim.specs.Part.{PartValue, Stands, Stepped}
+use Rattle.nm_sim.specs.Part.{PartValue, Represents, Stepped}
 use Rattle.nm_sim.specs.Timelines.{everywhere}
 
-pub stands_stepped : {L : Type 0} (pending : L → FinMap key_cmp (Event (List ℕ))) (t : NetworkValue) (before : ℕ)
+pub represents_stepped : {L : Type 0} (pending : L → FinMap key_cmp (Event (List ℕ))) (t : NetworkValue) (before : ℕ)
     (s : State (List ℕ) NodeStateValue) (old new : PartValue L) (result : Result (Option Key) AllocError)
-    → Stands pending t old s → Stepped pending t before s old new result
-    → (x : State (List ℕ) NodeStateValue) × Stands pending t new x
-stands_stepped pending t before s old new (Ok None) stands h = (s, subst (λ p. Stands pending t p s) (sym h.0) stands)
-stands_stepped pending t before s old new (Ok (Some k)) stands h = (step (net_of t) everywhere s, h.0)
-stands_stepped pending t before s old new (Err e) stands h = (s, h)
+    → Represents pending t old s → Stepped pending t before s old new result
+    → (x : State (List ℕ) NodeStateValue) × Represents pending t new x
+represents_stepped pending t before s old new (Ok None) represents h = (s, subst (λ p. Represents pending t p s) (sym h.0) represents)
+represents_stepped pending t before s old new (Ok (Some k)) represents h = (step (net_of t) everywhere s, h.0)
+represents_stepped pending t before s old new (Err e) represents h = (s, h)

@@ -1,4 +1,4 @@
--- A step of a part is the step of what it stands for.
+-- A step of a part is the step of what it represents.
 use Rattle.std.proofs.Common.{◌≡◌, ℕ, zero, suc, ◌<◌, ◌≤◌, ◌^◌, cond, List, [], ◌∷◌, length, Option, Some, None, slice_get, refl, sym, ap, ◌∙◌, subst, arith}
 use Rattle.std.specs.FinMap.{FinMap, entries, get, get-entries, insert, remove}
 use Rattle.std.specs.Cmp.{tied_itself}
@@ -25,8 +25,8 @@ use Rattle.nm_forward.specs.Reaction.{FitsOrigin, FitsSource}
 use Rattle.nm_iface.specs.PortValue.{PortValue}
 use Rattle.nm_traffic.specs.Orderly.{ComeBeforeStop, EndForGood, FitsMtu, FitTheMtu, TimesRise}
 use Rattle.nm_traffic.specs.Source.{source_at}
-use Rattle.nm_sim.specs.Devices.{DevicesValue, Stand}
-use Rattle.nm_sim.specs.Effects.{CanHappen, IsBusy, IsPlaceOf}
+use Rattle.nm_sim.specs.Devices.{DevicesValue, DevicesRepresent}
+use Rattle.nm_sim.specs.Effects.{CanHappen, IsBusy, IsPlaceIn}
 use Rattle.nm_sim.specs.Network.{net_of}
 use Rattle.nm_sim.specs.Timelines.{everywhere}
 
@@ -70,13 +70,13 @@ module _ (t : NetworkValue) (limits : IsWithinLimits t) (fit : FitTheMtu t) wher
       go None f = tt
       go (Some s) f = fits_traffic s.traffic a.1 (fit j n s a f e)
 
-module _ (t : NetworkValue) (s : State (List ℕ) NodeStateValue) (orderly : IsOrderly (net_of t) everywhere s) (d : DevicesValue) (stand : Stand t d s.node s.port) where
+module _ (t : NetworkValue) (s : State (List ℕ) NodeStateValue) (orderly : IsOrderly (net_of t) everywhere s) (d : DevicesValue) (represented : DevicesRepresent t d s.node s.port) where
   busy_at : (i : ℕ) (b : Busy (List ℕ)) → (s.port i).busy ≡ Some b → i < length t.ifaces → IsBusy (slice_get d.ports i)
   busy_at i b e h = go (slice_get d.ports i) refl
     where
       go : (o : Option PortValue) → slice_get d.ports i ≡ o → IsBusy o
-      go None f = absurd (let n = past d.ports i f in omega (arith, n, h, stand.port_count))
-      go (Some w) f = let p = stand.ports i w f in subst IsSome (sym (p.busy ∙ e)) refl
+      go None f = absurd (let n = past d.ports i f in omega (arith, n, h, represented.port_count))
+      go (Some w) f = let p = represented.ports i w f in subst IsSome (sym (p.busy ∙ e)) refl
 
   -- where a completion is pending, the interface transmits
   pub is_busy : (i time number : ℕ) (y : Event (List ℕ)) → get s.pending (key_of time (Complete i) number) ≡ Some y → i < length t.ifaces → IsBusy (slice_get d.ports i)
@@ -84,17 +84,17 @@ module _ (t : NetworkValue) (s : State (List ℕ) NodeStateValue) (orderly : IsO
 
 module _ (t : NetworkValue) (limits : IsWithinLimits t) (fit : FitTheMtu t) (rise : TimesRise t) (end : EndForGood t) (before : ComeBeforeStop t)
     (s : State (List ℕ) NodeStateValue) (orderly : IsOrderly (net_of t) everywhere s)
-    (placed : (q : Key) (y : Event (List ℕ)) → get s.pending q ≡ Some y → IsPlaceOf t q.place)
-    (d : DevicesValue) (stand : Stand t d s.node s.port) where
+    (placed : (q : Key) (y : Event (List ℕ)) → get s.pending q ≡ Some y → IsPlaceIn t q.place)
+    (d : DevicesValue) (represented : DevicesRepresent t d s.node s.port) where
   -- an event that is pending can happen
   pub can_happen : (k : Key) (y : Event (List ℕ)) → get s.pending k ≡ Some y → CanHappen t d k.place k.number y
   unfolding net_of
   can_happen k y e = go k.place y (placed k y e) e
     where
-      go : (p : Place) (z : Event (List ℕ)) → IsPlaceOf t p → get s.pending (key_of k.time p k.number) ≡ Some z → CanHappen t d p k.number z
+      go : (p : Place) (z : Event (List ℕ)) → IsPlaceIn t p → get s.pending (key_of k.time p k.number) ≡ Some z → CanHappen t d p k.number z
       go (Arrive i) (Delivery x) h f = h
       go (Arrive i) Completion h f = absurd (let a = orderly.arrival i k.time k.number Completion f in let b = a.1 in cc)
-      go (Complete i) Completion h f = (h, is_busy t s orderly d stand i k.time k.number Completion f h)
+      go (Complete i) Completion h f = (h, is_busy t s orderly d represented i k.time k.number Completion f h)
       go (Complete i) (Delivery x) h f = absurd (let c = orderly.completion i k.time k.number (Delivery x) f in let b = c.1 in cc)
       go (Fire j) (Delivery x) h f =
           let c = orderly.source j k.time k.number (Delivery x) f in

@@ -22,20 +22,20 @@ use Rattle.nm_sim.specs.Devices.{DevicesValue}
 use Rattle.nm_sim.specs.Tables.{AllAt}
 use Rattle.nm_sim.specs.Effects.{Reacts, Sends, start_of}
 use Rattle.nm_sim.specs.Network.{net_of}
-use Rattle.nm_sim.specs.Part.{HasReacted, IsReady, IsUnderWay, PartValue, Performed, Stands, Taken}
-use Rattle.nm_sim.specs.Timelines.{AreFresh, TimelineValue, Told, everywhere}
-use Rattle.nm_sim.proofs.Beginnings.{told_same}
+use Rattle.nm_sim.specs.Part.{HasReacted, IsReady, IsUnderWay, PartValue, Performed, Represents, Taken}
+use Rattle.nm_sim.specs.Timelines.{AreFresh, TimelineValue, TimelineRepresents, everywhere}
+use Rattle.nm_sim.proofs.Beginnings.{numbered_same}
 use Rattle.nm_sim.proofs.Doings.{arrives_by, fires_by, follows_is}
 use Rattle.nm_sim.proofs.Schedules.{first_fresh, same_some, second_fresh}
 use Rattle.nm_model.proofs.Keys.{remove_same}
 
 module _ {L : Type 0} (pending : L → FinMap key_cmp (Event (List ℕ))) (t : NetworkValue) (k : Key) (e : Event (List ℕ)) (p q : PartValue L) (s : State (List ℕ) NodeStateValue) where
-  pub taken_out : Stands pending t p s → Some (k, e) ≡ least (pending p.timeline.events) → pending q.timeline.events ≡ remove (pending p.timeline.events) k
+  pub taken_out : Represents pending t p s → Some (k, e) ≡ least (pending p.timeline.events) → pending q.timeline.events ≡ remove (pending p.timeline.events) k
       → q.timeline.sent ≡ p.timeline.sent → q.timeline.records ≡ p.timeline.records → q.steps ≡ p.steps → Taken pending t k e None None q s
   taken_out h first events sent records steps = record {
     first = ap (λ m. least m) (sym h.events) ∙ sym first;
     orderly = h.orderly;
-    told = told_same t p.timeline q.timeline s.sent sent h.told;
+    numbered = numbered_same t p.timeline q.timeline s.sent sent h.numbered;
     few = λ c. let l = h.few c in omega (arith, l, steps);
     events = events ∙ ap (λ m. remove m k) h.events;
     placed = h.placed;
@@ -47,7 +47,7 @@ module _ {L : Type 0} (pending : L → FinMap key_cmp (Event (List ℕ))) (t : N
   taken_same h line steps = record {
     first = h.first;
     orderly = h.orderly;
-    told = subst (λ (l : TimelineValue L). Told t l s.sent) (sym line) h.told;
+    numbered = subst (λ (l : TimelineValue L). TimelineRepresents t l s.sent) (sym line) h.numbered;
     few = λ c. let l = h.few c in omega (arith, l, steps);
     events = ap (λ (l : TimelineValue L). pending l.events) line ∙ h.events;
     placed = h.placed;
@@ -60,7 +60,7 @@ module _ {L : Type 0} (pending : L → FinMap key_cmp (Event (List ℕ))) (t : N
   taken_came came h events sent records steps = record {
     first = h.first;
     orderly = h.orderly;
-    told = told_same t p.timeline q.timeline s.sent sent h.told;
+    numbered = numbered_same t p.timeline q.timeline s.sent sent h.numbered;
     few = λ c. let l = h.few c in omega (arith, l, steps);
     events = events ∙ h.events;
     placed = h.placed;
@@ -74,7 +74,7 @@ module _ {L : Type 0} (pending : L → FinMap key_cmp (Event (List ℕ))) (t : N
   taken_follows follows h events sent records steps = record {
     first = h.first;
     orderly = h.orderly;
-    told = told_same t p.timeline q.timeline s.sent sent h.told;
+    numbered = numbered_same t p.timeline q.timeline s.sent sent h.numbered;
     few = λ c. let l = h.few c in omega (arith, l, steps);
     events = events ∙ ap (schedule everywhere (next_events k.place k.number follows)) h.events;
     placed = h.placed;
@@ -125,7 +125,7 @@ module _ {L : Type 0} (pending : L → FinMap key_cmp (Event (List ℕ))) (room_
       (set_at s.node ((net_of t).owner i) (reaction t ((net_of t).owner i) (s.node ((net_of t).owner i)) (Arrival i) x).0) q s
   arrives_on i ready r events line records steps = record {
     taken = taken_came pending t _ _ p q s (Some (i, x)) ready.taken events line records steps;
-    stand = r.stand;
+    represented = r.represented;
     does = λ d start o. arrives_by t s.node s.port time ((net_of t).owner i) i number x q.devices d sent start _ refl r o refl refl refl;
   }
 
@@ -139,7 +139,7 @@ module _ {L : Type 0} (pending : L → FinMap key_cmp (Event (List ℕ))) (room_
       (set_at s.node ((net_of t).source_node j) (reaction t ((net_of t).source_node j) (s.node ((net_of t).source_node j)) (Source j) x).0) q s
   fires_on j follows ready r next events line records steps = record {
     taken = taken_follows pending t _ _ p q s follows ready.taken events line records steps;
-    stand = r.stand;
+    represented = r.represented;
     does = λ d start o. fires_by t s.node s.port time ((net_of t).source_node j) j number x q.devices d sent start _ refl r o refl refl next;
   }
 
@@ -153,7 +153,7 @@ sends_on pending t k e came follows sent start node p q s h o line steps = recor
 }
 
 -- the event of the least key comes before the end
-pub time_is : {L : Type 0} (pending : L → FinMap key_cmp (Event (List ℕ))) (t : NetworkValue) (p : PartValue L) (s : State (List ℕ) NodeStateValue) → Stands pending t p s → (k : Key) (e : Event (List ℕ))
+pub time_is : {L : Type 0} (pending : L → FinMap key_cmp (Event (List ℕ))) (t : NetworkValue) (p : PartValue L) (s : State (List ℕ) NodeStateValue) → Represents pending t p s → (k : Key) (e : Event (List ℕ))
     → Some (k, e) ≡ least (pending p.timeline.events) → (f : Key × Event (List ℕ)) → least s.pending ≡ Some f → f.0.time < t.stop → t.stop ≤ MAX_TIME → k.time ≤ MAX_TIME
 time_is pending t p s h k e first f least_is early stop =
     let same : (k, e) ≡ f = same_some (k, e) f (first ∙ ap (λ m. least m) h.events ∙ least_is) in
@@ -164,12 +164,12 @@ time_is pending t p s h k e first f least_is early stop =
 pub ready_at : {L : Type 0} (pending : L → FinMap key_cmp (Event (List ℕ))) (room_of : L → ℕ) (t : NetworkValue) (k : Key) (e : Event (List ℕ)) (d : DevicesValue) (line after : TimelineValue L) (steps : ℕ)
     → Some (k, e) ≡ least (pending line.events) → pending after.events ≡ remove (pending line.events) k → after ≡ record line { events = after.events }
     → k.time ≤ MAX_TIME → steps < 2 ^ 62 → AllAt (λ i w. 1 ≤ w.room) d.ports → 3 ≤ room_of after.events → 2 ≤ line.spare
-    → (s : State (List ℕ) NodeStateValue) → Stands pending t (record { devices = d; timeline = line; steps = steps }) s
+    → (s : State (List ℕ) NodeStateValue) → Represents pending t (record { devices = d; timeline = line; steps = steps }) s
     → IsReady pending room_of t k e (record { devices = d; timeline = after; steps = steps }) s
-ready_at pending room_of t k e d line after steps first rest others time few ports room spare s stands = record {
+ready_at pending room_of t k e d line after steps first rest others time few ports room spare s represents = record {
   taken = taken_out pending t k e (record { devices = d; timeline = line; steps = steps }) (record { devices = d; timeline = after; steps = steps }) s
-      stands first rest (ap (λ l. l.sent) others) (ap (λ l. l.records) others) refl;
-  devices = stands.devices;
+      represents first rest (ap (λ l. l.sent) others) (ap (λ l. l.records) others) refl;
+  devices = represents.devices;
   time = time;
   steps = few;
   ports = ports;
@@ -178,14 +178,14 @@ ready_at pending room_of t k e d line after steps first rest others time few por
 }
 
 module _ {L : Type 0} (pending : L → FinMap key_cmp (Event (List ℕ))) (room_of : L → ℕ) (t : NetworkValue) (k : Key) (e : Event (List ℕ)) (p q new : PartValue L)
-    (ready : (s : State (List ℕ) NodeStateValue) → Stands pending t p s → IsReady pending room_of t k e q s) where
+    (ready : (s : State (List ℕ) NodeStateValue) → Represents pending t p s → IsReady pending room_of t k e q s) where
   pub performed_ok : (r : Result Unit AllocError) → Performed pending room_of t k e q new r
-      → OnOk r ((s : State (List ℕ) NodeStateValue) → Stands pending t p s → Stands pending t new (step (net_of t) everywhere s))
+      → OnOk r ((s : State (List ℕ) NodeStateValue) → Represents pending t p s → Represents pending t new (step (net_of t) everywhere s))
   performed_ok (Ok u) h = λ s z. h.0 s (ready s z)
   performed_ok (Err x) h = tt
 
   pub performed_err : (r : Result Unit AllocError) → Performed pending room_of t k e q new r
-      → OnErr r ((s : State (List ℕ) NodeStateValue) → Stands pending t p s → Stands pending t new s)
+      → OnErr r ((s : State (List ℕ) NodeStateValue) → Represents pending t p s → Represents pending t new s)
   performed_err (Ok u) h = tt
   performed_err (Err x) h = λ s z. h.0 s (ready s z)
 

@@ -1,9 +1,9 @@
--- The nodes, ports and sources of a simulation, and what they stand for.
+-- The nodes, ports and sources of a simulation, and what they represent.
 use Rattle.std.specs.Prelude.{◌≡◌, ◌⊎◌, ℕ, ◌≤◌, List, length, Option, Some, slice_get}
 use Rattle.nm_topology.specs.Wholes.{NetworkValue}
 use Rattle.nm_model.specs.Port.{Port}
 use Rattle.nm_forward.specs.State.{NodeStateValue, table_of}
-use Rattle.nm_iface.specs.PortValue.{PortValue, counted}
+use Rattle.nm_iface.specs.PortValue.{PortValue, saturated}
 use Rattle.nm_traffic.specs.Source.{source_of}
 use Rattle.nm_traffic.specs.SourceValues.{SourceValue}
 use Rattle.nm_sim.specs.Tables.{AllAt}
@@ -22,10 +22,10 @@ pub record IsPortOf (t : NetworkValue) (i : ℕ) (w : PortValue) (port : Port (L
   pub rate : w.rate ≡ (far_of t i).rate
   pub delay : w.delay ≡ (far_of t i).delay
   pub busy : w.busy ≡ port.busy
-  pub dropped : w.dropped ≡ counted port.dropped
+  pub dropped : w.dropped ≡ saturated port.dropped
 
--- the devices of a topology stand for these states of its nodes and ports
-pub record Stand (t : NetworkValue) (d : DevicesValue) (node : ℕ → NodeStateValue) (port : ℕ → Port (List ℕ)) : Type 0 where
+-- the devices of a topology represent these states of its nodes and ports
+pub record DevicesRepresent (t : NetworkValue) (d : DevicesValue) (node : ℕ → NodeStateValue) (port : ℕ → Port (List ℕ)) : Type 0 where
   pub node_count : length d.nodes ≡ length t.nodes
   pub nodes : AllAt (λ v n. n ≡ node v) d.nodes
   pub tables : AllAt (λ v n. n.table ≡ table_of t v) d.nodes
@@ -45,6 +45,6 @@ pub record IsSame (d e : DevicesValue) : Type 0 where
   pub ports : (i : ℕ) (w : PortValue) → slice_get e.ports i ≡ Some w → (v : PortValue) × (slice_get d.ports i ≡ Some v) × (w ≡ record v { room = w.room })
   pub sources : e.sources ≡ d.sources
 
--- the devices stand for some states
-abbrev pub IsStanding : NetworkValue → DevicesValue → Type 0
-IsStanding t d = (node : ℕ → NodeStateValue) × (port : ℕ → Port (List ℕ)) × Stand t d node port
+-- the devices represent some states
+abbrev pub DevicesRepresentSome : NetworkValue → DevicesValue → Type 0
+DevicesRepresentSome t d = (node : ℕ → NodeStateValue) × (port : ℕ → Port (List ℕ)) × DevicesRepresent t d node port

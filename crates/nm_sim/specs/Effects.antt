@@ -17,15 +17,15 @@ use Rattle.nm_forward.specs.State.{NodeStateValue}
 use Rattle.nm_forward.specs.Reaction.{FitsOrigin, reaction}
 use Rattle.nm_iface.specs.PortValue.{PortValue}
 use Rattle.nm_iface.specs.declared.port.Start.{Start}
-use Rattle.nm_iface.specs.Starts.{IsStart}
-use Rattle.nm_sim.specs.Devices.{DevicesValue, Stand}
+use Rattle.nm_iface.specs.Starts.{IsTransmission}
+use Rattle.nm_sim.specs.Devices.{DevicesValue, DevicesRepresent}
 use Rattle.nm_sim.specs.Network.{far_of, net_of}
 
 -- the place is one of the topology's
-abbrev pub IsPlaceOf : NetworkValue → Place → Type 0
-IsPlaceOf t (Arrive i) = i < length t.ifaces
-IsPlaceOf t (Complete i) = i < length t.ifaces
-IsPlaceOf t (Fire j) = j < length t.sources
+abbrev pub IsPlaceIn : NetworkValue → Place → Type 0
+IsPlaceIn t (Arrive i) = i < length t.ifaces
+IsPlaceIn t (Complete i) = i < length t.ifaces
+IsPlaceIn t (Fire j) = j < length t.sources
 
 -- the interface transmits
 abbrev pub IsBusy : Option PortValue → Type 0
@@ -53,7 +53,7 @@ start_at i (Some s) = Some (i, s)
 
 -- the transmission that starts at this time, by an interface that is there
 abbrev pub StartsAt : NetworkValue → ℕ → ℕ × Start → Type 0
-StartsAt t time s = (s.0 < length t.ifaces) × IsStart (far_of t s.0).rate (far_of t s.0).delay time s.1.twin.packet s.1
+StartsAt t time s = (s.0 < length t.ifaces) × IsTransmission (far_of t s.0).rate (far_of t s.0).delay time s.1.twin.packet s.1
 
 -- What was done beside the change of a node and of one port: the packet that arrived, and where, the transmission that starts, and where, and
 -- the source's next packet, and when it comes.
@@ -71,17 +71,17 @@ pub record IsEffect (t : NetworkValue) (time : ℕ) (e : Done) (m : Effect (List
 
 -- after an event of this key, done where nodes and ports had these states
 pub record Does (t : NetworkValue) (node : ℕ → NodeStateValue) (port : ℕ → Port (List ℕ)) (k : Key) (event : Event (List ℕ)) (d : DevicesValue) (e : Done) : Type 0 where
-  pub stand : let m : Effect (List ℕ) NodeStateValue = effect (net_of t) node port k.time k.place k.number event in
-      Stand t d (set_at node (node_of (net_of t) k.place) m.after) (turned port m.turn)
+  pub represented : let m : Effect (List ℕ) NodeStateValue = effect (net_of t) node port k.time k.place k.number event in
+      DevicesRepresent t d (set_at node (node_of (net_of t) k.place) m.after) (turned port m.turn)
   pub does : IsEffect t k.time e (effect (net_of t) node port k.time k.place k.number event)
 
 -- after a node has sent this, or nothing
 pub record Sends (t : NetworkValue) (node : ℕ → NodeStateValue) (port : ℕ → Port (List ℕ)) (time : ℕ) (sent : Option (ℕ × List ℕ)) (d : DevicesValue) (begun : Option (ℕ × Start)) : Type 0 where
-  pub stand : (n : NodeStateValue) (came follows : Option (ℕ × List ℕ)) → Stand t d node (turned port (sent_on (net_of t) port time came n sent follows).turn)
+  pub represented : (n : NodeStateValue) (came follows : Option (ℕ × List ℕ)) → DevicesRepresent t d node (turned port (sent_on (net_of t) port time came n sent follows).turn)
   pub start : (n : NodeStateValue) (came follows : Option (ℕ × List ℕ)) → start_of begun ≡ (sent_on (net_of t) port time came n sent follows).start
   pub begins : IfSome begun (StartsAt t time)
 
 -- after node v has reacted to a packet
 pub record Reacts (t : NetworkValue) (node : ℕ → NodeStateValue) (port : ℕ → Port (List ℕ)) (v : ℕ) (o : Origin) (x : List ℕ) (d : DevicesValue) (sent : Option (ℕ × List ℕ)) : Type 0 where
-  pub stand : Stand t d (set_at node v (reaction t v (node v) o x).0) port
+  pub represented : DevicesRepresent t d (set_at node v (reaction t v (node v) o x).0) port
   pub sends : sent ≡ (reaction t v (node v) o x).1

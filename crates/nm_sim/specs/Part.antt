@@ -1,4 +1,4 @@
--- What contracts see of a part of a simulation, and what it stands for.
+-- What contracts see of a part of a simulation, and what it represents.
 use Rattle.std.specs.Prelude.{◌≡◌, ℕ, ◌+◌, ◌^◌, ◌<◌, ◌≤◌, ◌++◌, Bool, true, false, ltb, if◌then◌else◌, slice_index, List, length, Option, Some, None, Result, Ok, Err}
 use Rattle.std.specs.Option.{option_map}
 use Rattle.std.specs.FinMap.{FinMap, get, remove}
@@ -14,46 +14,46 @@ use Rattle.nm_forward.specs.declared.counter.Counter.{Counter}
 use Rattle.nm_forward.specs.Counter.{counter_number}
 use Rattle.nm_forward.specs.State.{NodeStateValue}
 use Rattle.nm_iface.specs.declared.port.Start.{Start}
-use Rattle.nm_iface.specs.PortValue.{counted}
+use Rattle.nm_iface.specs.PortValue.{saturated}
 use Rattle.nm_sim.specs.Network.{net_of}
-use Rattle.nm_sim.specs.Devices.{DevicesValue, Stand}
-use Rattle.nm_sim.specs.Effects.{Does, Done, IsPlaceOf, Sends}
+use Rattle.nm_sim.specs.Devices.{DevicesValue, DevicesRepresent}
+use Rattle.nm_sim.specs.Effects.{Does, Done, IsPlaceIn, Sends}
 use Rattle.nm_sim.specs.Tables.{AllAt}
 use Rattle.nm_base.specs.declared.limits.TheConstants.{MAX_TIME}
-use Rattle.nm_sim.specs.Timelines.{TimelineValue, Told, everywhere}
+use Rattle.nm_sim.specs.Timelines.{TimelineValue, TimelineRepresents, everywhere}
 
 pub record PartValue (L : Type 0) : Type 0 where
   pub devices : DevicesValue
   pub timeline : TimelineValue L
   pub steps : ℕ
 
--- the part, whose event list has these pending events, stands for this state of the network's run
-pub record Stands {L : Type 0} (pending : L → FinMap key_cmp (Event (List ℕ))) (t : NetworkValue) (p : PartValue L) (s : State (List ℕ) NodeStateValue) : Type 0 where
+-- the part, whose event list has these pending events, represents this state of the network's run
+pub record Represents {L : Type 0} (pending : L → FinMap key_cmp (Event (List ℕ))) (t : NetworkValue) (p : PartValue L) (s : State (List ℕ) NodeStateValue) : Type 0 where
   pub orderly : IsOrderly (net_of t) everywhere s
-  pub devices : Stand t p.devices s.node s.port
-  pub told : Told t p.timeline s.sent
+  pub devices : DevicesRepresent t p.devices s.node s.port
+  pub numbered : TimelineRepresents t p.timeline s.sent
   pub few : (c : ℕ) → length (s.sent c) ≤ p.steps
   pub events : pending p.timeline.events ≡ s.pending
-  pub placed : (q : Key) (y : Event (List ℕ)) → get s.pending q ≡ Some y → IsPlaceOf t q.place
+  pub placed : (q : Key) (y : Event (List ℕ)) → get s.pending q ≡ Some y → IsPlaceIn t q.place
   pub records : p.timeline.records ≡ s.records
 
--- An event was taken out of a part that stood for this state. If a packet came with it, the trace has it, and if another follows at its source,
+-- An event was taken out of a part that represented this state. If a packet came with it, the trace has it, and if another follows at its source,
 -- that is pending.
 pub record Taken {L : Type 0} (pending : L → FinMap key_cmp (Event (List ℕ))) (t : NetworkValue) (k : Key) (e : Event (List ℕ))
     (came follows : Option (ℕ × List ℕ)) (p : PartValue L) (s : State (List ℕ) NodeStateValue) : Type 0 where
   pub first : least s.pending ≡ Some (k, e)
   pub orderly : IsOrderly (net_of t) everywhere s
-  pub told : Told t p.timeline s.sent
+  pub numbered : TimelineRepresents t p.timeline s.sent
   pub few : (c : ℕ) → length (s.sent c) ≤ p.steps
   pub events : pending p.timeline.events ≡ schedule everywhere (next_events k.place k.number follows) (remove s.pending k)
-  pub placed : (q : Key) (y : Event (List ℕ)) → get s.pending q ≡ Some y → IsPlaceOf t q.place
+  pub placed : (q : Key) (y : Event (List ℕ)) → get s.pending q ≡ Some y → IsPlaceIn t q.place
   pub records : p.timeline.records ≡ s.records ++ in_record k.time came
 
 -- it was taken out and nothing of it is done, and there is memory for all that it may do
 pub record IsReady {L : Type 0} (pending : L → FinMap key_cmp (Event (List ℕ))) (room_of : L → ℕ) (t : NetworkValue) (k : Key) (e : Event (List ℕ))
     (p : PartValue L) (s : State (List ℕ) NodeStateValue) : Type 0 where
   pub taken : Taken pending t k e None None p s
-  pub devices : Stand t p.devices s.node s.port
+  pub devices : DevicesRepresent t p.devices s.node s.port
   pub time : k.time ≤ MAX_TIME
   pub steps : p.steps < 2 ^ 62
   pub ports : AllAt (λ i w. 1 ≤ w.room) p.devices.ports
@@ -64,7 +64,7 @@ pub record IsReady {L : Type 0} (pending : L → FinMap key_cmp (Event (List ℕ
 pub record HasReacted {L : Type 0} (pending : L → FinMap key_cmp (Event (List ℕ))) (t : NetworkValue) (k : Key) (e : Event (List ℕ))
     (came follows sent : Option (ℕ × List ℕ)) (node : ℕ → NodeStateValue) (p : PartValue L) (s : State (List ℕ) NodeStateValue) : Type 0 where
   pub taken : Taken pending t k e came follows p s
-  pub stand : Stand t p.devices node s.port
+  pub represented : DevicesRepresent t p.devices node s.port
   pub does : (d : DevicesValue) (start : Option (ℕ × Start)) → Sends t node s.port k.time sent d start
       → Does t s.node s.port k e d (record { came = came; start = start; follows = follows })
 
@@ -78,17 +78,17 @@ pub record IsUnderWay {L : Type 0} (pending : L → FinMap key_cmp (Event (List 
 abbrev pub Performed : {L : Type 0} → (L → FinMap key_cmp (Event (List ℕ))) → (L → ℕ) → NetworkValue → Key → Event (List ℕ)
     → PartValue L → PartValue L → Result Unit AllocError → Type 0
 Performed pending room t k e old new (Ok u) = ((s : State (List ℕ) NodeStateValue) → IsReady pending room t k e old s
-    → Stands pending t new (step (net_of t) everywhere s)) × (new.steps ≡ old.steps + 1)
+    → Represents pending t new (step (net_of t) everywhere s)) × (new.steps ≡ old.steps + 1)
 Performed pending room t k e old new (Err x) = ((s : State (List ℕ) NodeStateValue) → IsReady pending room t k e old s
-    → Stands pending t new s) × (new.steps ≡ old.steps)
+    → Represents pending t new s) × (new.steps ≡ old.steps)
 
--- what a step answers, and what the part stands for after it
+-- what a step answers, and what the part represents after it
 abbrev pub Stepped : {L : Type 0} → (L → FinMap key_cmp (Event (List ℕ))) → NetworkValue → ℕ → State (List ℕ) NodeStateValue
     → PartValue L → PartValue L → Result (Option Key) AllocError → Type 0
 Stepped pending t before s old new (Ok None) = (new ≡ old) × (pends_before before s ≡ false)
-Stepped pending t before s old new (Ok (Some k)) = Stands pending t new (step (net_of t) everywhere s)
+Stepped pending t before s old new (Ok (Some k)) = Represents pending t new (step (net_of t) everywhere s)
     × (pends_before before s ≡ true) × (option_map (λ e. e.0) (least s.pending) ≡ Some k)
-Stepped pending t before s old new (Err e) = Stands pending t new s
+Stepped pending t before s old new (Err e) = Represents pending t new s
 
 -- how many events a step did
 abbrev pub events_done : Result (Option Key) AllocError → ℕ
@@ -106,8 +106,8 @@ events_counted (Err e) = 0
 abbrev pub Advanced : {L : Type 0} → (L → FinMap key_cmp (Event (List ℕ))) → NetworkValue → ℕ → State (List ℕ) NodeStateValue
     → PartValue L → PartValue L → Result Bool AllocError → Type 0
 Advanced pending t before s old new (Ok false) = (new ≡ old) × (pends_before before s ≡ false)
-Advanced pending t before s old new (Ok true) = Stands pending t new (step (net_of t) everywhere s) × (pends_before before s ≡ true)
-Advanced pending t before s old new (Err e) = Stands pending t new s
+Advanced pending t before s old new (Ok true) = Represents pending t new (step (net_of t) everywhere s) × (pends_before before s ≡ true)
+Advanced pending t before s old new (Err e) = Represents pending t new s
 
 -- what node v counted, if it is there
 abbrev pub count_at : NetworkValue → State (List ℕ) NodeStateValue → ℕ → Counter → Option ℕ
@@ -115,4 +115,4 @@ count_at t s v c = if ltb v (length t.nodes) then Some (slice_index (s.node v).c
 
 -- how many packets were dropped at interface i, if it is there; the count stops at the greatest of its type
 abbrev pub drops_at : NetworkValue → State (List ℕ) NodeStateValue → ℕ → Option ℕ
-drops_at t s i = if ltb i (length t.ifaces) then Some (counted (s.port i).dropped) else None
+drops_at t s i = if ltb i (length t.ifaces) then Some (saturated (s.port i).dropped) else None

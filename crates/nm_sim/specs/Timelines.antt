@@ -17,7 +17,7 @@ pub record TimelineValue (L : Type 0) : Type 0 where
   pub spare : ℕ
 
 -- the counts of a timeline are those of what was put on the interfaces
-pub record Told {L : Type 0} (t : NetworkValue) (line : TimelineValue L) (sent : ℕ → List (ℕ × List ℕ)) : Type 0 where
+pub record TimelineRepresents {L : Type 0} (t : NetworkValue) (line : TimelineValue L) (sent : ℕ → List (ℕ × List ℕ)) : Type 0 where
   pub count : length line.sent ≡ length t.ifaces
   pub numbers : (c : ℕ) → c < length t.ifaces → slice_index line.sent c ≡ length (sent c)
 

@@ -12,7 +12,7 @@ ghost use Rattle.nm_forward.specs.Reaction.{FitsOrigin, sent_of};
 ghost use Rattle.nm_base.specs.Key.{key_of};
 ghost use Rattle.nm_sim.specs.Network.{net_of};
 ghost use Rattle.nm_sim.specs.Tables.{AllAt};
-ghost use Rattle.nm_sim.specs.Devices.{Stand, IsPortOf, IsSame, IsStanding};
+ghost use Rattle.nm_sim.specs.Devices.{DevicesRepresent, IsPortOf, IsSame, DevicesRepresentSome};
 ghost use Rattle.nm_traffic.specs.Source.{source_at, source_of};
 ghost use Rattle.nm_forward.specs.Counter.{counter_number};
 ghost use Rattle.std.specs.Option.{option_map};
@@ -118,7 +118,7 @@ fn start_at(iface: IfaceNo, start: Option<Start>) -> Option<(IfaceNo, Start)>
 impl Devices {
     /// The devices of a topology at the start of a run.
     pub fn new(alloc: Global, topology: &Topology) -> Result<Self, AllocError>
-        ensures { IfOk result (λ d. Stand topology.now d (first_state topology.now) (λ i. idle_port)) }
+        ensures { IfOk result (λ d. DevicesRepresent topology.now d (first_state topology.now) (λ i. idle_port)) }
     {
         Ok(Devices {
             nodes: first_nodes(alloc, topology)?,
@@ -136,7 +136,7 @@ impl Devices {
         source: SourceNo,
     ) -> Result<Option<(Time, SourcePacket)>, AllocError>
         requires place { source < length topology.now.sources }
-        requires stand { IsStanding topology.now self.now }
+        requires represented { DevicesRepresentSome topology.now self.now }
         ensures { IfOk result (λ p. p ≡ source_at topology.now source 0) }
     {
         self.sources[source.index()].next(alloc, 0)
@@ -182,7 +182,7 @@ impl Devices {
 
     /// What a node sends is offered to its interface: the transmission that starts, and where, if one does.
     #[inline(always)]
-    pub fn send(
+    pub fn offer(
         &mut self,
         topology: &Topology,
         time: Time,
@@ -192,7 +192,7 @@ impl Devices {
         requires own { IfSome (sent_of reaction) (λ s. s.0 < length topology.now.ifaces) }
         requires count { length self.old.ports ≡ length topology.now.ifaces }
         requires room { AllAt (λ i w. 1 ≤ w.room) self.old.ports }
-        ensures sends { (node : ℕ → NodeStateValue) (port : ℕ → PortState (List ℕ)) → Stand topology.now self.old node port
+        ensures sends { (node : ℕ → NodeStateValue) (port : ℕ → PortState (List ℕ)) → DevicesRepresent topology.now self.old node port
             → Sends topology.now node port time (sent_of reaction) self.new result }
     {
         let Reaction::Send(iface, twin) = reaction else {
@@ -216,11 +216,11 @@ impl Devices {
     ) -> Result<Reaction, AllocError>
         requires node { node < length topology.now.nodes }
         requires fits { FitsOrigin topology.now origin packet.now }
-        requires stand { IsStanding topology.now self.old }
+        requires represented { DevicesRepresentSome topology.now self.old }
         ensures err { OnErr result (self.new ≡ self.old) }
         ensures ports { self.new.ports ≡ self.old.ports }
         ensures own { IfOk result (λ r. IfSome (sent_of r) (λ s. s.0 < length topology.now.ifaces)) }
-        ensures reacts { (states : ℕ → NodeStateValue) (ports : ℕ → PortState (List ℕ)) → Stand topology.now self.old states ports
+        ensures reacts { (states : ℕ → NodeStateValue) (ports : ℕ → PortState (List ℕ)) → DevicesRepresent topology.now self.old states ports
             → IfOk result (λ r. Reacts topology.now states ports node origin packet.now self.new (sent_of r)) }
     {
         a_node_sends_by_its_own_interfaces(topology);
@@ -234,7 +234,7 @@ impl Devices {
     }
 
     /// What the node of an interface does with a packet that arrives there. An `Err` changes nothing.
-    pub fn arrive(
+    pub fn react_to_arrival(
         &mut self,
         alloc: Global,
         topology: &Topology,
@@ -242,11 +242,11 @@ impl Devices {
         packet: &Packet,
     ) -> Result<Reaction, AllocError>
         requires place { iface < length topology.now.ifaces }
-        requires stand { IsStanding topology.now self.old }
+        requires represented { DevicesRepresentSome topology.now self.old }
         ensures err { OnErr result (self.new ≡ self.old) }
         ensures ports { self.new.ports ≡ self.old.ports }
         ensures own { IfOk result (λ r. IfSome (sent_of r) (λ s. s.0 < length topology.now.ifaces)) }
-        ensures reacts { (states : ℕ → NodeStateValue) (ports : ℕ → PortState (List ℕ)) → Stand topology.now self.old states ports
+        ensures reacts { (states : ℕ → NodeStateValue) (ports : ℕ → PortState (List ℕ)) → DevicesRepresent topology.now self.old states ports
             → IfOk result (λ r. Reacts topology.now states ports ((net_of topology.now).owner iface) (Arrival iface) packet.now
             self.new (sent_of r)) }
     {
@@ -268,7 +268,7 @@ impl Devices {
         requires busy { IsBusy (slice_get self.old.ports iface) }
         requires count { length self.old.ports ≡ length topology.now.ifaces }
         ensures does { (states : ℕ → NodeStateValue) (ports : ℕ → PortState (List ℕ)) (number : ℕ)
-            → Stand topology.now self.old states ports
+            → DevicesRepresent topology.now self.old states ports
             → Does topology.now states ports (key_of time (Complete iface) number) Completion self.new
             (record { came = None; start = result; follows = None }) }
     {
@@ -278,7 +278,7 @@ impl Devices {
 
     /// What the node of a source does with a packet that the source hands over, and the source's next packet. An `Err`
     /// changes nothing.
-    pub fn fire(
+    pub fn react_to_source(
         &mut self,
         alloc: Global,
         topology: &Topology,
@@ -289,12 +289,12 @@ impl Devices {
         requires place { source < length topology.now.sources }
         requires fits { FitsOrigin topology.now (FromSource source) packet.now }
         requires number { number < 2 ^ 63 }
-        requires stand { IsStanding topology.now self.old }
+        requires represented { DevicesRepresentSome topology.now self.old }
         ensures err { OnErr result (self.new ≡ self.old) }
         ensures ports { self.new.ports ≡ self.old.ports }
         ensures own { IfOk result (λ f. IfSome (sent_of f.reaction) (λ s. s.0 < length topology.now.ifaces)) }
         ensures follows { IfOk result (λ f. f.follows ≡ source_at topology.now source (number + 1)) }
-        ensures reacts { (states : ℕ → NodeStateValue) (ports : ℕ → PortState (List ℕ)) → Stand topology.now self.old states ports
+        ensures reacts { (states : ℕ → NodeStateValue) (ports : ℕ → PortState (List ℕ)) → DevicesRepresent topology.now self.old states ports
             → IfOk result (λ f. Reacts topology.now states ports ((net_of topology.now).source_node source) (FromSource source)
             packet.now self.new (sent_of f.reaction)) }
     {

@@ -15,10 +15,10 @@ ghost use Rattle.nm_model.specs.Run.{State, start, step, source_events};
 ghost use Rattle.nm_forward.specs.State.{NodeStateValue};
 ghost use Rattle.nm_forward.specs.Reaction.{FitsOrigin, sent_of};
 ghost use Rattle.nm_sim.specs.Network.{net_of};
-ghost use Rattle.nm_sim.specs.Part.{Advanced, HasReacted, IsReady, IsUnderWay, Performed, Stands, Stepped, count_at, drops_at, events_counted, events_done};
+ghost use Rattle.nm_sim.specs.Part.{Advanced, HasReacted, IsReady, IsUnderWay, Performed, Represents, Stepped, count_at, drops_at, events_counted, events_done};
 ghost use Rattle.nm_topology.specs.Wholes.{NetworkValue};
 ghost use Rattle.std.specs.FinMap.{empty};
-ghost use Rattle.nm_sim.specs.Devices.{IsStanding};
+ghost use Rattle.nm_sim.specs.Devices.{DevicesRepresentSome};
 ghost use Rattle.nm_sim.specs.Tables.{AllAt};
 ghost use Rattle.nm_sim.specs.Timelines.{everywhere};
 
@@ -59,12 +59,12 @@ impl<L> Model for Part<L> {
 }
 
 /// The timeline of a network at the start of a run: the first packet of each source is to come.
-fn opened<L: EventList + Drop>(
+fn first_timeline<L: EventList + Drop>(
     alloc: Global,
     topology: &Topology,
     devices: &Devices,
 ) -> Result<Timeline<L>, AllocError>
-    requires { IsStanding topology.now devices.now }
+    requires { DevicesRepresentSome topology.now devices.now }
     ensures events { IfOk result (λ l. L.pending l.events
         ≡ schedule everywhere (source_events (net_of topology.now) (length topology.now.sources)) empty) }
     ensures sent { IfOk result (λ l. l.sent ≡ replicate (length topology.now.ifaces) 0) }
@@ -77,7 +77,7 @@ fn opened<L: EventList + Drop>(
         let source = SourceNo::new(number as u32);
         timeline.reserve()?;
         let first = devices.first_packet(alloc, topology, source)?;
-        timeline.opens(source, first);
+        timeline.schedule_first(source, first);
     }
     Ok(timeline)
 }
@@ -91,13 +91,13 @@ impl<L: EventList> Part<L> {
     pub fn start(alloc: Global, topology: &Topology) -> Result<Self, AllocError>
     where
         L: Drop,
-        ensures stands { IfOk result (λ p. Stands L.pending topology.now p (start (net_of topology.now) everywhere [])) }
+        ensures represents { IfOk result (λ p. Represents L.pending topology.now p (start (net_of topology.now) everywhere [])) }
         ensures steps { IfOk result (λ p. p.steps ≡ 0) }
     {
         every_topology_is_a_network(topology);
         every_state_is_orderly::<Packet, NodeState>();
         let devices = Devices::new(alloc, topology)?;
-        let timeline = opened(alloc, topology, &devices)?;
+        let timeline = first_timeline(alloc, topology, &devices)?;
         Ok(Part {
             devices,
             timeline,
@@ -118,8 +118,8 @@ impl<L: EventList> Part<L> {
         before: Time,
     ) -> Result<Option<Key>, AllocError>
         requires before { before ≤ topology.now.stop }
-        requires stands { (s : State (List ℕ) NodeStateValue) × Stands L.pending topology.now self.old s }
-        ensures step { (s : State (List ℕ) NodeStateValue) → Stands L.pending topology.now self.old s
+        requires represents { (s : State (List ℕ) NodeStateValue) × Represents L.pending topology.now self.old s }
+        ensures step { (s : State (List ℕ) NodeStateValue) → Represents L.pending topology.now self.old s
             → Stepped L.pending topology.now before s self.old self.new result }
         ensures steps { self.new.steps ≡ self.old.steps + events_done result }
     {
@@ -141,8 +141,8 @@ impl<L: EventList> Part<L> {
         before: Time,
     ) -> Result<bool, AllocError>
         requires before { before ≤ topology.now.stop }
-        requires stands { (s : State (List ℕ) NodeStateValue) × Stands L.pending topology.now self.old s }
-        ensures advance { (s : State (List ℕ) NodeStateValue) → Stands L.pending topology.now self.old s
+        requires represents { (s : State (List ℕ) NodeStateValue) × Represents L.pending topology.now self.old s }
+        ensures advance { (s : State (List ℕ) NodeStateValue) → Represents L.pending topology.now self.old s
             → Advanced L.pending topology.now before s self.old self.new result }
         ensures steps { self.new.steps ≡ self.old.steps + events_counted result }
     {
@@ -160,7 +160,7 @@ impl<L: EventList> Part<L> {
 
     /// What the node counted, if it is there.
     pub fn counter(&self, node: NodeNo, counter: Counter) -> Option<u64>
-        ensures { (t : NetworkValue) (s : State (List ℕ) NodeStateValue) → Stands L.pending t self.now s
+        ensures { (t : NetworkValue) (s : State (List ℕ) NodeStateValue) → Represents L.pending t self.now s
             → result ≡ count_at t s node counter }
     {
         self.devices.counter(node, counter)
@@ -168,7 +168,7 @@ impl<L: EventList> Part<L> {
 
     /// How many packets were dropped at the interface, if it is there.
     pub fn dropped(&self, iface: IfaceNo) -> Option<u64>
-        ensures { (t : NetworkValue) (s : State (List ℕ) NodeStateValue) → Stands L.pending t self.now s
+        ensures { (t : NetworkValue) (s : State (List ℕ) NodeStateValue) → Represents L.pending t self.now s
             → result ≡ drops_at t s iface }
     {
         self.devices.dropped(iface)
@@ -202,15 +202,15 @@ impl<L: EventList> Part<L> {
     #[inline(always)]
     fn perform(&mut self, alloc: Global, topology: &Topology) -> Result<(), AllocError>
         requires least { (s : State (List ℕ) NodeStateValue) × (e : EventKey × PendingEvent (List ℕ))
-            × Stands L.pending topology.now self.old s × (least s.pending ≡ Some e) × (e.0.time < topology.now.stop) }
+            × Represents L.pending topology.now self.old s × (least s.pending ≡ Some e) × (e.0.time < topology.now.stop) }
         requires steps { self.old.steps < 2 ^ 62 }
         requires ports { AllAt (λ i w. 1 ≤ w.room) self.old.devices.ports }
         requires room { 2 ≤ L.room self.old.timeline.events }
         requires spare { 2 ≤ self.old.timeline.spare }
-        ensures ok { OnOk result ((s : State (List ℕ) NodeStateValue) → Stands L.pending topology.now self.old s
-            → Stands L.pending topology.now self.new (step (net_of topology.now) everywhere s)) }
-        ensures err { OnErr result ((s : State (List ℕ) NodeStateValue) → Stands L.pending topology.now self.old s
-            → Stands L.pending topology.now self.new s) }
+        ensures ok { OnOk result ((s : State (List ℕ) NodeStateValue) → Represents L.pending topology.now self.old s
+            → Represents L.pending topology.now self.new (step (net_of topology.now) everywhere s)) }
+        ensures err { OnErr result ((s : State (List ℕ) NodeStateValue) → Represents L.pending topology.now self.old s
+            → Represents L.pending topology.now self.new s) }
         ensures one { OnOk result (self.new.steps ≡ self.old.steps + 1) }
         ensures none { OnErr result (self.new.steps ≡ self.old.steps) }
     {
@@ -218,12 +218,12 @@ impl<L: EventList> Part<L> {
         let Some((key, event)) = self.timeline.take_least() else {
             unreachable!()
         };
-        self.happen(alloc, topology, key, event)
+        self.dispatch(alloc, topology, key, event)
     }
 
     /// An event that was taken out happens. An `Err` puts it back.
     #[inline(always)]
-    fn happen(
+    fn dispatch(
         &mut self,
         alloc: Global,
         topology: &Topology,
@@ -272,7 +272,7 @@ impl<L: EventList> Part<L> {
         ensures { Performed L.pending L.room topology.now (key_of time (Arrive iface) number) (Delivery packet)
             self.old self.new result }
     {
-        let Ok(reaction) = self.devices.arrive(alloc, topology, iface, &packet) else {
+        let Ok(reaction) = self.devices.react_to_arrival(alloc, topology, iface, &packet) else {
             let place = Place::Arrive(iface);
             let key = Key {
                 time,
@@ -282,8 +282,8 @@ impl<L: EventList> Part<L> {
             self.timeline.put(key, Event::Delivery(packet));
             return Err(AllocError);
         };
-        self.timeline.arrived(time, iface, packet);
-        self.go_on(topology, time, reaction);
+        self.timeline.record_arrival(time, iface, packet);
+        self.send(topology, time, reaction);
         Ok(())
     }
 
@@ -296,7 +296,7 @@ impl<L: EventList> Part<L> {
             → Performed L.pending L.room topology.now (key_of time (Complete iface) number) Completion self.old self.new (Ok tt) }
     {
         let start = self.devices.complete(topology, time, iface);
-        self.conclude(topology, time, start);
+        self.finish(topology, time, start);
     }
 
     /// A source hands a packet over. An `Err` puts the event back.
@@ -325,17 +325,17 @@ impl<L: EventList> Part<L> {
             place,
             number,
         };
-        let Ok(fired) = self.devices.fire(alloc, topology, source, number, &packet) else {
+        let Ok(fired) = self.devices.react_to_source(alloc, topology, source, number, &packet) else {
             self.timeline.put(key, Event::Delivery(packet));
             return Err(AllocError);
         };
-        self.timeline.follows(key, fired.follows);
-        self.go_on(topology, time, fired.reaction);
+        self.timeline.schedule_next(key, fired.follows);
+        self.send(topology, time, fired.reaction);
         Ok(())
     }
 
     /// The event that is under way is done: what its node sends is offered to a port, and a transmission starts, if one does.
-    fn go_on(&mut self, topology: &Topology, time: Time, reaction: Reaction)
+    fn send(&mut self, topology: &Topology, time: Time, reaction: Reaction)
         requires time { time ≤ MAX_TIME }
         requires own { IfSome (sent_of reaction) (λ z. z.0 < length topology.now.ifaces) }
         requires steps { self.old.steps < 2 ^ 62 }
@@ -345,36 +345,36 @@ impl<L: EventList> Part<L> {
         requires reacted { (q : EventPlace) × (n : ℕ) × (e : PendingEvent (List ℕ)) × (came follows : Option (ℕ × List ℕ))
             × (node : ℕ → NodeStateValue) × (s : State (List ℕ) NodeStateValue)
             × HasReacted L.pending topology.now (key_of time q n) e came follows (sent_of reaction) node self.old s }
-        ensures stands { (q : EventPlace) (n : ℕ) (e : PendingEvent (List ℕ)) (came follows : Option (ℕ × List ℕ))
+        ensures represents { (q : EventPlace) (n : ℕ) (e : PendingEvent (List ℕ)) (came follows : Option (ℕ × List ℕ))
             (node : ℕ → NodeStateValue) (s : State (List ℕ) NodeStateValue)
             → HasReacted L.pending topology.now (key_of time q n) e came follows (sent_of reaction) node self.old s
-            → Stands L.pending topology.now self.new (step (net_of topology.now) everywhere s) }
+            → Represents L.pending topology.now self.new (step (net_of topology.now) everywhere s) }
         ensures steps { self.new.steps ≡ self.old.steps + 1 }
     {
-        let start = self.devices.send(topology, time, reaction);
-        self.conclude(topology, time, start);
+        let start = self.devices.offer(topology, time, reaction);
+        self.finish(topology, time, start);
     }
 
     /// The event that is under way is done, with the transmission that starts, if one does.
     #[inline(always)]
-    fn conclude(&mut self, topology: &Topology, time: Time, start: Option<(IfaceNo, Start)>)
+    fn finish(&mut self, topology: &Topology, time: Time, start: Option<(IfaceNo, Start)>)
         requires steps { self.old.steps < 2 ^ 62 }
         requires room { 2 ≤ L.room self.old.timeline.events }
         requires spare { 1 ≤ self.old.timeline.spare }
         requires under_way { (q : EventPlace) × (n : ℕ) × (e : PendingEvent (List ℕ)) × (came follows : Option (ℕ × List ℕ))
             × (s : State (List ℕ) NodeStateValue) × IsUnderWay L.pending topology.now (key_of time q n) e
             (record { came = came; start = start; follows = follows }) self.old s }
-        ensures stands { (q : EventPlace) (n : ℕ) (e : PendingEvent (List ℕ)) (came follows : Option (ℕ × List ℕ))
+        ensures represents { (q : EventPlace) (n : ℕ) (e : PendingEvent (List ℕ)) (came follows : Option (ℕ × List ℕ))
             (s : State (List ℕ) NodeStateValue) → IsUnderWay L.pending topology.now (key_of time q n) e
             (record { came = came; start = start; follows = follows }) self.old s
-            → Stands L.pending topology.now self.new (step (net_of topology.now) everywhere s) }
+            → Represents L.pending topology.now self.new (step (net_of topology.now) everywhere s) }
         ensures steps { self.new.steps ≡ self.old.steps + 1 }
     {
         every_topology_is_a_network(topology);
         accepted_topologies_are_in_order(topology);
         every_state_is_orderly::<Packet, NodeState>();
         new_keys_are_new::<Packet, NodeState>();
-        self.timeline.begins(topology, time, start);
+        self.timeline.schedule_transmission(topology, time, start);
         self.steps += 1;
     }
 }

@@ -12,7 +12,7 @@ ghost use Rattle.nm_model.specs.Run.{first_event, in_record, out_record, next_ev
 ghost use Rattle.nm_model.specs.EventList.{schedule};
 ghost use Rattle.nm_sim.specs.Effects.{StartsAt, start_of};
 ghost use Rattle.nm_sim.specs.Network.{net_of};
-ghost use Rattle.nm_sim.specs.Timelines.{AreFresh, IsFew, Told, everywhere};
+ghost use Rattle.nm_sim.specs.Timelines.{AreFresh, IsFew, TimelineRepresents, everywhere};
 
 use nm_base::{Dir, Event, IfaceNo, Key, Packet, Place, Record, SourceNo, Time};
 use nm_events::EventList;
@@ -115,7 +115,7 @@ impl<L: EventList> Timeline<L> {
     }
 
     /// A source's first packet is to come, if it has one.
-    pub fn opens(&mut self, source: SourceNo, first: Option<(Time, SourcePacket)>)
+    pub fn schedule_first(&mut self, source: SourceNo, first: Option<(Time, SourcePacket)>)
         requires room { 1 ≤ L.room self.old.events }
         requires fresh { AreFresh (L.pending self.old.events) (first_event source first) }
         ensures events { L.pending self.new.events
@@ -135,7 +135,7 @@ impl<L: EventList> Timeline<L> {
     }
 
     /// A packet arrived.
-    pub fn arrived(&mut self, time: Time, iface: IfaceNo, packet: Packet)
+    pub fn record_arrival(&mut self, time: Time, iface: IfaceNo, packet: Packet)
         requires { 1 ≤ self.old.spare }
         ensures others { self.new ≡ record self.old { records = self.new.records; spare = self.new.spare } }
         ensures records { self.new.records ≡ self.old.records ++ in_record time (Some (iface, packet)) }
@@ -153,7 +153,7 @@ impl<L: EventList> Timeline<L> {
     }
 
     /// The source's next packet is to come, if there is one.
-    pub fn follows(&mut self, key: Key, follows: Option<(Time, SourcePacket)>)
+    pub fn schedule_next(&mut self, key: Key, follows: Option<(Time, SourcePacket)>)
         requires number { key.number < 2 ^ 63 }
         requires room { 1 ≤ L.room self.old.events }
         requires fresh { AreFresh (L.pending self.old.events) (next_events key.place key.number follows) }
@@ -180,29 +180,29 @@ impl<L: EventList> Timeline<L> {
 
     /// A transmission starts, if one does: its completion and its arrival are to come.
     #[inline(always)]
-    pub fn begins(&mut self, topology: &Topology, time: Time, start: Option<(IfaceNo, Start)>)
+    pub fn schedule_transmission(&mut self, topology: &Topology, time: Time, start: Option<(IfaceNo, Start)>)
         requires begins { IfSome start (StartsAt topology.now time) }
-        requires told { (sent : ℕ → List (ℕ × List ℕ)) × Told topology.now self.old sent × IsFew sent
+        requires numbered { (sent : ℕ → List (ℕ × List ℕ)) × TimelineRepresents topology.now self.old sent × IsFew sent
             × AreFresh (L.pending self.old.events) (start_events (net_of topology.now) time sent (start_of start)) }
         requires spare { 1 ≤ self.old.spare }
         requires room { 2 ≤ L.room self.old.events }
-        ensures events { (sent : ℕ → List (ℕ × List ℕ)) → Told topology.now self.old sent → L.pending self.new.events
+        ensures events { (sent : ℕ → List (ℕ × List ℕ)) → TimelineRepresents topology.now self.old sent → L.pending self.new.events
             ≡ schedule everywhere (start_events (net_of topology.now) time sent (start_of start)) (L.pending self.old.events) }
-        ensures told { (sent : ℕ → List (ℕ × List ℕ)) → Told topology.now self.old sent
-            → Told topology.now self.new (sent_after (net_of topology.now) time sent (start_of start)) }
+        ensures numbered { (sent : ℕ → List (ℕ × List ℕ)) → TimelineRepresents topology.now self.old sent
+            → TimelineRepresents topology.now self.new (sent_after (net_of topology.now) time sent (start_of start)) }
         ensures records { self.new.records ≡ self.old.records ++ out_record time (start_of start) }
     {
         accepted_topologies_are_in_order(topology);
         if let Some(begun) = start {
             let (iface, start) = begun;
             let peer = topology.iface(iface).far().peer;
-            self.starts(time, iface, peer, start);
+            self.put_transmission(time, iface, peer, start);
         }
     }
 
     /// A transmission starts at an interface, towards its peer: its completion and its arrival are to come.
     #[inline(always)]
-    fn starts(&mut self, time: Time, iface: IfaceNo, peer: IfaceNo, start: Start)
+    fn put_transmission(&mut self, time: Time, iface: IfaceNo, peer: IfaceNo, start: Start)
         requires peer { peer < length self.old.sent }
         requires count { slice_index self.old.sent peer < 2 ^ 63 }
         requires spare { 1 ≤ self.old.spare }

@@ -5,7 +5,7 @@ ghost use Rattle.nm_events.specs.Held.{pending_of};
 ghost use Rattle.nm_model.specs.Before.{IsBefore};
 ghost use Rattle.nm_model.specs.Run.{one_list};
 ghost use Rattle.nm_sim.specs.Network.{net_of};
-ghost use Rattle.nm_sim.specs.Part.{Stands};
+ghost use Rattle.nm_sim.specs.Part.{Represents};
 ghost use Rattle.nm_sim.specs.Trace.{IsTraceBefore};
 
 use crate::part::{MAX_STEPS, Part};
@@ -29,9 +29,9 @@ fn run(
     part: &mut Part<SortedList>,
 ) -> Result<(), AllocError>
     requires before { before ≤ topology.now.stop }
-    requires stands { Stands pending_of topology.now part.old (one_list (net_of topology.now) 0) }
+    requires represents { Represents pending_of topology.now part.old (one_list (net_of topology.now) 0) }
     ensures { OnOk result ((n : ℕ) × IsBefore (net_of topology.now) before n
-        × Stands pending_of topology.now part.new (one_list (net_of topology.now) n)) }
+        × Represents pending_of topology.now part.new (one_list (net_of topology.now) n)) }
 {
     for done in 0..MAX_STEPS + 1 {
         if !part.advance(alloc, topology, before)? {

@@ -3,7 +3,7 @@
 ghost use Rattle.std.specs.Prelude.{ℕ, List, IfOk};
 ghost use Rattle.nm_forward.specs.State.{NodeStateValue};
 ghost use Rattle.nm_model.specs.Run.{State};
-ghost use Rattle.nm_sim.specs.Part.{Stands};
+ghost use Rattle.nm_sim.specs.Part.{Represents};
 
 use nm_base::{Key, Time};
 use nm_events::EventList;
@@ -22,8 +22,8 @@ fn step_before<L: EventList>(
     part: &mut Part<L>,
     before: Time,
 ) -> Result<Option<Key>, AllocError>
-    requires { (s : State (List ℕ) NodeStateValue) × Stands L.pending topology.now part.old s }
-    ensures { (s : State (List ℕ) NodeStateValue) × Stands L.pending topology.now part.new s }
+    requires { (s : State (List ℕ) NodeStateValue) × Represents L.pending topology.now part.old s }
+    ensures { (s : State (List ℕ) NodeStateValue) × Represents L.pending topology.now part.new s }
 {
     let stop = topology.stop();
     let before = if before < stop { before } else { stop };
@@ -40,7 +40,7 @@ pub fn run_before<L: EventList + Drop>(
     topology: &Topology,
     before: Time,
 ) -> Result<Part<L>, AllocError>
-    ensures { IfOk result (λ p. (s : State (List ℕ) NodeStateValue) × Stands L.pending topology.now p s) }
+    ensures { IfOk result (λ p. (s : State (List ℕ) NodeStateValue) × Represents L.pending topology.now p s) }
 {
     let mut part = Part::start(alloc, topology)?;
     for _ in 0..u64::MAX {

@@ -2,7 +2,7 @@ use Rattle.std.proofs.Common.{◌≡◌, ◌≤◌, ◌+◌, length, Some, slice
 use Rattle.std.proofs.lemmas.Option.{slice_get_read}
 use Rattle.nm_model.specs.Port.{idle_port}
 use Rattle.nm_sim.specs.Devices.{IsPortOf}
-use Rattle.nm_sim.proofs.Stands.{first_port}
+use Rattle.nm_sim.proofs.Represents.{first_port}
 use Rattle.nm_sim.proofs.Tables.{all_pushed}
 use Rattle.nm_sim.proofs.devices.first_ports.Goals as goal
 

@@ -1,11 +1,11 @@
 use Rattle.std.proofs.Common.{◌≡◌, ◌<◌, ℕ, true}
 use Rattle.nm_model.specs.Run.{one_list, pends_before}
 use Rattle.nm_sim.specs.Network.{net_of}
-use Rattle.nm_sim.specs.Part.{Stands}
+use Rattle.nm_sim.specs.Part.{Represents}
 use Rattle.nm_events.specs.Held.{pending_of}
 use Rattle.nm_sim.proofs.trace.run.Given as goal
 
 abbrev pub invariant-loop-done : goal.invariant-loop-done
 invariant-loop-done l =
-    Stands pending_of l.topology l.part (one_list (net_of l.topology) l.done)
+    Represents pending_of l.topology l.part (one_list (net_of l.topology) l.done)
     × ((m : ℕ) → m < l.done → pends_before l.before (one_list (net_of l.topology) m) ≡ true)

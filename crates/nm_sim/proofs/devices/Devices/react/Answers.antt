@@ -3,13 +3,13 @@ use Rattle.nm_forward.specs.Reaction.{sent_of}
 use Rattle.std.proofs.lemmas.Option.{slice_get_read}
 use Rattle.std.proofs.lemmas.Result.{IfOk-weaker}
 use Rattle.nm_sim.specs.contracts.devices.Devices.{the_view}
-use Rattle.nm_sim.specs.Devices.{DevicesValue, IsStanding}
+use Rattle.nm_sim.specs.Devices.{DevicesValue, DevicesRepresentSome}
 use Rattle.nm_sim.proofs.Reactings.{reacts_by, sends_within, table_is}
 use Rattle.nm_sim.proofs.devices.Devices.react.Goals as goal
 
 pub react-requires-clause-table : goal.react-requires-clause-table
 react-requires-clause-table c =
-    let z : IsStanding c.args.topology.now (the_view c.self.inside) = subst (λ d. IsStanding c.args.topology.now d) (sym c.self.view_is) c.requires.stand in
+    let z : DevicesRepresentSome c.args.topology.now (the_view c.self.inside) = subst (λ d. DevicesRepresentSome c.args.topology.now d) (sym c.self.view_is) c.requires.represented in
     let within : c.args.node < length c.self.inside.nodes.items = omega (arith, c.requires.node, z.2.node_count) in
     let here : slice_get c.self.inside.nodes.items c.args.node ≡ Some c.index_mut.result.now = search (rules, slice_get_read) in
     table_is c.args.topology.now (the_view c.self.inside) (the_view c.self.inside) z.0 z.1 z.2 c.args.node c.index_mut.result.now here

@@ -19,8 +19,8 @@ complete-start-requires-clause-busy g c =
     let there = least_has s.pending (key_of c.args.time (Complete c.args.iface) c.requires.0, Completion) ready.taken.first in
     is_busy c.args.topology.now s ready.taken.orderly c.self.inside.devices ready.devices c.args.iface c.args.time c.requires.0 Completion there (ready.taken.placed _ _ there)
 
-pub conclude-requires-clause-under_way : goal.conclude-requires-clause-under_way
-conclude-requires-clause-under_way g c =
+pub finish-requires-clause-under_way : goal.finish-requires-clause-under_way
+finish-requires-clause-under_way g c =
     let s = c.requires.1 in
     let p : PartValue g.row.L.Denot = record { devices = c.self.inside.devices; timeline = c.self.inside.timeline; steps = c.self.inside.steps } in
     let q : PartValue g.row.L.Denot = record { devices = c.complete-start.new.self; timeline = c.self.inside.timeline; steps = c.self.inside.steps } in
@@ -41,7 +41,7 @@ returns g c = rw (← c.self.view_is) (λ number. (
       let p : PartValue g.row.L.Denot = record { devices = c.self.inside.devices; timeline = c.self.inside.timeline; steps = c.self.inside.steps } in
       let q : PartValue g.row.L.Denot = record { devices = c.complete-start.new.self; timeline = c.self.inside.timeline; steps = c.self.inside.steps } in
       let k = key_of c.args.time (Complete c.args.iface) number in
-      c.conclude.ensures.stands (Complete c.args.iface) number Completion None None s
+      c.finish.ensures.represents (Complete c.args.iface) number Completion None None s
       (record { taken = taken_same g.L.EventList.pending c.args.topology.now k Completion p q s ready.taken refl refl; does = c.complete-start.ensures.does s.node s.port number ready.devices }),
-  c.conclude.ensures.steps,
+  c.finish.ensures.steps,
 ))

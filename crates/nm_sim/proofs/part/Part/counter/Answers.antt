@@ -1,9 +1,9 @@
 use Rattle.std.proofs.Common.{sym, subst, ◌∙◌}
-use Rattle.nm_sim.specs.Part.{PartValue, Stands}
+use Rattle.nm_sim.specs.Part.{PartValue, Represents}
 use Rattle.nm_sim.proofs.Parts.{counter_is}
 use Rattle.nm_sim.proofs.part.Part.counter.Goals as goal
 
 pub returns : goal.returns
 returns g c = λ t s h.
-    let stands = subst (λ (p : PartValue g.row.L.Denot). Stands g.L.EventList.pending t p s) (sym c.self.view_is) h in
-    c.counter.ensures ∙ counter_is t c.self.inside.devices s stands.devices c.args.node c.args.counter
+    let represents = subst (λ (p : PartValue g.row.L.Denot). Represents g.L.EventList.pending t p s) (sym c.self.view_is) h in
+    c.counter.ensures ∙ counter_is t c.self.inside.devices s represents.devices c.args.node c.args.counter

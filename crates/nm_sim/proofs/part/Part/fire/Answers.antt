@@ -7,13 +7,13 @@ use Rattle.nm_traffic.specs.Source.{source_at}
 use Rattle.nm_sim.specs.Network.{net_of}
 use Rattle.nm_sim.specs.Part.{IsReady, PartValue}
 use Rattle.nm_sim.specs.Timelines.{everywhere}
-use Rattle.nm_sim.proofs.Parts.{stands_again}
+use Rattle.nm_sim.proofs.Parts.{represents_again}
 use Rattle.nm_sim.proofs.Steps.{least_has}
 use Rattle.nm_sim.proofs.Takings.{fires_next, fires_on, follows_fresh, key_is_free}
 use Rattle.nm_sim.proofs.part.Part.fire.Goals as goal
 
-pub fire-requires-clause-place : goal.fire-requires-clause-place
-fire-requires-clause-place g c =
+pub react_to_source-requires-clause-place : goal.react_to_source-requires-clause-place
+react_to_source-requires-clause-place g c =
     let taken = c.requires.ready.1.taken in
     taken.placed _ _ (least_has c.requires.ready.0.pending _ taken.first)
 
@@ -29,14 +29,14 @@ pub returns-in_default : goal.returns-in_default
 returns-in_default g c = rw (← c.self.view_is) (
   λ s ready.
       let p : PartValue g.row.L.Denot = record { devices = c.self.inside.devices; timeline = c.self.inside.timeline; steps = c.self.inside.steps } in
-      let q : PartValue g.row.L.Denot = record { devices = c.fire.new.self; timeline = c.put.new.self; steps = c.self.inside.steps } in
-      stands_again g.L.EventList.pending c.args.topology.now (key_of c.args.time (Fire c.args.source) c.args.number) (Delivery c.args.packet) p q s ready.taken ready.devices
+      let q : PartValue g.row.L.Denot = record { devices = c.react_to_source.new.self; timeline = c.put.new.self; steps = c.self.inside.steps } in
+      represents_again g.L.EventList.pending c.args.topology.now (key_of c.args.time (Fire c.args.source) c.args.number) (Delivery c.args.packet) p q s ready.taken ready.devices
       c.in_default.ensures.err (ap (λ l. l.sent) c.put.ensures.others) (ap (λ l. l.records) c.put.ensures.others) refl c.put.ensures.events,
   refl,
 )
 
-pub follows-requires-clause-fresh : goal.follows-requires-clause-fresh
-follows-requires-clause-fresh g c =
+pub schedule_next-requires-clause-fresh : goal.schedule_next-requires-clause-fresh
+schedule_next-requires-clause-fresh g c =
     let s = c.requires.ready.0 in
     let t = c.args.topology.now in
     let net = net_of t in
@@ -51,12 +51,12 @@ follows-requires-clause-fresh g c =
     follows_fresh g.L.EventList.pending t k e p s c.in-Ok.fired.follows
     (c.in-Ok.ensures.follows ∙ ap (source_at t c.args.source) n ∙ fires_next t s c.args.time c.args.source c.args.number c.args.packet) fresh apart ready.taken
 
-pub go_on-requires-clause-reacted : goal.go_on-requires-clause-reacted
-go_on-requires-clause-reacted g c =
+pub send-requires-clause-reacted : goal.send-requires-clause-reacted
+send-requires-clause-reacted g c =
     let s = c.requires.ready.0 in
     let t = c.args.topology.now in
     let p : PartValue g.row.L.Denot = record { devices = c.self.inside.devices; timeline = c.self.inside.timeline; steps = c.self.inside.steps } in
-    let q : PartValue g.row.L.Denot = record { devices = c.fire.new.self; timeline = c.follows.new.self; steps = c.self.inside.steps } in
+    let q : PartValue g.row.L.Denot = record { devices = c.react_to_source.new.self; timeline = c.schedule_next.new.self; steps = c.self.inside.steps } in
     let ready = subst (λ (p : PartValue g.row.L.Denot). IsReady g.L.EventList.pending g.L.EventList.room t (key_of c.args.time (Fire c.args.source) c.args.number) (Delivery c.args.packet) p s) (sym c.self.view_is) c.requires.ready.1 in
     let n : c.args.number + 1 ≡ suc c.args.number = omega arith in (
       Fire c.args.source,
@@ -67,8 +67,8 @@ go_on-requires-clause-reacted g c =
       _,
       s,
       fires_on g.L.EventList.pending g.L.EventList.room t c.args.time c.args.number p q s c.args.packet (sent_of c.in-Ok.fired.reaction) c.args.source c.in-Ok.fired.follows
-          ready (c.in-Ok.ensures.reacts s.node s.port ready.devices) (c.in-Ok.ensures.follows ∙ ap (source_at t c.args.source) n) c.follows.ensures.events
-          (ap (λ l. l.sent) c.follows.ensures.others) (ap (λ l. l.records) c.follows.ensures.others) refl,
+          ready (c.in-Ok.ensures.reacts s.node s.port ready.devices) (c.in-Ok.ensures.follows ∙ ap (source_at t c.args.source) n) c.schedule_next.ensures.events
+          (ap (λ l. l.sent) c.schedule_next.ensures.others) (ap (λ l. l.records) c.schedule_next.ensures.others) refl,
     )
 
 pub returns : goal.returns
@@ -76,11 +76,11 @@ returns g c = rw (← c.self.view_is) (
   λ s ready.
       let t = c.args.topology.now in
       let p : PartValue g.row.L.Denot = record { devices = c.self.inside.devices; timeline = c.self.inside.timeline; steps = c.self.inside.steps } in
-      let q : PartValue g.row.L.Denot = record { devices = c.fire.new.self; timeline = c.follows.new.self; steps = c.self.inside.steps } in
+      let q : PartValue g.row.L.Denot = record { devices = c.react_to_source.new.self; timeline = c.schedule_next.new.self; steps = c.self.inside.steps } in
       let n : c.args.number + 1 ≡ suc c.args.number = omega arith in
-      c.go_on.ensures.stands (Fire c.args.source) c.args.number (Delivery c.args.packet) None c.in-Ok.fired.follows _ s
+      c.send.ensures.represents (Fire c.args.source) c.args.number (Delivery c.args.packet) None c.in-Ok.fired.follows _ s
       (fires_on g.L.EventList.pending g.L.EventList.room t c.args.time c.args.number p q s c.args.packet (sent_of c.in-Ok.fired.reaction) c.args.source c.in-Ok.fired.follows
-      ready (c.in-Ok.ensures.reacts s.node s.port ready.devices) (c.in-Ok.ensures.follows ∙ ap (source_at t c.args.source) n) c.follows.ensures.events
-      (ap (λ l. l.sent) c.follows.ensures.others) (ap (λ l. l.records) c.follows.ensures.others) refl),
-  c.go_on.ensures.steps,
+      ready (c.in-Ok.ensures.reacts s.node s.port ready.devices) (c.in-Ok.ensures.follows ∙ ap (source_at t c.args.source) n) c.schedule_next.ensures.events
+      (ap (λ l. l.sent) c.schedule_next.ensures.others) (ap (λ l. l.records) c.schedule_next.ensures.others) refl),
+  c.send.ensures.steps,
 )

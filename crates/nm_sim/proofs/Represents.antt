@@ -1,4 +1,4 @@
--- Devices that stand for the states of nodes and ports.
+-- Devices that represent the states of nodes and ports.
 use Rattle.std.proofs.Common.{◌≡◌, ◌≢◌, ℕ, ◌+◌, ◌==◌, Bool, true, false, cond, List, [], ◌∷◌, ◌++◌, length, Option, Some, None, slice_get, slice_set, refl, sym, ap, ◌∙◌, subst, arith, length-set}
 use Rattle.std.proofs.lemmas.Bool.Decides.{nat_tests}
 use Rattle.nm_topology.specs.Networks.{IfaceValue}
@@ -7,9 +7,9 @@ use Rattle.nm_model.specs.Lists.{set_at}
 use Rattle.nm_model.specs.Port.{Busy, Port, idle_port, offered, completed, next_started}
 use Rattle.nm_forward.specs.State.{NodeStateValue, table_of}
 use Rattle.nm_traffic.specs.Source.{source_of}
-use Rattle.nm_iface.specs.PortValue.{PortValue, counted, has_room, takes, with_port}
+use Rattle.nm_iface.specs.PortValue.{PortValue, saturated, has_room, takes, with_port}
 use Rattle.nm_sim.specs.Network.{far_from, far_of, queue_from, queue_of, net_of}
-use Rattle.nm_sim.specs.Devices.{DevicesValue, IsPortOf, Stand}
+use Rattle.nm_sim.specs.Devices.{DevicesValue, IsPortOf, DevicesRepresent}
 use Rattle.nm_sim.specs.Tables.{AllAt}
 use Rattle.nm_sim.proofs.Tables.{all_set}
 
@@ -25,34 +25,34 @@ first_port t i x w e limit rate delay busy dropped = record {
 
 -- the count of drops of a port stops at the greatest of its type; nothing else depends on it
 abbrev pub IsSameTurn : Port (List ℕ) × Option (List ℕ) → Port (List ℕ) × Option (List ℕ) → Type 0
-IsSameTurn a b = (a.0.busy ≡ b.0.busy) × (counted a.0.dropped ≡ counted b.0.dropped) × (a.1 ≡ b.1)
+IsSameTurn a b = (a.0.busy ≡ b.0.busy) × (saturated a.0.dropped ≡ saturated b.0.dropped) × (a.1 ≡ b.1)
 
-counted_twice : (n : ℕ) → counted (counted n) ≡ counted n
+counted_twice : (n : ℕ) → saturated (saturated n) ≡ saturated n
 counted_twice n = omega arith
 
-counted_more : (n : ℕ) → counted (counted n + 1) ≡ counted (n + 1)
+counted_more : (n : ℕ) → saturated (saturated n + 1) ≡ saturated (n + 1)
 counted_more n = omega arith
 
 offered_counted : (room : List (List ℕ) → List ℕ → Bool) (tx : List ℕ → ℕ) (now : ℕ) (x : List ℕ) (n : ℕ) (b : Option (Busy (List ℕ)))
-    → IsSameTurn (offered room tx now x (counted n) b) (offered room tx now x n b)
+    → IsSameTurn (offered room tx now x (saturated n) b) (offered room tx now x n b)
 offered_counted room tx now x n None = (refl, counted_twice n, refl)
 offered_counted room tx now x n (Some b) = elim (room b.waiting x) as (λ r. IsSameTurn
-    (cond r (record { busy = Some (record { completes = b.completes; waiting = b.waiting ++ x ∷ [] }); dropped = counted n }, None) (record { busy = Some b; dropped = counted n + 1 }, None))
+    (cond r (record { busy = Some (record { completes = b.completes; waiting = b.waiting ++ x ∷ [] }); dropped = saturated n }, None) (record { busy = Some b; dropped = saturated n + 1 }, None))
     (cond r (record { busy = Some (record { completes = b.completes; waiting = b.waiting ++ x ∷ [] }); dropped = n }, None) (record { busy = Some b; dropped = n + 1 }, None))) [
       | true ↦ (refl, counted_twice n, refl)
       | false ↦ (refl, counted_more n, refl)
     ]
 
-completed_counted : (tx : List ℕ → ℕ) (now n : ℕ) (b : Option (Busy (List ℕ))) → IsSameTurn (completed tx now (counted n) b) (completed tx now n b)
+completed_counted : (tx : List ℕ → ℕ) (now n : ℕ) (b : Option (Busy (List ℕ))) → IsSameTurn (completed tx now (saturated n) b) (completed tx now n b)
 completed_counted tx now n None = (refl, counted_twice n, refl)
 completed_counted tx now n (Some b) = go b.waiting
   where
-    go : (waiting : List (List ℕ)) → IsSameTurn (next_started tx now (counted n) waiting) (next_started tx now n waiting)
+    go : (waiting : List (List ℕ)) → IsSameTurn (next_started tx now (saturated n) waiting) (next_started tx now n waiting)
     go [] = (refl, counted_twice n, refl)
     go (x ∷ waiting) = (refl, counted_twice n, refl)
 
 module _ (t : NetworkValue) (i : ℕ) (w : PortValue) (P : Port (List ℕ)) (is : IsPortOf t i w P) (now : ℕ) where
-  -- a port and what it stands for take a packet alike
+  -- a port and what it represents take a packet alike
   pub same_offer : (x : List ℕ) → IsSameTurn (offered (has_room w.limit) (takes w.rate) now x w.dropped w.busy)
       (offered ((net_of t).room i) ((net_of t).tx i) now x P.dropped P.busy)
   unfolding net_of
@@ -67,7 +67,7 @@ module _ (t : NetworkValue) (i : ℕ) (w : PortValue) (P : Port (List ℕ)) (is 
       (sym (λ k. completed (takes (is.rate k)) now (is.dropped k) (is.busy k)))
       (completed_counted (takes (far_of t i).rate) now P.dropped P.busy)
 
-  -- a port after a turn stands for what it stood for, after that turn
+  -- a port after a turn represents what it represented, after that turn
   pub port_after : (a b : Port (List ℕ) × Option (List ℕ)) (room : ℕ) → IsSameTurn a b → IsPortOf t i (with_port w a.0 room) b.0
   port_after a b room same = record { limit = is.limit; rate = is.rate; delay = is.delay; busy = same.0; dropped = same.1 }
 
@@ -92,10 +92,10 @@ set_same f i j = go (j == i) refl
     go true e = ap f (sym (grind (arith, nat_tests, e)))
     go false e = refl
 
-module _ (t : NetworkValue) (d e : DevicesValue) (node : ℕ → NodeStateValue) (port : ℕ → Port (List ℕ)) (s : Stand t d node port) where
+module _ (t : NetworkValue) (d e : DevicesValue) (node : ℕ → NodeStateValue) (port : ℕ → Port (List ℕ)) (s : DevicesRepresent t d node port) where
   -- one port changes
   pub port_turned : (i : ℕ) (w : PortValue) (P : Port (List ℕ)) → e.nodes ≡ d.nodes → e.ports ≡ slice_set d.ports i w → e.sources ≡ d.sources
-      → IsPortOf t i w P → Stand t e node (set_at port i P)
+      → IsPortOf t i w P → DevicesRepresent t e node (set_at port i P)
   port_turned i w P nodes ports sources is = record {
     node_count = ap length nodes ∙ s.node_count;
     nodes = subst (λ l. AllAt (λ v n. n ≡ node v) l) (sym nodes) s.nodes;
@@ -111,7 +111,7 @@ module _ (t : NetworkValue) (d e : DevicesValue) (node : ℕ → NodeStateValue)
 
   -- one node changes, and keeps what the topology says of it
   pub node_changed : (v : ℕ) (n : NodeStateValue) → e.nodes ≡ slice_set d.nodes v n → e.ports ≡ d.ports → e.sources ≡ d.sources
-      → n.table ≡ table_of t v → Stand t e (set_at node v n) port
+      → n.table ≡ table_of t v → DevicesRepresent t e (set_at node v n) port
   node_changed v n nodes ports sources table = record {
     node_count = ap length nodes ∙ length-set d.nodes v n ∙ s.node_count;
     nodes = subst (λ l. AllAt (λ j m. m ≡ set_at node v n j) l) (sym nodes)

@@ -3,7 +3,7 @@ use Rattle.std.specs.FinMap.{get}
 use Rattle.nm_base.specs.Key.{key_of}
 use Rattle.nm_model.specs.Run.{next_events}
 use Rattle.nm_sim.specs.Timelines.{AreFresh, TimelineValue}
-use Rattle.nm_sim.proofs.timeline.Timeline.follows.Goals as goal
+use Rattle.nm_sim.proofs.timeline.Timeline.schedule_next.Goals as goal
 
 pub put-requires-clause-fresh : goal.put-requires-clause-fresh
 put-requires-clause-fresh g c =

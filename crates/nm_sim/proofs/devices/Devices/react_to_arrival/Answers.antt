@@ -4,7 +4,7 @@ use Rattle.nm_base.specs.declared.event.Origin.TheVariants.{Arrival}
 use Rattle.nm_forward.specs.Reaction.{sent_of}
 use Rattle.nm_sim.specs.Effects.{Reacts}
 use Rattle.nm_sim.proofs.Networks.{owner_is}
-use Rattle.nm_sim.proofs.devices.Devices.arrive.Goals as goal
+use Rattle.nm_sim.proofs.devices.Devices.react_to_arrival.Goals as goal
 
 pub returns-clause-reacts : goal.returns-clause-reacts
 returns-clause-reacts c = λ states ports s.

@@ -5,7 +5,7 @@ use Rattle.nm_base.specs.declared.key.Place.TheVariants.{Complete}
 use Rattle.nm_base.specs.Key.{key_of}
 use Rattle.nm_sim.specs.Timelines.{TimelineValue}
 use Rattle.nm_sim.proofs.Pendings.{other_place, still_none}
-use Rattle.nm_sim.proofs.timeline.Timeline.starts.Goals as goal
+use Rattle.nm_sim.proofs.timeline.Timeline.put_transmission.Goals as goal
 
 pub put-requires-2-clause-fresh : goal.put-requires-2-clause-fresh
 put-requires-2-clause-fresh g c =

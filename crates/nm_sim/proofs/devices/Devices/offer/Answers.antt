@@ -9,7 +9,7 @@ use Rattle.nm_sim.specs.Devices.{DevicesValue}
 use Rattle.nm_sim.specs.Tables.{AllAt}
 use Rattle.nm_sim.proofs.Sendings.{sends_by}
 use Rattle.nm_sim.proofs.Tables.{all_set}
-use Rattle.nm_sim.proofs.devices.Devices.send.Goals as goal
+use Rattle.nm_sim.proofs.devices.Devices.offer.Goals as goal
 
 pub invariant_of-self : goal.invariant_of-self
 invariant_of-self c =

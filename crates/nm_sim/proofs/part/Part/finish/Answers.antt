@@ -3,12 +3,12 @@ use Rattle.nm_base.specs.Key.{key_of}
 use Rattle.nm_sim.specs.Network.{net_of}
 use Rattle.nm_sim.specs.Part.{IsUnderWay, PartValue}
 use Rattle.nm_sim.specs.Timelines.{everywhere}
-use Rattle.nm_sim.proofs.Parts.{stands_after}
+use Rattle.nm_sim.proofs.Parts.{represents_after}
 use Rattle.nm_sim.proofs.Takings.{start_fresh}
-use Rattle.nm_sim.proofs.part.Part.conclude.Goals as goal
+use Rattle.nm_sim.proofs.part.Part.finish.Goals as goal
 
-pub begins-requires-clause-told : goal.begins-requires-clause-told
-begins-requires-clause-told g c =
+pub schedule_transmission-requires-clause-numbered : goal.schedule_transmission-requires-clause-numbered
+schedule_transmission-requires-clause-numbered g c =
     let z = c.requires.under_way in
     let t = c.args.topology.now in
     let net = net_of t in
@@ -20,19 +20,19 @@ begins-requires-clause-told g c =
     let fresh = c.new_keys_are_new.ensures.fresh net isnet everywhere (λ q r h. refl) s way.taken.orderly (k, z.2) way.taken.first in
     let apart = c.new_keys_are_new.ensures.apart net isnet s (k, z.2) in (
       s.sent,
-      way.taken.told,
+      way.taken.numbered,
       (λ x. let f = way.taken.few x in omega (arith, f, c.self.invariant)),
       start_fresh g.L.EventList.pending t k z.2 p s z.4 way.does.does.follows fresh apart z.3 c.args.start way.does.does.start way.taken,
     )
 
-pub returns-clause-stands : goal.returns-clause-stands
-returns-clause-stands g c = rw (← c.self.view_is) (λ q n e came follows s way.
+pub returns-clause-represents : goal.returns-clause-represents
+returns-clause-represents g c = rw (← c.self.view_is) (λ q n e came follows s way.
     let t = c.args.topology.now in
     let net = net_of t in
     let isnet = c.every_topology_is_a_network.ensures.network in
     let p : PartValue g.row.L.Denot = record { devices = c.self.inside.devices; timeline = c.self.inside.timeline; steps = c.self.inside.steps } in
-    let after : PartValue g.row.L.Denot = record { devices = c.self.inside.devices; timeline = c.begins.new.self; steps = c.self.inside.steps + 1 } in
+    let after : PartValue g.row.L.Denot = record { devices = c.self.inside.devices; timeline = c.schedule_transmission.new.self; steps = c.self.inside.steps + 1 } in
     let orderly = c.every_state_is_orderly.ensures.steps net isnet everywhere (λ q r k. refl) s way.taken.orderly in
-    stands_after g.L.EventList.pending t (key_of c.args.time q n) e (record { came = came; start = c.args.start; follows = follows }) p after s
-    c.accepted_topologies_are_in_order.ensures.order orderly way refl (c.begins.ensures.told s.sent way.taken.told) (c.begins.ensures.events s.sent way.taken.told)
-    c.begins.ensures.records refl)
+    represents_after g.L.EventList.pending t (key_of c.args.time q n) e (record { came = came; start = c.args.start; follows = follows }) p after s
+    c.accepted_topologies_are_in_order.ensures.order orderly way refl (c.schedule_transmission.ensures.numbered s.sent way.taken.numbered) (c.schedule_transmission.ensures.events s.sent way.taken.numbered)
+    c.schedule_transmission.ensures.records refl)

@@ -4,7 +4,7 @@ use Rattle.nm_base.specs.declared.key.Place.TheVariants.{Fire}
 use Rattle.nm_base.specs.Key.{key_of}
 use Rattle.nm_model.specs.Run.{first_event}
 use Rattle.nm_sim.specs.Timelines.{AreFresh, TimelineValue}
-use Rattle.nm_sim.proofs.timeline.Timeline.opens.Goals as goal
+use Rattle.nm_sim.proofs.timeline.Timeline.schedule_first.Goals as goal
 
 pub put-requires-clause-fresh : goal.put-requires-clause-fresh
 put-requires-clause-fresh g c =

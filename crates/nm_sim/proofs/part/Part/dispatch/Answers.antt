@@ -6,7 +6,7 @@ use Rattle.nm_base.specs.Key.{key_of}
 use Rattle.nm_sim.specs.Effects.{CanHappen}
 use Rattle.nm_sim.specs.Part.{IsReady, Performed}
 use Rattle.nm_sim.proofs.Steps.{can_happen, least_has}
-use Rattle.nm_sim.proofs.part.Part.happen.Goals as goal
+use Rattle.nm_sim.proofs.part.Part.dispatch.Goals as goal
 
 pub complete-requires : goal.complete-requires
 complete-requires g c = (

@@ -5,10 +5,10 @@ use Rattle.nm_model.specs.Run.{first_event, source_events}
 use Rattle.nm_sim.specs.Network.{net_of}
 use Rattle.nm_sim.specs.Timelines.{AreFresh, everywhere}
 use Rattle.nm_sim.proofs.Openings.{opens_fresh, opened_more, source_net}
-use Rattle.nm_sim.proofs.part.opened.Goals as goal
+use Rattle.nm_sim.proofs.part.first_timeline.Goals as goal
 
-pub opens-requires-clause-fresh : goal.opens-requires-clause-fresh
-opens-requires-clause-fresh g c =
+pub schedule_first-requires-clause-fresh : goal.schedule_first-requires-clause-fresh
+schedule_first-requires-clause-fresh g c =
     let n = c.new-source.ensures in
     subst (λ m. AreFresh m (first_event c.new-source.result c.in_ok-first.first)) (sym (c.in_ok-reserve.ensures.events ∙ c.loop-number.invariant.0))
     (subst (λ j. AreFresh (schedule everywhere (source_events (net_of c.args.topology.now) c.loop-number.number) empty) (first_event j c.in_ok-first.first))
@@ -21,8 +21,8 @@ loop-number-preserved g c =
     let first : c.in_ok-first.first ≡ (net_of t).source c.loop-number.number 0 = c.in_ok-first.ensures ∙ source_net t c.new-source.result 0 ∙ ap (λ j. (net_of t).source j 0) n in
     let events = c.in_ok-reserve.ensures.events ∙ c.loop-number.invariant.0 in
     let next : suc c.loop-number.number ≡ c.loop-number.number + 1 = omega arith in (
-      c.opens.ensures.events ∙ (λ i. schedule everywhere (first_event (n i) c.in_ok-first.first) (events i)) ∙ opened_more t c.loop-number.number c.in_ok-first.first first
+      c.schedule_first.ensures.events ∙ (λ i. schedule everywhere (first_event (n i) c.in_ok-first.first) (events i)) ∙ opened_more t c.loop-number.number c.in_ok-first.first first
           ∙ ap (λ k. schedule everywhere (source_events (net_of t) k) empty) next,
-      ap (λ l. l.sent) c.opens.ensures.others ∙ c.in_ok-reserve.ensures.sent ∙ c.loop-number.invariant.1,
-      ap (λ l. l.records) c.opens.ensures.others ∙ c.in_ok-reserve.ensures.records ∙ c.loop-number.invariant.2,
+      ap (λ l. l.sent) c.schedule_first.ensures.others ∙ c.in_ok-reserve.ensures.sent ∙ c.loop-number.invariant.1,
+      ap (λ l. l.records) c.schedule_first.ensures.others ∙ c.in_ok-reserve.ensures.records ∙ c.loop-number.invariant.2,
     )

@@ -4,7 +4,7 @@ use Rattle.nm_model.specs.EventList.{schedule}
 use Rattle.nm_model.specs.Run.{source_events}
 use Rattle.nm_sim.specs.Network.{net_of}
 use Rattle.nm_sim.specs.Timelines.{everywhere}
-use Rattle.nm_sim.proofs.part.opened.Given as goal
+use Rattle.nm_sim.proofs.part.first_timeline.Given as goal
 
 abbrev pub invariant-loop-number : goal.invariant-loop-number
 invariant-loop-number g l =

@@ -1,0 +1,25 @@
+use Rattle.std.proofs.Common.{refl, sym, subst}
+use Rattle.nm_base.specs.Key.{key_of}
+use Rattle.nm_forward.specs.Reaction.{sent_of}
+use Rattle.nm_sim.specs.Part.{HasReacted, PartValue}
+use Rattle.nm_sim.proofs.Takings.{sends_on}
+use Rattle.nm_sim.proofs.part.Part.send.Goals as goal
+
+pub finish-requires-clause-under_way : goal.finish-requires-clause-under_way
+finish-requires-clause-under_way g c =
+    let z = c.requires.reacted in
+    let t = c.args.topology.now in
+    let k = key_of c.args.time z.0 z.1 in
+    let p : PartValue g.row.L.Denot = record { devices = c.self.inside.devices; timeline = c.self.inside.timeline; steps = c.self.inside.steps } in
+    let q : PartValue g.row.L.Denot = record { devices = c.offer-start.new.self; timeline = c.self.inside.timeline; steps = c.self.inside.steps } in
+    let h = subst (λ (p : PartValue g.row.L.Denot). HasReacted g.L.EventList.pending t k z.2 z.3 z.4 (sent_of c.args.reaction) z.5 p z.6) (sym c.self.view_is) z.7 in
+    (z.0, z.1, z.2, z.3, z.4, z.6, sends_on g.L.EventList.pending t k z.2 z.3 z.4 (sent_of c.args.reaction) c.offer-start.result z.5 p q z.6 h (c.offer-start.ensures.sends z.5 z.6.port h.represented) refl refl)
+
+pub returns-clause-represents : goal.returns-clause-represents
+returns-clause-represents g c = rw (← c.self.view_is) (λ place n e came follows node s h.
+    let t = c.args.topology.now in
+    let k = key_of c.args.time place n in
+    let p : PartValue g.row.L.Denot = record { devices = c.self.inside.devices; timeline = c.self.inside.timeline; steps = c.self.inside.steps } in
+    let q : PartValue g.row.L.Denot = record { devices = c.offer-start.new.self; timeline = c.self.inside.timeline; steps = c.self.inside.steps } in
+    c.finish.ensures.represents place n e came follows s
+    (sends_on g.L.EventList.pending t k e came follows (sent_of c.args.reaction) c.offer-start.result node p q s h (c.offer-start.ensures.sends node s.port h.represented) refl refl))
