@@ -1,7 +1,7 @@
 -- What is prepared where no error is withheld.
 use Rattle.std.proofs.Common.{◌≡◌, ℕ, List, [], ◌∷◌, false, cond, None, sym, ap, ◌∙◌}
 use Rattle.nm_packet.specs.Ipv4.{fields_of, quote_of}
-use Rattle.nm_topology.specs.Networks.{IfaceValue}
+use Rattle.nm_topology.specs.PartValues.{IfaceValue}
 use Rattle.nm_forward.specs.declared.counter.Counter.TheVariants.{Quiet}
 use Rattle.nm_forward.specs.State.{NodeTable}
 use Rattle.nm_forward.specs.Originate.{Consequence, Counts, Message, Outgoing, originate, is_quiet, error_about, error_of}

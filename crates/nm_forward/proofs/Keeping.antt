@@ -7,9 +7,9 @@ use Rattle.nm_packet.specs.Ipv4.{cut_of}
 use Rattle.nm_topology.specs.declared.traffic.Source.{Source}
 use Rattle.nm_topology.specs.declared.traffic.Traffic.{Traffic}
 use Rattle.nm_topology.specs.declared.traffic.Traffic.TheVariants.{Cbr, Echo, Raw}
-use Rattle.nm_topology.specs.Networks.{IfaceValue}
+use Rattle.nm_topology.specs.PartValues.{IfaceValue}
 use Rattle.nm_forward.specs.declared.reaction.Reaction.{Reaction}
-use Rattle.nm_topology.specs.Wholes.{NetworkValue}
+use Rattle.nm_topology.specs.TopologyValue.{TopologyValue}
 use Rattle.nm_forward.specs.State.{NodeTable, NodeStateValue, table_of, counted}
 use Rattle.nm_forward.specs.Row.{arrival_row, row_counter}
 use Rattle.nm_forward.specs.Originate.{consequence_of, Consequence, Nothing, Counts, Sends, Originates, originate, concluded}
@@ -28,7 +28,7 @@ arrived-table ifaces table n x =
     concluded-table (consequence_of ifaces table n.identification (cut_of x) (arrival_row table x))
     (counted (row_counter (arrival_row table x)) n)
 
-module _ (t : NetworkValue) (v : ℕ) (n : NodeStateValue) (x : List ℕ) where
+module _ (t : TopologyValue) (v : ℕ) (n : NodeStateValue) (x : List ℕ) where
   handed-table : (traffic : Traffic)
       → (handed t.ifaces (table_of t v) n traffic x).0.table ≡ n.table
   handed-table (Cbr c) = concluded-table (originate t.ifaces (table_of t v) n.identification _) n

@@ -6,9 +6,9 @@ use Rattle.std.proofs.lemmas.Bool.{cases_Bool, cases_eq}
 use Rattle.std.proofs.lemmas.Bool.Decides.{nat_tests}
 use Rattle.std.proofs.lemmas.List.Elements.{All-cons, All-contains_itself}
 use Rattle.nm_topology.specs.declared.parts.Route.{Route}
-use Rattle.nm_topology.specs.Networks.{NodeValue}
-use Rattle.nm_topology.specs.Wholes.{NetworkValue}
-use Rattle.nm_topology.specs.Order.{IsInOrder}
+use Rattle.nm_topology.specs.PartValues.{NodeValue}
+use Rattle.nm_topology.specs.TopologyValue.{TopologyValue}
+use Rattle.nm_topology.specs.Accepted.{IsInOrder}
 use Rattle.nm_forward.specs.Routes.{Holds, network, leads, longest_below, longest_route, route_of}
 use Rattle.nm_forward.specs.State.{IsIfaceOf, NodeTable, table_from, table_of}
 
@@ -48,7 +48,7 @@ routed-all P routes a via h e =
       mapped (Some r) f e = subst P (let h : Some r.via ≡ Some via = e in cc) (f r refl)
 
 -- the routes of a node lead by interfaces of its own
-pub own_routes : (t : NetworkValue) → IsInOrder t.nodes t.ifaces t.links → (v : ℕ)
+pub own_routes : (t : TopologyValue) → IsInOrder t.nodes t.ifaces t.links → (v : ℕ)
     → All (λ r. IsIfaceOf t.ifaces v r.via) (table_of t v).routes
 unfolding table_of
 own_routes t order v = at (slice_get t.nodes v) (λ n. order.vias v n) where
@@ -58,7 +58,7 @@ own_routes t order v = at (slice_get t.nodes v) (λ n. order.vias v n) where
   at None f = λ k d h. absurd (omega arith)
   at (Some n) f = f n refl
 
-pub own_via : (t : NetworkValue) → IsInOrder t.nodes t.ifaces t.links → (table : NodeTable)
+pub own_via : (t : TopologyValue) → IsInOrder t.nodes t.ifaces t.links → (table : NodeTable)
     → table ≡ table_of t table.node → (a via : ℕ) → route_of table.routes a ≡ Some via
     → IsIfaceOf t.ifaces table.node via
 own_via t order table is a via e =

@@ -10,8 +10,8 @@ use Rattle.nm_packet.specs.Ipv4.{cut_of}
 use Rattle.nm_topology.specs.declared.traffic.Source.{Source}
 use Rattle.nm_topology.specs.declared.traffic.Traffic.{Traffic}
 use Rattle.nm_topology.specs.declared.traffic.Traffic.TheVariants.{Cbr, Echo, Raw}
-use Rattle.nm_topology.specs.Wholes.{NetworkValue}
-use Rattle.nm_topology.specs.Order.{IsInOrder, IsPlaced, LeavesByOwn, owners_of}
+use Rattle.nm_topology.specs.TopologyValue.{TopologyValue}
+use Rattle.nm_topology.specs.Accepted.{IsInOrder, IsPlaced, LeavesByOwn, owners_of}
 use Rattle.nm_forward.specs.declared.counter.Counter.TheVariants as count
 use Rattle.nm_forward.specs.State.{IsIfaceOf, NodeStateValue, table_of, counted}
 use Rattle.nm_forward.specs.Row.{arrival_row, row_counter}
@@ -30,7 +30,7 @@ slice_get-all P xs i x a e =
     (λ c. let none : None ≡ Some x = sym c.1 ∙ e in cc)
     (slice_get_cases xs i).1
 
-module _ (t : NetworkValue) (order : IsInOrder t.nodes t.ifaces t.links) (v : ℕ)
+module _ (t : TopologyValue) (order : IsInOrder t.nodes t.ifaces t.links) (v : ℕ)
     (n : NodeStateValue) (x : List ℕ) where
   abbrev P : ℕ → List ℕ → Type 0
   P via octets = IsIfaceOf t.ifaces v via

@@ -7,7 +7,7 @@ use Rattle.nm_packet.specs.Udp.{udp_fault, udp_cut_of, udp_fields_of}
 use Rattle.nm_packet.specs.Icmp.{icmp_fault, icmp_fields_of}
 use Rattle.nm_topology.specs.declared.node.NodeKind.{NodeKind}
 use Rattle.nm_topology.specs.declared.node.NodeKind.TheVariants.{Host, Router}
-use Rattle.nm_topology.specs.Networks.{IfaceValue}
+use Rattle.nm_topology.specs.PartValues.{IfaceValue}
 use Rattle.nm_forward.specs.declared.counter.Counter.TheVariants.{Quiet, ToSelf}
 use Rattle.nm_forward.specs.declared.row.Row.{Row}
 use Rattle.nm_forward.specs.declared.row.Row.TheVariants.{BadHeader, BadDestination, NotMine, Unreachable, Expired, Forward, Fragment, BadIcmp, EchoRequest, OtherIcmp, BadUdp, Delivered, ClosedPort, UnknownProtocol}

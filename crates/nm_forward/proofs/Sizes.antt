@@ -14,7 +14,7 @@ use Rattle.nm_packet.specs.Icmp.{icmp_fields_of, icmp_data_of}
 use Rattle.nm_topology.specs.declared.traffic.Source.{Source}
 use Rattle.nm_topology.specs.declared.traffic.Traffic.{Traffic}
 use Rattle.nm_topology.specs.declared.traffic.Traffic.TheVariants.{Cbr, Echo, Raw}
-use Rattle.nm_topology.specs.Wholes.{NetworkValue}
+use Rattle.nm_topology.specs.TopologyValue.{TopologyValue}
 use Rattle.nm_forward.specs.declared.counter.Counter.TheVariants as count
 use Rattle.nm_forward.specs.State.{NodeStateValue, table_of, counted}
 use Rattle.nm_forward.specs.Row.{arrival_row, row_counter}
@@ -110,7 +110,7 @@ forward-sized p via h least =
 pub cut-length : (x : List ℕ) → length (cut_of x) ≤ length x
 cut-length x = omega (arith, length-take (word_at x 2) x)
 
-module _ (t : NetworkValue) (v : ℕ) (n : NodeStateValue) (x : List ℕ) (least : 1 ≤ length x)
+module _ (t : TopologyValue) (v : ℕ) (n : NodeStateValue) (x : List ℕ) (least : 1 ≤ length x)
     (most : length x ≤ 65535) where
   out-sized : (out : Outgoing) → IsSmall out.body
       → OnSent IsSized (originate t.ifaces (table_of t v) n.identification out)

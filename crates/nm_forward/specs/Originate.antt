@@ -6,7 +6,7 @@ use Rattle.nm_packet.specs.Address.{is_offending}
 use Rattle.nm_packet.specs.Ipv4.{Header, fields_of, payload_of, lowered, packet_octets, plain_header, quote_of}
 use Rattle.nm_packet.specs.Udp.{udp_header, datagram_octets}
 use Rattle.nm_packet.specs.Icmp.{icmp_header, icmp_fields_of, icmp_data_of, message_octets}
-use Rattle.nm_topology.specs.Networks.{IfaceValue}
+use Rattle.nm_topology.specs.PartValues.{IfaceValue}
 use Rattle.nm_forward.specs.declared.counter.Counter.{Counter}
 use Rattle.nm_forward.specs.declared.counter.Counter.TheVariants.{Quiet, ToSelf, NoRoute}
 use Rattle.nm_forward.specs.declared.row.Row.{Row}

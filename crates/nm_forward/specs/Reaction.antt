@@ -8,8 +8,8 @@ use Rattle.nm_topology.specs.declared.traffic.Cbr.{Cbr as CbrTraffic}
 use Rattle.nm_topology.specs.declared.traffic.Echo.{Echo as EchoTraffic}
 use Rattle.nm_topology.specs.declared.traffic.Traffic.{Traffic}
 use Rattle.nm_topology.specs.declared.traffic.Traffic.TheVariants.{Cbr, Echo, Raw}
-use Rattle.nm_topology.specs.Networks.{IfaceValue}
-use Rattle.nm_topology.specs.Wholes.{NetworkValue}
+use Rattle.nm_topology.specs.PartValues.{IfaceValue}
+use Rattle.nm_topology.specs.TopologyValue.{TopologyValue}
 use Rattle.nm_forward.specs.declared.row.Row.{Row}
 use Rattle.nm_forward.specs.declared.counter.Counter.TheVariants as count
 use Rattle.nm_forward.specs.declared.reaction.Reaction.{Reaction}
@@ -52,14 +52,14 @@ handed ifaces table n (Echo e) x =
 handed ifaces table n (Raw r) x = concluded (Sends r.via x) (counted count.Raw n)
 
 -- only a source of the node hands over anything to it
-abbrev pub handed_by : NetworkValue → ℕ → NodeStateValue → Option Source → List ℕ → Outcome
+abbrev pub handed_by : TopologyValue → ℕ → NodeStateValue → Option Source → List ℕ → Outcome
 handed_by t v n None x = (n, None)
 handed_by t v n (Some s) x =
     if s.node == v then handed t.ifaces (table_of t v) n s.traffic x else (n, None)
 
 -- what node v of the network t does with the packet x in the state n: the state after, and at most
 -- one packet, with the interface by which it is sent
-unfoldable pub reaction : NetworkValue → ℕ → NodeStateValue → Origin → List ℕ → Outcome
+unfoldable pub reaction : TopologyValue → ℕ → NodeStateValue → Origin → List ℕ → Outcome
 reaction t v n (Arrival i) x = arrived t.ifaces (table_of t v) n x
 reaction t v n (FromSource j) x = handed_by t v n (slice_get t.sources j) x
 
@@ -73,7 +73,7 @@ abbrev pub FitsSource : Option Source → List ℕ → Type 0
 FitsSource None x = Unit {0}
 FitsSource (Some s) x = FitsHeaders s.traffic x
 
-abbrev pub FitsOrigin : NetworkValue → Origin → List ℕ → Type 0
+abbrev pub FitsOrigin : TopologyValue → Origin → List ℕ → Type 0
 FitsOrigin t (Arrival i) x = Unit {0}
 FitsOrigin t (FromSource j) x = FitsSource (slice_get t.sources j) x
 

@@ -4,9 +4,9 @@ use Rattle.std.specs.List.{list_any}
 use Rattle.nm_topology.specs.declared.node.NodeKind.{NodeKind}
 use Rattle.nm_topology.specs.declared.node.NodeKind.TheVariants.{Host}
 use Rattle.nm_topology.specs.declared.parts.Route.{Route}
-use Rattle.nm_topology.specs.Networks.{NodeValue, IfaceValue}
-use Rattle.nm_topology.specs.Wholes.{NetworkValue}
-use Rattle.nm_topology.specs.Order.{owners_of}
+use Rattle.nm_topology.specs.PartValues.{NodeValue, IfaceValue}
+use Rattle.nm_topology.specs.TopologyValue.{TopologyValue}
+use Rattle.nm_topology.specs.Accepted.{owners_of}
 use Rattle.nm_forward.specs.declared.counter.Counter.{Counter}
 use Rattle.nm_forward.specs.declared.counter.Counter.TheVariants.{Originated}
 use Rattle.nm_forward.specs.Counter.{raised, no_counts}
@@ -41,11 +41,11 @@ table_from v ifaces (Some n) = record {
 }
 
 -- what the topology says of node v
-unfoldable pub table_of : NetworkValue → ℕ → NodeTable
+unfoldable pub table_of : TopologyValue → ℕ → NodeTable
 table_of t v = table_from v t.ifaces (slice_get t.nodes v)
 
 -- node v at the start of a run
-abbrev pub first_state : NetworkValue → ℕ → NodeStateValue
+abbrev pub first_state : TopologyValue → ℕ → NodeStateValue
 first_state t v = record { table = table_of t v; identification = 0; counters = no_counts }
 
 -- whether the address is one of the node's own

@@ -4,7 +4,7 @@ ghost use Rattle.std.specs.Prelude.{◌≡◌, ℕ, ◌≤◌, All, Contains, Li
 ghost use Rattle.nm_base.specs.declared.limits.TheConstants.{MAX_PACKET_OCTETS};
 ghost use Rattle.nm_base.specs.declared.event.Origin.{Origin};
 ghost use Rattle.nm_topology.specs.declared.parts.Route.{Route};
-ghost use Rattle.nm_topology.specs.Wholes.{NetworkValue};
+ghost use Rattle.nm_topology.specs.TopologyValue.{TopologyValue};
 ghost use Rattle.nm_forward.specs.declared.counter.Counter.{Counter};
 ghost use Rattle.nm_forward.specs.declared.counter.TheConstants.Counter.{ALL};
 ghost use Rattle.nm_forward.specs.Counter.{counter_number};
@@ -29,7 +29,7 @@ pub fn routes_are_longest()
 
 /// What a node knows of itself stays as it is.
 pub fn a_node_keeps_its_tables()
-    ensures { (t : NetworkValue) (v : ℕ) (n : NodeStateValue) (o : Origin) (x : List ℕ)
+    ensures { (t : TopologyValue) (v : ℕ) (n : NodeStateValue) (o : Origin) (x : List ℕ)
         → (reaction t v n o x).0.table ≡ n.table }
 {}
 
@@ -45,7 +45,7 @@ pub fn a_node_sends_by_its_own_interfaces(topology: &Topology)
 /// What a node sends is a packet where what comes to it is one, and a source hands over what fits:
 /// it has 1 to 65,535 octets.
 pub fn a_sent_packet_fits()
-    ensures { (t : NetworkValue) (v : ℕ) (n : NodeStateValue) (o : Origin) (x : List ℕ)
+    ensures { (t : TopologyValue) (v : ℕ) (n : NodeStateValue) (o : Origin) (x : List ℕ)
         (s : ℕ × List ℕ) → 1 ≤ length x → length x ≤ MAX_PACKET_OCTETS → FitsOrigin t o x
         → (reaction t v n o x).1 ≡ Some s → (1 ≤ length s.1) × (length s.1 ≤ MAX_PACKET_OCTETS) }
 {}

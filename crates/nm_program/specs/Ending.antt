@@ -2,9 +2,9 @@
 use Rattle.std.specs.Prelude.{◌≡◌, ◌⊎◌, Bool, false, ℕ, ◌+◌, ◌<◌, ◌≤◌, nat_lt, if◌then◌else◌, List, length, position, Option, Some, None, IfSome, Result, Ok, Err}
 use Rattle.std.specs.Str.{bytes_eq}
 use Rattle.nm_base.specs.declared.record.Record.{Record}
-use Rattle.nm_topology.specs.Network.{topology_of}
-use Rattle.nm_topology.specs.Networks.{IfaceValue}
-use Rattle.nm_topology.specs.Wholes.{NetworkValue}
+use Rattle.nm_topology.specs.Topology.{topology_of}
+use Rattle.nm_topology.specs.PartValues.{IfaceValue}
+use Rattle.nm_topology.specs.TopologyValue.{TopologyValue}
 use Rattle.nm_sim.specs.Trace.{IsTraceBefore}
 use Rattle.nm_command.specs.declared.status.Status.{Status}
 use Rattle.nm_command.specs.declared.status.Status.TheVariants.{Done, Usage, NoInterface, Topology, File, Memory}
@@ -25,7 +25,7 @@ pub record IsInput (told : Option (List ℕ)) (text : List ℕ) : Type 0 where
 
 -- the octets that a command asks for, of the topology of this text: the trace file of the interface over the whole run
 pub record IsAnswer (command : CommandValue) (text octets : List ℕ) : Type 0 where
-  pub network : NetworkValue
+  pub network : TopologyValue
   pub read : topology_of text ≡ Ok network
   pub iface : ℕ
   pub named : iface_named network.ifaces command.iface ≡ Some iface
@@ -39,7 +39,7 @@ module _ {S : Type 0} (taken : S → Option (List ℕ)) (failures : S → ℕ) (
   abbrev pub EndsCommand : Status → Type 0
   EndsCommand Done = (text : List ℕ) × IsInput told text × ((octets : List ℕ) × IsAnswer command text octets × WroteAll taken failures old new octets)
   EndsCommand Usage = ⊥
-  EndsCommand NoInterface = (text : List ℕ) × IsInput told text × ((network : NetworkValue) × (topology_of text ≡ Ok network)
+  EndsCommand NoInterface = (text : List ℕ) × IsInput told text × ((network : TopologyValue) × (topology_of text ≡ Ok network)
       × (iface_named network.ifaces command.iface ≡ None) × (new ≡ old))
   EndsCommand (Topology refusal) = (text : List ℕ) × IsInput told text × (topology_of text ≡ Err refusal) × (new ≡ old)
   EndsCommand File = ((failed ≡ failed_before + 1) × (new ≡ old))
@@ -60,7 +60,7 @@ handed_on handed status = status
 
 -- what the reading of a topology answers
 module _ (told : Option (List ℕ)) (failed_before failed : ℕ) where
-  abbrev pub ReadsTopology : Result NetworkValue Status → Type 0
+  abbrev pub ReadsTopology : Result TopologyValue Status → Type 0
   ReadsTopology (Ok network) = (text : List ℕ) × IsInput told text × (topology_of text ≡ Ok network)
   ReadsTopology (Err Done) = ⊥
   ReadsTopology (Err Usage) = ⊥

@@ -6,8 +6,8 @@ use Rattle.nm_base.specs.declared.event.Event.{Event}
 use Rattle.nm_base.specs.declared.event.Event.TheVariants.{Delivery, Completion}
 use Rattle.nm_base.specs.declared.key.Place.TheVariants.{Arrive, Complete}
 use Rattle.nm_base.specs.Key.{key_of, key_cmp}
-use Rattle.nm_topology.specs.Networks.{IfaceValue}
-use Rattle.nm_topology.specs.Wholes.{NetworkValue}
+use Rattle.nm_topology.specs.PartValues.{IfaceValue}
+use Rattle.nm_topology.specs.TopologyValue.{TopologyValue}
 use Rattle.nm_model.specs.EventList.{schedule}
 use Rattle.nm_model.specs.Lists.{set_at}
 use Rattle.nm_model.specs.Run.{start_events, sent_after}
@@ -17,11 +17,11 @@ use Rattle.nm_sim.specs.Effects.{StartsAt}
 use Rattle.nm_sim.specs.Timelines.{AreFresh, TimelineValue, TimelineRepresents, everywhere}
 use Rattle.nm_sim.proofs.Represents.{set_here, set_there}
 
-pub peer_is : (t : NetworkValue) (i : ℕ) (x : IfaceValue) → slice_get t.ifaces i ≡ Some x → (net_of t).peer i ≡ x.far.peer
+pub peer_is : (t : TopologyValue) (i : ℕ) (x : IfaceValue) → slice_get t.ifaces i ≡ Some x → (net_of t).peer i ≡ x.far.peer
 unfolding net_of
 peer_is t i x e = ap (λ o. (far_from i o).peer) e
 
-module _ {L : Type 0} (t : NetworkValue) (line : TimelineValue L) (time : ℕ) (sent : ℕ → List (ℕ × List ℕ)) (numbered : TimelineRepresents t line sent) (i : ℕ) (st : Start) (begins : StartsAt t time (i, st))
+module _ {L : Type 0} (t : TopologyValue) (line : TimelineValue L) (time : ℕ) (sent : ℕ → List (ℕ × List ℕ)) (numbered : TimelineRepresents t line sent) (i : ℕ) (st : Start) (begins : StartsAt t time (i, st))
     (p : ℕ) (peer : (net_of t).peer i ≡ p) (there : p < length t.ifaces) where
   number_is : slice_index line.sent p ≡ length (sent ((net_of t).peer i))
   number_is = numbered.numbers p there ∙ ap (λ c. length (sent c)) (sym peer)
@@ -82,7 +82,7 @@ module _ {L : Type 0} (t : NetworkValue) (line : TimelineValue L) (time : ℕ) (
           get_or-set_other line.sent p c (slice_index line.sent p + 1) 0 e1 ∙ numbered.numbers c h
           ∙ ap length (sym (set_there sent ((net_of t).peer i) (sent ((net_of t).peer i) ++ message ∷ []) c (λ f. e1 (f ∙ peer))))
 
-pub numbered_same : {L : Type 0} (t : NetworkValue) (a b : TimelineValue L) (sent : ℕ → List (ℕ × List ℕ)) → b.sent ≡ a.sent → TimelineRepresents t a sent → TimelineRepresents t b sent
+pub numbered_same : {L : Type 0} (t : TopologyValue) (a b : TimelineValue L) (sent : ℕ → List (ℕ × List ℕ)) → b.sent ≡ a.sent → TimelineRepresents t a sent → TimelineRepresents t b sent
 numbered_same t a b sent e h = record {
   count = ap length e ∙ h.count;
   numbers = λ c l. ap (λ z. slice_index z c) e ∙ h.numbers c l;

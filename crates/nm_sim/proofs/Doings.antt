@@ -6,7 +6,7 @@ use Rattle.nm_base.specs.declared.event.Event.TheVariants.{Delivery, Completion}
 use Rattle.nm_base.specs.declared.event.Origin.{Origin}
 use Rattle.nm_base.specs.declared.event.Origin.TheVariants.{Arrival, Source}
 use Rattle.nm_base.specs.Key.{key_of}
-use Rattle.nm_topology.specs.Wholes.{NetworkValue}
+use Rattle.nm_topology.specs.TopologyValue.{TopologyValue}
 use Rattle.nm_model.specs.Lists.{set_at}
 use Rattle.nm_model.specs.Network.{Net}
 use Rattle.nm_model.specs.Port.{Port, completed}
@@ -36,7 +36,7 @@ module _ (net : Net (List ℕ) NodeStateValue) (ports : ℕ → Port (List ℕ))
   follows_is None = refl
   follows_is (Some s) = refl
 
-module _ (t : NetworkValue) (node : ℕ → NodeStateValue) (port : ℕ → Port (List ℕ)) (time v : ℕ) (o : Origin) (x : List ℕ) (d e : DevicesValue)
+module _ (t : TopologyValue) (node : ℕ → NodeStateValue) (port : ℕ → Port (List ℕ)) (time v : ℕ) (o : Origin) (x : List ℕ) (d e : DevicesValue)
     (sent : Option (ℕ × List ℕ)) (begun : Option (ℕ × Start)) (r : Reacts t node port v o x d sent)
     (s : Sends t (set_at node v (reaction t v (node v) o x).0) port time sent e begun) (came follows : Option (ℕ × List ℕ)) where
   abbrev effect_is : Effect (List ℕ) NodeStateValue
@@ -59,7 +59,7 @@ module _ (t : NetworkValue) (node : ℕ → NodeStateValue) (port : ℕ → Port
   }
 
 -- a packet arrived at interface i of node v
-pub arrives_by : (t : NetworkValue) (node : ℕ → NodeStateValue) (port : ℕ → Port (List ℕ)) (time v i number : ℕ) (x : List ℕ) (d e : DevicesValue)
+pub arrives_by : (t : TopologyValue) (node : ℕ → NodeStateValue) (port : ℕ → Port (List ℕ)) (time v i number : ℕ) (x : List ℕ) (d e : DevicesValue)
     (sent : Option (ℕ × List ℕ)) (begun : Option (ℕ × Start)) (done : Done) → (net_of t).owner i ≡ v
     → Reacts t node port v (Arrival i) x d sent → Sends t (set_at node v (reaction t v (node v) (Arrival i) x).0) port time sent e begun
     → done.came ≡ Some (i, x) → done.start ≡ begun → done.follows ≡ None → Does t node port (key_of time (Arrive i) number) (Delivery x) e done
@@ -73,7 +73,7 @@ arrives_by t node port time v i number x d e sent begun done owner r s a b c =
     }) r s
 
 -- source j of node v handed a packet over
-pub fires_by : (t : NetworkValue) (node : ℕ → NodeStateValue) (port : ℕ → Port (List ℕ)) (time v j number : ℕ) (x : List ℕ) (d e : DevicesValue)
+pub fires_by : (t : TopologyValue) (node : ℕ → NodeStateValue) (port : ℕ → Port (List ℕ)) (time v j number : ℕ) (x : List ℕ) (d e : DevicesValue)
     (sent : Option (ℕ × List ℕ)) (begun : Option (ℕ × Start)) (done : Done) → (net_of t).source_node j ≡ v
     → Reacts t node port v (Source j) x d sent → Sends t (set_at node v (reaction t v (node v) (Source j) x).0) port time sent e begun
     → done.came ≡ None → done.start ≡ begun → done.follows ≡ source_at t j (suc number) → Does t node port (key_of time (Fire j) number) (Delivery x) e done
@@ -87,7 +87,7 @@ fires_by t node port time v j number x d e sent begun done owner r s a b c =
     }) r s
 
 -- a transmission of interface i is complete
-module _ (t : NetworkValue) (d e : DevicesValue) (node : ℕ → NodeStateValue) (port : ℕ → Port (List ℕ)) (s : DevicesRepresent t d node port) (time i number : ℕ)
+module _ (t : TopologyValue) (d e : DevicesValue) (node : ℕ → NodeStateValue) (port : ℕ → Port (List ℕ)) (s : DevicesRepresent t d node port) (time i number : ℕ)
     (w : PortValue) (room : ℕ) (start : Option Start) (here : slice_get d.ports i ≡ Some w) (within : i < length t.ifaces) where
   starts_packet : (o : Option Start) → IfSome o (λ z. IsTransmission w.rate w.delay time z.twin.packet z) → IfSome (start_at i o) (StartsAt t time)
   starts_packet None h = tt

@@ -8,10 +8,10 @@ use Rattle.std.proofs.Math.Nat.{div-mul-le_self}
 use Rattle.nm_base.specs.declared.limits.TheConstants.{MAX_PORTS_OF_NODE}
 use Rattle.nm_base.specs.declared.event.Origin.{Origin}
 use Rattle.nm_topology.specs.declared.traffic.Source.{Source}
-use Rattle.nm_topology.specs.Networks.{IfaceValue}
-use Rattle.nm_topology.specs.Order.{IsInOrder, IsPlaced, LeavesByOwn, owners_of, parts_of}
+use Rattle.nm_topology.specs.PartValues.{IfaceValue}
+use Rattle.nm_topology.specs.Accepted.{IsInOrder, IsPlaced, LeavesByOwn, owners_of, parts_of}
 use Rattle.nm_topology.specs.Limits.{IsWithinLimits}
-use Rattle.nm_topology.specs.Wholes.{NetworkValue}
+use Rattle.nm_topology.specs.TopologyValue.{TopologyValue}
 use Rattle.nm_forward.specs.State.{NodeStateValue}
 use Rattle.nm_forward.specs.Reaction.{reaction}
 use Rattle.nm_iface.specs.Transmission.{transmission_time}
@@ -33,7 +33,7 @@ longer_takes r m n h =
     let d = divided_le (m * 8 * 10 ^ 9 + (r - 1)) (n * 8 * 10 ^ 9 + (r - 1)) r bits in
     omega arith
 
-module _ (t : NetworkValue) (order : IsInOrder t.nodes t.ifaces t.links) where
+module _ (t : TopologyValue) (order : IsInOrder t.nodes t.ifaces t.links) where
   pub far_at : (i : ℕ) (x : IfaceValue) → slice_get t.ifaces i ≡ Some x → far_of t i ≡ x.far
   far_at i x e = ap (far_from i) e
 
@@ -79,7 +79,7 @@ mapped_at f xs i e h = ⊎_elim
 pub all_at : {X : Type 0} (P : X → Type 0) (xs : List X) (i : ℕ) (x : X) → slice_get xs i ≡ Some x → All P xs → P x
 all_at P xs i x e h = subst P (get_or_from_slice_get xs i x x e) (All-get_or P xs i x (slice_get_within xs i x e) h)
 
-module _ (t : NetworkValue) (limits : IsWithinLimits t) where
+module _ (t : TopologyValue) (limits : IsWithinLimits t) where
   part_below : (v : ℕ) → v < length t.nodes → get_or (parts_of t.nodes) v t.partitions < t.partitions
   part_below v h =
       let at = mapped_at (λ n. n.partition) t.nodes v t.partitions h in
@@ -96,21 +96,21 @@ module _ (t : NetworkValue) (limits : IsWithinLimits t) where
         part_below _ (subst (λ v. v < length t.nodes) (sym at.2) a.0);
   }
 
-pub owner_is : (t : NetworkValue) (i : ℕ) (x : IfaceValue) → slice_get t.ifaces i ≡ Some x → (net_of t).owner i ≡ x.node
+pub owner_is : (t : TopologyValue) (i : ℕ) (x : IfaceValue) → slice_get t.ifaces i ≡ Some x → (net_of t).owner i ≡ x.node
 unfolding net_of
 owner_is t i x e = get_or-map (λ z. z.node) t.ifaces i x 0 (slice_get_within t.ifaces i x e) ∙ ap (λ z. z.node) (get_or_from_slice_get t.ifaces i x x e)
 
-pub source_node_is : (t : NetworkValue) (j : ℕ) (s : Source) → slice_get t.sources j ≡ Some s → (net_of t).source_node j ≡ s.node
+pub source_node_is : (t : TopologyValue) (j : ℕ) (s : Source) → slice_get t.sources j ≡ Some s → (net_of t).source_node j ≡ s.node
 unfolding net_of
 source_node_is t j s e = get_or-map (λ z. z.node) t.sources j s 0 (slice_get_within t.sources j s e) ∙ ap (λ z. z.node) (get_or_from_slice_get t.sources j s s e)
 
 -- the node of a source, read from a list
-pub node_read : (t : NetworkValue) (j k : ℕ) (l : List Source) (d : Source) → l ≡ t.sources → k ≡ j → j < length t.sources
+pub node_read : (t : TopologyValue) (j k : ℕ) (l : List Source) (d : Source) → l ≡ t.sources → k ≡ j → j < length t.sources
     → (net_of t).source_node j ≡ (get_or l k d).node
 node_read t j k l d e f h =
     source_node_is t j (get_or t.sources j d) (slice_get-get_or t.sources j d h) ∙ ap (λ z. z.node) (sym (λ i. get_or (e i) (f i) d))
 
-pub node_there : (t : NetworkValue) (j k : ℕ) (l : List Source) (d : Source) → l ≡ t.sources → k ≡ j → j < length t.sources
+pub node_there : (t : TopologyValue) (j k : ℕ) (l : List Source) (d : Source) → l ≡ t.sources → k ≡ j → j < length t.sources
     → All (λ s. IsPlaced (length t.nodes) (owners_of t.ifaces) s) t.sources → (get_or l k d).node < length t.nodes
 unfolding IsPlaced
 node_there t j k l d e f h placed =
@@ -119,6 +119,6 @@ node_there t j k l d e f h placed =
     subst (λ z. z.node < length t.nodes) (sym (λ i. get_or (e i) (f i) d)) a.0
 
 -- what a source gives is what the network says
-pub source_is : (t : NetworkValue) (j n : ℕ) (s : SourceValue) → source_of t j ≡ Some s → source_at t j n ≡ packet_at s.stop s.traffic n
+pub source_is : (t : TopologyValue) (j n : ℕ) (s : SourceValue) → source_of t j ≡ Some s → source_at t j n ≡ packet_at s.stop s.traffic n
 unfolding source_at
 source_is t j n s e = ap (option_and_then (λ z. packet_at z.stop z.traffic n)) e

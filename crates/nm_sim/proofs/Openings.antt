@@ -7,7 +7,7 @@ use Rattle.nm_base.specs.declared.key.Key.{Key}
 use Rattle.nm_base.specs.declared.key.Place.{Place}
 use Rattle.nm_base.specs.declared.key.Place.TheVariants.{Arrive, Complete, Fire}
 use Rattle.nm_base.specs.Key.{key_cmp}
-use Rattle.nm_topology.specs.Wholes.{NetworkValue}
+use Rattle.nm_topology.specs.TopologyValue.{TopologyValue}
 use Rattle.nm_model.specs.EventList.{schedule}
 use Rattle.nm_model.specs.Lists.{nth}
 use Rattle.nm_model.specs.Orderly.{IsOrderly}
@@ -38,7 +38,7 @@ below_more n (Arrive i) h = h
 below_more n (Complete i) h = h
 below_more n (Fire j) h = omega arith
 
-module _ (t : NetworkValue) where
+module _ (t : TopologyValue) where
   first_below : (j : ℕ) (o : Option (ℕ × List ℕ)) (i : ℕ) (f : Key × Event (List ℕ)) → nth (first_event j o) i ≡ Some f → IsBelow (suc j) f.0.place
   first_below j None i f e = absurd cc
   first_below j (Some z) zero f e = let s : Fire j ≡ f.0.place = ap (λ (g : Key × Event (List ℕ)). g.0.place) (same_some _ f e) in subst (IsBelow (suc j)) s (omega arith)
@@ -93,6 +93,6 @@ module _ (t : NetworkValue) where
     records = records;
   }
 
-pub source_net : (t : NetworkValue) (j n : ℕ) → source_at t j n ≡ (net_of t).source j n
+pub source_net : (t : TopologyValue) (j n : ℕ) → source_at t j n ≡ (net_of t).source j n
 unfolding net_of
 source_net t j n = refl

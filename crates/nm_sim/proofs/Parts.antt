@@ -5,8 +5,8 @@ use Rattle.std.specs.Option.{IfSome}
 use Rattle.nm_base.specs.declared.event.Event.{Event}
 use Rattle.nm_base.specs.declared.key.Key.{Key}
 use Rattle.nm_base.specs.Key.{key_cmp}
-use Rattle.nm_topology.specs.Order.{IsInOrder}
-use Rattle.nm_topology.specs.Wholes.{NetworkValue}
+use Rattle.nm_topology.specs.Accepted.{IsInOrder}
+use Rattle.nm_topology.specs.TopologyValue.{TopologyValue}
 use Rattle.nm_model.specs.EventList.{schedule}
 use Rattle.nm_model.specs.Lists.{nth, set_at}
 use Rattle.nm_model.specs.Network.{node_of}
@@ -35,12 +35,12 @@ use Rattle.nm_sim.proofs.Beginnings.{numbered_same}
 use Rattle.nm_sim.proofs.Pendings.{put_back}
 use Rattle.nm_sim.proofs.Steps.{least_has}
 
-begins_within : (t : NetworkValue) (time : ℕ) (o : Option (ℕ × Start)) → IfSome o (StartsAt t time) → IfSome (start_of o) (λ z. z.0 < length t.ifaces)
+begins_within : (t : TopologyValue) (time : ℕ) (o : Option (ℕ × Start)) → IfSome o (StartsAt t time) → IfSome (start_of o) (λ z. z.0 < length t.ifaces)
 begins_within t time None h = tt
 begins_within t time (Some z) h = h.0
 
 -- an event that is under way is done with the transmission that starts
-pub represents_after : {L : Type 0} (pending : L → FinMap key_cmp (Event (List ℕ))) (t : NetworkValue) (k : Key) (e : Event (List ℕ)) (done : Done) (p q : PartValue L)
+pub represents_after : {L : Type 0} (pending : L → FinMap key_cmp (Event (List ℕ))) (t : TopologyValue) (k : Key) (e : Event (List ℕ)) (done : Done) (p q : PartValue L)
     (s : State (List ℕ) NodeStateValue) → IsInOrder t.nodes t.ifaces t.links → IsOrderly (net_of t) everywhere (step (net_of t) everywhere s)
     → IsUnderWay pending t k e done p s → q.devices ≡ p.devices
     → TimelineRepresents t q.timeline (sent_after (net_of t) k.time s.sent (start_of done.start))
@@ -84,7 +84,7 @@ represents_after pending t k e done p q s order orderly way devices numbered eve
     either (x ∷ xs) ys h k (suc i) f z = either xs ys (λ j. h (suc j)) k i f z
 
 -- an event that was taken out is put back
-pub represents_again : {L : Type 0} (pending : L → FinMap key_cmp (Event (List ℕ))) (t : NetworkValue) (k : Key) (e : Event (List ℕ)) (p q : PartValue L)
+pub represents_again : {L : Type 0} (pending : L → FinMap key_cmp (Event (List ℕ))) (t : TopologyValue) (k : Key) (e : Event (List ℕ)) (p q : PartValue L)
     (s : State (List ℕ) NodeStateValue) → Taken pending t k e None None p s → DevicesRepresent t p.devices s.node s.port
     → q.devices ≡ p.devices → q.timeline.sent ≡ p.timeline.sent → q.timeline.records ≡ p.timeline.records → q.steps ≡ p.steps
     → pending q.timeline.events ≡ insert (pending p.timeline.events) k e → Represents pending t q s
@@ -98,7 +98,7 @@ represents_again pending t k e p q s h represented devices sent records steps ev
   records = records ∙ h.records ∙ append-nil s.records;
 }
 
-represented_same : (t : NetworkValue) (d e : DevicesValue) (node : ℕ → NodeStateValue) (port : ℕ → Port (List ℕ)) → DevicesRepresent t d node port → IsSame d e → DevicesRepresent t e node port
+represented_same : (t : TopologyValue) (d e : DevicesValue) (node : ℕ → NodeStateValue) (port : ℕ → Port (List ℕ)) → DevicesRepresent t d node port → IsSame d e → DevicesRepresent t e node port
 represented_same t d e node port s h = record {
   node_count = ap length h.nodes ∙ s.node_count;
   nodes = subst (λ l. AllAt (λ v n. n ≡ node v) l) (sym h.nodes) s.nodes;
@@ -116,7 +116,7 @@ represented_same t d e node port s h = record {
 }
 
 -- memory that was made changes nothing
-pub represents_same : {L : Type 0} (pending : L → FinMap key_cmp (Event (List ℕ))) (t : NetworkValue) (p q : PartValue L) (s : State (List ℕ) NodeStateValue) → Represents pending t p s
+pub represents_same : {L : Type 0} (pending : L → FinMap key_cmp (Event (List ℕ))) (t : TopologyValue) (p q : PartValue L) (s : State (List ℕ) NodeStateValue) → Represents pending t p s
     → IsSame p.devices q.devices → pending q.timeline.events ≡ pending p.timeline.events → q.timeline.sent ≡ p.timeline.sent → q.timeline.records ≡ p.timeline.records
     → q.steps ≡ p.steps → Represents pending t q s
 represents_same pending t p q s h same events sent records steps = record {
@@ -134,7 +134,7 @@ pub due_entry : (before : ℕ) (o : Option (Key × Event (List ℕ))) → is_bef
 due_entry before None h = absurd (true≢false (sym h))
 due_entry before (Some e) h = (e, refl, grind (arith, nat_tests, h))
 
-pub counter_is : (t : NetworkValue) (d : DevicesValue) (s : State (List ℕ) NodeStateValue) → DevicesRepresent t d s.node s.port → (v : ℕ) (c : Counter)
+pub counter_is : (t : TopologyValue) (d : DevicesValue) (s : State (List ℕ) NodeStateValue) → DevicesRepresent t d s.node s.port → (v : ℕ) (c : Counter)
     → option_map (λ n. slice_index n.counters (counter_number c)) (slice_get d.nodes v) ≡ count_at t s v c
 counter_is t d s represented v c = ⊎_elim
     (λ g. let lt : ltb v (length t.nodes) ≡ true = grind (arith, nat_tests, g.1, represented.node_count) in
@@ -145,7 +145,7 @@ counter_is t d s represented v c = ⊎_elim
     ∙ sym (ap (λ b. cond b (Some (slice_index (s.node v).counters (counter_number c))) None) ge))
     ((slice_get_cases d.nodes v).1)
 
-pub drops_is : (t : NetworkValue) (d : DevicesValue) (s : State (List ℕ) NodeStateValue) → DevicesRepresent t d s.node s.port → (i : ℕ)
+pub drops_is : (t : TopologyValue) (d : DevicesValue) (s : State (List ℕ) NodeStateValue) → DevicesRepresent t d s.node s.port → (i : ℕ)
     → option_map (λ w. w.dropped) (slice_get d.ports i) ≡ drops_at t s i
 drops_is t d s represented i = ⊎_elim
     (λ g. let lt : ltb i (length t.ifaces) ≡ true = grind (arith, nat_tests, g.1, represented.port_count) in

@@ -1,8 +1,8 @@
 -- Devices that represent the states of nodes and ports.
 use Rattle.std.proofs.Common.{◌≡◌, ◌≢◌, ℕ, ◌+◌, ◌==◌, Bool, true, false, cond, List, [], ◌∷◌, ◌++◌, length, Option, Some, None, slice_get, slice_set, refl, sym, ap, ◌∙◌, subst, arith, length-set}
 use Rattle.std.proofs.lemmas.Bool.Decides.{nat_tests}
-use Rattle.nm_topology.specs.Networks.{IfaceValue}
-use Rattle.nm_topology.specs.Wholes.{NetworkValue}
+use Rattle.nm_topology.specs.PartValues.{IfaceValue}
+use Rattle.nm_topology.specs.TopologyValue.{TopologyValue}
 use Rattle.nm_model.specs.Lists.{set_at}
 use Rattle.nm_model.specs.Port.{Busy, Port, idle_port, offered, completed, next_started}
 use Rattle.nm_forward.specs.State.{NodeStateValue, table_of}
@@ -13,7 +13,7 @@ use Rattle.nm_sim.specs.Devices.{DevicesValue, IsPortOf, DevicesRepresent}
 use Rattle.nm_sim.specs.Tables.{AllAt}
 use Rattle.nm_sim.proofs.Tables.{all_set}
 
-pub first_port : (t : NetworkValue) (i : ℕ) (x : IfaceValue) (w : PortValue) → slice_get t.ifaces i ≡ Some x
+pub first_port : (t : TopologyValue) (i : ℕ) (x : IfaceValue) (w : PortValue) → slice_get t.ifaces i ≡ Some x
     → w.limit ≡ x.queue → w.rate ≡ x.far.rate → w.delay ≡ x.far.delay → w.busy ≡ None → w.dropped ≡ 0 → IsPortOf t i w idle_port
 first_port t i x w e limit rate delay busy dropped = record {
   limit = limit ∙ sym (ap queue_from e);
@@ -51,7 +51,7 @@ completed_counted tx now n (Some b) = go b.waiting
     go [] = (refl, counted_twice n, refl)
     go (x ∷ waiting) = (refl, counted_twice n, refl)
 
-module _ (t : NetworkValue) (i : ℕ) (w : PortValue) (P : Port (List ℕ)) (is : IsPortOf t i w P) (now : ℕ) where
+module _ (t : TopologyValue) (i : ℕ) (w : PortValue) (P : Port (List ℕ)) (is : IsPortOf t i w P) (now : ℕ) where
   -- a port and what it represents take a packet alike
   pub same_offer : (x : List ℕ) → IsSameTurn (offered (has_room w.limit) (takes w.rate) now x w.dropped w.busy)
       (offered ((net_of t).room i) ((net_of t).tx i) now x P.dropped P.busy)
@@ -92,7 +92,7 @@ set_same f i j = go (j == i) refl
     go true e = ap f (sym (grind (arith, nat_tests, e)))
     go false e = refl
 
-module _ (t : NetworkValue) (d e : DevicesValue) (node : ℕ → NodeStateValue) (port : ℕ → Port (List ℕ)) (s : DevicesRepresent t d node port) where
+module _ (t : TopologyValue) (d e : DevicesValue) (node : ℕ → NodeStateValue) (port : ℕ → Port (List ℕ)) (s : DevicesRepresent t d node port) where
   -- one port changes
   pub port_turned : (i : ℕ) (w : PortValue) (P : Port (List ℕ)) → e.nodes ≡ d.nodes → e.ports ≡ slice_set d.ports i w → e.sources ≡ d.sources
       → IsPortOf t i w P → DevicesRepresent t e node (set_at port i P)

@@ -8,8 +8,8 @@ use Rattle.nm_base.specs.declared.key.Key.{Key}
 use Rattle.nm_base.specs.declared.key.Place.{Place}
 use Rattle.nm_base.specs.declared.key.Place.TheVariants.{Arrive, Complete}
 use Rattle.nm_base.specs.Key.{key_cmp}
-use Rattle.nm_topology.specs.Order.{IsInOrder}
-use Rattle.nm_topology.specs.Wholes.{NetworkValue}
+use Rattle.nm_topology.specs.Accepted.{IsInOrder}
+use Rattle.nm_topology.specs.TopologyValue.{TopologyValue}
 use Rattle.nm_model.specs.EventList.{schedule}
 use Rattle.nm_model.specs.Lists.{nth, set_at}
 use Rattle.nm_model.specs.Run.{next_events, sent_after, start_events}
@@ -76,7 +76,7 @@ module _ (P : Place → Type 0) where
       (λ other. k q y (sym (remove_other m r q other) ∙ e))
       (key_decides q r)
 
-module _ (t : NetworkValue) (order : IsInOrder t.nodes t.ifaces t.links) where
+module _ (t : TopologyValue) (order : IsInOrder t.nodes t.ifaces t.links) where
   peer_there : (i : ℕ) → i < length t.ifaces → (net_of t).peer i < length t.ifaces
   peer_there i h = ⊎_elim
       (λ g. subst (λ p. p < length t.ifaces) (sym (peer_is t i g.0 g.2)) (order.linked i g.0 g.2).within)
@@ -97,7 +97,7 @@ placed_next P place number (Some z) h zero f e = let s : place ≡ f.0.place = a
 placed_next P place number (Some z) h (suc i) f e = absurd cc
 
 -- one more packet at most is put on an interface
-pub one_more : (t : NetworkValue) (time n : ℕ) (sent : ℕ → List (ℕ × List ℕ)) (o : Option (ℕ × List ℕ)) → ((c : ℕ) → length (sent c) ≤ n)
+pub one_more : (t : TopologyValue) (time n : ℕ) (sent : ℕ → List (ℕ × List ℕ)) (o : Option (ℕ × List ℕ)) → ((c : ℕ) → length (sent c) ≤ n)
     → (c : ℕ) → length (sent_after (net_of t) time sent o c) ≤ n + 1
 one_more t time n sent None h c = let l = h c in omega arith
 one_more t time n sent (Some z) h c = ⊎_elim

@@ -1,7 +1,7 @@
 -- What a node sends is offered to a port.
 use Rattle.std.proofs.Common.{◌≡◌, ℕ, ◌<◌, List, length, Option, Some, None, slice_get, slice_set, refl, sym, ap, ◌∙◌, subst}
 use Rattle.std.specs.Option.{IfSome}
-use Rattle.nm_topology.specs.Wholes.{NetworkValue}
+use Rattle.nm_topology.specs.TopologyValue.{TopologyValue}
 use Rattle.nm_model.specs.Port.{Port, offered}
 use Rattle.nm_model.specs.Run.{at_iface}
 use Rattle.nm_forward.specs.State.{NodeStateValue}
@@ -17,7 +17,7 @@ pub start_of_at : (i : ℕ) (start : Option Start) → start_of (start_at i star
 start_of_at i None = refl
 start_of_at i (Some s) = refl
 
-module _ (t : NetworkValue) (d e : DevicesValue) (node : ℕ → NodeStateValue) (port : ℕ → Port (List ℕ)) (s : DevicesRepresent t d node port) (time : ℕ) where
+module _ (t : TopologyValue) (d e : DevicesValue) (node : ℕ → NodeStateValue) (port : ℕ → Port (List ℕ)) (s : DevicesRepresent t d node port) (time : ℕ) where
   -- nothing is sent
   pub sends_nothing : e ≡ d → Sends t node port time None e None
   sends_nothing same = record {

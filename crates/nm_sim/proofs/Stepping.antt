@@ -5,14 +5,14 @@ use Rattle.std.specs.declared.alloc.AllocError.{AllocError}
 use Rattle.nm_base.specs.declared.event.Event.{Event}
 use Rattle.nm_base.specs.declared.key.Key.{Key}
 use Rattle.nm_base.specs.Key.{key_cmp}
-use Rattle.nm_topology.specs.Wholes.{NetworkValue}
+use Rattle.nm_topology.specs.TopologyValue.{TopologyValue}
 use Rattle.nm_model.specs.Run.{State, step}
 use Rattle.nm_forward.specs.State.{NodeStateValue}
 use Rattle.nm_sim.specs.Network.{net_of}
 use Rattle.nm_sim.specs.Part.{PartValue, Represents, Stepped}
 use Rattle.nm_sim.specs.Timelines.{everywhere}
 
-pub represents_stepped : {L : Type 0} (pending : L → FinMap key_cmp (Event (List ℕ))) (t : NetworkValue) (before : ℕ)
+pub represents_stepped : {L : Type 0} (pending : L → FinMap key_cmp (Event (List ℕ))) (t : TopologyValue) (before : ℕ)
     (s : State (List ℕ) NodeStateValue) (old new : PartValue L) (result : Result (Option Key) AllocError)
     → Represents pending t old s → Stepped pending t before s old new result
     → (x : State (List ℕ) NodeStateValue) × Represents pending t new x

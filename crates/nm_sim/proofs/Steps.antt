@@ -15,7 +15,7 @@ use Rattle.nm_topology.specs.declared.traffic.Source.{Source}
 use Rattle.nm_topology.specs.declared.traffic.Traffic.{Traffic}
 use Rattle.nm_topology.specs.declared.traffic.Traffic.TheVariants.{Cbr, Echo, Raw}
 use Rattle.nm_topology.specs.Limits.{IsWithinLimits}
-use Rattle.nm_topology.specs.Wholes.{NetworkValue}
+use Rattle.nm_topology.specs.TopologyValue.{TopologyValue}
 use Rattle.nm_model.specs.EventList.{first_of_list, least}
 use Rattle.nm_model.specs.Orderly.{IsOrderly}
 use Rattle.nm_model.specs.Port.{Busy}
@@ -42,7 +42,7 @@ least_has {X} m e h = get-entries m e.0 ∙ go (entries m) h
         ap (λ z. cond (eq_by_cmp key_cmp e.0 z.0) (Some z.1) (Rattle.std.specs.FinMap.find key_cmp e.0 l)) same
         ∙ ap (λ r. cond (is_eq r) (Some e.1) (Rattle.std.specs.FinMap.find key_cmp e.0 l)) (tied_itself key_cmp_total e.0)
 
-module _ (t : NetworkValue) (rise : TimesRise t) (end : EndForGood t) where
+module _ (t : TopologyValue) (rise : TimesRise t) (end : EndForGood t) where
   -- packet n of a source comes at n or later
   pub number_le : (j n : ℕ) (a : ℕ × List ℕ) → source_at t j n ≡ Some a → n ≤ a.0
   number_le j zero a e = omega arith
@@ -57,7 +57,7 @@ past [] i e = omega arith
 past (x ∷ xs) zero e = absurd cc
 past (x ∷ xs) (suc i) e = let h = past xs i e in omega arith
 
-module _ (t : NetworkValue) (limits : IsWithinLimits t) (fit : FitTheMtu t) where
+module _ (t : TopologyValue) (limits : IsWithinLimits t) (fit : FitTheMtu t) where
   fits_traffic : (traffic : Traffic) (x : List ℕ) → FitsMtu t.mtu traffic (length x) → Rattle.nm_forward.specs.Reaction.FitsHeaders traffic x
   fits_traffic (Cbr c) x h = let m = limits.greatest_mtu in omega arith
   fits_traffic (Echo e) x h = let m = limits.greatest_mtu in omega arith
@@ -70,7 +70,7 @@ module _ (t : NetworkValue) (limits : IsWithinLimits t) (fit : FitTheMtu t) wher
       go None f = tt
       go (Some s) f = fits_traffic s.traffic a.1 (fit j n s a f e)
 
-module _ (t : NetworkValue) (s : State (List ℕ) NodeStateValue) (orderly : IsOrderly (net_of t) everywhere s) (d : DevicesValue) (represented : DevicesRepresent t d s.node s.port) where
+module _ (t : TopologyValue) (s : State (List ℕ) NodeStateValue) (orderly : IsOrderly (net_of t) everywhere s) (d : DevicesValue) (represented : DevicesRepresent t d s.node s.port) where
   busy_at : (i : ℕ) (b : Busy (List ℕ)) → (s.port i).busy ≡ Some b → i < length t.ifaces → IsBusy (slice_get d.ports i)
   busy_at i b e h = go (slice_get d.ports i) refl
     where
@@ -82,7 +82,7 @@ module _ (t : NetworkValue) (s : State (List ℕ) NodeStateValue) (orderly : IsO
   pub is_busy : (i time number : ℕ) (y : Event (List ℕ)) → get s.pending (key_of time (Complete i) number) ≡ Some y → i < length t.ifaces → IsBusy (slice_get d.ports i)
   is_busy i time number y e h = let c = orderly.completion i time number y e in busy_at i c.0 c.2 h
 
-module _ (t : NetworkValue) (limits : IsWithinLimits t) (fit : FitTheMtu t) (rise : TimesRise t) (end : EndForGood t) (before : ComeBeforeStop t)
+module _ (t : TopologyValue) (limits : IsWithinLimits t) (fit : FitTheMtu t) (rise : TimesRise t) (end : EndForGood t) (before : ComeBeforeStop t)
     (s : State (List ℕ) NodeStateValue) (orderly : IsOrderly (net_of t) everywhere s)
     (placed : (q : Key) (y : Event (List ℕ)) → get s.pending q ≡ Some y → IsPlaceIn t q.place)
     (d : DevicesValue) (represented : DevicesRepresent t d s.node s.port) where
@@ -109,7 +109,7 @@ module _ (t : NetworkValue) (limits : IsWithinLimits t) (fit : FitTheMtu t) (ris
           from_net x' x e g = g ∙ ap (λ z. Some (k.time, z)) e
       go (Fire j) Completion h f = absurd (let c = orderly.source j k.time k.number Completion f in let b = c.1 in cc)
 
-module _ (t : NetworkValue) (limits : IsWithinLimits t) (rise : TimesRise t) (end : EndForGood t) (before : ComeBeforeStop t)
+module _ (t : TopologyValue) (limits : IsWithinLimits t) (rise : TimesRise t) (end : EndForGood t) (before : ComeBeforeStop t)
     (s : State (List ℕ) NodeStateValue) (orderly : IsOrderly (net_of t) everywhere s) (n : ℕ) (few : (c : ℕ) → length (s.sent c) ≤ n) (bound : n ≤ 2 ^ 62) where
   -- the numbers of events that are pending are small
   pub number_small : (k : Key) (y : Event (List ℕ)) → get s.pending k ≡ Some y → k.number < 2 ^ 63

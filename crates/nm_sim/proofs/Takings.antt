@@ -10,7 +10,7 @@ use Rattle.nm_base.specs.declared.key.Key.{Key}
 use Rattle.nm_base.specs.declared.limits.TheConstants.{MAX_TIME}
 use Rattle.nm_base.specs.declared.key.Place.TheVariants.{Arrive, Fire}
 use Rattle.nm_base.specs.Key.{key_cmp, key_of}
-use Rattle.nm_topology.specs.Wholes.{NetworkValue}
+use Rattle.nm_topology.specs.TopologyValue.{TopologyValue}
 use Rattle.nm_model.specs.EventList.{least, schedule}
 use Rattle.nm_model.specs.Lists.{nth, set_at}
 use Rattle.nm_model.specs.Run.{Effect, State, effect, in_record, made, next_events, start_events, step}
@@ -29,7 +29,7 @@ use Rattle.nm_sim.proofs.Doings.{arrives_by, fires_by, follows_is}
 use Rattle.nm_sim.proofs.Schedules.{first_fresh, same_some, second_fresh}
 use Rattle.nm_model.proofs.Keys.{remove_same}
 
-module _ {L : Type 0} (pending : L → FinMap key_cmp (Event (List ℕ))) (t : NetworkValue) (k : Key) (e : Event (List ℕ)) (p q : PartValue L) (s : State (List ℕ) NodeStateValue) where
+module _ {L : Type 0} (pending : L → FinMap key_cmp (Event (List ℕ))) (t : TopologyValue) (k : Key) (e : Event (List ℕ)) (p q : PartValue L) (s : State (List ℕ) NodeStateValue) where
   pub taken_out : Represents pending t p s → Some (k, e) ≡ least (pending p.timeline.events) → pending q.timeline.events ≡ remove (pending p.timeline.events) k
       → q.timeline.sent ≡ p.timeline.sent → q.timeline.records ≡ p.timeline.records → q.steps ≡ p.steps → Taken pending t k e None None q s
   taken_out h first events sent records steps = record {
@@ -81,7 +81,7 @@ module _ {L : Type 0} (pending : L → FinMap key_cmp (Event (List ℕ))) (t : N
     records = records ∙ h.records;
   }
 
-module _ {L : Type 0} (pending : L → FinMap key_cmp (Event (List ℕ))) (t : NetworkValue) (k : Key) (e : Event (List ℕ)) (p : PartValue L) (s : State (List ℕ) NodeStateValue) where
+module _ {L : Type 0} (pending : L → FinMap key_cmp (Event (List ℕ))) (t : TopologyValue) (k : Key) (e : Event (List ℕ)) (p : PartValue L) (s : State (List ℕ) NodeStateValue) where
   -- its key is free
   pub key_is_free : Taken pending t k e None None p s → get (pending p.timeline.events) k ≡ None
   key_is_free h = ap (λ m. get m k) h.events ∙ remove_same s.pending k
@@ -107,14 +107,14 @@ module _ {L : Type 0} (pending : L → FinMap key_cmp (Event (List ℕ))) (t : N
         (first_fresh (remove s.pending k) (start_events (net_of t) k.time s.sent does_at.start) k.place k.number does_at.follows fresh apart))
 
 -- what follows when source j hands a packet over
-pub fires_next : (t : NetworkValue) (s : State (List ℕ) NodeStateValue) (time j number : ℕ) (x : List ℕ)
+pub fires_next : (t : TopologyValue) (s : State (List ℕ) NodeStateValue) (time j number : ℕ) (x : List ℕ)
     → source_at t j (suc number) ≡ (effect (net_of t) s.node s.port time (Fire j) number (Delivery x)).follows
 unfolding net_of
 fires_next t s time j number x =
     let v = (net_of t).source_node j in
     sym (follows_is (net_of t) s.port time None (reaction t v (s.node v) (Source j) x).0 (source_at t j (suc number)) (reaction t v (s.node v) (Source j) x).1)
 
-module _ {L : Type 0} (pending : L → FinMap key_cmp (Event (List ℕ))) (room_of : L → ℕ) (t : NetworkValue) (time number : ℕ) (p q : PartValue L) (s : State (List ℕ) NodeStateValue)
+module _ {L : Type 0} (pending : L → FinMap key_cmp (Event (List ℕ))) (room_of : L → ℕ) (t : TopologyValue) (time number : ℕ) (p q : PartValue L) (s : State (List ℕ) NodeStateValue)
     (x : List ℕ) (sent : Option (ℕ × List ℕ)) where
   -- a packet arrived, and its node reacted
   pub arrives_on : (i : ℕ) → IsReady pending room_of t (key_of time (Arrive i) number) (Delivery x) p s
@@ -144,7 +144,7 @@ module _ {L : Type 0} (pending : L → FinMap key_cmp (Event (List ℕ))) (room_
   }
 
 -- and what it sends was offered to a port
-pub sends_on : {L : Type 0} (pending : L → FinMap key_cmp (Event (List ℕ))) (t : NetworkValue) (k : Key) (e : Event (List ℕ)) (came follows sent : Option (ℕ × List ℕ)) (start : Option (ℕ × Start))
+pub sends_on : {L : Type 0} (pending : L → FinMap key_cmp (Event (List ℕ))) (t : TopologyValue) (k : Key) (e : Event (List ℕ)) (came follows sent : Option (ℕ × List ℕ)) (start : Option (ℕ × Start))
     (node : ℕ → NodeStateValue) (p q : PartValue L) (s : State (List ℕ) NodeStateValue) → HasReacted pending t k e came follows sent node p s → Sends t node s.port k.time sent q.devices start
     → q.timeline ≡ p.timeline → q.steps ≡ p.steps → IsUnderWay pending t k e (record { came = came; start = start; follows = follows }) q s
 sends_on pending t k e came follows sent start node p q s h o line steps = record {
@@ -153,7 +153,7 @@ sends_on pending t k e came follows sent start node p q s h o line steps = recor
 }
 
 -- the event of the least key comes before the end
-pub time_is : {L : Type 0} (pending : L → FinMap key_cmp (Event (List ℕ))) (t : NetworkValue) (p : PartValue L) (s : State (List ℕ) NodeStateValue) → Represents pending t p s → (k : Key) (e : Event (List ℕ))
+pub time_is : {L : Type 0} (pending : L → FinMap key_cmp (Event (List ℕ))) (t : TopologyValue) (p : PartValue L) (s : State (List ℕ) NodeStateValue) → Represents pending t p s → (k : Key) (e : Event (List ℕ))
     → Some (k, e) ≡ least (pending p.timeline.events) → (f : Key × Event (List ℕ)) → least s.pending ≡ Some f → f.0.time < t.stop → t.stop ≤ MAX_TIME → k.time ≤ MAX_TIME
 time_is pending t p s h k e first f least_is early stop =
     let same : (k, e) ≡ f = same_some (k, e) f (first ∙ ap (λ m. least m) h.events ∙ least_is) in
@@ -161,7 +161,7 @@ time_is pending t p s h k e first f least_is early stop =
     omega (arith, time, early, stop)
 
 -- it is taken out, where there is memory for all that it may do
-pub ready_at : {L : Type 0} (pending : L → FinMap key_cmp (Event (List ℕ))) (room_of : L → ℕ) (t : NetworkValue) (k : Key) (e : Event (List ℕ)) (d : DevicesValue) (line after : TimelineValue L) (steps : ℕ)
+pub ready_at : {L : Type 0} (pending : L → FinMap key_cmp (Event (List ℕ))) (room_of : L → ℕ) (t : TopologyValue) (k : Key) (e : Event (List ℕ)) (d : DevicesValue) (line after : TimelineValue L) (steps : ℕ)
     → Some (k, e) ≡ least (pending line.events) → pending after.events ≡ remove (pending line.events) k → after ≡ record line { events = after.events }
     → k.time ≤ MAX_TIME → steps < 2 ^ 62 → AllAt (λ i w. 1 ≤ w.room) d.ports → 3 ≤ room_of after.events → 2 ≤ line.spare
     → (s : State (List ℕ) NodeStateValue) → Represents pending t (record { devices = d; timeline = line; steps = steps }) s
@@ -177,7 +177,7 @@ ready_at pending room_of t k e d line after steps first rest others time few por
   spare = let e = ap (λ l. l.spare) others in omega (arith, e, spare);
 }
 
-module _ {L : Type 0} (pending : L → FinMap key_cmp (Event (List ℕ))) (room_of : L → ℕ) (t : NetworkValue) (k : Key) (e : Event (List ℕ)) (p q new : PartValue L)
+module _ {L : Type 0} (pending : L → FinMap key_cmp (Event (List ℕ))) (room_of : L → ℕ) (t : TopologyValue) (k : Key) (e : Event (List ℕ)) (p q new : PartValue L)
     (ready : (s : State (List ℕ) NodeStateValue) → Represents pending t p s → IsReady pending room_of t k e q s) where
   pub performed_ok : (r : Result Unit AllocError) → Performed pending room_of t k e q new r
       → OnOk r ((s : State (List ℕ) NodeStateValue) → Represents pending t p s → Represents pending t new (step (net_of t) everywhere s))
@@ -190,7 +190,7 @@ module _ {L : Type 0} (pending : L → FinMap key_cmp (Event (List ℕ))) (room_
   performed_err (Err x) h = λ s z. h.0 s (ready s z)
 
 -- how many events were done
-pub performed_one : {L : Type 0} (pending : L → FinMap key_cmp (Event (List ℕ))) (room_of : L → ℕ) (t : NetworkValue) (k : Key) (e : Event (List ℕ)) (q new : PartValue L)
+pub performed_one : {L : Type 0} (pending : L → FinMap key_cmp (Event (List ℕ))) (room_of : L → ℕ) (t : TopologyValue) (k : Key) (e : Event (List ℕ)) (q new : PartValue L)
     (r : Result Unit AllocError) → Performed pending room_of t k e q new r → OnOk r (new.steps ≡ q.steps + 1) × OnErr r (new.steps ≡ q.steps)
 performed_one pending room_of t k e q new (Ok u) h = (h.1, tt)
 performed_one pending room_of t k e q new (Err x) h = (tt, h.1)

@@ -1,6 +1,6 @@
 -- The nodes, ports and sources of a simulation, and what they represent.
 use Rattle.std.specs.Prelude.{◌≡◌, ◌⊎◌, ℕ, ◌≤◌, List, length, Option, Some, slice_get}
-use Rattle.nm_topology.specs.Wholes.{NetworkValue}
+use Rattle.nm_topology.specs.TopologyValue.{TopologyValue}
 use Rattle.nm_model.specs.Port.{Port}
 use Rattle.nm_forward.specs.State.{NodeStateValue, table_of}
 use Rattle.nm_iface.specs.PortValue.{PortValue, saturated}
@@ -17,7 +17,7 @@ pub record DevicesValue : Type 0 where
   pub used : Option ℕ
 
 -- a port of the interface i; its count of drops stops at the greatest of its type
-pub record IsPortOf (t : NetworkValue) (i : ℕ) (w : PortValue) (port : Port (List ℕ)) : Type 0 where
+pub record IsPortOf (t : TopologyValue) (i : ℕ) (w : PortValue) (port : Port (List ℕ)) : Type 0 where
   pub limit : w.limit ≡ queue_of t i
   pub rate : w.rate ≡ (far_of t i).rate
   pub delay : w.delay ≡ (far_of t i).delay
@@ -25,7 +25,7 @@ pub record IsPortOf (t : NetworkValue) (i : ℕ) (w : PortValue) (port : Port (L
   pub dropped : w.dropped ≡ saturated port.dropped
 
 -- the devices of a topology represent these states of its nodes and ports
-pub record DevicesRepresent (t : NetworkValue) (d : DevicesValue) (node : ℕ → NodeStateValue) (port : ℕ → Port (List ℕ)) : Type 0 where
+pub record DevicesRepresent (t : TopologyValue) (d : DevicesValue) (node : ℕ → NodeStateValue) (port : ℕ → Port (List ℕ)) : Type 0 where
   pub node_count : length d.nodes ≡ length t.nodes
   pub nodes : AllAt (λ v n. n ≡ node v) d.nodes
   pub tables : AllAt (λ v n. n.table ≡ table_of t v) d.nodes
@@ -46,5 +46,5 @@ pub record IsSame (d e : DevicesValue) : Type 0 where
   pub sources : e.sources ≡ d.sources
 
 -- the devices represent some states
-abbrev pub DevicesRepresentSome : NetworkValue → DevicesValue → Type 0
+abbrev pub DevicesRepresentSome : TopologyValue → DevicesValue → Type 0
 DevicesRepresentSome t d = (node : ℕ → NodeStateValue) × (port : ℕ → Port (List ℕ)) × DevicesRepresent t d node port

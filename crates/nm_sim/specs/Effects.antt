@@ -8,7 +8,7 @@ use Rattle.nm_base.specs.declared.event.Event.{Event}
 use Rattle.nm_base.specs.declared.event.Event.TheVariants.{Delivery, Completion}
 use Rattle.nm_base.specs.declared.event.Origin.{Origin}
 use Rattle.nm_base.specs.declared.event.Origin.TheVariants.{Source}
-use Rattle.nm_topology.specs.Wholes.{NetworkValue}
+use Rattle.nm_topology.specs.TopologyValue.{TopologyValue}
 use Rattle.nm_model.specs.Lists.{set_at}
 use Rattle.nm_model.specs.Network.{node_of}
 use Rattle.nm_model.specs.Port.{Port}
@@ -22,7 +22,7 @@ use Rattle.nm_sim.specs.Devices.{DevicesValue, DevicesRepresent}
 use Rattle.nm_sim.specs.Network.{far_of, net_of}
 
 -- the place is one of the topology's
-abbrev pub IsPlaceIn : NetworkValue → Place → Type 0
+abbrev pub IsPlaceIn : TopologyValue → Place → Type 0
 IsPlaceIn t (Arrive i) = i < length t.ifaces
 IsPlaceIn t (Complete i) = i < length t.ifaces
 IsPlaceIn t (Fire j) = j < length t.sources
@@ -33,7 +33,7 @@ IsBusy None = ⊥
 IsBusy (Some w) = IsSome w.busy
 
 -- an event that can happen now
-abbrev pub CanHappen : NetworkValue → DevicesValue → Place → ℕ → Event (List ℕ) → Type 0
+abbrev pub CanHappen : TopologyValue → DevicesValue → Place → ℕ → Event (List ℕ) → Type 0
 CanHappen t d (Arrive i) number (Delivery x) = i < length t.ifaces
 CanHappen t d (Complete i) number Completion = (i < length t.ifaces) × IsBusy (slice_get d.ports i)
 CanHappen t d (Fire j) number (Delivery x) = (j < length t.sources) × FitsOrigin t (Source j) x × (number < 2 ^ 63)
@@ -52,7 +52,7 @@ start_at i None = None
 start_at i (Some s) = Some (i, s)
 
 -- the transmission that starts at this time, by an interface that is there
-abbrev pub StartsAt : NetworkValue → ℕ → ℕ × Start → Type 0
+abbrev pub StartsAt : TopologyValue → ℕ → ℕ × Start → Type 0
 StartsAt t time s = (s.0 < length t.ifaces) × IsTransmission (far_of t s.0).rate (far_of t s.0).delay time s.1.twin.packet s.1
 
 -- What was done beside the change of a node and of one port: the packet that arrived, and where, the transmission that starts, and where, and
@@ -63,25 +63,25 @@ pub record Done : Type 0 where
   pub follows : Option (ℕ × List ℕ)
 
 -- what was done is this effect
-pub record IsEffect (t : NetworkValue) (time : ℕ) (e : Done) (m : Effect (List ℕ) NodeStateValue) : Type 0 where
+pub record IsEffect (t : TopologyValue) (time : ℕ) (e : Done) (m : Effect (List ℕ) NodeStateValue) : Type 0 where
   pub came : e.came ≡ m.came
   pub start : start_of e.start ≡ m.start
   pub begins : IfSome e.start (StartsAt t time)
   pub follows : e.follows ≡ m.follows
 
 -- after an event of this key, done where nodes and ports had these states
-pub record Does (t : NetworkValue) (node : ℕ → NodeStateValue) (port : ℕ → Port (List ℕ)) (k : Key) (event : Event (List ℕ)) (d : DevicesValue) (e : Done) : Type 0 where
+pub record Does (t : TopologyValue) (node : ℕ → NodeStateValue) (port : ℕ → Port (List ℕ)) (k : Key) (event : Event (List ℕ)) (d : DevicesValue) (e : Done) : Type 0 where
   pub represented : let m : Effect (List ℕ) NodeStateValue = effect (net_of t) node port k.time k.place k.number event in
       DevicesRepresent t d (set_at node (node_of (net_of t) k.place) m.after) (turned port m.turn)
   pub does : IsEffect t k.time e (effect (net_of t) node port k.time k.place k.number event)
 
 -- after a node has sent this, or nothing
-pub record Sends (t : NetworkValue) (node : ℕ → NodeStateValue) (port : ℕ → Port (List ℕ)) (time : ℕ) (sent : Option (ℕ × List ℕ)) (d : DevicesValue) (begun : Option (ℕ × Start)) : Type 0 where
+pub record Sends (t : TopologyValue) (node : ℕ → NodeStateValue) (port : ℕ → Port (List ℕ)) (time : ℕ) (sent : Option (ℕ × List ℕ)) (d : DevicesValue) (begun : Option (ℕ × Start)) : Type 0 where
   pub represented : (n : NodeStateValue) (came follows : Option (ℕ × List ℕ)) → DevicesRepresent t d node (turned port (sent_on (net_of t) port time came n sent follows).turn)
   pub start : (n : NodeStateValue) (came follows : Option (ℕ × List ℕ)) → start_of begun ≡ (sent_on (net_of t) port time came n sent follows).start
   pub begins : IfSome begun (StartsAt t time)
 
 -- after node v has reacted to a packet
-pub record Reacts (t : NetworkValue) (node : ℕ → NodeStateValue) (port : ℕ → Port (List ℕ)) (v : ℕ) (o : Origin) (x : List ℕ) (d : DevicesValue) (sent : Option (ℕ × List ℕ)) : Type 0 where
+pub record Reacts (t : TopologyValue) (node : ℕ → NodeStateValue) (port : ℕ → Port (List ℕ)) (v : ℕ) (o : Origin) (x : List ℕ) (d : DevicesValue) (sent : Option (ℕ × List ℕ)) : Type 0 where
   pub represented : DevicesRepresent t d (set_at node v (reaction t v (node v) o x).0) port
   pub sends : sent ≡ (reaction t v (node v) o x).1

@@ -2,9 +2,9 @@
 use Rattle.std.specs.Prelude.{ℕ, List, map, length, Option, Some, None, slice_get, slice_index_or as get_or, slice_index}
 use Rattle.nm_model.specs.Network.{Net}
 use Rattle.nm_topology.specs.declared.parts.Far.{Far}
-use Rattle.nm_topology.specs.Networks.{IfaceValue}
-use Rattle.nm_topology.specs.Order.{owners_of, parts_of}
-use Rattle.nm_topology.specs.Wholes.{NetworkValue}
+use Rattle.nm_topology.specs.PartValues.{IfaceValue}
+use Rattle.nm_topology.specs.Accepted.{owners_of, parts_of}
+use Rattle.nm_topology.specs.TopologyValue.{TopologyValue}
 use Rattle.nm_forward.specs.State.{NodeStateValue, first_state}
 use Rattle.nm_forward.specs.Reaction.{reaction}
 use Rattle.nm_iface.specs.PortValue.{has_room, takes}
@@ -16,7 +16,7 @@ abbrev pub far_from : ℕ → Option IfaceValue → Far
 far_from i None = record { peer = i; rate = 1; delay = 0 }
 far_from i (Some x) = x.far
 
-abbrev pub far_of : NetworkValue → ℕ → Far
+abbrev pub far_of : TopologyValue → ℕ → Far
 far_of t i = far_from i (slice_get t.ifaces i)
 
 -- packets that may wait
@@ -24,11 +24,11 @@ abbrev pub queue_from : Option IfaceValue → ℕ
 queue_from None = 0
 queue_from (Some x) = x.queue
 
-abbrev pub queue_of : NetworkValue → ℕ → ℕ
+abbrev pub queue_of : TopologyValue → ℕ → ℕ
 queue_of t i = queue_from (slice_get t.ifaces i)
 
 -- Times are in nanoseconds. A node that isn't there is in no partition.
-unfoldable pub net_of : NetworkValue → Net (List ℕ) NodeStateValue
+unfoldable pub net_of : TopologyValue → Net (List ℕ) NodeStateValue
 net_of t = record {
   stop = t.stop;
   ifaces = length t.ifaces;

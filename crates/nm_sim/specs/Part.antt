@@ -6,7 +6,7 @@ use Rattle.std.specs.declared.alloc.AllocError.{AllocError}
 use Rattle.nm_base.specs.declared.event.Event.{Event}
 use Rattle.nm_base.specs.declared.key.Key.{Key}
 use Rattle.nm_base.specs.Key.{key_cmp}
-use Rattle.nm_topology.specs.Wholes.{NetworkValue}
+use Rattle.nm_topology.specs.TopologyValue.{TopologyValue}
 use Rattle.nm_model.specs.EventList.{least, schedule}
 use Rattle.nm_model.specs.Orderly.{IsOrderly}
 use Rattle.nm_model.specs.Run.{State, in_record, next_events, pends_before, step}
@@ -28,7 +28,7 @@ pub record PartValue (L : Type 0) : Type 0 where
   pub steps : ℕ
 
 -- the part, whose event list has these pending events, represents this state of the network's run
-pub record Represents {L : Type 0} (pending : L → FinMap key_cmp (Event (List ℕ))) (t : NetworkValue) (p : PartValue L) (s : State (List ℕ) NodeStateValue) : Type 0 where
+pub record Represents {L : Type 0} (pending : L → FinMap key_cmp (Event (List ℕ))) (t : TopologyValue) (p : PartValue L) (s : State (List ℕ) NodeStateValue) : Type 0 where
   pub orderly : IsOrderly (net_of t) everywhere s
   pub devices : DevicesRepresent t p.devices s.node s.port
   pub numbered : TimelineRepresents t p.timeline s.sent
@@ -39,7 +39,7 @@ pub record Represents {L : Type 0} (pending : L → FinMap key_cmp (Event (List 
 
 -- An event was taken out of a part that represented this state. If a packet came with it, the trace has it, and if another follows at its source,
 -- that is pending.
-pub record Taken {L : Type 0} (pending : L → FinMap key_cmp (Event (List ℕ))) (t : NetworkValue) (k : Key) (e : Event (List ℕ))
+pub record Taken {L : Type 0} (pending : L → FinMap key_cmp (Event (List ℕ))) (t : TopologyValue) (k : Key) (e : Event (List ℕ))
     (came follows : Option (ℕ × List ℕ)) (p : PartValue L) (s : State (List ℕ) NodeStateValue) : Type 0 where
   pub first : least s.pending ≡ Some (k, e)
   pub orderly : IsOrderly (net_of t) everywhere s
@@ -50,7 +50,7 @@ pub record Taken {L : Type 0} (pending : L → FinMap key_cmp (Event (List ℕ))
   pub records : p.timeline.records ≡ s.records ++ in_record k.time came
 
 -- it was taken out and nothing of it is done, and there is memory for all that it may do
-pub record IsReady {L : Type 0} (pending : L → FinMap key_cmp (Event (List ℕ))) (room_of : L → ℕ) (t : NetworkValue) (k : Key) (e : Event (List ℕ))
+pub record IsReady {L : Type 0} (pending : L → FinMap key_cmp (Event (List ℕ))) (room_of : L → ℕ) (t : TopologyValue) (k : Key) (e : Event (List ℕ))
     (p : PartValue L) (s : State (List ℕ) NodeStateValue) : Type 0 where
   pub taken : Taken pending t k e None None p s
   pub devices : DevicesRepresent t p.devices s.node s.port
@@ -61,7 +61,7 @@ pub record IsReady {L : Type 0} (pending : L → FinMap key_cmp (Event (List ℕ
   pub spare : 2 ≤ p.timeline.spare
 
 -- its node has reacted, but nothing of what the node sends was offered to a port yet
-pub record HasReacted {L : Type 0} (pending : L → FinMap key_cmp (Event (List ℕ))) (t : NetworkValue) (k : Key) (e : Event (List ℕ))
+pub record HasReacted {L : Type 0} (pending : L → FinMap key_cmp (Event (List ℕ))) (t : TopologyValue) (k : Key) (e : Event (List ℕ))
     (came follows sent : Option (ℕ × List ℕ)) (node : ℕ → NodeStateValue) (p : PartValue L) (s : State (List ℕ) NodeStateValue) : Type 0 where
   pub taken : Taken pending t k e came follows p s
   pub represented : DevicesRepresent t p.devices node s.port
@@ -69,13 +69,13 @@ pub record HasReacted {L : Type 0} (pending : L → FinMap key_cmp (Event (List 
       → Does t s.node s.port k e d (record { came = came; start = start; follows = follows })
 
 -- it was done, but that no transmission started yet
-pub record IsUnderWay {L : Type 0} (pending : L → FinMap key_cmp (Event (List ℕ))) (t : NetworkValue) (k : Key) (e : Event (List ℕ))
+pub record IsUnderWay {L : Type 0} (pending : L → FinMap key_cmp (Event (List ℕ))) (t : TopologyValue) (k : Key) (e : Event (List ℕ))
     (done : Done) (p : PartValue L) (s : State (List ℕ) NodeStateValue) : Type 0 where
   pub taken : Taken pending t k e done.came done.follows p s
   pub does : Does t s.node s.port k e p.devices done
 
 -- what became of it: it was done, or is back where it was
-abbrev pub Performed : {L : Type 0} → (L → FinMap key_cmp (Event (List ℕ))) → (L → ℕ) → NetworkValue → Key → Event (List ℕ)
+abbrev pub Performed : {L : Type 0} → (L → FinMap key_cmp (Event (List ℕ))) → (L → ℕ) → TopologyValue → Key → Event (List ℕ)
     → PartValue L → PartValue L → Result Unit AllocError → Type 0
 Performed pending room t k e old new (Ok u) = ((s : State (List ℕ) NodeStateValue) → IsReady pending room t k e old s
     → Represents pending t new (step (net_of t) everywhere s)) × (new.steps ≡ old.steps + 1)
@@ -83,7 +83,7 @@ Performed pending room t k e old new (Err x) = ((s : State (List ℕ) NodeStateV
     → Represents pending t new s) × (new.steps ≡ old.steps)
 
 -- what a step answers, and what the part represents after it
-abbrev pub Stepped : {L : Type 0} → (L → FinMap key_cmp (Event (List ℕ))) → NetworkValue → ℕ → State (List ℕ) NodeStateValue
+abbrev pub Stepped : {L : Type 0} → (L → FinMap key_cmp (Event (List ℕ))) → TopologyValue → ℕ → State (List ℕ) NodeStateValue
     → PartValue L → PartValue L → Result (Option Key) AllocError → Type 0
 Stepped pending t before s old new (Ok None) = (new ≡ old) × (pends_before before s ≡ false)
 Stepped pending t before s old new (Ok (Some k)) = Represents pending t new (step (net_of t) everywhere s)
@@ -103,16 +103,16 @@ events_counted (Ok true) = 1
 events_counted (Err e) = 0
 
 -- the same where only whether there was an event is answered
-abbrev pub Advanced : {L : Type 0} → (L → FinMap key_cmp (Event (List ℕ))) → NetworkValue → ℕ → State (List ℕ) NodeStateValue
+abbrev pub Advanced : {L : Type 0} → (L → FinMap key_cmp (Event (List ℕ))) → TopologyValue → ℕ → State (List ℕ) NodeStateValue
     → PartValue L → PartValue L → Result Bool AllocError → Type 0
 Advanced pending t before s old new (Ok false) = (new ≡ old) × (pends_before before s ≡ false)
 Advanced pending t before s old new (Ok true) = Represents pending t new (step (net_of t) everywhere s) × (pends_before before s ≡ true)
 Advanced pending t before s old new (Err e) = Represents pending t new s
 
 -- what node v counted, if it is there
-abbrev pub count_at : NetworkValue → State (List ℕ) NodeStateValue → ℕ → Counter → Option ℕ
+abbrev pub count_at : TopologyValue → State (List ℕ) NodeStateValue → ℕ → Counter → Option ℕ
 count_at t s v c = if ltb v (length t.nodes) then Some (slice_index (s.node v).counters (counter_number c)) else None
 
 -- how many packets were dropped at interface i, if it is there; the count stops at the greatest of its type
-abbrev pub drops_at : NetworkValue → State (List ℕ) NodeStateValue → ℕ → Option ℕ
+abbrev pub drops_at : TopologyValue → State (List ℕ) NodeStateValue → ℕ → Option ℕ
 drops_at t s i = if ltb i (length t.ifaces) then Some (saturated (s.port i).dropped) else None

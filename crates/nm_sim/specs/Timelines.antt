@@ -7,7 +7,7 @@ use Rattle.nm_base.specs.declared.key.Place.{Place}
 use Rattle.nm_base.specs.declared.record.Record.{Record}
 use Rattle.nm_base.specs.Key.{key_cmp}
 use Rattle.nm_model.specs.Lists.{nth}
-use Rattle.nm_topology.specs.Wholes.{NetworkValue}
+use Rattle.nm_topology.specs.TopologyValue.{TopologyValue}
 
 -- the event list, how many packets were put on each interface, the trace, and for how many more records there is memory
 pub record TimelineValue (L : Type 0) : Type 0 where
@@ -17,7 +17,7 @@ pub record TimelineValue (L : Type 0) : Type 0 where
   pub spare : ℕ
 
 -- the counts of a timeline are those of what was put on the interfaces
-pub record TimelineRepresents {L : Type 0} (t : NetworkValue) (line : TimelineValue L) (sent : ℕ → List (ℕ × List ℕ)) : Type 0 where
+pub record TimelineRepresents {L : Type 0} (t : TopologyValue) (line : TimelineValue L) (sent : ℕ → List (ℕ × List ℕ)) : Type 0 where
   pub count : length line.sent ≡ length t.ifaces
   pub numbers : (c : ℕ) → c < length t.ifaces → slice_index line.sent c ≡ length (sent c)
 

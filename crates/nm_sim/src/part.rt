@@ -16,7 +16,7 @@ ghost use Rattle.nm_forward.specs.State.{NodeStateValue};
 ghost use Rattle.nm_forward.specs.Reaction.{FitsOrigin, sent_of};
 ghost use Rattle.nm_sim.specs.Network.{net_of};
 ghost use Rattle.nm_sim.specs.Part.{Advanced, HasReacted, IsReady, IsUnderWay, Performed, Represents, Stepped, count_at, drops_at, events_counted, events_done};
-ghost use Rattle.nm_topology.specs.Wholes.{NetworkValue};
+ghost use Rattle.nm_topology.specs.TopologyValue.{TopologyValue};
 ghost use Rattle.std.specs.FinMap.{empty};
 ghost use Rattle.nm_sim.specs.Devices.{DevicesRepresentSome};
 ghost use Rattle.nm_sim.specs.Tables.{AllAt};
@@ -160,7 +160,7 @@ impl<L: EventList> Part<L> {
 
     /// What the node counted, if it is there.
     pub fn counter(&self, node: NodeNo, counter: Counter) -> Option<u64>
-        ensures { (t : NetworkValue) (s : State (List ℕ) NodeStateValue) → Represents L.pending t self.now s
+        ensures { (t : TopologyValue) (s : State (List ℕ) NodeStateValue) → Represents L.pending t self.now s
             → result ≡ count_at t s node counter }
     {
         self.devices.counter(node, counter)
@@ -168,7 +168,7 @@ impl<L: EventList> Part<L> {
 
     /// How many packets were dropped at the interface, if it is there.
     pub fn dropped(&self, iface: IfaceNo) -> Option<u64>
-        ensures { (t : NetworkValue) (s : State (List ℕ) NodeStateValue) → Represents L.pending t self.now s
+        ensures { (t : TopologyValue) (s : State (List ℕ) NodeStateValue) → Represents L.pending t self.now s
             → result ≡ drops_at t s iface }
     {
         self.devices.dropped(iface)

@@ -2,7 +2,7 @@
 use Rattle.std.proofs.Common.{◌≡◌, Bool, ◌||◌, List, [], ◌∷◌, ◌++◌, map, length, ◌+◌, not, nat_lt, Some, None, refl, sym, ap, ◌∙◌, cond}
 use Rattle.std.specs.List.{list_any, position, position_or_len, prefix_len}
 use Rattle.std.proofs.lemmas.List.{map_push, length-map}
-use Rattle.nm_topology.specs.Numbers.{repeats, has_double}
+use Rattle.nm_topology.specs.Names.{repeats, has_double}
 use Rattle.nm_topology.proofs.Keys.{list_any-map}
 
 module _ {X Y : Type 0} (same : Y → Y → Bool) (f : X → Y) where

@@ -11,17 +11,17 @@ use Rattle.nm_topology.specs.declared.fault.Refusal.{Refusal}
 use Rattle.nm_topology.specs.declared.fault.Refusal.TheVariants.{Kind, TooMany}
 use Rattle.nm_topology.specs.declared.traffic.Flow.{Flow}
 use Rattle.nm_topology.specs.declared.traffic.RawPacket.{RawPacket}
-use Rattle.nm_topology.specs.declared.sources.TrafficRow.TheVariants.{Cbr as CbrRow, Echo as EchoRow, Raw as RawRow}
-use Rattle.nm_topology.specs.declared.sources.SourceKind.{SourceKind}
-use Rattle.nm_topology.specs.declared.sources.SourceKind.TheVariants.{Cbr as CbrKind, Echo as EchoKind, Raw as RawKind}
+use Rattle.nm_topology.specs.declared.parse.sources.NamedTraffic.TheVariants.{Cbr as NamedCbr, Echo as NamedEcho, Raw as NamedRaw}
+use Rattle.nm_topology.specs.declared.parse.sources.SourceKind.{SourceKind}
+use Rattle.nm_topology.specs.declared.parse.sources.SourceKind.TheVariants.{Cbr as CbrKind, Echo as EchoKind, Raw as RawKind}
 use Rattle.nm_topology.specs.Fault.{◌>>=◌}
-use Rattle.nm_topology.specs.Fields.{required, optional, number_in, required_text, only}
-use Rattle.nm_topology.specs.Arrays.{is_table, all_fit, count, in_table}
-use Rattle.nm_topology.specs.Forms.{name_of, usable_address_of}
-use Rattle.nm_topology.specs.SourceTexts.{SourceText}
-use Rattle.nm_topology.specs.Sources.{decoded, octets_of, packet_of, packets_from, packets_of, flow_keys, flow_of, cbr_of, echo_of, raw_of, source_kind_of, source_by, source_of}
+use Rattle.nm_topology.specs.Parse.Fields.{required, optional, number_in, required_text, only}
+use Rattle.nm_topology.specs.Parse.Arrays.{is_table, all_fit, count, in_table}
+use Rattle.nm_topology.specs.Parse.Forms.{name_of, usable_address_of}
+use Rattle.nm_topology.specs.Parse.SourceTableValue.{SourceTableValue}
+use Rattle.nm_topology.specs.Parse.Sources.{decoded, octets_of, packet_of, packets_from, packets_of, flow_keys, flow_of, cbr_of, echo_of, raw_of, source_kind_of, source_by, source_table_of}
 use Rattle.nm_topology.specs.Limits.{FitsFlow, AreRising, FitsPackets}
-use Rattle.nm_topology.specs.Ranges.{FitsRow}
+use Rattle.nm_topology.specs.Parse.Ranges.{FitsNamedTraffic}
 use Rattle.nm_topology.proofs.Steps.{step, required-within, optional-within, required-holds, both_passed, in_table-holds}
 
 decoded-within : (mtu : ℕ) (r : Result (List ℕ) FromHexError) (octets : List ℕ) → decoded mtu r ≡ Ok octets → (1 ≤ length octets) × (length octets ≤ mtu)
@@ -95,11 +95,11 @@ flow-fits mtu t f room e =
     let ttl = optional-within 64 1 255 f.ttl (get_member (codes "ttl") t) (omega arith) (omega arith) read.4 in
     (omega (arith, size.1, room), start.1, interval.0, interval.1, count.1, ttl.0)
 
-cbr-read : (mtu : ℕ) (known : Result Unit Refusal) (node : Result (List ℕ) Refusal) (to source destination : Result ℕ Refusal) (flow : Result Flow Refusal) (s : SourceText) → ((f : Flow) → flow ≡ Ok f → FitsFlow mtu f) → (known >>= λ k. node >>= λ n. to >>= λ a. source >>= λ b. destination >>= λ c. flow >>= λ f. Ok (record { node = n; traffic = CbrRow (record { to = a; source_port = b; destination_port = c; flow = f }) })) ≡ Ok s → FitsRow mtu s.traffic
-unfolding FitsRow
+cbr-read : (mtu : ℕ) (known : Result Unit Refusal) (node : Result (List ℕ) Refusal) (to source destination : Result ℕ Refusal) (flow : Result Flow Refusal) (s : SourceTableValue) → ((f : Flow) → flow ≡ Ok f → FitsFlow mtu f) → (known >>= λ k. node >>= λ n. to >>= λ a. source >>= λ b. destination >>= λ c. flow >>= λ f. Ok (record { node = n; traffic = NamedCbr (record { to = a; source_port = b; destination_port = c; flow = f }) })) ≡ Ok s → FitsNamedTraffic mtu s.traffic
+unfolding FitsNamedTraffic
 cbr-read mtu (Ok k) (Ok n) (Ok a) (Ok b) (Ok c) (Ok f) s h e =
-    let row : CbrRow (record { to = a; source_port = b; destination_port = c; flow = f }) ≡ s.traffic = cc in
-    subst (FitsRow mtu) row (h f refl)
+    let table : NamedCbr (record { to = a; source_port = b; destination_port = c; flow = f }) ≡ s.traffic = cc in
+    subst (FitsNamedTraffic mtu) table (h f refl)
 cbr-read mtu (Ok k) (Ok n) (Ok a) (Ok b) (Ok c) (Err r) s h e = cc
 cbr-read mtu (Ok k) (Ok n) (Ok a) (Ok b) (Err r) flow s h e = cc
 cbr-read mtu (Ok k) (Ok n) (Ok a) (Err r) destination flow s h e = cc
@@ -107,28 +107,28 @@ cbr-read mtu (Ok k) (Ok n) (Err r) source destination flow s h e = cc
 cbr-read mtu (Ok k) (Err r) to source destination flow s h e = cc
 cbr-read mtu (Err r) node to source destination flow s h e = cc
 
-echo-read : (mtu : ℕ) (known : Result Unit Refusal) (node : Result (List ℕ) Refusal) (to identifier : Result ℕ Refusal) (flow : Result Flow Refusal) (s : SourceText) → ((f : Flow) → flow ≡ Ok f → FitsFlow mtu f) → (known >>= λ k. node >>= λ n. to >>= λ a. identifier >>= λ b. flow >>= λ f. Ok (record { node = n; traffic = EchoRow (record { to = a; identifier = b; flow = f }) })) ≡ Ok s → FitsRow mtu s.traffic
-unfolding FitsRow
+echo-read : (mtu : ℕ) (known : Result Unit Refusal) (node : Result (List ℕ) Refusal) (to identifier : Result ℕ Refusal) (flow : Result Flow Refusal) (s : SourceTableValue) → ((f : Flow) → flow ≡ Ok f → FitsFlow mtu f) → (known >>= λ k. node >>= λ n. to >>= λ a. identifier >>= λ b. flow >>= λ f. Ok (record { node = n; traffic = NamedEcho (record { to = a; identifier = b; flow = f }) })) ≡ Ok s → FitsNamedTraffic mtu s.traffic
+unfolding FitsNamedTraffic
 echo-read mtu (Ok k) (Ok n) (Ok a) (Ok b) (Ok f) s h e =
-    let row : EchoRow (record { to = a; identifier = b; flow = f }) ≡ s.traffic = cc in
-    subst (FitsRow mtu) row (h f refl)
+    let table : NamedEcho (record { to = a; identifier = b; flow = f }) ≡ s.traffic = cc in
+    subst (FitsNamedTraffic mtu) table (h f refl)
 echo-read mtu (Ok k) (Ok n) (Ok a) (Ok b) (Err r) s h e = cc
 echo-read mtu (Ok k) (Ok n) (Ok a) (Err r) flow s h e = cc
 echo-read mtu (Ok k) (Ok n) (Err r) identifier flow s h e = cc
 echo-read mtu (Ok k) (Err r) to identifier flow s h e = cc
 echo-read mtu (Err r) node to identifier flow s h e = cc
 
-raw-read : (mtu : ℕ) (known : Result Unit Refusal) (node via : Result (List ℕ) Refusal) (packets : Result (List RawPacket) Refusal) (s : SourceText) → ((ps : List RawPacket) → packets ≡ Ok ps → FitsPackets mtu ps × All (λ p. 1 ≤ length p.packet) ps) → (known >>= λ k. node >>= λ n. via >>= λ v. packets >>= λ ps. Ok (record { node = n; traffic = RawRow (record { via = v; packets = ps }) })) ≡ Ok s → FitsRow mtu s.traffic
-unfolding FitsRow
+raw-read : (mtu : ℕ) (known : Result Unit Refusal) (node via : Result (List ℕ) Refusal) (packets : Result (List RawPacket) Refusal) (s : SourceTableValue) → ((ps : List RawPacket) → packets ≡ Ok ps → FitsPackets mtu ps × All (λ p. 1 ≤ length p.packet) ps) → (known >>= λ k. node >>= λ n. via >>= λ v. packets >>= λ ps. Ok (record { node = n; traffic = NamedRaw (record { via = v; packets = ps }) })) ≡ Ok s → FitsNamedTraffic mtu s.traffic
+unfolding FitsNamedTraffic
 raw-read mtu (Ok k) (Ok n) (Ok v) (Ok ps) s h e =
-    let row : RawRow (record { via = v; packets = ps }) ≡ s.traffic = cc in
-    subst (FitsRow mtu) row (h ps refl)
+    let table : NamedRaw (record { via = v; packets = ps }) ≡ s.traffic = cc in
+    subst (FitsNamedTraffic mtu) table (h ps refl)
 raw-read mtu (Ok k) (Ok n) (Ok v) (Err r) s h e = cc
 raw-read mtu (Ok k) (Ok n) (Err r) packets s h e = cc
 raw-read mtu (Ok k) (Err r) via packets s h e = cc
 raw-read mtu (Err r) node via packets s h e = cc
 
-kind-fits : (kind : SourceKind) (mtu : ℕ) (t : Members) (s : SourceText) → 28 ≤ mtu → source_by kind mtu t ≡ Ok s → FitsRow mtu s.traffic
+kind-fits : (kind : SourceKind) (mtu : ℕ) (t : Members) (s : SourceTableValue) → 28 ≤ mtu → source_by kind mtu t ≡ Ok s → FitsNamedTraffic mtu s.traffic
 unfolding cbr_of echo_of raw_of
 kind-fits CbrKind mtu t s room e =
     cbr-read mtu (only (codes "kind" ∷ codes "node" ∷ codes "to" ∷ codes "sport" ∷ codes "dport" ∷ flow_keys) t)
@@ -146,8 +146,8 @@ kind-fits RawKind mtu t s room e =
     (λ ps h. required-holds (λ qs. FitsPackets mtu qs × All (λ p. 1 ≤ length p.packet) qs) (packets_of mtu) (get_member (codes "packet") t) ps
     (λ d g. packets-fit mtu d ps g) h) e
 
-pub source-fits : (mtu : ℕ) → 28 ≤ mtu → (t : Members) (s : SourceText) → source_of mtu t ≡ Ok s → FitsRow mtu s.traffic
-unfolding source_of
+pub source-fits : (mtu : ℕ) → 28 ≤ mtu → (t : Members) (s : SourceTableValue) → source_table_of mtu t ≡ Ok s → FitsNamedTraffic mtu s.traffic
+unfolding source_table_of
 source-fits mtu room t s e =
     let kind = step (required_text source_kind_of (get_member (codes "kind") t)) (λ k. source_by k mtu t) s e in
     kind-fits kind.0 mtu t s room kind.2

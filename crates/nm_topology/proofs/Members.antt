@@ -4,7 +4,7 @@ use Rattle.toml.specs.View.{items_view}
 use Rattle.toml.specs.declared.value.Value.{Value}
 use Rattle.nm_topology.specs.declared.fault.Refusal.{Refusal}
 use Rattle.nm_topology.specs.Fault.{◌>>=◌}
-use Rattle.nm_topology.specs.Arrays.{count}
+use Rattle.nm_topology.specs.Parse.Arrays.{count}
 
 -- what was read so far, and then the rest
 abbrev pub with_front : {X : Type 0} → List X → Result (List X) Refusal → Result (List X) Refusal

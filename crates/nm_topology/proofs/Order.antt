@@ -9,15 +9,15 @@ use Rattle.nm_topology.specs.declared.parts.Far.{Far}
 use Rattle.nm_topology.specs.declared.parts.Link.{Link}
 use Rattle.nm_topology.specs.declared.parts.Route.{Route}
 use Rattle.nm_topology.specs.declared.parts.PlacedRoute.{PlacedRoute}
-use Rattle.nm_topology.specs.Fault.{◌>>=◌}
-use Rattle.nm_topology.specs.Texts.{NodeText, IfaceText}
-use Rattle.nm_topology.specs.Networks.{NodeValue, IfaceValue}
-use Rattle.nm_topology.specs.Wholes.{Numbered}
-use Rattle.nm_topology.specs.Checks.{demand, numbers_from, uses, are_used_once, far_end, far_ends, routes_at, route_tables, same_route, is_undelayed_cut}
-use Rattle.nm_topology.specs.Network.{placed_nodes, placed_ifaces, receivers_of, tested}
-use Rattle.nm_topology.specs.Numbers.{has_double}
+use Rattle.nm_topology.specs.Fault.{◌>>=◌, demand}
+use Rattle.nm_topology.specs.Parse.TableValues.{NodeTableValue, IfaceTableValue}
+use Rattle.nm_topology.specs.PartValues.{NodeValue, IfaceValue}
+use Rattle.nm_topology.specs.ResolvedValue.{ResolvedValue}
+use Rattle.nm_topology.specs.Build.{numbers_from, far_by_links, far_ends, routes_at, routes_of_nodes, placed_nodes, placed_ifaces, receivers_of}
+use Rattle.nm_topology.specs.Validate.{uses, are_used_once, same_route, is_undelayed_cut, tested}
+use Rattle.nm_topology.specs.Names.{has_double}
 use Rattle.nm_topology.specs.declared.fault.Refusal.TheVariants.{IfaceUse, DoubleAddress, DoubleRoute, TooMany, CutDelay}
-use Rattle.nm_topology.specs.Order.{parts_of, owners_of, IsLinked, IsInOrder}
+use Rattle.nm_topology.specs.Accepted.{parts_of, owners_of, IsLinked, IsInOrder}
 use Rattle.nm_topology.proofs.Ends.{far-a, far-b, far-on, apart, back}
 use Rattle.std.proofs.lemmas.List.Elements.{All-cons}
 use Rattle.nm_topology.proofs.Uses.{same_or_not}
@@ -50,43 +50,43 @@ pub used-once : (n : ℕ) (links : List Link) (i : ℕ) → are_used_once n link
 used-once n links i e h = grind (arith, nat_tests, each-number (λ j. uses j links == 1) n 0 i e h)
 
 -- nodes and interfaces as they are placed
-pub nodes-parts : (rows : List NodeText) (tables : List (List Route)) → length tables ≡ length rows → parts_of (placed_nodes rows tables) ≡ map (λ n. n.partition) rows
+pub nodes-parts : (tables : List NodeTableValue) (node_routes : List (List Route)) → length node_routes ≡ length tables → parts_of (placed_nodes tables node_routes) ≡ map (λ n. n.partition) tables
 nodes-parts [] ts e = refl
 nodes-parts (n ∷ ns) [] e = absurd (omega arith)
 nodes-parts (n ∷ ns) (t ∷ ts) e = ap (λ ps. n.partition ∷ ps) (nodes-parts ns ts (omega arith))
 
-pub nodes-length : (rows : List NodeText) (tables : List (List Route)) → length tables ≡ length rows → length (placed_nodes rows tables) ≡ length rows
+pub nodes-length : (tables : List NodeTableValue) (node_routes : List (List Route)) → length node_routes ≡ length tables → length (placed_nodes tables node_routes) ≡ length tables
 nodes-length [] ts e = refl
 nodes-length (n ∷ ns) [] e = absurd (omega arith)
 nodes-length (n ∷ ns) (t ∷ ts) e = ap suc (nodes-length ns ts (omega arith))
 
-pub node-table : (rows : List NodeText) (tables : List (List Route)) (k : ℕ) (n : NodeValue) → slice_get (placed_nodes rows tables) k ≡ Some n → slice_get tables k ≡ Some n.routes
-node-table [] ts k n e = cc
-node-table (m ∷ ms) [] k n e = cc
-node-table (m ∷ ms) (t ∷ ts) zero n e = cc
-node-table (m ∷ ms) (t ∷ ts) (suc k) n e = node-table ms ts k n e
+pub node-routes : (tables : List NodeTableValue) (node_routes : List (List Route)) (k : ℕ) (n : NodeValue) → slice_get (placed_nodes tables node_routes) k ≡ Some n → slice_get node_routes k ≡ Some n.routes
+node-routes [] ts k n e = cc
+node-routes (m ∷ ms) [] k n e = cc
+node-routes (m ∷ ms) (t ∷ ts) zero n e = cc
+node-routes (m ∷ ms) (t ∷ ts) (suc k) n e = node-routes ms ts k n e
 
-pub ifaces-owners : (rows : List IfaceText) (owners : List ℕ) (far : List Far) → length owners ≡ length rows → length far ≡ length rows → owners_of (placed_ifaces rows owners far) ≡ owners
+pub ifaces-owners : (tables : List IfaceTableValue) (owners : List ℕ) (far : List Far) → length owners ≡ length tables → length far ≡ length tables → owners_of (placed_ifaces tables owners far) ≡ owners
 ifaces-owners [] [] fs e h = refl
 ifaces-owners [] (o ∷ os) fs e h = absurd (omega arith)
 ifaces-owners (i ∷ is) [] fs e h = refl
 ifaces-owners (i ∷ is) (o ∷ os) [] e h = absurd (omega arith)
 ifaces-owners (i ∷ is) (o ∷ os) (f ∷ fs) e h = ap (λ ns. o ∷ ns) (ifaces-owners is os fs (omega arith) (omega arith))
 
-pub ifaces-length : (rows : List IfaceText) (owners : List ℕ) (far : List Far) → length owners ≡ length rows → length far ≡ length rows → length (placed_ifaces rows owners far) ≡ length rows
+pub ifaces-length : (tables : List IfaceTableValue) (owners : List ℕ) (far : List Far) → length owners ≡ length tables → length far ≡ length tables → length (placed_ifaces tables owners far) ≡ length tables
 ifaces-length [] os fs e h = refl
 ifaces-length (i ∷ is) [] fs e h = absurd (omega arith)
 ifaces-length (i ∷ is) (o ∷ os) [] e h = absurd (omega arith)
 ifaces-length (i ∷ is) (o ∷ os) (f ∷ fs) e h = ap suc (ifaces-length is os fs (omega arith) (omega arith))
 
-pub iface-far : (rows : List IfaceText) (owners : List ℕ) (far : List Far) (i : ℕ) (x : IfaceValue) → slice_get (placed_ifaces rows owners far) i ≡ Some x → slice_get far i ≡ Some x.far
+pub iface-far : (tables : List IfaceTableValue) (owners : List ℕ) (far : List Far) (i : ℕ) (x : IfaceValue) → slice_get (placed_ifaces tables owners far) i ≡ Some x → slice_get far i ≡ Some x.far
 iface-far [] os fs i x e = cc
 iface-far (r ∷ rs) [] fs i x e = cc
 iface-far (r ∷ rs) (o ∷ os) [] i x e = cc
 iface-far (r ∷ rs) (o ∷ os) (f ∷ fs) zero x e = cc
 iface-far (r ∷ rs) (o ∷ os) (f ∷ fs) (suc i) x e = iface-far rs os fs i x e
 
-pub ifaces-nodes : (P : ℕ → Type 0) (rows : List IfaceText) (owners : List ℕ) (far : List Far) → All P owners → All (λ x. P x.node) (placed_ifaces rows owners far)
+pub ifaces-nodes : (P : ℕ → Type 0) (tables : List IfaceTableValue) (owners : List ℕ) (far : List Far) → All P owners → All (λ x. P x.node) (placed_ifaces tables owners far)
 ifaces-nodes P [] os fs a = λ k d h. absurd (omega arith)
 ifaces-nodes P (i ∷ is) [] fs a = λ k d h. absurd (omega arith)
 ifaces-nodes P (i ∷ is) (o ∷ os) [] a = λ k d h. absurd (omega arith)
@@ -120,7 +120,7 @@ pub numbers-length : {X : Type 0} (f : ℕ → X) (n j : ℕ) → length (map f 
 numbers-length f zero j = refl
 numbers-length f (suc n) j = ap suc (numbers-length f n (suc j))
 
-pub far-within : (ls : List Link) (i n : ℕ) → i < n → All (λ l. (l.a < n) × (l.b < n)) ls → (far_end i ls).peer < n
+pub far-within : (ls : List Link) (i n : ℕ) → i < n → All (λ l. (l.a < n) × (l.b < n)) ls → (far_by_links i ls).peer < n
 far-within [] i n h a = h
 far-within (l ∷ ls) i n h a =
     let ends = a 0 l (omega arith) in
@@ -138,46 +138,46 @@ is_false true e = cc
 is_false false e = refl
 
 -- what the tests of the whole ask
-pub record Passed (parts : List ℕ) (nodes ifaces : ℕ) (t : Numbered) : Type 0 where
+pub record Passed (parts : List ℕ) (nodes ifaces : ℕ) (t : ResolvedValue) : Type 0 where
   pub used : are_used_once ifaces t.links ≡ true
-  pub short : list_all (λ table. nat_le (length table) MAX_ROUTES_OF_NODE) (route_tables nodes t.routes) ≡ true
+  pub short : list_all (λ rs. nat_le (length rs) MAX_ROUTES_OF_NODE) (routes_of_nodes nodes t.routes) ≡ true
   pub cuts : list_any (is_undelayed_cut parts t.owners) t.links ≡ false
 
-pub passed : (parts addresses : List ℕ) (nodes ifaces : ℕ) (t : Numbered) → tested parts addresses nodes ifaces t ≡ Ok tt → Passed parts nodes ifaces t
+pub passed : (parts addresses : List ℕ) (nodes ifaces : ℕ) (t : ResolvedValue) → tested parts addresses nodes ifaces t ≡ Ok tt → Passed parts nodes ifaces t
 passed parts addresses nodes ifaces t e =
-    let short : Bool = list_all (λ table. nat_le (length table) MAX_ROUTES_OF_NODE) (route_tables nodes t.routes) in
+    let short : Bool = list_all (λ rs. nat_le (length rs) MAX_ROUTES_OF_NODE) (routes_of_nodes nodes t.routes) in
     let cut : Bool = list_any (is_undelayed_cut parts t.owners) t.links in
     let h = all_met (are_used_once ifaces t.links) (not (has_double nat_eq addresses)) (not (has_double same_route t.routes)) short
     (nat_le (length (receivers_of parts t.owners (far_ends ifaces t.links))) MAX_CHANNELS) (not cut)
     IfaceUse DoubleAddress DoubleRoute TooMany TooMany CutDelay e in
     record { used = h.0; short = h.1; cuts = is_false cut h.2 }
 
-module _ (rows : List NodeText) (faces : List IfaceText) (t : Numbered) (addresses : List ℕ)
+module _ (tables : List NodeTableValue) (faces : List IfaceTableValue) (t : ResolvedValue) (addresses : List ℕ)
     (same : length t.owners ≡ length faces)
-    (owned : All (λ o. o < length rows) t.owners)
+    (owned : All (λ o. o < length tables) t.owners)
     (ends : All (λ l. (l.a < length faces) × (l.b < length faces)) t.links)
     (vias : All (λ r. (r.route.via < length faces) × (slice_index t.owners r.route.via ≡ r.node)) t.routes)
-    (e : tested (map (λ n. n.partition) rows) addresses (length rows) (length faces) t ≡ Ok tt) where
-  abbrev tables : List (List Route)
-  tables = route_tables (length rows) t.routes
+    (e : tested (map (λ n. n.partition) tables) addresses (length tables) (length faces) t ≡ Ok tt) where
+  abbrev node_routes : List (List Route)
+  node_routes = routes_of_nodes (length tables) t.routes
 
   abbrev far : List Far
   far = far_ends (length faces) t.links
 
   abbrev nodes : List NodeValue
-  nodes = placed_nodes rows tables
+  nodes = placed_nodes tables node_routes
 
   abbrev ifaces : List IfaceValue
   ifaces = placed_ifaces faces t.owners far
 
-  pass : Passed (map (λ n. n.partition) rows) (length rows) (length faces) t
-  pass = passed (map (λ n. n.partition) rows) addresses (length rows) (length faces) t e
+  pass : Passed (map (λ n. n.partition) tables) (length tables) (length faces) t
+  pass = passed (map (λ n. n.partition) tables) addresses (length tables) (length faces) t e
 
-  tables-length : length tables ≡ length rows
-  tables-length = numbers-length (λ j. routes_at j t.routes) (length rows) 0
+  node_routes-length : length node_routes ≡ length tables
+  node_routes-length = numbers-length (λ j. routes_at j t.routes) (length tables) 0
 
   far-length : length far ≡ length faces
-  far-length = numbers-length (λ i. far_end i t.links) (length faces) 0
+  far-length = numbers-length (λ i. far_by_links i t.links) (length faces) 0
 
   owners-are : owners_of ifaces ≡ t.owners
   owners-are = ifaces-owners faces t.owners far same far-length
@@ -187,39 +187,39 @@ module _ (rows : List NodeText) (faces : List IfaceText) (t : Numbered) (address
 
   linked : (i : ℕ) (x : IfaceValue) → slice_get ifaces i ≡ Some x → IsLinked ifaces t.links i x
   linked i x h =
-      let at = numbered-at (λ j. far_end j t.links) (length faces) 0 i x.far (iface-far faces t.owners far i x h) in
+      let at = numbered-at (λ j. far_by_links j t.links) (length faces) 0 i x.far (iface-far faces t.owners far i x h) in
       let once : uses i t.links ≡ 1 = used-once (length faces) t.links i pass.used at.0 in
-      let far-is : x.far ≡ far_end i t.links = at.1 ∙ ap (λ j. far_end j t.links) (zero-add i) in
-      let peer : (far_end i t.links).peer < length faces = far-within t.links i (length faces) at.0 ends in
+      let far-is : x.far ≡ far_by_links i t.links = at.1 ∙ ap (λ j. far_by_links j t.links) (zero-add i) in
+      let peer : (far_by_links i t.links).peer < length faces = far-within t.links i (length faces) at.0 ends in
       record {
         once = once;
         far = far-is;
-        within = subst (λ f. f.peer < length ifaces) (sym far-is) (subst (λ m. (far_end i t.links).peer < m) (sym count-is) peer);
+        within = subst (λ f. f.peer < length ifaces) (sym far-is) (subst (λ m. (far_by_links i t.links).peer < m) (sym count-is) peer);
         apart = λ g. apart t.links i once (ap (λ f. f.peer) (sym far-is) ∙ g);
-        back = subst (λ f. far_end f.peer t.links ≡ record { peer = i; rate = f.rate; delay = f.delay }) (sym far-is)
-            (back t.links i once (used-once (length faces) t.links (far_end i t.links).peer pass.used peer));
+        back = subst (λ f. far_by_links f.peer t.links ≡ record { peer = i; rate = f.rate; delay = f.delay }) (sym far-is)
+            (back t.links i once (used-once (length faces) t.links (far_by_links i t.links).peer pass.used peer));
       }
 
   owners : All (λ x. x.node < length nodes) ifaces
-  owners = subst (λ m. All (λ x. x.node < m) ifaces) (sym (nodes-length rows tables tables-length)) (ifaces-nodes (λ o. o < length rows) faces t.owners far owned)
+  owners = subst (λ m. All (λ x. x.node < m) ifaces) (sym (nodes-length tables node_routes node_routes-length)) (ifaces-nodes (λ o. o < length tables) faces t.owners far owned)
 
   via-own : (k : ℕ) (n : NodeValue) → slice_get nodes k ≡ Some n → All (λ r. (r.via < length ifaces) × (slice_index (owners_of ifaces) r.via ≡ k)) n.routes
   via-own k n h =
-      let at = numbered-at (λ j. routes_at j t.routes) (length rows) 0 k n.routes (node-table rows tables k n h) in
-      let table : n.routes ≡ routes_at k t.routes = at.1 ∙ ap (λ j. routes_at j t.routes) (zero-add k) in
-      subst (λ rs. All (λ r. (r.via < length ifaces) × (slice_index (owners_of ifaces) r.via ≡ k)) rs) (sym table)
+      let at = numbered-at (λ j. routes_at j t.routes) (length tables) 0 k n.routes (node-routes tables node_routes k n h) in
+      let own : n.routes ≡ routes_at k t.routes = at.1 ∙ ap (λ j. routes_at j t.routes) (zero-add k) in
+      subst (λ rs. All (λ r. (r.via < length ifaces) × (slice_index (owners_of ifaces) r.via ≡ k)) rs) (sym own)
       (subst (λ m. All (λ r. (r.via < m) × (slice_index (owners_of ifaces) r.via ≡ k)) (routes_at k t.routes)) (sym count-is)
       (subst (λ os. All (λ r. (r.via < length faces) × (slice_index os r.via ≡ k)) (routes_at k t.routes)) (sym owners-are)
       (routes-own (λ r. (r.route.via < length faces) × (slice_index t.owners r.route.via ≡ r.node)) k t.routes vias)))
 
   short : (k : ℕ) (n : NodeValue) → slice_get nodes k ≡ Some n → length n.routes ≤ MAX_ROUTES_OF_NODE
-  short k n h = grind (arith, nat_tests, each-passes (λ table. nat_le (length table) MAX_ROUTES_OF_NODE) tables k n.routes pass.short (node-table rows tables k n h))
+  short k n h = grind (arith, nat_tests, each-passes (λ rs. nat_le (length rs) MAX_ROUTES_OF_NODE) node_routes k n.routes pass.short (node-routes tables node_routes k n h))
 
   cuts : All (λ l. is_undelayed_cut (parts_of nodes) (owners_of ifaces) l ≡ false) t.links
   cuts =
-      subst (λ ps. All (λ l. is_undelayed_cut ps (owners_of ifaces) l ≡ false) t.links) (sym (nodes-parts rows tables tables-length))
-      (subst (λ os. All (λ l. is_undelayed_cut (map (λ n. n.partition) rows) os l ≡ false) t.links) (sym owners-are)
-      (none-passes (is_undelayed_cut (map (λ n. n.partition) rows) t.owners) t.links pass.cuts))
+      subst (λ ps. All (λ l. is_undelayed_cut ps (owners_of ifaces) l ≡ false) t.links) (sym (nodes-parts tables node_routes node_routes-length))
+      (subst (λ os. All (λ l. is_undelayed_cut (map (λ n. n.partition) tables) os l ≡ false) t.links) (sym owners-are)
+      (none-passes (is_undelayed_cut (map (λ n. n.partition) tables) t.owners) t.links pass.cuts))
 
   pub in_order : IsInOrder nodes ifaces t.links
-  in_order = record { linked = linked; owners = owners; vias = via-own; tables = short; cuts = cuts }
+  in_order = record { linked = linked; owners = owners; vias = via-own; few_routes = short; cuts = cuts }

@@ -6,20 +6,20 @@ use Rattle.nm_base.specs.declared.limits.TheConstants.{MAX_DELAY, MAX_IFACES, MA
 use Rattle.nm_topology.specs.declared.fault.Refusal.{Refusal}
 use Rattle.nm_topology.specs.declared.node.NodeKind.{NodeKind}
 use Rattle.nm_topology.specs.Fault.{◌>>=◌}
-use Rattle.nm_topology.specs.Fields.{required, optional, number_in, required_text, only}
-use Rattle.nm_topology.specs.Arrays.{is_integer, is_table, in_table, array_of}
-use Rattle.nm_topology.specs.Forms.{name_of, node_kind_of, usable_address_of}
-use Rattle.nm_topology.specs.Texts.{NodeText, IfaceText, LinkText, RouteText}
-use Rattle.nm_topology.specs.SourceTexts.{SourceText}
-use Rattle.nm_topology.specs.Rows.{node_of, iface_of, link_of, route_of}
-use Rattle.nm_topology.specs.Sources.{source_of}
-use Rattle.nm_topology.specs.DocumentTexts.{DocumentText}
-use Rattle.nm_topology.specs.Document.{document_of, with_tables}
-use Rattle.nm_topology.specs.Ranges.{IsLinkInRange, FitsRow, IsInRange}
+use Rattle.nm_topology.specs.Parse.Fields.{required, optional, number_in, required_text, only}
+use Rattle.nm_topology.specs.Parse.Arrays.{is_integer, is_table, in_table, array_of}
+use Rattle.nm_topology.specs.Parse.Forms.{name_of, node_kind_of, usable_address_of}
+use Rattle.nm_topology.specs.Parse.TableValues.{NodeTableValue, IfaceTableValue, LinkTableValue, RouteTableValue}
+use Rattle.nm_topology.specs.Parse.SourceTableValue.{SourceTableValue}
+use Rattle.nm_topology.specs.Parse.Tables.{node_table_of, iface_table_of, link_table_of, route_table_of}
+use Rattle.nm_topology.specs.Parse.Sources.{source_table_of}
+use Rattle.nm_topology.specs.Parse.DocumentValue.{DocumentValue}
+use Rattle.nm_topology.specs.Parse.Document.{document_of, with_tables}
+use Rattle.nm_topology.specs.Parse.Ranges.{IsLinkInRange, FitsNamedTraffic, IsInRange}
 use Rattle.nm_topology.proofs.Steps.{step, required-within, optional-holds, in_table-holds}
 use Rattle.nm_topology.proofs.Flows.{source-fits}
 
-node-read : (known : Result Unit Refusal) (name : Result (List ℕ) Refusal) (kind : Result NodeKind Refusal) (partition : Result ℕ Refusal) (ports : Result (List ℕ) Refusal) (n : NodeText) → (known >>= λ k. name >>= λ a. kind >>= λ b. partition >>= λ c. ports >>= λ d. Ok (record { name = a; kind = b; partition = c; ports = d })) ≡ Ok n → ports ≡ Ok n.ports
+node-read : (known : Result Unit Refusal) (name : Result (List ℕ) Refusal) (kind : Result NodeKind Refusal) (partition : Result ℕ Refusal) (ports : Result (List ℕ) Refusal) (n : NodeTableValue) → (known >>= λ k. name >>= λ a. kind >>= λ b. partition >>= λ c. ports >>= λ d. Ok (record { name = a; kind = b; partition = c; ports = d })) ≡ Ok n → ports ≡ Ok n.ports
 node-read (Ok k) (Ok a) (Ok b) (Ok c) (Ok d) n e = cc
 node-read (Ok k) (Ok a) (Ok b) (Ok c) (Err r) n e = cc
 node-read (Ok k) (Ok a) (Ok b) (Err r) ports n e = cc
@@ -27,8 +27,8 @@ node-read (Ok k) (Ok a) (Err r) partition ports n e = cc
 node-read (Ok k) (Err r) kind partition ports n e = cc
 node-read (Err r) name kind partition ports n e = cc
 
-node_in_range : (t : Members) (n : NodeText) → node_of t ≡ Ok n → length n.ports ≤ MAX_PORTS_OF_NODE
-unfolding node_of
+node_in_range : (t : Members) (n : NodeTableValue) → node_table_of t ≡ Ok n → length n.ports ≤ MAX_PORTS_OF_NODE
+unfolding node_table_of
 node_in_range t n e =
     let ports = node-read (only (codes "name" ∷ codes "kind" ∷ codes "partition" ∷ codes "ports" ∷ []) t)
     (required_text name_of (get_member (codes "name") t)) (required_text node_kind_of (get_member (codes "kind") t))
@@ -37,7 +37,7 @@ node_in_range t n e =
     let few = optional-holds (λ p. Unit {0}) is_integer MAX_PORTS_OF_NODE (number_in 0 65535) (λ d x h. tt) (get_member (codes "ports") t) n.ports ports in
     few.1
 
-iface-read : (known : Result Unit Refusal) (name node : Result (List ℕ) Refusal) (address queue : Result ℕ Refusal) (i : IfaceText) → (known >>= λ k. name >>= λ a. node >>= λ b. address >>= λ c. queue >>= λ d. Ok (record { name = a; node = b; address = c; queue = d })) ≡ Ok i → queue ≡ Ok i.queue
+iface-read : (known : Result Unit Refusal) (name node : Result (List ℕ) Refusal) (address queue : Result ℕ Refusal) (i : IfaceTableValue) → (known >>= λ k. name >>= λ a. node >>= λ b. address >>= λ c. queue >>= λ d. Ok (record { name = a; node = b; address = c; queue = d })) ≡ Ok i → queue ≡ Ok i.queue
 iface-read (Ok k) (Ok a) (Ok b) (Ok c) (Ok d) i e = cc
 iface-read (Ok k) (Ok a) (Ok b) (Ok c) (Err r) i e = cc
 iface-read (Ok k) (Ok a) (Ok b) (Err r) queue i e = cc
@@ -45,8 +45,8 @@ iface-read (Ok k) (Ok a) (Err r) address queue i e = cc
 iface-read (Ok k) (Err r) node address queue i e = cc
 iface-read (Err r) name node address queue i e = cc
 
-iface_in_range : (t : Members) (i : IfaceText) → iface_of t ≡ Ok i → i.queue ≤ MAX_QUEUE
-unfolding iface_of
+iface_in_range : (t : Members) (i : IfaceTableValue) → iface_table_of t ≡ Ok i → i.queue ≤ MAX_QUEUE
+unfolding iface_table_of
 iface_in_range t i e =
     let queue = iface-read (only (codes "name" ∷ codes "node" ∷ codes "address" ∷ codes "queue" ∷ []) t)
     (required_text name_of (get_member (codes "name") t)) (required_text name_of (get_member (codes "node") t))
@@ -54,7 +54,7 @@ iface_in_range t i e =
     let within = required-within 0 MAX_QUEUE i.queue (get_member (codes "queue") t) queue in
     within.1
 
-link-read : (known : Result Unit Refusal) (a b : Result (List ℕ) Refusal) (rate delay : Result ℕ Refusal) (l : LinkText) → (known >>= λ k. a >>= λ x. b >>= λ y. rate >>= λ r. delay >>= λ d. Ok (record { a = x; b = y; rate = r; delay = d })) ≡ Ok l → (rate ≡ Ok l.rate) × (delay ≡ Ok l.delay)
+link-read : (known : Result Unit Refusal) (a b : Result (List ℕ) Refusal) (rate delay : Result ℕ Refusal) (l : LinkTableValue) → (known >>= λ k. a >>= λ x. b >>= λ y. rate >>= λ r. delay >>= λ d. Ok (record { a = x; b = y; rate = r; delay = d })) ≡ Ok l → (rate ≡ Ok l.rate) × (delay ≡ Ok l.delay)
 link-read (Ok k) (Ok x) (Ok y) (Ok r) (Ok d) l e = (cc, cc)
 link-read (Ok k) (Ok x) (Ok y) (Ok r) (Err q) l e = cc
 link-read (Ok k) (Ok x) (Ok y) (Err q) delay l e = cc
@@ -62,8 +62,8 @@ link-read (Ok k) (Ok x) (Err q) rate delay l e = cc
 link-read (Ok k) (Err q) b rate delay l e = cc
 link-read (Err q) a b rate delay l e = cc
 
-link_in_range : (t : Members) (l : LinkText) → link_of t ≡ Ok l → IsLinkInRange l
-unfolding link_of
+link_in_range : (t : Members) (l : LinkTableValue) → link_table_of t ≡ Ok l → IsLinkInRange l
+unfolding link_table_of
 link_in_range t l e =
     let read = link-read (only (codes "a" ∷ codes "b" ∷ codes "rate" ∷ codes "delay" ∷ []) t)
     (required_text name_of (get_member (codes "a") t)) (required_text name_of (get_member (codes "b") t))
@@ -73,7 +73,7 @@ link_in_range t l e =
     (rate.0, rate.1, delay.1)
 
 -- what the steps of reading a document gave
-record DocumentRead (stop mtu : Result ℕ Refusal) (nodes : Result (List NodeText) Refusal) (ifaces : Result (List IfaceText) Refusal) (links : Result (List LinkText) Refusal) (sources : ℕ → Result (List SourceText) Refusal) (d : DocumentText) : Type 0 where
+record DocumentRead (stop mtu : Result ℕ Refusal) (nodes : Result (List NodeTableValue) Refusal) (ifaces : Result (List IfaceTableValue) Refusal) (links : Result (List LinkTableValue) Refusal) (sources : ℕ → Result (List SourceTableValue) Refusal) (d : DocumentValue) : Type 0 where
   stop_is : stop ≡ Ok d.stop
   mtu_is : mtu ≡ Ok d.mtu
   nodes_are : nodes ≡ Ok d.nodes
@@ -81,7 +81,7 @@ record DocumentRead (stop mtu : Result ℕ Refusal) (nodes : Result (List NodeTe
   links_are : links ≡ Ok d.links
   sources_are : sources d.mtu ≡ Ok d.sources
 
-document-read : (known : Result Unit Refusal) (format stop mtu : Result ℕ Refusal) (nodes : Result (List NodeText) Refusal) (ifaces : Result (List IfaceText) Refusal) (links : Result (List LinkText) Refusal) (routes : Result (List RouteText) Refusal) (sources : ℕ → Result (List SourceText) Refusal) (d : DocumentText) → (known >>= λ k. format >>= λ a. stop >>= λ b. mtu >>= λ c. nodes >>= λ g. ifaces >>= λ h. links >>= λ i. routes >>= λ j. sources c >>= λ l. Ok (record { stop = b; mtu = c; nodes = g; ifaces = h; links = i; routes = j; sources = l })) ≡ Ok d → DocumentRead stop mtu nodes ifaces links sources d
+document-read : (known : Result Unit Refusal) (format stop mtu : Result ℕ Refusal) (nodes : Result (List NodeTableValue) Refusal) (ifaces : Result (List IfaceTableValue) Refusal) (links : Result (List LinkTableValue) Refusal) (routes : Result (List RouteTableValue) Refusal) (sources : ℕ → Result (List SourceTableValue) Refusal) (d : DocumentValue) → (known >>= λ k. format >>= λ a. stop >>= λ b. mtu >>= λ c. nodes >>= λ g. ifaces >>= λ h. links >>= λ i. routes >>= λ j. sources c >>= λ l. Ok (record { stop = b; mtu = c; nodes = g; ifaces = h; links = i; routes = j; sources = l })) ≡ Ok d → DocumentRead stop mtu nodes ifaces links sources d
 document-read (Ok k) (Ok a) (Ok b) (Ok c) (Ok g) (Ok h) (Ok i) (Ok j) sources d e =
     let last = step (sources c) (λ l. Ok (record { stop = b; mtu = c; nodes = g; ifaces = h; links = i; routes = j; sources = l })) d e in
     let given : sources c ≡ Ok last.0 = last.1 in
@@ -96,29 +96,29 @@ document-read (Ok k) (Ok a) (Err r) mtu nodes ifaces links routes sources d e = 
 document-read (Ok k) (Err r) stop mtu nodes ifaces links routes sources d e = cc
 document-read (Err r) format stop mtu nodes ifaces links routes sources d e = cc
 
-pub document_in_range : (t : Members) (d : DocumentText) → document_of t ≡ Ok d → IsInRange d
+pub document_in_range : (t : Members) (d : DocumentValue) → document_of t ≡ Ok d → IsInRange d
 unfolding document_of with_tables
 document_in_range t d e =
-    let sources : ℕ → Result (List SourceText) Refusal = λ m. optional [] (array_of is_table MAX_SOURCES (in_table (source_of m))) (get_member (codes "source") t) in
+    let sources : ℕ → Result (List SourceTableValue) Refusal = λ m. optional [] (array_of is_table MAX_SOURCES (in_table (source_table_of m))) (get_member (codes "source") t) in
     let read = document-read
     (only (codes "format" ∷ codes "stop" ∷ codes "mtu" ∷ codes "node" ∷ codes "iface" ∷ codes "link" ∷ codes "route" ∷ codes "source" ∷ []) t)
     (required (number_in 1 1) (get_member (codes "format") t)) (required (number_in 1 MAX_TIME) (get_member (codes "stop") t))
     (required (number_in MIN_MTU MAX_MTU) (get_member (codes "mtu") t))
-    (optional [] (array_of is_table MAX_NODES (in_table node_of)) (get_member (codes "node") t))
-    (optional [] (array_of is_table MAX_IFACES (in_table iface_of)) (get_member (codes "iface") t))
-    (optional [] (array_of is_table MAX_LINKS (in_table link_of)) (get_member (codes "link") t))
-    (optional [] (array_of is_table MAX_ROUTES (in_table route_of)) (get_member (codes "route") t)) sources d e in
+    (optional [] (array_of is_table MAX_NODES (in_table node_table_of)) (get_member (codes "node") t))
+    (optional [] (array_of is_table MAX_IFACES (in_table iface_table_of)) (get_member (codes "iface") t))
+    (optional [] (array_of is_table MAX_LINKS (in_table link_table_of)) (get_member (codes "link") t))
+    (optional [] (array_of is_table MAX_ROUTES (in_table route_table_of)) (get_member (codes "route") t)) sources d e in
     let stop = required-within 1 MAX_TIME d.stop (get_member (codes "stop") t) read.stop_is in
     let mtu = required-within MIN_MTU MAX_MTU d.mtu (get_member (codes "mtu") t) read.mtu_is in
     let room : 28 ≤ d.mtu = omega (arith, mtu.0) in
-    let nodes = optional-holds (λ n. length n.ports ≤ MAX_PORTS_OF_NODE) is_table MAX_NODES (in_table node_of)
-    (in_table-holds (λ n. length n.ports ≤ MAX_PORTS_OF_NODE) node_of node_in_range) (get_member (codes "node") t) d.nodes read.nodes_are in
-    let ifaces = optional-holds (λ i. i.queue ≤ MAX_QUEUE) is_table MAX_IFACES (in_table iface_of)
-    (in_table-holds (λ i. i.queue ≤ MAX_QUEUE) iface_of iface_in_range) (get_member (codes "iface") t) d.ifaces read.ifaces_are in
-    let links = optional-holds IsLinkInRange is_table MAX_LINKS (in_table link_of)
-    (in_table-holds IsLinkInRange link_of link_in_range) (get_member (codes "link") t) d.links read.links_are in
-    let fit = optional-holds (λ s. FitsRow d.mtu s.traffic) is_table MAX_SOURCES (in_table (source_of d.mtu))
-    (in_table-holds (λ s. FitsRow d.mtu s.traffic) (source_of d.mtu) (source-fits d.mtu room)) (get_member (codes "source") t) d.sources read.sources_are in
+    let nodes = optional-holds (λ n. length n.ports ≤ MAX_PORTS_OF_NODE) is_table MAX_NODES (in_table node_table_of)
+    (in_table-holds (λ n. length n.ports ≤ MAX_PORTS_OF_NODE) node_table_of node_in_range) (get_member (codes "node") t) d.nodes read.nodes_are in
+    let ifaces = optional-holds (λ i. i.queue ≤ MAX_QUEUE) is_table MAX_IFACES (in_table iface_table_of)
+    (in_table-holds (λ i. i.queue ≤ MAX_QUEUE) iface_table_of iface_in_range) (get_member (codes "iface") t) d.ifaces read.ifaces_are in
+    let links = optional-holds IsLinkInRange is_table MAX_LINKS (in_table link_table_of)
+    (in_table-holds IsLinkInRange link_table_of link_in_range) (get_member (codes "link") t) d.links read.links_are in
+    let fit = optional-holds (λ s. FitsNamedTraffic d.mtu s.traffic) is_table MAX_SOURCES (in_table (source_table_of d.mtu))
+    (in_table-holds (λ s. FitsNamedTraffic d.mtu s.traffic) (source_table_of d.mtu) (source-fits d.mtu room)) (get_member (codes "source") t) d.sources read.sources_are in
     record {
       least_stop = stop.0;
       greatest_stop = stop.1;

@@ -6,7 +6,7 @@ use Rattle.std.specs.Str.{bytes_eq}
 use Rattle.std.proofs.lemmas.List.{drop_all}
 use Rattle.std.proofs.lemmas.Fmt.{decimal_is_IsNumeral}
 use Rattle.std.proofs.lemmas.Slice.Eq.{bytes_eq-Decides}
-use Rattle.nm_topology.specs.Forms.{or_this, least_below, is_slash, length_of, address_of, prefix_at, prefix_of}
+use Rattle.nm_topology.specs.Parse.Forms.{or_this, least_below, is_slash, length_of, address_of, prefix_at, prefix_of}
 
 below_or_last : (a n : ℕ) → a < suc n → (a < n) ⊎ (a ≡ n)
 below_or_last a n h = grind arith

@@ -7,8 +7,8 @@ use Rattle.toml.specs.Data.{Data, integer, array, table, Items, no_items, item, 
 use Rattle.nm_topology.specs.declared.fault.Refusal.{Refusal}
 use Rattle.nm_topology.specs.declared.fault.Refusal.TheVariants.{Kind, TooMany}
 use Rattle.nm_topology.specs.Fault.{◌>>=◌}
-use Rattle.nm_topology.specs.Fields.{required, optional, number_in}
-use Rattle.nm_topology.specs.Arrays.{count, all_fit, each, array_of, in_table}
+use Rattle.nm_topology.specs.Parse.Fields.{required, optional, number_in}
+use Rattle.nm_topology.specs.Parse.Arrays.{count, all_fit, each, array_of, in_table}
 
 -- a step, and what follows it
 pub step : {A B : Type 0} (r : Result A Refusal) (f : A → Result B Refusal) (y : B) → (r >>= f) ≡ Ok y → (x : A) × (r ≡ Ok x) × (f x ≡ Ok y)

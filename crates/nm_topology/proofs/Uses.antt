@@ -3,7 +3,8 @@ use Rattle.std.proofs.Common.{◌≡◌, ◌⊎◌, ℕ, suc, ◌+◌, ◌-◌, 
 use Rattle.std.proofs.lemmas.Bool.Decides.{nat_tests}
 use Rattle.std.specs.List.{list_all, list_any}
 use Rattle.nm_topology.specs.declared.parts.Link.{Link}
-use Rattle.nm_topology.specs.Checks.{one_if, bump, uses, numbers_from}
+use Rattle.nm_topology.specs.Build.{numbers_from}
+use Rattle.nm_topology.specs.Validate.{one_if, bump, uses}
 
 pub same_or_not : (a i : ℕ) → (a ≡ i) ⊎ (a ≡ i → ⊥)
 same_or_not a i = grind arith

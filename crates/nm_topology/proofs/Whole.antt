@@ -6,29 +6,32 @@ use Rattle.nm_topology.specs.declared.parts.Link.{Link}
 use Rattle.nm_topology.specs.declared.parts.Route.{Route}
 use Rattle.nm_topology.specs.declared.traffic.Source.{Source}
 use Rattle.nm_topology.specs.Fault.{◌>>=◌}
-use Rattle.nm_topology.specs.Texts.{NodeText, IfaceText, LinkText, RouteText}
-use Rattle.nm_topology.specs.SourceTexts.{SourceText}
-use Rattle.nm_topology.specs.DocumentTexts.{DocumentText}
-use Rattle.nm_topology.specs.Networks.{NodeValue, IfaceValue}
-use Rattle.nm_topology.specs.Wholes.{Numbered, NetworkValue}
-use Rattle.nm_topology.specs.Checks.{routes_at, route_tables, far_end, far_ends}
-use Rattle.nm_topology.specs.Network.{numbered, tested, partition_count, placed_nodes, placed_ifaces, receivers_of, put_together, network_of}
+use Rattle.nm_topology.specs.Parse.TableValues.{NodeTableValue, IfaceTableValue, LinkTableValue, RouteTableValue}
+use Rattle.nm_topology.specs.Parse.SourceTableValue.{SourceTableValue}
+use Rattle.nm_topology.specs.Parse.DocumentValue.{DocumentValue}
+use Rattle.nm_topology.specs.PartValues.{NodeValue, IfaceValue}
+use Rattle.nm_topology.specs.ResolvedValue.{ResolvedValue}
+use Rattle.nm_topology.specs.TopologyValue.{TopologyValue}
+use Rattle.nm_topology.specs.Build.{routes_at, routes_of_nodes, far_by_links, far_ends, partition_count, placed_nodes, placed_ifaces, receivers_of, put_together}
+use Rattle.nm_topology.specs.Resolve.{resolved}
+use Rattle.nm_topology.specs.Topology.{network_of}
+use Rattle.nm_topology.specs.Validate.{tested}
 use Rattle.nm_topology.specs.Limits.{HasOctets, IsWithinLimits}
-use Rattle.nm_topology.specs.Order.{IsInOrder, IsPlaced, owners_of}
-use Rattle.nm_topology.specs.Ranges.{IsInRange}
+use Rattle.nm_topology.specs.Accepted.{IsInOrder, IsPlaced, owners_of}
+use Rattle.nm_topology.specs.Parse.Ranges.{IsInRange}
 use Rattle.nm_topology.proofs.Limits.{IsPutTogether, within_limits, have_octets}
 use Rattle.nm_topology.proofs.Order.{passed as all_passed, in_order, nodes-length, numbers-length, ifaces-owners, ifaces-length}
 
 -- the tables of a text, and what numbering gives of them
-pub record IsRead (ns : List NodeText) (is : List IfaceText) (ls : List LinkText) (rs : List RouteText) (ss : List SourceText) (t : Numbered) : Type 0 where
+pub record IsRead (ns : List NodeTableValue) (is : List IfaceTableValue) (ls : List LinkTableValue) (rs : List RouteTableValue) (ss : List SourceTableValue) (t : ResolvedValue) : Type 0 where
   pub owners : (length t.owners ≡ length is) × All (λ o. o < length ns) t.owners
   pub counts : (length t.links ≡ length ls) × (length t.sources ≡ length ss)
   pub links : All (λ l. (l.a < length is) × (l.b < length is)) t.links
   pub vias : All (λ r. (r.route.via < length is) × (slice_index t.owners r.route.via ≡ r.node)) t.routes
   pub sources : All (λ s. IsPlaced (length ns) t.owners s) t.sources
-  pub value : numbered ns is ls rs ss ≡ Ok t
+  pub value : resolved ns is ls rs ss ≡ Ok t
 
-pub read_along : {ns ms : List NodeText} {is js : List IfaceText} {ls ks : List LinkText} {rs qs : List RouteText} {ss : List SourceText} {t : Numbered}
+pub read_along : {ns ms : List NodeTableValue} {is js : List IfaceTableValue} {ls ks : List LinkTableValue} {rs qs : List RouteTableValue} {ss : List SourceTableValue} {t : ResolvedValue}
     → ns ≡ ms → is ≡ js → ls ≡ ks → rs ≡ qs → IsRead ns is ls rs ss t → IsRead ms js ks qs ss t
 read_along {ns} {ms} {is} {js} {ls} {ks} {rs} {qs} {ss} {t} n i l r h =
     subst (λ xs. IsRead ms js ks xs ss t) r
@@ -37,7 +40,7 @@ read_along {ns} {ms} {is} {js} {ls} {ks} {rs} {qs} {ss} {t} n i l r h =
     (subst (λ xs. IsRead xs is ls rs ss t) n h)))
 
 -- what a topology keeps
-abbrev pub IsSound : NetworkValue → Type 0
+abbrev pub IsSound : TopologyValue → Type 0
 IsSound v =
     IsInOrder v.nodes v.ifaces v.links
     × (length v.nodes ≤ MAX_NODES)
@@ -51,10 +54,10 @@ IsSound v =
     × All (λ s. HasOctets s.traffic) v.sources
 
 -- a document and its numbers, put together part by part
-pub record IsMade (digest : List ℕ) (d : DocumentText) (t : Numbered) (v : NetworkValue) : Type 0 where
+pub record IsMade (digest : List ℕ) (d : DocumentValue) (t : ResolvedValue) (v : TopologyValue) : Type 0 where
   pub stop : v.stop ≡ d.stop
   pub mtu : v.mtu ≡ d.mtu
-  pub nodes : v.nodes ≡ placed_nodes d.nodes (route_tables (length d.nodes) t.routes)
+  pub nodes : v.nodes ≡ placed_nodes d.nodes (routes_of_nodes (length d.nodes) t.routes)
   pub ifaces : v.ifaces ≡ placed_ifaces d.ifaces t.owners (far_ends (length d.ifaces) t.links)
   pub links : v.links ≡ t.links
   pub sources : v.sources ≡ t.sources
@@ -62,10 +65,10 @@ pub record IsMade (digest : List ℕ) (d : DocumentText) (t : Numbered) (v : Net
   pub partitions : v.partitions ≡ partition_count (map (λ n. n.partition) d.nodes)
   pub same_digest : v.digest ≡ digest
 
-unfoldable network : ℕ → ℕ → List NodeValue → List IfaceValue → List Link → List Source → List ℕ → ℕ → List ℕ → NetworkValue
+unfoldable network : ℕ → ℕ → List NodeValue → List IfaceValue → List Link → List Source → List ℕ → ℕ → List ℕ → TopologyValue
 network a b ns is ls ss rs p e = record { stop = a; mtu = b; nodes = ns; ifaces = is; links = ls; sources = ss; receivers = rs; partitions = p; digest = e }
 
-pub made : {digest : List ℕ} {d : DocumentText} {t : Numbered} {v : NetworkValue} → IsMade digest d t v → v ≡ put_together digest d t
+pub made : {digest : List ℕ} {d : DocumentValue} {t : ResolvedValue} {v : TopologyValue} → IsMade digest d t v → v ≡ put_together digest d t
 unfolding network
 made {digest} {d} {t} {v} m =
     let w = put_together digest d t in
@@ -80,29 +83,29 @@ made {digest} {d} {t} {v} m =
     ∙ ap (λ x. network w.stop w.mtu w.nodes w.ifaces w.links w.sources w.receivers w.partitions x) m.same_digest
 
 -- what a document keeps
-abbrev pub IsCounted : DocumentText → Type 0
+abbrev pub IsCounted : DocumentValue → Type 0
 IsCounted d = (length d.nodes ≤ MAX_NODES) × (length d.ifaces ≤ MAX_IFACES) × (length d.links ≤ MAX_LINKS) × (length d.sources ≤ MAX_SOURCES)
 
-module _ (d : DocumentText) (t : Numbered) (digest : List ℕ)
+module _ (d : DocumentValue) (t : ResolvedValue) (digest : List ℕ)
     (read : IsRead d.nodes d.ifaces d.links d.routes d.sources t)
     (passed : tested (map (λ n. n.partition) d.nodes) (map (λ i. i.address) d.ifaces) (length d.nodes) (length d.ifaces) t ≡ Ok tt) where
-  abbrev tables : List (List Route)
-  tables = route_tables (length d.nodes) t.routes
+  abbrev node_routes : List (List Route)
+  node_routes = routes_of_nodes (length d.nodes) t.routes
 
-  abbrev v : NetworkValue
+  abbrev v : TopologyValue
   v = put_together digest d t
 
-  put : IsPutTogether d t tables v
+  put : IsPutTogether d t node_routes v
   put = record { stop = refl; mtu = refl; nodes = refl; ifaces = refl; sources = refl; partitions = refl }
 
   order : IsInOrder v.nodes v.ifaces v.links
   order = in_order d.nodes d.ifaces t (map (λ i. i.address) d.ifaces) read.owners.0 read.owners.1 read.links read.vias passed
 
   nodes-count : length v.nodes ≡ length d.nodes
-  nodes-count = nodes-length d.nodes tables (numbers-length (λ j. routes_at j t.routes) (length d.nodes) 0)
+  nodes-count = nodes-length d.nodes node_routes (numbers-length (λ j. routes_at j t.routes) (length d.nodes) 0)
 
   far-count : length (far_ends (length d.ifaces) t.links) ≡ length d.ifaces
-  far-count = numbers-length (λ i. far_end i t.links) (length d.ifaces) 0
+  far-count = numbers-length (λ i. far_by_links i t.links) (length d.ifaces) 0
 
   ifaces-count : length v.ifaces ≡ length d.ifaces
   ifaces-count = ifaces-length d.ifaces t.owners (far_ends (length d.ifaces) t.links) read.owners.0 far-count
@@ -125,8 +128,8 @@ module _ (d : DocumentText) (t : Numbered) (digest : List ℕ)
         few,
         sources,
         parts,
-        within_limits d t tables v range read.value used put,
-        have_octets d t tables v range read.value used put,
+        within_limits d t node_routes v range read.value used put,
+        have_octets d t node_routes v range read.value used put,
       )
 
   pub network-read : network_of digest d ≡ Ok (put_together digest d t)

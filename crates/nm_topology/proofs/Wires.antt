@@ -5,7 +5,7 @@ use Rattle.std.proofs.lemmas.Bool.Decides.{nat_tests}
 use Rattle.std.proofs.lemmas.List.Elements.{All-set}
 use Rattle.nm_topology.specs.declared.parts.Far.{Far}
 use Rattle.nm_topology.specs.declared.parts.Link.{Link}
-use Rattle.nm_topology.specs.Checks.{far_end, joined}
+use Rattle.nm_topology.specs.Build.{far_by_links, joined}
 use Rattle.nm_topology.proofs.Uses.{same_or_not}
 
 pub is_same : (a i : ℕ) → a ≡ i → (a == i) ≡ true
@@ -29,11 +29,11 @@ set_there (y ∷ ys) zero (suc i) x e = refl
 set_there (y ∷ ys) (suc a) zero x e = refl
 set_there (y ∷ ys) (suc a) (suc i) x e = set_there ys a i x (λ f. e (ap suc f))
 
-pub joined-get : (far : List Far) (l : Link) (rest : List Link) (i : ℕ) → l.a < length far → l.b < length far → slice_get far i ≡ Some (far_end i rest) → slice_get (joined far l) i ≡ Some (far_end i (l ∷ rest))
+pub joined-get : (far : List Far) (l : Link) (rest : List Link) (i : ℕ) → l.a < length far → l.b < length far → slice_get far i ≡ Some (far_by_links i rest) → slice_get (joined far l) i ≡ Some (far_by_links i (l ∷ rest))
 joined-get far l rest i a b h =
     let ends_b : Far = record { peer = l.a; rate = l.rate; delay = l.delay } in
     let ends_a : Far = record { peer = l.b; rate = l.rate; delay = l.delay } in
-    let other : Far = far_end i rest in
+    let other : Far = far_by_links i rest in
     ⊎_elim
     (λ e. set_here (set far l.b ends_b) l.a i ends_a (omega (arith, length-set far l.b ends_b)) e ∙ ap (λ t. Some (cond t ends_a (cond (l.b == i) ends_b other))) (sym (is_same l.a i e)))
     (λ e. set_there (set far l.b ends_b) l.a i ends_a e ∙ ⊎_elim

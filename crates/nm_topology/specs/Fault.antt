@@ -1,5 +1,5 @@
 -- The numbers of the faults, and what it means that a function reads what a definition says.
-use Rattle.std.specs.Prelude.{◌≡◌, ℕ, Result, Ok, Err}
+use Rattle.std.specs.Prelude.{◌≡◌, ℕ, Bool, if◌then◌else◌, Result, Ok, Err}
 use Rattle.nm_topology.specs.declared.fault.Refusal.{Refusal}
 use Rattle.nm_topology.specs.declared.fault.Refusal.TheVariants.{Text, Missing, UnknownKey, Kind, Range, TooMany, DoubleName, NoSuch, IfaceUse, DoubleAddress, DoubleRoute, CutDelay, Hex}
 use Rattle.nm_topology.specs.declared.fault.TopoFault.{TopoFault}
@@ -39,3 +39,7 @@ Fails (Refused r) read = read ≡ Err r
 abbrev pub Gives : {X Y : Type 0} → (X → Y) → Result X TopoFault → Result Y Refusal → Type 0
 Gives view (Ok x) read = read ≡ Ok (view x)
 Gives view (Err e) read = Fails e read
+
+-- what is asked holds, or the refusal is given
+abbrev pub demand : Bool → Refusal → Result Unit Refusal
+demand holds refusal = if holds then Ok tt else Err refusal

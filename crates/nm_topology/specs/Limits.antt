@@ -5,7 +5,7 @@ use Rattle.nm_topology.specs.declared.traffic.Flow.{Flow}
 use Rattle.nm_topology.specs.declared.traffic.RawPacket.{RawPacket}
 use Rattle.nm_topology.specs.declared.traffic.Traffic.{Traffic}
 use Rattle.nm_topology.specs.declared.traffic.Traffic.TheVariants.{Cbr, Echo, Raw}
-use Rattle.nm_topology.specs.Wholes.{NetworkValue}
+use Rattle.nm_topology.specs.TopologyValue.{TopologyValue}
 
 -- what a flow sends fits the mtu behind an IPv4 header and a UDP or ICMP header, 28 octets
 abbrev pub FitsFlow : ℕ → Flow → Type 0
@@ -34,7 +34,7 @@ HasOctets (Cbr c) = Unit {0}
 HasOctets (Echo e) = Unit {0}
 HasOctets (Raw r) = All (λ p. 1 ≤ length p.packet) r.packets
 
-pub record IsWithinLimits (t : NetworkValue) : Type 0 where
+pub record IsWithinLimits (t : TopologyValue) : Type 0 where
   pub least_stop : 1 ≤ t.stop
   pub greatest_stop : t.stop ≤ MAX_TIME
   pub least_mtu : MIN_MTU ≤ t.mtu

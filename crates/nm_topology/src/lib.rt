@@ -1,24 +1,17 @@
 //! From the topology text to the network, or to the first fault.
 #![tactic(auto)]
 
-mod arrays;
-mod checks;
-mod document;
+mod build;
 pub mod fault;
-mod fields;
-mod forms;
 mod names;
 pub mod node;
-mod numbering;
+mod parse;
 pub mod parts;
-mod placing;
 pub mod prefix;
-mod resolving;
-mod rows;
-mod sources;
+mod resolve;
 pub mod topology;
 pub mod traffic;
-mod wiring;
+mod validate;
 
 pub use fault::{Refusal, TopoFault};
 pub use node::NodeKind;

@@ -3,7 +3,8 @@
 ghost use Rattle.std.specs.Prelude.{◌≡◌, ◌≤◌, ◌<◌, true, false, map, length, IfOk, MatchOption};
 ghost use Rattle.nm_topology.specs.Fault.{Gives};
 ghost use Rattle.nm_base.specs.declared.limits.TheConstants.{MAX_IFACES};
-ghost use Rattle.nm_topology.specs.Numbers.{has_double, distinct_names, number_of};
+ghost use Rattle.nm_topology.specs.Names.{has_double, distinct_names};
+ghost use Rattle.nm_topology.specs.Resolve.{number_of_name};
 
 use crate::fault::{Refusal, TopoFault};
 use indexmap::IndexSet;
@@ -61,7 +62,7 @@ impl<'a> Names<'a> {
     /// The number of a name.
     pub fn number(&self, name: &str) -> Result<u32, TopoFault>
         ensures within { IfOk result (λ n. n < length self.now) }
-        ensures value { Gives (λ n. n) result (number_of self.now name.now) }
+        ensures value { Gives (λ n. n) result (number_of_name self.now name.now) }
     {
         match self.set.get_index_of(name) {
             Some(index) => Ok(index as u32),

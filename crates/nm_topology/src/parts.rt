@@ -4,7 +4,7 @@ ghost use Rattle.std.specs.Prelude.{◌≡◌, [], ◌∷◌, ◌++◌, OnOk, On
 
 use crate::node::NodeKind;
 use crate::prefix::Prefix;
-use crate::rows::{IfaceRow, NodeRow};
+use crate::parse::tables::{IfaceTable, NodeTable};
 use nm_base::{IfaceNo, NodeNo, PartNo};
 use nm_packet::Address;
 use std::alloc::{AllocError, Global};
@@ -47,11 +47,11 @@ pub struct Far {
 
 /// The routes of one node, in the order of the text. A clause sees the list.
 #[derive(Drop)]
-pub struct RouteTable {
+pub struct NodeRoutes {
     routes: Vec<Route>,
 }
 
-impl Model for RouteTable {
+impl Model for NodeRoutes {
     ghost use Rattle.std.specs.Prelude.{List};
     ghost use Rattle.nm_topology.specs.declared.parts.Route.{Route};
 
@@ -60,12 +60,12 @@ impl Model for RouteTable {
     ghost view = { λ t. t.routes.items };
 }
 
-impl RouteTable {
+impl NodeRoutes {
     /// No routes.
     pub fn new(alloc: Global) -> Self
         ensures { result ≡ [] }
     {
-        RouteTable {
+        NodeRoutes {
             routes: Vec::new(alloc),
         }
     }
@@ -94,12 +94,12 @@ pub struct Node {
     kind: NodeKind,
     partition: PartNo,
     ports: Vec<u16>,
-    routes: RouteTable,
+    routes: NodeRoutes,
 }
 
 impl Model for Node {
     ghost use Rattle.std.specs.Prelude.{string_bytes};
-    ghost use Rattle.nm_topology.specs.Networks.{NodeValue};
+    ghost use Rattle.nm_topology.specs.PartValues.{NodeValue};
 
     ghost Value = { NodeValue };
 
@@ -107,16 +107,16 @@ impl Model for Node {
 }
 
 impl Node {
-    /// The node of a row, with its routes.
-    pub(crate) fn new(row: NodeRow, routes: RouteTable) -> Self
-        ensures { result ≡ record { name = row.name; kind = row.kind; partition = row.partition; ports = row.ports; routes = routes } }
+    /// The node of a table, with its routes.
+    pub(crate) fn new(table: NodeTable, routes: NodeRoutes) -> Self
+        ensures { result ≡ record { name = table.name; kind = table.kind; partition = table.partition; ports = table.ports; routes = routes } }
     {
-        let NodeRow {
+        let NodeTable {
             name,
             kind,
             partition,
             ports,
-        } = row;
+        } = table;
         Node {
             name,
             kind,
@@ -171,7 +171,7 @@ pub struct Iface {
 
 impl Model for Iface {
     ghost use Rattle.std.specs.Prelude.{string_bytes};
-    ghost use Rattle.nm_topology.specs.Networks.{IfaceValue};
+    ghost use Rattle.nm_topology.specs.PartValues.{IfaceValue};
 
     ghost Value = { IfaceValue };
 
@@ -179,16 +179,16 @@ impl Model for Iface {
 }
 
 impl Iface {
-    /// The interface of a row, at this node, with this far end.
-    pub(crate) fn new(row: IfaceRow, node: NodeNo, far: Far) -> Self
-        ensures { result ≡ record { name = row.name; node = node; address = row.address; queue = row.queue; far = far } }
+    /// The interface of a table, at this node, with this far end.
+    pub(crate) fn new(table: IfaceTable, node: NodeNo, far: Far) -> Self
+        ensures { result ≡ record { name = table.name; node = node; address = table.address; queue = table.queue; far = far } }
     {
-        let IfaceRow {
+        let IfaceTable {
             name,
             node: _,
             address,
             queue,
-        } = row;
+        } = table;
         Iface {
             name,
             node,

@@ -2,28 +2,24 @@
 
 ghost use Rattle.nm_base.specs.declared.limits.TheConstants.{MAX_CHANNELS, MAX_IFACES, MAX_LINKS, MAX_NODES, MAX_PARTITIONS, MAX_SOURCES};
 ghost use Rattle.nm_topology.specs.Limits.{HasOctets, IsWithinLimits};
-ghost use Rattle.nm_topology.specs.Order.{IsInOrder, IsPlaced, owners_of};
-ghost use Rattle.nm_topology.specs.Ranges.{IsInRange};
+ghost use Rattle.nm_topology.specs.Accepted.{IsInOrder, IsPlaced, owners_of};
+ghost use Rattle.nm_topology.specs.Parse.Ranges.{IsInRange};
 ghost use Rattle.std.specs.Prelude.{◌≡◌, ◌<◌, ◌≤◌, All, Some, length, slice_get};
-ghost use Rattle.std.specs.Option.{ok_or};
-ghost use Rattle.toml.specs.Parse.{parse_document};
-ghost use Rattle.toml.specs.View.{table_view};
-ghost use Rattle.nm_topology.specs.declared.fault.Refusal.TheVariants.{Text};
 ghost use Rattle.nm_topology.specs.Fault.{Gives};
-ghost use Rattle.nm_topology.specs.Network.{channel_from, parsed, network_of, topology_of};
+ghost use Rattle.nm_topology.specs.Topology.{channel_from, network_of, topology_of};
 
-use crate::document::{Document, read_document};
+use crate::parse::document::{Document, read_document};
 use crate::fault::{Refusal, TopoFault};
-use crate::numbering::{Numbers, number};
+use crate::parse;
+use crate::resolve::{self, Resolved};
 use crate::parts::{Iface, Link, Node};
-use crate::placing::{self, Placed};
+use crate::build::{self, Placed};
 use crate::traffic::Source;
 use nm_base::limits::MAX_TEXT_OCTETS;
 use nm_base::{ChanNo, IfaceNo, NodeNo, Time};
 use sha2::{Digest, Sha256};
 use std::alloc::Global;
 use std::marker::Model;
-use toml::Table;
 
 /// A network that is in order: what every part of nullsim runs on.
 #[derive(Drop)]
@@ -43,10 +39,10 @@ impl Model for Topology {
     ghost use Rattle.std.specs.Prelude.{◌≤◌, All, length};
     ghost use Rattle.nm_base.specs.declared.limits.TheConstants.{MAX_CHANNELS, MAX_IFACES, MAX_LINKS, MAX_NODES, MAX_PARTITIONS, MAX_SOURCES};
     ghost use Rattle.nm_topology.specs.Limits.{HasOctets, IsWithinLimits};
-    ghost use Rattle.nm_topology.specs.Order.{IsInOrder, IsPlaced, owners_of};
-    ghost use Rattle.nm_topology.specs.Wholes.{NetworkValue};
+    ghost use Rattle.nm_topology.specs.Accepted.{IsInOrder, IsPlaced, owners_of};
+    ghost use Rattle.nm_topology.specs.TopologyValue.{TopologyValue};
 
-    ghost Value = { NetworkValue };
+    ghost Value = { TopologyValue };
 
     ghost invariant = { λ t.
         IsInOrder t.nodes.items t.ifaces.items t.links.items
@@ -83,31 +79,9 @@ impl Model for Topology {
     } };
 }
 
-/// The TOML document of a string.
-fn document_text(alloc: Global, text: &str) -> Result<Table, TopoFault>
-    ensures { Gives (λ t. table_view t) result (ok_or (parse_document text.now) Text) }
-{
-    match toml::table_from_str(alloc, text) {
-        Ok(table) => Ok(table),
-        Err(fault) if fault.is_memory() => Err(TopoFault::Memory),
-        Err(_) => Err(TopoFault::Refused(Refusal::Text)),
-    }
-}
-
-/// The TOML document of a text.
-#[tactic(auto, using(crate::proofs::Parsing::parsed_of_utf8))]
-fn parse(alloc: Global, text: &[u8]) -> Result<Table, TopoFault>
-    ensures { Gives (λ t. table_view t) result (parsed text.now) }
-{
-    match str::from_utf8(text) {
-        Ok(text) => document_text(alloc, text),
-        Err(_) => Err(TopoFault::Refused(Refusal::Text)),
-    }
-}
-
 /// The network that a document says.
-#[tactic(auto, using(crate::proofs::Order::in_order), unfolding(crate::specs::Network::network_of))]
-fn resolve(alloc: Global, document: Document, digest: [u8; 32]) -> Result<Topology, TopoFault>
+#[tactic(auto, using(crate::proofs::Order::in_order), unfolding(crate::specs::Topology::network_of))]
+fn network(alloc: Global, document: Document, digest: [u8; 32]) -> Result<Topology, TopoFault>
     requires { IsInRange document }
     ensures { Gives (λ t. t) result (network_of digest document) }
 {
@@ -120,19 +94,19 @@ fn resolve(alloc: Global, document: Document, digest: [u8; 32]) -> Result<Topolo
         routes,
         sources,
     } = document;
-    let numbers = number(alloc, &nodes, &ifaces, &links, &routes, sources)?;
-    let partitions = placing::partition_count(&nodes);
+    let resolved = resolve::resolve(alloc, &nodes, &ifaces, &links, &routes, sources)?;
+    let partitions = build::partitions::partition_count(&nodes);
     let Placed {
         nodes,
         ifaces,
         receivers,
-    } = placing::place(alloc, nodes, ifaces, &numbers)?;
-    let Numbers {
+    } = build::place(alloc, nodes, ifaces, &resolved)?;
+    let Resolved {
         owners: _,
         links,
         routes: _,
         sources,
-    } = numbers;
+    } = resolved;
     Ok(Topology {
         stop,
         mtu,
@@ -150,16 +124,16 @@ impl Topology {
     /// Reads a topology text of at most 16,777,216 octets. The fault is the first in the reading order: the length, then
     /// UTF-8 and TOML, then the tables key by key, then names, then the tests of the whole (docs/FORMATS.md). After
     /// `Memory` the same call may succeed with more of it.
-    #[tactic(auto, unfolding(crate::specs::Network::topology_of))]
+    #[tactic(auto, unfolding(crate::specs::Topology::topology_of))]
     pub fn read(alloc: Global, text: &[u8]) -> Result<Topology, TopoFault>
         ensures { Gives (λ t. t) result (topology_of text.now) }
     {
         if text.len() > MAX_TEXT_OCTETS {
             return Err(TopoFault::Refused(Refusal::Range));
         }
-        let table = parse(alloc, text)?;
+        let table = parse::top_table(alloc, text)?;
         let document = read_document(alloc, &table)?;
-        resolve(alloc, document, Sha256::digest(text))
+        network(alloc, document, Sha256::digest(text))
     }
 
     /// Where the simulation ends: nothing at this time or later is done.

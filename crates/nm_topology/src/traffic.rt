@@ -54,9 +54,9 @@ pub struct Raw {
 }
 
 impl Model for Raw {
-    ghost use Rattle.nm_topology.specs.Traffics.{RawTraffic};
+    ghost use Rattle.nm_topology.specs.RawValue.{RawValue};
 
-    ghost Value = { RawTraffic };
+    ghost Value = { RawValue };
 
     ghost view = { λ r. record { via = r.via; packets = r.packets.items } };
 }

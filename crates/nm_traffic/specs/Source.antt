@@ -4,7 +4,7 @@ use Rattle.std.specs.Option.{option_and_then}
 use Rattle.nm_topology.specs.declared.traffic.Flow.{Flow}
 use Rattle.nm_topology.specs.declared.traffic.Traffic.{Traffic}
 use Rattle.nm_topology.specs.declared.traffic.Traffic.TheVariants.{Cbr, Echo, Raw}
-use Rattle.nm_topology.specs.Wholes.{NetworkValue}
+use Rattle.nm_topology.specs.TopologyValue.{TopologyValue}
 use Rattle.nm_traffic.specs.Flow.{flow_time, cbr_octets, echo_message}
 use Rattle.nm_traffic.specs.SourceValues.{SourceValue}
 
@@ -23,9 +23,9 @@ packet_at stop (Echo e) n = of_flow stop e.flow n (echo_message e n)
 packet_at stop (Raw r) n = option_and_then (λ p. before stop (p.at, p.packet)) (slice_get r.packets n)
 
 -- the source with number j
-unfoldable pub source_of : NetworkValue → ℕ → Option SourceValue
+unfoldable pub source_of : TopologyValue → ℕ → Option SourceValue
 source_of t j = option_map (λ s. record { stop = t.stop; traffic = s.traffic }) (slice_get t.sources j)
 
 -- packet n of source j, where there is such a source, and such a packet before stop
-unfoldable pub source_at : NetworkValue → ℕ → ℕ → Option (ℕ × List ℕ)
+unfoldable pub source_at : TopologyValue → ℕ → ℕ → Option (ℕ × List ℕ)
 source_at t j n = option_and_then (λ s. packet_at s.stop s.traffic n) (source_of t j)

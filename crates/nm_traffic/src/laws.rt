@@ -3,7 +3,7 @@
 
 ghost use Rattle.std.specs.Prelude.{◌≡◌, All};
 ghost use Rattle.nm_topology.specs.Limits.{HasOctets, IsWithinLimits};
-ghost use Rattle.nm_topology.specs.Wholes.{NetworkValue};
+ghost use Rattle.nm_topology.specs.TopologyValue.{TopologyValue};
 ghost use Rattle.nm_traffic.specs.Orderly.{ArePackets, ComeBeforeStop, EndForGood};
 ghost use Rattle.nm_traffic.specs.Orderly.{FitTheMtu, HaveOctets, TimesRise};
 
@@ -14,12 +14,12 @@ use nm_topology::topology::accepted_topologies_are_in_order;
 /// stops, with no gap in their numbers; they fit the mtu with the headers that they get, and are no
 /// longer than a packet may be. Where no raw packet is empty, no packet is.
 pub fn times_rise_within_limits()
-    ensures rise { (t : NetworkValue) → IsWithinLimits t → TimesRise t }
-    ensures end { (t : NetworkValue) → IsWithinLimits t → EndForGood t }
-    ensures before { (t : NetworkValue) → ComeBeforeStop t }
-    ensures fit { (t : NetworkValue) → IsWithinLimits t → FitTheMtu t }
-    ensures greatest { (t : NetworkValue) → IsWithinLimits t → ArePackets t }
-    ensures least { (t : NetworkValue) → All (λ s. HasOctets s.traffic) t.sources → HaveOctets t }
+    ensures rise { (t : TopologyValue) → IsWithinLimits t → TimesRise t }
+    ensures end { (t : TopologyValue) → IsWithinLimits t → EndForGood t }
+    ensures before { (t : TopologyValue) → ComeBeforeStop t }
+    ensures fit { (t : TopologyValue) → IsWithinLimits t → FitTheMtu t }
+    ensures greatest { (t : TopologyValue) → IsWithinLimits t → ArePackets t }
+    ensures least { (t : TopologyValue) → All (λ s. HasOctets s.traffic) t.sources → HaveOctets t }
 {}
 
 /// The same of an accepted topology.

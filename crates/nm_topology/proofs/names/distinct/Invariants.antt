@@ -1,5 +1,5 @@
 use Rattle.std.proofs.Common.{◌≡◌, drop, take, []}
-use Rattle.nm_topology.specs.Numbers.{repeats}
+use Rattle.nm_topology.specs.Names.{repeats}
 use Rattle.nm_topology.proofs.names.distinct.Given as goal
 
 abbrev pub invariant-loop-item : goal.invariant-loop-item

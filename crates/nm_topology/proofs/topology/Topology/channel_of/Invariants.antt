@@ -1,5 +1,5 @@
 use Rattle.std.proofs.Common.{◌≡◌, drop}
-use Rattle.nm_topology.specs.Network.{channel_from}
+use Rattle.nm_topology.specs.Topology.{channel_from}
 use Rattle.nm_topology.proofs.topology.Topology.channel_of.Given as goal
 
 abbrev pub invariant-loop-receiver : goal.invariant-loop-receiver

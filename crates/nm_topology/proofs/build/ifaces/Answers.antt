@@ -1,0 +1,9 @@
+use Rattle.std.proofs.Common.{arith}
+use Rattle.std.proofs.lemmas.Grind.{common_steps}
+use Rattle.nm_topology.proofs.build.ifaces.Goals as goal
+
+pub loop-table-preserved : goal.loop-table-preserved
+loop-table-preserved c = grind (arith, common_steps)
+
+pub returns-clause-value : goal.returns-clause-value
+returns-clause-value c = grind (arith, common_steps)

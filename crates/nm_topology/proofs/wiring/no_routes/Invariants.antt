@@ -1,8 +1,0 @@
-use Rattle.std.proofs.Common.{◌≡◌, ℕ, [], length, get_or}
-use Rattle.nm_topology.proofs.wiring.no_routes.Given as goal
-
-abbrev pub invariant-loop : goal.invariant-loop
-invariant-loop l = record {
-  len : length l.tables.items ≡ l.counter;
-  empty : (j : ℕ) → get_or l.tables.items j [] ≡ [];
-}

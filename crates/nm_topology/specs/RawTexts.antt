@@ -1,7 +1,0 @@
--- What a source of raw packets says.
-use Rattle.std.specs.Prelude.{ℕ, List}
-use Rattle.nm_topology.specs.declared.traffic.RawPacket.{RawPacket}
-
-pub record RawText : Type 0 where
-  pub via : List ℕ
-  pub packets : List RawPacket

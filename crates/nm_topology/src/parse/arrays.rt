@@ -1,0 +1,114 @@
+//! Arrays of a topology text: what each member is read to, in order.
+
+ghost use Rattle.std.specs.Prelude.{◌≡◌, ℕ, ◌≤◌, Bool, [], length, IfOk, Result};
+ghost use Rattle.toml.specs.Data.{Data, get_member};
+ghost use Rattle.toml.specs.View.{view, items_view, table_view};
+ghost use Rattle.nm_topology.specs.declared.fault.Refusal.{Refusal as RefusalValue};
+ghost use Rattle.nm_topology.specs.Parse.Arrays.{all_fit, each, members_of, array_of};
+ghost use Rattle.nm_topology.specs.Fault.{Gives};
+ghost use Rattle.nm_topology.specs.Parse.Fields.{optional};
+
+use crate::fault::{Refusal, TopoFault};
+use crate::parse::fields::field;
+use std::alloc::Global;
+use toml::{Table, Value};
+
+/// What a member of an array is read to.
+pub trait Member: Drop {
+    // Whether a value has the TOML type of these members.
+    ghost has_type: { Data → Bool };
+
+    /// Whether the value has the TOML type of these members.
+    fn is_of_type(value: &Value) -> bool
+        ensures { result ≡ has_type (view value.now) };
+}
+
+/// A member that is read by itself.
+pub trait Element: Member {
+    // What a value is read to, where packets have at most so many octets.
+    ghost reads: { ℕ → Data → Result Self RefusalValue };
+
+    /// Reads a member. Packets have at most `mtu` octets, which leaves room for headers.
+    fn read(alloc: Global, mtu: u16, value: &Value) -> Result<Self, TopoFault>
+        requires { 28 ≤ mtu }
+        ensures { Gives (λ x. x) result (reads mtu (view value.now)) };
+}
+
+/// An optional array of at most `limit` members of one type; absent is empty.
+pub fn optional_array<T: Element>(
+    alloc: Global,
+    mtu: u16,
+    table: &Table,
+    key: &str,
+    limit: usize,
+) -> Result<Vec<T>, TopoFault>
+    requires { 28 ≤ mtu }
+    ensures count { IfOk result (λ v. length v.items ≤ limit) }
+    ensures value { Gives (λ v. v.items) result (optional [] (array_of T.has_type limit (T.reads mtu)) (get_member key.now (table_view table.now))) }
+{
+    match field(table, key) {
+        Some(value) => array(alloc, mtu, limit, value),
+        None => Ok(Vec::new(alloc)),
+    }
+}
+
+/// An array of members of one type, of which there are at most `limit`.
+fn array<T: Element>(
+    alloc: Global,
+    mtu: u16,
+    limit: usize,
+    value: &Value,
+) -> Result<Vec<T>, TopoFault>
+    requires { 28 ≤ mtu }
+    ensures count { IfOk result (λ v. length v.items ≤ limit) }
+    ensures value { Gives (λ v. v.items) result (array_of T.has_type limit (T.reads mtu) (view value.now)) }
+{
+    match value {
+        Value::Array(items) => members(alloc, mtu, limit, items),
+        _ => Err(TopoFault::Refused(Refusal::Kind)),
+    }
+}
+
+#[tactic(auto, using(crate::proofs::Members::count_view))]
+fn members<T: Element>(
+    alloc: Global,
+    mtu: u16,
+    limit: usize,
+    items: &[Value],
+) -> Result<Vec<T>, TopoFault>
+    requires { 28 ≤ mtu }
+    ensures count { IfOk result (λ v. length v.items ≤ limit) }
+    ensures value { Gives (λ v. v.items) result (members_of T.has_type limit (T.reads mtu) (items_view items.now)) }
+{
+    if !all_fit::<T>(items) {
+        return Err(TopoFault::Refused(Refusal::Kind));
+    }
+    if items.len() > limit {
+        return Err(TopoFault::Refused(Refusal::TooMany));
+    }
+    each(alloc, mtu, items)
+}
+
+pub fn all_fit<T: Member>(items: &[Value]) -> bool
+    ensures { result ≡ all_fit T.has_type (items_view items.now) }
+{
+    for item in items {
+        if !T::is_of_type(item) {
+            return false;
+        }
+    }
+    true
+}
+
+fn each<T: Element>(alloc: Global, mtu: u16, items: &[Value]) -> Result<Vec<T>, TopoFault>
+    requires { 28 ≤ mtu }
+    ensures count { IfOk result (λ v. length v.items ≡ length items.now) }
+    ensures value { Gives (λ v. v.items) result (each (T.reads mtu) (items_view items.now)) }
+{
+    let mut members = Vec::new(alloc);
+    for item in items {
+        let member = T::read(alloc, mtu, item)?;
+        members.push(member)?;
+    }
+    Ok(members)
+}

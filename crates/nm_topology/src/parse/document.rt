@@ -1,0 +1,82 @@
+//! A whole topology text as it is read, with names in place of numbers.
+
+ghost use Rattle.std.specs.Prelude.{◌≤◌};
+ghost use Rattle.toml.specs.View.{table_view};
+ghost use Rattle.nm_topology.specs.Parse.Document.{document_of, with_tables};
+ghost use Rattle.nm_topology.specs.Fault.{Gives};
+
+use crate::parse::arrays::optional_array;
+use crate::fault::TopoFault;
+use crate::parse::fields::{only, required_number};
+use crate::parse::tables::{IfaceTable, LinkTable, NodeTable, RouteTable};
+use crate::parse::sources::SourceTable;
+use nm_base::Time;
+use nm_base::limits::{
+    MAX_IFACES, MAX_LINKS, MAX_MTU, MAX_NODES, MAX_ROUTES, MAX_SOURCES, MAX_TIME, MIN_MTU,
+};
+use std::alloc::Global;
+use std::marker::Model;
+use toml::Table;
+
+/// What a topology text says.
+#[derive(Drop)]
+pub struct Document {
+    pub stop: Time,
+    pub mtu: u16,
+    pub nodes: Vec<NodeTable>,
+    pub ifaces: Vec<IfaceTable>,
+    pub links: Vec<LinkTable>,
+    pub routes: Vec<RouteTable>,
+    pub sources: Vec<SourceTable>,
+}
+
+impl Model for Document {
+    ghost use Rattle.std.specs.Prelude.{◌≤◌, length};
+    ghost use Rattle.nm_base.specs.declared.limits.TheConstants.{MAX_IFACES, MAX_LINKS, MAX_NODES, MAX_SOURCES};
+    ghost use Rattle.nm_topology.specs.Parse.DocumentValue.{DocumentValue};
+
+    ghost Value = { DocumentValue };
+
+    ghost invariant = { λ d. (length d.nodes.items ≤ MAX_NODES) × (length d.ifaces.items ≤ MAX_IFACES) × (length d.links.items ≤ MAX_LINKS) × (length d.sources.items ≤ MAX_SOURCES) };
+
+    ghost view = { λ d. record { stop = d.stop; mtu = d.mtu; nodes = d.nodes.items; ifaces = d.ifaces.items; links = d.links.items; routes = d.routes.items; sources = d.sources.items } };
+}
+
+/// Reads the arrays of tables of a text that stops then and has packets of at most so many octets.
+#[tactic(auto, unfolding(crate::specs::Parse::Document::with_tables))]
+fn read_tables(alloc: Global, stop: Time, mtu: u16, table: &Table) -> Result<Document, TopoFault>
+    requires { 28 ≤ mtu }
+    ensures { Gives (λ x. x) result (with_tables stop mtu (table_view table.now)) }
+{
+    let nodes = optional_array(alloc, mtu, table, "node", MAX_NODES)?;
+    let ifaces = optional_array(alloc, mtu, table, "iface", MAX_IFACES)?;
+    let links = optional_array(alloc, mtu, table, "link", MAX_LINKS)?;
+    let routes = optional_array(alloc, mtu, table, "route", MAX_ROUTES)?;
+    let sources = optional_array(alloc, mtu, table, "source", MAX_SOURCES)?;
+    Ok(Document {
+        stop,
+        mtu,
+        nodes,
+        ifaces,
+        links,
+        routes,
+        sources,
+    })
+}
+
+/// Reads the top table.
+#[tactic(auto, unfolding(crate::specs::Parse::Document::document_of))]
+pub fn read_document(alloc: Global, table: &Table) -> Result<Document, TopoFault>
+    ensures { Gives (λ x. x) result (document_of (table_view table.now)) }
+{
+    only(
+        table,
+        &[
+            "format", "stop", "mtu", "node", "iface", "link", "route", "source",
+        ],
+    )?;
+    required_number(table, "format", 1, 1)?;
+    let stop = required_number(table, "stop", 1, MAX_TIME)?;
+    let mtu = required_number(table, "mtu", MIN_MTU, MAX_MTU)? as u16;
+    read_tables(alloc, Time::from_nanoseconds(stop), mtu, table)
+}

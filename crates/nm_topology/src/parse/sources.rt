@@ -1,0 +1,309 @@
+//! The tables of `source`, each read by itself.
+
+ghost use Rattle.std.specs.Prelude.{◌≡◌, ◌≤◌, IfOk};
+ghost use Rattle.nm_base.specs.declared.limits.TheConstants.{MAX_TIME};
+ghost use Rattle.nm_topology.specs.Parse.Arrays.{in_table};
+ghost use Rattle.toml.specs.Data.{array, get_member};
+ghost use Rattle.toml.specs.View.{table_view, items_view, view};
+ghost use Rattle.nm_topology.specs.Fault.{Gives};
+ghost use Rattle.nm_topology.specs.Parse.Fields.{required, required_text};
+ghost use Rattle.nm_topology.specs.Parse.Sources.{octets_of, packet_of, packets_from, packets_of, flow_of, cbr_of, echo_of, raw_of, source_kind_of, source_table_of};
+
+use crate::parse::arrays::{Element, Member, all_fit};
+use crate::fault::{Refusal, TopoFault};
+use crate::parse::fields::{
+    field, only, optional_number, required_address, required_name, required_number,
+    required_plain_text,
+};
+use crate::traffic::{Cbr, Echo, Flow, RawPacket};
+use bytes::Bytes;
+use hex::FromHexError;
+use nm_base::limits::{MAX_COUNT, MAX_INTERVAL, MAX_RAW_PACKETS, MAX_TIME};
+use nm_base::{Packet, Time};
+use std::alloc::Global;
+use std::marker::Model;
+use toml::{Table, Value};
+
+/// What a table of `source` says of its packets, with a name in place of an interface's number.
+#[derive(Drop)]
+pub enum NamedTraffic {
+    Cbr(Cbr),
+    Echo(Echo),
+    Raw(NamedRaw),
+}
+
+#[derive(Drop)]
+pub struct NamedRaw {
+    pub via: String,
+    pub packets: Vec<RawPacket>,
+}
+
+impl Model for NamedRaw {
+    ghost use Rattle.std.specs.Prelude.{string_bytes};
+    ghost use Rattle.nm_topology.specs.Parse.NamedRawValue.{NamedRawValue};
+
+    ghost Value = { NamedRawValue };
+
+    ghost view = { λ r. record { via = string_bytes r.via; packets = r.packets.items } };
+}
+
+/// A table of `source`.
+#[derive(Drop)]
+pub struct SourceTable {
+    pub node: String,
+    pub traffic: NamedTraffic,
+}
+
+impl Model for SourceTable {
+    ghost use Rattle.std.specs.Prelude.{string_bytes};
+    ghost use Rattle.nm_topology.specs.Parse.SourceTableValue.{SourceTableValue};
+
+    ghost Value = { SourceTableValue };
+
+    ghost view = { λ r. record { node = string_bytes r.node; traffic = r.traffic } };
+}
+
+/// The octets of a raw packet: hexadecimal, 1 to `mtu` octets.
+fn required_octets(alloc: Global, mtu: u16, table: &Table, key: &str) -> Result<Packet, TopoFault>
+    ensures { Gives (λ p. p) result (required (octets_of mtu) (get_member key.now (table_view table.now))) }
+{
+    let text = required_plain_text(table, key)?;
+    let octets = match hex::decode(alloc, text) {
+        Ok(octets) => octets,
+        Err(FromHexError::OutOfMemory) => return Err(TopoFault::Memory),
+        Err(_) => return Err(TopoFault::Refused(Refusal::Hex)),
+    };
+    if octets.is_empty() || octets.len() > mtu as usize {
+        return Err(TopoFault::Refused(Refusal::Range));
+    }
+    match Packet::new(Bytes::from_vec(octets)?) {
+        Some(packet) => Ok(packet),
+        None => Err(TopoFault::Refused(Refusal::Range)),
+    }
+}
+
+/// A table of `packet`, whose time is at least `least` nanoseconds.
+#[tactic(auto, unfolding(crate::specs::Parse::Sources::packet_of))]
+fn raw_packet(alloc: Global, mtu: u16, least: u64, table: &Table) -> Result<RawPacket, TopoFault>
+    ensures within { IfOk result (λ p. p.at ≤ MAX_TIME) }
+    ensures value { Gives (λ p. p) result (packet_of mtu least (table_view table.now)) }
+{
+    only(table, &["at", "data"])?;
+    let at = required_number(table, "at", least, MAX_TIME)?;
+    let packet = required_octets(alloc, mtu, table, "data")?;
+    Ok(RawPacket {
+        at: Time::from_nanoseconds(at),
+        packet,
+    })
+}
+
+fn raw_member(alloc: Global, mtu: u16, least: u64, value: &Value) -> Result<RawPacket, TopoFault>
+    ensures within { IfOk result (λ p. p.at ≤ MAX_TIME) }
+    ensures value { Gives (λ p. p) result (in_table (packet_of mtu least) (view value.now)) }
+{
+    match value {
+        Value::Table(table) => raw_packet(alloc, mtu, least, table),
+        _ => Err(TopoFault::Refused(Refusal::Kind)),
+    }
+}
+
+impl Member for RawPacket {
+    ghost use Rattle.nm_topology.specs.Parse.Arrays.{is_table};
+
+    ghost has_type = { is_table };
+
+    fn is_of_type(value: &Value) -> bool {
+        matches!(value, Value::Table(_))
+    }
+}
+
+/// The packets of a raw source, each later than the one before.
+fn packets(alloc: Global, mtu: u16, items: &[Value]) -> Result<Vec<RawPacket>, TopoFault>
+    ensures { Gives (λ v. v.items) result (packets_from mtu 0 (items_view items.now)) }
+{
+    let mut packets = Vec::new(alloc);
+    let mut least = 0;
+    for item in items {
+        let packet = raw_member(alloc, mtu, least, item)?;
+        least = packet.at.nanoseconds() + 1;
+        packets.push(packet)?;
+    }
+    Ok(packets)
+}
+
+fn required_packets(
+    alloc: Global,
+    mtu: u16,
+    table: &Table,
+    key: &str,
+) -> Result<Vec<RawPacket>, TopoFault>
+    ensures { Gives (λ v. v.items) result (required (packets_of mtu) (get_member key.now (table_view table.now))) }
+{
+    let Some(value) = field(table, key) else {
+        return Err(TopoFault::Refused(Refusal::Missing));
+    };
+    match value {
+        Value::Array(items) => some_packets(alloc, mtu, items),
+        _ => Err(TopoFault::Refused(Refusal::Kind)),
+    }
+}
+
+#[tactic(auto, using(crate::proofs::Members::count_view))]
+fn some_packets(alloc: Global, mtu: u16, items: &[Value]) -> Result<Vec<RawPacket>, TopoFault>
+    ensures { Gives (λ v. v.items) result (packets_of mtu (array (items_view items.now))) }
+{
+    if !all_fit::<RawPacket>(items) {
+        return Err(TopoFault::Refused(Refusal::Kind));
+    }
+    if items.len() > MAX_RAW_PACKETS {
+        return Err(TopoFault::Refused(Refusal::TooMany));
+    }
+    packets(alloc, mtu, items)
+}
+
+/// Octets of an IPv4 header and a UDP or ICMP header.
+const HEADERS: u16 = 28;
+
+#[tactic(auto, unfolding(crate::specs::Parse::Sources::flow_of))]
+fn flow(mtu: u16, table: &Table) -> Result<Flow, TopoFault>
+    requires { 28 ≤ mtu }
+    ensures { Gives (λ x. x) result (flow_of mtu (table_view table.now)) }
+{
+    let size = required_number(table, "size", 0, (mtu - HEADERS) as u64)?;
+    let fill = optional_number(table, "fill", 0, 0, 255)?;
+    let start = required_number(table, "start", 0, MAX_TIME)?;
+    let interval = required_number(table, "interval", 1, MAX_INTERVAL)?;
+    let count = required_number(table, "count", 0, MAX_COUNT)?;
+    let ttl = optional_number(table, "ttl", 64, 1, 255)?;
+    Ok(Flow {
+        size: size as u16,
+        fill: fill as u8,
+        start: Time::from_nanoseconds(start),
+        interval,
+        count: count as u32,
+        ttl: ttl as u8,
+    })
+}
+
+#[tactic(auto, unfolding(crate::specs::Parse::Sources::cbr_of))]
+fn cbr_table(alloc: Global, mtu: u16, table: &Table) -> Result<SourceTable, TopoFault>
+    requires { 28 ≤ mtu }
+    ensures { Gives (λ x. x) result (cbr_of mtu (table_view table.now)) }
+{
+    only(
+        table,
+        &[
+            "kind", "node", "to", "sport", "dport", "size", "fill", "start", "interval", "count",
+            "ttl",
+        ],
+    )?;
+    let node = required_name(alloc, table, "node")?;
+    let to = required_address(table, "to")?;
+    let source_port = required_number(table, "sport", 0, 65_535)?;
+    let destination_port = required_number(table, "dport", 0, 65_535)?;
+    let flow = flow(mtu, table)?;
+    Ok(SourceTable {
+        node,
+        traffic: NamedTraffic::Cbr(Cbr {
+            to,
+            source_port: source_port as u16,
+            destination_port: destination_port as u16,
+            flow,
+        }),
+    })
+}
+
+#[tactic(auto, unfolding(crate::specs::Parse::Sources::echo_of))]
+fn echo_table(alloc: Global, mtu: u16, table: &Table) -> Result<SourceTable, TopoFault>
+    requires { 28 ≤ mtu }
+    ensures { Gives (λ x. x) result (echo_of mtu (table_view table.now)) }
+{
+    only(
+        table,
+        &[
+            "kind", "node", "to", "ident", "size", "fill", "start", "interval", "count", "ttl",
+        ],
+    )?;
+    let node = required_name(alloc, table, "node")?;
+    let to = required_address(table, "to")?;
+    let identifier = required_number(table, "ident", 0, 65_535)?;
+    let flow = flow(mtu, table)?;
+    Ok(SourceTable {
+        node,
+        traffic: NamedTraffic::Echo(Echo {
+            to,
+            identifier: identifier as u16,
+            flow,
+        }),
+    })
+}
+
+#[tactic(auto, unfolding(crate::specs::Parse::Sources::raw_of))]
+fn raw_table(alloc: Global, mtu: u16, table: &Table) -> Result<SourceTable, TopoFault>
+    ensures { Gives (λ x. x) result (raw_of mtu (table_view table.now)) }
+{
+    only(table, &["kind", "node", "via", "packet"])?;
+    let node = required_name(alloc, table, "node")?;
+    let via = required_name(alloc, table, "via")?;
+    let packets = required_packets(alloc, mtu, table, "packet")?;
+    Ok(SourceTable {
+        node,
+        traffic: NamedTraffic::Raw(NamedRaw { via, packets }),
+    })
+}
+
+/// The kinds of sources.
+#[derive(Clone, Copy)]
+enum SourceKind {
+    Cbr,
+    Echo,
+    Raw,
+}
+
+fn required_source_kind(table: &Table, key: &str) -> Result<SourceKind, TopoFault>
+    ensures { Gives (λ k. k) result (required_text source_kind_of (get_member key.now (table_view table.now))) }
+{
+    match required_plain_text(table, key)? {
+        "cbr" => Ok(SourceKind::Cbr),
+        "echo" => Ok(SourceKind::Echo),
+        "raw" => Ok(SourceKind::Raw),
+        _ => Err(TopoFault::Refused(Refusal::Range)),
+    }
+}
+
+/// A table of `source`.
+#[tactic(auto, unfolding(crate::specs::Parse::Sources::source_table_of))]
+fn source_table(alloc: Global, mtu: u16, table: &Table) -> Result<SourceTable, TopoFault>
+    requires { 28 ≤ mtu }
+    ensures { Gives (λ x. x) result (source_table_of mtu (table_view table.now)) }
+{
+    match required_source_kind(table, "kind")? {
+        SourceKind::Cbr => cbr_table(alloc, mtu, table),
+        SourceKind::Echo => echo_table(alloc, mtu, table),
+        SourceKind::Raw => raw_table(alloc, mtu, table),
+    }
+}
+
+impl Member for SourceTable {
+    ghost use Rattle.nm_topology.specs.Parse.Arrays.{is_table};
+
+    ghost has_type = { is_table };
+
+    fn is_of_type(value: &Value) -> bool {
+        matches!(value, Value::Table(_))
+    }
+}
+
+impl Element for SourceTable {
+    ghost use Rattle.nm_topology.specs.Parse.Arrays.{in_table};
+    ghost use Rattle.nm_topology.specs.Parse.Sources.{source_table_of};
+
+    ghost reads = { λ mtu d. in_table (source_table_of mtu) d };
+
+    fn read(alloc: Global, mtu: u16, value: &Value) -> Result<SourceTable, TopoFault> {
+        match value {
+            Value::Table(table) => source_table(alloc, mtu, table),
+            _ => Err(TopoFault::Refused(Refusal::Kind)),
+        }
+    }
+}

@@ -1,0 +1,267 @@
+//! The tables of a topology text, each read by itself.
+
+ghost use Rattle.std.specs.Prelude.{◌≤◌};
+ghost use Rattle.toml.specs.View.{table_view};
+ghost use Rattle.nm_topology.specs.Fault.{Gives};
+ghost use Rattle.nm_topology.specs.Parse.Tables.{node_table_of, iface_table_of, link_table_of, route_table_of};
+
+use crate::parse::arrays::{Element, Member, optional_array};
+use crate::fault::{Refusal, TopoFault};
+use crate::parse::fields::{
+    number, only, required_address, required_name, required_node_kind, required_number,
+    required_prefix,
+};
+use crate::node::NodeKind;
+use crate::prefix::Prefix;
+use nm_base::limits::{MAX_DELAY, MAX_PORTS_OF_NODE, MAX_QUEUE, MAX_RATE, MIN_RATE};
+use nm_packet::Address;
+use std::alloc::Global;
+use std::marker::Model;
+use toml::{Table, Value};
+
+/// A table of `node`.
+#[derive(Drop)]
+pub struct NodeTable {
+    pub name: String,
+    pub kind: NodeKind,
+    pub partition: u8,
+    pub ports: Vec<u16>,
+}
+
+impl Model for NodeTable {
+    ghost use Rattle.std.specs.Prelude.{◌≤◌, string_bytes};
+    ghost use Rattle.nm_topology.specs.Parse.TableValues.{NodeTableValue};
+
+    ghost Value = { NodeTableValue };
+
+    ghost invariant = { λ r. r.partition ≤ 63 };
+
+    ghost view = { λ r. record { name = string_bytes r.name; kind = r.kind; partition = r.partition; ports = r.ports.items } };
+}
+
+/// A table of `iface`.
+#[derive(Drop)]
+pub struct IfaceTable {
+    pub name: String,
+    pub node: String,
+    pub address: Address,
+    pub queue: u16,
+}
+
+impl Model for IfaceTable {
+    ghost use Rattle.std.specs.Prelude.{string_bytes};
+    ghost use Rattle.nm_topology.specs.Parse.TableValues.{IfaceTableValue};
+
+    ghost Value = { IfaceTableValue };
+
+    ghost view = { λ r. record { name = string_bytes r.name; node = string_bytes r.node; address = r.address; queue = r.queue } };
+}
+
+/// A table of `link`.
+#[derive(Drop)]
+pub struct LinkTable {
+    pub a: String,
+    pub b: String,
+    pub rate: u64,
+    pub delay: u64,
+}
+
+impl Model for LinkTable {
+    ghost use Rattle.std.specs.Prelude.{string_bytes};
+    ghost use Rattle.nm_topology.specs.Parse.TableValues.{LinkTableValue};
+
+    ghost Value = { LinkTableValue };
+
+    ghost view = { λ r. record { a = string_bytes r.a; b = string_bytes r.b; rate = r.rate; delay = r.delay } };
+}
+
+/// A table of `route`.
+#[derive(Drop)]
+pub struct RouteTable {
+    pub node: String,
+    pub to: Prefix,
+    pub via: String,
+}
+
+impl Model for RouteTable {
+    ghost use Rattle.std.specs.Prelude.{string_bytes};
+    ghost use Rattle.nm_topology.specs.Parse.TableValues.{RouteTableValue};
+
+    ghost Value = { RouteTableValue };
+
+    ghost view = { λ r. record { node = string_bytes r.node; to = r.to; via = string_bytes r.via } };
+}
+
+#[tactic(auto, unfolding(crate::specs::Parse::Tables::iface_table_of))]
+fn iface_table(alloc: Global, table: &Table) -> Result<IfaceTable, TopoFault>
+    ensures { Gives (λ x. x) result (iface_table_of (table_view table.now)) }
+{
+    only(table, &["name", "node", "address", "queue"])?;
+    let name = required_name(alloc, table, "name")?;
+    let node = required_name(alloc, table, "node")?;
+    let address = required_address(table, "address")?;
+    let queue = required_number(table, "queue", 0, MAX_QUEUE)?;
+    Ok(IfaceTable {
+        name,
+        node,
+        address,
+        queue: queue as u16,
+    })
+}
+
+#[tactic(auto, unfolding(crate::specs::Parse::Tables::link_table_of))]
+fn link_table(alloc: Global, table: &Table) -> Result<LinkTable, TopoFault>
+    ensures { Gives (λ x. x) result (link_table_of (table_view table.now)) }
+{
+    only(table, &["a", "b", "rate", "delay"])?;
+    let a = required_name(alloc, table, "a")?;
+    let b = required_name(alloc, table, "b")?;
+    let rate = required_number(table, "rate", MIN_RATE, MAX_RATE)?;
+    let delay = required_number(table, "delay", 0, MAX_DELAY)?;
+    Ok(LinkTable { a, b, rate, delay })
+}
+
+#[tactic(auto, unfolding(crate::specs::Parse::Tables::route_table_of))]
+fn route_table(alloc: Global, table: &Table) -> Result<RouteTable, TopoFault>
+    ensures { Gives (λ x. x) result (route_table_of (table_view table.now)) }
+{
+    only(table, &["node", "to", "via"])?;
+    let node = required_name(alloc, table, "node")?;
+    let to = required_prefix(table, "to")?;
+    let via = required_name(alloc, table, "via")?;
+    Ok(RouteTable { node, to, via })
+}
+
+impl Member for u16 {
+    ghost use Rattle.nm_topology.specs.Parse.Arrays.{is_integer};
+
+    ghost has_type = { is_integer };
+
+    fn is_of_type(value: &Value) -> bool {
+        matches!(value, Value::Integer(_))
+    }
+}
+
+impl Element for u16 {
+    ghost use Rattle.nm_topology.specs.Parse.Fields.{number_in};
+
+    ghost reads = { λ mtu d. number_in 0 65535 d };
+
+    fn read(_alloc: Global, _mtu: u16, value: &Value) -> Result<u16, TopoFault> {
+        Ok(number(value, 0, 65_535)? as u16)
+    }
+}
+
+#[tactic(auto, unfolding(crate::specs::Parse::Tables::node_table_of))]
+fn node_table(alloc: Global, mtu: u16, table: &Table) -> Result<NodeTable, TopoFault>
+    requires { 28 ≤ mtu }
+    ensures { Gives (λ x. x) result (node_table_of (table_view table.now)) }
+{
+    only(table, &["name", "kind", "partition", "ports"])?;
+    let name = required_name(alloc, table, "name")?;
+    let kind = required_node_kind(table, "kind")?;
+    let partition = required_number(table, "partition", 0, 63)?;
+    let ports = optional_array(alloc, mtu, table, "ports", MAX_PORTS_OF_NODE)?;
+    Ok(NodeTable {
+        name,
+        kind,
+        partition: partition as u8,
+        ports,
+    })
+}
+
+impl Member for NodeTable {
+    ghost use Rattle.nm_topology.specs.Parse.Arrays.{is_table};
+
+    ghost has_type = { is_table };
+
+    fn is_of_type(value: &Value) -> bool {
+        matches!(value, Value::Table(_))
+    }
+}
+
+impl Element for NodeTable {
+    ghost use Rattle.nm_topology.specs.Parse.Arrays.{in_table};
+    ghost use Rattle.nm_topology.specs.Parse.Tables.{node_table_of};
+
+    ghost reads = { λ mtu d. in_table node_table_of d };
+
+    fn read(alloc: Global, mtu: u16, value: &Value) -> Result<NodeTable, TopoFault> {
+        match value {
+            Value::Table(table) => node_table(alloc, mtu, table),
+            _ => Err(TopoFault::Refused(Refusal::Kind)),
+        }
+    }
+}
+
+impl Member for IfaceTable {
+    ghost use Rattle.nm_topology.specs.Parse.Arrays.{is_table};
+
+    ghost has_type = { is_table };
+
+    fn is_of_type(value: &Value) -> bool {
+        matches!(value, Value::Table(_))
+    }
+}
+
+impl Element for IfaceTable {
+    ghost use Rattle.nm_topology.specs.Parse.Arrays.{in_table};
+    ghost use Rattle.nm_topology.specs.Parse.Tables.{iface_table_of};
+
+    ghost reads = { λ mtu d. in_table iface_table_of d };
+
+    fn read(alloc: Global, _mtu: u16, value: &Value) -> Result<IfaceTable, TopoFault> {
+        match value {
+            Value::Table(table) => iface_table(alloc, table),
+            _ => Err(TopoFault::Refused(Refusal::Kind)),
+        }
+    }
+}
+
+impl Member for LinkTable {
+    ghost use Rattle.nm_topology.specs.Parse.Arrays.{is_table};
+
+    ghost has_type = { is_table };
+
+    fn is_of_type(value: &Value) -> bool {
+        matches!(value, Value::Table(_))
+    }
+}
+
+impl Element for LinkTable {
+    ghost use Rattle.nm_topology.specs.Parse.Arrays.{in_table};
+    ghost use Rattle.nm_topology.specs.Parse.Tables.{link_table_of};
+
+    ghost reads = { λ mtu d. in_table link_table_of d };
+
+    fn read(alloc: Global, _mtu: u16, value: &Value) -> Result<LinkTable, TopoFault> {
+        match value {
+            Value::Table(table) => link_table(alloc, table),
+            _ => Err(TopoFault::Refused(Refusal::Kind)),
+        }
+    }
+}
+
+impl Member for RouteTable {
+    ghost use Rattle.nm_topology.specs.Parse.Arrays.{is_table};
+
+    ghost has_type = { is_table };
+
+    fn is_of_type(value: &Value) -> bool {
+        matches!(value, Value::Table(_))
+    }
+}
+
+impl Element for RouteTable {
+    ghost use Rattle.nm_topology.specs.Parse.Arrays.{in_table};
+    ghost use Rattle.nm_topology.specs.Parse.Tables.{route_table_of};
+
+    ghost reads = { λ mtu d. in_table route_table_of d };
+
+    fn read(alloc: Global, _mtu: u16, value: &Value) -> Result<RouteTable, TopoFault> {
+        match value {
+            Value::Table(table) => route_table(alloc, table),
+            _ => Err(TopoFault::Refused(Refusal::Kind)),
+        }
+    }
+}

@@ -1,0 +1,3 @@
+//! The tests of the whole.
+
+pub mod checks;
