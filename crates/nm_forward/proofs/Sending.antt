@@ -1,7 +1,7 @@
 -- What holds of each packet that a node sends, and of the interface by which it is sent.
 use Rattle.std.proofs.Common.{◌≡◌, ℕ, Bool, true, false, cond, List, Option, Some, None, refl, subst}
 use Rattle.std.specs.Prelude.{is_some, nat_le, ◌==◌}
-use Rattle.nm_packet.specs.Address.{is_offending}
+use Rattle.nm_packet.specs.Address.{is_martian}
 use Rattle.nm_packet.specs.Ipv4.{Header, header_fault, cut_of, fields_of, payload_of, packet_octets, lowered}
 use Rattle.nm_packet.specs.Udp.{udp_fault, udp_cut_of, udp_fields_of}
 use Rattle.nm_packet.specs.Icmp.{icmp_fault, icmp_fields_of}
@@ -65,7 +65,7 @@ module _ (P : ℕ → List ℕ → Type 0) (ifaces : List IfaceValue) (table : N
       → OnSent P (originate ifaces table identification (reply_to h request))
       → OnSent P (reply_of ifaces table identification h request)
   unfolding reply_of
-  reply_of-sent h request g = unless-quiet (is_offending h.source)
+  reply_of-sent h request g = unless-quiet (is_martian h.source)
       (originate ifaces table identification (reply_to h request)) g
 
   pub consequence_of-sent : (p : List ℕ) (row : Row)
@@ -139,7 +139,7 @@ module _ (table : NodeTable) (x : List ℕ) where
 
     packet : ComesFrom table x (packet_row table h payload)
     unfolding packet_row
-    packet = either (is_offending h.destination) BadDestination _ tt
+    packet = either (is_martian h.destination) BadDestination _ tt
         (either (is_own table h.destination) (local_row table h payload) _ local
         (transit table.kind (route_of table.routes h.destination) h.time_to_live refl))
 

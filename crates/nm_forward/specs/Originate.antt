@@ -2,7 +2,7 @@
 use Rattle.std.specs.Prelude.{ℕ, ◌≤◌, Bool, true, ◌||◌, ◌&&◌, not, ◌==◌, if◌then◌else◌, List, [], ◌∷◌, length, Option, Some, None, unwrap_or, slice_get}
 use Rattle.std.specs.Option.{option_map_or}
 use Rattle.nm_packet.specs.declared.ipv4.Ipv4Header.{Ipv4Header}
-use Rattle.nm_packet.specs.Address.{is_offending}
+use Rattle.nm_packet.specs.Address.{is_martian}
 use Rattle.nm_packet.specs.Ipv4.{Header, fields_of, payload_of, lowered, packet_octets, plain_header, quote_of}
 use Rattle.nm_packet.specs.Udp.{udp_header, datagram_octets}
 use Rattle.nm_packet.specs.Icmp.{icmp_header, icmp_fields_of, icmp_data_of, message_octets}
@@ -89,7 +89,7 @@ is_error_message (t ∷ rest) = (t == 3) || (t == 4) || (t == 5) || (t == 11) ||
 
 -- whether no error is sent about the packet
 abbrev pub is_quiet : List ℕ → Bool
-is_quiet p = not ((fields_of p).fragment_offset == 0) || is_offending (fields_of p).source
+is_quiet p = not ((fields_of p).fragment_offset == 0) || is_martian (fields_of p).source
     || (((fields_of p).protocol == 1) && is_error_message (payload_of p))
 
 -- the error of this type and code about the packet (RFC 792)
@@ -133,7 +133,7 @@ module _ (ifaces : List IfaceValue) (table : NodeTable) (identification : ℕ) w
   -- a reply to an echo request that came behind this header (RFC 792)
   unfoldable pub reply_of : Header → List ℕ → Consequence
   reply_of h request =
-      if is_offending h.source then Counts Quiet else originate (reply_to h request)
+      if is_martian h.source then Counts Quiet else originate (reply_to h request)
 
   -- What follows a row for the packet p. Errors: network unreachable (RFC 1812, section 5.2.7.1),
   -- time exceeded (RFC 1812, section 5.3.1), port and protocol unreachable (RFC 792). A packet that

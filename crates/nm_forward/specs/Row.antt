@@ -2,7 +2,7 @@
 use Rattle.std.specs.Prelude.{ℕ, ◌≤◌, Bool, ◌||◌, ◌&&◌, not, ◌==◌, ◌%◌, nat_le, if◌then◌else◌, List, length, Option, Some, None, is_some}
 use Rattle.nm_topology.specs.declared.node.NodeKind.{NodeKind}
 use Rattle.nm_topology.specs.declared.node.NodeKind.TheVariants.{Host, Router}
-use Rattle.nm_packet.specs.Address.{is_offending}
+use Rattle.nm_packet.specs.Address.{is_martian}
 use Rattle.nm_packet.specs.Ipv4.{Header as Ipv4Fields, header_fault, cut_of, fields_of, payload_of}
 use Rattle.nm_packet.specs.Udp.{udp_fault, udp_cut_of, udp_fields_of}
 use Rattle.nm_packet.specs.Icmp.{icmp_fault, icmp_fields_of, IcmpHeader}
@@ -47,7 +47,7 @@ local_row table h payload = if is_fragment h then Fragment
 
 -- a packet that passes the header test
 unfoldable pub packet_row : NodeTable → Ipv4Fields → List ℕ → Row
-packet_row table h payload = if is_offending h.destination then BadDestination
+packet_row table h payload = if is_martian h.destination then BadDestination
     else (if is_own table h.destination then local_row table h payload
     else transit_row table.kind (route_of table.routes h.destination) h.time_to_live)
 

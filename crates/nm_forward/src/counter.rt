@@ -9,7 +9,7 @@ ghost use Rattle.nm_forward.specs.Counter.{counter_name, counter_number};
 pub enum Counter {
     /// The header test failed (RFC 791, section 3.1).
     Header,
-    /// The destination was an offending address.
+    /// The destination was a martian.
     BadDest,
     /// A host got a packet for another.
     NotMine,

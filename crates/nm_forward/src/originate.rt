@@ -87,12 +87,12 @@ fn is_error_message(payload: &[u8]) -> bool
 }
 
 /// Whether no error is sent about the packet (RFC 1812, section 4.3.2.7): it is a later fragment,
-/// it comes from an offending address, or it is an error itself.
+/// it comes from a martian, or it is an error itself.
 fn is_quiet(packet: &Ipv4View<'_>) -> bool
     ensures { result ≡ is_quiet packet.now }
 {
     packet.fragment_offset() != 0
-        || packet.source().is_offending()
+        || packet.source().is_martian()
         || (packet.protocol() == icmp::PROTOCOL && is_error_message(packet.payload()))
 }
 
@@ -142,7 +142,7 @@ pub fn reply(
     ensures { IfOk result (λ p. consequence p ≡ reply_of topology.now.ifaces state.now.table
         state.now.identification (fields_of packet.now) request.now) }
 {
-    if packet.source().is_offending() {
+    if packet.source().is_martian() {
         return Ok(Prepared::Counts(Counter::Quiet));
     }
     let reply = Outgoing {

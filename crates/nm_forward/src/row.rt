@@ -20,7 +20,7 @@ const ECHO_CODE: u8 = 0;
 pub enum Row<'a> {
     /// The header test fails (RFC 791, section 3.1).
     BadHeader,
-    /// To an offending address.
+    /// To a martian.
     BadDestination,
     /// To another node, at a host.
     NotMine,
@@ -80,7 +80,7 @@ pub fn packet_row<'a>(state: &NodeState, packet: &Ipv4View<'a>) -> Row<'a>
     ensures possible { IsPossible result (fields_of packet.now).time_to_live }
 {
     let destination = packet.destination();
-    if destination.is_offending() {
+    if destination.is_martian() {
         return Row::BadDestination;
     }
     if state.is_own(destination) {

@@ -25,7 +25,7 @@ fn without_a_header_are_dropped(rt: HostRuntime) -> Result<(), Fail> {
 }
 
 #[test]
-fn to_offending_addresses_are_dropped(rt: HostRuntime) -> Result<(), Fail> {
+fn to_martians_are_dropped(rt: HostRuntime) -> Result<(), Fail> {
     for (case, octets, want) in [
         (
             "to this network",
@@ -120,7 +120,7 @@ fn are_sent_on(rt: HostRuntime) -> Result<(), Fail> {
             "forwarded 2 45000017000020b93f11461b0a0000010a000102010203",
         ),
         (
-            "an offending source",
+            "a martian source",
             "4500001e000000004011f0cc7f0000010a00010203e80009000a89ffe7e6",
             "forwarded 2 4500001e000000003f11f1cc7f0000010a00010203e80009000a89ffe7e6",
         ),

@@ -142,7 +142,7 @@ fn as_echo_requests_are_replied_to(rt: HostRuntime) -> Result<(), Fail> {
             "echo originated 3 4500002100000000400165da0a0001020a0000010000b8270102030468656c6c6f",
         ),
         (
-            "from an offending source",
+            "from a martian source",
             "4500001c000000004001f0de7f0000010a0001020800f7f800070000",
             "echo quiet ",
         ),

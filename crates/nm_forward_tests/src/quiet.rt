@@ -99,7 +99,7 @@ fn later_fragments_give_none(rt: HostRuntime) -> Result<(), Fail> {
 }
 
 #[test]
-fn offending_sources_give_none(rt: HostRuntime) -> Result<(), Fail> {
+fn martian_sources_give_none(rt: HostRuntime) -> Result<(), Fail> {
     for (case, octets, want) in [
         (
             "this network",

@@ -69,7 +69,7 @@ fn offend_in_four_ranges(rt: HostRuntime) -> Result<(), Fail> {
         ("255.255.255.255", true),
     ] {
         let address = Address::parse(text.as_bytes()).ok_or("an address")?;
-        assert_eq!(rt; address.is_offending(), offends, "{text}");
+        assert_eq!(rt; address.is_martian(), offends, "{text}");
     }
     Ok(())
 }

@@ -81,8 +81,8 @@ b noroute 1
     Ok(())
 }
 
-/// To an offending address, to another host, a fragment, no ICMP, no UDP, an unknown protocol, a request from an
-/// offending address, and a datagram behind which two octets more came.
+/// To a martian, to another host, a fragment, no ICMP, no UDP, an unknown protocol, a request from an
+/// martian, and a datagram behind which two octets more came.
 #[test]
 fn each_row(rt: HostRuntime) -> Result<(), Fail> {
     let changes = [

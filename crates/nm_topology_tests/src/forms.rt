@@ -59,7 +59,7 @@ fn prefixes(rt: HostRuntime) -> Result<(), Fail> {
         ("0.0.0.0/0", 0),
         ("10.0.0.1/32", 0),
         ("10.0.0.2/31", 0),
-        // a prefix may hold offending addresses
+        // a prefix may hold martians
         ("127.0.0.0/8", 0),
         ("255.255.255.255/32", 0),
         ("10.0.0.1/24", 5),
