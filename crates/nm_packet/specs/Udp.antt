@@ -2,6 +2,7 @@
 use Rattle.std.specs.Prelude.{◌≡◌, ℕ, ◌+◌, ◌<◌, ◌≤◌, ◌⊎◌, ◌||◌, ◌&&◌, not, ◌==◌, nat_lt, List, ◌∷◌, ◌++◌, length, take, drop, Option, Some, None, if◌then◌else◌}
 use Rattle.nm_packet.specs.Octets.{word, long_word, word_at}
 use Rattle.nm_packet.specs.Checksum.{word_sum, folded, checksum_of}
+use Rattle.nm_packet.specs.declared.udp.Ports.{Ports}
 use Rattle.nm_packet.specs.declared.fault.UdpFault.{UdpFault}
 use Rattle.nm_packet.specs.declared.fault.UdpFault.TheVariants.{Short, Length, Checksum}
 
@@ -68,9 +69,13 @@ pub record IsDatagram (octets : List ℕ) : Type 0 where
   pub total : word_at octets 4 ≡ length octets
 
 -- the header that is written before data of so many octets, but for the checksum
-abbrev pub udp_header : ℕ → ℕ → ℕ → UdpHeader
-udp_header source_port destination_port size =
-    record { source_port = source_port; destination_port = destination_port; length = 8 + size; checksum = 0 }
+abbrev pub udp_header : Ports → ℕ → UdpHeader
+udp_header ports size = record {
+  source_port = ports.source;
+  destination_port = ports.destination;
+  length = 8 + size;
+  checksum = 0;
+}
 
 -- the checksum that is written where all other words have this sum: a 0 would say that there is none
 abbrev pub udp_checksum_of : ℕ → ℕ

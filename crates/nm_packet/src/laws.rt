@@ -2,6 +2,7 @@
 
 ghost use Rattle.std.specs.Prelude.{◌≡◌, ℕ, ◌+◌, ◌-◌, ◌*◌, ◌<◌, ◌≤◌, ◌⊎◌, ◌++◌, List, length, None};
 ghost use Rattle.nm_packet.specs.declared.icmp.TheConstants as icmp;
+ghost use Rattle.nm_packet.specs.declared.limits.TheConstants as limits;
 ghost use Rattle.nm_packet.specs.declared.udp.TheConstants as udp;
 ghost use Rattle.nm_packet.specs.Checksum.{updated_checksum};
 ghost use Rattle.nm_packet.specs.Ipv4.{Header, HeaderFits, IsIpv4, checked, cut_of, fields_of, header_fault, lowered, packet_octets, payload_of};
@@ -71,4 +72,31 @@ pub fn icmp_is_written_well()
 pub fn protocol_numbers()
     ensures icmp { icmp.PROTOCOL ≡ 1 }
     ensures udp { udp.PROTOCOL ≡ 17 }
+{}
+
+/// The numbers of the types of messages are those of RFC 792.
+pub fn message_types()
+    ensures echo_reply { icmp.ECHO_REPLY ≡ 0 }
+    ensures destination_unreachable { icmp.DESTINATION_UNREACHABLE ≡ 3 }
+    ensures source_quench { icmp.SOURCE_QUENCH ≡ 4 }
+    ensures redirect { icmp.REDIRECT ≡ 5 }
+    ensures echo_request { icmp.ECHO_REQUEST ≡ 8 }
+    ensures time_exceeded { icmp.TIME_EXCEEDED ≡ 11 }
+    ensures parameter_problem { icmp.PARAMETER_PROBLEM ≡ 12 }
+{}
+
+/// The numbers of their codes are those of RFC 792.
+pub fn message_codes()
+    ensures echo { icmp.ECHO_CODE ≡ 0 }
+    ensures network { icmp.NETWORK_UNREACHABLE ≡ 0 }
+    ensures protocol { icmp.PROTOCOL_UNREACHABLE ≡ 2 }
+    ensures port { icmp.PORT_UNREACHABLE ≡ 3 }
+    ensures in_transit { icmp.IN_TRANSIT ≡ 0 }
+{}
+
+/// How many octets fit, as numbers.
+pub fn greatest_sizes()
+    ensures payload { limits.MAX_PAYLOAD ≡ 65515 }
+    ensures packet_data { limits.MAX_PACKET_DATA ≡ 65507 }
+    ensures datagram_data { limits.MAX_DATAGRAM_DATA ≡ 65527 }
 {}
