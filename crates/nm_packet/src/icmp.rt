@@ -9,7 +9,7 @@ ghost use Rattle.nm_packet.specs.Octets.{word_at};
 use crate::checksum::sum_words;
 use crate::fault::IcmpFault;
 use crate::ipv4::{Ipv4Header, write_in_parts};
-use crate::octets::{word, word_at};
+use crate::octets::{set_word, word_at};
 use nm_base::Packet;
 use std::alloc::{AllocError, Global};
 use std::marker::Model;
@@ -105,9 +105,12 @@ impl<'a> Model for IcmpView<'a> {
 fn header_with(kind: MessageKind, checksum: u16, rest: [u8; 4]) -> [u8; HEADER_OCTETS]
     ensures { result ≡ icmp_octets (record (icmp_header kind rest) { checksum = checksum }) [] }
 {
-    let [c0, c1] = word(checksum);
-    let [r0, r1, r2, r3] = rest;
-    [kind.message_type, kind.code, c0, c1, r0, r1, r2, r3]
+    let mut octets = [0; HEADER_OCTETS];
+    octets[field::MESSAGE_TYPE] = kind.message_type;
+    octets[field::CODE] = kind.code;
+    set_word(&mut octets, field::CHECKSUM, checksum);
+    octets[field::REST..].copy_from_slice(&rest);
+    octets
 }
 
 /// The octets before these data, with their checksum.

@@ -10,7 +10,7 @@ use crate::Address;
 use crate::buffer::{MAX_CUT_OCTETS, PacketBuffer};
 use crate::checksum::{checksum_of, sum_header, updated_checksum};
 use crate::fault::HeaderFault;
-use crate::octets::{long_word_at, word, word_at};
+use crate::octets::{long_word_at, set_long_word, set_word, word_at};
 use bytes::Bytes;
 use nm_base::Packet;
 use std::alloc::{AllocError, Global};
@@ -255,34 +255,17 @@ impl Ipv4Header {
             ≡ header_octets (record (plain_header self size) { header_checksum = checksum }) }
         ensures fits { HeaderFits (record (plain_header self size) { header_checksum = checksum }) }
     {
-        let [l0, l1] = word(20 + size);
-        let [i0, i1] = word(self.identification);
-        let [c0, c1] = word(checksum);
-        let [s0, s1, s2, s3] = self.source.octets();
-        let [d0, d1, d2, d3] = self.destination.octets();
-        let (tos, ttl) = (self.type_of_service, self.time_to_live);
-        [
-            0x45,
-            tos,
-            l0,
-            l1,
-            i0,
-            i1,
-            0,
-            0,
-            ttl,
-            self.protocol,
-            c0,
-            c1,
-            s0,
-            s1,
-            s2,
-            s3,
-            d0,
-            d1,
-            d2,
-            d3,
-        ]
+        let mut octets = [0; LEAST_HEADER_OCTETS];
+        octets[field::VERSION_AND_IHL] = 0x45;
+        octets[field::TYPE_OF_SERVICE] = self.type_of_service;
+        set_word(&mut octets, field::TOTAL_LENGTH, 20 + size);
+        set_word(&mut octets, field::IDENTIFICATION, self.identification);
+        octets[field::TIME_TO_LIVE] = self.time_to_live;
+        octets[field::PROTOCOL] = self.protocol;
+        set_word(&mut octets, field::HEADER_CHECKSUM, checksum);
+        set_long_word(&mut octets, field::SOURCE, self.source.bits());
+        set_long_word(&mut octets, field::DESTINATION, self.destination.bits());
+        octets
     }
 
     /// The octets of the header before a payload of so many octets.
@@ -434,8 +417,6 @@ fn lower(octets: &mut [u8], time_to_live: u8, checksum: u16)
     requires checksum { checksum ≡ (checked (lowered (fields_of octets.old))).header_checksum }
     ensures { octets.new ≡ packet_octets (lowered (fields_of octets.old)) (payload_of octets.old) }
 {
-    let [high, low] = word(checksum);
     octets[field::TIME_TO_LIVE] = time_to_live;
-    octets[field::HEADER_CHECKSUM] = high;
-    octets[field::HEADER_CHECKSUM + 1] = low;
+    set_word(octets, field::HEADER_CHECKSUM, checksum);
 }

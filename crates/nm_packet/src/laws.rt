@@ -13,8 +13,8 @@ ghost use Rattle.nm_packet.specs.Icmp.{IcmpFits, IcmpHeader, IsIcmp, icmp_checke
 /// with one header and one payload at most.
 pub fn ipv4_is_read_as_made()
     ensures { (h : Header) (payload octets rest : List ℕ) → IsIpv4 h payload octets
-        → (header_fault (octets ++ rest) ≡ None) × (cut_of (octets ++ rest) ≡ octets) × (fields_of octets ≡ h)
-        × (payload_of octets ≡ payload) }
+        → (header_fault (octets ++ rest) ≡ None) × (cut_of (octets ++ rest) ≡ octets)
+        × (fields_of octets ≡ h) × (payload_of octets ≡ payload) }
 {}
 
 /// What is written of fields that fit is a packet with these fields and the checksum over all other words.
@@ -28,7 +28,8 @@ pub fn ipv4_is_written_well()
 /// place of 0000, which passes the test and is never written.
 pub fn ipv4_is_what_is_written()
     ensures { (h : Header) (payload octets : List ℕ) → IsIpv4 h payload octets
-        → (octets ≡ packet_octets h payload) ⊎ ((h.header_checksum ≡ 65535) × ((checked h).header_checksum ≡ 0)) }
+        → (octets ≡ packet_octets h payload)
+        ⊎ ((h.header_checksum ≡ 65535) × ((checked h).header_checksum ≡ 0)) }
 {}
 
 /// The checksum of the header one hop on, over all its other words, is also the one that RFC 1624 makes of the checksum
@@ -43,14 +44,14 @@ pub fn lowered_checksum_by_difference()
 pub fn udp_is_read_as_made()
     ensures { (source destination : ℕ) (h : UdpHeader) (payload octets rest : List ℕ)
         → IsUdp source destination h payload octets
-        → (udp_fault source destination (octets ++ rest) ≡ None) × (udp_cut_of (octets ++ rest) ≡ octets)
-        × (udp_fields_of octets ≡ h) × (udp_data_of octets ≡ payload) }
+        → (udp_fault source destination (octets ++ rest) ≡ None)
+        × (udp_cut_of (octets ++ rest) ≡ octets) × (udp_fields_of octets ≡ h) × (udp_data_of octets ≡ payload) }
 {}
 
 /// What is written of fields that fit is a datagram with these fields and a checksum that is not 0.
 pub fn udp_is_written_well()
-    ensures { (source destination : ℕ) (h : UdpHeader) (payload : List ℕ) → UdpFits (record h { checksum = 0 })
-        → h.length ≡ 8 + length payload
+    ensures { (source destination : ℕ) (h : UdpHeader) (payload : List ℕ)
+        → UdpFits (record h { checksum = 0 }) → h.length ≡ 8 + length payload
         → IsUdp source destination (udp_checked source destination h payload) payload
         (datagram_octets source destination h payload)
         × (0 < (udp_checked source destination h payload).checksum) }
@@ -59,7 +60,8 @@ pub fn udp_is_written_well()
 /// A message is read with the fields and the data that it was made of.
 pub fn icmp_is_read_as_made()
     ensures { (h : IcmpHeader) (payload octets : List ℕ) → IsIcmp h payload octets
-        → (icmp_fault octets ≡ None) × (icmp_fields_of octets ≡ h) × (icmp_data_of octets ≡ payload) }
+        → (icmp_fault octets ≡ None) × (icmp_fields_of octets ≡ h)
+        × (icmp_data_of octets ≡ payload) }
 {}
 
 /// What is written of fields that fit is a message with these fields and the checksum over all other words.

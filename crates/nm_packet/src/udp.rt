@@ -10,7 +10,7 @@ use crate::Address;
 use crate::checksum::sum_words;
 use crate::fault::UdpFault;
 use crate::ipv4::{Ipv4Header, write_in_parts};
-use crate::octets::{word, word_at};
+use crate::octets::{set_word, word, word_at};
 use nm_base::Packet;
 use std::alloc::{AllocError, Global};
 use std::marker::Model;
@@ -99,11 +99,12 @@ fn header_with(ports: Ports, size: u16, checksum: u16) -> [u8; HEADER_OCTETS]
     requires { size ≤ MAX_DATAGRAM_DATA }
     ensures { result ≡ udp_octets (record (udp_header ports size) { checksum = checksum }) [] }
 {
-    let [s0, s1] = word(ports.source);
-    let [d0, d1] = word(ports.destination);
-    let [l0, l1] = word(8 + size);
-    let [c0, c1] = word(checksum);
-    [s0, s1, d0, d1, l0, l1, c0, c1]
+    let mut octets = [0; HEADER_OCTETS];
+    set_word(&mut octets, field::SOURCE_PORT, ports.source);
+    set_word(&mut octets, field::DESTINATION_PORT, ports.destination);
+    set_word(&mut octets, field::LENGTH, 8 + size);
+    set_word(&mut octets, field::CHECKSUM, checksum);
+    octets
 }
 
 impl Udp {

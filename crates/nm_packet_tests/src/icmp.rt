@@ -1,6 +1,6 @@
 //! Messages at worked values.
 
-use nm_packet::{Icmp, IcmpFault};
+use nm_packet::{Icmp, IcmpFault, MessageKind};
 use std::alloc::Global;
 use std::test::Fail;
 
@@ -49,7 +49,8 @@ fn message(
     if data.len() > 65_527 {
         return Err("too long".into());
     }
-    Ok(Icmp::write(alloc, message_type, code, rest, data.as_slice())?)
+    let kind = MessageKind { message_type, code };
+    Ok(Icmp::write(alloc, kind, rest, data.as_slice())?)
 }
 
 #[test]

@@ -1,7 +1,8 @@
 //! Packets at worked values.
 
 use nm_packet::{
-    Address, HeaderFault, Icmp, Ipv4, Ipv4Header, PacketBuffer, Udp, lower_ttl, quote, write_ipv4,
+    Address, HeaderFault, Icmp, Ipv4, Ipv4Header, MessageKind, PacketBuffer, Ports, Udp, lower_ttl,
+    quote, write_ipv4,
 };
 use std::alloc::Global;
 use std::test::Fail;
@@ -223,7 +224,11 @@ fn are_written(rt: HostRuntime) -> Result<(), Fail> {
 #[test]
 fn are_written_with_a_datagram(rt: HostRuntime) -> Result<(), Fail> {
     let header = header(1, 17, [10, 0, 0, 1], [10, 0, 1, 2]);
-    let packet = Udp::write_packet(rt.alloc(), &header, 1000, 9, &[0; 72])?;
+    let ports = Ports {
+        source: 1000,
+        destination: 9,
+    };
+    let packet = Udp::write_packet(rt.alloc(), &header, ports, &[0; 72])?;
     let want = padded(
         rt.alloc(),
         "45000064000000000111a4870a0000010a00010203e800090050e65a",
@@ -242,7 +247,11 @@ fn are_written_with_a_message(rt: HostRuntime) -> Result<(), Fail> {
     )?;
     assert!(rt; quoted.len() <= 68);
     let header = header(64, 1, [10, 0, 0, 2], [10, 0, 0, 1]);
-    let error = Icmp::write_packet(rt.alloc(), &header, 11, 0, [0; 4], quoted.as_slice())?;
+    let kind = MessageKind {
+        message_type: 11,
+        code: 0,
+    };
+    let error = Icmp::write_packet(rt.alloc(), &header, kind, [0; 4], quoted.as_slice())?;
     let want = hex::decode(
         rt.alloc(),
         "4500003800000000400166c30a0000020a0000010b000a640000000045000064000000000111a4870a0000010a00010203e800090050e65a",

@@ -1,6 +1,6 @@
 //! Datagrams at worked values.
 
-use nm_packet::{Address, Udp, UdpFault};
+use nm_packet::{Address, Ports, Udp, UdpFault};
 use std::alloc::Global;
 use std::test::Fail;
 
@@ -17,7 +17,11 @@ fn datagram(alloc: Global, data: &str) -> Result<Vec<u8>, Fail> {
     if data.len() > 65_527 {
         return Err("too long".into());
     }
-    Ok(Udp::write(alloc, source(), destination(), 1000, 9, data.as_slice())?)
+    let ports = Ports {
+        source: 1000,
+        destination: 9,
+    };
+    Ok(Udp::write(alloc, source(), destination(), ports, data.as_slice())?)
 }
 
 #[test]
