@@ -15,9 +15,7 @@ use nm_packet::icmp::{
     DESTINATION_UNREACHABLE, ECHO_CODE, ECHO_REPLY, PARAMETER_PROBLEM, REDIRECT, SOURCE_QUENCH,
     TIME_EXCEEDED,
 };
-use nm_packet::{
-    Icmp, IcmpView, Ipv4Header, Ipv4View, MessageKind, Udp, icmp, quote, write_ipv4,
-};
+use nm_packet::{Icmp, IcmpView, Ipv4Header, Ipv4View, MessageKind, Udp, icmp, quote, write_ipv4};
 use nm_topology::Topology;
 use nm_topology::topology::accepted_topologies_are_in_order;
 use std::alloc::{AllocError, Global};

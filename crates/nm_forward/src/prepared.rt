@@ -24,7 +24,10 @@ pub enum Prepared {
 #[derive(Clone, Copy)]
 pub enum Body<'a> {
     /// A UDP datagram.
-    Datagram { ports: Ports, data: &'a [u8] },
+    Datagram {
+        ports: Ports,
+        data: &'a [u8],
+    },
     /// An ICMP message of these parts.
     Message {
         kind: MessageKind,

@@ -7,7 +7,7 @@ ghost use Rattle.nm_forward.specs.State.{Knows};
 ghost use Rattle.nm_forward.specs.Row.{IsPossible};
 ghost use Rattle.nm_forward.specs.Originate.{FitsPacket, concluded, consequence_of, originate};
 ghost use Rattle.nm_forward.specs.Prepared.{body_of, consequence, outgoing_of};
-ghost use Rattle.nm_forward.specs.Reaction.{FitsOrigin, FitsSource, FitsHeaders, arrived, datagram_of, handed, handed_by, reaction, request_of, sent_of};
+ghost use Rattle.nm_forward.specs.Reaction.{FitsOrigin, FitsSource, FitsHeaders, arrived, datagram_of, handed, handed_by, reaction, sent_of};
 
 use crate::counter::Counter;
 use crate::originate::{error, originate, reply};
@@ -120,8 +120,8 @@ fn prepare_consequence(
 ) -> Result<Prepared, AllocError>
     requires table { Knows topology.now state.old }
     requires possible { IsPossible row.now (fields_of packet.now).time_to_live }
-    ensures ok { IfOk result (λ p. consequence p ≡ consequence_of topology.now.ifaces state.old.table
-        state.old.identification packet.now row.now) }
+    ensures ok { IfOk result (λ p. consequence p ≡ consequence_of topology.now.ifaces
+        state.old.table state.old.identification packet.now row.now) }
     ensures same { state.new ≡ state.old }
 {
     match row {

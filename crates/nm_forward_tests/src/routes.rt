@@ -25,7 +25,7 @@ fn looked(routes: &Routes, octets: [u8; 4]) -> Option<u32> {
 
 #[test]
 fn take_the_longest(rt: HostRuntime) -> Result<(), Fail> {
-    let routes = Routes::new(
+    let routes = Routes::of(
         rt.alloc(),
         &[
             route([0, 0, 0, 0], 0, 0),
@@ -33,7 +33,7 @@ fn take_the_longest(rt: HostRuntime) -> Result<(), Fail> {
             route([10, 0, 1, 0], 24, 2),
         ],
     )?;
-    let others = Routes::new(
+    let others = Routes::of(
         rt.alloc(),
         &[route([10, 0, 0, 0], 8, 1), route([10, 0, 1, 0], 24, 2)],
     )?;
@@ -50,7 +50,7 @@ fn take_the_longest(rt: HostRuntime) -> Result<(), Fail> {
 
 #[test]
 fn take_one_address(rt: HostRuntime) -> Result<(), Fail> {
-    let routes = Routes::new(
+    let routes = Routes::of(
         rt.alloc(),
         &[
             route([10, 0, 0, 1], 32, 1),
@@ -75,7 +75,7 @@ fn take_one_address(rt: HostRuntime) -> Result<(), Fail> {
 
 #[test]
 fn lead_nowhere_where_there_are_none(rt: HostRuntime) -> Result<(), Fail> {
-    let routes = Routes::new(rt.alloc(), &[])?;
+    let routes = Routes::of(rt.alloc(), &[])?;
     assert_eq!(rt; looked(&routes, [0, 0, 0, 0]), None);
     assert_eq!(rt; looked(&routes, [255, 255, 255, 255]), None);
     Ok(())
@@ -131,7 +131,7 @@ fn scanned(routes: &[Route], address: u32) -> Option<u32> {
 #[test]
 fn are_those_of_a_scan(rt: HostRuntime) -> Result<(), Fail> {
     let all = many_routes(rt.alloc())?;
-    let routes = Routes::new(rt.alloc(), &all)?;
+    let routes = Routes::of(rt.alloc(), &all)?;
     let mut seed = 2;
     for _ in 0..2_000 {
         seed = next(seed);

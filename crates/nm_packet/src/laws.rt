@@ -45,7 +45,8 @@ pub fn udp_is_read_as_made()
     ensures { (source destination : ℕ) (h : UdpHeader) (payload octets rest : List ℕ)
         → IsUdp source destination h payload octets
         → (udp_fault source destination (octets ++ rest) ≡ None)
-        × (udp_cut_of (octets ++ rest) ≡ octets) × (udp_fields_of octets ≡ h) × (udp_data_of octets ≡ payload) }
+        × (udp_cut_of (octets ++ rest) ≡ octets) × (udp_fields_of octets ≡ h)
+        × (udp_data_of octets ≡ payload) }
 {}
 
 /// What is written of fields that fit is a datagram with these fields and a checksum that is not 0.
