@@ -10,7 +10,7 @@ use Rattle.nm_topology.specs.declared.traffic.Traffic.TheVariants.{Cbr, Echo, Ra
 use Rattle.nm_topology.specs.PartValues.{IfaceValue}
 use Rattle.nm_forward.specs.declared.reaction.Reaction.{Reaction}
 use Rattle.nm_topology.specs.TopologyValue.{TopologyValue}
-use Rattle.nm_forward.specs.State.{NodeTable, NodeStateValue, table_of, counted}
+use Rattle.nm_forward.specs.State.{NodeTable, NodeStateValue, table_of, state_counted}
 use Rattle.nm_forward.specs.Row.{arrival_row, row_counter}
 use Rattle.nm_forward.specs.Originate.{consequence_of, Consequence, Nothing, Counts, Sends, Originates, originate, concluded}
 use Rattle.nm_forward.specs.Reaction.{handed, handed_by, reaction, arrived, sent_of}
@@ -26,7 +26,7 @@ pub arrived-table : (ifaces : List IfaceValue) (table : NodeTable) (n : NodeStat
 unfolding arrived
 arrived-table ifaces table n x =
     concluded-table (consequence_of ifaces table n.identification (cut_of x) (arrival_row table x))
-    (counted (row_counter (arrival_row table x)) n)
+    (state_counted (row_counter (arrival_row table x)) n)
 
 module _ (t : TopologyValue) (v : ℕ) (n : NodeStateValue) (x : List ℕ) where
   handed-table : (traffic : Traffic)

@@ -13,7 +13,7 @@ use Rattle.nm_topology.specs.declared.traffic.Traffic.TheVariants.{Cbr, Echo, Ra
 use Rattle.nm_topology.specs.TopologyValue.{TopologyValue}
 use Rattle.nm_topology.specs.Accepted.{IsInOrder, IsPlaced, LeavesByOwn, owners_of}
 use Rattle.nm_forward.specs.declared.counter.Counter.TheVariants as count
-use Rattle.nm_forward.specs.State.{IsIfaceOf, NodeStateValue, table_of, counted}
+use Rattle.nm_forward.specs.State.{IsIfaceOf, NodeStateValue, table_of, state_counted}
 use Rattle.nm_forward.specs.Row.{arrival_row, row_counter}
 use Rattle.nm_forward.specs.Originate.{consequence_of, Sends, originate, Outgoing}
 use Rattle.nm_forward.specs.Reaction.{arrived, handed, handed_by, reaction}
@@ -48,10 +48,10 @@ module _ (t : TopologyValue) (order : IsInOrder t.nodes t.ifaces t.links) (v : �
       concluded-sent P
       (consequence_of t.ifaces (table_of t v) n.identification (cut_of x)
       (arrival_row (table_of t v) x))
-      (counted (row_counter (arrival_row (table_of t v) x)) n) s
+      (state_counted (row_counter (arrival_row (table_of t v) x)) n) s
       (consequence_of-sent P t.ifaces (table_of t v) n.identification (cut_of x)
       (arrival_row (table_of t v) x)
-      (λ message_type code. out-own _) (λ request f. out-own _)
+      (λ kind. out-own _) (λ request f. out-own _)
       (λ via f. routed-all (IsIfaceOf t.ifaces v) (table_of t v).routes _ via (own_routes t order v)
       (forwarded-from (table_of t v) x via f).1))
       e
@@ -63,7 +63,7 @@ module _ (t : TopologyValue) (order : IsInOrder t.nodes t.ifaces t.links) (v : �
   handed-own (Echo c) own s e = concluded-sent P
       (originate t.ifaces (table_of t v) n.identification _) n s (out-own _) e
   handed-own (Raw r) own s e =
-      concluded-sent P (Sends r.via x) (counted count.Raw n) s
+      concluded-sent P (Sends r.via x) (state_counted count.Raw n) s
       (subst (λ k. (r.via < k) × (slice_index (owners_of t.ifaces) r.via ≡ v))
       (length-map t.ifaces (λ i. i.node)) own) e
 

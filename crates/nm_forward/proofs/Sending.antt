@@ -1,7 +1,8 @@
 -- What holds of each packet that a node sends, and of the interface by which it is sent.
 use Rattle.std.proofs.Common.{◌≡◌, ℕ, Bool, true, false, cond, List, Option, Some, None, refl, subst}
 use Rattle.std.specs.Prelude.{is_some, nat_le, ◌==◌}
-use Rattle.nm_packet.specs.Address.{is_offending}
+use Rattle.nm_packet.specs.declared.icmp.MessageKind.{MessageKind}
+use Rattle.nm_packet.specs.Address.{is_martian}
 use Rattle.nm_packet.specs.Ipv4.{Header, header_fault, cut_of, fields_of, payload_of, packet_octets, lowered}
 use Rattle.nm_packet.specs.Udp.{udp_fault, udp_cut_of, udp_fields_of}
 use Rattle.nm_packet.specs.Icmp.{icmp_fault, icmp_fields_of}
@@ -14,7 +15,7 @@ use Rattle.nm_forward.specs.declared.row.Row.TheVariants.{BadHeader, BadDestinat
 use Rattle.nm_forward.specs.Routes.{route_of}
 use Rattle.nm_forward.specs.State.{NodeTable, NodeStateValue, is_own, listens}
 use Rattle.nm_forward.specs.Row.{transit_row, is_echo_request, icmp_row, udp_row, is_fragment, local_row, packet_row, arrival_row}
-use Rattle.nm_forward.specs.Originate.{consequence_of, Consequence, Nothing, Counts, Sends, Originates, Outgoing, originated_header, written, originate_by, originate, is_quiet, error_about, error_of, reply_to, reply_of, concluded}
+use Rattle.nm_forward.specs.Originate.{consequence_of, Consequence, Nothing, Counts, Sends, Originates, Outgoing, originated_header, packet_written, originate_by, originate, is_quiet, no_network, no_protocol, no_port, expired, error_about, error_of, reply_to, reply_of, concluded}
 
 -- of the packet that a consequence sends, and its interface
 abbrev pub OnSent : (ℕ → List ℕ → Type 0) → Consequence → Type 0
@@ -37,14 +38,14 @@ module _ (P : ℕ → List ℕ → Type 0) (ifaces : List IfaceValue) (table : N
   -- a packet that is originated leaves by a route
   pub originate-sent : (out : Outgoing)
       → ((via source : ℕ) → route_of table.routes out.destination ≡ Some via
-      → P via (written (originated_header identification out source) out.body))
+      → P via (packet_written (originated_header identification out source) out.body))
       → OnSent P (originate ifaces table identification out)
   unfolding originate
   originate-sent out h = by (is_own table out.destination)
       (route_of table.routes out.destination) h where
         by : (b : Bool) (o : Option ℕ)
             → ((via source : ℕ) → o ≡ Some via
-            → P via (written (originated_header identification out source) out.body))
+            → P via (packet_written (originated_header identification out source) out.body))
             → OnSent P (cond b (Counts ToSelf) (originate_by ifaces table identification out o))
         by true o f = tt
         by false None f = tt
@@ -54,23 +55,23 @@ module _ (P : ℕ → List ℕ → Type 0) (ifaces : List IfaceValue) (table : N
   unless-quiet true c h = tt
   unless-quiet false c h = h
 
-  pub error_of-sent : (p : List ℕ) (message_type code : ℕ)
-      → OnSent P (originate ifaces table identification (error_about p message_type code))
-      → OnSent P (error_of ifaces table identification p message_type code)
+  pub error_of-sent : (p : List ℕ) (kind : MessageKind)
+      → OnSent P (originate ifaces table identification (error_about p kind))
+      → OnSent P (error_of ifaces table identification p kind)
   unfolding error_of
-  error_of-sent p message_type code h = unless-quiet (is_quiet p)
-      (originate ifaces table identification (error_about p message_type code)) h
+  error_of-sent p kind h = unless-quiet (is_quiet p)
+      (originate ifaces table identification (error_about p kind)) h
 
   pub reply_of-sent : (h : Header) (request : List ℕ)
       → OnSent P (originate ifaces table identification (reply_to h request))
       → OnSent P (reply_of ifaces table identification h request)
   unfolding reply_of
-  reply_of-sent h request g = unless-quiet (is_offending h.source)
+  reply_of-sent h request g = unless-quiet (is_martian h.source)
       (originate ifaces table identification (reply_to h request)) g
 
   pub consequence_of-sent : (p : List ℕ) (row : Row)
-      → ((message_type code : ℕ)
-      → OnSent P (originate ifaces table identification (error_about p message_type code)))
+      → ((kind : MessageKind)
+      → OnSent P (originate ifaces table identification (error_about p kind)))
       → ((request : List ℕ) → row ≡ EchoRequest request
       → OnSent P (originate ifaces table identification (reply_to (fields_of p) request)))
       → ((via : ℕ) → row ≡ Forward via
@@ -79,8 +80,8 @@ module _ (P : ℕ → List ℕ → Type 0) (ifaces : List IfaceValue) (table : N
   consequence_of-sent p BadHeader errors replies forward = tt
   consequence_of-sent p BadDestination errors replies forward = tt
   consequence_of-sent p NotMine errors replies forward = tt
-  consequence_of-sent p Unreachable errors replies forward = error_of-sent p 3 0 (errors 3 0)
-  consequence_of-sent p Expired errors replies forward = error_of-sent p 11 0 (errors 11 0)
+  consequence_of-sent p Unreachable errors replies forward = error_of-sent p no_network (errors no_network)
+  consequence_of-sent p Expired errors replies forward = error_of-sent p expired (errors expired)
   consequence_of-sent p (Forward via) errors replies forward = forward via refl
   consequence_of-sent p Fragment errors replies forward = tt
   consequence_of-sent p BadIcmp errors replies forward = tt
@@ -89,8 +90,8 @@ module _ (P : ℕ → List ℕ → Type 0) (ifaces : List IfaceValue) (table : N
   consequence_of-sent p OtherIcmp errors replies forward = tt
   consequence_of-sent p BadUdp errors replies forward = tt
   consequence_of-sent p Delivered errors replies forward = tt
-  consequence_of-sent p ClosedPort errors replies forward = error_of-sent p 3 3 (errors 3 3)
-  consequence_of-sent p UnknownProtocol errors replies forward = error_of-sent p 3 2 (errors 3 2)
+  consequence_of-sent p ClosedPort errors replies forward = error_of-sent p no_port (errors no_port)
+  consequence_of-sent p UnknownProtocol errors replies forward = error_of-sent p no_protocol (errors no_protocol)
 
 -- where a row that sends something comes from: a route, or the payload; the header test passed
 abbrev pub ComesFrom : NodeTable → List ℕ → Row → Type 0
@@ -139,7 +140,7 @@ module _ (table : NodeTable) (x : List ℕ) where
 
     packet : ComesFrom table x (packet_row table h payload)
     unfolding packet_row
-    packet = either (is_offending h.destination) BadDestination _ tt
+    packet = either (is_martian h.destination) BadDestination _ tt
         (either (is_own table h.destination) (local_row table h payload) _ local
         (transit table.kind (route_of table.routes h.destination) h.time_to_live refl))
 

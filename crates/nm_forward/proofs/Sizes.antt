@@ -7,6 +7,8 @@ use Rattle.nm_base.specs.declared.event.Origin.{Origin}
 use Rattle.nm_base.specs.declared.event.Origin.TheVariants.{Arrival, Source as FromSource}
 use Rattle.nm_packet.specs.declared.fault.HeaderFault.TheVariants.{Short, Version, Ihl, Checksum, Total}
 use Rattle.nm_packet.specs.declared.ipv4.Ipv4Header.{Ipv4Header}
+use Rattle.nm_packet.specs.declared.udp.Ports.{Ports}
+use Rattle.nm_packet.specs.declared.icmp.MessageKind.{MessageKind}
 use Rattle.nm_packet.specs.Octets.{word_at}
 use Rattle.nm_packet.specs.Checksum.{folded, word_sum}
 use Rattle.nm_packet.specs.Ipv4.{Header, header_fault, header_length_of, header_of, cut_of, fields_of, payload_of, packet_octets, plain_header, lowered, quote_of}
@@ -16,9 +18,9 @@ use Rattle.nm_topology.specs.declared.traffic.Traffic.{Traffic}
 use Rattle.nm_topology.specs.declared.traffic.Traffic.TheVariants.{Cbr, Echo, Raw}
 use Rattle.nm_topology.specs.TopologyValue.{TopologyValue}
 use Rattle.nm_forward.specs.declared.counter.Counter.TheVariants as count
-use Rattle.nm_forward.specs.State.{NodeStateValue, table_of, counted}
+use Rattle.nm_forward.specs.State.{NodeStateValue, table_of, state_counted}
 use Rattle.nm_forward.specs.Row.{arrival_row, row_counter}
-use Rattle.nm_forward.specs.Originate.{consequence_of, Sends, Body, Datagram, Message, Outgoing, body_octets, originated_header, written, originate, error_about, reply_to}
+use Rattle.nm_forward.specs.Originate.{consequence_of, Sends, Body, Datagram, Message, Outgoing, body_octets, originated_header, packet_written, originate, echo_reply, error_about, reply_to}
 use Rattle.nm_forward.specs.Reaction.{arrived, handed, handed_by, reaction, FitsHeaders, FitsSource, FitsOrigin}
 use Rattle.nm_forward.proofs.Sending.{OnSent, concluded-sent, originate-sent, consequence_of-sent, forwarded-from, request-from}
 
@@ -35,20 +37,20 @@ abbrev pub IsSized : ℕ → List ℕ → Type 0
 IsSized via x = (1 ≤ length x) × (length x ≤ 65535)
 
 pub written-sized : (h : Ipv4Header) (body : Body) (via : ℕ) → IsSmall body
-    → IsSized via (written h body)
+    → IsSized via (packet_written h body)
 written-sized h body via small =
     let octets : List ℕ = body_octets h.source h.destination body in
     let s : length octets ≤ 65515 = small h.source h.destination in
     let e = length-packet (plain_header h (length octets)) octets in
     (omega (arith, e), omega (arith, e, s))
 
-pub small-datagram : (source_port destination_port : ℕ) (payload : List ℕ) → length payload ≤ 65507
-    → IsSmall (Datagram source_port destination_port payload)
-small-datagram source_port destination_port payload h = λ source destination. omega (arith, h)
+pub small-datagram : (ports : Ports) (payload : List ℕ) → length payload ≤ 65507
+    → IsSmall (Datagram ports payload)
+small-datagram ports payload h = λ source destination. omega (arith, h)
 
-pub small-message : (message_type code : ℕ) (rest payload : List ℕ)
-    → length rest + length payload ≤ 65511 → IsSmall (Message message_type code rest payload)
-small-message message_type code rest payload h =
+pub small-message : (kind : MessageKind) (rest payload : List ℕ)
+    → length rest + length payload ≤ 65511 → IsSmall (Message kind rest payload)
+small-message kind rest payload h =
     λ source destination. omega (arith, h, length-append rest payload)
 
 -- an error is small
@@ -126,11 +128,11 @@ module _ (t : TopologyValue) (v : ℕ) (n : NodeStateValue) (x : List ℕ) (leas
       let short = cut-length x in
       concluded-sent IsSized
       (consequence_of t.ifaces (table_of t v) n.identification p (arrival_row (table_of t v) x))
-      (counted (row_counter (arrival_row (table_of t v) x)) n) s
+      (state_counted (row_counter (arrival_row (table_of t v) x)) n) s
       (consequence_of-sent IsSized t.ifaces (table_of t v) n.identification p
       (arrival_row (table_of t v) x)
-      (λ message_type code. out-sized (error_about p message_type code)
-      (small-message message_type code (0 ∷ 0 ∷ 0 ∷ 0 ∷ []) (quote_of p)
+      (λ kind. out-sized (error_about p kind)
+      (small-message kind (0 ∷ 0 ∷ 0 ∷ 0 ∷ []) (quote_of p)
       (let q = small-quote p in omega (arith, q))))
       (λ request f.
       let from = request-from (table_of t v) x request f in
@@ -138,7 +140,7 @@ module _ (t : TopologyValue) (v : ℕ) (n : NodeStateValue) (x : List ℕ) (leas
       subst (λ r. length r ≤ 65515) (sym from.1)
       (let g = header-least x from.0 in let d =
       length-drop (header_length_of p) p in omega (arith, d, g, short, most)) in
-      out-sized (reply_to (fields_of p) request) (small-message 0 0 _ _ (small-reply request size)))
+      out-sized (reply_to (fields_of p) request) (small-message echo_reply _ _ (small-reply request size)))
       (λ via f. forward-sized p via (omega (arith, short, most))
       (header-least x (forwarded-from (table_of t v) x via f).0)))
       e
@@ -147,7 +149,8 @@ module _ (t : TopologyValue) (v : ℕ) (n : NodeStateValue) (x : List ℕ) (leas
       → (handed t.ifaces (table_of t v) n traffic x).1 ≡ Some s → IsSized s.0 s.1
   handed-sized (Cbr c) fits s e =
       concluded-sent IsSized (originate t.ifaces (table_of t v) n.identification _) n s
-      (out-sized _ (small-datagram c.source_port c.destination_port _
+      (out-sized _ (small-datagram
+      (record { source = c.source_port; destination = c.destination_port }) _
       (sent (c.flow.size == 0)))) e where
         sent : (b : Bool) → length (cond b [] x) ≤ 65507
         sent true = omega arith
@@ -155,7 +158,7 @@ module _ (t : TopologyValue) (v : ℕ) (n : NodeStateValue) (x : List ℕ) (leas
   handed-sized (Echo c) fits s e = concluded-sent IsSized
       (originate t.ifaces (table_of t v) n.identification _) n s
       (out-sized _ (λ source destination. fits)) e
-  handed-sized (Raw r) fits s e = concluded-sent IsSized (Sends r.via x) (counted count.Raw n) s
+  handed-sized (Raw r) fits s e = concluded-sent IsSized (Sends r.via x) (state_counted count.Raw n) s
       (least, most) e
 
   by-sized : (o : Option Source) → FitsSource o x → (s : ℕ × List ℕ)

@@ -2,7 +2,11 @@
 use Rattle.std.specs.Prelude.{ℕ, ◌≤◌, Bool, true, ◌||◌, ◌&&◌, not, ◌==◌, if◌then◌else◌, List, [], ◌∷◌, length, Option, Some, None, unwrap_or, slice_get}
 use Rattle.std.specs.Option.{option_map_or}
 use Rattle.nm_packet.specs.declared.ipv4.Ipv4Header.{Ipv4Header}
-use Rattle.nm_packet.specs.Address.{is_offending}
+use Rattle.nm_packet.specs.declared.udp.Ports.{Ports}
+use Rattle.nm_packet.specs.declared.icmp.MessageKind.{MessageKind}
+use Rattle.nm_packet.specs.declared.icmp.TheConstants.{ECHO_REPLY, DESTINATION_UNREACHABLE, SOURCE_QUENCH, REDIRECT, TIME_EXCEEDED, PARAMETER_PROBLEM, ECHO_CODE, NETWORK_UNREACHABLE, PROTOCOL_UNREACHABLE, PORT_UNREACHABLE, IN_TRANSIT}
+use Rattle.nm_packet.specs.declared.limits.TheConstants.{MAX_PACKET_DATA, MAX_PAYLOAD}
+use Rattle.nm_packet.specs.Address.{is_martian}
 use Rattle.nm_packet.specs.Ipv4.{Header, fields_of, payload_of, lowered, packet_octets, plain_header, quote_of}
 use Rattle.nm_packet.specs.Udp.{udp_header, datagram_octets}
 use Rattle.nm_packet.specs.Icmp.{icmp_header, icmp_fields_of, icmp_data_of, message_octets}
@@ -12,7 +16,7 @@ use Rattle.nm_forward.specs.declared.counter.Counter.TheVariants.{Quiet, ToSelf,
 use Rattle.nm_forward.specs.declared.row.Row.{Row}
 use Rattle.nm_forward.specs.declared.row.Row.TheVariants.{BadHeader, BadDestination, NotMine, Unreachable, Expired, Forward, Fragment, BadIcmp, EchoRequest, OtherIcmp, BadUdp, Delivered, ClosedPort, UnknownProtocol}
 use Rattle.nm_forward.specs.Routes.{route_of}
-use Rattle.nm_forward.specs.State.{NodeTable, NodeStateValue, is_own, counted, after_originating}
+use Rattle.nm_forward.specs.State.{NodeTable, NodeStateValue, is_own, state_counted, after_originating}
 
 -- what follows the counter of a row: nothing, a further counter alone, a packet that is sent on by
 -- an interface, or one that is originated
@@ -25,9 +29,9 @@ pub data Consequence : Type 0 where
 -- the payload of a packet that is originated
 pub data Body : Type 0 where
   -- a UDP datagram between these ports, with these data
-  Datagram : ℕ → ℕ → List ℕ → Body
-  -- an ICMP message of this type and code, with this rest of the header and these data
-  Message : ℕ → ℕ → List ℕ → List ℕ → Body
+  Datagram : Ports → List ℕ → Body
+  -- an ICMP message of this kind, with this rest of the header and these data
+  Message : MessageKind → List ℕ → List ℕ → Body
   -- an ICMP message, octet by octet
   Whole : List ℕ → Body
 
@@ -40,17 +44,16 @@ pub record Outgoing : Type 0 where
   pub body : Body
 
 abbrev pub protocol_of : Body → ℕ
-protocol_of (Datagram source_port destination_port payload) = 17
-protocol_of (Message message_type code rest payload) = 1
+protocol_of (Datagram ports payload) = 17
+protocol_of (Message kind rest payload) = 1
 protocol_of (Whole octets) = 1
 
 -- the octets of the payload in a packet between these addresses
 abbrev pub body_octets : ℕ → ℕ → Body → List ℕ
-body_octets source destination (Datagram source_port destination_port payload) =
-    datagram_octets source destination
-    (udp_header source_port destination_port (length payload)) payload
-body_octets source destination (Message message_type code rest payload) =
-    message_octets (icmp_header message_type code rest) payload
+body_octets source destination (Datagram ports payload) =
+    datagram_octets source destination (udp_header ports (length payload)) payload
+body_octets source destination (Message kind rest payload) =
+    message_octets (icmp_header kind rest) payload
 body_octets source destination (Whole octets) = octets
 
 -- the header of a packet of this identification from this address: no options, type of service 0,
@@ -66,15 +69,15 @@ originated_header identification out source = record {
 }
 
 -- the octets of a packet with this header
-abbrev pub written : Ipv4Header → Body → List ℕ
-written h body = let payload : List ℕ = body_octets h.source h.destination body in
+abbrev pub packet_written : Ipv4Header → Body → List ℕ
+packet_written h body = let payload : List ℕ = body_octets h.source h.destination body in
     packet_octets (plain_header h (length payload)) payload
 
 -- the greatest payload that fits a packet
 abbrev pub FitsPacket : Body → Type 0
-FitsPacket (Datagram source_port destination_port payload) = length payload ≤ 65507
-FitsPacket (Message message_type code rest payload) = length payload ≤ 65507
-FitsPacket (Whole octets) = length octets ≤ 65515
+FitsPacket (Datagram ports payload) = length payload ≤ MAX_PACKET_DATA
+FitsPacket (Message kind rest payload) = length payload ≤ MAX_PACKET_DATA
+FitsPacket (Whole octets) = length octets ≤ MAX_PAYLOAD
 
 -- the address of an interface, 0 where it isn't there
 abbrev pub iface_address : List IfaceValue → ℕ → ℕ
@@ -85,20 +88,40 @@ iface_address ifaces via = option_map_or (λ i. i.address) (slice_get ifaces via
 -- type
 abbrev pub is_error_message : List ℕ → Bool
 is_error_message [] = true
-is_error_message (t ∷ rest) = (t == 3) || (t == 4) || (t == 5) || (t == 11) || (t == 12)
+is_error_message (t ∷ rest) = (t == DESTINATION_UNREACHABLE) || (t == SOURCE_QUENCH)
+    || (t == REDIRECT) || (t == TIME_EXCEEDED) || (t == PARAMETER_PROBLEM)
 
 -- whether no error is sent about the packet
 abbrev pub is_quiet : List ℕ → Bool
-is_quiet p = not ((fields_of p).fragment_offset == 0) || is_offending (fields_of p).source
+is_quiet p = not ((fields_of p).fragment_offset == 0) || is_martian (fields_of p).source
     || (((fields_of p).protocol == 1) && is_error_message (payload_of p))
 
--- the error of this type and code about the packet (RFC 792)
-abbrev pub error_about : List ℕ → ℕ → ℕ → Outgoing
-error_about p message_type code = record {
+-- the kinds of errors that a node sends: no route leads to the network (RFC 1812, section 5.2.7.1),
+-- the protocol is unknown, nothing listens at the port (RFC 792, page 4), and the time to live is
+-- over (RFC 1812, section 5.3.1)
+abbrev pub no_network : MessageKind
+no_network = record { message_type = DESTINATION_UNREACHABLE; code = NETWORK_UNREACHABLE }
+
+abbrev pub no_protocol : MessageKind
+no_protocol = record { message_type = DESTINATION_UNREACHABLE; code = PROTOCOL_UNREACHABLE }
+
+abbrev pub no_port : MessageKind
+no_port = record { message_type = DESTINATION_UNREACHABLE; code = PORT_UNREACHABLE }
+
+abbrev pub expired : MessageKind
+expired = record { message_type = TIME_EXCEEDED; code = IN_TRANSIT }
+
+-- an echo reply (RFC 792, page 14)
+abbrev pub echo_reply : MessageKind
+echo_reply = record { message_type = ECHO_REPLY; code = ECHO_CODE }
+
+-- the error of this kind about the packet (RFC 792)
+abbrev pub error_about : List ℕ → MessageKind → Outgoing
+error_about p kind = record {
   source = None;
   destination = (fields_of p).source;
   time_to_live = 64;
-  body = Message message_type code (0 ∷ 0 ∷ 0 ∷ 0 ∷ []) (quote_of p);
+  body = Message kind (0 ∷ 0 ∷ 0 ∷ 0 ∷ []) (quote_of p);
 }
 
 -- the reply to an echo request: from where it was sent to, with its identifier, sequence number and
@@ -108,7 +131,7 @@ reply_to h request = record {
   source = Some h.destination;
   destination = h.source;
   time_to_live = 64;
-  body = Message 0 0 (icmp_fields_of request).rest (icmp_data_of request);
+  body = Message echo_reply (icmp_fields_of request).rest (icmp_data_of request);
 }
 
 -- what a node with these interfaces, tables and identification originates
@@ -118,22 +141,21 @@ module _ (ifaces : List IfaceValue) (table : NodeTable) (identification : ℕ) w
   originate_by out None = Counts NoRoute
   originate_by out (Some via) =
       let source : ℕ = unwrap_or out.source (iface_address ifaces via) in
-      Originates via (written (originated_header identification out source) out.body)
+      Originates via (packet_written (originated_header identification out source) out.body)
 
   -- never to an address of the node itself, and only where a route leads (own)
   unfoldable pub originate : Outgoing → Consequence
   originate out = if is_own table out.destination then Counts ToSelf
       else originate_by out (route_of table.routes out.destination)
 
-  -- an error about the packet p, of this type and code (RFC 792)
-  unfoldable pub error_of : List ℕ → ℕ → ℕ → Consequence
-  error_of p message_type code =
-      if is_quiet p then Counts Quiet else originate (error_about p message_type code)
+  -- an error about the packet p, of this kind (RFC 792)
+  unfoldable pub error_of : List ℕ → MessageKind → Consequence
+  error_of p kind = if is_quiet p then Counts Quiet else originate (error_about p kind)
 
   -- a reply to an echo request that came behind this header (RFC 792)
   unfoldable pub reply_of : Header → List ℕ → Consequence
   reply_of h request =
-      if is_offending h.source then Counts Quiet else originate (reply_to h request)
+      if is_martian h.source then Counts Quiet else originate (reply_to h request)
 
   -- What follows a row for the packet p. Errors: network unreachable (RFC 1812, section 5.2.7.1),
   -- time exceeded (RFC 1812, section 5.3.1), port and protocol unreachable (RFC 792). A packet that
@@ -142,8 +164,8 @@ module _ (ifaces : List IfaceValue) (table : NodeTable) (identification : ℕ) w
   consequence_of p BadHeader = Nothing
   consequence_of p BadDestination = Nothing
   consequence_of p NotMine = Nothing
-  consequence_of p Unreachable = error_of p 3 0
-  consequence_of p Expired = error_of p 11 0
+  consequence_of p Unreachable = error_of p no_network
+  consequence_of p Expired = error_of p expired
   consequence_of p (Forward via) =
       Sends via (packet_octets (lowered (fields_of p)) (payload_of p))
   consequence_of p Fragment = Nothing
@@ -152,16 +174,16 @@ module _ (ifaces : List IfaceValue) (table : NodeTable) (identification : ℕ) w
   consequence_of p OtherIcmp = Nothing
   consequence_of p BadUdp = Nothing
   consequence_of p Delivered = Nothing
-  consequence_of p ClosedPort = error_of p 3 3
-  consequence_of p UnknownProtocol = error_of p 3 2
+  consequence_of p ClosedPort = error_of p no_port
+  consequence_of p UnknownProtocol = error_of p no_protocol
 
 -- the state after, and what is sent by which interface
-abbrev pub Outcome : Type 0
-Outcome = NodeStateValue × Option (ℕ × List ℕ)
+abbrev pub Reacted : Type 0
+Reacted = NodeStateValue × Option (ℕ × List ℕ)
 
 -- the outcome of a consequence
-abbrev pub concluded : Consequence → NodeStateValue → Outcome
+abbrev pub concluded : Consequence → NodeStateValue → Reacted
 concluded Nothing n = (n, None)
-concluded (Counts c) n = (counted c n, None)
+concluded (Counts c) n = (state_counted c n, None)
 concluded (Sends via x) n = (n, Some (via, x))
 concluded (Originates via x) n = (after_originating n, Some (via, x))

@@ -13,9 +13,8 @@ consequence (prepared.Sends via twin) = Sends via twin.packet
 consequence (prepared.Originates via twin) = Originates via twin.packet
 
 abbrev pub body_of : program.Body → Body
-body_of (body.Datagram source_port destination_port payload) =
-    Datagram source_port destination_port payload.now
-body_of (body.Message message_type code rest payload) = Message message_type code rest payload.now
+body_of (body.Datagram ports payload) = Datagram ports payload.now
+body_of (body.Message kind rest payload) = Message kind rest payload.now
 body_of (body.Whole octets) = Whole octets.now
 
 abbrev pub outgoing_of : program_out.Outgoing → Outgoing

@@ -2,6 +2,7 @@
 use Rattle.std.specs.Prelude.{ℕ, ◌==◌, ◌≤◌, if◌then◌else◌, List, [], length, Option, Some, None, slice_get}
 use Rattle.nm_base.specs.declared.event.Origin.{Origin}
 use Rattle.nm_base.specs.declared.event.Origin.TheVariants.{Arrival, Source as FromSource}
+use Rattle.nm_packet.specs.declared.limits.TheConstants.{MAX_PACKET_DATA, MAX_PAYLOAD}
 use Rattle.nm_packet.specs.Ipv4.{cut_of}
 use Rattle.nm_topology.specs.declared.traffic.Source.{Source}
 use Rattle.nm_topology.specs.declared.traffic.Cbr.{Cbr as CbrTraffic}
@@ -14,15 +15,15 @@ use Rattle.nm_forward.specs.declared.row.Row.{Row}
 use Rattle.nm_forward.specs.declared.counter.Counter.TheVariants as count
 use Rattle.nm_forward.specs.declared.reaction.Reaction.{Reaction}
 use Rattle.nm_forward.specs.declared.reaction.Reaction.TheVariants as sent
-use Rattle.nm_forward.specs.State.{NodeTable, NodeStateValue, table_of, counted}
+use Rattle.nm_forward.specs.State.{NodeTable, NodeStateValue, table_of, state_counted}
 use Rattle.nm_forward.specs.Row.{arrival_row, row_counter}
-use Rattle.nm_forward.specs.Originate.{Sends, Datagram, Whole, Outgoing, originate, consequence_of, Outcome, concluded}
+use Rattle.nm_forward.specs.Originate.{Sends, Datagram, Whole, Outgoing, originate, consequence_of, Reacted, concluded}
 
 -- octets arrive: the row's counter rises, and then comes what follows
-unfoldable pub arrived : List IfaceValue → NodeTable → NodeStateValue → List ℕ → Outcome
+unfoldable pub arrived : List IfaceValue → NodeTable → NodeStateValue → List ℕ → Reacted
 arrived ifaces table n x = let row : Row = arrival_row table x in
     concluded (consequence_of ifaces table n.identification (cut_of x) row)
-    (counted (row_counter row) n)
+    (state_counted (row_counter row) n)
 
 -- the packet of a `cbr` source: its data, and where it has none not the octet that stands for them
 abbrev pub datagram_of : CbrTraffic → List ℕ → Outgoing
@@ -30,7 +31,8 @@ datagram_of c x = record {
   source = None;
   destination = c.to;
   time_to_live = c.flow.ttl;
-  body = Datagram c.source_port c.destination_port (if c.flow.size == 0 then [] else x);
+  body = Datagram (record { source = c.source_port; destination = c.destination_port })
+      (if c.flow.size == 0 then [] else x);
 }
 
 -- the packet of an `echo` source, which hands over a whole ICMP message
@@ -44,29 +46,29 @@ request_of e x = record {
 
 -- A source of the node hands over a packet. The octets of a `raw` source go by its interface as
 -- they are.
-abbrev pub handed : List IfaceValue → NodeTable → NodeStateValue → Traffic → List ℕ → Outcome
+abbrev pub handed : List IfaceValue → NodeTable → NodeStateValue → Traffic → List ℕ → Reacted
 handed ifaces table n (Cbr c) x =
     concluded (originate ifaces table n.identification (datagram_of c x)) n
 handed ifaces table n (Echo e) x =
     concluded (originate ifaces table n.identification (request_of e x)) n
-handed ifaces table n (Raw r) x = concluded (Sends r.via x) (counted count.Raw n)
+handed ifaces table n (Raw r) x = concluded (Sends r.via x) (state_counted count.Raw n)
 
 -- only a source of the node hands over anything to it
-abbrev pub handed_by : TopologyValue → ℕ → NodeStateValue → Option Source → List ℕ → Outcome
+abbrev pub handed_by : TopologyValue → ℕ → NodeStateValue → Option Source → List ℕ → Reacted
 handed_by t v n None x = (n, None)
 handed_by t v n (Some s) x =
     if s.node == v then handed t.ifaces (table_of t v) n s.traffic x else (n, None)
 
 -- what node v of the network t does with the packet x in the state n: the state after, and at most
 -- one packet, with the interface by which it is sent
-unfoldable pub reaction : TopologyValue → ℕ → NodeStateValue → Origin → List ℕ → Outcome
+unfoldable pub reaction : TopologyValue → ℕ → NodeStateValue → Origin → List ℕ → Reacted
 reaction t v n (Arrival i) x = arrived t.ifaces (table_of t v) n x
 reaction t v n (FromSource j) x = handed_by t v n (slice_get t.sources j) x
 
 -- what a source hands over fits a packet, with the headers that it gets
 abbrev pub FitsHeaders : Traffic → List ℕ → Type 0
-FitsHeaders (Cbr c) x = length x ≤ 65507
-FitsHeaders (Echo e) x = length x ≤ 65515
+FitsHeaders (Cbr c) x = length x ≤ MAX_PACKET_DATA
+FitsHeaders (Echo e) x = length x ≤ MAX_PAYLOAD
 FitsHeaders (Raw r) x = Unit {0}
 
 abbrev pub FitsSource : Option Source → List ℕ → Type 0

@@ -2,7 +2,9 @@
 use Rattle.std.specs.Prelude.{ℕ, ◌≤◌, Bool, ◌||◌, ◌&&◌, not, ◌==◌, ◌%◌, nat_le, if◌then◌else◌, List, length, Option, Some, None, is_some}
 use Rattle.nm_topology.specs.declared.node.NodeKind.{NodeKind}
 use Rattle.nm_topology.specs.declared.node.NodeKind.TheVariants.{Host, Router}
-use Rattle.nm_packet.specs.Address.{is_offending}
+use Rattle.nm_packet.specs.declared.icmp.TheConstants.{ECHO_REQUEST, ECHO_CODE}
+use Rattle.nm_packet.specs.declared.limits.TheConstants.{MAX_PAYLOAD}
+use Rattle.nm_packet.specs.Address.{is_martian}
 use Rattle.nm_packet.specs.Ipv4.{Header as Ipv4Fields, header_fault, cut_of, fields_of, payload_of}
 use Rattle.nm_packet.specs.Udp.{udp_fault, udp_cut_of, udp_fields_of}
 use Rattle.nm_packet.specs.Icmp.{icmp_fault, icmp_fields_of, IcmpHeader}
@@ -20,9 +22,9 @@ transit_row Host route time_to_live = NotMine
 transit_row Router None time_to_live = Unreachable
 transit_row Router (Some via) time_to_live = if nat_le time_to_live 1 then Expired else Forward via
 
--- an echo request has type 8 and code 0 (RFC 792)
+-- whether a message of these fields is an echo request (RFC 792, page 14)
 abbrev pub is_echo_request : IcmpHeader → Bool
-is_echo_request h = (h.message_type == 8) && (h.code == 0)
+is_echo_request h = (h.message_type == ECHO_REQUEST) && (h.code == ECHO_CODE)
 
 -- an ICMP message for this node
 abbrev pub icmp_row : List ℕ → Row
@@ -47,7 +49,7 @@ local_row table h payload = if is_fragment h then Fragment
 
 -- a packet that passes the header test
 unfoldable pub packet_row : NodeTable → Ipv4Fields → List ℕ → Row
-packet_row table h payload = if is_offending h.destination then BadDestination
+packet_row table h payload = if is_martian h.destination then BadDestination
     else (if is_own table h.destination then local_row table h payload
     else transit_row table.kind (route_of table.routes h.destination) h.time_to_live)
 
@@ -76,5 +78,5 @@ row_counter UnknownProtocol = count.Proto
 -- what the consequence of a row asks of a packet of this time to live
 abbrev pub IsPossible : Row → ℕ → Type 0
 IsPossible (Forward via) time_to_live = 1 ≤ time_to_live
-IsPossible (EchoRequest request) time_to_live = length request ≤ 65515
+IsPossible (EchoRequest request) time_to_live = length request ≤ MAX_PAYLOAD
 IsPossible row time_to_live = Unit {0}

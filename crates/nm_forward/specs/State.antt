@@ -44,6 +44,10 @@ table_from v ifaces (Some n) = record {
 unfoldable pub table_of : TopologyValue → ℕ → NodeTable
 table_of t v = table_from v t.ifaces (slice_get t.nodes v)
 
+-- what the node knows of itself is what the topology says of it
+abbrev pub Knows : TopologyValue → NodeStateValue → Type 0
+Knows t n = n.table ≡ table_of t n.table.node
+
 -- node v at the start of a run
 abbrev pub first_state : TopologyValue → ℕ → NodeStateValue
 first_state t v = record { table = table_of t v; identification = 0; counters = no_counts }
@@ -61,8 +65,8 @@ abbrev pub IsIfaceOf : List IfaceValue → ℕ → ℕ → Type 0
 IsIfaceOf ifaces v via = (via < length ifaces) × (slice_index (owners_of ifaces) via ≡ v)
 
 -- the state with one counter raised
-abbrev pub counted : Counter → NodeStateValue → NodeStateValue
-counted c n = record n { counters = raised c n.counters }
+abbrev pub state_counted : Counter → NodeStateValue → NodeStateValue
+state_counted c n = record n { counters = raised c n.counters }
 
 -- the state after a packet was originated: the identification rises by one modulo 65,536
 abbrev pub after_originating : NodeStateValue → NodeStateValue

@@ -5,45 +5,61 @@ ghost use Rattle.nm_forward.specs.Counter.{counter_name, counter_number};
 
 /// What a node counts. Each arrival raises the counter of the row that fits it, and what follows
 /// may raise another.
+///
+/// With each stands its object of the MIBs, where there is one: of a system's traffic in the IP-MIB
+/// (RFC 4293, ipSystemStatsTable, whose objects start with `ipSystemStats`, as those of
+/// ipIfStatsTable with `ipIfStats`), of ICMP in the same (icmpStatsTable and icmpMsgStatsTable), of
+/// UDP in the UDP-MIB (RFC 4113). No counter is ipSystemStatsInDelivers, what was handed to a
+/// protocol: it is the sum of [`IcmpBad`](Counter::IcmpBad), [`Echo`](Counter::Echo),
+/// [`Icmp`](Counter::Icmp), [`UdpBad`](Counter::UdpBad), [`Udp`](Counter::Udp) and
+/// [`Port`](Counter::Port). Nor is one ipSystemStatsOutRequests, what protocols asked to send: it is
+/// the sum of [`ToSelf`](Counter::ToSelf), [`NoRoute`](Counter::NoRoute) and
+/// [`Originated`](Counter::Originated).
 #[derive(Clone, Copy)]
 pub enum Counter {
-    /// The header test failed (RFC 791, section 3.1).
+    /// The header test failed (RFC 791, section 3.1): ipSystemStatsInHdrErrors, but for those that
+    /// [`Ttl`](Counter::Ttl) counts.
     Header,
-    /// The destination was an offending address.
+    /// The destination was a martian: ipSystemStatsInAddrErrors, with what
+    /// [`NotMine`](Counter::NotMine) counts.
     BadDest,
-    /// A host got a packet for another.
+    /// A host got a packet for another: of ipSystemStatsInAddrErrors too.
     NotMine,
-    /// A router had no route to the destination (RFC 1812, section 5.2.7.1).
+    /// A router had no route to the destination (RFC 1812, section 5.2.7.1):
+    /// ipSystemStatsInNoRoutes.
     NoNet,
-    /// A router got a packet whose time to live was over (RFC 1812, section 5.3.1).
+    /// A router got a packet whose time to live was over (RFC 1812, section 5.3.1): of
+    /// ipSystemStatsInHdrErrors too.
     Ttl,
-    /// A router sent a packet on.
+    /// A router sent a packet on: ipSystemStatsOutForwDatagrams.
     Forwarded,
-    /// A fragment came for this node.
+    /// A fragment came for this node: ipSystemStatsReasmReqds, and as none is put together here
+    /// also ipSystemStatsReasmFails.
     Fragment,
-    /// The ICMP test failed (RFC 792).
+    /// The ICMP test failed (RFC 792): icmpStatsInErrors.
     IcmpBad,
-    /// An echo request came for this node.
+    /// An echo request came for this node: icmpMsgStatsInPkts of type 8.
     Echo,
-    /// Another ICMP message came for this node.
+    /// Another ICMP message came for this node: icmpMsgStatsInPkts of all else.
     Icmp,
-    /// The UDP test failed (RFC 768).
+    /// The UDP test failed (RFC 768): udpInErrors.
     UdpBad,
-    /// A datagram came to a port at which something listens.
+    /// A datagram came to a port at which something listens: udpInDatagrams.
     Udp,
-    /// A datagram came to another port.
+    /// A datagram came to another port: udpNoPorts.
     Port,
-    /// A packet of an unknown protocol came for this node.
+    /// A packet of an unknown protocol came for this node: ipSystemStatsInUnknownProtos.
     Proto,
-    /// An error or an echo reply was withheld.
+    /// An error or an echo reply was withheld: no object.
     Quiet,
-    /// A packet was to be originated to an address of the node itself.
+    /// A packet was to be originated to an address of the node itself: no object.
     ToSelf,
-    /// A packet was to be originated to where no route leads.
+    /// A packet was to be originated to where no route leads: ipSystemStatsOutNoRoutes.
     NoRoute,
-    /// A packet was originated.
+    /// A packet was originated: ipSystemStatsOutTransmits, but for what was sent on and what
+    /// [`Raw`](Counter::Raw) counts.
     Originated,
-    /// A source's octets were handed to an interface as they are.
+    /// A source's octets were handed to an interface as they are: no object.
     Raw,
 }
 

@@ -39,7 +39,7 @@ pub fn a_node_sends_by_its_own_interfaces(topology: &Topology)
     ensures { (v : ℕ) (n : NodeStateValue) (o : Origin) (x : List ℕ) (s : ℕ × List ℕ)
         → (reaction topology.now v n o x).1 ≡ Some s → IsIfaceOf topology.now.ifaces v s.0 }
 {
-    accepted_topologies_are_in_order(topology);
+    accepted_topologies_are_in_order(topology); // law: routes and sources lead by own interfaces
 }
 
 /// What a node sends is a packet where what comes to it is one, and a source hands over what fits:

@@ -1,16 +1,21 @@
 //! What a node sends of its own accord: packets of its sources, errors and echo replies.
 
 ghost use Rattle.std.specs.Prelude.{◌≡◌, ◌≤◌, IfOk, length};
+ghost use Rattle.nm_packet.specs.declared.limits.TheConstants.{MAX_PAYLOAD};
 ghost use Rattle.nm_packet.specs.Ipv4.{fields_of};
-ghost use Rattle.nm_forward.specs.State.{table_of};
-ghost use Rattle.nm_forward.specs.Originate.{FitsPacket, error_of, is_error_message, is_quiet, originate, protocol_of, reply_of, written};
+ghost use Rattle.nm_forward.specs.State.{Knows};
+ghost use Rattle.nm_forward.specs.Originate.{FitsPacket, error_of, is_error_message, is_quiet, originate, packet_written, protocol_of, reply_of};
 ghost use Rattle.nm_forward.specs.Prepared.{body_of, consequence, outgoing_of};
 
 use crate::counter::Counter;
 use crate::prepared::{Body, Outgoing, Prepared};
 use crate::state::NodeState;
 use nm_base::{Packet, Twin};
-use nm_packet::{Icmp, IcmpView, Ipv4Header, Ipv4View, Udp, icmp, quote, write_ipv4};
+use nm_packet::icmp::{
+    DESTINATION_UNREACHABLE, ECHO_CODE, ECHO_REPLY, PARAMETER_PROBLEM, REDIRECT, SOURCE_QUENCH,
+    TIME_EXCEEDED,
+};
+use nm_packet::{Icmp, IcmpView, Ipv4Header, Ipv4View, MessageKind, Udp, icmp, quote, write_ipv4};
 use nm_topology::Topology;
 use nm_topology::topology::accepted_topologies_are_in_order;
 use std::alloc::{AllocError, Global};
@@ -21,20 +26,13 @@ const TIME_TO_LIVE: u8 = 64;
 /// The packet with this header and this payload, in one buffer.
 fn write(alloc: Global, header: &Ipv4Header, body: &Body<'_>) -> Result<Packet, AllocError>
     requires { FitsPacket (body_of body.now) }
-    ensures { IfOk result (λ p. p ≡ written header.now (body_of body.now)) }
+    ensures { IfOk result (λ p. p ≡ packet_written header.now (body_of body.now)) }
 {
     match *body {
-        Body::Datagram {
-            source_port,
-            destination_port,
-            data,
-        } => Udp::write_packet(alloc, header, source_port, destination_port, data),
-        Body::Message {
-            message_type,
-            code,
-            rest,
-            data,
-        } => Icmp::write_packet(alloc, header, message_type, code, rest, data),
+        Body::Datagram { ports, data } => Udp::write_packet(alloc, header, ports, data),
+        Body::Message { kind, rest, data } => {
+            Icmp::write_packet(alloc, header, kind, rest, data)
+        }
         Body::Whole(octets) => write_ipv4(alloc, header, octets),
     }
 }
@@ -48,7 +46,7 @@ pub fn originate(
     state: &NodeState,
     outgoing: &Outgoing<'_>,
 ) -> Result<Prepared, AllocError>
-    requires table { state.now.table ≡ table_of topology.now state.now.table.node }
+    requires table { Knows topology.now state.now }
     requires fits { FitsPacket (body_of outgoing.now.body) }
     ensures { IfOk result (λ p. consequence p ≡ originate topology.now.ifaces state.now.table
         state.now.identification (outgoing_of outgoing.now)) }
@@ -59,8 +57,7 @@ pub fn originate(
     let Some(via) = state.look(outgoing.destination) else {
         return Ok(Prepared::Counts(Counter::NoRoute));
     };
-    // The interface of a route is there.
-    accepted_topologies_are_in_order(topology);
+    accepted_topologies_are_in_order(topology); // law: the interface of a route is there
     let address = topology.iface(via).address();
     let header = Ipv4Header {
         type_of_service: 0,
@@ -82,33 +79,35 @@ fn is_error_message(payload: &[u8]) -> bool
 {
     match payload {
         [] => true,
-        [message_type, ..] => matches!(*message_type, 3 | 4 | 5 | 11 | 12),
+        [message_type, ..] => matches!(
+            *message_type,
+            DESTINATION_UNREACHABLE | SOURCE_QUENCH | REDIRECT | TIME_EXCEEDED | PARAMETER_PROBLEM
+        ),
     }
 }
 
 /// Whether no error is sent about the packet (RFC 1812, section 4.3.2.7): it is a later fragment,
-/// it comes from an offending address, or it is an error itself.
+/// it comes from a martian, or it is an error itself.
 fn is_quiet(packet: &Ipv4View<'_>) -> bool
     ensures { result ≡ is_quiet packet.now }
 {
     packet.fragment_offset() != 0
-        || packet.source().is_offending()
+        || packet.source().is_martian()
         || (packet.protocol() == icmp::PROTOCOL && is_error_message(packet.payload()))
 }
 
-/// Prepares the ICMP error of this type and code about the packet (RFC 792), or to stay quiet.
+/// Prepares the ICMP error of this kind about the packet (RFC 792), or to stay quiet.
 #[tactic(auto, unfolding(crate::specs::Originate::error_of))]
 pub fn error(
     alloc: Global,
     topology: &Topology,
     state: &NodeState,
     packet: &Ipv4View<'_>,
-    message_type: u8,
-    code: u8,
+    kind: MessageKind,
 ) -> Result<Prepared, AllocError>
-    requires { state.now.table ≡ table_of topology.now state.now.table.node }
+    requires { Knows topology.now state.now }
     ensures { IfOk result (λ p. consequence p ≡ error_of topology.now.ifaces state.now.table
-        state.now.identification packet.now message_type code) }
+        state.now.identification packet.now kind) }
 {
     if is_quiet(packet) {
         return Ok(Prepared::Counts(Counter::Quiet));
@@ -119,8 +118,7 @@ pub fn error(
         destination: packet.source(),
         time_to_live: TIME_TO_LIVE,
         body: Body::Message {
-            message_type,
-            code,
+            kind,
             rest: [0; 4],
             data: &quoted,
         },
@@ -137,12 +135,12 @@ pub fn reply(
     packet: &Ipv4View<'_>,
     request: &IcmpView<'_>,
 ) -> Result<Prepared, AllocError>
-    requires table { state.now.table ≡ table_of topology.now state.now.table.node }
-    requires fits { length request.now ≤ 65515 }
+    requires table { Knows topology.now state.now }
+    requires fits { length request.now ≤ MAX_PAYLOAD }
     ensures { IfOk result (λ p. consequence p ≡ reply_of topology.now.ifaces state.now.table
         state.now.identification (fields_of packet.now) request.now) }
 {
-    if packet.source().is_offending() {
+    if packet.source().is_martian() {
         return Ok(Prepared::Counts(Counter::Quiet));
     }
     let reply = Outgoing {
@@ -150,8 +148,10 @@ pub fn reply(
         destination: packet.source(),
         time_to_live: TIME_TO_LIVE,
         body: Body::Message {
-            message_type: 0,
-            code: 0,
+            kind: MessageKind {
+                message_type: ECHO_REPLY,
+                code: ECHO_CODE,
+            },
             rest: request.rest(),
             data: request.data(),
         },

@@ -6,7 +6,7 @@ ghost use Rattle.nm_forward.specs.Originate.{protocol_of};
 
 use crate::counter::Counter;
 use nm_base::{IfaceNo, Twin};
-use nm_packet::{Address, icmp, udp};
+use nm_packet::{Address, MessageKind, Ports, icmp, udp};
 
 /// What follows the counter of a row, with its memory taken.
 #[derive(Drop)]
@@ -25,14 +25,12 @@ pub enum Prepared {
 pub enum Body<'a> {
     /// A UDP datagram.
     Datagram {
-        source_port: u16,
-        destination_port: u16,
+        ports: Ports,
         data: &'a [u8],
     },
     /// An ICMP message of these parts.
     Message {
-        message_type: u8,
-        code: u8,
+        kind: MessageKind,
         rest: [u8; 4],
         data: &'a [u8],
     },

@@ -1,12 +1,13 @@
 //! What a node does with a packet.
 
 ghost use Rattle.std.specs.Prelude.{◌≡◌, ◌≤◌, IfOk, OnErr, length, slice_get};
+ghost use Rattle.nm_packet.specs.declared.limits.TheConstants.{MAX_PACKET_DATA};
 ghost use Rattle.nm_packet.specs.Ipv4.{fields_of};
-ghost use Rattle.nm_forward.specs.State.{table_of};
+ghost use Rattle.nm_forward.specs.State.{Knows};
 ghost use Rattle.nm_forward.specs.Row.{IsPossible};
-ghost use Rattle.nm_forward.specs.Originate.{concluded, consequence_of, originate};
-ghost use Rattle.nm_forward.specs.Prepared.{consequence};
-ghost use Rattle.nm_forward.specs.Reaction.{FitsOrigin, FitsSource, FitsHeaders, arrived, datagram_of, handed, handed_by, reaction, request_of, sent_of};
+ghost use Rattle.nm_forward.specs.Originate.{FitsPacket, concluded, consequence_of, originate};
+ghost use Rattle.nm_forward.specs.Prepared.{body_of, consequence, outgoing_of};
+ghost use Rattle.nm_forward.specs.Reaction.{FitsOrigin, FitsSource, FitsHeaders, arrived, datagram_of, handed, handed_by, reaction, sent_of};
 
 use crate::counter::Counter;
 use crate::originate::{error, originate, reply};
@@ -14,23 +15,38 @@ use crate::prepared::{Body, Outgoing, Prepared};
 use crate::row::{Row, packet_row};
 use crate::state::NodeState;
 use nm_base::{IfaceNo, Origin, Packet, SourceNo, Twin};
-use nm_packet::{Ipv4, Ipv4View};
+use nm_packet::icmp::{
+    DESTINATION_UNREACHABLE, IN_TRANSIT, NETWORK_UNREACHABLE, PORT_UNREACHABLE,
+    PROTOCOL_UNREACHABLE, TIME_EXCEEDED,
+};
+use nm_packet::{Ipv4, Ipv4View, MessageKind, Ports};
 use nm_topology::Topology;
-use nm_topology::traffic::{Cbr, Echo, Traffic};
+use nm_topology::traffic::{Cbr, Traffic};
 use std::alloc::{AllocError, Global};
 
-/// Types and codes of the errors that a node sends (RFC 792).
-const DESTINATION_UNREACHABLE: u8 = 3;
+/// The error where no route leads to the network (RFC 1812, section 5.2.7.1).
+const NO_NETWORK: MessageKind = MessageKind {
+    message_type: DESTINATION_UNREACHABLE,
+    code: NETWORK_UNREACHABLE,
+};
 
-const NETWORK: u8 = 0;
+/// The error where the protocol is unknown (RFC 792, page 4).
+const NO_PROTOCOL: MessageKind = MessageKind {
+    message_type: DESTINATION_UNREACHABLE,
+    code: PROTOCOL_UNREACHABLE,
+};
 
-const PROTOCOL: u8 = 2;
+/// The error where nothing listens at the port (RFC 792, page 4).
+const NO_PORT: MessageKind = MessageKind {
+    message_type: DESTINATION_UNREACHABLE,
+    code: PORT_UNREACHABLE,
+};
 
-const PORT: u8 = 3;
-
-const TIME_EXCEEDED: u8 = 11;
-
-const IN_TRANSIT: u8 = 0;
+/// The error where the time to live is over (RFC 1812, section 5.3.1).
+const EXPIRED: MessageKind = MessageKind {
+    message_type: TIME_EXCEEDED,
+    code: IN_TRANSIT,
+};
 
 /// What a node sends: at most one packet, by one interface.
 #[derive(Drop)]
@@ -58,7 +74,7 @@ pub fn react(
     origin: Origin,
     packet: &Packet,
 ) -> Result<Reaction, AllocError>
-    requires table { state.old.table ≡ table_of topology.now state.old.table.node }
+    requires table { Knows topology.now state.old }
     requires fits { FitsOrigin topology.now origin packet.now }
     ensures ok { IfOk result (λ r. (state.new, sent_of r)
         ≡ reaction topology.now state.old.table.node state.old origin packet.now) }
@@ -66,20 +82,20 @@ pub fn react(
     ensures err { OnErr result (state.new ≡ state.old) }
 {
     match origin {
-        Origin::Arrival(_) => arrive(alloc, topology, state, packet),
+        Origin::Arrival(_) => receive(alloc, topology, state, packet),
         Origin::Source(source) => hand_over(alloc, topology, state, source, packet),
     }
 }
 
 /// What the node does with a packet that arrives.
 #[tactic(auto, unfolding(crate::specs::Reaction::arrived))]
-fn arrive(
+fn receive(
     alloc: Global,
     topology: &Topology,
     state: &mut NodeState,
     packet: &Packet,
 ) -> Result<Reaction, AllocError>
-    requires { state.old.table ≡ table_of topology.now state.old.table.node }
+    requires { Knows topology.now state.old }
     ensures ok { IfOk result (λ r. (state.new, sent_of r)
         ≡ arrived topology.now.ifaces state.old.table state.old packet.now) }
     ensures err { OnErr result (state.new ≡ state.old) }
@@ -89,58 +105,35 @@ fn arrive(
         return Ok(Reaction::Nothing);
     };
     let row = packet_row(state, &view);
-    let prepared = follow(alloc, topology, state, &view, &row)?;
+    let prepared = prepare_consequence(alloc, topology, state, &view, &row)?;
     state.count(row.counter());
-    Ok(conclude(state, prepared))
+    Ok(carry_out(state, prepared))
 }
 
 /// Prepares what follows a row. The state stays as it is.
-fn follow(
+fn prepare_consequence(
     alloc: Global,
     topology: &Topology,
     state: &mut NodeState,
     packet: &Ipv4View<'_>,
     row: &Row<'_>,
 ) -> Result<Prepared, AllocError>
-    requires table { state.old.table ≡ table_of topology.now state.old.table.node }
+    requires table { Knows topology.now state.old }
     requires possible { IsPossible row.now (fields_of packet.now).time_to_live }
-    ensures ok { IfOk result (λ p. consequence p ≡ consequence_of topology.now.ifaces state.old.table
-        state.old.identification packet.now row.now) }
+    ensures ok { IfOk result (λ p. consequence p ≡ consequence_of topology.now.ifaces
+        state.old.table state.old.identification packet.now row.now) }
     ensures same { state.new ≡ state.old }
 {
     match row {
-        Row::Unreachable => error(
-            alloc,
-            topology,
-            state,
-            packet,
-            DESTINATION_UNREACHABLE,
-            NETWORK,
-        ),
-        Row::Expired => error(alloc, topology, state, packet, TIME_EXCEEDED, IN_TRANSIT),
+        Row::Unreachable => error(alloc, topology, state, packet, NO_NETWORK),
+        Row::Expired => error(alloc, topology, state, packet, EXPIRED),
         Row::Forward(via) => {
             let lowered = state.lower_ttl(alloc, packet)?;
             Ok(Prepared::Sends(*via, Twin::new(lowered)?))
         }
         Row::EchoRequest(request) => reply(alloc, topology, state, packet, request),
-        Row::ClosedPort => error(
-            alloc,
-            topology,
-            state,
-            packet,
-            DESTINATION_UNREACHABLE,
-            PORT,
-        ),
-        Row::UnknownProtocol => {
-            error(
-                alloc,
-                topology,
-                state,
-                packet,
-                DESTINATION_UNREACHABLE,
-                PROTOCOL,
-            )
-        }
+        Row::ClosedPort => error(alloc, topology, state, packet, NO_PORT),
+        Row::UnknownProtocol => error(alloc, topology, state, packet, NO_PROTOCOL),
         Row::BadHeader
         | Row::BadDestination
         | Row::NotMine
@@ -153,7 +146,7 @@ fn follow(
 }
 
 /// Counts what was prepared, and hands over what is sent.
-fn conclude(state: &mut NodeState, prepared: Prepared) -> Reaction
+fn carry_out(state: &mut NodeState, prepared: Prepared) -> Reaction
     ensures { (state.new, sent_of result) ≡ concluded (consequence prepared) state.old }
 {
     match prepared {
@@ -180,7 +173,7 @@ fn hand_over(
     source: SourceNo,
     packet: &Packet,
 ) -> Result<Reaction, AllocError>
-    requires table { state.old.table ≡ table_of topology.now state.old.table.node }
+    requires table { Knows topology.now state.old }
     requires fits { FitsSource (slice_get topology.now.sources source) packet.now }
     ensures ok { IfOk result (λ r. (state.new, sent_of r) ≡ handed_by topology.now
         state.old.table.node state.old (slice_get topology.now.sources source) packet.now) }
@@ -188,21 +181,21 @@ fn hand_over(
 {
     match topology.sources().get(source.index()) {
         Some(source) if source.node == state.node() => {
-            take(alloc, topology, state, &source.traffic, packet)
+            accept_from_source(alloc, topology, state, &source.traffic, packet)
         }
         _ => Ok(Reaction::Nothing),
     }
 }
 
 /// What the node does with a packet of traffic of its own.
-fn take(
+fn accept_from_source(
     alloc: Global,
     topology: &Topology,
     state: &mut NodeState,
     traffic: &Traffic,
     packet: &Packet,
 ) -> Result<Reaction, AllocError>
-    requires table { state.old.table ≡ table_of topology.now state.old.table.node }
+    requires table { Knows topology.now state.old }
     requires fits { FitsHeaders traffic.now packet.now }
     ensures ok { IfOk result (λ r. (state.new, sent_of r)
         ≡ handed topology.now.ifaces state.old.table state.old traffic.now packet.now) }
@@ -214,64 +207,60 @@ fn take(
             state.count(Counter::Raw);
             Ok(Reaction::Send(raw.via(), twin))
         }
-        Traffic::Cbr(cbr) => send_datagram(alloc, topology, state, cbr, packet),
-        Traffic::Echo(echo) => send_request(alloc, topology, state, echo, packet),
+        Traffic::Cbr(cbr) => {
+            let datagram = Outgoing {
+                source: None,
+                destination: cbr.to,
+                time_to_live: cbr.flow.ttl,
+                body: datagram_body(cbr, packet),
+            };
+            send_originated(alloc, topology, state, &datagram)
+        }
+        Traffic::Echo(echo) => {
+            let request = Outgoing {
+                source: None,
+                destination: echo.to,
+                time_to_live: echo.flow.ttl,
+                body: Body::Whole(packet.octets()),
+            };
+            send_originated(alloc, topology, state, &request)
+        }
     }
 }
 
-/// Originates the datagram of a `cbr` source that hands over these data.
-fn send_datagram(
-    alloc: Global,
-    topology: &Topology,
-    state: &mut NodeState,
-    cbr: &Cbr,
-    packet: &Packet,
-) -> Result<Reaction, AllocError>
-    requires table { state.old.table ≡ table_of topology.now state.old.table.node }
-    requires fits { length packet.now ≤ 65507 }
-    ensures ok { IfOk result (λ r. (state.new, sent_of r) ≡ concluded (originate topology.now.ifaces
-        state.old.table state.old.identification (datagram_of cbr.now packet.now)) state.old) }
-    ensures err { OnErr result (state.new ≡ state.old) }
+/// The datagram of a `cbr` source that hands over these data.
+fn datagram_body<'a>(cbr: &Cbr, packet: &'a Packet) -> Body<'a>
+    requires { length packet.now ≤ MAX_PACKET_DATA }
+    ensures value { body_of result ≡ (datagram_of cbr.now packet.now).body }
+    ensures fits { FitsPacket (body_of result) }
 {
     let data = if cbr.flow.size == 0 {
         &[]
     } else {
         packet.octets()
     };
-    let outgoing = Outgoing {
-        source: None,
-        destination: cbr.to,
-        time_to_live: cbr.flow.ttl,
-        body: Body::Datagram {
-            source_port: cbr.source_port,
-            destination_port: cbr.destination_port,
-            data,
+    Body::Datagram {
+        ports: Ports {
+            source: cbr.source_port,
+            destination: cbr.destination_port,
         },
-    };
-    let prepared = originate(alloc, topology, state, &outgoing)?;
-    Ok(conclude(state, prepared))
+        data,
+    }
 }
 
-/// Originates the echo request that an `echo` source hands over.
-fn send_request(
+/// Originates what a source hands over.
+fn send_originated(
     alloc: Global,
     topology: &Topology,
     state: &mut NodeState,
-    echo: &Echo,
-    packet: &Packet,
+    outgoing: &Outgoing<'_>,
 ) -> Result<Reaction, AllocError>
-    requires table { state.old.table ≡ table_of topology.now state.old.table.node }
-    requires fits { length packet.now ≤ 65515 }
+    requires table { Knows topology.now state.old }
+    requires fits { FitsPacket (body_of outgoing.now.body) }
     ensures ok { IfOk result (λ r. (state.new, sent_of r) ≡ concluded (originate topology.now.ifaces
-        state.old.table state.old.identification (request_of echo.now packet.now)) state.old) }
+        state.old.table state.old.identification (outgoing_of outgoing.now)) state.old) }
     ensures err { OnErr result (state.new ≡ state.old) }
 {
-    let outgoing = Outgoing {
-        source: None,
-        destination: echo.to,
-        time_to_live: echo.flow.ttl,
-        body: Body::Whole(packet.octets()),
-    };
-    let prepared = originate(alloc, topology, state, &outgoing)?;
-    Ok(conclude(state, prepared))
+    let prepared = originate(alloc, topology, state, outgoing)?;
+    Ok(carry_out(state, prepared))
 }

@@ -3,9 +3,11 @@
 ghost use Rattle.std.specs.Prelude.{◌≡◌, ◌≤◌, ◌<◌, ◌^◌, ◌++◌, ◌∷◌, [], List, length, OnOk, IfOk};
 ghost use Rattle.nm_topology.specs.declared.parts.Route.{Route};
 ghost use Rattle.nm_forward.specs.Routes.{IsLaidOut, prefix_key, route_of};
+ghost use Rattle.nm_forward.specs.State.{table_of};
 
-use nm_base::IfaceNo;
+use nm_base::{IfaceNo, NodeNo};
 use nm_packet::Address;
+use nm_topology::Topology;
 use nm_topology::parts::Route;
 use std::alloc::{AllocError, Global};
 use std::collections::HashMap;
@@ -72,8 +74,17 @@ fn lay_out(
 }
 
 impl Routes {
+    /// The routes of this node.
+    #[tactic(auto, unfolding(crate::specs::State::table_of))]
+    pub fn new(alloc: Global, topology: &Topology, node: NodeNo) -> Result<Self, AllocError>
+        requires { node < length topology.now.nodes }
+        ensures { IfOk result (λ t. t ≡ (table_of topology.now node).routes) }
+    {
+        Self::of(alloc, topology.node(node).routes())
+    }
+
     /// Lays out these routes. Of two routes with one prefix the first counts.
-    pub fn new(alloc: Global, routes: &[Route]) -> Result<Self, AllocError>
+    pub fn of(alloc: Global, routes: &[Route]) -> Result<Self, AllocError>
         ensures { IfOk result (λ t. t ≡ routes.now) }
     {
         let mut occurs = [false; LENGTHS];

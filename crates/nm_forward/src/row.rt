@@ -1,26 +1,23 @@
 //! The table of what a node does with a packet that arrives: the rows, and which of them fits.
 
 ghost use Rattle.std.specs.Prelude.{◌≡◌, ◌≤◌, ℕ, length};
+ghost use Rattle.nm_packet.specs.declared.limits.TheConstants.{MAX_PAYLOAD};
 ghost use Rattle.nm_packet.specs.Ipv4.{fields_of, payload_of};
 ghost use Rattle.nm_forward.specs.Row.{IsPossible, icmp_row, is_fragment, local_row, packet_row, row_counter, transit_row, udp_row};
 
 use crate::counter::Counter;
 use crate::state::NodeState;
 use nm_base::IfaceNo;
+use nm_packet::icmp::{ECHO_CODE, ECHO_REQUEST};
 use nm_packet::{Icmp, IcmpView, Ipv4View, Udp, icmp, udp};
 use nm_topology::NodeKind;
-
-/// Type and code of an echo request (RFC 792).
-const ECHO_REQUEST: u8 = 8;
-
-const ECHO_CODE: u8 = 0;
 
 /// The rows, in the order in which they are tried.
 #[derive(Drop)]
 pub enum Row<'a> {
     /// The header test fails (RFC 791, section 3.1).
     BadHeader,
-    /// To an offending address.
+    /// To a martian.
     BadDestination,
     /// To another node, at a host.
     NotMine,
@@ -80,7 +77,7 @@ pub fn packet_row<'a>(state: &NodeState, packet: &Ipv4View<'a>) -> Row<'a>
     ensures possible { IsPossible result (fields_of packet.now).time_to_live }
 {
     let destination = packet.destination();
-    if destination.is_offending() {
+    if destination.is_martian() {
         return Row::BadDestination;
     }
     if state.is_own(destination) {
@@ -121,7 +118,7 @@ fn local_row<'a>(state: &NodeState, packet: &Ipv4View<'a>) -> Row<'a>
 
 /// The row of an ICMP message for this node.
 fn icmp_row(payload: &[u8]) -> Row<'_>
-    requires { length payload.now ≤ 65515 }
+    requires { length payload.now ≤ MAX_PAYLOAD }
     ensures row { result ≡ icmp_row payload.now }
     ensures possible { (time_to_live : ℕ) → IsPossible result time_to_live }
 {

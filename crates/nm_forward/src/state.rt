@@ -4,7 +4,7 @@ ghost use Rattle.std.specs.Prelude.{◌≡◌, ◌<◌, ◌≤◌, IfOk, length,
 ghost use Rattle.nm_packet.specs.Ipv4.{fields_of, lowered, packet_octets, payload_of};
 ghost use Rattle.nm_forward.specs.Counter.{counter_number};
 ghost use Rattle.nm_forward.specs.Routes.{route_of};
-ghost use Rattle.nm_forward.specs.State.{first_state, table_of, is_own, listens, counted, after_originating};
+ghost use Rattle.nm_forward.specs.State.{Knows, after_originating, first_state, is_own, listens, state_counted};
 
 use crate::addresses::Addresses;
 use crate::counter::Counter;
@@ -61,14 +61,14 @@ impl NodeState {
         requires { node < length topology.now.nodes }
         ensures first { IfOk result (λ s. s ≡ first_state topology.now node) }
         // So it is a state that `react` takes.
-        ensures table { IfOk result (λ s. s.table ≡ table_of topology.now s.table.node) }
+        ensures table { IfOk result (Knows topology.now) }
     {
         let described = topology.node(node);
         Ok(NodeState {
             node,
             kind: described.kind(),
             ports: Vec::from_slice(alloc, described.ports())?,
-            routes: Routes::new(alloc, described.routes())?,
+            routes: Routes::new(alloc, topology, node)?,
             addresses: Addresses::of_node(alloc, topology.ifaces(), node)?,
             identification: 0,
             counters: Counters::new(),
@@ -125,7 +125,8 @@ impl NodeState {
         self.routes.look(address)
     }
 
-    /// The packet one hop on, as `nm_packet::lower_ttl` makes it, in memory of the node's own. The state stays as it is.
+    /// The packet one hop on, as `nm_packet::lower_ttl` makes it, in memory of the node's own. The
+    /// state stays as it is.
     ///
     /// # Errors
     ///
@@ -136,7 +137,8 @@ impl NodeState {
         packet: &Ipv4View<'_>,
     ) -> Result<Packet, AllocError>
         requires { 1 ≤ (fields_of packet.now).time_to_live }
-        ensures value { IfOk result (λ p. p ≡ packet_octets (lowered (fields_of packet.now)) (payload_of packet.now)) }
+        ensures value { IfOk result
+            (λ p. p ≡ packet_octets (lowered (fields_of packet.now)) (payload_of packet.now)) }
         ensures same { self.new ≡ self.old }
     {
         lower_ttl(alloc, &mut self.buffer, packet)
@@ -144,7 +146,7 @@ impl NodeState {
 
     /// Raises a counter by one.
     pub(crate) fn count(&mut self, counter: Counter)
-        ensures { self.new ≡ counted counter self.old }
+        ensures { self.new ≡ state_counted counter self.old }
     {
         self.counters.rise(counter);
     }

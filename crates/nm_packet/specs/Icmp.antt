@@ -2,6 +2,7 @@
 use Rattle.std.specs.Prelude.{◌≡◌, ℕ, ◌<◌, not, ◌==◌, nat_lt, List, ◌∷◌, ◌++◌, length, take, drop, slice_index, Option, Some, None, if◌then◌else◌}
 use Rattle.nm_packet.specs.Octets.{word, word_at}
 use Rattle.nm_packet.specs.Checksum.{word_sum, folded, checksum_of}
+use Rattle.nm_packet.specs.declared.icmp.MessageKind.{MessageKind}
 use Rattle.nm_packet.specs.declared.fault.IcmpFault.{IcmpFault}
 use Rattle.nm_packet.specs.declared.fault.IcmpFault.TheVariants.{Short, Checksum}
 
@@ -47,8 +48,9 @@ icmp_fault octets = if nat_lt (length octets) 8 then Some Short
     else (if not (folded (word_sum octets) == 65535) then Some Checksum else None)
 
 -- the header that is written, but for the checksum
-abbrev pub icmp_header : ℕ → ℕ → List ℕ → IcmpHeader
-icmp_header message_type code rest = record { message_type = message_type; code = code; checksum = 0; rest = rest }
+abbrev pub icmp_header : MessageKind → List ℕ → IcmpHeader
+icmp_header kind rest =
+    record { message_type = kind.message_type; code = kind.code; checksum = 0; rest = rest }
 
 -- the header with the checksum that is written, which is over all other words
 abbrev pub icmp_checked : IcmpHeader → List ℕ → IcmpHeader

@@ -24,8 +24,8 @@ pub record Header : Type 0 where
 -- the octets of a header
 abbrev pub header_octets : Header → List ℕ
 header_octets h = (64 + h.ihl) ∷ h.type_of_service ∷ word h.total_length ++ word h.identification
-    ++ word (h.flags * 8192 + h.fragment_offset) ++ h.time_to_live ∷ h.protocol ∷ word h.header_checksum
-    ++ long_word h.source ++ long_word h.destination ++ h.options
+    ++ word (h.flags * 8192 + h.fragment_offset) ++ h.time_to_live ∷ h.protocol
+    ∷ word h.header_checksum ++ long_word h.source ++ long_word h.destination ++ h.options
 
 -- each field fits its bits, and the length of the header is what the field says
 pub record HeaderFits (h : Header) : Type 0 where
@@ -83,9 +83,11 @@ cut_of octets = take (word_at octets 2) octets
 abbrev pub header_fault : List ℕ → Option HeaderFault
 header_fault octets = if nat_lt (length octets) 20 then Some Short
     else (if not (slice_index octets 0 / 16 == 4) then Some Version
-    else (if nat_lt (header_length_of octets) 20 || nat_lt (length octets) (header_length_of octets) then Some Ihl
+    else (if nat_lt (header_length_of octets) 20
+    || nat_lt (length octets) (header_length_of octets) then Some Ihl
     else (if not (folded (word_sum (header_of octets)) == 65535) then Some Checksum
-    else (if nat_lt (word_at octets 2) (header_length_of octets) || nat_lt (length octets) (word_at octets 2) then Some Total
+    else (if nat_lt (word_at octets 2) (header_length_of octets)
+    || nat_lt (length octets) (word_at octets 2) then Some Total
     else None))))
 
 -- The octets pass the tests, and nothing follows the packet. This is the grammar as the tests have it: octets are such a
@@ -101,7 +103,8 @@ pub record IsPacket (octets : List ℕ) : Type 0 where
 
 -- the header with the checksum that is written, which is over all its other words
 abbrev pub checked : Header → Header
-checked h = record h { header_checksum = checksum_of (word_sum (header_octets (record h { header_checksum = 0 }))) }
+checked h = record h
+    { header_checksum = checksum_of (word_sum (header_octets (record h { header_checksum = 0 }))) }
 
 -- the octets of a packet as it is written
 abbrev pub packet_octets : Header → List ℕ → List ℕ

@@ -1,7 +1,7 @@
 //! Addresses of IPv4.
 
 ghost use Rattle.std.specs.Prelude.{◌≡◌, ℕ, ◌^◌, ◌<◌, IfSome, Some};
-ghost use Rattle.nm_packet.specs.Address.{address_text, is_offending};
+ghost use Rattle.nm_packet.specs.Address.{address_text, is_martian};
 ghost use Rattle.nm_packet.specs.Octets.{long_word, long_word_at};
 
 use byteorder::{BigEndian, ByteOrder};
@@ -54,10 +54,11 @@ impl Address {
         self.bits.to_be_bytes()
     }
 
-    /// Whether the address may be neither the source nor the destination of a packet between hosts: this network
-    /// (0.0.0.0/8), loopback (127.0.0.0/8), multicast (224.0.0.0/4) or reserved (240.0.0.0/4).
-    pub fn is_offending(self) -> bool
-        ensures { result ≡ is_offending self }
+    /// Whether the address is a martian (RFC 1812, section 5.3.7), neither the source nor the destination of a packet
+    /// between hosts: this network (0.0.0.0/8), loopback (127.0.0.0/8), multicast (224.0.0.0/4) or reserved
+    /// (240.0.0.0/4).
+    pub fn is_martian(self) -> bool
+        ensures { result ≡ is_martian self }
     {
         let [first, ..] = self.octets();
         matches!(first, 0 | 127 | 224..)

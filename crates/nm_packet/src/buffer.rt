@@ -1,6 +1,7 @@
 //! Memory for packets that are made one after another.
 
 ghost use Rattle.std.specs.Prelude.{◌≡◌, ◌≤◌, IfOk, OnOk, length};
+ghost use Rattle.nm_base.specs.declared.limits.TheConstants.{MAX_PACKET_OCTETS};
 
 use bytes::BytesMut;
 use nm_base::Packet;
@@ -50,7 +51,7 @@ impl PacketBuffer {
     /// `AllocError` where memory for the block's owners was refused.
     pub(crate) fn cut(&mut self) -> Result<Packet, AllocError>
         requires least { 1 ≤ length self.old.block.items }
-        requires greatest { length self.old.block.items ≤ 65535 }
+        requires greatest { length self.old.block.items ≤ MAX_PACKET_OCTETS }
         ensures { IfOk result (λ p. p ≡ self.old.block.items) }
     {
         let count = self.block.len();

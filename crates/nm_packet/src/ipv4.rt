@@ -1,6 +1,8 @@
 //! IPv4 packets (RFC 791, section 3.1).
 
 ghost use Rattle.std.specs.Prelude.{IfOk, Ok, ◌++◌, ◌≡◌, ◌+◌, ◌==◌, ◌%◌, ◌<◌, ◌≤◌, List, ℕ, length, None, Some, MatchResult};
+ghost use Rattle.nm_base.specs.declared.limits.TheConstants.{MAX_PACKET_OCTETS};
+ghost use Rattle.nm_packet.specs.declared.limits.TheConstants.{MAX_PAYLOAD};
 ghost use Rattle.nm_packet.specs.Octets.{IsOctets};
 ghost use Rattle.nm_packet.specs.Ipv4.{Header, HeaderFits, IsIpv4, IsPacket, checked, cut_of, fields_of, header_fault, header_length_of, header_octets, header_of, lowered, packet_octets, payload_of, plain_header, quote_of};
 
@@ -8,14 +10,41 @@ use crate::Address;
 use crate::buffer::{MAX_CUT_OCTETS, PacketBuffer};
 use crate::checksum::{checksum_of, sum_header, updated_checksum};
 use crate::fault::HeaderFault;
-use crate::octets::{long_word_at, word, word_at};
+use crate::octets::{long_word_at, set_long_word, set_word, word_at};
 use bytes::Bytes;
 use nm_base::Packet;
 use std::alloc::{AllocError, Global};
 use std::marker::Model;
 
+/// Where the fields of a header stand, in octets from its front (RFC 791, section 3.1).
+mod field {
+    /// The version in the high four bits, and the length of the header in the low ones.
+    pub const VERSION_AND_IHL: usize = 0;
+
+    pub const TYPE_OF_SERVICE: usize = 1;
+
+    pub const TOTAL_LENGTH: usize = 2;
+
+    pub const IDENTIFICATION: usize = 4;
+
+    /// The flags in the high three bits, and the fragment offset in the others.
+    pub const FLAGS_AND_OFFSET: usize = 6;
+
+    pub const TIME_TO_LIVE: usize = 8;
+
+    pub const PROTOCOL: usize = 9;
+
+    pub const HEADER_CHECKSUM: usize = 10;
+
+    pub const SOURCE: usize = 12;
+
+    pub const DESTINATION: usize = 16;
+
+    pub const OPTIONS: usize = 20;
+}
+
 /// The octets of a header without options.
-const LEAST_HEADER_OCTETS: usize = 20;
+pub(crate) const LEAST_HEADER_OCTETS: usize = field::OPTIONS;
 
 /// The octets of the payload that an error message quotes, at most.
 const QUOTED_PAYLOAD_OCTETS: usize = 8;
@@ -43,19 +72,20 @@ fn header_length(octets: &[u8]) -> usize
     requires { 0 < length octets.now }
     ensures { result ≡ header_length_of octets.now }
 {
-    4 * usize::from(octets[0] & 0x0f)
+    4 * usize::from(octets[field::VERSION_AND_IHL] & 0x0f)
 }
 
 /// The packet at the front of these octets, or the first test that fails.
 fn tested(octets: &[u8]) -> Result<Ipv4View<'_>, HeaderFault>
-    ensures exact { MatchResult result (λ v. (header_fault octets.now ≡ None) × (v ≡ cut_of octets.now))
+    ensures exact { MatchResult result
+        (λ v. (header_fault octets.now ≡ None) × (v ≡ cut_of octets.now))
         (λ e. header_fault octets.now ≡ Some e) }
     ensures packet { IfOk result (λ v. IsPacket v × IsOctets v) }
 {
     if octets.len() < LEAST_HEADER_OCTETS {
         return Err(HeaderFault::Short);
     }
-    if octets[0] >> 4 != 4 {
+    if octets[field::VERSION_AND_IHL] >> 4 != 4 {
         return Err(HeaderFault::Version);
     }
     let header_length = header_length(octets);
@@ -65,7 +95,7 @@ fn tested(octets: &[u8]) -> Result<Ipv4View<'_>, HeaderFault>
     if sum_header(&octets[..header_length]) != 0xffff {
         return Err(HeaderFault::Checksum);
     }
-    let total_length = usize::from(word_at(octets, 2));
+    let total_length = usize::from(word_at(octets, field::TOTAL_LENGTH));
     if total_length < header_length || octets.len() < total_length {
         return Err(HeaderFault::Total);
     }
@@ -84,7 +114,8 @@ impl Ipv4 {
         ensures only { (h : Header) (payload packet rest : List ℕ) → IsIpv4 h payload packet
             → octets.now ≡ packet ++ rest → result ≡ Ok packet }
         // Which octets these are, and which fault it is.
-        ensures exact { MatchResult result (λ v. (header_fault octets.now ≡ None) × (v ≡ cut_of octets.now))
+        ensures exact { MatchResult result
+            (λ v. (header_fault octets.now ≡ None) × (v ≡ cut_of octets.now))
             (λ e. header_fault octets.now ≡ Some e) }
     {
         tested(octets)
@@ -105,33 +136,33 @@ impl<'a> Ipv4View<'a> {
     pub fn ihl(&self) -> u8
         ensures { result ≡ (fields_of self.now).ihl }
     {
-        self.octets[0] & 0x0f
+        self.octets[field::VERSION_AND_IHL] & 0x0f
     }
 
     pub fn type_of_service(&self) -> u8
         ensures { result ≡ (fields_of self.now).type_of_service }
     {
-        self.octets[1]
+        self.octets[field::TYPE_OF_SERVICE]
     }
 
     /// The octets of header and payload.
     pub fn total_length(&self) -> u16
         ensures { result ≡ (fields_of self.now).total_length }
     {
-        word_at(self.octets, 2)
+        word_at(self.octets, field::TOTAL_LENGTH)
     }
 
     pub fn identification(&self) -> u16
         ensures { result ≡ (fields_of self.now).identification }
     {
-        word_at(self.octets, 4)
+        word_at(self.octets, field::IDENTIFICATION)
     }
 
     /// The three bits of the flags: 4 is reserved, 2 is don't fragment, 1 is more fragments.
     pub fn flags(&self) -> u8
         ensures { result ≡ (fields_of self.now).flags }
     {
-        (word_at(self.octets, 6) >> 13) as u8
+        (word_at(self.octets, field::FLAGS_AND_OFFSET) >> 13) as u8
     }
 
     /// Whether the flag is set that says that this is not the last fragment.
@@ -145,45 +176,45 @@ impl<'a> Ipv4View<'a> {
     pub fn fragment_offset(&self) -> u16
         ensures { result ≡ (fields_of self.now).fragment_offset }
     {
-        word_at(self.octets, 6) & 0x1fff
+        word_at(self.octets, field::FLAGS_AND_OFFSET) & 0x1fff
     }
 
     pub fn time_to_live(&self) -> u8
         ensures { result ≡ (fields_of self.now).time_to_live }
     {
-        self.octets[8]
+        self.octets[field::TIME_TO_LIVE]
     }
 
     /// The number of the protocol of the payload: 1 is ICMP, 17 is UDP.
     pub fn protocol(&self) -> u8
         ensures { result ≡ (fields_of self.now).protocol }
     {
-        self.octets[9]
+        self.octets[field::PROTOCOL]
     }
 
     pub fn header_checksum(&self) -> u16
         ensures { result ≡ (fields_of self.now).header_checksum }
     {
-        word_at(self.octets, 10)
+        word_at(self.octets, field::HEADER_CHECKSUM)
     }
 
     pub fn source(&self) -> Address
         ensures { result ≡ (fields_of self.now).source }
     {
-        Address::from_bits(long_word_at(self.octets, 12))
+        Address::from_bits(long_word_at(self.octets, field::SOURCE))
     }
 
     pub fn destination(&self) -> Address
         ensures { result ≡ (fields_of self.now).destination }
     {
-        Address::from_bits(long_word_at(self.octets, 16))
+        Address::from_bits(long_word_at(self.octets, field::DESTINATION))
     }
 
     /// The options as they came, with their padding.
     pub fn options(&self) -> &'a [u8]
         ensures { result.now ≡ (fields_of self.now).options }
     {
-        &self.header()[LEAST_HEADER_OCTETS..]
+        &self.header()[field::OPTIONS..]
     }
 
     /// The octets of the header, with its options.
@@ -198,7 +229,7 @@ impl<'a> Ipv4View<'a> {
     /// What follows the header.
     pub fn payload(&self) -> &'a [u8]
         ensures value { result.now ≡ payload_of self.now }
-        ensures greatest { length result.now ≤ 65515 }
+        ensures greatest { length result.now ≤ MAX_PAYLOAD }
     {
         &self.octets[header_length(self.octets)..]
     }
@@ -219,43 +250,27 @@ pub struct Ipv4Header {
 impl Ipv4Header {
     /// The octets of the header with this checksum, before a payload of so many octets.
     fn octets_with(self, size: u16, checksum: u16) -> [u8; LEAST_HEADER_OCTETS]
-        requires { size ≤ 65515 }
-        ensures value { result ≡ header_octets (record (plain_header self size) { header_checksum = checksum }) }
+        requires { size ≤ MAX_PAYLOAD }
+        ensures value { result
+            ≡ header_octets (record (plain_header self size) { header_checksum = checksum }) }
         ensures fits { HeaderFits (record (plain_header self size) { header_checksum = checksum }) }
     {
-        let [l0, l1] = word(20 + size);
-        let [i0, i1] = word(self.identification);
-        let [c0, c1] = word(checksum);
-        let [s0, s1, s2, s3] = self.source.octets();
-        let [d0, d1, d2, d3] = self.destination.octets();
-        let (tos, ttl) = (self.type_of_service, self.time_to_live);
-        [
-            0x45,
-            tos,
-            l0,
-            l1,
-            i0,
-            i1,
-            0,
-            0,
-            ttl,
-            self.protocol,
-            c0,
-            c1,
-            s0,
-            s1,
-            s2,
-            s3,
-            d0,
-            d1,
-            d2,
-            d3,
-        ]
+        let mut octets = [0; LEAST_HEADER_OCTETS];
+        octets[field::VERSION_AND_IHL] = 0x45;
+        octets[field::TYPE_OF_SERVICE] = self.type_of_service;
+        set_word(&mut octets, field::TOTAL_LENGTH, 20 + size);
+        set_word(&mut octets, field::IDENTIFICATION, self.identification);
+        octets[field::TIME_TO_LIVE] = self.time_to_live;
+        octets[field::PROTOCOL] = self.protocol;
+        set_word(&mut octets, field::HEADER_CHECKSUM, checksum);
+        set_long_word(&mut octets, field::SOURCE, self.source.bits());
+        set_long_word(&mut octets, field::DESTINATION, self.destination.bits());
+        octets
     }
 
     /// The octets of the header before a payload of so many octets.
     fn octets(&self, size: u16) -> [u8; LEAST_HEADER_OCTETS]
-        requires { size ≤ 65515 }
+        requires { size ≤ MAX_PAYLOAD }
         ensures value { result ≡ header_octets (checked (plain_header self.now size)) }
         ensures fits { HeaderFits (plain_header self.now size) }
     {
@@ -266,9 +281,11 @@ impl Ipv4Header {
 
 /// The packet with this header and this payload, which may have up to 65,515 octets.
 pub fn write_ipv4(alloc: Global, header: &Ipv4Header, payload: &[u8]) -> Result<Packet, AllocError>
-    requires { length payload.now ≤ 65515 }
-    ensures value { IfOk result (λ p. p ≡ packet_octets (plain_header header.now (length payload.now)) payload.now) }
-    ensures grammar { IfOk result (IsIpv4 (checked (plain_header header.now (length payload.now))) payload.now) }
+    requires { length payload.now ≤ MAX_PAYLOAD }
+    ensures value { IfOk result
+        (λ p. p ≡ packet_octets (plain_header header.now (length payload.now)) payload.now) }
+    ensures grammar { IfOk result
+        (IsIpv4 (checked (plain_header header.now (length payload.now))) payload.now) }
 {
     write_in_parts(alloc, header, &[], payload)
 }
@@ -280,11 +297,12 @@ pub(crate) fn write_in_parts(
     front: &[u8],
     back: &[u8],
 ) -> Result<Packet, AllocError>
-    requires { length front.now + length back.now ≤ 65515 }
-    ensures value { IfOk result (λ p. p
-        ≡ packet_octets (plain_header header.now (length front.now + length back.now)) (front.now ++ back.now)) }
-    ensures grammar { IfOk result
-        (IsIpv4 (checked (plain_header header.now (length front.now + length back.now))) (front.now ++ back.now)) }
+    requires { length front.now + length back.now ≤ MAX_PAYLOAD }
+    ensures value { IfOk result (λ p. p ≡ packet_octets
+        (plain_header header.now (length front.now + length back.now)) (front.now ++ back.now)) }
+    ensures grammar { IfOk result (IsIpv4
+        (checked (plain_header header.now (length front.now + length back.now)))
+        (front.now ++ back.now)) }
 {
     let size = front.len() + back.len();
     let mut octets = Vec::with_capacity(alloc, LEAST_HEADER_OCTETS + size)?;
@@ -297,7 +315,7 @@ pub(crate) fn write_in_parts(
 /// The packet of these octets.
 fn packet_from(octets: Vec<u8>) -> Result<Packet, AllocError>
     requires least { 1 ≤ length octets.items }
-    requires greatest { length octets.items ≤ 65535 }
+    requires greatest { length octets.items ≤ MAX_PACKET_OCTETS }
     ensures { IfOk result (λ p. p ≡ octets.items) }
 {
     let octets = Bytes::from_vec(octets)?;
@@ -327,8 +345,10 @@ pub fn lower_ttl(
     packet: &Ipv4View<'_>,
 ) -> Result<Packet, AllocError>
     requires { 1 ≤ (fields_of packet.now).time_to_live }
-    ensures value { IfOk result (λ p. p ≡ packet_octets (lowered (fields_of packet.now)) (payload_of packet.now)) }
-    ensures grammar { IfOk result (IsIpv4 (checked (lowered (fields_of packet.now))) (payload_of packet.now)) }
+    ensures value { IfOk result
+        (λ p. p ≡ packet_octets (lowered (fields_of packet.now)) (payload_of packet.now)) }
+    ensures grammar { IfOk result
+        (IsIpv4 (checked (lowered (fields_of packet.now))) (payload_of packet.now)) }
 {
     let time_to_live = packet.time_to_live() - 1;
     let checksum = lowered_checksum(packet);
@@ -350,7 +370,8 @@ fn lowered_alone(
     requires small { IsOctets octets.now }
     requires live { time_to_live + 1 ≡ (fields_of octets.now).time_to_live }
     requires checksum { checksum ≡ (checked (lowered (fields_of octets.now))).header_checksum }
-    ensures { IfOk result (λ p. p ≡ packet_octets (lowered (fields_of octets.now)) (payload_of octets.now)) }
+    ensures { IfOk result
+        (λ p. p ≡ packet_octets (lowered (fields_of octets.now)) (payload_of octets.now)) }
 {
     let mut copy = Vec::from_slice(alloc, octets)?;
     lower(copy.as_mut_slice(), time_to_live, checksum);
@@ -369,7 +390,8 @@ fn lowered_in(
     requires small { IsOctets octets.now }
     requires live { time_to_live + 1 ≡ (fields_of octets.now).time_to_live }
     requires checksum { checksum ≡ (checked (lowered (fields_of octets.now))).header_checksum }
-    ensures { IfOk result (λ p. p ≡ packet_octets (lowered (fields_of octets.now)) (payload_of octets.now)) }
+    ensures { IfOk result
+        (λ p. p ≡ packet_octets (lowered (fields_of octets.now)) (payload_of octets.now)) }
 {
     buffer.fill(alloc, octets)?;
     lower(buffer.block.as_mut_slice(), time_to_live, checksum);
@@ -382,7 +404,7 @@ fn lowered_checksum(packet: &Ipv4View<'_>) -> u16
     ensures { result ≡ (checked (lowered (fields_of packet.now))).header_checksum }
 {
     let octets = packet.octets();
-    let live = word_at(octets, 8);
+    let live = word_at(octets, field::TIME_TO_LIVE);
     updated_checksum(packet.header_checksum(), live, live - 256)
 }
 
@@ -395,8 +417,6 @@ fn lower(octets: &mut [u8], time_to_live: u8, checksum: u16)
     requires checksum { checksum ≡ (checked (lowered (fields_of octets.old))).header_checksum }
     ensures { octets.new ≡ packet_octets (lowered (fields_of octets.old)) (payload_of octets.old) }
 {
-    let [high, low] = word(checksum);
-    octets[8] = time_to_live;
-    octets[10] = high;
-    octets[11] = low;
+    octets[field::TIME_TO_LIVE] = time_to_live;
+    set_word(octets, field::HEADER_CHECKSUM, checksum);
 }

@@ -2,6 +2,7 @@
 
 ghost use Rattle.std.specs.Prelude.{◌≡◌, ℕ, ◌+◌, ◌-◌, ◌*◌, ◌<◌, ◌≤◌, ◌⊎◌, ◌++◌, List, length, None};
 ghost use Rattle.nm_packet.specs.declared.icmp.TheConstants as icmp;
+ghost use Rattle.nm_packet.specs.declared.limits.TheConstants as limits;
 ghost use Rattle.nm_packet.specs.declared.udp.TheConstants as udp;
 ghost use Rattle.nm_packet.specs.Checksum.{updated_checksum};
 ghost use Rattle.nm_packet.specs.Ipv4.{Header, HeaderFits, IsIpv4, checked, cut_of, fields_of, header_fault, lowered, packet_octets, payload_of};
@@ -12,8 +13,8 @@ ghost use Rattle.nm_packet.specs.Icmp.{IcmpFits, IcmpHeader, IsIcmp, icmp_checke
 /// with one header and one payload at most.
 pub fn ipv4_is_read_as_made()
     ensures { (h : Header) (payload octets rest : List ℕ) → IsIpv4 h payload octets
-        → (header_fault (octets ++ rest) ≡ None) × (cut_of (octets ++ rest) ≡ octets) × (fields_of octets ≡ h)
-        × (payload_of octets ≡ payload) }
+        → (header_fault (octets ++ rest) ≡ None) × (cut_of (octets ++ rest) ≡ octets)
+        × (fields_of octets ≡ h) × (payload_of octets ≡ payload) }
 {}
 
 /// What is written of fields that fit is a packet with these fields and the checksum over all other words.
@@ -27,7 +28,8 @@ pub fn ipv4_is_written_well()
 /// place of 0000, which passes the test and is never written.
 pub fn ipv4_is_what_is_written()
     ensures { (h : Header) (payload octets : List ℕ) → IsIpv4 h payload octets
-        → (octets ≡ packet_octets h payload) ⊎ ((h.header_checksum ≡ 65535) × ((checked h).header_checksum ≡ 0)) }
+        → (octets ≡ packet_octets h payload)
+        ⊎ ((h.header_checksum ≡ 65535) × ((checked h).header_checksum ≡ 0)) }
 {}
 
 /// The checksum of the header one hop on, over all its other words, is also the one that RFC 1624 makes of the checksum
@@ -42,14 +44,15 @@ pub fn lowered_checksum_by_difference()
 pub fn udp_is_read_as_made()
     ensures { (source destination : ℕ) (h : UdpHeader) (payload octets rest : List ℕ)
         → IsUdp source destination h payload octets
-        → (udp_fault source destination (octets ++ rest) ≡ None) × (udp_cut_of (octets ++ rest) ≡ octets)
-        × (udp_fields_of octets ≡ h) × (udp_data_of octets ≡ payload) }
+        → (udp_fault source destination (octets ++ rest) ≡ None)
+        × (udp_cut_of (octets ++ rest) ≡ octets) × (udp_fields_of octets ≡ h)
+        × (udp_data_of octets ≡ payload) }
 {}
 
 /// What is written of fields that fit is a datagram with these fields and a checksum that is not 0.
 pub fn udp_is_written_well()
-    ensures { (source destination : ℕ) (h : UdpHeader) (payload : List ℕ) → UdpFits (record h { checksum = 0 })
-        → h.length ≡ 8 + length payload
+    ensures { (source destination : ℕ) (h : UdpHeader) (payload : List ℕ)
+        → UdpFits (record h { checksum = 0 }) → h.length ≡ 8 + length payload
         → IsUdp source destination (udp_checked source destination h payload) payload
         (datagram_octets source destination h payload)
         × (0 < (udp_checked source destination h payload).checksum) }
@@ -58,7 +61,8 @@ pub fn udp_is_written_well()
 /// A message is read with the fields and the data that it was made of.
 pub fn icmp_is_read_as_made()
     ensures { (h : IcmpHeader) (payload octets : List ℕ) → IsIcmp h payload octets
-        → (icmp_fault octets ≡ None) × (icmp_fields_of octets ≡ h) × (icmp_data_of octets ≡ payload) }
+        → (icmp_fault octets ≡ None) × (icmp_fields_of octets ≡ h)
+        × (icmp_data_of octets ≡ payload) }
 {}
 
 /// What is written of fields that fit is a message with these fields and the checksum over all other words.
@@ -71,4 +75,31 @@ pub fn icmp_is_written_well()
 pub fn protocol_numbers()
     ensures icmp { icmp.PROTOCOL ≡ 1 }
     ensures udp { udp.PROTOCOL ≡ 17 }
+{}
+
+/// The numbers of the types of messages are those of RFC 792.
+pub fn message_types()
+    ensures echo_reply { icmp.ECHO_REPLY ≡ 0 }
+    ensures destination_unreachable { icmp.DESTINATION_UNREACHABLE ≡ 3 }
+    ensures source_quench { icmp.SOURCE_QUENCH ≡ 4 }
+    ensures redirect { icmp.REDIRECT ≡ 5 }
+    ensures echo_request { icmp.ECHO_REQUEST ≡ 8 }
+    ensures time_exceeded { icmp.TIME_EXCEEDED ≡ 11 }
+    ensures parameter_problem { icmp.PARAMETER_PROBLEM ≡ 12 }
+{}
+
+/// The numbers of their codes are those of RFC 792.
+pub fn message_codes()
+    ensures echo { icmp.ECHO_CODE ≡ 0 }
+    ensures network { icmp.NETWORK_UNREACHABLE ≡ 0 }
+    ensures protocol { icmp.PROTOCOL_UNREACHABLE ≡ 2 }
+    ensures port { icmp.PORT_UNREACHABLE ≡ 3 }
+    ensures in_transit { icmp.IN_TRANSIT ≡ 0 }
+{}
+
+/// How many octets fit, as numbers.
+pub fn greatest_sizes()
+    ensures payload { limits.MAX_PAYLOAD ≡ 65515 }
+    ensures packet_data { limits.MAX_PACKET_DATA ≡ 65507 }
+    ensures datagram_data { limits.MAX_DATAGRAM_DATA ≡ 65527 }
 {}

@@ -8,12 +8,13 @@ pub mod fault;
 pub mod icmp;
 pub mod ipv4;
 pub mod laws;
+pub mod limits;
 mod octets;
 pub mod udp;
 
 pub use address::Address;
 pub use buffer::PacketBuffer;
 pub use fault::{HeaderFault, IcmpFault, UdpFault};
-pub use icmp::{Icmp, IcmpView};
+pub use icmp::{Icmp, IcmpView, MessageKind};
 pub use ipv4::{Ipv4, Ipv4Header, Ipv4View, lower_ttl, quote, write_ipv4};
-pub use udp::{Udp, UdpView};
+pub use udp::{Ports, Udp, UdpView};

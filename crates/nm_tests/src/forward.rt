@@ -73,7 +73,7 @@ fn lead_to(
     routes: &[Route],
     rows: &[([u8; 4], Option<u32>)],
 ) -> Result<(), Fail> {
-    let routes = Routes::new(rt.alloc(), routes)?;
+    let routes = Routes::of(rt.alloc(), routes)?;
     for (octets, want) in rows {
         let via = routes.look(Address::from_octets(*octets));
         let found = via.map(|via| via.number());
@@ -193,7 +193,7 @@ fn scanned(routes: &[Route], address: u32) -> Option<u32> {
 #[test]
 fn routes_are_those_of_a_scan(rt: HostRuntime) -> Result<(), Fail> {
     let all = many_routes(rt.alloc())?;
-    let routes = Routes::new(rt.alloc(), &all)?;
+    let routes = Routes::of(rt.alloc(), &all)?;
     let mut seed = 2;
     for _ in 0..2_000 {
         seed = next(seed);

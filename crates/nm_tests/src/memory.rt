@@ -13,7 +13,7 @@ use nm_base::{IfaceNo, NodeNo, Packet, Record, SourceNo, Time};
 use nm_events::SortedList;
 use nm_forward::{Counter, Origin, Reaction};
 use nm_knowledge::{Accepted, Know, KnowFault};
-use nm_packet::Icmp;
+use nm_packet::{Icmp, MessageKind};
 use nm_sim::{Part, one_list};
 use nm_topology::{Refusal, TopoFault, Topology};
 use nm_traffic::{Source, SourcePacket};
@@ -95,8 +95,12 @@ fn topology_read(rt: HostRuntime) -> Result<(), Fail> {
 
 #[test]
 fn icmp_write(rt: HostRuntime) -> Result<(), Fail> {
-    let first = Icmp::write(rt.alloc(), 8, 0, [0, 7, 0, 0], b"\xab");
-    let second = Icmp::write(rt.alloc(), 8, 0, [0, 7, 0, 0], b"\xab");
+    let kind = MessageKind {
+        message_type: 8,
+        code: 0,
+    };
+    let first = Icmp::write(rt.alloc(), kind, [0, 7, 0, 0], b"\xab");
+    let second = Icmp::write(rt.alloc(), kind, [0, 7, 0, 0], b"\xab");
     let octets = either(first, second)?;
     let want = b"\x08\x00\x4c\xf8\x00\x07\x00\x00\xab";
     eq_octets(&rt, "a message", octets.as_slice(), want);

@@ -3,8 +3,8 @@
 
 use crate::same::{eq_number, eq_numbers, eq_octets, eq_shown, holds};
 use nm_packet::{
-    Address, HeaderFault, Icmp, IcmpFault, Ipv4, Ipv4Header, PacketBuffer, Udp, UdpFault,
-    lower_ttl, quote, write_ipv4,
+    Address, HeaderFault, Icmp, IcmpFault, Ipv4, Ipv4Header, MessageKind, PacketBuffer, Ports, Udp,
+    UdpFault, lower_ttl, quote, write_ipv4,
 };
 use std::alloc::Global;
 use std::process::Abort;
@@ -76,7 +76,7 @@ fn addresses_have_no_other_text(rt: HostRuntime) {
 fn offend(rt: &impl Abort, offends: bool, rows: &[[u8; 4]]) {
     for octets in rows {
         let address = Address::from_octets(*octets);
-        assert!(rt; address.is_offending() == offends, "{octets:?}");
+        assert!(rt; address.is_martian() == offends, "{octets:?}");
     }
 }
 
@@ -382,10 +382,17 @@ fn packets_are_written(rt: HostRuntime) -> Result<(), Fail> {
     Ok(())
 }
 
+fn ports() -> Ports {
+    Ports {
+        source: 1000,
+        destination: 9,
+    }
+}
+
 #[test]
 fn packets_are_written_with_a_datagram(rt: HostRuntime) -> Result<(), Fail> {
     let header = header(1, 17, [10, 0, 0, 1], [10, 0, 1, 2]);
-    let packet = Udp::write_packet(rt.alloc(), &header, 1000, 9, &[0; 72])?;
+    let packet = Udp::write_packet(rt.alloc(), &header, ports(), &[0; 72])?;
     let want = padded(
         rt.alloc(),
         "45000064000000000111a4870a0000010a00010203e800090050e65a",
@@ -401,7 +408,11 @@ fn packets_are_written_with_a_message(rt: HostRuntime) -> Result<(), Fail> {
     let quoted =
         b"\x45\x00\x00\x64\x00\x00\x00\x00\x01\x11\xa4\x87\x0a\x00\x00\x01\x0a\x00\x01\x02\x03\xe8\x00\x09\x00\x50\xe6\x5a";
     let header = header(64, 1, [10, 0, 0, 2], [10, 0, 0, 1]);
-    let error = Icmp::write_packet(rt.alloc(), &header, 11, 0, [0; 4], quoted)?;
+    let kind = MessageKind {
+        message_type: 11,
+        code: 0,
+    };
+    let error = Icmp::write_packet(rt.alloc(), &header, kind, [0; 4], quoted)?;
     let want = padded(
         rt.alloc(),
         "4500003800000000400166c30a0000020a0000010b000a640000000045000064000000000111a4870a0000010a00010203e800090050e65a",
@@ -422,7 +433,7 @@ fn destination() -> Address {
 /// A datagram of these data has these octets.
 fn datagram_is(rt: &(impl Abort + AllocGlobal), data: &[u8], want: &[u8]) -> Result<(), Fail> {
     assert!(rt; data.len() <= 2);
-    let octets = Udp::write(rt.alloc(), source(), destination(), 1000, 9, data)?;
+    let octets = Udp::write(rt.alloc(), source(), destination(), ports(), data)?;
     eq_octets(rt, "a datagram", octets.as_slice(), want);
     Ok(())
 }
@@ -549,7 +560,8 @@ fn message_is(
     want: &[u8],
 ) -> Result<(), Fail> {
     assert!(rt; data.len() <= 1);
-    let octets = Icmp::write(rt.alloc(), message_type, code, rest, data)?;
+    let kind = MessageKind { message_type, code };
+    let octets = Icmp::write(rt.alloc(), kind, rest, data)?;
     eq_octets(rt, "a message", octets.as_slice(), want);
     Ok(())
 }

@@ -3,6 +3,8 @@ use Rattle.std.specs.Prelude.{ℕ, ◌+◌, ◌*◌, ◌%◌, ◌==◌, if◌the
 use Rattle.nm_topology.specs.declared.traffic.Flow.{Flow}
 use Rattle.nm_topology.specs.declared.traffic.Echo.{Echo}
 use Rattle.nm_packet.specs.Octets.{word}
+use Rattle.nm_packet.specs.declared.icmp.MessageKind.{MessageKind}
+use Rattle.nm_packet.specs.declared.icmp.TheConstants.{ECHO_REQUEST, ECHO_CODE}
 use Rattle.nm_packet.specs.Icmp.{icmp_header, message_octets}
 
 -- when packet n comes, in nanoseconds
@@ -21,4 +23,5 @@ cbr_octets f = if f.size == 0 then 0 ∷ [] else flow_data f
 -- number
 unfoldable pub echo_message : Echo → ℕ → List ℕ
 echo_message e n =
-    message_octets (icmp_header 8 0 (word e.identifier ++ word (n % 65536))) (flow_data e.flow)
+    let kind : MessageKind = record { message_type = ECHO_REQUEST; code = ECHO_CODE } in
+    message_octets (icmp_header kind (word e.identifier ++ word (n % 65536))) (flow_data e.flow)

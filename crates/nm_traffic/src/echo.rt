@@ -9,14 +9,10 @@ ghost use Rattle.nm_traffic.specs.Source.{packet_at};
 use crate::flow::time_before;
 use crate::packet::SourcePacket;
 use nm_base::Time;
-use nm_packet::Icmp;
+use nm_packet::icmp::{ECHO_CODE, ECHO_REQUEST};
+use nm_packet::{Icmp, MessageKind};
 use nm_topology::traffic::Echo;
 use std::alloc::{AllocError, Global};
-
-/// The type of an echo request, and its code.
-const ECHO_REQUEST: u8 = 8;
-
-const CODE: u8 = 0;
 
 /// How many sequence numbers there are.
 const SEQUENCE_NUMBERS: u64 = 65_536;
@@ -55,7 +51,11 @@ impl EchoSource {
     {
         let sequence_number = (number % SEQUENCE_NUMBERS) as u16;
         let rest = rest_of_header(self.echo.identifier, sequence_number);
-        let message = Icmp::write(alloc, ECHO_REQUEST, CODE, rest, &self.octets)?;
+        let kind = MessageKind {
+            message_type: ECHO_REQUEST,
+            code: ECHO_CODE,
+        };
+        let message = Icmp::write(alloc, kind, rest, &self.octets)?;
         SourcePacket::of_octets(message)
     }
 

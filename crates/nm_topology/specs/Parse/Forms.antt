@@ -6,7 +6,7 @@ use Rattle.std.specs.Str.{bytes_eq}
 use Rattle.nm_topology.specs.declared.node.NodeKind.{NodeKind}
 use Rattle.nm_topology.specs.declared.node.NodeKind.TheVariants.{Host, Router}
 use Rattle.nm_topology.specs.declared.prefix.Prefix.{Prefix}
-use Rattle.nm_packet.specs.Address.{address_text, is_offending}
+use Rattle.nm_packet.specs.Address.{address_text, is_martian}
 
 abbrev pub or_this : Option ℕ → ℕ → Bool → Option ℕ
 or_this (Some k) n passes = Some k
@@ -34,9 +34,9 @@ name_of text = if is_name text then Some text else None
 abbrev pub address_of : List ℕ → Option ℕ
 address_of text = least_below (2 ^ 32) (λ a. bytes_eq text (address_text a))
 
--- the same, but for offending addresses
+-- the same, but for martians
 abbrev pub usable_address_of : List ℕ → Option ℕ
-usable_address_of text = option_and_then (λ a. if is_offending a then None else Some a) (address_of text)
+usable_address_of text = option_and_then (λ a. if is_martian a then None else Some a) (address_of text)
 
 -- the length of a prefix that a text writes, 0 to 32
 abbrev pub length_of : List ℕ → Option ℕ

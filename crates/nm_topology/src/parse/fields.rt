@@ -97,7 +97,7 @@ pub fn required_name(alloc: Global, table: &Table, key: &str) -> Result<String, 
     Ok(String::from_str(alloc, text)?)
 }
 
-/// A required address that is no offending one.
+/// A required address that is no martian.
 pub fn required_address(table: &Table, key: &str) -> Result<Address, TopoFault>
     ensures { Gives (λ a. a) result (required_text usable_address_of (get_member key.now (table_view table.now))) }
 {

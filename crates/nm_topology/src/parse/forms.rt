@@ -55,12 +55,12 @@ fn bits_of(text: &[u8]) -> Option<u32>
     }
 }
 
-/// The address that the text writes, if it is no offending one.
+/// The address that the text writes, if it is no martian.
 pub fn usable_address_of(text: &[u8]) -> Option<Address>
     ensures { result ≡ usable_address_of text.now }
 {
     let address = address_of(text)?;
-    if address.is_offending() {
+    if address.is_martian() {
         return None;
     }
     Some(address)

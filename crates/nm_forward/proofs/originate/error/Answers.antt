@@ -15,6 +15,6 @@ returns c =
     let loud : is_quiet p ≡ false = cc in
     subst (λ (x : Consequence). IfOk c.originate.result (λ p. consequence p ≡ x))
     (error_of-loud c.args.topology.now.ifaces state.table state.identification p
-    c.args.message_type c.args.code c.source.result c.deref.result.now
+    c.args.kind c.source.result c.deref.result.now
     loud c.source.ensures quoted)
     c.originate.ensures
