@@ -42,21 +42,12 @@ is_cut parts owners l = not (part_of parts owners l.a == part_of parts owners l.
 abbrev pub is_undelayed_cut : List ℕ → List ℕ → Link → Bool
 is_undelayed_cut parts owners l = (l.delay == 0) && is_cut parts owners l
 
--- no node has too many routes, of so many nodes
-abbrev pub tested_route_counts : ℕ → List PlacedRoute → Result Unit Refusal
-tested_route_counts nodes routes = demand (list_all (λ rs. nat_le (length rs) MAX_ROUTES_OF_NODE) (routes_of_nodes nodes routes)) TooMany
-
--- there are not too many channels, and each link between partitions delays by something
-abbrev pub tested_ends : List ℕ → ℕ → ResolvedValue → Result Unit Refusal
-tested_ends parts ifaces t =
-    demand (nat_le (length (receivers_of parts t.owners (far_ends ifaces t.links))) MAX_CHANNELS) TooMany >>= λ few.
-    demand (not (list_any (is_undelayed_cut parts t.owners) t.links)) CutDelay
-
--- partitions by node, addresses by interface, the numbers of all else; how many nodes and interfaces
+-- the tests of the whole, in their order: partitions by node, addresses by interface, the numbers of all else; how many nodes and interfaces
 abbrev pub tested : List ℕ → List ℕ → ℕ → ℕ → ResolvedValue → Result Unit Refusal
 tested parts addresses nodes ifaces t =
     demand (are_used_once ifaces t.links) IfaceUse >>= λ used.
     demand (not (has_double nat_eq addresses)) DoubleAddress >>= λ different.
     demand (not (has_double same_route t.routes)) DoubleRoute >>= λ single.
-    tested_route_counts nodes t.routes >>= λ short.
-    tested_ends parts ifaces t
+    demand (list_all (λ rs. nat_le (length rs) MAX_ROUTES_OF_NODE) (routes_of_nodes nodes t.routes)) TooMany >>= λ short.
+    demand (nat_le (length (receivers_of parts t.owners (far_ends ifaces t.links))) MAX_CHANNELS) TooMany >>= λ few.
+    demand (not (list_any (is_undelayed_cut parts t.owners) t.links)) CutDelay

@@ -1,100 +1,58 @@
 //! The nodes and interfaces of a topology, put together.
 
-ghost use Rattle.std.specs.Prelude.{◌≡◌, ◌≤◌, ◌<◌, map, length, nat_le, All, IfOk};
-ghost use Rattle.std.specs.List.{list_all};
-ghost use Rattle.nm_base.specs.declared.limits.TheConstants.{MAX_CHANNELS, MAX_IFACES, MAX_ROUTES_OF_NODE};
-ghost use Rattle.nm_topology.specs.declared.fault.Refusal.TheVariants.{TooMany};
-ghost use Rattle.nm_topology.specs.Build.{far_ends, routes_of_nodes, partition_count, placed_nodes, placed_ifaces, receivers_of};
-ghost use Rattle.nm_topology.specs.Fault.{demand};
+ghost use Rattle.std.specs.Prelude.{◌≡◌, ◌≤◌, ◌<◌, map, length, All, IfOk};
+ghost use Rattle.nm_base.specs.declared.limits.TheConstants.{MAX_CHANNELS, MAX_IFACES};
+ghost use Rattle.nm_topology.specs.Build.{far_ends, placed_ifaces, placed_nodes, receivers_of, routes_of_nodes};
 ghost use Rattle.nm_topology.specs.Fault.{Gives};
-ghost use Rattle.nm_topology.specs.Validate.{tested, tested_ends, tested_route_counts};
+ghost use Rattle.nm_topology.specs.Validate.{tested};
 
-use crate::validate::checks::{check_addresses, check_channels, check_cuts, check_route_counts, check_routes, check_uses};
 use crate::build::partitions::partitions_of_nodes;
 use crate::fault::TopoFault;
-use crate::resolve::Resolved;
-use crate::parts::{Far, Iface, Node, PlacedRoute, NodeRoutes};
 use crate::parse::tables::{IfaceTable, NodeTable};
+use crate::parts::{Far, Iface, Node, NodeRoutes};
+use crate::resolve::Resolved;
+use crate::validate::validate;
 use nm_base::{IfaceNo, NodeNo, PartNo};
 use std::alloc::{AllocError, Global};
 
 pub mod partitions;
 pub mod wiring;
 
-/// The routes of each node, once their test has passed.
-fn find_routes(
-    alloc: Global,
-    count: usize,
-    routes: &[PlacedRoute],
-) -> Result<Vec<NodeRoutes>, TopoFault>
-    requires { All (λ r. r.node < count) routes.now }
-    ensures tested { Gives (λ _. tt) result (tested_route_counts count routes.now) }
-    ensures list { IfOk result (λ v. v.items ≡ routes_of_nodes count routes.now) }
-{
-    let node_routes = wiring::routes_of_nodes(alloc, count, routes)?;
-    check_route_counts(&node_routes)?;
-    Ok(node_routes)
-}
-
-/// What the ends of links say: the far end of each interface, and the interfaces that receive a channel.
+/// What hangs together: the routes of each node, the far end of each interface, and the interfaces that receive a
+/// channel.
 #[derive(Drop)]
-pub struct Ends {
+pub struct Wired {
+    pub node_routes: Vec<NodeRoutes>,
     pub far: Vec<Far>,
     pub receivers: Vec<IfaceNo>,
 }
 
-/// The ends of `count` interfaces, once their tests have passed.
-fn find_ends(
+/// What hangs together of nodes in these partitions and `count` interfaces.
+fn wire(
     alloc: Global,
     parts: &[PartNo],
     count: usize,
     resolved: &Resolved,
-) -> Result<Ends, TopoFault>
+) -> Result<Wired, AllocError>
     requires count { count ≤ MAX_IFACES }
-    requires owners { (length resolved.now.owners ≡ count) × All (λ o. o < length parts.now) resolved.now.owners }
+    requires owners { (length resolved.now.owners ≡ count)
+        × All (λ o. o < length parts.now) resolved.now.owners }
     requires links { All (λ l. (l.a < count) × (l.b < count)) resolved.now.links }
-    ensures few { IfOk result (λ e. length e.receivers.items ≤ MAX_CHANNELS) }
-    ensures tested { Gives (λ _. tt) result (tested_ends parts.now count resolved.now) }
-    ensures far { IfOk result (λ e. e.far.items ≡ far_ends count resolved.now.links) }
-    ensures receivers { IfOk result (λ e. e.receivers.items ≡ receivers_of parts.now resolved.now.owners (far_ends count resolved.now.links)) }
+    requires routes { All (λ r. r.node < length parts.now) resolved.now.routes }
+    ensures node_routes { IfOk result (λ w. w.node_routes.items
+        ≡ routes_of_nodes (length parts.now) resolved.now.routes) }
+    ensures far { IfOk result (λ w. w.far.items ≡ far_ends count resolved.now.links) }
+    ensures receivers { IfOk result (λ w. w.receivers.items
+        ≡ receivers_of parts.now resolved.now.owners (far_ends count resolved.now.links)) }
 {
+    let node_routes = wiring::routes_of_nodes(alloc, parts.len(), &resolved.routes)?;
     let far = wiring::far_ends(alloc, count, &resolved.links)?;
     let receivers = wiring::receivers(alloc, parts, &resolved.owners, &far)?;
-    check_channels(&receivers)?;
-    check_cuts(parts, &resolved.owners, &resolved.links)?;
-    Ok(Ends { far, receivers })
-}
-
-/// What hangs together, once all tests have passed.
-#[derive(Drop)]
-pub struct Wired {
-    pub node_routes: Vec<NodeRoutes>,
-    pub ends: Ends,
-}
-
-/// Tests the whole, in the order of the tests, and finds what hangs together.
-fn wire(
-    alloc: Global,
-    parts: &[PartNo],
-    ifaces: &[IfaceTable],
-    resolved: &Resolved,
-) -> Result<Wired, TopoFault>
-    requires count { length ifaces.now ≤ MAX_IFACES }
-    requires owners { (length resolved.now.owners ≡ length ifaces.now) × All (λ o. o < length parts.now) resolved.now.owners }
-    requires links { All (λ l. (l.a < length ifaces.now) × (l.b < length ifaces.now)) resolved.now.links }
-    requires routes { All (λ r. r.node < length parts.now) resolved.now.routes }
-    ensures few { IfOk result (λ w. length w.ends.receivers.items ≤ MAX_CHANNELS) }
-    ensures tested { Gives (λ _. tt) result (tested parts.now (map (λ i. i.address) ifaces.now) (length parts.now) (length ifaces.now) resolved.now) }
-    ensures node_routes { IfOk result (λ w. w.node_routes.items ≡ routes_of_nodes (length parts.now) resolved.now.routes) }
-    ensures far { IfOk result (λ w. w.ends.far.items ≡ far_ends (length ifaces.now) resolved.now.links) }
-    ensures receivers { IfOk result (λ w. w.ends.receivers.items ≡ receivers_of parts.now resolved.now.owners (far_ends (length ifaces.now) resolved.now.links)) }
-{
-    check_uses(alloc, ifaces.len(), &resolved.links)?;
-    check_addresses(alloc, ifaces)?;
-    check_routes(alloc, &resolved.routes)?;
-    let node_routes = find_routes(alloc, parts.len(), &resolved.routes)?;
-    let ends = find_ends(alloc, parts, ifaces.len(), resolved)?;
-    Ok(Wired { node_routes, ends })
+    Ok(Wired {
+        node_routes,
+        far,
+        receivers,
+    })
 }
 
 /// What hangs together of these nodes and interfaces, once all tests have passed.
@@ -105,17 +63,26 @@ fn wire_tables(
     resolved: &Resolved,
 ) -> Result<Wired, TopoFault>
     requires count { length ifaces.now ≤ MAX_IFACES }
-    requires owners { (length resolved.now.owners ≡ length ifaces.now) × All (λ o. o < length nodes.now) resolved.now.owners }
-    requires links { All (λ l. (l.a < length ifaces.now) × (l.b < length ifaces.now)) resolved.now.links }
+    requires owners { (length resolved.now.owners ≡ length ifaces.now)
+        × All (λ o. o < length nodes.now) resolved.now.owners }
+    requires links { All (λ l. (l.a < length ifaces.now) × (l.b < length ifaces.now))
+        resolved.now.links }
     requires routes { All (λ r. r.node < length nodes.now) resolved.now.routes }
-    ensures few { IfOk result (λ w. length w.ends.receivers.items ≤ MAX_CHANNELS) }
-    ensures tested { Gives (λ _. tt) result (tested (map (λ n. n.partition) nodes.now) (map (λ i. i.address) ifaces.now) (length nodes.now) (length ifaces.now) resolved.now) }
-    ensures node_routes { IfOk result (λ w. w.node_routes.items ≡ routes_of_nodes (length nodes.now) resolved.now.routes) }
-    ensures far { IfOk result (λ w. w.ends.far.items ≡ far_ends (length ifaces.now) resolved.now.links) }
-    ensures receivers { IfOk result (λ w. w.ends.receivers.items ≡ receivers_of (map (λ n. n.partition) nodes.now) resolved.now.owners (far_ends (length ifaces.now) resolved.now.links)) }
+    ensures few { IfOk result (λ w. length w.receivers.items ≤ MAX_CHANNELS) }
+    ensures tested { Gives (λ _. tt) result (tested (map (λ n. n.partition) nodes.now)
+        (map (λ i. i.address) ifaces.now) (length nodes.now) (length ifaces.now) resolved.now) }
+    ensures node_routes { IfOk result (λ w. w.node_routes.items
+        ≡ routes_of_nodes (length nodes.now) resolved.now.routes) }
+    ensures far { IfOk result (λ w. w.far.items
+        ≡ far_ends (length ifaces.now) resolved.now.links) }
+    ensures receivers { IfOk result (λ w. w.receivers.items
+        ≡ receivers_of (map (λ n. n.partition) nodes.now) resolved.now.owners
+            (far_ends (length ifaces.now) resolved.now.links)) }
 {
     let parts = partitions_of_nodes(alloc, nodes)?;
-    wire(alloc, &parts, ifaces, resolved)
+    let wired = wire(alloc, &parts, ifaces.len(), resolved)?;
+    validate(alloc, &parts, ifaces, resolved, &wired)?;
+    Ok(wired)
 }
 
 /// The nodes: each table with its routes.
@@ -179,18 +146,29 @@ pub fn place(
     resolved: &Resolved,
 ) -> Result<Placed, TopoFault>
     requires count { length iface_tables.items ≤ MAX_IFACES }
-    requires owners { (length resolved.now.owners ≡ length iface_tables.items) × All (λ o. o < length node_tables.items) resolved.now.owners }
-    requires links { All (λ l. (l.a < length iface_tables.items) × (l.b < length iface_tables.items)) resolved.now.links }
+    requires owners { (length resolved.now.owners ≡ length iface_tables.items)
+        × All (λ o. o < length node_tables.items) resolved.now.owners }
+    requires links {
+        All (λ l. (l.a < length iface_tables.items) × (l.b < length iface_tables.items))
+            resolved.now.links }
     requires routes { All (λ r. r.node < length node_tables.items) resolved.now.routes }
     ensures few { IfOk result (λ p. length p.receivers.items ≤ MAX_CHANNELS) }
-    ensures tested { Gives (λ _. tt) result (tested (map (λ n. n.partition) node_tables.items) (map (λ i. i.address) iface_tables.items) (length node_tables.items) (length iface_tables.items) resolved.now) }
-    ensures nodes { IfOk result (λ p. p.nodes.items ≡ placed_nodes node_tables.items (routes_of_nodes (length node_tables.items) resolved.now.routes)) }
-    ensures ifaces { IfOk result (λ p. p.ifaces.items ≡ placed_ifaces iface_tables.items resolved.now.owners (far_ends (length iface_tables.items) resolved.now.links)) }
-    ensures receivers { IfOk result (λ p. p.receivers.items ≡ receivers_of (map (λ n. n.partition) node_tables.items) resolved.now.owners (far_ends (length iface_tables.items) resolved.now.links)) }
+    ensures tested { Gives (λ _. tt) result (tested (map (λ n. n.partition) node_tables.items)
+        (map (λ i. i.address) iface_tables.items) (length node_tables.items)
+        (length iface_tables.items) resolved.now) }
+    ensures nodes { IfOk result (λ p. p.nodes.items
+        ≡ placed_nodes node_tables.items (routes_of_nodes (length node_tables.items) resolved.now.routes)) }
+    ensures ifaces { IfOk result (λ p. p.ifaces.items
+        ≡ placed_ifaces iface_tables.items resolved.now.owners
+            (far_ends (length iface_tables.items) resolved.now.links)) }
+    ensures receivers { IfOk result (λ p. p.receivers.items
+        ≡ receivers_of (map (λ n. n.partition) node_tables.items) resolved.now.owners
+            (far_ends (length iface_tables.items) resolved.now.links)) }
 {
     let Wired {
         node_routes,
-        ends: Ends { far, receivers },
+        far,
+        receivers,
     } = wire_tables(alloc, &node_tables, &iface_tables, resolved)?;
     let nodes = nodes(alloc, node_tables, node_routes)?;
     let ifaces = ifaces(alloc, iface_tables, &resolved.owners, &far)?;
