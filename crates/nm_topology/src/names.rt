@@ -1,6 +1,6 @@
 //! Names and their numbers.
 
-ghost use Rattle.std.specs.Prelude.{◌≡◌, ◌≤◌, ◌<◌, true, false, map, length, IfOk, MatchOption};
+ghost use Rattle.std.specs.Prelude.{◌≡◌, ℕ, ◌≤◌, ◌<◌, List, true, false, map, length, IfOk, MatchOption};
 ghost use Rattle.nm_topology.specs.Fault.{Gives};
 ghost use Rattle.nm_base.specs.declared.limits.TheConstants.{MAX_IFACES};
 ghost use Rattle.nm_topology.specs.Names.{has_double, distinct_names};
@@ -27,6 +27,28 @@ pub fn distinct<T: Eq + Hash + Copy>(
         }
     }
     Ok(Some(set))
+}
+
+/// What has a name.
+pub trait Named {
+    // Its name.
+    ghost name: { Self → List ℕ };
+
+    /// Its name.
+    fn name(&self) -> &str
+        ensures { result.now ≡ name self.now };
+}
+
+/// The name of each.
+fn names_of<T: Named>(alloc: Global, items: &[T]) -> Result<Vec<&str>, AllocError>
+    ensures len { IfOk result (λ v. length v.items ≡ length items.now) }
+    ensures names { IfOk result (λ v. map (λ k. k.now) v.items ≡ map T.name items.now) }
+{
+    let mut names = Vec::new(alloc);
+    for item in items {
+        names.push(item.name())?;
+    }
+    Ok(names)
 }
 
 /// Distinct names, each with its number. A clause sees the list of names.
@@ -57,6 +79,15 @@ impl<'a> Names<'a> {
             Some(set) => Ok(Names { set }),
             None => Err(TopoFault::Refused(Refusal::DoubleName)),
         }
+    }
+
+    /// The names of these, or the refusal of names of which two are the same.
+    pub fn of_all<T: Named>(alloc: Global, items: &'a [T]) -> Result<Self, TopoFault>
+        requires { length items.now ≤ MAX_IFACES }
+        ensures len { IfOk result (λ n. length n ≡ length items.now) }
+        ensures value { Gives (λ n. n) result (distinct_names (map T.name items.now)) }
+    {
+        Names::new(alloc, &names_of(alloc, items)?)
     }
 
     /// The number of a name.

@@ -1,10 +1,9 @@
 //! All tables with numbers in place of names.
 
-ghost use Rattle.std.specs.Prelude.{◌≡◌, ◌<◌, ◌≤◌, All, length, map, slice_index, IfOk};
+ghost use Rattle.std.specs.Prelude.{◌≡◌, ◌<◌, ◌≤◌, All, length, slice_index, IfOk};
 ghost use Rattle.nm_base.specs.declared.limits.TheConstants.{MAX_IFACES};
 ghost use Rattle.nm_topology.specs.Fault.{Gives};
 ghost use Rattle.nm_topology.specs.Resolve.{resolved, resolved_by};
-ghost use Rattle.nm_topology.specs.Names.{distinct_names};
 ghost use Rattle.nm_topology.specs.Accepted.{IsPlaced};
 
 use crate::fault::TopoFault;
@@ -14,7 +13,7 @@ use crate::parse::tables::{IfaceTable, LinkTable, NodeTable, RouteTable};
 use crate::parse::sources::SourceTable;
 use crate::traffic::Source;
 use nm_base::NodeNo;
-use std::alloc::{AllocError, Global};
+use std::alloc::Global;
 use std::marker::Model;
 
 pub mod tables;
@@ -34,46 +33,6 @@ impl Model for Resolved {
     ghost Value = { ResolvedValue };
 
     ghost view = { λ n. record { owners = n.owners.items; links = n.links.items; routes = n.routes.items; sources = n.sources.items } };
-}
-
-fn node_names(alloc: Global, tables: &[NodeTable]) -> Result<Vec<&str>, AllocError>
-    ensures len { IfOk result (λ v. length v.items ≡ length tables.now) }
-    ensures names { IfOk result (λ v. map (λ k. k.now) v.items ≡ map (λ r. r.name) tables.now) }
-{
-    let mut names = Vec::new(alloc);
-    for table in tables {
-        names.push(table.name.as_str())?;
-    }
-    Ok(names)
-}
-
-fn iface_names(alloc: Global, tables: &[IfaceTable]) -> Result<Vec<&str>, AllocError>
-    ensures len { IfOk result (λ v. length v.items ≡ length tables.now) }
-    ensures names { IfOk result (λ v. map (λ k. k.now) v.items ≡ map (λ r. r.name) tables.now) }
-{
-    let mut names = Vec::new(alloc);
-    for table in tables {
-        names.push(table.name.as_str())?;
-    }
-    Ok(names)
-}
-
-/// The nodes' names with their numbers.
-fn named_nodes(alloc: Global, tables: &[NodeTable]) -> Result<Names, TopoFault>
-    requires { length tables.now ≤ MAX_IFACES }
-    ensures len { IfOk result (λ n. length n ≡ length tables.now) }
-    ensures value { Gives (λ n. n) result (distinct_names (map (λ r. r.name) tables.now)) }
-{
-    Names::new(alloc, &node_names(alloc, tables)?)
-}
-
-/// The interfaces' names with their numbers.
-fn named_ifaces(alloc: Global, tables: &[IfaceTable]) -> Result<Names, TopoFault>
-    requires { length tables.now ≤ MAX_IFACES }
-    ensures len { IfOk result (λ n. length n ≡ length tables.now) }
-    ensures value { Gives (λ n. n) result (distinct_names (map (λ r. r.name) tables.now)) }
-{
-    Names::new(alloc, &iface_names(alloc, tables)?)
 }
 
 /// The tables, with numbers in place of these names.
@@ -128,8 +87,8 @@ pub fn resolve(
     ensures sources { IfOk result (λ n. All (λ s. IsPlaced (length nodes.now) n.owners s) n.sources) }
     ensures value { Gives (λ n. n) result (resolved nodes.now ifaces.now links.now routes.now sources.items) }
 {
-    let node_names = named_nodes(alloc, nodes)?;
-    let iface_names = named_ifaces(alloc, ifaces)?;
+    let node_names = Names::of_all(alloc, nodes)?;
+    let iface_names = Names::of_all(alloc, ifaces)?;
     resolve_by(
         alloc,
         &node_names,

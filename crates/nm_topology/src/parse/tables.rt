@@ -11,6 +11,7 @@ use crate::parse::fields::{
     number, only, required_address, required_name, required_node_kind, required_number,
     required_prefix,
 };
+use crate::names::Named;
 use crate::node::NodeKind;
 use crate::prefix::Prefix;
 use nm_base::limits::{MAX_DELAY, MAX_PORTS_OF_NODE, MAX_QUEUE, MAX_RATE, MIN_RATE};
@@ -39,6 +40,14 @@ impl Model for NodeTable {
     ghost view = { λ r. record { name = string_bytes r.name; kind = r.kind; partition = r.partition; ports = r.ports.items } };
 }
 
+impl Named for NodeTable {
+    ghost name = { λ t. t.name };
+
+    fn name(&self) -> &str {
+        self.name.as_str()
+    }
+}
+
 /// A table of `iface`.
 #[derive(Drop)]
 pub struct IfaceTable {
@@ -55,6 +64,14 @@ impl Model for IfaceTable {
     ghost Value = { IfaceTableValue };
 
     ghost view = { λ r. record { name = string_bytes r.name; node = string_bytes r.node; address = r.address; queue = r.queue } };
+}
+
+impl Named for IfaceTable {
+    ghost name = { λ t. t.name };
+
+    fn name(&self) -> &str {
+        self.name.as_str()
+    }
 }
 
 /// A table of `link`.
