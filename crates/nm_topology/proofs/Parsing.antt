@@ -13,7 +13,7 @@ use Rattle.nm_topology.specs.Parse.{top_table_of}
 same : (n : ℕ) → (n == n) ≡ true
 same n = grind (arith, nat_tests)
 
-pub parsed_of_utf8 : (text : List ℕ) → IsUtf8 text → top_table_of text ≡ ok_or (parse_document text) Text
-parsed_of_utf8 text utf8 =
+pub top_table_of_utf8 : (text : List ℕ) → IsUtf8 text → top_table_of text ≡ ok_or (parse_document text) Text
+top_table_of_utf8 text utf8 =
     let read : Bool → Result Members Refusal = λ b. if b then ok_or (parse_document text) Text else Err Text in
     ap (λ n. read (n == length text)) (utf8_valid_len-IsUtf8 text utf8) ∙ ap read (same (length text))

@@ -77,7 +77,7 @@ fn wire_tables(
         ≡ far_ends (length ifaces.now) resolved.now.links) }
     ensures receivers { IfOk result (λ w. w.receivers.items
         ≡ receivers_of (map (λ n. n.partition) nodes.now) resolved.now.owners
-            (far_ends (length ifaces.now) resolved.now.links)) }
+        (far_ends (length ifaces.now) resolved.now.links)) }
 {
     let parts = partitions_of_nodes(alloc, nodes)?;
     let wired = wire(alloc, &parts, ifaces.len(), resolved)?;
@@ -148,22 +148,23 @@ pub fn place(
     requires count { length iface_tables.items ≤ MAX_IFACES }
     requires owners { (length resolved.now.owners ≡ length iface_tables.items)
         × All (λ o. o < length node_tables.items) resolved.now.owners }
-    requires links {
-        All (λ l. (l.a < length iface_tables.items) × (l.b < length iface_tables.items))
-            resolved.now.links }
+    requires links { All
+        (λ l. (l.a < length iface_tables.items) × (l.b < length iface_tables.items))
+        resolved.now.links }
     requires routes { All (λ r. r.node < length node_tables.items) resolved.now.routes }
     ensures few { IfOk result (λ p. length p.receivers.items ≤ MAX_CHANNELS) }
     ensures tested { Gives (λ _. tt) result (tested (map (λ n. n.partition) node_tables.items)
         (map (λ i. i.address) iface_tables.items) (length node_tables.items)
         (length iface_tables.items) resolved.now) }
     ensures nodes { IfOk result (λ p. p.nodes.items
-        ≡ placed_nodes node_tables.items (routes_of_nodes (length node_tables.items) resolved.now.routes)) }
+        ≡ placed_nodes node_tables.items
+        (routes_of_nodes (length node_tables.items) resolved.now.routes)) }
     ensures ifaces { IfOk result (λ p. p.ifaces.items
         ≡ placed_ifaces iface_tables.items resolved.now.owners
-            (far_ends (length iface_tables.items) resolved.now.links)) }
+        (far_ends (length iface_tables.items) resolved.now.links)) }
     ensures receivers { IfOk result (λ p. p.receivers.items
         ≡ receivers_of (map (λ n. n.partition) node_tables.items) resolved.now.owners
-            (far_ends (length iface_tables.items) resolved.now.links)) }
+        (far_ends (length iface_tables.items) resolved.now.links)) }
 {
     let Wired {
         node_routes,

@@ -17,7 +17,9 @@ pub fn distinct<T: Eq + Hash + Copy>(
     alloc: Global,
     items: &[T],
 ) -> Result<Option<IndexSet<T>>, AllocError>
-    ensures { IfOk result (λ set. MatchOption set (has_double T.eq items.now ≡ true) (λ s. (has_double T.eq items.now ≡ false) × (s.keys ≡ items.now))) }
+    ensures { IfOk result
+        (λ set. MatchOption set (has_double T.eq items.now ≡ true)
+        (λ s. (has_double T.eq items.now ≡ false) × (s.keys ≡ items.now))) }
 {
     let mut set = IndexSet::new(alloc);
     for item in items {

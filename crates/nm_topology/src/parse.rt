@@ -31,7 +31,7 @@ fn top_table_of_str(alloc: Global, text: &str) -> Result<Table, TopoFault>
 }
 
 /// The TOML document of a text.
-#[tactic(auto, using(crate::proofs::Parsing::parsed_of_utf8))]
+#[tactic(auto, using(crate::proofs::Parsing::top_table_of_utf8))]
 pub fn top_table(alloc: Global, text: &[u8]) -> Result<Table, TopoFault>
     ensures { Gives (λ t. table_view t) result (top_table_of text.now) }
 {

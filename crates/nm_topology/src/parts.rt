@@ -3,8 +3,8 @@
 ghost use Rattle.std.specs.Prelude.{◌≡◌, [], ◌∷◌, ◌++◌, OnOk, OnErr};
 
 use crate::node::NodeKind;
-use crate::prefix::Prefix;
 use crate::parse::tables::{IfaceTable, NodeTable};
+use crate::prefix::Prefix;
 use nm_base::{IfaceNo, NodeNo, PartNo};
 use nm_packet::Address;
 use std::alloc::{AllocError, Global};
@@ -103,13 +103,26 @@ impl Model for Node {
 
     ghost Value = { NodeValue };
 
-    ghost view = { λ n. record { name = string_bytes n.name; kind = n.kind; partition = n.partition; ports = n.ports.items; routes = n.routes } };
+    ghost view = { λ n. record {
+      name = string_bytes n.name;
+      kind = n.kind;
+      partition = n.partition;
+      ports = n.ports.items;
+      routes = n.routes;
+    } };
 }
 
 impl Node {
     /// The node of a table, with its routes.
     pub(crate) fn new(table: NodeTable, routes: NodeRoutes) -> Self
-        ensures { result ≡ record { name = table.name; kind = table.kind; partition = table.partition; ports = table.ports; routes = routes } }
+        ensures { result
+            ≡ record {
+              name = table.name;
+              kind = table.kind;
+              partition = table.partition;
+              ports = table.ports;
+              routes = routes;
+            } }
     {
         let NodeTable {
             name,
@@ -175,13 +188,26 @@ impl Model for Iface {
 
     ghost Value = { IfaceValue };
 
-    ghost view = { λ i. record { name = string_bytes i.name; node = i.node; address = i.address; queue = i.queue; far = i.far } };
+    ghost view = { λ i. record {
+      name = string_bytes i.name;
+      node = i.node;
+      address = i.address;
+      queue = i.queue;
+      far = i.far;
+    } };
 }
 
 impl Iface {
     /// The interface of a table, at this node, with this far end.
     pub(crate) fn new(table: IfaceTable, node: NodeNo, far: Far) -> Self
-        ensures { result ≡ record { name = table.name; node = node; address = table.address; queue = table.queue; far = far } }
+        ensures { result
+            ≡ record {
+              name = table.name;
+              node = node;
+              address = table.address;
+              queue = table.queue;
+              far = far;
+            } }
     {
         let IfaceTable {
             name,

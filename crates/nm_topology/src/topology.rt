@@ -8,12 +8,12 @@ ghost use Rattle.std.specs.Prelude.{◌≡◌, ◌<◌, ◌≤◌, All, Some, le
 ghost use Rattle.nm_topology.specs.Fault.{Gives};
 ghost use Rattle.nm_topology.specs.Topology.{channel_from, network_of, topology_of};
 
-use crate::parse::document::{Document, read_document};
+use crate::build::{self, Placed};
 use crate::fault::{Refusal, TopoFault};
 use crate::parse;
-use crate::resolve::{self, Resolved};
+use crate::parse::document::{Document, read_document};
 use crate::parts::{Iface, Link, Node};
-use crate::build::{self, Placed};
+use crate::resolve::{self, Resolved};
 use crate::traffic::Source;
 use nm_base::limits::MAX_TEXT_OCTETS;
 use nm_base::{ChanNo, IfaceNo, NodeNo, Time};
@@ -242,7 +242,9 @@ pub fn accepted_topologies_are_in_order(topology: &Topology)
     ensures links { length topology.now.links ≤ MAX_LINKS }
     ensures sources { length topology.now.sources ≤ MAX_SOURCES }
     ensures channels { length topology.now.receivers ≤ MAX_CHANNELS }
-    ensures placed { All (λ s. IsPlaced (length topology.now.nodes) (owners_of topology.now.ifaces) s) topology.now.sources }
+    ensures placed { All
+        (λ s. IsPlaced (length topology.now.nodes) (owners_of topology.now.ifaces) s)
+        topology.now.sources }
     ensures partitions { topology.now.partitions ≤ MAX_PARTITIONS }
     ensures limits { IsWithinLimits topology.now }
     ensures octets { All (λ s. HasOctets s.traffic) topology.now.sources }

@@ -35,7 +35,7 @@ pub fn validate(
         ≡ routes_of_nodes (length parts.now) resolved.now.routes }
     requires receivers { wired.now.receivers.items
         ≡ receivers_of parts.now resolved.now.owners
-            (far_ends (length ifaces.now) resolved.now.links) }
+        (far_ends (length ifaces.now) resolved.now.links) }
     ensures few { IfOk result (λ _. length wired.now.receivers.items ≤ MAX_CHANNELS) }
     ensures tested { Gives (λ u. u) result (tested parts.now (map (λ i. i.address) ifaces.now)
         (length parts.now) (length ifaces.now) resolved.now) }

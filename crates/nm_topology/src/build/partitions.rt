@@ -12,7 +12,8 @@ pub fn partitions_of_nodes(alloc: Global, tables: &[NodeTable]) -> Result<Vec<Pa
     ensures len { IfOk result (λ v. length v.items ≡ length tables.now) }
     ensures value { IfOk result (λ v. v.items ≡ map (λ n. n.partition) tables.now) }
 {
-    tables.iter()
+    tables
+        .iter()
         .map(|table| PartNo::new(table.partition as u32))
         .collect(alloc)
 }

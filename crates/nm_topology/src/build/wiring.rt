@@ -5,7 +5,7 @@ ghost use Rattle.nm_base.specs.declared.limits.TheConstants.{MAX_IFACES};
 ghost use Rattle.nm_topology.specs.Build.{far_by_links, far_ends, routes_of_nodes, joined, is_receiver, numbers_from};
 
 use crate::build::partitions::part_of;
-use crate::parts::{Far, Link, PlacedRoute, NodeRoutes};
+use crate::parts::{Far, Link, NodeRoutes, PlacedRoute};
 use nm_base::{IfaceNo, NodeNo, PartNo};
 use std::alloc::{AllocError, Global};
 
@@ -14,7 +14,8 @@ fn unlinked(alloc: Global, count: usize) -> Result<Vec<Far>, AllocError>
     requires { count ≤ MAX_IFACES }
     ensures len { IfOk result (λ v. length v.items ≡ count) }
     ensures within { IfOk result (λ v. All (λ f. f.peer < count) v.items) }
-    ensures value { IfOk result (λ v. (i : ℕ) → i < count → slice_get v.items i ≡ Some (far_by_links i [])) }
+    ensures value { IfOk result
+        (λ v. (i : ℕ) → i < count → slice_get v.items i ≡ Some (far_by_links i [])) }
 {
     let mut far = Vec::new(alloc);
     for i in 0..count {
@@ -50,7 +51,8 @@ pub fn far_ends(alloc: Global, count: usize, links: &[Link]) -> Result<Vec<Far>,
     requires ends { All (λ l. (l.a < count) × (l.b < count)) links.now }
     ensures len { IfOk result (λ v. length v.items ≡ count) }
     ensures within { IfOk result (λ v. All (λ f. f.peer < count) v.items) }
-    ensures value { IfOk result (λ v. (i : ℕ) → i < count → slice_get v.items i ≡ Some (far_by_links i links.now)) }
+    ensures value { IfOk result
+        (λ v. (i : ℕ) → i < count → slice_get v.items i ≡ Some (far_by_links i links.now)) }
     ensures list { IfOk result (λ v. v.items ≡ far_ends count links.now) }
 {
     let mut far = unlinked(alloc, count)?;
@@ -114,7 +116,9 @@ pub fn receivers(
     requires far { All (λ f. f.peer < length owners.now) far.now }
     requires len { length far.now ≡ length owners.now }
     requires owners { All (λ n. n < length parts.now) owners.now }
-    ensures { IfOk result (λ v. v.items ≡ filter (is_receiver parts.now owners.now far.now) (numbers_from 0 (length far.now))) }
+    ensures { IfOk result
+        (λ v. v.items ≡ filter (is_receiver parts.now owners.now far.now)
+        (numbers_from 0 (length far.now))) }
 {
     let mut receivers = Vec::new(alloc);
     for number in 0..far.len() {

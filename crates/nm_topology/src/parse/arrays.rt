@@ -1,10 +1,10 @@
 //! Arrays of a topology text: what each member is read to, in order.
 
 ghost use Rattle.std.specs.Prelude.{◌≡◌, ℕ, ◌≤◌, Bool, [], length, IfOk, Result};
-ghost use Rattle.toml.specs.Data.{Data, get_member};
+ghost use Rattle.toml.specs.Data.{Data, Members, get_member};
 ghost use Rattle.toml.specs.View.{view, items_view, table_view};
 ghost use Rattle.nm_topology.specs.declared.fault.Refusal.{Refusal as RefusalValue};
-ghost use Rattle.nm_topology.specs.Parse.Arrays.{all_fit, each, members_of, array_of};
+ghost use Rattle.nm_topology.specs.Parse.Arrays.{all_fit, each, members_of, array_of, in_table, is_table};
 ghost use Rattle.nm_topology.specs.Fault.{Gives};
 ghost use Rattle.nm_topology.specs.Parse.Fields.{optional};
 
@@ -34,6 +34,36 @@ pub trait Element: Member {
         ensures { Gives (λ x. x) result (reads mtu (view value.now)) };
 }
 
+/// A member that is a table, and is read by its keys.
+pub trait FromTable: Drop {
+    // What a table is read to, where packets have at most so many octets.
+    ghost of_table: { ℕ → Members → Result Self RefusalValue };
+
+    /// Reads a table. Packets have at most `mtu` octets, which leaves room for headers.
+    fn from_table(alloc: Global, mtu: u16, table: &Table) -> Result<Self, TopoFault>
+        requires { 28 ≤ mtu }
+        ensures { Gives (λ x. x) result (of_table mtu (table_view table.now)) };
+}
+
+impl<T: FromTable> Member for T {
+    ghost has_type = { is_table };
+
+    fn is_of_type(value: &Value) -> bool {
+        matches!(value, Value::Table(_))
+    }
+}
+
+impl<T: FromTable> Element for T {
+    ghost reads = { λ mtu d. in_table (T.of_table mtu) d };
+
+    fn read(alloc: Global, mtu: u16, value: &Value) -> Result<T, TopoFault> {
+        match value {
+            Value::Table(table) => T::from_table(alloc, mtu, table),
+            _ => Err(TopoFault::Refused(Refusal::Kind)),
+        }
+    }
+}
+
 /// An optional array of at most `limit` members of one type; absent is empty.
 pub fn optional_array<T: Element>(
     alloc: Global,
@@ -44,7 +74,9 @@ pub fn optional_array<T: Element>(
 ) -> Result<Vec<T>, TopoFault>
     requires { 28 ≤ mtu }
     ensures count { IfOk result (λ v. length v.items ≤ limit) }
-    ensures value { Gives (λ v. v.items) result (optional [] (array_of T.has_type limit (T.reads mtu)) (get_member key.now (table_view table.now))) }
+    ensures value { Gives (λ v. v.items) result
+        (optional [] (array_of T.has_type limit (T.reads mtu))
+        (get_member key.now (table_view table.now))) }
 {
     match field(table, key) {
         Some(value) => array(alloc, mtu, limit, value),
@@ -61,7 +93,8 @@ fn array<T: Element>(
 ) -> Result<Vec<T>, TopoFault>
     requires { 28 ≤ mtu }
     ensures count { IfOk result (λ v. length v.items ≤ limit) }
-    ensures value { Gives (λ v. v.items) result (array_of T.has_type limit (T.reads mtu) (view value.now)) }
+    ensures value { Gives (λ v. v.items) result
+        (array_of T.has_type limit (T.reads mtu) (view value.now)) }
 {
     match value {
         Value::Array(items) => members(alloc, mtu, limit, items),
@@ -78,7 +111,8 @@ fn members<T: Element>(
 ) -> Result<Vec<T>, TopoFault>
     requires { 28 ≤ mtu }
     ensures count { IfOk result (λ v. length v.items ≤ limit) }
-    ensures value { Gives (λ v. v.items) result (members_of T.has_type limit (T.reads mtu) (items_view items.now)) }
+    ensures value { Gives (λ v. v.items) result
+        (members_of T.has_type limit (T.reads mtu) (items_view items.now)) }
 {
     if !all_fit::<T>(items) {
         return Err(TopoFault::Refused(Refusal::Kind));

@@ -5,11 +5,11 @@ ghost use Rattle.toml.specs.View.{table_view};
 ghost use Rattle.nm_topology.specs.Parse.Document.{document_of, with_tables};
 ghost use Rattle.nm_topology.specs.Fault.{Gives};
 
-use crate::parse::arrays::optional_array;
 use crate::fault::TopoFault;
+use crate::parse::arrays::optional_array;
 use crate::parse::fields::{only, required_number};
-use crate::parse::tables::{IfaceTable, LinkTable, NodeTable, RouteTable};
 use crate::parse::sources::SourceTable;
+use crate::parse::tables::{IfaceTable, LinkTable, NodeTable, RouteTable};
 use nm_base::Time;
 use nm_base::limits::{
     MAX_IFACES, MAX_LINKS, MAX_MTU, MAX_NODES, MAX_ROUTES, MAX_SOURCES, MAX_TIME, MIN_MTU,
@@ -37,9 +37,19 @@ impl Model for Document {
 
     ghost Value = { DocumentValue };
 
-    ghost invariant = { λ d. (length d.nodes.items ≤ MAX_NODES) × (length d.ifaces.items ≤ MAX_IFACES) × (length d.links.items ≤ MAX_LINKS) × (length d.sources.items ≤ MAX_SOURCES) };
+    ghost invariant = { λ d. (length d.nodes.items ≤ MAX_NODES)
+        × (length d.ifaces.items ≤ MAX_IFACES) × (length d.links.items ≤ MAX_LINKS)
+        × (length d.sources.items ≤ MAX_SOURCES) };
 
-    ghost view = { λ d. record { stop = d.stop; mtu = d.mtu; nodes = d.nodes.items; ifaces = d.ifaces.items; links = d.links.items; routes = d.routes.items; sources = d.sources.items } };
+    ghost view = { λ d. record {
+      stop = d.stop;
+      mtu = d.mtu;
+      nodes = d.nodes.items;
+      ifaces = d.ifaces.items;
+      links = d.links.items;
+      routes = d.routes.items;
+      sources = d.sources.items;
+    } };
 }
 
 /// Reads the arrays of tables of a text that stops then and has packets of at most so many octets.

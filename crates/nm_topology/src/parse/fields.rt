@@ -11,8 +11,8 @@ ghost use Rattle.nm_topology.specs.Parse.Fields.{number_in, required, optional, 
 ghost use Rattle.nm_topology.specs.Parse.Forms.{name_of, node_kind_of, usable_address_of, prefix_of};
 
 use crate::fault::{Refusal, TopoFault};
-use crate::parse::forms::{is_name, prefix_of, usable_address_of};
 use crate::node::NodeKind;
+use crate::parse::forms::{is_name, prefix_of, usable_address_of};
 use crate::prefix::Prefix;
 use nm_packet::Address;
 use std::alloc::Global;
@@ -47,7 +47,8 @@ pub fn required_number(
     greatest: u64,
 ) -> Result<u64, TopoFault>
     ensures within { IfOk result (λ n. (least ≤ n) × (n ≤ greatest)) }
-    ensures value { Gives (λ n. n) result (required (number_in least greatest) (get_member key.now (table_view table.now))) }
+    ensures value { Gives (λ n. n) result
+        (required (number_in least greatest) (get_member key.now (table_view table.now))) }
 {
     match field(table, key) {
         Some(value) => number(value, least, greatest),
@@ -65,7 +66,8 @@ pub fn optional_number(
 ) -> Result<u64, TopoFault>
     requires { (least ≤ absent) × (absent ≤ greatest) }
     ensures within { IfOk result (λ n. (least ≤ n) × (n ≤ greatest)) }
-    ensures value { Gives (λ n. n) result (optional absent (number_in least greatest) (get_member key.now (table_view table.now))) }
+    ensures value { Gives (λ n. n) result
+        (optional absent (number_in least greatest) (get_member key.now (table_view table.now))) }
 {
     match field(table, key) {
         Some(value) => number(value, least, greatest),
@@ -75,7 +77,8 @@ pub fn optional_number(
 
 /// A required text.
 pub fn required_plain_text<'a>(table: &'a Table, key: &str) -> Result<&'a str, TopoFault>
-    ensures { Gives (λ s. s.now) result (required plain_text (get_member key.now (table_view table.now))) }
+    ensures { Gives (λ s. s.now) result
+        (required plain_text (get_member key.now (table_view table.now))) }
 {
     let Some(value) = field(table, key) else {
         return Err(TopoFault::Refused(Refusal::Missing));
@@ -88,7 +91,8 @@ pub fn required_plain_text<'a>(table: &'a Table, key: &str) -> Result<&'a str, T
 
 /// A required name.
 pub fn required_name(alloc: Global, table: &Table, key: &str) -> Result<String, TopoFault>
-    ensures { Gives string_bytes result (required_text name_of (get_member key.now (table_view table.now))) }
+    ensures { Gives string_bytes result
+        (required_text name_of (get_member key.now (table_view table.now))) }
 {
     let text = required_plain_text(table, key)?;
     if !is_name(text.as_bytes()) {
@@ -99,7 +103,8 @@ pub fn required_name(alloc: Global, table: &Table, key: &str) -> Result<String, 
 
 /// A required address that is no martian.
 pub fn required_address(table: &Table, key: &str) -> Result<Address, TopoFault>
-    ensures { Gives (λ a. a) result (required_text usable_address_of (get_member key.now (table_view table.now))) }
+    ensures { Gives (λ a. a) result
+        (required_text usable_address_of (get_member key.now (table_view table.now))) }
 {
     let text = required_plain_text(table, key)?;
     match usable_address_of(text.as_bytes()) {
@@ -110,7 +115,8 @@ pub fn required_address(table: &Table, key: &str) -> Result<Address, TopoFault>
 
 /// A required prefix.
 pub fn required_prefix(table: &Table, key: &str) -> Result<Prefix, TopoFault>
-    ensures { Gives (λ p. p) result (required_text prefix_of (get_member key.now (table_view table.now))) }
+    ensures { Gives (λ p. p) result
+        (required_text prefix_of (get_member key.now (table_view table.now))) }
 {
     let text = required_plain_text(table, key)?;
     match prefix_of(text) {
@@ -121,7 +127,8 @@ pub fn required_prefix(table: &Table, key: &str) -> Result<Prefix, TopoFault>
 
 /// Whether each key of the table is among these.
 fn has_only(table: &Table, allowed: &[&str]) -> bool
-    ensures { result ≡ list_all (λ k. list_any (λ l. bytes_eq l.now (string_bytes k)) allowed.now) (keys table.now) }
+    ensures { result ≡ list_all (λ k. list_any (λ l. bytes_eq l.now (string_bytes k)) allowed.now)
+        (keys table.now) }
 {
     table.keys().all(|key| is_among(allowed, key.as_str()))
 }
@@ -145,7 +152,8 @@ pub fn only(table: &Table, allowed: &[&str]) -> Result<(), TopoFault>
 
 /// A required text that names one of a few kinds.
 pub fn required_node_kind(table: &Table, key: &str) -> Result<NodeKind, TopoFault>
-    ensures { Gives (λ k. k) result (required_text node_kind_of (get_member key.now (table_view table.now))) }
+    ensures { Gives (λ k. k) result
+        (required_text node_kind_of (get_member key.now (table_view table.now))) }
 {
     match required_plain_text(table, key)? {
         "host" => Ok(NodeKind::Host),

@@ -9,8 +9,8 @@ ghost use Rattle.nm_topology.specs.Fault.{Gives};
 ghost use Rattle.nm_topology.specs.Parse.Fields.{required, required_text};
 ghost use Rattle.nm_topology.specs.Parse.Sources.{octets_of, packet_of, packets_from, packets_of, flow_of, cbr_of, echo_of, raw_of, source_kind_of, source_table_of};
 
-use crate::parse::arrays::{Element, Member, all_fit};
 use crate::fault::{Refusal, TopoFault};
+use crate::parse::arrays::{FromTable, Member, all_fit};
 use crate::parse::fields::{
     field, only, optional_number, required_address, required_name, required_number,
     required_plain_text,
@@ -65,7 +65,8 @@ impl Model for SourceTable {
 
 /// The octets of a raw packet: hexadecimal, 1 to `mtu` octets.
 fn required_octets(alloc: Global, mtu: u16, table: &Table, key: &str) -> Result<Packet, TopoFault>
-    ensures { Gives (λ p. p) result (required (octets_of mtu) (get_member key.now (table_view table.now))) }
+    ensures { Gives (λ p. p) result
+        (required (octets_of mtu) (get_member key.now (table_view table.now))) }
 {
     let text = required_plain_text(table, key)?;
     let octets = match hex::decode(alloc, text) {
@@ -137,7 +138,8 @@ fn required_packets(
     table: &Table,
     key: &str,
 ) -> Result<Vec<RawPacket>, TopoFault>
-    ensures { Gives (λ v. v.items) result (required (packets_of mtu) (get_member key.now (table_view table.now))) }
+    ensures { Gives (λ v. v.items) result
+        (required (packets_of mtu) (get_member key.now (table_view table.now))) }
 {
     let Some(value) = field(table, key) else {
         return Err(TopoFault::Refused(Refusal::Missing));
@@ -261,7 +263,8 @@ enum SourceKind {
 }
 
 fn required_source_kind(table: &Table, key: &str) -> Result<SourceKind, TopoFault>
-    ensures { Gives (λ k. k) result (required_text source_kind_of (get_member key.now (table_view table.now))) }
+    ensures { Gives (λ k. k) result
+        (required_text source_kind_of (get_member key.now (table_view table.now))) }
 {
     match required_plain_text(table, key)? {
         "cbr" => Ok(SourceKind::Cbr),
@@ -284,26 +287,12 @@ fn source_table(alloc: Global, mtu: u16, table: &Table) -> Result<SourceTable, T
     }
 }
 
-impl Member for SourceTable {
-    ghost use Rattle.nm_topology.specs.Parse.Arrays.{is_table};
-
-    ghost has_type = { is_table };
-
-    fn is_of_type(value: &Value) -> bool {
-        matches!(value, Value::Table(_))
-    }
-}
-
-impl Element for SourceTable {
-    ghost use Rattle.nm_topology.specs.Parse.Arrays.{in_table};
+impl FromTable for SourceTable {
     ghost use Rattle.nm_topology.specs.Parse.Sources.{source_table_of};
 
-    ghost reads = { λ mtu d. in_table (source_table_of mtu) d };
+    ghost of_table = { λ mtu t. source_table_of mtu t };
 
-    fn read(alloc: Global, mtu: u16, value: &Value) -> Result<SourceTable, TopoFault> {
-        match value {
-            Value::Table(table) => source_table(alloc, mtu, table),
-            _ => Err(TopoFault::Refused(Refusal::Kind)),
-        }
+    fn from_table(alloc: Global, mtu: u16, table: &Table) -> Result<SourceTable, TopoFault> {
+        source_table(alloc, mtu, table)
     }
 }

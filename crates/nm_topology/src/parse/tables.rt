@@ -5,14 +5,14 @@ ghost use Rattle.toml.specs.View.{table_view};
 ghost use Rattle.nm_topology.specs.Fault.{Gives};
 ghost use Rattle.nm_topology.specs.Parse.Tables.{node_table_of, iface_table_of, link_table_of, route_table_of};
 
-use crate::parse::arrays::{Element, Member, optional_array};
-use crate::fault::{Refusal, TopoFault};
+use crate::fault::TopoFault;
+use crate::names::Named;
+use crate::node::NodeKind;
+use crate::parse::arrays::{Element, FromTable, Member, optional_array};
 use crate::parse::fields::{
     number, only, required_address, required_name, required_node_kind, required_number,
     required_prefix,
 };
-use crate::names::Named;
-use crate::node::NodeKind;
 use crate::prefix::Prefix;
 use nm_base::limits::{MAX_DELAY, MAX_PORTS_OF_NODE, MAX_QUEUE, MAX_RATE, MIN_RATE};
 use nm_packet::Address;
@@ -37,7 +37,12 @@ impl Model for NodeTable {
 
     ghost invariant = { λ r. r.partition ≤ 63 };
 
-    ghost view = { λ r. record { name = string_bytes r.name; kind = r.kind; partition = r.partition; ports = r.ports.items } };
+    ghost view = { λ r. record {
+      name = string_bytes r.name;
+      kind = r.kind;
+      partition = r.partition;
+      ports = r.ports.items;
+    } };
 }
 
 impl Named for NodeTable {
@@ -63,7 +68,12 @@ impl Model for IfaceTable {
 
     ghost Value = { IfaceTableValue };
 
-    ghost view = { λ r. record { name = string_bytes r.name; node = string_bytes r.node; address = r.address; queue = r.queue } };
+    ghost view = { λ r. record {
+      name = string_bytes r.name;
+      node = string_bytes r.node;
+      address = r.address;
+      queue = r.queue;
+    } };
 }
 
 impl Named for IfaceTable {
@@ -89,7 +99,12 @@ impl Model for LinkTable {
 
     ghost Value = { LinkTableValue };
 
-    ghost view = { λ r. record { a = string_bytes r.a; b = string_bytes r.b; rate = r.rate; delay = r.delay } };
+    ghost view = { λ r. record {
+      a = string_bytes r.a;
+      b = string_bytes r.b;
+      rate = r.rate;
+      delay = r.delay;
+    } };
 }
 
 /// A table of `route`.
@@ -106,7 +121,11 @@ impl Model for RouteTable {
 
     ghost Value = { RouteTableValue };
 
-    ghost view = { λ r. record { node = string_bytes r.node; to = r.to; via = string_bytes r.via } };
+    ghost view = { λ r. record {
+      node = string_bytes r.node;
+      to = r.to;
+      via = string_bytes r.via;
+    } };
 }
 
 #[tactic(auto, unfolding(crate::specs::Parse::Tables::iface_table_of))]
@@ -187,98 +206,42 @@ fn node_table(alloc: Global, mtu: u16, table: &Table) -> Result<NodeTable, TopoF
     })
 }
 
-impl Member for NodeTable {
-    ghost use Rattle.nm_topology.specs.Parse.Arrays.{is_table};
-
-    ghost has_type = { is_table };
-
-    fn is_of_type(value: &Value) -> bool {
-        matches!(value, Value::Table(_))
-    }
-}
-
-impl Element for NodeTable {
-    ghost use Rattle.nm_topology.specs.Parse.Arrays.{in_table};
+impl FromTable for NodeTable {
     ghost use Rattle.nm_topology.specs.Parse.Tables.{node_table_of};
 
-    ghost reads = { λ mtu d. in_table node_table_of d };
+    ghost of_table = { λ mtu t. node_table_of t };
 
-    fn read(alloc: Global, mtu: u16, value: &Value) -> Result<NodeTable, TopoFault> {
-        match value {
-            Value::Table(table) => node_table(alloc, mtu, table),
-            _ => Err(TopoFault::Refused(Refusal::Kind)),
-        }
+    fn from_table(alloc: Global, mtu: u16, table: &Table) -> Result<NodeTable, TopoFault> {
+        node_table(alloc, mtu, table)
     }
 }
 
-impl Member for IfaceTable {
-    ghost use Rattle.nm_topology.specs.Parse.Arrays.{is_table};
-
-    ghost has_type = { is_table };
-
-    fn is_of_type(value: &Value) -> bool {
-        matches!(value, Value::Table(_))
-    }
-}
-
-impl Element for IfaceTable {
-    ghost use Rattle.nm_topology.specs.Parse.Arrays.{in_table};
+impl FromTable for IfaceTable {
     ghost use Rattle.nm_topology.specs.Parse.Tables.{iface_table_of};
 
-    ghost reads = { λ mtu d. in_table iface_table_of d };
+    ghost of_table = { λ mtu t. iface_table_of t };
 
-    fn read(alloc: Global, _mtu: u16, value: &Value) -> Result<IfaceTable, TopoFault> {
-        match value {
-            Value::Table(table) => iface_table(alloc, table),
-            _ => Err(TopoFault::Refused(Refusal::Kind)),
-        }
+    fn from_table(alloc: Global, _mtu: u16, table: &Table) -> Result<IfaceTable, TopoFault> {
+        iface_table(alloc, table)
     }
 }
 
-impl Member for LinkTable {
-    ghost use Rattle.nm_topology.specs.Parse.Arrays.{is_table};
-
-    ghost has_type = { is_table };
-
-    fn is_of_type(value: &Value) -> bool {
-        matches!(value, Value::Table(_))
-    }
-}
-
-impl Element for LinkTable {
-    ghost use Rattle.nm_topology.specs.Parse.Arrays.{in_table};
+impl FromTable for LinkTable {
     ghost use Rattle.nm_topology.specs.Parse.Tables.{link_table_of};
 
-    ghost reads = { λ mtu d. in_table link_table_of d };
+    ghost of_table = { λ mtu t. link_table_of t };
 
-    fn read(alloc: Global, _mtu: u16, value: &Value) -> Result<LinkTable, TopoFault> {
-        match value {
-            Value::Table(table) => link_table(alloc, table),
-            _ => Err(TopoFault::Refused(Refusal::Kind)),
-        }
+    fn from_table(alloc: Global, _mtu: u16, table: &Table) -> Result<LinkTable, TopoFault> {
+        link_table(alloc, table)
     }
 }
 
-impl Member for RouteTable {
-    ghost use Rattle.nm_topology.specs.Parse.Arrays.{is_table};
-
-    ghost has_type = { is_table };
-
-    fn is_of_type(value: &Value) -> bool {
-        matches!(value, Value::Table(_))
-    }
-}
-
-impl Element for RouteTable {
-    ghost use Rattle.nm_topology.specs.Parse.Arrays.{in_table};
+impl FromTable for RouteTable {
     ghost use Rattle.nm_topology.specs.Parse.Tables.{route_table_of};
 
-    ghost reads = { λ mtu d. in_table route_table_of d };
+    ghost of_table = { λ mtu t. route_table_of t };
 
-    fn read(alloc: Global, _mtu: u16, value: &Value) -> Result<RouteTable, TopoFault> {
-        match value {
-            Value::Table(table) => route_table(alloc, table),
-            _ => Err(TopoFault::Refused(Refusal::Kind)),
-        }
+    fn from_table(alloc: Global, _mtu: u16, table: &Table) -> Result<RouteTable, TopoFault> {
+        route_table(alloc, table)
     }
 }

@@ -8,9 +8,9 @@ ghost use Rattle.nm_topology.specs.Accepted.{IsPlaced, LeavesByOwn};
 
 use crate::fault::{Refusal, TopoFault};
 use crate::names::Names;
-use crate::parts::{Link, PlacedRoute, Route};
+use crate::parse::sources::{NamedRaw, NamedTraffic, SourceTable};
 use crate::parse::tables::{IfaceTable, LinkTable, RouteTable};
-use crate::parse::sources::{NamedRaw, SourceTable, NamedTraffic};
+use crate::parts::{Link, PlacedRoute, Route};
 use crate::traffic::{Raw, Source, Traffic};
 use nm_base::{IfaceNo, NodeNo};
 use std::alloc::Global;
@@ -46,7 +46,8 @@ fn link(ifaces: &Names, table: &LinkTable) -> Result<Link, TopoFault>
 /// The links.
 pub fn links(alloc: Global, ifaces: &Names, tables: &[LinkTable]) -> Result<Vec<Link>, TopoFault>
     ensures len { IfOk result (λ v. length v.items ≡ length tables.now) }
-    ensures within { IfOk result (λ v. All (λ l. (l.a < length ifaces.now) × (l.b < length ifaces.now)) v.items) }
+    ensures within { IfOk result
+        (λ v. All (λ l. (l.a < length ifaces.now) × (l.b < length ifaces.now)) v.items) }
     ensures value { Gives (λ v. v.items) result (all_of (link_between ifaces.now) tables.now) }
 {
     let mut links = Vec::new(alloc);
@@ -78,7 +79,8 @@ fn placed(
     table: &RouteTable,
 ) -> Result<PlacedRoute, TopoFault>
     requires { length owners.now ≡ length ifaces.now }
-    ensures within { IfOk result (λ r. (r.node < length nodes.now) × (r.route.via < length ifaces.now)) }
+    ensures within { IfOk result
+        (λ r. (r.node < length nodes.now) × (r.route.via < length ifaces.now)) }
     ensures own { IfOk result (λ r. slice_index owners.now r.route.via ≡ r.node) }
     ensures value { Gives (λ r. r) result (placed_route nodes.now ifaces.now owners.now table.now) }
 {
@@ -100,8 +102,11 @@ pub fn routes(
 ) -> Result<Vec<PlacedRoute>, TopoFault>
     requires { length owners.now ≡ length ifaces.now }
     ensures nodes { IfOk result (λ v. All (λ r. r.node < length nodes.now) v.items) }
-    ensures own { IfOk result (λ v. All (λ r. (r.route.via < length ifaces.now) × (slice_index owners.now r.route.via ≡ r.node)) v.items) }
-    ensures value { Gives (λ v. v.items) result (all_of (placed_route nodes.now ifaces.now owners.now) tables.now) }
+    ensures own { IfOk result
+        (λ v. All (λ r. (r.route.via < length ifaces.now)
+        × (slice_index owners.now r.route.via ≡ r.node)) v.items) }
+    ensures value { Gives (λ v. v.items) result
+        (all_of (placed_route nodes.now ifaces.now owners.now) tables.now) }
 {
     let mut routes = Vec::new(alloc);
     for table in tables {
@@ -158,8 +163,10 @@ pub fn sources(
 ) -> Result<Vec<Source>, TopoFault>
     requires { length owners.now ≡ length ifaces.now }
     ensures len { IfOk result (λ v. length v.items ≡ length tables.items) }
-    ensures placed { IfOk result (λ v. All (λ s. IsPlaced (length nodes.now) owners.now s) v.items) }
-    ensures value { Gives (λ v. v.items) result (all_of (placed_source nodes.now ifaces.now owners.now) tables.items) }
+    ensures placed { IfOk result
+        (λ v. All (λ s. IsPlaced (length nodes.now) owners.now s) v.items) }
+    ensures value { Gives (λ v. v.items) result
+        (all_of (placed_source nodes.now ifaces.now owners.now) tables.items) }
 {
     let mut sources = Vec::new(alloc);
     for table in tables {

@@ -11,17 +11,21 @@ ghost use Rattle.nm_topology.specs.Validate.{are_used_once, bump, uses, route_ke
 use crate::build::partitions::part_of;
 use crate::fault::{Refusal, TopoFault};
 use crate::names::distinct;
-use crate::parts::{Link, NodeRoutes, PlacedRoute};
 use crate::parse::tables::IfaceTable;
+use crate::parts::{Link, NodeRoutes, PlacedRoute};
 use nm_base::limits::{MAX_CHANNELS, MAX_ROUTES_OF_NODE};
 use nm_base::{IfaceNo, NodeNo, PartNo};
 use std::alloc::{AllocError, Global};
 
 /// Refuses two interfaces with one address.
 pub fn check_addresses(alloc: Global, tables: &[IfaceTable]) -> Result<(), TopoFault>
-    ensures { Gives (λ u. u) result (demand (not (has_double nat_eq (map (λ i. i.address) tables.now))) DoubleAddress) }
+    ensures { Gives (λ u. u) result
+        (demand (not (has_double nat_eq (map (λ i. i.address) tables.now))) DoubleAddress) }
 {
-    let addresses: Vec<u32> = tables.iter().map(|table| table.address.bits()).collect(alloc)?;
+    let addresses: Vec<u32> = tables
+        .iter()
+        .map(|table| table.address.bits())
+        .collect(alloc)?;
     match distinct(alloc, &addresses)? {
         Some(_) => Ok(()),
         None => Err(TopoFault::Refused(Refusal::DoubleAddress)),
@@ -66,7 +70,8 @@ fn count_use(uses: &mut Vec<u8>, iface: IfaceNo)
 fn uses_of(alloc: Global, count: usize, links: &[Link]) -> Result<Vec<u8>, AllocError>
     requires { All (λ l. (l.a < count) × (l.b < count)) links.now }
     ensures len { IfOk result (λ v. length v.items ≡ count) }
-    ensures value { IfOk result (λ v. (i : ℕ) → i < count → min 255 (slice_index v.items i) ≡ min 255 (uses i links.now)) }
+    ensures value { IfOk result
+        (λ v. (i : ℕ) → i < count → min 255 (slice_index v.items i) ≡ min 255 (uses i links.now)) }
 {
     let mut uses = vec![in alloc; 0u8; count]?;
     for link in links {
@@ -97,7 +102,8 @@ pub fn check_uses(alloc: Global, count: usize, links: &[Link]) -> Result<(), Top
 
 /// Refuses a node with too many routes.
 pub fn check_route_counts(node_routes: &[NodeRoutes]) -> Result<(), TopoFault>
-    ensures { Gives (λ u. u) result (demand (list_all (λ t. nat_le (length t) MAX_ROUTES_OF_NODE) node_routes.now) TooMany) }
+    ensures { Gives (λ u. u) result
+        (demand (list_all (λ t. nat_le (length t) MAX_ROUTES_OF_NODE) node_routes.now) TooMany) }
 {
     for routes in node_routes {
         if routes.as_slice().len() > MAX_ROUTES_OF_NODE {
@@ -110,7 +116,8 @@ pub fn check_route_counts(node_routes: &[NodeRoutes]) -> Result<(), TopoFault>
 /// Refuses too many channels.
 pub fn check_channels(receivers: &[IfaceNo]) -> Result<(), TopoFault>
     ensures few { IfOk result (λ _. length receivers.now ≤ MAX_CHANNELS) }
-    ensures value { Gives (λ u. u) result (demand (nat_le (length receivers.now) MAX_CHANNELS) TooMany) }
+    ensures value { Gives (λ u. u) result
+        (demand (nat_le (length receivers.now) MAX_CHANNELS) TooMany) }
 {
     if receivers.len() > MAX_CHANNELS {
         return Err(TopoFault::Refused(Refusal::TooMany));
@@ -130,7 +137,8 @@ fn is_undelayed_cut(parts: &[PartNo], owners: &[NodeNo], link: Link) -> bool
 pub fn check_cuts(parts: &[PartNo], owners: &[NodeNo], links: &[Link]) -> Result<(), TopoFault>
     requires ends { All (λ l. (l.a < length owners.now) × (l.b < length owners.now)) links.now }
     requires owners { All (λ n. n < length parts.now) owners.now }
-    ensures { Gives (λ u. u) result (demand (not (list_any (is_undelayed_cut parts.now owners.now) links.now)) CutDelay) }
+    ensures { Gives (λ u. u) result
+        (demand (not (list_any (is_undelayed_cut parts.now owners.now) links.now)) CutDelay) }
 {
     for link in links {
         if is_undelayed_cut(parts, owners, *link) {
