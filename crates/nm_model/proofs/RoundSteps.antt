@@ -342,7 +342,7 @@ module _ {P N : Type 0} (net : Net P N) (ok : IsNet net) (parted : IsParted net)
         let e : (w.replica to 0).knowledge ≡ known_below to c = ap (λ (x : Replica P). x.knowledge) (t.replica to (receiver_there c lt)) in
         let at : (w.replica to 0).knowledge c ≡ (mid to).knowledge c = ap (λ (K : Knowledge P). K c) e ∙ at_last to c in
         let h : Heard to c w (hears_all w (messages c ++ null c ∷ [])) a = subst (λ b. Heard to c w (hears_all w (messages c ++ null c ∷ [])) (accept_null (hear_list same b (known c) (drop (known c) (given net mid c))) (length (given net mid c)) (promised net mid kind c)).after) at
-            (channel_heard c lt w (drop (known c) (given net mid c)) (known c) (length (given net mid c)) (promised net mid kind c)) in
+        (channel_heard c lt w (drop (known c) (given net mid c)) (known c) (length (given net mid c)) (promised net mid kind c)) in
         let is_a : heard_on net same kind mid to c ≡ a = ap (λ b. cond b a ((mid to).knowledge c)) (comes_too c out) in
         subst (λ fs. Told (suc c) (hears_all w fs)) (sym (ap (λ z. cond z (messages c ++ null c ∷ []) []) out)) (record {
           bag = bag_stays_all w (messages c ++ null c ∷ []) ∙ t.bag;

@@ -89,8 +89,10 @@ udp_checksum_of sum = if checksum_of sum == 0 then 65535 else checksum_of sum
 -- the header with the checksum that is written, which is over all other words
 abbrev pub udp_checked : ℕ → ℕ → UdpHeader → List ℕ → UdpHeader
 udp_checked source destination h payload =
-    record h { checksum = udp_checksum_of
-        (udp_sum source destination (udp_octets (record h { checksum = 0 }) payload)) }
+    record h {
+      checksum = udp_checksum_of
+          (udp_sum source destination (udp_octets (record h { checksum = 0 }) payload));
+    }
 
 -- the octets of a datagram as it is written
 abbrev pub datagram_octets : ℕ → ℕ → UdpHeader → List ℕ → List ℕ

@@ -272,7 +272,10 @@ impl<L: EventList> Part<L> {
         ensures { Performed L.pending L.room topology.now (key_of time (Arrive iface) number) (Delivery packet)
             self.old self.new result }
     {
-        let Ok(reaction) = self.devices.react_to_arrival(alloc, topology, iface, &packet) else {
+        let Ok(reaction) = self
+            .devices
+            .react_to_arrival(alloc, topology, iface, &packet)
+        else {
             let place = Place::Arrive(iface);
             let key = Key {
                 time,
@@ -325,7 +328,10 @@ impl<L: EventList> Part<L> {
             place,
             number,
         };
-        let Ok(fired) = self.devices.react_to_source(alloc, topology, source, number, &packet) else {
+        let Ok(fired) = self
+            .devices
+            .react_to_source(alloc, topology, source, number, &packet)
+        else {
             self.timeline.put(key, Event::Delivery(packet));
             return Err(AllocError);
         };

@@ -180,7 +180,12 @@ impl<L: EventList> Timeline<L> {
 
     /// A transmission starts, if one does: its completion and its arrival are to come.
     #[inline(always)]
-    pub fn schedule_transmission(&mut self, topology: &Topology, time: Time, start: Option<(IfaceNo, Start)>)
+    pub fn schedule_transmission(
+        &mut self,
+        topology: &Topology,
+        time: Time,
+        start: Option<(IfaceNo, Start)>,
+    )
         requires begins { IfSome start (StartsAt topology.now time) }
         requires numbered { (sent : ℕ → List (ℕ × List ℕ)) × TimelineRepresents topology.now self.old sent × IsFew sent
             × AreFresh (L.pending self.old.events) (start_events (net_of topology.now) time sent (start_of start)) }
