@@ -14,7 +14,7 @@ help:
 	@echo 'make             proves what the program needs, and builds bin/nullsim (the first time 10 to 25 minutes; JOBS=N: N crates at a time)'
 	@echo 'make try         runs the program before it is proved, in a minute: TOPO=FILE and IFACE=NAME choose what it shows'
 	@echo 'make run         builds it and shows a trace in hexadecimal; TOPO and IFACE as for make try'
-	@echo 'make bench       times it on generated topologies (docs/BENCH.md)'
+	@echo 'make bench       times it on generated topologies, and event lists and knowledge alone (docs/BENCH.md)'
 	@echo 'make cases       compares it with cases of an independent model; CASES=FOLDER: with those of a folder'
 	@echo 'make check-pcap  reads the traces of the examples with tshark, or else tcpdump, one of which it needs'
 	@echo 'make test        the gate: proves everything from nothing and runs every test; the last line is N passed, M failed'
@@ -38,10 +38,22 @@ try: toolchain
 run: bin/nullsim
 	@bin/nullsim onehex '$(TOPO)' $(IFACE)
 
-bench: bin/nullsim
+bin/nm_bench: $(SOURCES) | toolchain
+	@tools/build nm_bench $@ $(JOBS)
+
+bench: bin/nullsim bin/nm_bench
 	@for kind in line grid star; do \
 	  python3 bench/topology.py $$kind > bin/$$kind.toml && \
 	  python3 bench/time.py $$kind bin/nullsim one bin/$$kind.toml || exit 1; \
+	done
+	@for packets in 64000 128000 256000 512000 1024000; do \
+	  for kind in hub spread; do \
+	    python3 bench/topology.py $$kind $$packets > bin/$$kind.toml && \
+	    python3 bench/time.py "$$kind, $$packets packets" bin/nullsim one bin/$$kind.toml || exit 1; \
+	  done; \
+	done
+	@for work in heap-random sorted-random heap-nearly sorted-nearly know copy; do \
+	  python3 bench/time.py $$work bin/nm_bench $$work || exit 1; \
 	done
 
 cases: bin/nullsim

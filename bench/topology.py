@@ -1,5 +1,5 @@
 #!/usr/bin/env python3
-"""Writes a topology for a measurement to standard output: topology.py line|grid|star."""
+"""Writes a topology for a measurement to standard output: topology.py line|grid|star, or topology.py hub|spread PACKETS."""
 import sys
 
 
@@ -130,5 +130,31 @@ def star(leaves=32, packets=20_000):
     write(10 ** 12, net.nodes, net.ifaces, net.links, net.routes, sources)
 
 
+def hub(packets, delay, hosts=256):
+    """Hosts around a hub that send to it, so many packets in all; the delay of each host's link by its number."""
+    net = Net()
+    net.node("hub")
+    for i in range(hosts):
+        net.node(f"h{i}", "host")
+        net.link(f"h{i}", "hub", 1_000_000_000, delay(i / (hosts - 1)))
+    address = net.address("hub")
+    net.reach("hub", address + "/32")
+    sources = [cbr(f"h{i}", address, 72, 40 * i, 10_240, packets // hosts) for i in range(hosts)]
+    write(10 ** 12, net.nodes, net.ifaces, net.links, net.routes, sources)
+
+
+def equal(packets):
+    """Every link has a delay of a millisecond: arrivals come in the order of their keys."""
+    hub(packets, lambda part: 1_000_000)
+
+
+def spread(packets):
+    """Delays from a microsecond to a second, in equal ratios: arrivals come in no order."""
+    hub(packets, lambda part: round(1_000 * 1_000_000 ** part))
+
+
 if __name__ == "__main__":
-    {"line": line, "grid": grid, "star": star}[sys.argv[1]]()
+    if sys.argv[1] in ("hub", "spread"):
+        {"hub": equal, "spread": spread}[sys.argv[1]](int(sys.argv[2]))
+    else:
+        {"line": line, "grid": grid, "star": star}[sys.argv[1]]()

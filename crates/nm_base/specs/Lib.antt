@@ -1,3 +1,4 @@
+pub mod Count
 pub mod Key
 pub mod Sink
 pub mod Wire

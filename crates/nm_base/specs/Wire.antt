@@ -1,10 +1,11 @@
 -- What one call of a wire did, by its answer; and what contracts see of a wire in memory.
-use Rattle.std.specs.Prelude.{◌≡◌, ℕ, ◌+◌, ◌≤◌, List, ◌++◌, length, take}
+use Rattle.std.specs.Prelude.{◌≡◌, ℕ, ◌+◌, ◌-◌, ◌≤◌, if◌then◌else◌, nat_lt, min, List, ◌++◌, length, take, drop}
 use Rattle.nm_base.specs.declared.wire.Read.{Read}
 use Rattle.nm_base.specs.declared.wire.Read.TheVariants as read
 use Rattle.nm_base.specs.declared.wire.Written.{Written}
 use Rattle.nm_base.specs.declared.wire.Written.TheVariants as written
 use Rattle.nm_base.specs.declared.mem_wire.Ending.{Ending}
+use Rattle.nm_base.specs.declared.mem_wire.Ending.TheVariants as ending
 
 module _ {W : Type 0} (way : W → List ℕ) (failures : W → ℕ) (old new : W) where
   -- nothing went this way, and nothing failed
@@ -12,8 +13,8 @@ module _ {W : Type 0} (way : W → List ℕ) (failures : W → ℕ) (old new : W
   IsStill = (way new ≡ way old) × (failures new ≡ failures old)
 
   -- nothing went this way, since the wire failed
-  abbrev pub Fails : Type 0
-  Fails = (way new ≡ way old) × (failures new ≡ failures old + 1)
+  abbrev pub HasFailed : Type 0
+  HasFailed = (way new ≡ way old) × (failures new ≡ failures old + 1)
 
   -- the first n of these went this way, at least one
   abbrev pub Goes : ℕ → List ℕ → Type 0
@@ -25,21 +26,69 @@ module _ {W : Type 0} (way : W → List ℕ) (failures : W → ℕ) (old new : W
   ReadDoes (read.Got n) buffer = Goes n buffer
   ReadDoes read.End buffer = IsStill
   ReadDoes read.Later buffer = IsStill
-  ReadDoes read.Fault buffer = Fails
+  ReadDoes read.Fault buffer = HasFailed
 
   -- a write of these octets
   abbrev pub WriteDoes : Written → List ℕ → Type 0
   WriteDoes (written.Took n) octets = Goes n octets
   WriteDoes written.Later octets = IsStill
-  WriteDoes written.Fault octets = Fails
+  WriteDoes written.Fault octets = HasFailed
 
--- a wire in memory: the octets that it has for its reader, how many it gave, what it answers once it gave all, the octets that
--- it took, how many more it would take, the most that one call moves, and how often it has failed
+-- what contracts see of a wire in memory
 pub record MemoryWire : Type 0 where
+  -- the octets that it has for its reader, and how many of them it gave
   pub source : List ℕ
   pub at : ℕ
+  -- what a read answers once all are given
   pub ending : Ending
+  -- the octets that it took, and how many more it would take
   pub taken : List ℕ
   pub room : ℕ
+  -- the most octets that one call moves
   pub piece : ℕ
+  -- how often it has failed
   pub failures : ℕ
+
+-- the octets that it gave so far
+abbrev pub given_octets : MemoryWire → List ℕ
+given_octets w = take w.at w.source
+
+-- a buffer once these octets were copied to its front
+abbrev pub after_copy : List ℕ → List ℕ → List ℕ
+after_copy octets buffer = octets ++ drop (length octets) buffer
+
+-- how many octets a read into a buffer of this length moves
+abbrev pub read_count : MemoryWire → ℕ → ℕ
+read_count w buffer = min (min (length w.source - w.at) w.piece) buffer
+
+-- how many octets a write of so many moves
+abbrev pub write_count : MemoryWire → ℕ → ℕ
+write_count w octets = min (min w.room w.piece) octets
+
+abbrev pub ending_answer : Ending → Read
+ending_answer ending.End = read.End
+ending_answer ending.Later = read.Later
+ending_answer ending.Fault = read.Fault
+
+abbrev pub ending_failures : Ending → ℕ
+ending_failures ending.End = 0
+ending_failures ending.Later = 0
+ending_failures ending.Fault = 1
+
+-- the answer of a call that moves n octets, and of a read that moves none: the ending
+abbrev pub read_answer : Ending → ℕ → Read
+read_answer e n = if nat_lt 0 n then read.Got n else ending_answer e
+
+abbrev pub write_answer : ℕ → Written
+write_answer n = if nat_lt 0 n then written.Took n else written.Fault
+
+-- the wire after a read that moves n octets
+abbrev pub after_read : MemoryWire → ℕ → MemoryWire
+after_read w n =
+    if nat_lt 0 n then record w { at = w.at + n } else record w { failures = w.failures + ending_failures w.ending }
+
+-- the wire after a write of these octets that moves n of them
+abbrev pub after_write : MemoryWire → List ℕ → ℕ → MemoryWire
+after_write w octets n =
+    if nat_lt 0 n then record w { taken = w.taken ++ take n octets; room = w.room - n }
+    else record w { failures = w.failures + 1 }

@@ -22,6 +22,9 @@ pub const MAX_RATE: u64 = 1_000_000_000_000;
 /// The greatest number of packets that may wait at an interface.
 pub const MAX_QUEUE: u64 = 10_000;
 
+/// The greatest limit of their octets: those of so many packets of the greatest length.
+pub const MAX_QUEUE_OCTETS: u64 = 655_350_000;
+
 /// How many there may be of each thing in a topology.
 pub const MAX_NODES: usize = 1_024;
 

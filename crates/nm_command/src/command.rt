@@ -28,7 +28,8 @@ impl Form {
     }
 }
 
-/// What the program is to do: to write the trace file of one interface. A clause sees the names as octets.
+/// What the program is to do: to write the trace file of one interface. A clause sees the names as
+/// octets.
 #[derive(Clone, Copy)]
 pub struct Command<'a> {
     pub form: Form,
@@ -39,10 +40,11 @@ pub struct Command<'a> {
 }
 
 impl<'a> Command<'a> {
-    /// The command of the words after the program's name: `one TOPO IFACE` or `onehex TOPO IFACE`, where IFACE may be left
-    /// out. No words are `onehex -`. `None` where the words are no command.
+    /// The command of the words after the program's name: `one TOPO IFACE` or `onehex TOPO IFACE`,
+    /// where IFACE may be left out. No words are `onehex -`. `None` where the words are no command.
     pub fn of(words: &'a [String]) -> Option<Command<'a>>
-        ensures { option_map command_value result ≡ command_of (map (λ w. string_bytes w) words.now) }
+        ensures { option_map command_value result
+            ≡ command_of (map (λ w. string_bytes w) words.now) }
     {
         match words {
             [] => Some(Command {

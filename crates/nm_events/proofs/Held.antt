@@ -1,24 +1,25 @@
 -- Completions, arrivals and packets of sources together.
-use Rattle.std.proofs.Common.{◌≡◌, ◌⊎◌, inl, inr, ℕ, ◌+◌, ◌-◌, ◌≤◌, Bool, true, false, cond, List, [], ◌∷◌, ◌++◌, length, Option, Some, None, refl, sym, ap, ◌∙◌, arith, ◌&&◌, ◌||◌, ltb, true≢false, subst}
+use Rattle.std.proofs.Common.{◌≡◌, ◌⊎◌, inl, inr, ℕ, ◌+◌, ◌-◌, ◌≤◌, Bool, true, false, cond, List, [], ◌∷◌, ◌++◌, length, Option, Some, None, refl, sym, ap, ◌∙◌, arith, ◌||◌, ltb, true≢false, subst}
 use Rattle.std.specs.Bool.{⊤}
 use Rattle.std.proofs.lemmas.Bool.Decides.{nat_tests}
 use Rattle.std.proofs.Common.{Ordering}
-use Rattle.std.specs.Ordering.{is_gt, is_lt, eq_by_cmp, ordering_reverse}
+use Rattle.std.specs.Ordering.{is_gt, is_lt}
 use Rattle.std.specs.FinMap.{FinMap, entries, from_entries, get, get-from_entries, insert, remove, empty, len, len-empty, len-entries, find, put, is_sorted}
-use Rattle.std.specs.Option.{is_some, option_map}
-use Rattle.std.specs.FinMap.Entries.{below_all, length-put}
+use Rattle.std.specs.Option.{option_map}
+use Rattle.std.specs.FinMap.Entries.{below_all}
 use Rattle.nm_base.specs.declared.event.Event.{Event}
 use Rattle.nm_base.specs.declared.event.Event.TheVariants.{Completion, Delivery}
 use Rattle.nm_base.specs.declared.key.Key.{Key}
 use Rattle.nm_base.specs.Key.{key_cmp, key_cmp_total, key_cmp-IsAntisymmetric}
 use Rattle.nm_model.specs.EventList.{IsUpTo, first_of_list, least, is_before as is_before_time}
 use Rattle.nm_model.proofs.Keys.{up_to_time}
-use Rattle.nm_events.specs.Held.{IsHeld, events_of, comes_before, is_early, kind_of}
-use Rattle.nm_events.specs.Queued.{first_key}
+use Rattle.nm_events.specs.Held.{IsHeld, events_of, is_early, kind_of}
+use Rattle.nm_events.specs.Queued.{comes_before, first_key}
+use Rattle.nm_events.proofs.Kept.{before_queue, behind_queue, none_left, none_of, length_put}
 use Rattle.nm_events.specs.declared.sorted_list.Kind.{Kind}
 use Rattle.nm_events.specs.declared.sorted_list.Kind.TheVariants as kind
-use Rattle.nm_events.proofs.Queued.{truth, first, less, greater, below_later, sorted_after}
-use Rattle.nm_events.proofs.Runs.{some_none, none_length, Apart, swapped, apart_put, not_in_other, or_else, run, find_append, none_append, below_append, find_run, none_run, below_run, among, put_among, first_among, rest_among, count_runs, append_nil, last_of}
+use Rattle.nm_events.proofs.Queued.{first, less, below_later, sorted_after}
+use Rattle.nm_events.proofs.Runs.{some_none, none_length, Apart, swapped, apart_put, run, find_append, none_append, below_append, find_run, none_run, below_run, among, put_among, first_among, rest_among, count_runs, append_nil, last_of}
 
 abbrev completed : ⊤ → Event (List ℕ)
 completed u = Completion
@@ -68,24 +69,6 @@ count_all cs xs ys r n h =
         → (find key_cmp q cs ≡ None) ⊎ (find key_cmp q (run delivered xs ++ run delivered ys) ≡ None)
     both q (inl a) = inl a
     both q (inr b) = inr (none_append key_cmp q (run delivered xs) (run delivered ys) (none_run key_cmp delivered q xs b.0) (none_run key_cmp delivered q ys b.1))
-
--- a key that comes before the first of a queue comes before all of it
-before_queue : {A : Type 0} (a : Key) (es : List (Key × A)) → is_sorted key_cmp es ≡ true → comes_before (Some a) (first_key es) ≡ true → below_all key_cmp a es ≡ true
-before_queue a [] h e = refl
-before_queue a (x ∷ es) h e = ap (λ b. b && below_all key_cmp a es) e ∙ below_later key_cmp_total a x.0 es (less (key_cmp a x.0) e) (first _ _ h)
-
--- and so does one that its first doesn't come before, where the two aren't the same
-behind_queue : {A B : Type 0} (d : Key × B) (ds : List (Key × B)) (es : List (Key × A)) → is_sorted key_cmp es ≡ true → Apart key_cmp es (d ∷ ds)
-    → comes_before (first_key es) (Some d.0) ≡ false → below_all key_cmp d.0 es ≡ true
-behind_queue d ds [] h apart e = refl
-behind_queue d ds (x ∷ es) h apart e =
-    let g = greater (key_cmp x.0 d.0) e (unequal (eq_by_cmp key_cmp x.0 d.0) (not_in_other key_cmp_total x es (d ∷ ds) apart)) in
-    let l = key_cmp_total.antisymm d.0 x.0 ∙ ap ordering_reverse g in
-    ap (λ r. is_lt r && below_all key_cmp d.0 es) l ∙ below_later key_cmp_total d.0 x.0 es l (first _ _ h)
-  where
-    unequal : (b : Bool) → cond b (Some d.1) (find key_cmp x.0 ds) ≡ None → b ≡ false
-    unequal true n = absurd (some_none d.1 n)
-    unequal false n = refl
 
 -- what the kind of the least event says
 completion_is : (c x y : Option Key) → kind_of c x y ≡ kind.Completion → comes_before c (cond (comes_before x y) x y) ≡ true
@@ -213,10 +196,6 @@ source_taken cs xs ys new r n y h e is =
     subst (λ l. (Some (y.0, Delivery y.1) ≡ least (all_of cs xs l)) × (all_of cs xs new ≡ remove (all_of cs xs l) y.0)) (sym is)
     (source_first y cs xs new r n (subst (λ l. IsHeld cs xs l r n) is h) (ap (λ l. kind_in cs xs l) (sym is) ∙ e))
 
-none_of : {A : Type 0} (es : List A) → None ≡ first_of_list es → es ≡ []
-none_of [] e = refl
-none_of (x ∷ es) e = absurd (some_none x (sym e))
-
 pub none_taken : (cs : List (Key × ⊤)) (xs ys : List (Key × List ℕ)) → kind_in cs xs ys ≡ kind.Source → None ≡ first_of_list ys → None ≡ least (all_of cs xs ys)
 none_taken cs xs ys e none =
     subst (λ l. None ≡ least (all_of cs xs l)) (sym (none_of ys none)) (none_first cs xs (ap (kind_of (first_key cs) (first_key xs)) (ap (option_map (λ e. e.0)) none) ∙ e))
@@ -316,10 +295,6 @@ pub record IsFree (k : Key) (cs : List (Key × ⊤)) (xs ys : List (Key × List 
   pub arrivals : find key_cmp k xs ≡ None
   pub sources : find key_cmp k ys ≡ None
 
-none_left : {E : Type 0} (a b : Option E) → or_else a b ≡ None → (a ≡ None) × (b ≡ None)
-none_left (Some a) b e = absurd (some_none a e)
-none_left None b e = (refl, e)
-
 none_in_run : {K X E : Type 0} (R : K → K → Ordering) (f : X → E) (q : K) (es : List (K × X)) → find R q (run f es) ≡ None → find R q es ≡ None
 none_in_run {X = X} R f q es none = go (find R q es) (sym (find_run R f q es) ∙ none)
   where
@@ -337,10 +312,6 @@ free k cs xs ys none =
       arrivals = none_in_run key_cmp delivered k xs two.0;
       sources = none_in_run key_cmp delivered k ys two.1;
     }
-
-length_put : {A : Type 0} (k : Key) (a : A) (es : List (Key × A)) → is_sorted key_cmp es ≡ true → find key_cmp k es ≡ None → length (put key_cmp k a es) ≡ length es + 1
-length_put k a es h none =
-    length-put key_cmp key_cmp_total k a es (truth _ h) ∙ ap (λ r. cond (is_some r) (length es) (length es + 1)) none
 
 pub reserved : (cs new_cs : List (Key × ⊤)) (xs new_xs ys new_ys : List (Key × List ℕ)) (r n count m : ℕ) → IsHeld cs xs ys r n
     → new_cs ≡ cs → new_xs ≡ xs → new_ys ≡ ys → length cs + length xs + length ys + count ≤ m → IsHeld new_cs new_xs new_ys count m

@@ -1,3 +1,6 @@
+mod Heaped
 mod Held
+mod InOrder
+mod Kept
 mod Queued
 mod Runs

@@ -1,8 +1,7 @@
 -- What contracts see of a sorted event list.
-use Rattle.std.specs.Prelude.{◌≡◌, ◌⊎◌, ℕ, ◌+◌, ◌≤◌, length, ltb, Bool, true, false, cond, List, ◌++◌, map, Option, Some, None, ⊤}
-use Rattle.nm_events.specs.Queued.{first_key}
-use Rattle.std.specs.FinMap.{FinMap, find, from_entries, is_sorted}
-use Rattle.std.specs.Ordering.{is_lt}
+use Rattle.std.specs.Prelude.{◌≡◌, ℕ, ◌+◌, ◌≤◌, length, ltb, Bool, true, false, cond, List, ◌++◌, map, Option, Some, None, ⊤}
+use Rattle.nm_events.specs.Queued.{AreApart, comes_before, first_key}
+use Rattle.std.specs.FinMap.{FinMap, from_entries, is_sorted}
 use Rattle.nm_base.specs.declared.event.Event.{Event}
 use Rattle.nm_base.specs.declared.event.Event.TheVariants.{Completion, Delivery}
 use Rattle.nm_base.specs.declared.key.Key.{Key}
@@ -25,10 +24,6 @@ events_of cs xs ys = map (λ e. (e.0, Completion)) cs ++ (map (λ e. (e.0, Deliv
 abbrev pub pending_of : Held → FinMap key_cmp (Event (List ℕ))
 pending_of h = from_entries (events_of h.completions h.arrivals h.sources)
 
--- no key is in both
-abbrev pub AreApart : {A B : Type 0} → List (Key × A) → List (Key × B) → Type 0
-AreApart xs ys = (key : Key) → (find key_cmp key xs ≡ None) ⊎ (find key_cmp key ys ≡ None)
-
 -- each in the order of their keys, which they do not share, and with room for so many more
 pub record IsHeld (cs : List (Key × ⊤)) (xs ys : List (Key × List ℕ)) (room capacity : ℕ) : Type 0 where
   pub completions : is_sorted key_cmp cs ≡ true
@@ -38,12 +33,6 @@ pub record IsHeld (cs : List (Key × ⊤)) (xs ys : List (Key × List ℕ)) (roo
   pub apart_sources : AreApart cs ys
   pub apart_deliveries : AreApart xs ys
   pub fits : length cs + length xs + length ys + room ≤ capacity
-
--- whether a key comes before another, where none comes after all
-abbrev pub comes_before : Option Key → Option Key → Bool
-comes_before None b = false
-comes_before (Some a) None = true
-comes_before (Some a) (Some b) = is_lt (key_cmp a b)
 
 -- of which kind the least of the first completion, arrival and packet of a source is
 abbrev pub kind_of : Option Key → Option Key → Option Key → Kind

@@ -1,75 +1,107 @@
 //! Queues in the order of keys.
 
-ghost use Rattle.std.specs.Prelude.{◌≡◌, ◌+◌, ◌≤◌, ◌<◌, ◌^◌, [], ◌∷◌, ◌++◌, Option, None, OnOk};
-ghost use Rattle.std.specs.Prelude.{true, length};
+ghost use Rattle.std.specs.Prelude.{◌≡◌, ◌+◌, ◌≤◌, ◌<◌, ◌^◌, [], ◌++◌, Option, Some, None, OnOk};
+ghost use Rattle.std.specs.Prelude.{true, length, All, ◌↔◌, IsTrue};
 ghost use Rattle.std.specs.Option.{option_map, option_to_list};
 ghost use Rattle.std.specs.FinMap.{find, is_sorted, put as put_in_order};
-ghost use Rattle.std.specs.VecDeque.{deque_capacity, deque_len};
+ghost use Rattle.std.specs.VecDeque.{deque_capacity};
+ghost use Rattle.std.specs.declared.cmp.Ordering.TheVariants.{Less};
 ghost use Rattle.nm_base.specs.Key.{key_cmp};
 ghost use Rattle.nm_model.specs.EventList.{first_of_list};
-ghost use Rattle.nm_events.specs.Queued.{first_key};
+ghost use Rattle.nm_events.specs.Queued.{comes_before, first_key, lesser};
 
+use crate::key_heap::KeyHeap;
 use nm_base::Key;
 use std::alloc::{AllocError, Global};
 use std::collections::VecDeque;
 use std::marker::Model;
 
-/// Values by their keys, the least key first. A value is put by a search and a move of the values before or behind it,
-/// whichever are fewer; one whose key is the greatest is put in constant time, and the first is taken in constant time.
+/// Values by their keys, the least key first. Those whose keys come in turn stand in a ring, one behind the other: there
+/// one is put, and the first is taken, in constant time. The others are in a heap.
+///
+/// Both have room for all.
 #[derive(Drop)]
 pub(crate) struct KeyQueue<X> {
-    entries: VecDeque<(Key, X)>,
+    ring: VecDeque<(Key, X)>,
+    /// The values that came when the last of the ring had a greater key.
+    heap: KeyHeap<X>,
     /// The least key. An event list looks at it far more often than it changes.
     first: Option<Key>,
 }
 
 impl<X> Model for KeyQueue<X> {
-    ghost use Rattle.std.specs.Prelude.{◌≡◌, true};
-    ghost use Rattle.std.specs.FinMap.{is_sorted};
+    ghost use Rattle.std.specs.Prelude.{◌++◌, min};
     ghost use Rattle.std.specs.VecDeque.{deque_capacity};
-    ghost use Rattle.nm_base.specs.Key.{key_cmp};
-    ghost use Rattle.nm_events.specs.Queued.{Queued, first_key};
+    ghost use Rattle.nm_events.specs.Queued.{Queued, in_order, IsKept};
 
     ghost Value = { Queued X };
 
-    ghost view = { λ q. record { entries = q.entries.items; capacity = deque_capacity q.entries } };
+    ghost view = { λ q. record {
+      entries = in_order (q.ring.items ++ q.heap.entries);
+      capacity = min (deque_capacity q.ring) q.heap.capacity;
+    } };
 
-    ghost invariant = { λ q. (is_sorted key_cmp q.entries.items ≡ true) × (q.first ≡ first_key q.entries.items) };
+    ghost invariant = { λ q. IsKept q.ring.items q.heap.entries q.first
+        (min (deque_capacity q.ring) q.heap.capacity) };
 }
 
-/// The key of the first entry.
-fn first_of<X>(entries: &VecDeque<(Key, X)>) -> Option<Key>
-    ensures { result ≡ first_key entries.now.items }
+/// Whether a key comes before another, where none comes after all.
+#[inline(always)]
+pub(crate) fn is_before(key: Option<&Key>, other: Option<&Key>) -> bool
+    ensures { result ≡ comes_before (option_map (λ k. k.now) key.entry)
+        (option_map (λ k. k.now) other.entry) }
 {
-    let (key, _) = entries.front()?;
-    Some(*key)
-}
-
-/// Whether every entry has a lesser key.
-fn is_behind_all<X>(entries: &VecDeque<(Key, X)>, key: &Key) -> bool
-    requires { is_sorted key_cmp entries.now.items ≡ true }
-    ensures { result ≡ true → (value : X) → put_in_order key_cmp key.now value entries.now.items
-        ≡ entries.now.items ++ (key.now, value) ∷ [] }
-{
-    match entries.back() {
-        Some(last) => last.0 < *key,
-        None => true,
+    match (key, other) {
+        (Some(key), Some(other)) => *key < *other,
+        (key, _) => key.is_some(),
     }
 }
 
-/// Puts an entry in its place, which is not behind all.
-#[cold]
-#[inline(never)]
-fn put_within<X>(entries: &mut VecDeque<(Key, X)>, key: Key, value: X)
-    requires sorted { is_sorted key_cmp entries.old.items ≡ true }
-    requires fresh { find key_cmp key entries.old.items ≡ None }
-    requires room { deque_len entries.old < deque_capacity entries.old }
-    ensures entries { entries.new.items ≡ put_in_order key_cmp key value entries.old.items }
-    ensures sorted { is_sorted key_cmp entries.new.items ≡ true }
-    ensures capacity { deque_capacity entries.old ≤ deque_capacity entries.new }
+/// The key of the first entry.
+#[inline(always)]
+fn front<X>(ring: &VecDeque<(Key, X)>) -> Option<&Key>
+    ensures { option_map (λ k. k.now) result ≡ first_key ring.now.items }
 {
-    let place = entries.partition_point(|entry| entry.0 < key);
-    entries.insert(place, (key, value)).unwrap();
+    let (key, _) = ring.front()?;
+    Some(key)
+}
+
+/// The lesser of the first keys of a ring and a heap.
+#[inline(always)]
+fn first_of<X>(ring: &VecDeque<(Key, X)>, heap: &KeyHeap<X>) -> Option<Key>
+    ensures { result ≡ lesser (first_key ring.now.items) (first_key heap.now.entries) }
+{
+    let front = front(ring);
+    let top = heap.first();
+    if is_before(top, front) {
+        top.copied()
+    } else {
+        front.copied()
+    }
+}
+
+/// The first key once there is this one too.
+#[inline(always)]
+fn first_with(first: Option<Key>, key: Key) -> Option<Key>
+    ensures { result ≡ lesser (Some key) first }
+{
+    if is_before(first.as_ref(), Some(&key)) {
+        first
+    } else {
+        Some(key)
+    }
+}
+
+/// Whether every entry has a lesser key.
+#[inline(always)]
+fn is_behind_all<X>(ring: &VecDeque<(Key, X)>, key: &Key) -> bool
+    requires { is_sorted key_cmp ring.now.items ≡ true }
+    ensures { IsTrue result ↔ All (λ e. key_cmp e.0 key.now ≡ Less) ring.now.items }
+{
+    match ring.back() {
+        Some(last) => last.0 < *key,
+        None => true,
+    }
 }
 
 impl<X> KeyQueue<X> {
@@ -78,7 +110,8 @@ impl<X> KeyQueue<X> {
         ensures { result.entries ≡ [] }
     {
         KeyQueue {
-            entries: VecDeque::new(alloc),
+            ring: VecDeque::new(alloc),
+            heap: KeyHeap::new(alloc),
             first: None,
         }
     }
@@ -93,8 +126,10 @@ impl<X> KeyQueue<X> {
         ensures kept { self.old.capacity ≤ self.new.capacity }
         ensures room { OnOk result (total ≤ self.new.capacity) }
     {
-        let further = total.saturating_sub(self.entries.len());
-        self.entries.reserve(further)
+        let further = total.saturating_sub(self.ring.len());
+        self.ring.reserve(further)?;
+        let further = total.saturating_sub(self.heap.len());
+        self.heap.reserve(further)
     }
 
     /// Adds a value under a key that has none.
@@ -106,16 +141,13 @@ impl<X> KeyQueue<X> {
         ensures sorted { is_sorted key_cmp self.new.entries ≡ true }
         ensures capacity { self.old.capacity ≤ self.new.capacity }
     {
+        self.first = first_with(self.first, key);
         // Many new values come last.
-        if is_behind_all(&self.entries, &key) {
-            self.entries.push_back((key, value)).unwrap();
-            if self.first.is_none() {
-                self.first = Some(key);
-            }
-            return;
+        if is_behind_all(&self.ring, &key) {
+            self.ring.push_back((key, value)).unwrap();
+        } else {
+            self.heap.put(key, value);
         }
-        put_within(&mut self.entries, key, value);
-        self.first = first_of(&self.entries);
     }
 
     /// The least key.
@@ -134,8 +166,12 @@ impl<X> KeyQueue<X> {
         ensures capacity { self.new.capacity ≡ self.old.capacity }
         ensures fits { self.old.capacity < 2 ^ 64 }
     {
-        let taken = self.entries.pop_front();
-        self.first = first_of(&self.entries);
+        let taken = if is_before(self.heap.first(), front(&self.ring)) {
+            self.heap.take_first()
+        } else {
+            self.ring.pop_front()
+        };
+        self.first = first_of(&self.ring, &self.heap);
         taken
     }
 
@@ -144,6 +180,6 @@ impl<X> KeyQueue<X> {
         ensures count { result ≡ length self.now.entries }
         ensures fits { self.now.capacity < 2 ^ 64 }
     {
-        self.entries.len()
+        self.ring.len() + self.heap.len()
     }
 }

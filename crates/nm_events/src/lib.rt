@@ -2,8 +2,11 @@
 #![tactic(auto)]
 
 pub mod event_list;
+pub mod heap_list;
+mod key_heap;
 mod key_queue;
 pub mod sorted_list;
 
 pub use event_list::EventList;
+pub use heap_list::HeapList;
 pub use sorted_list::SortedList;

@@ -2,10 +2,10 @@
 
 ghost use Rattle.std.specs.Prelude.{◌≡◌, ◌+◌, ◌==◌};
 ghost use Rattle.std.specs.Option.{option_map};
-ghost use Rattle.nm_events.specs.Held.{comes_before, is_early, least_kind};
+ghost use Rattle.nm_events.specs.Held.{is_early, least_kind};
 
 use crate::event_list::EventList;
-use crate::key_queue::KeyQueue;
+use crate::key_queue::{KeyQueue, is_before};
 use nm_base::{Event, Key, Packet, Place, Time};
 use std::alloc::{AllocError, Global};
 use std::marker::Model;
@@ -19,7 +19,8 @@ enum Kind {
 }
 
 /// Keeps the events of each kind in the order of their keys: those of one kind mostly come in that order, so that a new
-/// one is put behind the others. The least event is the first of one of the queues.
+/// one is put behind the others, in constant time; at worst it takes logarithmic time. The least event is the first of one
+/// of the queues.
 ///
 /// Each queue has room for all events, whichever kind they are of, and for as many more as `room` says.
 #[derive(Drop)]
@@ -47,17 +48,6 @@ impl Model for SortedList {
 
     ghost invariant = { λ s. IsHeld s.completions.entries s.arrivals.entries s.sources.entries s.room
         (min (min s.completions.capacity s.arrivals.capacity) s.sources.capacity) };
-}
-
-/// Whether a key comes before another, where none comes after all.
-#[inline(always)]
-fn is_before(key: Option<&Key>, other: Option<&Key>) -> bool
-    ensures { result ≡ comes_before (option_map (λ k. k.now) key.entry) (option_map (λ k. k.now) other.entry) }
-{
-    match (key, other) {
-        (Some(key), Some(other)) => *key < *other,
-        (key, _) => key.is_some(),
-    }
 }
 
 /// Whether a key is there and before a time.

@@ -1,5 +1,6 @@
 -- The counters of a node.
-use Rattle.std.specs.Prelude.{ℕ, ◌+◌, ◌-◌, ◌^◌, min, List, slice_index, slice_set, replicate, codes}
+use Rattle.std.specs.Prelude.{ℕ, ◌+◌, List, slice_index, slice_set, replicate, codes}
+use Rattle.nm_base.specs.Count.{saturated}
 use Rattle.nm_forward.specs.declared.counter.Counter.{Counter}
 use Rattle.nm_forward.specs.declared.counter.Counter.TheVariants.{Header, BadDest, NotMine, NoNet, Ttl, Forwarded, Fragment, IcmpBad, Echo, Icmp, UdpBad, Udp, Port, Proto, Quiet, ToSelf, NoRoute, Originated, Raw}
 
@@ -54,4 +55,4 @@ no_counts = replicate 19 0
 -- the counts with one of them raised by one; a count stops at 2^64 - 1
 unfoldable pub raised : Counter → List ℕ → List ℕ
 raised c counts = let k : ℕ = counter_number c in
-    slice_set counts k (min (slice_index counts k + 1) (2 ^ 64 - 1))
+    slice_set counts k (saturated (slice_index counts k + 1))

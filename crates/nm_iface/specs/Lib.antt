@@ -1,3 +1,4 @@
+pub mod Octets
 pub mod Transmission
 pub mod PortValue
-pub mod Starts
+pub mod Offers

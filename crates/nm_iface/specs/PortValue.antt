@@ -1,11 +1,18 @@
 -- What contracts see of a port.
-use Rattle.std.specs.Prelude.{ℕ, ◌-◌, ◌^◌, ltb, min, max, Bool, List, length, Option}
+use Rattle.std.specs.Prelude.{ℕ, ◌+◌, ltb, nat_le, max, Bool, true, ◌&&◌, List}
+use Rattle.std.specs.Prelude.{length, sum_by, Option, Some, None}
+use Rattle.nm_base.specs.Count.{saturated}
 use Rattle.nm_model.specs.Port.{Busy, Port}
 use Rattle.nm_iface.specs.Transmission.{transmission_time}
 
+-- how much may wait: packets, and octets if these are limited too
+pub record QueueLimit : Type 0 where
+  pub packets : ℕ
+  pub octets : Option ℕ
+
 pub record PortValue : Type 0 where
-  -- packets that may wait, bits per second, nanoseconds
-  pub limit : ℕ
+  -- what may wait, bits per second, nanoseconds
+  pub limit : QueueLimit
   pub rate : ℕ
   pub delay : ℕ
   -- idle, or busy until a time with packets that wait; how many packets were dropped
@@ -14,17 +21,20 @@ pub record PortValue : Type 0 where
   -- for how many more packets there is memory
   pub room : ℕ
 
--- there is room for a packet behind those that wait
-abbrev pub has_room : ℕ → List (List ℕ) → List ℕ → Bool
-has_room limit waiting packet = ltb (length waiting) limit
+abbrev pub is_within : Option ℕ → ℕ → Bool
+is_within None octets = true
+is_within (Some most) octets = nat_le octets most
+
+-- there is room for a packet behind those that wait: fewer packets wait than may wait, and so many
+-- octets may wait as theirs and its own
+abbrev pub has_room : QueueLimit → List (List ℕ) → List ℕ → Bool
+has_room limit waiting packet =
+    ltb (length waiting) limit.packets
+    && is_within limit.octets (sum_by length waiting + length packet)
 
 -- how long a packet's transmission takes: a packet has at least one octet
 abbrev pub takes : ℕ → List ℕ → ℕ
 takes rate packet = transmission_time rate (max 1 (length packet))
-
--- a count stops at the greatest that its type holds
-abbrev pub saturated : ℕ → ℕ
-saturated n = min n (2 ^ 64 - 1)
 
 -- the port after, with memory for so many packets
 abbrev pub with_port : PortValue → Port (List ℕ) → ℕ → PortValue

@@ -1,6 +1,7 @@
 //! Interfaces: the transmission of packets, one at a time, and the queue behind it.
 #![tactic(auto)]
 
+mod octets;
 pub mod port;
 pub mod transmission;
 

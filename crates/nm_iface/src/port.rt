@@ -4,8 +4,9 @@ ghost use Rattle.std.specs.Prelude.{◌≡◌, ℕ, ◌+◌, ◌≤◌, if◌the
 ghost use Rattle.nm_base.specs.declared.limits.TheConstants.{MAX_DELAY, MAX_RATE, MAX_TIME};
 ghost use Rattle.nm_model.specs.Port.{offered, completed, is_refused};
 ghost use Rattle.nm_iface.specs.PortValue.{has_room, takes, with_port};
-ghost use Rattle.nm_iface.specs.Starts.{IsTransmission, handed_back, packet_started, start_in};
+ghost use Rattle.nm_iface.specs.Offers.{IsTransmission, handed_back, transmitted_packet, transmission_in};
 
+use crate::octets::{OctetLimit, may_wait, none_wait, with_fewer, with_more};
 use crate::transmission::transmission_time;
 use nm_base::{Time, Twin};
 use std::alloc::{AllocError, Global};
@@ -37,7 +38,7 @@ pub enum Offered {
 impl Offered {
     /// The transmission that starts, if one does.
     pub fn started(self) -> Option<Start>
-        ensures { result ≡ start_in self }
+        ensures { result ≡ transmission_in self }
     {
         match self {
             Offered::Started(start) => Some(start),
@@ -46,11 +47,13 @@ impl Offered {
     }
 }
 
-/// A port transmits one packet at a time. Further ones wait in the order in which they came, up to a limit, and those past
-/// the limit are dropped and counted (drop-tail).
+/// A port transmits one packet at a time. Further ones wait in the order in which they came, up to
+/// a limit in packets and perhaps one in octets. Those past a limit are dropped and counted
+/// (drop-tail).
 #[derive(Drop)]
 pub struct Port {
     limit: u16,
+    octets: Option<OctetLimit>,
     rate: u64,
     delay: u64,
     /// When the transmission under way completes.
@@ -60,16 +63,17 @@ pub struct Port {
 }
 
 impl Model for Port {
-    ghost use Rattle.std.specs.Prelude.{◌≡◌, ◌≤◌, ◌-◌, [], None, map, option_map};
+    ghost use Rattle.std.specs.Prelude.{◌≡◌, ◌≤◌, ◌-◌, [], None, length, map, option_map, sum_by};
     ghost use Rattle.std.specs.VecDeque.{deque_len, deque_capacity};
     ghost use Rattle.std.specs.Option.{IsSome};
     ghost use Rattle.nm_base.specs.declared.limits.TheConstants.{MAX_DELAY, MAX_RATE};
+    ghost use Rattle.nm_iface.specs.Octets.{HasCounted, most_of};
     ghost use Rattle.nm_iface.specs.PortValue.{PortValue};
 
     ghost Value = { PortValue };
 
     ghost view = { λ p. record {
-      limit = p.limit;
+      limit = record { packets = p.limit; octets = most_of p.octets };
       rate = p.rate;
       delay = p.delay;
       busy = option_map (λ t. record { completes = t; waiting = map (λ w. w.packet) p.waiting.items }) p.busy_until;
@@ -78,17 +82,19 @@ impl Model for Port {
     } };
 
     ghost invariant = { λ p. (1 ≤ p.rate) × (p.rate ≤ MAX_RATE) × (p.delay ≤ MAX_DELAY)
-        × (p.busy_until ≡ None → p.waiting.items ≡ []) };
+        × (p.busy_until ≡ None → p.waiting.items ≡ [])
+        × HasCounted (sum_by length (map (λ w. w.packet) p.waiting.items)) p.octets };
 }
 
 impl Port {
-    /// An idle port behind which so many packets may wait, over a link with this rate in bits per second and this delay in
-    /// nanoseconds. It takes no memory.
-    pub fn new(alloc: Global, limit: u16, rate: u64, delay: u64) -> Self
+    /// An idle port behind which so many packets may wait, with so many octets where these are
+    /// limited too, over a link with this rate in bits per second and this delay in nanoseconds. It
+    /// takes no memory.
+    pub fn new(alloc: Global, limit: u16, octet_limit: Option<u32>, rate: u64, delay: u64) -> Self
         requires least { 1 ≤ rate }
         requires greatest { rate ≤ MAX_RATE }
         requires delay { delay ≤ MAX_DELAY }
-        ensures limit { result.limit ≡ limit }
+        ensures limit { result.limit ≡ record { packets = limit; octets = octet_limit } }
         ensures rate { result.rate ≡ rate }
         ensures delay { result.delay ≡ delay }
         ensures idle { result.busy ≡ None }
@@ -96,6 +102,7 @@ impl Port {
     {
         Port {
             limit,
+            octets: none_wait(octet_limit),
             rate,
             delay,
             busy_until: None,
@@ -119,16 +126,17 @@ impl Port {
 
     /// A packet is offered.
     ///
-    /// An idle port starts it. Behind a busy one it waits where fewer than the limit wait, and is else dropped. It takes no
-    /// memory.
+    /// An idle port starts it. Behind a busy one it waits where fewer packets than the limit wait,
+    /// and their octets and its own are at most the limit in octets, if there is one; else it is
+    /// dropped. It takes no memory.
     pub fn offer(&mut self, now: Time, twin: Twin) -> Offered
         requires now { now ≤ MAX_TIME }
         requires room { 1 ≤ self.old.room }
         ensures port { self.new ≡ with_port self.old (offered (has_room self.old.limit) (takes self.old.rate) now twin.packet
             self.old.dropped self.old.busy).0 self.new.room }
-        ensures packet { packet_started (start_in result) ≡ (offered (has_room self.old.limit) (takes self.old.rate) now
+        ensures packet { transmitted_packet (transmission_in result) ≡ (offered (has_room self.old.limit) (takes self.old.rate) now
             twin.packet self.old.dropped self.old.busy).1 }
-        ensures start { IfSome (start_in result) (IsTransmission self.old.rate self.old.delay now twin.packet) }
+        ensures start { IfSome (transmission_in result) (IsTransmission self.old.rate self.old.delay now twin.packet) }
         ensures back { handed_back result ≡ if is_refused (has_room self.old.limit) twin.packet self.old.busy then Some twin else None }
         ensures left { self.old.room ≤ self.new.room + 1 }
     {
@@ -137,7 +145,9 @@ impl Port {
             self.busy_until = Some(start.completes);
             return Offered::Started(start);
         }
-        if self.waiting.len() < usize::from(self.limit) {
+        let octets = twin.packet.octet_count();
+        if self.waiting.len() < usize::from(self.limit) && may_wait(self.octets, octets) {
+            self.octets = with_more(self.octets, octets);
             self.waiting.push_back(twin).unwrap();
             return Offered::Queued;
         }
@@ -152,12 +162,13 @@ impl Port {
         requires busy { IsSome self.old.busy }
         ensures port { self.new ≡ with_port self.old
             (completed (takes self.old.rate) now self.old.dropped self.old.busy).0 self.new.room }
-        ensures packet { packet_started result ≡ (completed (takes self.old.rate) now self.old.dropped self.old.busy).1 }
+        ensures packet { transmitted_packet result ≡ (completed (takes self.old.rate) now self.old.dropped self.old.busy).1 }
         ensures start { IfSome result (λ s. IsTransmission self.old.rate self.old.delay now s.twin.packet s) }
         ensures room { self.old.room ≤ self.new.room }
     {
         match self.waiting.pop_front() {
             Some(twin) => {
+                self.octets = with_fewer(self.octets, twin.packet.octet_count());
                 let start = transmission(self.rate, self.delay, now, twin);
                 self.busy_until = Some(start.completes);
                 Some(start)

@@ -1,4 +1,5 @@
 mod Nexts
 mod Differences
+mod Blocks
 mod Turns
 mod Orders

@@ -1,8 +1,11 @@
 -- What the next message and a null message that counts all messages do.
-use Rattle.std.proofs.Common.{◌≡◌, ℕ, zero, suc, ◌<◌, ◌≤◌, ◌-◌, Bool, true, false, cond, ltb, leb, ◌==◌, List, [], ◌∷◌, ◌++◌, length, get_or, None, refl, sym, ap, ◌∙◌, arith}
+use Rattle.std.proofs.Common.{◌≡◌, ℕ, zero, suc, ◌<◌, ◌≤◌, ◌-◌, Bool, true, false, cond, ltb, leb, ◌==◌, List, [], ◌∷◌, ◌++◌, length, get_or, Option, Some, None, Bor, refl, sym, ap, ◌∙◌, arith}
 use Rattle.std.proofs.lemmas.Bool.Decides.{nat_tests}
+use Rattle.std.specs.List.{ItemBy}
+use Rattle.std.specs.Option.{option_map}
 use Rattle.nm_model.specs.Lists.{nth}
 use Rattle.nm_model.specs.Knowledge.{Know}
+use Rattle.nm_model.proofs.ListLemmas.{nth_below, not_some}
 use Rattle.nm_model.specs.Accept.{New, Raised, Known, Gap, Late, NotRising, Accepted, last_from, data_at, accept_data, null_at, accept_null}
 
 pub nth_past : {A : Type 0} (l : List A) (n : ℕ) → length l ≤ n → nth l n ≡ None
@@ -10,14 +13,36 @@ nth_past [] n h = refl
 nth_past (x ∷ l) zero h = absurd (omega arith)
 nth_past (x ∷ l) (suc n) h = nth_past l n (omega arith)
 
+-- what a look-up by number answers
+pub looked_up : {A : Type 0} (l : List A) (n : ℕ) (r : Option (Bor A)) → ItemBy (λ (x : Bor A). x.now) l n n r → option_map (λ x. x.now) r ≡ nth l n
+looked_up l n (Some b) h =
+    let below : n < length l = let t = h.0 in grind (arith, nat_tests, t) in
+    ap (λ z. Some z) h.1 ∙ sym (there l n b.now below)
+  where
+    there : {A : Type 0} (l : List A) (n : ℕ) (d : A) → n < length l → nth l n ≡ Some (get_or l n d)
+    there [] n d lt = absurd (omega arith)
+    there (x ∷ l) zero d lt = refl
+    there (x ∷ l) (suc n) d lt = there l n d (omega arith)
+looked_up l n None h =
+    let past : length l ≤ n = let t = h.0 in grind (arith, nat_tests, t) in
+    sym (nth_past l n past)
+
 module _ {P : Type 0} where
   -- the last message decides
-  pub last_from-last : (t : ℕ) (l : List (ℕ × P)) (m : ℕ × P) → 0 < length l → m ≡ get_or l (length l - 1) m → last_from t l ≡ leb t m.0
-  last_from-last t [] m h e = absurd (omega arith)
-  last_from-last t (x ∷ []) m h e = ap (λ (z : ℕ × P). leb t z.0) (sym e)
-  last_from-last t (x ∷ y ∷ l) m h e =
+  pub last_from-last : (t : ℕ) (l : List (ℕ × P)) (m : ℕ × P) → nth l (length l - 1) ≡ Some m → last_from t l ≡ leb t m.0
+  last_from-last t [] m e = absurd (cc)
+  last_from-last t (x ∷ []) m e =
+      let is : ◌≡◌ {A = ℕ × P} x m = cc in
+      ap (λ (z : ℕ × P). leb t z.0) is
+  last_from-last t (x ∷ y ∷ l) m e =
       let z : length (x ∷ y ∷ l) - 1 ≡ suc (length (y ∷ l) - 1) = omega arith in
-      last_from-last t (y ∷ l) m (omega arith) (e ∙ ap (λ n. get_or (x ∷ y ∷ l) n m) z)
+      last_from-last t (y ∷ l) m (sym (ap (nth (x ∷ y ∷ l)) z) ∙ e)
+
+  pub last_from-none : (t : ℕ) (l : List (ℕ × P)) → nth l (length l - 1) ≡ None → last_from t l ≡ false
+  last_from-none t [] e = refl
+  last_from-none t (x ∷ l) e =
+      let y = nth_below (x ∷ l) (length (x ∷ l) - 1) (omega arith) in
+      absurd (not_some y.0 (sym e ∙ y.1))
 
   module _ (a : Know P) (n : ℕ) (next : n ≡ length a.list) where
     pub null_raises : (t : ℕ) → a.clock < t → accept_null a n t ≡ record { answer = Raised; after = record a { clock = t } }

@@ -6,13 +6,13 @@ use Rattle.nm_knowledge.specs.declared.answer.Accepted.TheVariants.{New, Known, 
 use Rattle.nm_knowledge.specs.declared.answer.KnowFault.{KnowFault}
 use Rattle.nm_knowledge.specs.declared.answer.KnowFault.TheVariants.{Gap, Differs, Late, NotRising, Memory, Contrary}
 
-abbrev pub number_of : KnowFault → ℕ
-number_of (Gap h) = 1
-number_of (Differs n) = 2
-number_of (Late t) = 3
-number_of NotRising = 4
-number_of Memory = 5
-number_of (Contrary n) = 6
+abbrev pub know_fault_number : KnowFault → ℕ
+know_fault_number (Gap h) = 1
+know_fault_number (Differs n) = 2
+know_fault_number (Late t) = 3
+know_fault_number NotRising = 4
+know_fault_number Memory = 5
+know_fault_number (Contrary n) = 6
 
 -- no definition speaks of memory
 abbrev pub reason : KnowFault → Option model.Answer

@@ -1,6 +1,6 @@
 -- What a call leaves and answers, by the definitions.
-use Rattle.std.specs.Prelude.{◌≡◌, ℕ, ◌<◌, cond, leb, List, length, Some, None, Result, Ok, Err}
-use Rattle.nm_model.specs.Knowledge.{Know}
+use Rattle.std.specs.Prelude.{◌≡◌, ℕ, ◌<◌, List, length, Some, None, Result, Ok, Err}
+use Rattle.nm_model.specs.Knowledge.{Know, IsCompatible}
 use Rattle.nm_model.specs.Accept as model
 use Rattle.nm_model.specs.Join.{join, join_fault}
 use Rattle.nm_knowledge.specs.declared.answer.Accepted.{Accepted}
@@ -21,6 +21,14 @@ Joins old new other (Ok _) = (join_fault same_octets old other ≡ None) × (new
 Joins old new other (Err Memory) = (join_fault same_octets old other ≡ None) × (length old.list < length other.list) × (new ≡ old)
 Joins old new other (Err f) = (join_fault same_octets old other ≡ reason f) × (new ≡ old)
 
--- the second list where it is as long or longer, else the first
-abbrev pub longer : {A : Type 0} → List A → List A → List A
-longer k l = cond (leb (length k) (length l)) l k
+-- whether two can be joined, and else the fault, which is never one of memory
+abbrev pub Finds : Know (List ℕ) → Know (List ℕ) → Result Unit KnowFault → Type 0
+Finds a b (Ok _) = join_fault same_octets a b ≡ None
+Finds a b (Err Memory) = ⊥
+Finds a b (Err f) = join_fault same_octets a b ≡ reason f
+
+-- the join of two that are compatible; or messages of the other found no memory, or the two are not compatible, and nothing changed
+abbrev pub Merges : Know (List ℕ) → Know (List ℕ) → Know (List ℕ) → Result Unit KnowFault → Type 0
+Merges old new other (Ok _) = IsCompatible old other × (new ≡ join old other)
+Merges old new other (Err Memory) = IsCompatible old other × (new ≡ old)
+Merges old new other (Err f) = ¬ (IsCompatible old other) × (new ≡ old)

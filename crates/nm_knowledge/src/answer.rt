@@ -1,7 +1,7 @@
 //! How knowledge answers to what it is told.
 
 ghost use Rattle.std.specs.Prelude.{◌≡◌};
-ghost use Rattle.nm_knowledge.specs.Answers.{number_of};
+ghost use Rattle.nm_knowledge.specs.Answers.{know_fault_number};
 ghost use Rattle.nm_knowledge.specs.declared.answer.KnowFault.TheVariants.{Memory};
 
 use std::alloc::{AllocError, AllocFailed};
@@ -44,7 +44,7 @@ pub enum KnowFault {
 impl KnowFault {
     /// The number by which reports name the fault, from 1 to 6.
     pub fn number(&self) -> u8
-        ensures { result ≡ number_of self.now }
+        ensures { result ≡ know_fault_number self.now }
     {
         match self {
             KnowFault::Gap { .. } => 1,

@@ -1,31 +1,33 @@
 //! Knowledge of one channel.
 
-ghost use Rattle.std.specs.Prelude.{◌≡◌, ℕ, ◌≤◌, length, ◌==◌, Some, IfOk};
+ghost use Rattle.std.specs.Prelude.{◌≡◌, ℕ, ◌≤◌, ◌<◌, length, ◌==◌, Some, None, IfOk, OnErr};
 ghost use Rattle.std.specs.Option.{option_map};
 ghost use Rattle.nm_model.specs.Lists.{nth};
 ghost use Rattle.nm_model.specs.Knowledge.{nothing_known, IsKnow};
 ghost use Rattle.nm_model.specs.Accept.{accept_data, accept_null};
-ghost use Rattle.nm_knowledge.specs.declared.know.TheConstants.{MAX_MESSAGES};
+ghost use Rattle.nm_knowledge.specs.declared.messages.TheConstants.{MAX_MESSAGES};
 ghost use Rattle.nm_knowledge.specs.Answers.{answer};
 ghost use Rattle.nm_knowledge.specs.Octets.{same_octets};
-ghost use Rattle.nm_knowledge.specs.Outcome.{Accepts, Joins};
+ghost use Rattle.nm_model.specs.Join.{join, join_fault};
+ghost use Rattle.nm_knowledge.specs.Gain.{gained, IsGain};
+ghost use Rattle.nm_knowledge.specs.Outcome.{Accepts, Finds, Joins, Merges};
 
 use crate::answer::{Accepted, KnowFault};
-use crate::messages::{first_difference, is_at_last, is_before, take_rest};
+use crate::gain::Gain;
+use crate::laws::{packets_are_told_apart, what_is_known};
+pub use crate::messages::MAX_MESSAGES;
+use crate::messages::Messages;
 use nm_base::{Packet, Time};
-use nm_model::knowledge::{accept_laws, join_laws};
+use nm_model::knowledge::{accept_laws, join_faults_are_right, join_laws};
 use std::alloc::{AllocError, Global};
 use std::marker::Model;
-
-/// The most messages of a channel. One more is refused as if its memory were.
-pub const MAX_MESSAGES: usize = 1 << 50;
 
 /// What is known of a channel: its first messages, each with its time of arrival, and a clock, at or after which all later
 /// messages arrive. The times of the messages rise, up to the clock. Packets are shared, and no call copies their octets. A
 /// clause sees the list of (time, packet) and the clock.
 #[derive(Drop)]
 pub struct Know {
-    messages: Vec<(Time, Packet)>,
+    messages: Messages,
     clock: Time,
 }
 
@@ -35,10 +37,10 @@ impl Model for Know {
 
     ghost Value = { Knowledge (List ℕ) };
 
-    ghost view = { λ k. record { list = k.messages.items; clock = k.clock } };
+    ghost view = { λ k. record { list = k.messages; clock = k.clock } };
 
-    ghost invariant = { λ k. IsKnow {P = List ℕ} (record { list = k.messages.items; clock = k.clock })
-        × (length k.messages.items ≤ 2 ^ 50) };
+    ghost invariant = { λ k. IsKnow {P = List ℕ} (record { list = k.messages; clock = k.clock })
+        × (length k.messages ≤ 2 ^ 50) };
 }
 
 impl Know {
@@ -47,7 +49,7 @@ impl Know {
         ensures { result ≡ nothing_known }
     {
         Know {
-            messages: Vec::new(alloc),
+            messages: Messages::new(alloc),
             clock: Time::from_nanoseconds(0),
         }
     }
@@ -64,7 +66,7 @@ impl Know {
     pub fn is_empty(&self) -> bool
         ensures { result ≡ (length self.now.list == 0) }
     {
-        self.messages.is_empty()
+        self.messages.len() == 0
     }
 
     /// The channel clock.
@@ -91,8 +93,7 @@ impl Know {
     pub fn copy(&self, alloc: Global) -> Result<Self, AllocError>
         ensures { IfOk result (λ copy. copy ≡ self.now) }
     {
-        let mut messages = Vec::new(alloc);
-        messages.extend_with_clones(&self.messages)?;
+        let messages = self.messages.copy(alloc)?;
         Ok(Know {
             messages,
             clock: self.clock,
@@ -120,7 +121,7 @@ impl Know {
             return Err(KnowFault::Gap { have });
         }
         if number < have {
-            let (known_time, known) = &self.messages[number as usize];
+            let (known_time, known) = self.messages.at(number as usize);
             return if *known_time == time && known == packet {
                 Ok(Accepted::Known)
             } else {
@@ -132,7 +133,7 @@ impl Know {
                 clock: self.clock.nanoseconds(),
             });
         }
-        if is_at_last(&self.messages, time) {
+        if self.messages.is_at_last(time) {
             return Err(KnowFault::NotRising);
         }
         if self.messages.len() >= MAX_MESSAGES {
@@ -161,8 +162,7 @@ impl Know {
             return Err(KnowFault::Gap { have });
         }
         if count < have {
-            let (time, _) = &self.messages[count as usize];
-            return if *time < clock {
+            return if self.messages.is_before(count as usize, clock) {
                 Err(KnowFault::Contrary { count })
             } else {
                 Ok(Accepted::Known)
@@ -175,37 +175,92 @@ impl Know {
         Ok(Accepted::Raised)
     }
 
-    /// Takes what another knows of the same channel: afterwards this has the longer list and the greater clock. The memory
-    /// for all its new messages is taken at once, and their packets are shared.
+    /// Whether what another knows of the same channel can be merged with this, and else why not. It takes no memory.
     ///
     /// # Errors
     ///
-    /// `Differs` names the first number at which both have a message and these differ. `Late` names the clock of one that
-    /// is after the first message that the other has past its end. `Memory` where memory was refused. A refusal changes
-    /// nothing.
-    pub fn merge(&mut self, other: &Know) -> Result<(), KnowFault>
-        ensures { Joins self.old self.new other.now result }
+    /// `Differs` names the first number at which both have a message and these differ. Where there is none, `Late` names
+    /// the clock of one that is after the first message that the other has past its end.
+    pub fn check_merge(&self, other: &Know) -> Result<(), KnowFault>
+        ensures { Finds self.now other.now result }
     {
-        let differing = first_difference(&self.messages, &other.messages);
+        let differing = self.messages.first_difference(&other.messages);
         if let Some(number) = differing {
             return Err(KnowFault::Differs {
                 number: number as u64,
             });
         }
-        if is_before(&other.messages, self.messages.len(), self.clock) {
+        if other.messages.is_before(self.messages.len(), self.clock) {
             return Err(KnowFault::Late {
                 clock: self.clock.nanoseconds(),
             });
         }
-        if is_before(&self.messages, other.messages.len(), other.clock) {
+        if self.messages.is_before(other.messages.len(), other.clock) {
             return Err(KnowFault::Late {
                 clock: other.clock.nanoseconds(),
             });
         }
-        take_rest(&mut self.messages, &other.messages)?;
+        Ok(())
+    }
+
+    /// Takes the memory for a merge with what another knows. It changes nothing yet.
+    ///
+    /// # Errors
+    ///
+    /// Where memory for messages was refused. There are some that only the other has then.
+    pub fn reserve_merge(&self, other: &Know) -> Result<Gain, AllocError>
+        requires { join_fault same_octets self.now other.now ≡ None }
+        ensures joins { IfOk result (λ gain. gained self.now gain ≡ join self.now other.now) }
+        ensures fits { IfOk result (λ gain. IsGain self.now gain) }
+        ensures err { OnErr result (length self.now.list < length other.now.list) }
+    {
+        let clock = self.clock.max(other.clock);
+        if other.messages.len() <= self.messages.len() {
+            return Ok(Gain {
+                messages: None,
+                clock,
+            });
+        }
+        let messages = other.messages.copy(self.messages.alloc())?;
         // It keeps times rising up to the clock.
         join_laws::<Packet>();
-        self.clock = self.clock.max(other.clock);
+        Ok(Gain {
+            messages: Some(messages),
+            clock,
+        })
+    }
+
+    /// Takes what was reserved, which takes no memory.
+    pub fn take(&mut self, gain: Gain)
+        requires { IsGain self.old gain }
+        ensures { self.new ≡ gained self.old gain }
+    {
+        let Gain { messages, clock } = gain;
+        match messages {
+            Some(messages) => *self = Know { messages, clock },
+            None => self.clock = clock,
+        }
+    }
+
+    /// Takes what another knows of the same channel: afterwards this has the longer list and the greater clock. The memory
+    /// for all its new messages is taken at once, and their packets are shared. It is `check_merge`, `reserve_merge` and
+    /// `take` in a row.
+    ///
+    /// # Errors
+    ///
+    /// Those of `check_merge`, or `Memory` where memory was refused. A refusal changes nothing.
+    pub fn merge(&mut self, other: &Know) -> Result<(), KnowFault>
+        ensures joins { Joins self.old self.new other.now result }
+        ensures merges { Merges self.old self.new other.now result }
+    {
+        // Where there is no fault, and only there, the two are compatible.
+        what_is_known(self);
+        what_is_known(other);
+        packets_are_told_apart();
+        join_faults_are_right::<Packet>();
+        self.check_merge(other)?;
+        let gain = self.reserve_merge(other)?;
+        self.take(gain);
         Ok(())
     }
 }

@@ -1,11 +1,13 @@
 //! Laws of the definitions: a function's contract is the law, and its body does nothing but call the laws that it rests on.
 
-ghost use Rattle.std.specs.Prelude.{◌≡◌, ℕ, Bool, List, Contains, ◌↔◌};
-ghost use Rattle.nm_model.specs.Knowledge.{Know, IsKnow};
+ghost use Rattle.std.specs.Prelude.{◌≡◌, ℕ, ◌≤◌, Bool, List, length, Contains, ◌↔◌};
+ghost use Rattle.nm_model.specs.Knowledge.{Know as Knowledge, IsKnow};
 ghost use Rattle.nm_model.specs.Accept.{IsReflexive, TellsApart};
+ghost use Rattle.nm_knowledge.specs.declared.messages.TheConstants.{MAX_MESSAGES};
 ghost use Rattle.nm_knowledge.specs.Octets.{same_octets};
-ghost use Rattle.nm_knowledge.specs.Order.{Told, AreAccepted, told_all};
+ghost use Rattle.nm_knowledge.specs.Order.{Tidings, AreAccepted, accept_all};
 
+use crate::know::Know;
 use nm_model::knowledge::accept_laws;
 
 /// Packets are the same exactly where their octets are.
@@ -18,9 +20,18 @@ pub fn packets_are_told_apart()
 /// ones, each of which is accepted all along, leave the same knowledge. A refusal changes nothing, so what was refused may
 /// stand between them.
 pub fn order_does_not_matter<P>()
-    ensures { (same : P → P → Bool) → TellsApart same → (a : Know P) → IsKnow a → (k l : List (Told P))
-        → AreAccepted same a k → AreAccepted same a l → ((x : Told P) → Contains k x ↔ Contains l x)
-        → told_all same a k ≡ told_all same a l }
+    ensures { (same : P → P → Bool) → TellsApart same → (a : Knowledge P) → IsKnow a → (k l : List (Tidings P))
+        → AreAccepted same a k → AreAccepted same a l → ((x : Tidings P) → Contains k x ↔ Contains l x)
+        → accept_all same a k ≡ accept_all same a l }
 {
     accept_laws::<P>();
+}
+
+/// The times of known messages rise, up to the clock, and there are at most 2^50 of them.
+pub fn what_is_known(know: &Know)
+    ensures known { IsKnow know.now }
+    ensures most { length know.now.list ≤ MAX_MESSAGES }
+{
+    let _messages = know.len();
+    let _clock = know.clock();
 }

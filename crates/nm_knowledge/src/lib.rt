@@ -6,9 +6,11 @@
 #![tactic(auto)]
 
 pub mod answer;
+pub mod gain;
 pub mod know;
 pub mod laws;
 mod messages;
 
 pub use answer::{Accepted, KnowFault};
+pub use gain::Gain;
 pub use know::Know;

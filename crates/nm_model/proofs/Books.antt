@@ -159,7 +159,7 @@ module _ {P N : Type 0} (net : Net P N) (ok : IsNet net) (p : ℕ) where
       not_by_channel c q pl ch y (Comes u f g i) =
           let is = effect_is net ok s.node s.port e.0.time e.0.place e.0.number e.1 in
           let pc : c ≡ net.peer u.0 = arrive_inj _ _ (sym pl ∙ ap (λ r. r.place) g) in
-          let d = is.start_turn u f in
+          let d = is.transmission_turn u f in
           let own : net.owner u.0 ≡ node_of net e.0.place = is.turn_owner (u.0, d.0) d.1 in
           let far : in_part net p (Arrive (net.peer c)) ≡ true = ap (λ j. in_part net p (Arrive (net.peer j))) pc ∙ ap (λ j. in_part net p (Arrive j)) (ok.twice u.0) ∙ ap (λ v. net.part v == p) own ∙ mn in
           both_ways (in_part net p (Arrive (net.peer c))) far (not_true _ (and_both _ _ ch).1)

@@ -14,7 +14,7 @@ use Rattle.nm_model.specs.Knowledge.{Knowledge}
 use Rattle.nm_model.specs.Partition.{in_part, comes_in, is_inbox, is_own_record}
 use Rattle.nm_model.specs.Lists.{nth, keep_where}
 use Rattle.nm_model.specs.Network.{Net, IsNet, node_of}
-use Rattle.nm_model.specs.Run.{State, Effect, effect, turned, sent_after, new_events, start_events, next_events, arrived_after, apply, in_record, out_record}
+use Rattle.nm_model.specs.Run.{State, Effect, effect, turned, sent_after, new_events, transmission_events, next_events, arrived_after, apply, in_record, out_record}
 use Rattle.nm_base.specs.declared.event.Event.TheVariants.{Delivery, Completion}
 use Rattle.nm_model.proofs.Keys.{key_at, key_decides, same_key, remove_same, remove_other, least_has, least_min, up_to_earlier}
 use Rattle.nm_model.proofs.ListLemmas.{same_time, bool_cases, same_number, set_there, set_both, kept-append}
@@ -138,14 +138,14 @@ module _ {P N : Type 0} (net : Net P N) (p : ℕ) where
       turn_mine : (i : ℕ) (w : Port P) → does.turn ≡ Some (i, w) → in_part net p (Arrive i) ≡ in_part net p k.place
       turn_mine i w e = owner_mine i (does_is.turn_owner (i, w) e)
 
-      start_mine : (u : ℕ × P) → does.start ≡ Some u → in_part net p (Arrive u.0) ≡ in_part net p k.place
-      start_mine u e = let d = does_is.start_turn u e in turn_mine u.0 d.0 d.1
+      transmission_mine : (u : ℕ × P) → does.transmission ≡ Some u → in_part net p (Arrive u.0) ≡ in_part net p k.place
+      transmission_mine u e = let d = does_is.transmission_turn u e in turn_mine u.0 d.0 d.1
 
       came_mine : (a : ℕ × P) → does.came ≡ Some a → in_part net p (Arrive a.0) ≡ in_part net p k.place
       came_mine a e = ap (in_part net p) (sym (does_is.came_is a e).0)
 
-      far_mine : (u : ℕ × P) → does.start ≡ Some u → in_part net p (Arrive (net.peer (net.peer u.0))) ≡ in_part net p k.place
-      far_mine u e = ap (λ i. in_part net p (Arrive i)) (ok.twice u.0) ∙ start_mine u e
+      far_mine : (u : ℕ × P) → does.transmission ≡ Some u → in_part net p (Arrive (net.peer (net.peer u.0))) ≡ in_part net p k.place
+      far_mine u e = ap (λ i. in_part net p (Arrive i)) (ok.twice u.0) ∙ transmission_mine u e
 
       -- an event of another partition
       pub cut_other : in_part net p k.place ≡ false → Cut K (apply net (λ q. true) k does g) s
@@ -159,7 +159,7 @@ module _ {P N : Type 0} (net : Net P N) (p : ℕ) where
           sent = λ c mc. ⊎_elim
               (λ u. both_ways (in_part net p (Arrive (net.peer c))) mc (ap (λ i. in_part net p (Arrive (net.peer i))) u.2 ∙ far_mine u.0 u.1 ∙ mn))
               (λ u. u.1 ∙ h.agrees.sent c mc)
-              (sent_case net k.time g.sent does.start c);
+              (sent_case net k.time g.sent does.transmission c);
           arrived = λ c mc. ⊎_elim
               (λ a. both_ways (in_part net p (Arrive c)) mc (ap (in_part net p) (sym a.0) ∙ mn))
               (λ a. a.1 ∙ h.agrees.arrived c mc)
@@ -173,7 +173,7 @@ module _ {P N : Type 0} (net : Net P N) (p : ℕ) where
       }
         where
           not_new : (q : Key) → in_part net p q.place ≡ true → is_inbox net p q.place ≡ false → (y : Event P) → ¬ (IsNew net k g.sent does q y)
-          not_new q mq cq y (Ends u e f i) = both_ways (in_part net p q.place) mq (ap (λ r. in_part net p r.place) f ∙ start_mine u e ∙ mn)
+          not_new q mq cq y (Ends u e f i) = both_ways (in_part net p q.place) mq (ap (λ r. in_part net p r.place) f ∙ transmission_mine u e ∙ mn)
           not_new q mq cq y (GoesOn u e f i) = both_ways (in_part net p q.place) mq (ap (λ r. in_part net p r.place) f ∙ mn)
           not_new q mq cq y (Comes u e f i) =
               let here : in_part net p (Arrive (net.peer u.0)) ≡ true = ap (in_part net p) (sym (ap (λ r. r.place) f)) ∙ mq in
@@ -188,8 +188,8 @@ module _ {P N : Type 0} (net : Net P N) (p : ℕ) where
           out_none None e = refl
           out_none (Some u) e = ap (λ b. cond b (record { time = k.time; iface = u.0; dir = Out; packet = u.1 } ∷ []) []) (e u refl)
 
-          none : keep_where (is_own_record net p) (in_record k.time does.came ++ out_record k.time does.start) ≡ []
-          none = kept-append (is_own_record net p) (in_record k.time does.came) _ ∙ ap₂ (λ a b. a ++ b) (in_none does.came (λ a e. came_mine a e ∙ mn)) (out_none does.start (λ u e. start_mine u e ∙ mn))
+          none : keep_where (is_own_record net p) (in_record k.time does.came ++ out_record k.time does.transmission) ≡ []
+          none = kept-append (is_own_record net p) (in_record k.time does.came) _ ∙ ap₂ (λ a b. a ++ b) (in_none does.came (λ a e. came_mine a e ∙ mn)) (out_none does.transmission (λ u e. transmission_mine u e ∙ mn))
 
       -- an event of this partition
       module _ (mn : in_part net p k.place ≡ true) (has : get s.pending k ≡ Some x) where
@@ -197,19 +197,19 @@ module _ {P N : Type 0} (net : Net P N) (p : ℕ) where
         turned_both None i e = e
         turned_both (Some w) i e = set_both g.port s.port w.0 w.1 w.1 i (λ f. refl) (λ f. e)
 
-        line : (u : ℕ × P) → does.start ≡ Some u → g.sent (net.peer u.0) ≡ s.sent (net.peer u.0)
+        line : (u : ℕ × P) → does.transmission ≡ Some u → g.sent (net.peer u.0) ≡ s.sent (net.peer u.0)
         line u e = h.agrees.sent (net.peer u.0) (far_mine u e ∙ mn)
 
         sent_both : (o : Option (ℕ × P)) → ((u : ℕ × P) → o ≡ Some u → g.sent (net.peer u.0) ≡ s.sent (net.peer u.0)) → (c : ℕ) → g.sent c ≡ s.sent c → sent_after net k.time g.sent o c ≡ sent_after net k.time s.sent o c
         sent_both None l c e = e
         sent_both (Some u) l c e = set_both g.sent s.sent (net.peer u.0) _ _ c (λ f. ap (λ z. z ++ (k.time + net.tx u.0 u.1 + net.delay u.0, u.1) ∷ []) (l u refl)) (λ f. e)
 
-        start_both : (o : Option (ℕ × P)) → ((u : ℕ × P) → o ≡ Some u → g.sent (net.peer u.0) ≡ s.sent (net.peer u.0)) → start_events net k.time g.sent o ≡ start_events net k.time s.sent o
-        start_both None l = refl
-        start_both (Some u) l = ap (λ (z : List (ℕ × P)). (key_of (k.time + net.tx u.0 u.1) (Complete u.0) (length z), Completion) ∷ (key_of (k.time + net.tx u.0 u.1 + net.delay u.0) (Arrive (net.peer u.0)) (length z), Delivery u.1) ∷ []) (l u refl)
+        transmission_both : (o : Option (ℕ × P)) → ((u : ℕ × P) → o ≡ Some u → g.sent (net.peer u.0) ≡ s.sent (net.peer u.0)) → transmission_events net k.time g.sent o ≡ transmission_events net k.time s.sent o
+        transmission_both None l = refl
+        transmission_both (Some u) l = ap (λ (z : List (ℕ × P)). (key_of (k.time + net.tx u.0 u.1) (Complete u.0) (length z), Completion) ∷ (key_of (k.time + net.tx u.0 u.1 + net.delay u.0) (Arrive (net.peer u.0)) (length z), Delivery u.1) ∷ []) (l u refl)
 
         news_both : new_events net k g.sent does ≡ new_events net k s.sent does
-        news_both = ap (λ z. z ++ next_events k.place k.number does.follows) (start_both does.start line)
+        news_both = ap (λ z. z ++ next_events k.place k.number does.follows) (transmission_both does.transmission line)
 
         arrived_both : (o : Option (ℕ × P)) → ((a : ℕ × P) → o ≡ Some a → in_part net p (Arrive a.0) ≡ true) → (c : ℕ) → g.arrived c ≡ s.arrived c → arrived_after g.arrived o c ≡ arrived_after s.arrived o c
         arrived_both None e c f = f
@@ -249,10 +249,10 @@ module _ {P N : Type 0} (net : Net P N) (p : ℕ) where
           agrees = record {
             node = λ v mv. set_both g.node s.node (node_of net k.place) does.after does.after v (λ e. refl) (λ e. h.agrees.node v mv);
             port = λ i mi. turned_both does.turn i (h.agrees.port i mi);
-            sent = λ c mc. sent_both does.start line c (h.agrees.sent c mc);
+            sent = λ c mc. sent_both does.transmission line c (h.agrees.sent c mc);
             arrived = λ c mc. arrived_both does.came (λ a e. came_mine a e ∙ mn) c (h.agrees.arrived c mc);
             own = λ q mq cq. put_alike (λ q. true) (in_part net p) (new_events net k g.sent does) (remove g.pending k) (remove s.pending k) q (sym mq) (removed_both q (h.agrees.own q mq cq)) ∙ ap (λ l. get (schedule (in_part net p) l (remove s.pending k)) q) news_both;
-            records = kept-append (is_own_record net p) g.records _ ∙ ap₂ (λ a b. a ++ b) h.agrees.records (kept-append (is_own_record net p) (in_record k.time does.came) _ ∙ ap₂ (λ a b. a ++ b) (in_all does.came (λ a e. came_mine a e ∙ mn)) (out_all does.start (λ u e. start_mine u e ∙ mn)));
+            records = kept-append (is_own_record net p) g.records _ ∙ ap₂ (λ a b. a ++ b) h.agrees.records (kept-append (is_own_record net p) (in_record k.time does.came) _ ∙ ap₂ (λ a b. a ++ b) (in_all does.came (λ a e. came_mine a e ∙ mn)) (out_all does.transmission (λ u e. transmission_mine u e ∙ mn)));
           };
           inbox_is = λ c t n y ch e. ⊎_elim
               (λ z. absurd (not_new c t n y ch z))

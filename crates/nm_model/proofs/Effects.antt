@@ -5,18 +5,18 @@ use Rattle.nm_base.specs.declared.key.Place.TheVariants.{Arrive, Complete, Fire}
 use Rattle.nm_base.specs.declared.event.Event.{Event}
 use Rattle.nm_base.specs.declared.event.Event.TheVariants.{Delivery, Completion}
 use Rattle.nm_base.specs.declared.event.Origin.TheVariants.{Arrival, Source}
-use Rattle.nm_model.specs.Port.{Busy, Port, offered, next_started, completed}
+use Rattle.nm_model.specs.Port.{Busy, Port, offered, next_transmitting, completed}
 use Rattle.nm_model.specs.Network.{Net, IsNet, node_of}
 use Rattle.nm_model.proofs.ListLemmas.{some_inj, not_some}
 use Rattle.nm_model.specs.Run.{Effect, at_iface, turned_by, sent_on, reacted, effect}
 
 pub record EffectIs {P N : Type 0} (net : Net P N) (ports : ℕ → Port P) (time : ℕ) (place : Place) (number : ℕ) (event : Event P) (e : Effect P N) : Type 0 where
   pub turn_owner : (w : ℕ × Port P) → e.turn ≡ Some w → net.owner w.0 ≡ node_of net place
-  pub start_turn : (s : ℕ × P) → e.start ≡ Some s → (w : Port P) × (e.turn ≡ Some (s.0, w)) × (w.busy ≢ None)
-  pub start_free : (s : ℕ × P) → e.start ≡ Some s → ((ports s.0).busy ≡ None) ⊎ (place ≡ Complete s.0)
+  pub transmission_turn : (s : ℕ × P) → e.transmission ≡ Some s → (w : Port P) × (e.turn ≡ Some (s.0, w)) × (w.busy ≢ None)
+  pub transmission_free : (s : ℕ × P) → e.transmission ≡ Some s → ((ports s.0).busy ≡ None) ⊎ (place ≡ Complete s.0)
   pub turn_idle : (w : ℕ × Port P) → e.turn ≡ Some w → w.1.busy ≡ None → place ≡ Complete w.0
   -- a port that is busy after was given a packet to transmit, or goes on
-  pub turn_busy : (w : ℕ × Port P) → e.turn ≡ Some w → (b : Busy P) → w.1.busy ≡ Some b → ((x : P) × (e.start ≡ Some (w.0, x)) × (b.completes ≡ time + net.tx w.0 x)) ⊎ ((c : Busy P) × (e.start ≡ None) × ((ports w.0).busy ≡ Some c) × (b.completes ≡ c.completes) × (place ≡ Complete w.0 → event ≡ Completion → ⊥))
+  pub turn_busy : (w : ℕ × Port P) → e.turn ≡ Some w → (b : Busy P) → w.1.busy ≡ Some b → ((x : P) × (e.transmission ≡ Some (w.0, x)) × (b.completes ≡ time + net.tx w.0 x)) ⊎ ((c : Busy P) × (e.transmission ≡ None) × ((ports w.0).busy ≡ Some c) × (b.completes ≡ c.completes) × (place ≡ Complete w.0 → event ≡ Completion → ⊥))
   pub completes : (i : ℕ) → place ≡ Complete i → event ≡ Completion → (w : Port P) × (e.turn ≡ Some (i, w))
   pub follows_is : (f : ℕ × P) → e.follows ≡ Some f → (j : ℕ) × (place ≡ Fire j) × (net.source j (suc number) ≡ Some f)
   pub came_is : (a : ℕ × P) → e.came ≡ Some a → (place ≡ Arrive a.0) × (event ≡ Delivery a.1)
@@ -61,7 +61,7 @@ module _ {P : Type 0} (room : List P → P → Bool) (tx : P → ℕ) (now : ℕ
       go true f = (c, refl, refl, ap (λ z. z.completes) (sym (some_inj _ b f)))
       go false f = (c, refl, refl, ap (λ z. z.completes) (sym (some_inj _ b f)))
 
-  next_starts : (d : ℕ) (q : List P) (y : P) → (next_started tx now d q).1 ≡ Some y → (next_started tx now d q).0.busy ≢ None
+  next_starts : (d : ℕ) (q : List P) (y : P) → (next_transmitting tx now d q).1 ≡ Some y → (next_transmitting tx now d q).0.busy ≢ None
   next_starts d [] y e = absurd (cc)
   next_starts d (x ∷ q) y e = some_none _
 
@@ -69,7 +69,7 @@ module _ {P : Type 0} (room : List P → P → Bool) (tx : P → ℕ) (now : ℕ
   completed_starts d None y e = absurd (cc)
   completed_starts d (Some b) y e = next_starts d b.waiting y e
 
-  next_keeps : (d : ℕ) (q : List P) (b : Busy P) → (next_started tx now d q).0.busy ≡ Some b → (y : P) × ((next_started tx now d q).1 ≡ Some y) × (b.completes ≡ now + tx y)
+  next_keeps : (d : ℕ) (q : List P) (b : Busy P) → (next_transmitting tx now d q).0.busy ≡ Some b → (y : P) × ((next_transmitting tx now d q).1 ≡ Some y) × (b.completes ≡ now + tx y)
   next_keeps d [] b e = absurd (cc)
   next_keeps d (x ∷ q) b e = (x, refl, ap (λ z. z.completes) (sym (some_inj _ b e)))
 
@@ -81,8 +81,8 @@ module _ {P N : Type 0} (net : Net P N) (ports : ℕ → Port P) (time : ℕ) (p
   no_send : (n : N) (follows : Option (ℕ × P)) → ((f : ℕ × P) → follows ≡ Some f → (j : ℕ) × (place ≡ Fire j) × (net.source j (suc number) ≡ Some f)) → EffectIs net ports time place number event (sent_on net ports time came n None follows)
   no_send n follows h = record {
     turn_owner = λ w e. absurd (cc);
-    start_turn = λ s e. absurd (cc);
-    start_free = λ s e. absurd (cc);
+    transmission_turn = λ s e. absurd (cc);
+    transmission_free = λ s e. absurd (cc);
     turn_idle = λ w e i. absurd (cc);
     turn_busy = λ w e b i. absurd (cc);
     completes = λ i e f. absurd (other i e f);
@@ -97,8 +97,8 @@ module _ {P N : Type 0} (net : Net P N) (ports : ℕ → Port P) (time : ℕ) (p
       let full = offered_busy (net.room t.0) (net.tx t.0) time t.1 (ports t.0).dropped (ports t.0).busy in
       record {
         turn_owner = λ w e. ap net.owner (sym (some_first t.0 r.0 w e)) ∙ own;
-        start_turn = λ s e. let a = at_iface_is t.0 r.1 s e in (r.0, ap (λ i. Some (i, r.0)) a.0, full);
-        start_free = λ s e. let a = at_iface_is t.0 r.1 s e in inl (ap (λ i. (ports i).busy) (sym a.0) ∙ offered_starts (net.room t.0) (net.tx t.0) time t.1 (ports t.0).dropped (ports t.0).busy s.1 a.1);
+        transmission_turn = λ s e. let a = at_iface_is t.0 r.1 s e in (r.0, ap (λ i. Some (i, r.0)) a.0, full);
+        transmission_free = λ s e. let a = at_iface_is t.0 r.1 s e in inl (ap (λ i. (ports i).busy) (sym a.0) ∙ offered_starts (net.room t.0) (net.tx t.0) time t.1 (ports t.0).dropped (ports t.0).busy s.1 a.1);
         turn_idle = λ w e i. absurd (full (ap (λ z. z.busy) (some_second t.0 r.0 w e) ∙ i));
         turn_busy = λ w e b i. keeps w.0 (some_first t.0 r.0 w e) b (offered_keeps (net.room t.0) (net.tx t.0) time t.1 (ports t.0).dropped (ports t.0).busy b (ap (λ z. z.busy) (some_second t.0 r.0 w e) ∙ i));
         completes = λ i e f. absurd (other i e f);
@@ -127,8 +127,8 @@ module _ {P N : Type 0} (net : Net P N) (ports : ℕ → Port P) (time : ℕ) wh
       let r = completed (net.tx i) time (ports i).dropped (ports i).busy in
       record {
         turn_owner = λ w e. ap net.owner (sym (some_first i r.0 w e));
-        start_turn = λ s e. let a = at_iface_is i r.1 s e in (r.0, ap (λ j. Some (j, r.0)) a.0, completed_starts (net.room i) (net.tx i) time (ports i).dropped (ports i).busy s.1 a.1);
-        start_free = λ s e. let a = at_iface_is i r.1 s e in inr (ap Complete a.0);
+        transmission_turn = λ s e. let a = at_iface_is i r.1 s e in (r.0, ap (λ j. Some (j, r.0)) a.0, completed_starts (net.room i) (net.tx i) time (ports i).dropped (ports i).busy s.1 a.1);
+        transmission_free = λ s e. let a = at_iface_is i r.1 s e in inr (ap Complete a.0);
         turn_idle = λ w e z. ap Complete (some_first i r.0 w e);
         turn_busy = λ w e b z.
             let k = completed_keeps (net.room i) (net.tx i) time (ports i).dropped (ports i).busy b (ap (λ v. v.busy) (some_second i r.0 w e) ∙ z) in

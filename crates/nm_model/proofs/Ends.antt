@@ -11,7 +11,7 @@ use Rattle.nm_model.specs.EventList.{least, schedule}
 use Rattle.nm_model.specs.Network.{Net, IsNet}
 use Rattle.nm_model.specs.Before.{Drains}
 use Rattle.nm_model.specs.Lists.{nth}
-use Rattle.nm_model.specs.Run.{State, effect, new_events, start_events, next_events, made, step_at, run, pends_before}
+use Rattle.nm_model.specs.Run.{State, effect, new_events, transmission_events, next_events, made, step_at, run, pends_before}
 use Rattle.nm_model.proofs.ListLemmas.{below_or_at}
 use Rattle.nm_model.proofs.Keys.{key_decides, same_events, insert_same, insert_other, remove_same, remove_other, least_has}
 use Rattle.nm_model.proofs.Scheduling.{IsAmong}
@@ -109,9 +109,9 @@ module _ {P : Type 0} (t : ℕ) where
       omega arith
 
 module _ {P N : Type 0} (net : Net P N) where
-  pub few_start : (time : ℕ) (sent : ℕ → List (ℕ × P)) (o : Option (ℕ × P)) → length (start_events net time sent o) ≤ 2
-  few_start time sent None = omega arith
-  few_start time sent (Some u) = omega arith
+  pub few_transmission : (time : ℕ) (sent : ℕ → List (ℕ × P)) (o : Option (ℕ × P)) → length (transmission_events net time sent o) ≤ 2
+  few_transmission time sent None = omega arith
+  few_transmission time sent (Some u) = omega arith
 
   module _ (ok : IsNet net) (here : Place → Bool) (by_node : IsByNode net here) where
     falls : (t : ℕ) (s : State P N) → IsOrderly net here s → (e : Key × Event P) → least s.pending ≡ Some e → e.0.time < t → weight t (step_at net here s (Some e)).pending < weight t s.pending
@@ -126,9 +126,9 @@ module _ {P N : Type 0} (net : Net P N) where
         let later = makes_later net ok here by_node s h e has r y (made_among net e.0 s.sent does r y a) in
         pow4_mono (t - r.time) (t - suc e.0.time) (omega arith) in
         let sum = light t q es each in
-        let few = few_start e.0.time s.sent does.start in
+        let few = few_transmission e.0.time s.sent does.transmission in
         let more = few_next e.0.place e.0.number does.follows in
-        let both = length-append (start_events net e.0.time s.sent does.start) (next_events e.0.place e.0.number does.follows) in
+        let both = length-append (transmission_events net e.0.time s.sent does.transmission) (next_events e.0.place e.0.number does.follows) in
         let below = three (length es) q (weigh t es) (omega arith) sum (pow4_pos (t - suc e.0.time)) in
         let put = weight_put t here es (remove s.pending e.0) in
         let rem = weight_removed t s.pending e.0 e.1 has in
@@ -165,9 +165,9 @@ module _ {P N : Type 0} (net : Net P N) where
   pub made_few : (s : State P N) (e : Key × Event P) → length (made net s e) ≤ 3
   made_few s e =
       let does = effect net s.node s.port e.0.time e.0.place e.0.number e.1 in
-      let a = few_start net e.0.time s.sent does.start in
+      let a = few_transmission net e.0.time s.sent does.transmission in
       let b = few_next e.0.place e.0.number does.follows in
-      let c = length-append (start_events net e.0.time s.sent does.start) (next_events e.0.place e.0.number does.follows) in omega arith
+      let c = length-append (transmission_events net e.0.time s.sent does.transmission) (next_events e.0.place e.0.number does.follows) in omega arith
 
   nth_among : (es : List (Key × Event P)) (m : ℕ) (f : Key × Event P) → nth es m ≡ Some f → IsAmong f.0 f.1 es
   nth_among [] m f e = absurd (cc)

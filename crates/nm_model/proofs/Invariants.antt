@@ -117,11 +117,11 @@ module _ {P N : Type 0} (net : Net P N) (ok : IsNet net) where
         (equal_or_less l n (omega (arith, a.1)))
 
     -- where a transmission starts, all earlier ones arrive earlier
-    room : (t : ℕ × P) → what.start ≡ Some t → (n : ℕ) (b : ℕ × P) → nth (s.sent (net.peer t.0)) n ≡ Some b → b.0 ≤ k.time + net.delay t.0
+    room : (t : ℕ × P) → what.transmission ≡ Some t → (n : ℕ) (b : ℕ × P) → nth (s.sent (net.peer t.0)) n ≡ Some b → b.0 ≤ k.time + net.delay t.0
     room t h n b e = ⊎_elim
         (λ free. let a = g.idle t.0 free n b e in let z = now_before in omega arith)
         (λ place. by_completion t.0 k.time k.number x (pending_at (Complete t.0) place) n b e)
-        (what_is.start_free t h)
+        (what_is.transmission_free t h)
 
     -- new events are strictly later
     pub new_later : (q : Key) (y : Event P) → IsNew net k s.sent what q y → k.time < q.time
@@ -143,7 +143,7 @@ module _ {P N : Type 0} (net : Net P N) (ok : IsNet net) where
         let le = room h.0 h.1 n a (nth_cong _ _ n a (ap s.sent h.2) e) in
         let z = ok.takes_time h.0.0 h.0.1 in omega arith)))
         (λ h. subst IsRising (sym h.1) (g.rising c))
-        (sent_case net k.time s.sent what.start c)
+        (sent_case net k.time s.sent what.transmission c)
 
     spaced_after : (c : ℕ) → IsSpaced (net.tx (net.peer c)) (after.sent c)
     spaced_after c = ⊎_elim
@@ -151,7 +151,7 @@ module _ {P N : Type 0} (net : Net P N) (ok : IsNet net) where
         let le = room h.0 h.1 n a (nth_cong _ _ n a (ap s.sent h.2) e) in
         let z : net.tx (net.peer c) h.0.1 ≡ net.tx h.0.0 h.0.1 = ap (λ i. net.tx i h.0.1) (ap net.peer h.2 ∙ ok.twice h.0.0) in omega arith)))
         (λ h. subst (IsSpaced (net.tx (net.peer c))) (sym h.1) (g.spaced c))
-        (sent_case net k.time s.sent what.start c)
+        (sent_case net k.time s.sent what.transmission c)
 
     counted_at : (c : ℕ) → after.arrived c ≤ length (s.sent c)
     counted_at c = ⊎_elim
@@ -162,7 +162,7 @@ module _ {P N : Type 0} (net : Net P N) (ok : IsNet net) where
     counted_after : (c : ℕ) → after.arrived c ≤ length (after.sent c)
     counted_after c =
         let a = counted_at c in
-        let b = prefix_length _ _ (sent_prefix net k.time s.sent what.start c) in
+        let b = prefix_length _ _ (sent_prefix net k.time s.sent what.transmission c) in
         omega arith
 
     later_after : (q : Key) (y : Event P) → get after.pending q ≡ Some y → k.time ≤ q.time
@@ -172,7 +172,7 @@ module _ {P N : Type 0} (net : Net P N) (ok : IsNet net) where
         (pending_case net k s.sent what (λ q. true) s.pending q y e)
 
     -- what starts is put on the far end
-    grown : (u : ℕ × P) → what.start ≡ Some u → nth (after.sent (net.peer u.0)) (length (s.sent (net.peer u.0))) ≡ Some (k.time + net.tx u.0 u.1 + net.delay u.0, u.1)
+    grown : (u : ℕ × P) → what.transmission ≡ Some u → nth (after.sent (net.peer u.0)) (length (s.sent (net.peer u.0))) ≡ Some (k.time + net.tx u.0 u.1 + net.delay u.0, u.1)
     grown u h = ap (λ l. nth l (length (s.sent (net.peer u.0)))) (ap (λ o. sent_after net k.time s.sent o (net.peer u.0)) h ∙ set_here s.sent (net.peer u.0) _) ∙ nth_last (s.sent (net.peer u.0)) _
 
     arrival_is_after : (c t n : ℕ) (y : Event P) → get after.pending (key_of t (Arrive c) n) ≡ Some y → (z : P) × (y ≡ Delivery z) × (after.arrived c ≤ n) × (nth (after.sent c) n ≡ Some (t, z))
@@ -201,14 +201,14 @@ module _ {P N : Type 0} (net : Net P N) (ok : IsNet net) where
                   (same_number n k.number))
                   (λ b. omega (arith, b.1, a.2))
                   (came_case s.arrived c),
-              prefix_nth _ _ n (t, a.0) (sent_prefix net k.time s.sent what.start c) a.3,
+              prefix_nth _ _ n (t, a.0) (sent_prefix net k.time s.sent what.transmission c) a.3,
             )
 
     arrival_has_after : (c t n : ℕ) (y : P) → after.arrived c ≤ n → nth (after.sent c) n ≡ Some (t, y) → get after.pending (key_of t (Arrive c) n) ≡ Some (Delivery y)
     arrival_has_after c t n y le e = ⊎_elim
         (λ h. ⊎_elim (λ i. kept i) (λ i. came h.0 h.1 h.2 i.0 i.1) (nth_push (s.sent c) _ (t, y) n (nth_cong _ _ n (t, y) h.3 e)))
         (λ h. kept (nth_cong _ _ n (t, y) h.1 e))
-        (sent_case net k.time s.sent what.start c)
+        (sent_case net k.time s.sent what.transmission c)
       where
         -- a message that was there is pending as before
         kept : nth (s.sent c) n ≡ Some (t, y) → get after.pending (key_of t (Arrive c) n) ≡ Some (Delivery y)
@@ -235,7 +235,7 @@ module _ {P N : Type 0} (net : Net P N) (ok : IsNet net) where
                 let pn : n ≡ length (s.sent c) = ap (λ r. r.number) f ∙ ap (λ d. length (s.sent d)) (sym pc) in
                 let b = below_nth (s.sent c) n (t, y) i in omega arith
 
-        came : (u : ℕ × P) → what.start ≡ Some u → c ≡ net.peer u.0 → n ≡ length (s.sent c) → ◌≡◌ {A = ℕ × P} (k.time + net.tx u.0 u.1 + net.delay u.0, u.1) (t, y) → get after.pending (key_of t (Arrive c) n) ≡ Some (Delivery y)
+        came : (u : ℕ × P) → what.transmission ≡ Some u → c ≡ net.peer u.0 → n ≡ length (s.sent c) → ◌≡◌ {A = ℕ × P} (k.time + net.tx u.0 u.1 + net.delay u.0, u.1) (t, y) → get after.pending (key_of t (Arrive c) n) ≡ Some (Delivery y)
         came u h pc pn eq =
             subst (λ q. get after.pending q ≡ Some (Delivery y)) (sym same) (put_has (λ q. true) (new_events net k s.sent what) (remove s.pending k) _ (Delivery y) refl among one)
           where
@@ -259,14 +259,14 @@ module _ {P N : Type 0} (net : Net P N) (ok : IsNet net) where
         (λ t. let le = g.idle i (ap (λ w. w.busy) (sym t.1) ∙ q) n b (nth_cong _ _ n b same e) in let z = now_before in omega arith)
         (turned_case s.port what.turn i)
       where
-        -- a port that is idle after has started nothing
+        -- a port that is idle after has transmitting nothing
         same : after.sent (net.peer i) ≡ s.sent (net.peer i)
         same = ⊎_elim
-            (λ c. absurd (let d = what_is.start_turn c.0 c.1 in
+            (λ c. absurd (let d = what_is.transmission_turn c.0 c.1 in
             let ij : i ≡ c.0.0 = peer_inj net ok i c.0.0 c.2 in
             d.2 (ap (λ w. w.busy) (sym (ap (turned s.port what.turn) ij ∙ ap (λ o. turned s.port o c.0.0) d.1 ∙ set_here s.port c.0.0 d.0)) ∙ q)))
             (λ c. c.1)
-            (sent_case net k.time s.sent what.start (net.peer i))
+            (sent_case net k.time s.sent what.transmission (net.peer i))
 
     underway_after : (i : ℕ) (b : Busy P) → (after.port i).busy ≡ Some b → (n : ℕ) × (y : P) × (suc n ≡ length (after.sent (net.peer i))) × (nth (after.sent (net.peer i)) n ≡ Some (b.completes + net.delay i, y))
     underway_after i b e = ⊎_elim
@@ -282,7 +282,7 @@ module _ {P N : Type 0} (net : Net P N) (ok : IsNet net) where
             let a = g.underway i c f in
             (a.0, a.1, a.2 ∙ ap length (sym line), ap (λ l. nth l a.0) line ∙ a.3 ∙ ap (λ u. Some (u + net.delay i, a.1)) (sym t))
 
-        begins : (y : P) → what.start ≡ Some (i, y) → b.completes ≡ k.time + net.tx i y → (n : ℕ) × (y : P) × (suc n ≡ length (after.sent (net.peer i))) × (nth (after.sent (net.peer i)) n ≡ Some (b.completes + net.delay i, y))
+        begins : (y : P) → what.transmission ≡ Some (i, y) → b.completes ≡ k.time + net.tx i y → (n : ℕ) × (y : P) × (suc n ≡ length (after.sent (net.peer i))) × (nth (after.sent (net.peer i)) n ≡ Some (b.completes + net.delay i, y))
         begins y h t =
             let line : after.sent (net.peer i) ≡ s.sent (net.peer i) ++ (k.time + net.tx i y + net.delay i, y) ∷ [] = ap (λ o. sent_after net k.time s.sent o (net.peer i)) h ∙ set_here s.sent (net.peer i) _ in
             let l1 = ap length line in

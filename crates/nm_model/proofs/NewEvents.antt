@@ -11,7 +11,7 @@ use Rattle.nm_model.specs.Port.{Port}
 use Rattle.nm_model.specs.EventList.{schedule}
 use Rattle.nm_model.specs.Lists.{IsPrefix, set_at}
 use Rattle.nm_model.specs.Network.{Net, IsNet}
-use Rattle.nm_model.specs.Run.{Effect, start, source_events, first_event, turned, sent_after, start_events, next_events, new_events, arrived_after}
+use Rattle.nm_model.specs.Run.{Effect, start, source_events, first_event, turned, sent_after, transmission_events, next_events, new_events, arrived_after}
 use Rattle.nm_model.proofs.Keys.{get_empty, key_decides, remove_same, remove_other}
 use Rattle.nm_model.proofs.ListLemmas.{same_number, set_here, set_there}
 use Rattle.nm_model.proofs.Scheduling.{IsAbsent, IsAmong, put_absent, put_from, among-append}
@@ -56,8 +56,8 @@ module _ {X : Type 0} where
 
 -- what an event that an event makes is: the end of a transmission, its arrival, or the source's next
 pub data IsNew {P N : Type 0} (net : Net P N) (k : Key) (sent : ℕ → List (ℕ × P)) (e : Effect P N) (q : Key) (y : Event P) : Type 0 where
-  Ends : (t : ℕ × P) → e.start ≡ Some t → q ≡ key_of (k.time + net.tx t.0 t.1) (Complete t.0) (length (sent (net.peer t.0))) → y ≡ Completion → IsNew net k sent e q y
-  Comes : (t : ℕ × P) → e.start ≡ Some t → q ≡ key_of (k.time + net.tx t.0 t.1 + net.delay t.0) (Arrive (net.peer t.0)) (length (sent (net.peer t.0))) → y ≡ Delivery t.1 → IsNew net k sent e q y
+  Ends : (t : ℕ × P) → e.transmission ≡ Some t → q ≡ key_of (k.time + net.tx t.0 t.1) (Complete t.0) (length (sent (net.peer t.0))) → y ≡ Completion → IsNew net k sent e q y
+  Comes : (t : ℕ × P) → e.transmission ≡ Some t → q ≡ key_of (k.time + net.tx t.0 t.1 + net.delay t.0) (Arrive (net.peer t.0)) (length (sent (net.peer t.0))) → y ≡ Delivery t.1 → IsNew net k sent e q y
   GoesOn : (f : ℕ × P) → e.follows ≡ Some f → q ≡ key_of f.0 k.place (suc k.number) → y ≡ Delivery f.1 → IsNew net k sent e q y
 
 module _ {P N : Type 0} (net : Net P N) where
@@ -75,11 +75,11 @@ module _ {P N : Type 0} (net : Net P N) where
       (sent_case time sent o c)
 
   module _ (k : Key) (sent : ℕ → List (ℕ × P)) (e : Effect P N) where
-    start_among : (q : Key) (y : Event P) (o : Option (ℕ × P)) → e.start ≡ o → IsAmong q y (start_events net k.time sent o) → IsNew net k sent e q y
-    start_among q y None h a = absurd a
-    start_among q y (Some t) h (inl a) = Ends t h a.0 a.1
-    start_among q y (Some t) h (inr (inl a)) = Comes t h a.0 a.1
-    start_among q y (Some t) h (inr (inr a)) = absurd a
+    transmission_among : (q : Key) (y : Event P) (o : Option (ℕ × P)) → e.transmission ≡ o → IsAmong q y (transmission_events net k.time sent o) → IsNew net k sent e q y
+    transmission_among q y None h a = absurd a
+    transmission_among q y (Some t) h (inl a) = Ends t h a.0 a.1
+    transmission_among q y (Some t) h (inr (inl a)) = Comes t h a.0 a.1
+    transmission_among q y (Some t) h (inr (inr a)) = absurd a
 
     next_among : (q : Key) (y : Event P) (o : Option (ℕ × P)) → e.follows ≡ o → IsAmong q y (next_events k.place k.number o) → IsNew net k sent e q y
     next_among q y None h a = absurd a
@@ -88,15 +88,15 @@ module _ {P N : Type 0} (net : Net P N) where
 
     pub made_among : (q : Key) (y : Event P) → IsAmong q y (new_events net k sent e) → IsNew net k sent e q y
     made_among q y a = ⊎_elim
-        (λ b. start_among q y e.start refl b)
+        (λ b. transmission_among q y e.transmission refl b)
         (λ b. next_among q y e.follows refl b)
-        (among-append q y (start_events net k.time sent e.start) (next_events k.place k.number e.follows) a)
+        (among-append q y (transmission_events net k.time sent e.transmission) (next_events k.place k.number e.follows) a)
 
-    pub among_comes : (t : ℕ × P) → e.start ≡ Some t → IsAmong (key_of (k.time + net.tx t.0 t.1 + net.delay t.0) (Arrive (net.peer t.0)) (length (sent (net.peer t.0)))) (Delivery t.1) (new_events net k sent e)
-    among_comes t h = among_left _ _ (start_events net k.time sent e.start) _ (subst (λ o. IsAmong (key_of (k.time + net.tx t.0 t.1 + net.delay t.0) (Arrive (net.peer t.0)) (length (sent (net.peer t.0)))) (Delivery t.1) (start_events net k.time sent o)) (sym h) (inr (inl (refl, refl))))
+    pub among_comes : (t : ℕ × P) → e.transmission ≡ Some t → IsAmong (key_of (k.time + net.tx t.0 t.1 + net.delay t.0) (Arrive (net.peer t.0)) (length (sent (net.peer t.0)))) (Delivery t.1) (new_events net k sent e)
+    among_comes t h = among_left _ _ (transmission_events net k.time sent e.transmission) _ (subst (λ o. IsAmong (key_of (k.time + net.tx t.0 t.1 + net.delay t.0) (Arrive (net.peer t.0)) (length (sent (net.peer t.0)))) (Delivery t.1) (transmission_events net k.time sent o)) (sym h) (inr (inl (refl, refl))))
 
-    pub among_ends : (t : ℕ × P) → e.start ≡ Some t → IsAmong (key_of (k.time + net.tx t.0 t.1) (Complete t.0) (length (sent (net.peer t.0)))) Completion (new_events net k sent e)
-    among_ends t h = among_left _ _ (start_events net k.time sent e.start) _ (subst (λ o. IsAmong (key_of (k.time + net.tx t.0 t.1) (Complete t.0) (length (sent (net.peer t.0)))) Completion (start_events net k.time sent o)) (sym h) (inl (refl, refl)))
+    pub among_ends : (t : ℕ × P) → e.transmission ≡ Some t → IsAmong (key_of (k.time + net.tx t.0 t.1) (Complete t.0) (length (sent (net.peer t.0)))) Completion (new_events net k sent e)
+    among_ends t h = among_left _ _ (transmission_events net k.time sent e.transmission) _ (subst (λ o. IsAmong (key_of (k.time + net.tx t.0 t.1) (Complete t.0) (length (sent (net.peer t.0)))) Completion (transmission_events net k.time sent o)) (sym h) (inl (refl, refl)))
 
     -- what is pending after the event
     module _ (here : Place → Bool) (m : FinMap key_cmp (Event P)) where

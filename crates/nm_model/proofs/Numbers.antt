@@ -107,26 +107,26 @@ module _ {P N : Type 0} (net : Net P N) where
           (came_case net ok (one_list net n) good.0 good.1 e.0 e.1 m (one_list net n).arrived c)
 
       -- the line of an interface grows by what starts there
-      started : (i : ℕ) (x : P) → does.start ≡ Some (i, x) → (length (next.sent (net.peer i)) ≡ suc (length ((one_list net n).sent (net.peer i)))) × (load (next.port i).busy ≡ 1)
-      started i x f = (
+      transmitting : (i : ℕ) (x : P) → does.transmission ≡ Some (i, x) → (length (next.sent (net.peer i)) ≡ suc (length ((one_list net n).sent (net.peer i)))) × (load (next.port i).busy ≡ 1)
+      transmitting i x f = (
         ⊎_elim
             (λ a. let l = ap length a.3 in let k = length-append ((one_list net n).sent (net.peer i)) ((e.0.time + net.tx a.0.0 a.0.1 + net.delay a.0.0, a.0.1) ∷ []) in omega arith)
             (λ a. absurd (a.0 (i, x) f refl))
-            (sent_case net e.0.time (one_list net n).sent does.start (net.peer i)),
+            (sent_case net e.0.time (one_list net n).sent does.transmission (net.peer i)),
         load_full (next.port i).busy (λ z. ⊎_elim
-            (λ a. let d = is.start_turn (i, x) f in let w : a.0 ≡ d.0 = let u = a.1 in let v = d.1 in port_same i a.0 d.0 (sym u ∙ v) in d.2 (ap (λ v. v.busy) (sym w) ∙ ap (λ v. v.busy) (sym a.2) ∙ z))
-            (λ a. let d = is.start_turn (i, x) f in a.0 d.0 d.1)
+            (λ a. let d = is.transmission_turn (i, x) f in let w : a.0 ≡ d.0 = let u = a.1 in let v = d.1 in port_same i a.0 d.0 (sym u ∙ v) in d.2 (ap (λ v. v.busy) (sym w) ∙ ap (λ v. v.busy) (sym a.2) ∙ z))
+            (λ a. let d = is.transmission_turn (i, x) f in a.0 d.0 d.1)
             (turned_case (one_list net n).port does.turn i)),
       )
         where
           port_same : (i : ℕ) (v w : Port P) → ◌≡◌ {A = Option (ℕ × Port P)} (Some (i, v)) (Some (i, w)) → v ≡ w
           port_same i v w f = let g : ◌≡◌ {A = ℕ × Port P} (i, v) (i, w) = cc in ap (λ z. z.1) g
 
-      starts_at : (i : ℕ) → ((x : P) × (does.start ≡ Some (i, x))) ⊎ ((x : P) → does.start ≢ Some (i, x))
+      starts_at : (i : ℕ) → ((x : P) × (does.transmission ≡ Some (i, x))) ⊎ ((x : P) → does.transmission ≢ Some (i, x))
       starts_at i = ⊎_elim
           (λ a. inl (a.0.1, a.1 ∙ ap (λ j. Some (j, a.0.1)) (sym (peer_inj net ok i a.0.0 a.2))))
           (λ a. inr (λ x f. a.0 (i, x) f refl))
-          (sent_case net e.0.time (one_list net n).sent does.start (net.peer i))
+          (sent_case net e.0.time (one_list net n).sent does.transmission (net.peer i))
 
       -- a completion: the port was busy
       completes : (i : ℕ) → e.0.place ≡ Complete i → events_at net (same_place (Complete i)) n + 1 ≡ length ((one_list net n).sent (net.peer i))
@@ -136,7 +136,7 @@ module _ {P N : Type 0} (net : Net P N) where
           let c = h.completions i in omega arith
 
       -- a port that is idle after: its transmission was completed; one that is busy with no start goes on
-      rest_load : (i : ℕ) → ((x : P) → does.start ≢ Some (i, x)) → ((e.0.place ≡ Complete i) × (load (next.port i).busy ≡ 0)) ⊎ ((e.0.place ≢ Complete i) × (load (next.port i).busy ≡ load ((one_list net n).port i).busy))
+      rest_load : (i : ℕ) → ((x : P) → does.transmission ≢ Some (i, x)) → ((e.0.place ≡ Complete i) × (load (next.port i).busy ≡ 0)) ⊎ ((e.0.place ≢ Complete i) × (load (next.port i).busy ≡ load ((one_list net n).port i).busy))
       rest_load i none = ⊎_elim
           (λ t. ⊎_elim
           (λ z. inl (is.turn_idle (i, t.0) t.1 z, ap (λ w. load w.busy) t.2 ∙ ap load z))
@@ -156,10 +156,10 @@ module _ {P N : Type 0} (net : Net P N) where
 
       completions_next : (i : ℕ) → events_at net (same_place (Complete i)) (suc n) + load (next.port i).busy ≡ length (next.sent (net.peer i))
       completions_next i = ⊎_elim
-          (λ x. let s1 = started i x.0 x.1 in
+          (λ x. let s1 = transmitting i x.0 x.1 in
           ⊎_elim
           (λ b. let c = completes i b.0 in omega (arith, b.1, s1.0, s1.1))
-          (λ b. let free : load ((one_list net n).port i).busy ≡ 0 = ⊎_elim (λ f. ap load f) (λ pl. absurd (b.0 pl)) (is.start_free (i, x.0) x.1) in
+          (λ b. let free : load ((one_list net n).port i).busy ≡ 0 = ⊎_elim (λ f. ap load f) (λ pl. absurd (b.0 pl)) (is.transmission_free (i, x.0) x.1) in
           let c = h.completions i in omega (arith, b.1, s1.0, s1.1))
           (at_place (Complete i) n e m))
           (λ none. let l = ap length (unstarted net ok (λ q. true) (all_by_node net) (one_list net n) good.1.orderly e (least_has (one_list net n).pending e m) i none) in

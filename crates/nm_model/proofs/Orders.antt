@@ -11,7 +11,7 @@ use Rattle.nm_model.specs.Lists.{nth}
 use Rattle.nm_model.specs.EventList.{least, schedule}
 use Rattle.nm_model.specs.Network.{Net, IsNet}
 use Rattle.nm_model.specs.Port.{Busy, Port}
-use Rattle.nm_model.specs.Run.{one_list, State, Effect, effect, sent_after, new_events, start_events, next_events, made, step_at, run, start, source_events}
+use Rattle.nm_model.specs.Run.{one_list, State, Effect, effect, sent_after, new_events, transmission_events, next_events, made, step_at, run, start, source_events}
 use Rattle.nm_model.specs.Partition.{in_part}
 use Rattle.nm_model.specs.Orderly.{IsByNode, IsOrderly}
 use Rattle.nm_model.proofs.Keys.{key_at, get_empty, same_key, key_decides, insert_same, insert_other, remove_other, remove_same, least_has}
@@ -93,27 +93,27 @@ module _ {P N : Type 0} (net : Net P N) (ok : IsNet net) (here : Place → Bool)
     has_at : (q : Place) → e.0.place ≡ q → get s.pending (key_of e.0.time q e.0.number) ≡ Some e.1
     has_at q f = ap (get s.pending) (sym (key_at e.0 q f)) ∙ has
 
-    start_here : (u : ℕ × P) → does.start ≡ Some u → here (Arrive u.0) ≡ true
-    start_here u h = let d = is.start_turn u h in by_node (Arrive u.0) e.0.place (is.turn_owner (u.0, d.0) d.1) ∙ is_here
+    start_here : (u : ℕ × P) → does.transmission ≡ Some u → here (Arrive u.0) ≡ true
+    start_here u h = let d = is.transmission_turn u h in by_node (Arrive u.0) e.0.place (is.turn_owner (u.0, d.0) d.1) ∙ is_here
 
-    same_start : (u v : ℕ × P) → does.start ≡ Some u → does.start ≡ Some v → u ≡ v
-    same_start u v f g = some_inj u v (sym f ∙ g)
+    same_transmission : (u v : ℕ × P) → does.transmission ≡ Some u → does.transmission ≡ Some v → u ≡ v
+    same_transmission u v f g = some_inj u v (sym f ∙ g)
 
     -- what is put on the far end
-    line : (u : ℕ × P) → does.start ≡ Some u → length (after.sent (net.peer u.0)) ≡ suc (length (s.sent (net.peer u.0)))
+    line : (u : ℕ × P) → does.transmission ≡ Some u → length (after.sent (net.peer u.0)) ≡ suc (length (s.sent (net.peer u.0)))
     line u h =
         let l = ap length (ap (λ z. sent_after net e.0.time s.sent z (net.peer u.0)) h ∙ set_here s.sent (net.peer u.0) _) in
         let m = length-append (s.sent (net.peer u.0)) ((e.0.time + net.tx u.0 u.1 + net.delay u.0, u.1) ∷ []) in omega arith
 
-    pub unstarted : (i : ℕ) → ((x : P) → does.start ≢ Some (i, x)) → after.sent (net.peer i) ≡ s.sent (net.peer i)
+    pub unstarted : (i : ℕ) → ((x : P) → does.transmission ≢ Some (i, x)) → after.sent (net.peer i) ≡ s.sent (net.peer i)
     unstarted i none = ⊎_elim
         (λ a. absurd (none a.0.1 (a.1 ∙ ap (λ j. Some (j, a.0.1)) (sym (peer_inj net ok i a.0.0 a.2)))))
         (λ a. a.1)
-        (sent_case net e.0.time s.sent does.start (net.peer i))
+        (sent_case net e.0.time s.sent does.transmission (net.peer i))
 
     -- nothing starts at an interface whose port doesn't change
     pub unturned : (i : ℕ) → ((w : Port P) → does.turn ≢ Some (i, w)) → after.sent (net.peer i) ≡ s.sent (net.peer i)
-    unturned i none = unstarted i (λ x h. let d = is.start_turn (i, x) h in none d.0 d.1)
+    unturned i none = unstarted i (λ x h. let d = is.transmission_turn (i, x) h in none d.0 d.1)
 
     -- two completions of an interface are one
     one_completion : (i t n : ℕ) (y : Event P) → get s.pending (key_of t (Complete i) n) ≡ Some y → e.0.place ≡ Complete i → key_of t (Complete i) n ≡ e.0
@@ -129,7 +129,7 @@ module _ {P N : Type 0} (net : Net P N) (ok : IsNet net) (here : Place → Bool)
         (λ t. ⊎_elim
         (λ z. absurd (ne (is.turn_idle (i, t.0) t.1 z)))
         (λ z. ⊎_elim
-        (λ a. absurd (⊎_elim (λ free. not_some b (sym free ∙ f)) ne (is.start_free (i, a.0) a.1)))
+        (λ a. absurd (⊎_elim (λ free. not_some b (sym free ∙ f)) ne (is.transmission_free (i, a.0) a.1)))
         (λ a. (z.0, ap (λ w. w.busy) t.2 ∙ z.1, a.3 ∙ ap (λ c. c.completes) (some_inj a.0 b (sym a.2 ∙ f)), ap (λ v. sent_after net e.0.time s.sent v (net.peer i)) a.1))
         (is.turn_busy (i, t.0) t.1 z.0 z.1))
         (option_cases t.0.busy))
@@ -154,13 +154,13 @@ module _ {P N : Type 0} (net : Net P N) (ok : IsNet net) (here : Place → Bool)
             same_port : (v : Port P) → does.turn ≡ Some (j, v) → v ≡ w
             same_port v f = ap (λ z. z.1) (some_inj {A = ℕ × Port P} (j, v) (j, w) (sym f ∙ h))
 
-        at_start : (u : ℕ × P) → does.start ≡ Some u → (b : Busy P) × ((after.port u.0).busy ≡ Some b) × (b.completes ≡ e.0.time + net.tx u.0 u.1)
+        at_start : (u : ℕ × P) → does.transmission ≡ Some u → (b : Busy P) × ((after.port u.0).busy ≡ Some b) × (b.completes ≡ e.0.time + net.tx u.0 u.1)
         at_start u h =
-            let d = is.start_turn u h in
+            let d = is.transmission_turn u h in
             ⊎_elim
             (λ z. absurd (d.2 z))
             (λ z. ⊎_elim
-            (λ a. (z.0, ap (λ w. w.busy) (turned_to u.0 d.0 d.1) ∙ z.1, a.2 ∙ ap (λ (v : ℕ × P). e.0.time + net.tx u.0 v.1) (same_start (u.0, a.0) u a.1 h)))
+            (λ a. (z.0, ap (λ w. w.busy) (turned_to u.0 d.0 d.1) ∙ z.1, a.2 ∙ ap (λ (v : ℕ × P). e.0.time + net.tx u.0 v.1) (same_transmission (u.0, a.0) u a.1 h)))
             (λ a. absurd (not_some u (sym a.1 ∙ h)))
             (is.turn_busy (u.0, d.0) d.1 z.0 z.1))
             (option_cases d.0.busy)
@@ -205,7 +205,7 @@ module _ {P N : Type 0} (net : Net P N) (ok : IsNet net) (here : Place → Bool)
                 let num : n ≡ length (s.sent (net.peer i)) = ap (λ r. r.number) q ∙ ap (λ j. length (s.sent (net.peer j))) (sym iu) in
                 omega arith
 
-        begins : (x : P) → does.start ≡ Some (i, x) → b.completes ≡ e.0.time + net.tx i x → (n : ℕ) × (suc n ≡ length (after.sent (net.peer i))) × (get after.pending (key_of b.completes (Complete i) n) ≡ Some Completion)
+        begins : (x : P) → does.transmission ≡ Some (i, x) → b.completes ≡ e.0.time + net.tx i x → (n : ℕ) × (suc n ≡ length (after.sent (net.peer i))) × (get after.pending (key_of b.completes (Complete i) n) ≡ Some Completion)
         begins x h t = (
           length (s.sent (net.peer i)),
           sym (line (i, x) h),
@@ -227,7 +227,7 @@ module _ {P N : Type 0} (net : Net P N) (ok : IsNet net) (here : Place → Bool)
         new (GoesOn u h q z) = (u.1, z)
 
     inner_after : (c t n : ℕ) (y : Event P) → here (Arrive (net.peer c)) ≡ true → get after.pending (key_of t (Arrive c) n) ≡ Some y → n < length (after.sent c)
-    inner_after c t n y mn g = ⊎_elim new (λ h. let l = o.inner c t n y mn h.1 in let m = prefix_length _ _ (sent_prefix net e.0.time s.sent does.start c) in omega arith) (pending_case net e.0 s.sent does here s.pending (key_of t (Arrive c) n) y g)
+    inner_after c t n y mn g = ⊎_elim new (λ h. let l = o.inner c t n y mn h.1 in let m = prefix_length _ _ (sent_prefix net e.0.time s.sent does.transmission c) in omega arith) (pending_case net e.0 s.sent does here s.pending (key_of t (Arrive c) n) y g)
       where
         new : IsNew net e.0 s.sent does (key_of t (Arrive c) n) y → n < length (after.sent c)
         new (Ends u h q z) = absurd (let w = ap (λ r. r.place) q in cc)
@@ -339,7 +339,7 @@ module _ {P N : Type 0} (net : Net P N) (here : Place → Bool) where
 
 -- the events that an event makes are at different places
 module _ {P N : Type 0} (net : Net P N) where
-  apart : (k : Key) (sent : ℕ → List (ℕ × P)) (begins follows : Option (ℕ × P)) → ((f : ℕ × P) → follows ≡ Some f → (j : ℕ) × (k.place ≡ Fire j)) → (m n : ℕ) (f g : Key × Event P) → m < n → nth (start_events net k.time sent begins ++ next_events k.place k.number follows) m ≡ Some f → nth (start_events net k.time sent begins ++ next_events k.place k.number follows) n ≡ Some g → f.0.place ≢ g.0.place
+  apart : (k : Key) (sent : ℕ → List (ℕ × P)) (begins follows : Option (ℕ × P)) → ((f : ℕ × P) → follows ≡ Some f → (j : ℕ) × (k.place ≡ Fire j)) → (m n : ℕ) (f g : Key × Event P) → m < n → nth (transmission_events net k.time sent begins ++ next_events k.place k.number follows) m ≡ Some f → nth (transmission_events net k.time sent begins ++ next_events k.place k.number follows) n ≡ Some g → f.0.place ≢ g.0.place
   apart k sent None None h m n f g lt a b = absurd (cc)
   apart k sent None (Some v) h m zero f g lt a b = absurd (omega arith)
   apart k sent None (Some v) h m (suc n) f g lt a b = absurd (cc)
@@ -358,7 +358,7 @@ module _ {P N : Type 0} (net : Net P N) where
   pub made_apart : IsNet net → (s : State P N) (e : Key × Event P) (m n : ℕ) (f g : Key × Event P) → m < n → nth (made net s e) m ≡ Some f → nth (made net s e) n ≡ Some g → f.0 ≢ g.0
   made_apart ok s e m n f g lt a b h =
       let does = effect net s.node s.port e.0.time e.0.place e.0.number e.1 in
-      apart e.0 s.sent does.start does.follows (λ v q. let r = (effect_is net ok s.node s.port e.0.time e.0.place e.0.number e.1).follows_is v q in (r.0, r.1)) m n f g lt a b (ap (λ z. z.place) h)
+      apart e.0 s.sent does.transmission does.follows (λ v q. let r = (effect_is net ok s.node s.port e.0.time e.0.place e.0.number e.1).follows_is v q in (r.0, r.1)) m n f g lt a b (ap (λ z. z.place) h)
 
 module _ {P N : Type 0} (net : Net P N) where
   pub part_by_node : (p : ℕ) → IsByNode net (in_part net p)

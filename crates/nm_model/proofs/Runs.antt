@@ -50,7 +50,7 @@ module _ {P N : Type 0} (net : Net P N) where
           (λ n. let lt = makes_later net ok here by_node u g e (least_has u.pending e m) q y n in omega (arith, late))
           (λ old. h.from q y old.1)
           (pending_case net e.0 u.sent does here u.pending q y f);
-      grows = λ c. prefix_trans _ _ _ (h.grows c) (sent_prefix net e.0.time u.sent does.start c);
+      grows = λ c. prefix_trans _ _ _ (h.grows c) (sent_prefix net e.0.time u.sent does.transmission c);
       late = λ c l b le f. ⊎_elim
           (λ z. ⊎_elim
           (λ i. h.late c l b le i)
@@ -61,7 +61,7 @@ module _ {P N : Type 0} (net : Net P N) where
           omega (arith, late))
           (nth_push (u.sent c) _ b l (nth_cong _ _ l b z.3 f)))
           (λ z. h.late c l b le (nth_cong _ _ l b z.1 f))
-          (sent_case net e.0.time u.sent does.start c);
+          (sent_case net e.0.time u.sent does.transmission c);
     }
       where
         does : Effect P N

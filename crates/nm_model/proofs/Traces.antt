@@ -76,7 +76,7 @@ module _ {P N : Type 0} (net : Net P N) (here : Place → Bool) (c : ℕ) where
       does = effect net s.node s.port e.0.time e.0.place e.0.number e.1
 
       rest : passed In c (step_at net here s (Some e)).records ≡ passed In c s.records ++ passed In c (in_record e.0.time does.came)
-      rest = passed_in e.0.time c s.records does.came does.start
+      rest = passed_in e.0.time c s.records does.came does.transmission
 
   pub arrived_counts : (messages : List (Key × Event P)) (n : ℕ) → (run net here n (start net here messages)).arrived c ≡ length (passed In c (run net here n (start net here messages)).records)
   arrived_counts messages zero = refl
@@ -114,14 +114,14 @@ module _ {P N : Type 0} (net : Net P N) (ok : IsNet net) (i : ℕ) where
         ∙ sym (put_on-append (passed Out i s.records) ((e.0.time, a.0.1) ∷ []))
         ∙ ap (λ z. put_on (passed Out i s.records ++ z)) (sym (ap (λ o. passed Out i (out_record e.0.time o)) (a.1 ∙ ap (λ j. Some (j, a.0.1)) same) ∙ out_here e.0.time i a.0.1))
         ∙ ap put_on (sym rest))
-        (λ a. a.1 ∙ h ∙ ap put_on (sym (rest ∙ ap (λ z. passed Out i s.records ++ z) (out_there e.0.time i does.start (λ t f g. a.0 t f (ap net.peer g))) ∙ append-nil _)))
-        (sent_case net e.0.time s.sent does.start (net.peer i))
+        (λ a. a.1 ∙ h ∙ ap put_on (sym (rest ∙ ap (λ z. passed Out i s.records ++ z) (out_there e.0.time i does.transmission (λ t f g. a.0 t f (ap net.peer g))) ∙ append-nil _)))
+        (sent_case net e.0.time s.sent does.transmission (net.peer i))
       where
         does : Effect P N
         does = effect net s.node s.port e.0.time e.0.place e.0.number e.1
 
-        rest : passed Out i (step_at net here s (Some e)).records ≡ passed Out i s.records ++ passed Out i (out_record e.0.time does.start)
-        rest = passed_out e.0.time i s.records does.came does.start
+        rest : passed Out i (step_at net here s (Some e)).records ≡ passed Out i s.records ++ passed Out i (out_record e.0.time does.transmission)
+        rest = passed_out e.0.time i s.records does.came does.transmission
 
     pub starts_are : (messages : List (Key × Event P)) (n : ℕ) → (run net here n (start net here messages)).sent (net.peer i) ≡ put_on (passed Out i (run net here n (start net here messages)).records)
     starts_are messages zero = refl
@@ -131,13 +131,13 @@ module _ {P N : Type 0} (net : Net P N) (ok : IsNet net) (i : ℕ) where
 module _ {P N : Type 0} (net : Net P N) (ok : IsNet net) (c : ℕ) where
   came_step : (s : State P N) (now : ℕ) → Invariant net s now → s.arrived c ≡ length (passed In c s.records) → IsPrefix (passed In c s.records) (s.sent c) → (o : Option (Key × Event P)) → least s.pending ≡ o → IsPrefix (passed In c (step_at net (λ q. true) s o).records) ((step_at net (λ q. true) s o).sent c)
   came_step s now g count h None m = h
-  came_step s now g count h (Some e) m = prefix_trans _ _ _ longer (sent_prefix net e.0.time s.sent does.start c)
+  came_step s now g count h (Some e) m = prefix_trans _ _ _ longer (sent_prefix net e.0.time s.sent does.transmission c)
     where
       does : Effect P N
       does = effect net s.node s.port e.0.time e.0.place e.0.number e.1
 
       rest : passed In c (step_at net (λ q. true) s (Some e)).records ≡ passed In c s.records ++ passed In c (in_record e.0.time does.came)
-      rest = passed_in e.0.time c s.records does.came does.start
+      rest = passed_in e.0.time c s.records does.came does.transmission
 
       longer : IsPrefix (passed In c (step_at net (λ q. true) s (Some e)).records) (s.sent c)
       longer = ⊎_elim
@@ -167,7 +167,7 @@ module _ {P N : Type 0} (net : Net P N) (ok : IsNet net) (n : ℕ) where
       (λ le. absurd (let late = quiet t (one_list net n) over _ _ (g.arrival_has (net.peer i) (s + net.tx i x + net.delay i) m x (omega arith) at) in omega arith))
       (cases_lt m (length (passed In (net.peer i) (one_list net n).records)))) at
 
-  -- what arrives had started
+  -- what arrives had transmitting
   pub in_after_out : (c m t : ℕ) (x : P) → nth (passed In c (one_list net n).records) m ≡ Some (t, x) → (s : ℕ) × (nth (passed Out (net.peer c) (one_list net n).records) m ≡ Some (s, x)) × (t ≡ s + net.tx (net.peer c) x + net.delay (net.peer c))
   in_after_out c m t x e =
       let at = prefix_nth _ _ m (t, x) (arrivals_begin net ok c n) e in
@@ -212,11 +212,11 @@ module _ {P N : Type 0} (net : Net P N) (ok : IsNet net) (here : Place → Bool)
     order = λ m n a b le e1 e2. ⊎_elim
         (λ i. ⊎_elim
         (λ j. h.order m n a b le i.1 j.1)
-        (λ j. let x = h.before m a i.1 e.0 e.1 has in let z = at_once e.0.time does.came does.start j.1.0 b j.1.1 in omega arith)
+        (λ j. let x = h.before m a i.1 e.0 e.1 has in let z = at_once e.0.time does.came does.transmission j.1.0 b j.1.1 in omega arith)
         (either s.records new n b e2))
         (λ i. ⊎_elim
         (λ j. absurd (omega (arith, i.0, j.0)))
-        (λ j. let x = at_once e.0.time does.came does.start i.1.0 a i.1.1 in let z = at_once e.0.time does.came does.start j.1.0 b j.1.1 in omega arith)
+        (λ j. let x = at_once e.0.time does.came does.transmission i.1.0 a i.1.1 in let z = at_once e.0.time does.came does.transmission j.1.0 b j.1.1 in omega arith)
         (either s.records new n b e2))
         (either s.records new m a e1);
   }
@@ -225,7 +225,7 @@ module _ {P N : Type 0} (net : Net P N) (ok : IsNet net) (here : Place → Bool)
       does = effect net s.node s.port e.0.time e.0.place e.0.number e.1
 
       new : List (Record P)
-      new = in_record e.0.time (effect net s.node s.port e.0.time e.0.place e.0.number e.1).came ++ out_record e.0.time (effect net s.node s.port e.0.time e.0.place e.0.number e.1).start
+      new = in_record e.0.time (effect net s.node s.port e.0.time e.0.place e.0.number e.1).came ++ out_record e.0.time (effect net s.node s.port e.0.time e.0.place e.0.number e.1).transmission
 
       has : get s.pending e.0 ≡ Some e.1
       has = least_has s.pending e l
@@ -239,7 +239,7 @@ module _ {P N : Type 0} (net : Net P N) (ok : IsNet net) (here : Place → Bool)
       up_to : (m : ℕ) (r : Record P) → nth (step_at net here s (Some e)).records m ≡ Some r → r.time ≤ e.0.time
       up_to m r f = ⊎_elim
           (λ i. h.before m r i.1 e.0 e.1 has)
-          (λ i. let z = at_once e.0.time does.came does.start i.1.0 r i.1.1 in omega arith)
+          (λ i. let z = at_once e.0.time does.came does.transmission i.1.0 r i.1.1 in omega arith)
           (either s.records new m r f)
 
   pub ordered_run : (n : ℕ) (messages : List (Key × Event P)) → IsOrderly net here (start net here messages) → Ordered (run net here n (start net here messages))

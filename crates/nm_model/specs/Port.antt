@@ -17,26 +17,26 @@ idle_port = record { busy = None; dropped = 0 }
 -- each of these gives the port after, and the packet whose transmission starts, if one does
 
 -- at this time a transmission starts
-abbrev pub started : {P : Type 0} → (P → ℕ) → ℕ → ℕ → P → List P → Port P × Option P
-started tx now dropped x waiting = (record { busy = Some (record { completes = now + tx x; waiting = waiting }); dropped = dropped }, Some x)
+abbrev pub transmitting : {P : Type 0} → (P → ℕ) → ℕ → ℕ → P → List P → Port P × Option P
+transmitting tx now dropped x waiting = (record { busy = Some (record { completes = now + tx x; waiting = waiting }); dropped = dropped }, Some x)
 
 -- a packet is offered: to an idle port it starts; at a busy one it waits where there is room, and else it is dropped
 abbrev pub offered : {P : Type 0} → (List P → P → Bool) → (P → ℕ) → ℕ → P → ℕ → Option (Busy P) → Port P × Option P
-offered room tx now x dropped None = started tx now dropped x []
+offered room tx now x dropped None = transmitting tx now dropped x []
 offered room tx now x dropped (Some b) =
     cond (room b.waiting x)
     (record { busy = Some (record { completes = b.completes; waiting = b.waiting ++ x ∷ [] }); dropped = dropped }, None)
     (record { busy = Some b; dropped = dropped + 1 }, None)
 
 -- the front of those that wait is next
-abbrev pub next_started : {P : Type 0} → (P → ℕ) → ℕ → ℕ → List P → Port P × Option P
-next_started tx now dropped [] = (record { busy = None; dropped = dropped }, None)
-next_started tx now dropped (x ∷ waiting) = started tx now dropped x waiting
+abbrev pub next_transmitting : {P : Type 0} → (P → ℕ) → ℕ → ℕ → List P → Port P × Option P
+next_transmitting tx now dropped [] = (record { busy = None; dropped = dropped }, None)
+next_transmitting tx now dropped (x ∷ waiting) = transmitting tx now dropped x waiting
 
 -- a transmission is complete
 abbrev pub completed : {P : Type 0} → (P → ℕ) → ℕ → ℕ → Option (Busy P) → Port P × Option P
 completed tx now dropped None = (record { busy = None; dropped = dropped }, None)
-completed tx now dropped (Some b) = next_started tx now dropped b.waiting
+completed tx now dropped (Some b) = next_transmitting tx now dropped b.waiting
 
 -- the time at which the transmission under way completes, or 0
 abbrev pub busy_until : {P : Type 0} → Option (Busy P) → ℕ
@@ -70,10 +70,10 @@ module _ {P : Type 0} (room : List P → P → Bool) (tx : P → ℕ) where
   port_after [] w = w
   port_after (e ∷ es) w = port_after es (port_turn e w).0
 
-  -- the packets whose transmission started, in that order
-  abbrev pub started_by : List (PortEvent P) → Port P → List P
-  started_by [] w = []
-  started_by (e ∷ es) w = option_list (port_turn e w).1 ++ started_by es (port_turn e w).0
+  -- the packets whose transmission transmitting, in that order
+  abbrev pub transmitted_by : List (PortEvent P) → Port P → List P
+  transmitted_by [] w = []
+  transmitted_by (e ∷ es) w = option_list (port_turn e w).1 ++ transmitted_by es (port_turn e w).0
 
   -- the packets that were offered and not dropped, in the order of their offers
   abbrev pub taken_by : List (PortEvent P) → Port P → List P

@@ -38,7 +38,7 @@ pub record Effect (P N : Type 0) : Type 0 where
   -- the one port that changes
   pub turn : Option (ℕ × Port P)
   -- the one transmission that starts, and where
-  pub start : Option (ℕ × P)
+  pub transmission : Option (ℕ × P)
   -- the source's next event
   pub follows : Option (ℕ × P)
 
@@ -77,11 +77,11 @@ pends_before t s = is_before t (least s.pending)
 module _ {P N : Type 0} (net : Net P N) where
   -- interface i goes on as its port says
   abbrev pub turned_by : Option (ℕ × P) → N → ℕ → Port P × Option P → Option (ℕ × P) → Effect P N
-  turned_by came n i r follows = record { after = n; came = came; turn = Some (i, r.0); start = at_iface i r.1; follows = follows }
+  turned_by came n i r follows = record { after = n; came = came; turn = Some (i, r.0); transmission = at_iface i r.1; follows = follows }
 
   -- what a reaction sends is offered to its interface
   abbrev pub sent_on : (ℕ → Port P) → ℕ → Option (ℕ × P) → N → Option (ℕ × P) → Option (ℕ × P) → Effect P N
-  sent_on ports time came n None follows = record { after = n; came = came; turn = None; start = None; follows = follows }
+  sent_on ports time came n None follows = record { after = n; came = came; turn = None; transmission = None; follows = follows }
   sent_on ports time came n (Some s) follows =
       turned_by came n s.0 (offered (net.room s.0) (net.tx s.0) time s.1 (ports s.0).dropped (ports s.0).busy) follows
 
@@ -108,9 +108,9 @@ module _ {P N : Type 0} (net : Net P N) where
       set_at sent (net.peer s.0) (sent (net.peer s.0) ++ (time + net.tx s.0 s.1 + net.delay s.0, s.1) ∷ [])
 
   -- its completion and its arrival
-  abbrev pub start_events : ℕ → (ℕ → List (ℕ × P)) → Option (ℕ × P) → List (Key × Event P)
-  start_events time sent None = []
-  start_events time sent (Some s) =
+  abbrev pub transmission_events : ℕ → (ℕ → List (ℕ × P)) → Option (ℕ × P) → List (Key × Event P)
+  transmission_events time sent None = []
+  transmission_events time sent (Some s) =
       let n = length (sent (net.peer s.0)) in
       (key_of (time + net.tx s.0 s.1) (Complete s.0) n, Completion)
       ∷ (key_of (time + net.tx s.0 s.1 + net.delay s.0) (Arrive (net.peer s.0)) n, Delivery s.1)
@@ -118,7 +118,7 @@ module _ {P N : Type 0} (net : Net P N) where
 
   -- the events that an event makes
   abbrev pub new_events : Key → (ℕ → List (ℕ × P)) → Effect P N → List (Key × Event P)
-  new_events k sent e = start_events k.time sent e.start ++ next_events k.place k.number e.follows
+  new_events k sent e = transmission_events k.time sent e.transmission ++ next_events k.place k.number e.follows
 
   -- the events that this event makes in this state
   abbrev pub made : State P N → Key × Event P → List (Key × Event P)
@@ -129,9 +129,9 @@ module _ {P N : Type 0} (net : Net P N) where
     node = set_at s.node (node_of net k.place) e.after;
     port = turned s.port e.turn;
     pending = schedule here (new_events k s.sent e) (remove s.pending k);
-    sent = sent_after k.time s.sent e.start;
+    sent = sent_after k.time s.sent e.transmission;
     arrived = arrived_after s.arrived e.came;
-    records = s.records ++ (in_record k.time e.came ++ out_record k.time e.start);
+    records = s.records ++ (in_record k.time e.came ++ out_record k.time e.transmission);
   }
 
   abbrev pub step_at : (Place → Bool) → State P N → Option (Key × Event P) → State P N

@@ -10,8 +10,9 @@ ghost use Rattle.nm_model.specs.Before.{IsBefore, trace};
 ghost use Rattle.nm_model.specs.World.{Replica, fresh, state_of};
 ghost use Rattle.nm_model.specs.Certificate.{Book, Fault, FaultShows, AreFinished, IsCertified, is_done, certify};
 
-/// Finished books whose lists and clocks agree have the whole network's traces, whatever told them what they know. Nothing
-/// is asked of who sent what: the argument goes by time, since a message up to a time comes from events before it.
+/// Finished books whose lists and clocks agree have the whole network's traces, whatever told them
+/// what they know. Nothing is asked of who sent what: the argument goes by time, since a message up
+/// to a time comes from events before it.
 pub fn certificate<P, N>()
     ensures whole { (net : Net P N) → IsNet net → (books : ℕ → Replica P) → AreFinished net books
         → (p last : ℕ) → IsBefore net net.stop last
@@ -25,7 +26,8 @@ pub fn certificate<P, N>()
         → (state_of net b.part b.replica).records ≡ trace net b.part last }
 {}
 
-/// The certificate finds no fault exactly where each partition has a book, each book is done and all match.
+/// The certificate finds no fault exactly where each partition has a book, each book is done and
+/// all match.
 pub fn certify_is_exact<P, N>()
     ensures sound { (net : Net P N) → IsNet net → (same : P → P → Bool) → IsReflexive same
         → TellsApart same → (kind : Promising) (books : List (Book P))
@@ -35,8 +37,9 @@ pub fn certify_is_exact<P, N>()
         → IsCertified net kind books → certify net same kind books ≡ None }
 {}
 
-/// A fault of the certificate shows what it says: the least partition that has no book; else the first book that is not done; else, by
-/// receiving book, channel and sending book, the first two that do not match, and where.
+/// A fault of the certificate shows what it says: the least partition that has no book; else the
+/// first book that is not done; else, by receiving book, channel and sending book, the first two
+/// that do not match, and where.
 pub fn certify_faults_are_right<P, N>()
     ensures { (net : Net P N) → IsNet net → (same : P → P → Bool) → IsReflexive same
         → TellsApart same → (kind : Promising) (books : List (Book P)) (f : Fault)

@@ -8,8 +8,8 @@ ghost use Rattle.nm_model.specs.Accept.{New, Raised, Known, Gap, Differs, Late, 
 ghost use Rattle.nm_model.specs.Join.{join, join_fault};
 ghost use Rattle.nm_model.specs.Example.{two_hosts, its_records, same_number, knows, two_messages, three_messages};
 
-/// Two hosts and one packet: three events are done, the source's at 0, the completion at 5 and the arrival at 15, and
-/// then nothing is pending.
+/// Two hosts and one packet: three events are done, the source's at 0, the completion at 5 and the
+/// arrival at 15, and then nothing is pending.
 pub fn two_hosts_one_packet()
     ensures net { IsNet two_hosts }
     ensures parted { IsParted two_hosts }

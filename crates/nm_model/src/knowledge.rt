@@ -7,8 +7,8 @@ ghost use Rattle.nm_model.specs.Accept.{Answer, IsReflexive, TellsApart, accept_
 ghost use Rattle.nm_model.specs.Join.{join, join_fault, join_faults, Shows};
 ghost use Rattle.nm_model.specs.World.{IsFine};
 
-/// Taking a message or a null message only adds to what is known, keeps it in order, and keeps what is true of the
-/// channel's history so, where the message is; then only a gap is refused.
+/// Taking a message or a null message only adds to what is known, keeps it in order, and keeps what
+/// is true of the channel's history so, where the message is; then only a gap is refused.
 pub fn accept_laws<P>()
     ensures data_adds { (same : P → P → Bool) (a : Know P) (n : ℕ) (b : ℕ × P)
         → IsUnder a (accept_data same a n b).after }
@@ -50,8 +50,9 @@ pub fn join_laws<P>()
     ensures keeps { (a b : Know P) → IsKnow a → IsKnow b → IsKnow (join a b) }
 {}
 
-/// Two are joined exactly where they are compatible, which is where both are under something; a fault shows that they
-/// are not, by its number or clock. Of several channels the first with a fault is named.
+/// Two are joined exactly where they are compatible, which is where both are under something; a
+/// fault shows that they are not, by its number or clock. Of several channels the first with a
+/// fault is named.
 pub fn join_faults_are_right<P>()
     ensures none { (same : P → P → Bool) → IsReflexive same → (a b : Know P) → IsCompatible a b
         → join_fault same a b ≡ None }

@@ -1,5 +1,5 @@
-//! Laws of every state of a run, of the whole network or of a part, whatever the part is told: what a program that does
-//! the steps relies on.
+//! Laws of every state of a run, of the whole network or of a part, whatever the part is told: what
+//! a program that does the steps relies on.
 
 ghost use Rattle.std.specs.Prelude.{◌≡◌, ◌≢◌, ℕ, ◌<◌, Bool, true, false, List, [], Some, None};
 ghost use Rattle.std.specs.FinMap.{get, insert, remove};
@@ -18,8 +18,8 @@ ghost use Rattle.nm_model.specs.Partition.{in_part};
 ghost use Rattle.nm_model.specs.Replica.{from_scratch};
 ghost use Rattle.nm_model.specs.Orderly.{IsByNode, IsOrderly};
 
-/// Every state is orderly: at the start, after each event and after each message put by a channel; so of the whole
-/// network, and of a replica over anything that it was told, true or not.
+/// Every state is orderly: at the start, after each event and after each message put by a channel;
+/// so of the whole network, and of a replica over anything that it was told, true or not.
 pub fn every_state_is_orderly<P, N>()
     ensures whole { (net : Net P N) → IsNet net → (n : ℕ)
         → IsOrderly net (λ _. true) (one_list net n) }

@@ -14,8 +14,9 @@ ghost use Rattle.nm_base.specs.declared.key.Key.{Key};
 ghost use Rattle.nm_base.specs.declared.event.Event.{Event};
 ghost use Rattle.nm_model.specs.Before.{IsBefore, IsKnowledge, history};
 
-/// What a partition sends is the beginning of what the whole network sends, and its promises are kept: the plain one and
-/// the tight one, which is later than the plain one by the least time of a transmission, or by more.
+/// What a partition sends is the beginning of what the whole network sends, and its promises are
+/// kept: the plain one and the tight one, which is later than the plain one by the least time of a
+/// transmission, or by more.
 pub fn promises_kept<P, N>()
     ensures prefix { (net : Net P N) → IsNet net → (p : ℕ) (K : Knowledge P) → IsKnowledge net p K
         → (k last c : ℕ) → IsWithin net p K k → IsBefore net net.stop last
@@ -39,8 +40,9 @@ pub fn promises_never_fall<P, N>()
         → (kind : Promising) (c : ℕ) → promise net kind p K k c ≤ promise net kind p J m c }
 {}
 
-/// What a promise is at least: the plain one is exactly the link's delay after the next event that may cause a message; the tight one counts
-/// that event too, and the transmission under way, and then the least time of a transmission and the delay.
+/// What a promise is at least: the plain one is exactly the link's delay after the next event that
+/// may cause a message; the tight one counts that event too, and the transmission under way, and
+/// then the least time of a transmission and the delay.
 pub fn promises_from_below<P, N>()
     ensures plain { (net : Net P N) (p : ℕ) (K : Knowledge P) (k c : ℕ)
         → promise net Plain p K k c ≡ next_cause net p K k + net.delay (net.peer c) }

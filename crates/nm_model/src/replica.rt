@@ -14,10 +14,10 @@ ghost use Rattle.nm_model.specs.Replica.{from_scratch, inbox_events, safe_time, 
 ghost use Rattle.nm_model.specs.Promise.{Promising, promise};
 ghost use Rattle.nm_model.specs.Before.{IsBefore, IsCount, IsKnowledge, events_at, trace};
 
-/// The cut law: a partition over valid knowledge computes its part of the whole network. `agrees`: each of its states is
-/// the cut to the partition of every state of the network that has done as many events there; `reached`: there is such a
-/// one. `prefix`, `exact`: so its trace begins the partition's trace, and is all of it before the safe time once all that
-/// is safe has run.
+/// The cut law: a partition over valid knowledge computes its part of the whole network. `agrees`:
+/// each of its states is the cut to the partition of every state of the network that has done as
+/// many events there; `reached`: there is such a one. `prefix`, `exact`: so its trace begins the
+/// partition's trace, and is all of it before the safe time once all that is safe has run.
 pub fn cut_law<P, N>()
     ensures agrees { (net : Net P N) → IsNet net → (p : ℕ) (K : Knowledge P) → IsKnowledge net p K
         → (k n : ℕ) → IsWithin net p K k → events_at net (in_part net p) n ≡ k
@@ -72,7 +72,8 @@ pub fn more_of_one_channel_is_more<P, N>()
         → IsUnderAll net p K (set_at K c a) }
 {}
 
-/// What was put on a channel and what was recorded stays, whatever is done and whatever more is known.
+/// What was put on a channel and what was recorded stays, whatever is done and whatever more is
+/// known.
 pub fn what_was_done_stays<P, N>()
     ensures sent { (net : Net P N) → IsNet net → (p : ℕ) (K J : Knowledge P) → IsUnderAll net p K J
         → (k m : ℕ) → k ≤ m → IsWithin net p K k → (c : ℕ)
@@ -87,7 +88,8 @@ pub fn nothing_known_puts_nothing<P, N>()
     ensures { (net : Net P N) (p : ℕ) → inbox_events net p no_knowledge ≡ [] }
 {}
 
-/// Who knows the same of each incoming channel has the same states and makes the same promises, whoever it is.
+/// Who knows the same of each incoming channel has the same states and makes the same promises,
+/// whoever it is.
 pub fn equal_knowledge_gives_equal_states<P, N>()
     ensures states { (net : Net P N) → IsNet net → (p : ℕ) (K J : Knowledge P)
         → ((c : ℕ) → comes_in net p c ≡ true → K c ≡ J c)

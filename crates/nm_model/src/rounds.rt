@@ -12,9 +12,10 @@ ghost use Rattle.nm_model.specs.Before.{IsBefore, IsKnowledge, trace};
 ghost use Rattle.nm_model.specs.World.{Replica, Step, replica_after};
 ghost use Rattle.nm_model.specs.Rounds.{IsRounds, round_count};
 
-/// Where each channel's lookahead is at least `lead`, all is done in the round after `j` of them, once `j * lead` reaches
-/// stop; with either promise. So `round_count stop lead` rounds and one more are enough, and one where there is no
-/// channel. Whenever a partition's safe time is `stop`, it has its whole trace once it has run (`early`).
+/// Where each channel's lookahead is at least `lead`, all is done in the round after `j` of them,
+/// once `j * lead` reaches stop; with either promise. So `round_count stop lead` rounds and one
+/// more are enough, and one where there is no channel. Whenever a partition's safe time is `stop`,
+/// it has its whole trace once it has run (`early`).
 pub fn rounds_bound<P, N>()
     ensures there { (net : Net P N) → IsNet net → (same : P → P → Bool) (kind : Promising)
         → (b : ℕ → ℕ → Replica P) × IsRounds net same kind b }
@@ -41,10 +42,11 @@ pub fn rounds_bound<P, N>()
         → (K : Knowledge P) → safe_time net p K ≡ net.stop }
 {}
 
-/// Rounds are one of the ways that the world may go: the books after so many rounds are replicas 0 after some steps of it, so all that
-/// holds over every list of steps holds of them.
+/// Rounds are one of the ways that the world may go: the books after so many rounds are replicas 0
+/// after some steps of it, so all that holds over every list of steps holds of them.
 pub fn rounds_are_steps<P, N>()
     ensures { (net : Net P N) → IsNet net → IsParted net → (same : P → P → Bool) → IsReflexive same
         → (kind : Promising) (b : ℕ → ℕ → Replica P) → IsRounds net same kind b → (j : ℕ)
-        → (steps : List Step) × ((p : ℕ) → p < net.parts → replica_after net same steps p 0 ≡ b j p) }
+        → (steps : List Step)
+        × ((p : ℕ) → p < net.parts → replica_after net same steps p 0 ≡ b j p) }
 {}

@@ -1,4 +1,5 @@
-//! Laws of runs: of the whole network with its one event list, and of a partition over what it knows.
+//! Laws of runs: of the whole network with its one event list, and of a partition over what it
+//! knows.
 
 ghost use Rattle.std.specs.Prelude.{◌≡◌, ◌≢◌, ◌⊎◌, ℕ, suc, ◌<◌, ◌≤◌, length, List, Some};
 ghost use Rattle.std.specs.FinMap.{get};
@@ -13,7 +14,8 @@ ghost use Rattle.nm_model.specs.Knowledge.{Knowledge, Know};
 ghost use Rattle.nm_model.specs.Replica.{from_scratch, IsWithin};
 ghost use Rattle.nm_model.specs.Before.{IsBefore, IsCount, same_place, events_at};
 
-/// Each time is passed after some number of events, of the whole network and of a partition over what it knows.
+/// Each time is passed after some number of events, of the whole network and of a partition over
+/// what it knows.
 pub fn times_pass<P, N>()
     ensures before { (net : Net P N) → IsNet net → (t : ℕ) → (n : ℕ) × IsBefore net t n }
     ensures before_once { (net : Net P N) → IsNet net → (t m n : ℕ)
@@ -28,8 +30,8 @@ pub fn times_pass<P, N>()
         → IsCount net p K k → IsWithin net p K j → j ≤ k }
 {}
 
-/// The keys taken strictly rise, the events of a place are taken in the order of their numbers 0, 1, 2 and so on, and
-/// what is put on an interface has strictly rising times.
+/// The keys taken strictly rise, the events of a place are taken in the order of their numbers 0,
+/// 1, 2 and so on, and what is put on an interface has strictly rising times.
 pub fn keys_rise<P, N>()
     ensures keys { (net : Net P N) → IsNet net → (n : ℕ) (e f : Key × Event P)
         → least (one_list net n).pending ≡ Some e → least (one_list net (suc n)).pending ≡ Some f
@@ -43,8 +45,8 @@ pub fn keys_rise<P, N>()
         → e.0.number ≡ events_at net (same_place e.0.place) n }
 {}
 
-/// An event makes at most three others, all strictly later: in the whole network and in a partition over anything that
-/// it was told.
+/// An event makes at most three others, all strictly later: in the whole network and in a partition
+/// over anything that it was told.
 pub fn events_make_later_ones<P, N>()
     ensures few { (net : Net P N) (s : State P N) (e : Key × Event P) → length (made net s e) ≤ 3 }
     ensures later { (net : Net P N) → IsNet net → (n : ℕ) (e : Key × Event P)

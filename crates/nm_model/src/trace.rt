@@ -21,9 +21,9 @@ pub fn arrivals_are_recorded<P, N>()
         ≡ length (passed In c (from_scratch net p K k).records) }
 {}
 
-/// The n-th packet whose transmission starts at an interface is the n-th that arrives at the far end, after its
-/// transmission and the link's delay, once that time is passed; and no other arrives. Transmissions of an interface do
-/// not overlap.
+/// The n-th packet whose transmission starts at an interface is the n-th that arrives at the far
+/// end, after its transmission and the link's delay, once that time is passed; and no other
+/// arrives. Transmissions of an interface do not overlap.
 pub fn what_starts_arrives<P, N>()
     ensures arrives { (net : Net P N) → IsNet net → (t n : ℕ)
         → pends_before t (one_list net n) ≡ false → (i m s : ℕ) (x : P)
@@ -31,7 +31,7 @@ pub fn what_starts_arrives<P, N>()
         → s + net.tx i x + net.delay i < t
         → nth (passed In (net.peer i) (one_list net n).records) m
         ≡ Some (s + net.tx i x + net.delay i, x) }
-    ensures started { (net : Net P N) → IsNet net → (n i m t : ℕ) (x : P)
+    ensures transmitting { (net : Net P N) → IsNet net → (n i m t : ℕ) (x : P)
         → nth (passed In i (one_list net n).records) m ≡ Some (t, x)
         → (s : ℕ) × (nth (passed Out (net.peer i) (one_list net n).records) m ≡ Some (s, x))
         × (t ≡ s + net.tx (net.peer i) x + net.delay (net.peer i)) }
@@ -40,7 +40,8 @@ pub fn what_starts_arrives<P, N>()
         → nth (passed Out i (one_list net n).records) k ≡ Some (t, y) → s + net.tx i x ≤ t }
 {}
 
-/// Records stand in the order of time: in the whole network and in a partition over anything that it was told.
+/// Records stand in the order of time: in the whole network and in a partition over anything that
+/// it was told.
 pub fn records_in_order<P, N>()
     ensures whole { (net : Net P N) → IsNet net → (n j k : ℕ) (a b : Record P) → j ≤ k
         → nth (one_list net n).records j ≡ Some a → nth (one_list net n).records k ≡ Some b
@@ -50,7 +51,8 @@ pub fn records_in_order<P, N>()
         → nth (from_scratch net p K n).records k ≡ Some b → a.time ≤ b.time }
 {}
 
-/// The records of an interface in the trace of its partition are those in the trace of the whole network.
+/// The records of an interface in the trace of its partition are those in the trace of the whole
+/// network.
 pub fn interfaces_have_their_records<P, N>()
     ensures { (net : Net P N) (p i last : ℕ) → p ≡ receiver_of net i
         → keep_where (λ r. r.iface == i) (trace net p last)

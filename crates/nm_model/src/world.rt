@@ -12,11 +12,12 @@ ghost use Rattle.nm_model.specs.Replica.{safe_time, IsWithin, Agrees};
 ghost use Rattle.nm_model.specs.Before.{IsBefore, IsCount, IsKnowledge, events_at, history, trace};
 ghost use Rattle.nm_model.specs.World.{Step, opening, advance, answers, state_of, outgoing, replica_after, AllFine};
 
-/// The prefix theorem. Whatever replicas run, send, hear, merge and restart, whichever promises they make, and whatever
-/// frames are lost, repeated or late: all knowledge is true of the network (`valid`); each trace is a beginning of the
-/// network's trace of that partition (`prefix`) and exactly that before the safe time once what is safe has run
-/// (`exact`); each state is the cut of the network's (`agrees`); what was sent is a beginning of what the network sends,
-/// and what the network sends past it keeps the promise (`sent`, `promised`); and only gaps are refused.
+/// The prefix theorem. Whatever replicas run, send, hear, merge and restart, whichever promises
+/// they make, and whatever frames are lost, repeated or late: all knowledge is true of the network
+/// (`valid`); each trace is a beginning of the network's trace of that partition (`prefix`) and
+/// exactly that before the safe time once what is safe has run (`exact`); each state is the cut of
+/// the network's (`agrees`); what was sent is a beginning of what the network sends, and what the
+/// network sends past it keeps the promise (`sent`, `promised`); and only gaps are refused.
 pub fn prefix_theorem<P, N>()
     ensures valid { (net : Net P N) → IsNet net → (same : P → P → Bool) → IsReflexive same
         → (steps : List Step) (p r : ℕ)
@@ -50,9 +51,9 @@ pub fn prefix_theorem<P, N>()
         → IsCount net p K count → k ≤ count → advance net p K n k ≡ min (k + n) count }
 {}
 
-/// Replicas of a partition, in one world or in two, that know the same of each incoming channel and have done as many
-/// events have equal states, so equal traces, outgoing lists and ports, and make equal promises; and where both have run
-/// all that is safe, they have done as many.
+/// Replicas of a partition, in one world or in two, that know the same of each incoming channel and
+/// have done as many events have equal states, so equal traces, outgoing lists and ports, and make
+/// equal promises; and where both have run all that is safe, they have done as many.
 pub fn equal_knowledge_gives_equal_replicas<P, N>()
     ensures states { (net : Net P N) → IsNet net → (same : P → P → Bool) → IsReflexive same
         → (steps others : List Step) (p r s : ℕ)

@@ -81,7 +81,7 @@ pub const IN_TRANSIT: u8 = 0;
 pub struct Icmp;
 
 /// What a message is: its type, and its code among those of the type.
-#[derive(Clone, Copy, Debug, PartialEq, Eq)]
+#[derive(Clone, Copy)]
 pub struct MessageKind {
     pub message_type: u8,
     pub code: u8,

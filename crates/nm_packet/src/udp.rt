@@ -39,7 +39,7 @@ pub const PROTOCOL: u8 = 17;
 pub struct Udp;
 
 /// The ports between which a datagram goes.
-#[derive(Clone, Copy, Debug, PartialEq, Eq)]
+#[derive(Clone, Copy)]
 pub struct Ports {
     pub source: u16,
     pub destination: u16,

@@ -10,7 +10,7 @@ use Rattle.nm_pcap.specs.declared.writer.PcapFault.{PcapFault}
 use Rattle.nm_pcap.specs.declared.writer.PcapFault.TheVariants.{File, Failed}
 use Rattle.nm_pcap.specs.Format.{file_header, record_octets, pcap}
 use Rattle.nm_pcap.specs.Writer.{Writer}
-use Rattle.nm_pcap.specs.Outcome.{Writes, HoldsFront, Puts}
+use Rattle.nm_pcap.specs.Outcome.{Adds, HoldsPrefix, Puts}
 
 -- one more element adds its list at the end
 pub flat_map-push : {X : Type 0} (h : List ℕ) (f : X → List ℕ) (xs : List X) (x : X) → h ++ flat_map f (xs ++ x ∷ []) ≡ (h ++ flat_map f xs) ++ f x
@@ -23,12 +23,12 @@ module _ {W : Type 0} (taken : W → Option (List ℕ)) (failures : W → ℕ) w
   Keeps-nothing None = tt
   Keeps-nothing (Some l) = sym (append-nil l)
 
-  HoldsFront-none : (fresh : Writer W) → HoldsFront taken failures fresh fresh []
-  HoldsFront-none fresh = record { front = []; rest = []; parts = refl; held = Keeps-nothing (taken fresh.sink); all = λ _. refl }
+  HoldsPrefix-none : (fresh : Writer W) → HoldsPrefix taken failures fresh fresh []
+  HoldsPrefix-none fresh = record { front = []; rest = []; parts = refl; held = Keeps-nothing (taken fresh.sink); all = λ _. refl }
 
   -- one more call
-  HoldsFront-write : (fresh old new : Writer W) (r : Result Unit PcapFault) (a b : List ℕ) → HoldsFront taken failures fresh old a → Writes taken failures old new r b → HoldsFront taken failures fresh new (a ++ b)
-  HoldsFront-write fresh old new (Ok _) a b h w =
+  HoldsPrefix-write : (fresh old new : Writer W) (r : Result Unit PcapFault) (a b : List ℕ) → HoldsPrefix taken failures fresh old a → Adds taken failures old new r b → HoldsPrefix taken failures fresh new (a ++ b)
+  HoldsPrefix-write fresh old new (Ok _) a b h w =
       let whole : h.front ≡ a = sym (append-nil h.front) ∙ ap (λ l. h.front ++ l) (sym (h.all w.sound)) ∙ h.parts in
       record {
         front = a ++ b;
@@ -37,7 +37,7 @@ module _ {W : Type 0} (taken : W → Option (List ℕ)) (failures : W → ℕ) w
         held = Appends-append (taken fresh.sink) (taken old.sink) (taken new.sink) a b (subst (Appends (taken fresh.sink) (taken old.sink)) whole h.held) w.whole;
         all = λ _. refl;
       }
-  HoldsFront-write fresh old new (Err (File n)) a b h w =
+  HoldsPrefix-write fresh old new (Err (File n)) a b h w =
       let whole : h.front ≡ a = sym (append-nil h.front) ∙ ap (λ l. h.front ++ l) (sym (h.all w.sound)) ∙ h.parts in
       record {
         front = a ++ take w.part b;
@@ -46,7 +46,7 @@ module _ {W : Type 0} (taken : W → Option (List ℕ)) (failures : W → ℕ) w
         held = Appends-append (taken fresh.sink) (taken old.sink) (taken new.sink) a (take w.part b) (subst (Appends (taken fresh.sink) (taken old.sink)) whole h.held) w.front;
         all = λ sound. let e : true ≡ false = sym w.over ∙ sound in cc;
       }
-  HoldsFront-write fresh old new (Err Failed) a b h w = record {
+  HoldsPrefix-write fresh old new (Err Failed) a b h w = record {
     front = h.front;
     rest = h.rest ++ b;
     parts = sym (append_assoc h.front h.rest b) ∙ ap (λ l. l ++ b) h.parts;
@@ -55,12 +55,12 @@ module _ {W : Type 0} (taken : W → Option (List ℕ)) (failures : W → ℕ) w
   }
 
   -- any calls
-  HoldsFront-puts : (fresh old new : Writer W) (ps : List (Record (List ℕ) × Result Unit PcapFault)) (a : List ℕ) → HoldsFront taken failures fresh old a → Puts taken failures old ps new → HoldsFront taken failures fresh new (a ++ flat_map record_octets (map (λ p. p.0) ps))
-  HoldsFront-puts fresh old new [] a h same = subst (λ (x : Writer W). HoldsFront taken failures fresh x (a ++ [])) (sym same) (subst (λ l. HoldsFront taken failures fresh old l) (sym (append-nil a)) h)
-  HoldsFront-puts fresh old new (p ∷ ps) a h put =
-      subst (λ l. HoldsFront taken failures fresh new l) (append_assoc a (record_octets p.0) (flat_map record_octets (map (λ q. q.0) ps)))
-      (HoldsFront-puts fresh put.0 new ps (a ++ record_octets p.0) (HoldsFront-write fresh old put.0 p.1 a (record_octets p.0) h put.1) put.2)
+  HoldsPrefix-puts : (fresh old new : Writer W) (ps : List (Record (List ℕ) × Result Unit PcapFault)) (a : List ℕ) → HoldsPrefix taken failures fresh old a → Puts taken failures old ps new → HoldsPrefix taken failures fresh new (a ++ flat_map record_octets (map (λ p. p.0) ps))
+  HoldsPrefix-puts fresh old new [] a h same = subst (λ (x : Writer W). HoldsPrefix taken failures fresh x (a ++ [])) (sym same) (subst (λ l. HoldsPrefix taken failures fresh old l) (sym (append-nil a)) h)
+  HoldsPrefix-puts fresh old new (p ∷ ps) a h put =
+      subst (λ l. HoldsPrefix taken failures fresh new l) (append_assoc a (record_octets p.0) (flat_map record_octets (map (λ q. q.0) ps)))
+      (HoldsPrefix-puts fresh put.0 new ps (a ++ record_octets p.0) (HoldsPrefix-write fresh old put.0 p.1 a (record_octets p.0) h put.1) put.2)
 
-  pub file_front : (fresh started new : Writer W) (first : Result Unit PcapFault) (ps : List (Record (List ℕ) × Result Unit PcapFault)) → Writes taken failures fresh started first file_header → Puts taken failures started ps new → HoldsFront taken failures fresh new (pcap (map (λ p. p.0) ps))
+  pub file_front : (fresh started new : Writer W) (first : Result Unit PcapFault) (ps : List (Record (List ℕ) × Result Unit PcapFault)) → Adds taken failures fresh started first file_header → Puts taken failures started ps new → HoldsPrefix taken failures fresh new (pcap (map (λ p. p.0) ps))
   file_front fresh started new first ps begun put =
-      HoldsFront-puts fresh started new ps file_header (HoldsFront-write fresh fresh started first [] file_header (HoldsFront-none fresh) begun) put
+      HoldsPrefix-puts fresh started new ps file_header (HoldsPrefix-write fresh fresh started first [] file_header (HoldsPrefix-none fresh) begun) put

@@ -7,18 +7,19 @@ use Rattle.nm_base.proofs.Sinks.{Appends-append}
 use Rattle.nm_pcap.specs.declared.writer.PcapFault.{PcapFault}
 use Rattle.nm_pcap.specs.declared.writer.PcapFault.TheVariants.{File, Failed}
 use Rattle.nm_pcap.specs.Writer.{Writer}
-use Rattle.nm_pcap.specs.Outcome.{counted, WroteAll, Writes}
+use Rattle.nm_base.specs.Count.{saturated}
+use Rattle.nm_pcap.specs.Outcome.{AddedAll, Adds}
 
-counted-add : (k m n : ℕ) → counted (counted (k + m) + n) ≡ counted (k + (m + n))
-counted-add k m n = omega arith
+saturated-add : (k m n : ℕ) → saturated (saturated (k + m) + n) ≡ saturated (k + (m + n))
+saturated-add k m n = omega arith
 
-count-append : {W : Type 0} (old mid new : Writer W) (a : List ℕ) (n m : ℕ) → mid.written ≡ counted (old.written + length a) → new.written ≡ counted (mid.written + n) → m ≡ length a + n → new.written ≡ counted (old.written + m)
+count-append : {W : Type 0} (old mid new : Writer W) (a : List ℕ) (n m : ℕ) → mid.written ≡ saturated (old.written + length a) → new.written ≡ saturated (mid.written + n) → m ≡ length a + n → new.written ≡ saturated (old.written + m)
 count-append old mid new a n m first second sum = omega (arith, first, second, sum)
 
 module _ {W : Type 0} (taken : W → Option (List ℕ)) (failures : W → ℕ) where
   -- a fault in the first call
-  pub Writes-err : (old new : Writer W) (e : PcapFault) (a b : List ℕ) → Writes taken failures old new (Err e) a → Writes taken failures old new (Err e) (a ++ b)
-  Writes-err old new (File n) a b w = record {
+  pub Adds-err : (old new : Writer W) (e : PcapFault) (a b : List ℕ) → Adds taken failures old new (Err e) a → Adds taken failures old new (Err e) (a ++ b)
+  Adds-err old new (File n) a b w = record {
     sound = w.sound;
     part = w.part;
     short = let h = w.short in let l = length-append a b in omega (arith, h, l);
@@ -28,18 +29,18 @@ module _ {W : Type 0} (taken : W → Option (List ℕ)) (failures : W → ℕ) w
     told = w.told;
     over = w.over;
   }
-  Writes-err old new Failed a b w = w
+  Adds-err old new Failed a b w = w
 
   -- no fault in the first call
-  pub Writes-ok : (old mid new : Writer W) (r : Result Unit PcapFault) (a b : List ℕ) → WroteAll taken failures old mid a → Writes taken failures mid new r b → Writes taken failures old new r (a ++ b)
-  Writes-ok old mid new (Ok _) a b v w = record {
+  pub Adds-ok : (old mid new : Writer W) (r : Result Unit PcapFault) (a b : List ℕ) → AddedAll taken failures old mid a → Adds taken failures mid new r b → Adds taken failures old new r (a ++ b)
+  Adds-ok old mid new (Ok _) a b v w = record {
     sound = v.sound;
     whole = Appends-append (taken old.sink) (taken mid.sink) (taken new.sink) a b v.whole w.whole;
     no_fault = w.no_fault ∙ v.no_fault;
     count = count-append old mid new a (length b) (length (a ++ b)) v.count w.count (length-append a b);
     still_sound = w.still_sound;
   }
-  Writes-ok old mid new (Err (File n)) a b v w = record {
+  Adds-ok old mid new (Err (File n)) a b v w = record {
     sound = v.sound;
     part = length a + w.part;
     short = let h = w.short in let l = length-append a b in omega (arith, h, l);
@@ -49,4 +50,4 @@ module _ {W : Type 0} (taken : W → Option (List ℕ)) (failures : W → ℕ) w
     told = w.told;
     over = w.over;
   }
-  Writes-ok old mid new (Err Failed) a b v w = let e : false ≡ true = sym v.still_sound ∙ w.over in cc
+  Adds-ok old mid new (Err Failed) a b v w = let e : false ≡ true = sym v.still_sound ∙ w.over in cc

@@ -1,48 +1,45 @@
 -- What a call that writes to a trace file did.
-use Rattle.std.specs.Prelude.{◌≡◌, ℕ, ◌+◌, ◌-◌, ◌<◌, ◌^◌, min, take, length, List, [], ◌∷◌, ◌++◌, true, false, Option, Result, Ok, Err}
+use Rattle.std.specs.Prelude.{◌≡◌, ℕ, ◌+◌, ◌<◌, take, length, List, [], ◌∷◌, ◌++◌, true, false, Option, Result, Ok, Err}
 use Rattle.std.specs.Io.KnownBytes.{Appends}
+use Rattle.nm_base.specs.Count.{saturated}
 use Rattle.nm_base.specs.declared.record.Record.{Record}
 use Rattle.nm_pcap.specs.declared.writer.PcapFault.{PcapFault}
 use Rattle.nm_pcap.specs.declared.writer.PcapFault.TheVariants.{File, Failed}
 use Rattle.nm_pcap.specs.Format.{record_octets}
 use Rattle.nm_pcap.specs.Writer.{Writer}
 
--- the greatest count that is kept
-abbrev pub counted : ℕ → ℕ
-counted n = min n (2 ^ 64 - 1)
-
 module _ {W : Type 0} (taken : W → Option (List ℕ)) (failures : W → ℕ) (old new : Writer W) where
   -- all the octets were written
-  pub record WroteAll (octets : List ℕ) : Type 0 where
+  pub record AddedAll (octets : List ℕ) : Type 0 where
     pub sound : old.failed ≡ false
     pub whole : Appends (taken old.sink) (taken new.sink) octets
     pub no_fault : failures new.sink ≡ failures old.sink
-    pub count : new.written ≡ counted (old.written + length octets)
+    pub count : new.written ≡ saturated (old.written + length octets)
     pub still_sound : new.failed ≡ false
 
   -- the sink failed in this call, when it had taken a part of the octets, from the front
-  pub record WrotePart (octets : List ℕ) (written : ℕ) : Type 0 where
+  pub record AddedPart (octets : List ℕ) (written : ℕ) : Type 0 where
     pub sound : old.failed ≡ false
     pub part : ℕ
     pub short : part < length octets
     pub front : Appends (taken old.sink) (taken new.sink) (take part octets)
     pub fault : failures new.sink ≡ failures old.sink + 1
-    pub count : new.written ≡ counted (old.written + part)
+    pub count : new.written ≡ saturated (old.written + part)
     pub told : written ≡ new.written
     pub over : new.failed ≡ true
 
   -- the sink had failed before, and nothing was written
-  pub record WroteNothing : Type 0 where
+  pub record AddedNothing : Type 0 where
     pub over : old.failed ≡ true
     pub same : new ≡ old
 
-  abbrev pub Writes : Result Unit PcapFault → List ℕ → Type 0
-  Writes (Ok _) octets = WroteAll octets
-  Writes (Err (File n)) octets = WrotePart octets n
-  Writes (Err Failed) octets = WroteNothing
+  abbrev pub Adds : Result Unit PcapFault → List ℕ → Type 0
+  Adds (Ok _) octets = AddedAll octets
+  Adds (Err (File n)) octets = AddedPart octets n
+  Adds (Err Failed) octets = AddedNothing
 
   -- what a file holds: so many octets from the front of these, and all of them as long as the sink has not failed
-  pub record HoldsFront (octets : List ℕ) : Type 0 where
+  pub record HoldsPrefix (octets : List ℕ) : Type 0 where
     pub front : List ℕ
     pub rest : List ℕ
     pub parts : front ++ rest ≡ octets
@@ -53,4 +50,4 @@ module _ {W : Type 0} (taken : W → Option (List ℕ)) (failures : W → ℕ) (
 abbrev pub Puts : {W : Type 0} → (W → Option (List ℕ)) → (W → ℕ) → Writer W → List (Record (List ℕ) × Result Unit PcapFault) → Writer W → Type 0
 Puts taken failures old [] new = new ≡ old
 Puts {W = W} taken failures old (p ∷ ps) new =
-    (mid : Writer W) × Writes taken failures old mid p.1 (record_octets p.0) × Puts taken failures mid ps new
+    (mid : Writer W) × Adds taken failures old mid p.1 (record_octets p.0) × Puts taken failures mid ps new

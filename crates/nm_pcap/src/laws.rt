@@ -4,7 +4,7 @@ ghost use Rattle.std.specs.Prelude.{◌≡◌, ℕ, List, [], ◌∷◌, ◌++�
 ghost use Rattle.nm_base.specs.declared.record.Record.{Record};
 ghost use Rattle.nm_pcap.specs.declared.writer.PcapFault.{PcapFault};
 ghost use Rattle.nm_pcap.specs.Format.{file_header, record_octets, pcap};
-ghost use Rattle.nm_pcap.specs.Outcome.{HoldsFront, Puts, Writes};
+ghost use Rattle.nm_pcap.specs.Outcome.{HoldsPrefix, Puts, Adds};
 ghost use Rattle.nm_pcap.specs.Writer.{Writer};
 
 /// A file begins with its header, and one more record adds that record's octets at its end.
@@ -14,11 +14,11 @@ pub fn file_grows()
         → pcap (records ++ r ∷ []) ≡ pcap records ++ record_octets r }
 {}
 
-/// After `start` and any `put`s, whatever they answered, the octets that the sink took are a front of the file of the
+/// After `start` and any `put`s, whatever they answered, the octets that the sink took are a prefix of the file of the
 /// records put, and all of it as long as the sink has not failed.
-pub fn file_is_a_front<W>()
+pub fn file_is_a_prefix<W>()
     ensures { (taken : W → Option (List ℕ)) (failures : W → ℕ) (fresh started new : Writer W) (first : Result Unit PcapFault)
         (puts : List (Record (List ℕ) × Result Unit PcapFault))
-        → Writes taken failures fresh started first file_header → Puts taken failures started puts new
-        → HoldsFront taken failures fresh new (pcap (map (λ p. p.0) puts)) }
+        → Adds taken failures fresh started first file_header → Puts taken failures started puts new
+        → HoldsPrefix taken failures fresh new (pcap (map (λ p. p.0) puts)) }
 {}

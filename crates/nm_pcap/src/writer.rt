@@ -3,7 +3,7 @@
 ghost use Rattle.std.specs.Prelude.{◌≡◌, ◌≤◌, ◌++◌, false};
 ghost use Rattle.nm_base.specs.declared.limits.TheConstants.{MAX_TIME};
 ghost use Rattle.nm_pcap.specs.Format.{file_header, record_octets};
-ghost use Rattle.nm_pcap.specs.Outcome.{Writes};
+ghost use Rattle.nm_pcap.specs.Outcome.{Adds};
 
 use crate::format::{file_header_octets, record_header_octets};
 use nm_base::sink::{CutShort, write_all};
@@ -70,9 +70,9 @@ impl<W: Sink> PcapOut<W> {
     ///
     /// # Errors
     ///
-    /// `File` where the sink failed in this call: it took a front of the header. `Failed` where it had failed before.
+    /// `File` where the sink failed in this call: it took a prefix of the header. `Failed` where it had failed before.
     pub fn start(&mut self) -> Result<(), PcapFault>
-        ensures { Writes W.taken W.failures self.old self.new result file_header }
+        ensures { Adds W.taken W.failures self.old self.new result file_header }
     {
         self.write(&file_header_octets())
     }
@@ -81,10 +81,10 @@ impl<W: Sink> PcapOut<W> {
     ///
     /// # Errors
     ///
-    /// `File` where the sink failed in this call: it took a front of the record. `Failed` where it had failed before.
+    /// `File` where the sink failed in this call: it took a prefix of the record. `Failed` where it had failed before.
     pub fn put(&mut self, record: &Record) -> Result<(), PcapFault>
         requires { «record».now.time ≤ MAX_TIME }
-        ensures { Writes W.taken W.failures self.old self.new result (record_octets «record».now) }
+        ensures { Adds W.taken W.failures self.old self.new result (record_octets «record».now) }
     {
         let header = record_header_octets(record.time, record.packet.octet_count() as u32);
         self.write_two(&header, record.packet.octets())
@@ -92,7 +92,7 @@ impl<W: Sink> PcapOut<W> {
 
     /// Writes these octets, and then those.
     fn write_two(&mut self, first: &[u8], second: &[u8]) -> Result<(), PcapFault>
-        ensures { Writes W.taken W.failures self.old self.new result (first.now ++ second.now) }
+        ensures { Adds W.taken W.failures self.old self.new result (first.now ++ second.now) }
     {
         self.write(first)?;
         self.write(second)
@@ -100,7 +100,7 @@ impl<W: Sink> PcapOut<W> {
 
     /// Writes these octets.
     fn write(&mut self, octets: &[u8]) -> Result<(), PcapFault>
-        ensures { Writes W.taken W.failures self.old self.new result octets.now }
+        ensures { Adds W.taken W.failures self.old self.new result octets.now }
     {
         if self.failed {
             return Err(PcapFault::Failed);

@@ -7,7 +7,7 @@ use Rattle.hex.specs.Hex.{encode_with, encode_lower, lower_digits}
 use Rattle.nm_base.proofs.Sinks.{Appends-append}
 use Rattle.nm_command.specs.declared.command.Form.{Form}
 use Rattle.nm_command.specs.declared.command.Form.TheVariants.{Octets, Hexadecimal}
-use Rattle.nm_program.specs.Writing.{WroteAll, WroteFront, Writes, written}
+use Rattle.nm_program.specs.Writing.{WroteAll, WrotePrefix, Writes, written}
 
 -- the digits of two pieces
 pub encode_with-append : (t a b : List ℕ) → encode_with t (a ++ b) ≡ encode_with t a ++ encode_with t b
@@ -42,8 +42,8 @@ module _ {S : Type 0} (taken : S → Option (List ℕ)) (failures : S → ℕ) w
     no_fault = w.no_fault ∙ v.no_fault;
   }
 
-  pub WroteFront-after : (old mid new : S) (a b : List ℕ) → WroteAll taken failures old mid a → WroteFront taken failures mid new b → WroteFront taken failures old new (a ++ b)
-  WroteFront-after old mid new a b v w = record {
+  pub WrotePrefix-after : (old mid new : S) (a b : List ℕ) → WroteAll taken failures old mid a → WrotePrefix taken failures mid new b → WrotePrefix taken failures old new (a ++ b)
+  WrotePrefix-after old mid new a b v w = record {
     part = length a + w.part;
     short = let h = w.short in let l = length-append a b in omega (arith, h, l);
     front = subst (λ l. Appends (taken old) (taken new) l) (sym (take-append-add a b w.part)) (Appends-append (taken old) (taken mid) (taken new) a (take w.part b) v.whole w.front);
@@ -51,8 +51,8 @@ module _ {S : Type 0} (taken : S → Option (List ℕ)) (failures : S → ℕ) w
   }
 
   -- what the sink failed in is the front of more
-  pub WroteFront-more : (old new : S) (a b : List ℕ) → WroteFront taken failures old new a → WroteFront taken failures old new (a ++ b)
-  WroteFront-more old new a b w = record {
+  pub WrotePrefix-more : (old new : S) (a b : List ℕ) → WrotePrefix taken failures old new a → WrotePrefix taken failures old new (a ++ b)
+  WrotePrefix-more old new a b w = record {
     part = w.part;
     short = let h = w.short in let l = length-append a b in omega (arith, h, l);
     front = subst (λ l. Appends (taken old) (taken new) l) (sym (take-append-le w.part a b (let h = w.short in omega (arith, h)))) w.front;
@@ -60,13 +60,13 @@ module _ {S : Type 0} (taken : S → Option (List ℕ)) (failures : S → ℕ) w
   }
 
   -- what the exit of a `?` returns
-  pub Writes-err : {E : Type 0} (Q : E → Type 0) (old new : S) (r : Result Unit E) (octets : List ℕ) → IsErrAnd r Q → WroteFront taken failures old new octets → Writes taken failures old new r octets
+  pub Writes-err : {E : Type 0} (Q : E → Type 0) (old new : S) (r : Result Unit E) (octets : List ℕ) → IsErrAnd r Q → WrotePrefix taken failures old new octets → Writes taken failures old new r octets
   Writes-err Q old new (Ok _) octets h w = absurd h
   Writes-err Q old new (Err _) octets h w = w
 
   pub Writes-after : {E : Type 0} (old mid new : S) (r : Result Unit E) (a b : List ℕ) → WroteAll taken failures old mid a → Writes taken failures mid new r b → Writes taken failures old new r (a ++ b)
   Writes-after old mid new (Ok _) a b v w = WroteAll-append old mid new a b v w
-  Writes-after old mid new (Err _) a b v w = WroteFront-after old mid new a b v w
+  Writes-after old mid new (Err _) a b v w = WrotePrefix-after old mid new a b v w
 
 -- A list written piece by piece, where f says what is written of a list.
 module _ {S : Type 0} (taken : S → Option (List ℕ)) (failures : S → ℕ) {X : Type 0} (f : List X → List ℕ) (join : (a b : List X) → f (a ++ b) ≡ f a ++ f b) where
@@ -77,9 +77,9 @@ module _ {S : Type 0} (taken : S → Option (List ℕ)) (failures : S → ℕ) {
       (WroteAll-append taken failures old mid new _ _ v w)
 
   -- the sink failed in it
-  pub last_piece : (old mid new : S) (l piece : List X) (n k : ℕ) → piece ≡ take k (drop n l) → WroteAll taken failures old mid (f (take n l)) → WroteFront taken failures mid new (f piece) → WroteFront taken failures old new (f l)
+  pub last_piece : (old mid new : S) (l piece : List X) (n k : ℕ) → piece ≡ take k (drop n l) → WroteAll taken failures old mid (f (take n l)) → WrotePrefix taken failures mid new (f piece) → WrotePrefix taken failures old new (f l)
   last_piece old mid new l piece n k is v w =
       let parts : take (n + k) l ≡ take n l ++ piece = take-add n k l ∙ ap (λ p. take n l ++ p) (sym is) in
-      subst (WroteFront taken failures old new)
+      subst (WrotePrefix taken failures old new)
       (sym (ap f (sym (take-append-drop (n + k) l)) ∙ join (take (n + k) l) (drop (n + k) l) ∙ ap (λ x. x ++ f (drop (n + k) l)) (ap f parts ∙ join (take n l) piece)))
-      (WroteFront-more taken failures old new _ _ (WroteFront-after taken failures old mid new _ _ v w))
+      (WrotePrefix-more taken failures old new _ _ (WrotePrefix-after taken failures old mid new _ _ v w))

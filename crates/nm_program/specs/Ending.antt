@@ -10,7 +10,7 @@ use Rattle.nm_command.specs.declared.status.Status.{Status}
 use Rattle.nm_command.specs.declared.status.Status.TheVariants.{Done, Usage, NoInterface, Topology, File, Memory}
 use Rattle.nm_command.specs.Command.{CommandValue}
 use Rattle.nm_program.specs.declared.input.TheConstants.{MAX_INPUT_OCTETS}
-use Rattle.nm_program.specs.Writing.{WroteAll, WroteFront}
+use Rattle.nm_program.specs.Writing.{WroteAll, WrotePrefix}
 use Rattle.nm_program.specs.TraceFile.{trace_file}
 
 -- the number of the interface that a command names, which is 0 where it names none
@@ -44,7 +44,7 @@ module _ {S : Type 0} (taken : S → Option (List ℕ)) (failures : S → ℕ) (
   EndsCommand (Topology refusal) = (text : List ℕ) × IsInput told text × (topology_of text ≡ Err refusal) × (new ≡ old)
   EndsCommand File = ((failed ≡ failed_before + 1) × (new ≡ old))
       ⊎ (IfSome told (λ t. MAX_INPUT_OCTETS < length t) × (new ≡ old))
-      ⊎ ((text : List ℕ) × IsInput told text × ((octets : List ℕ) × IsAnswer command text octets × WroteFront taken failures old new octets))
+      ⊎ ((text : List ℕ) × IsInput told text × ((octets : List ℕ) × IsAnswer command text octets × WrotePrefix taken failures old new octets))
   EndsCommand Memory = new ≡ old
 
 -- the same of words: those of no command are `Usage`, and no others are

@@ -12,7 +12,7 @@ module _ {S : Type 0} (taken : S → Option (List ℕ)) (failures : S → ℕ) (
     pub no_fault : failures new ≡ failures old
 
   -- the sink failed when it had taken a part of the octets, from the front
-  pub record WroteFront (octets : List ℕ) : Type 0 where
+  pub record WrotePrefix (octets : List ℕ) : Type 0 where
     pub part : ℕ
     pub short : part < length octets
     pub front : Appends (taken old) (taken new) (take part octets)
@@ -20,7 +20,7 @@ module _ {S : Type 0} (taken : S → Option (List ℕ)) (failures : S → ℕ) (
 
   abbrev pub Writes : {E : Type 0} → Result Unit E → List ℕ → Type 0
   Writes (Ok _) octets = WroteAll octets
-  Writes (Err _) octets = WroteFront octets
+  Writes (Err _) octets = WrotePrefix octets
 
 -- octets as they are, or as lower-case hexadecimal
 abbrev pub written : Form → List ℕ → List ℕ

@@ -1,9 +1,9 @@
 //! Inputs, which are read to their end.
 
-ghost use Rattle.std.specs.Prelude.{◌≡◌, ◌+◌, ◌<◌, ◌≤◌, IfOk, IfSome, length};
+ghost use Rattle.std.specs.Prelude.{◌≡◌, ◌+◌, ◌<◌, ◌≤◌, Err, IfOk, IfSome, length};
 ghost use Rattle.std.specs.IoError.{error_kind};
-ghost use Rattle.std.specs.declared.io.ErrorKind.TheVariants.{OutOfMemory};
-ghost use Rattle.nm_program.specs.declared.input.InputFault.TheVariants.{Failed, Memory, TooLong};
+ghost use Rattle.nm_program.specs.Input.{IsFaultOf};
+ghost use Rattle.nm_program.specs.declared.input.InputFault.TheVariants.{Failed, TooLong};
 ghost use Rattle.nm_program.specs.declared.input.TheConstants.{MAX_INPUT_OCTETS};
 
 use nm_base::failures::FailureCount;
@@ -44,7 +44,8 @@ impl fmt::Display for InputFault {
     }
 }
 
-/// An input over a reader of the standard library. A clause sees the reader and how often reading it has failed.
+/// An input over a reader of the standard library. A clause sees the reader and how often reading
+/// it has failed.
 #[derive(Drop)]
 pub struct Input<R> {
     reader: R,
@@ -76,10 +77,11 @@ impl<R: Read> Input<R> {
     ///
     /// # Errors
     ///
-    /// `Failed` where a read failed: the count of failures is one more, and else as it was. `TooLong` where more octets are
-    /// left. `Memory` where memory was refused.
+    /// `Failed` where a read failed: the count of failures is one more, and else as it was.
+    /// `TooLong` where more octets are left. `Memory` where memory was refused.
     pub fn read(&mut self, alloc: Global) -> Result<Vec<u8>, InputFault>
-        ensures text { IfOk result (λ octets. IfSome (R.remaining self.old.reader) (λ text. octets.items ≡ text)) }
+        ensures text { IfOk result
+            (λ octets. IfSome (R.remaining self.old.reader) (λ text. octets.items ≡ text)) }
         ensures most { IfOk result (λ octets. length octets.items ≤ MAX_INPUT_OCTETS) }
         ensures failed { result ≡ Err Failed → self.new.failures ≡ self.old.failures + 1 }
         ensures kept { (result ≡ Err Failed → ⊥) → self.new.failures ≡ self.old.failures }
@@ -111,9 +113,7 @@ fn read_to_end<R: Read>(alloc: Global, reader: &mut R) -> Result<Vec<u8>, InputF
 
 /// What the error of a read tells: that memory was refused, or that the read failed.
 fn fault_of(error: &io::Error) -> InputFault
-    ensures memory { error_kind error.now ≡ OutOfMemory → result ≡ Memory }
-    ensures failed { (error_kind error.now ≡ OutOfMemory → ⊥) → result ≡ Failed }
-    ensures short { result ≡ TooLong → ⊥ }
+    ensures { IsFaultOf (error_kind error.now) result }
 {
     if error.kind() == ErrorKind::OutOfMemory {
         InputFault::Memory

@@ -23,10 +23,12 @@ use std::alloc::Global;
 use std::io::Read;
 use std::mem;
 
-/// Does what the words say. The trace file goes to `out` as it is made, and a line to `errors` where the program is not
-/// done; where `errors` fails there is nobody to tell, and the status stays.
+/// Does what the words say. The trace file goes to `out` as it is made, and a line to `errors`
+/// where the program is not done; where `errors` fails there is nobody to tell, and the status
+/// stays.
 ///
-/// The first of these decides: the words, the input, the topology, all else. Memory may be refused at any place.
+/// The first of these decides: the words, the input, the topology, all else. Memory may be refused
+/// at any place.
 pub fn run<I: Read, O: Sink, E: Sink>(
     alloc: Global,
     words: &[String],
@@ -34,7 +36,8 @@ pub fn run<I: Read, O: Sink, E: Sink>(
     out: &mut O,
     errors: &mut E,
 ) -> Status
-    ensures ending { Ends O.taken O.failures (I.remaining input.old.reader) input.old.failures input.new.failures
+    ensures ending { Ends O.taken O.failures
+        (I.remaining input.old.reader) input.old.failures input.new.failures
         out.old out.new (command_of (map (λ w. string_bytes w) words.now)) result }
     ensures line { E.failures errors.new ≡ E.failures errors.old
         → Appends (E.taken errors.old) (E.taken errors.new) (line_of result) }
@@ -56,8 +59,8 @@ pub fn report<E: Sink>(status: Status, errors: &mut E) -> Status
     status
 }
 
-/// The status of a run whose output may have been held back, once it was handed on or could not be. What is not handed
-/// on is not done: its status is `File`, and its line is said.
+/// The status of a run whose output may have been held back, once it was handed on or could not be.
+/// What is not handed on is not done: its status is `File`, and its line is said.
 pub fn conclude<E: Sink>(status: Status, handed: bool, errors: &mut E) -> Status
     ensures status { result ≡ handed_on handed status }
     ensures line { result ≡ File → status ≡ Done → E.failures errors.new ≡ E.failures errors.old
@@ -70,14 +73,16 @@ pub fn conclude<E: Sink>(status: Status, handed: bool, errors: &mut E) -> Status
     }
 }
 
-/// Writes the trace file that a command asks for. The trace's memory is left to the end of the process.
+/// Writes the trace file that a command asks for. The trace's memory is left to the end of the
+/// process.
 fn perform<I: Read, O: Sink>(
     alloc: Global,
     command: Command<'_>,
     input: &mut Input<I>,
     out: &mut O,
 ) -> Status
-    ensures { EndsCommand O.taken O.failures (I.remaining input.old.reader) input.old.failures input.new.failures
+    ensures { EndsCommand O.taken O.failures
+        (I.remaining input.old.reader) input.old.failures input.new.failures
         out.old out.new (command_value command.entry) result }
 {
     let topology = match read_topology(alloc, input) {
@@ -91,7 +96,8 @@ fn perform<I: Read, O: Sink>(
         return Status::Memory;
     };
     let written = write_trace_file(command.form, iface, records.as_slice(), out);
-    // The process ends next, and its memory goes back as a whole: packet by packet that takes a twentieth of a run's time.
+    // The process ends next, and its memory goes back as a whole: packet by packet that takes a
+    // twentieth of a run's time.
     mem::forget(records);
     match written {
         Ok(()) => Status::Done,
@@ -101,7 +107,8 @@ fn perform<I: Read, O: Sink>(
 
 /// The topology whose text an input has. The text is let go.
 fn read_topology<I: Read>(alloc: Global, input: &mut Input<I>) -> Result<Topology, Status>
-    ensures { ReadsTopology (I.remaining input.old.reader) input.old.failures input.new.failures result }
+    ensures { ReadsTopology
+        (I.remaining input.old.reader) input.old.failures input.new.failures result }
 {
     let text = match input.read(alloc) {
         Ok(text) => text,
@@ -130,7 +137,7 @@ fn find_iface(topology: &Topology, name: Option<&str>) -> Option<IfaceNo>
 fn named_iface(topology: &Topology, name: &str) -> Option<IfaceNo>
     ensures { result ≡ position (λ i. bytes_eq i.name name.now) topology.now.ifaces }
 {
-    accepted_topologies_are_in_order(topology);
+    accepted_topologies_are_in_order(topology); // law: interfaces have numbers of 32 bits
     let index = index_of(topology.ifaces(), name)?;
     Some(IfaceNo::new(index as u32))
 }
@@ -148,6 +155,6 @@ fn trace(alloc: Global, topology: &Topology) -> Option<Vec<Record>>
     ensures trace { IfSome result (λ r. IsTraceBefore topology.now topology.now.stop r.items) }
     ensures times { IfSome result (λ r. All (λ x. x.time ≤ MAX_TIME) r.items) }
 {
-    accepted_topologies_are_in_order(topology);
+    accepted_topologies_are_in_order(topology); // law: `stop` is within its limit
     one_list(alloc, topology, topology.stop()).ok()
 }

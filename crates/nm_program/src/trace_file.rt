@@ -11,11 +11,12 @@ use nm_base::{IfaceNo, Record, Sink};
 use nm_command::Form;
 use nm_pcap::format::{file_header_octets, record_header_octets};
 
-/// Writes the trace file of an interface, record by record: those of these records that are at the interface.
+/// Writes the trace file of an interface, record by record: those of these records that are at the
+/// interface.
 ///
 /// # Errors
 ///
-/// `WriteFault` where the sink failed: it took a front of the file.
+/// `WriteFault` where the sink failed: it took a prefix of the file.
 pub fn write_trace_file<S: Sink>(
     form: Form,
     iface: IfaceNo,
@@ -23,7 +24,8 @@ pub fn write_trace_file<S: Sink>(
     sink: &mut S,
 ) -> Result<(), WriteFault>
     requires { All (λ r. r.time ≤ MAX_TIME) records.now }
-    ensures { Writes S.taken S.failures sink.old sink.new result (trace_file form iface records.now) }
+    ensures { Writes S.taken S.failures sink.old sink.new result
+        (trace_file form iface records.now) }
 {
     write(form, &file_header_octets(), sink)?;
     write_records(form, iface, records, sink)?;
@@ -67,7 +69,8 @@ fn write_if_at<S: Sink>(
 /// Writes one record.
 fn write_record<S: Sink>(form: Form, record: &Record, sink: &mut S) -> Result<(), WriteFault>
     requires { «record».now.time ≤ MAX_TIME }
-    ensures { Writes S.taken S.failures sink.old sink.new result (written form (record_octets «record».now)) }
+    ensures { Writes S.taken S.failures sink.old sink.new result
+        (written form (record_octets «record».now)) }
 {
     let header = record_header_octets(record.time, record.packet.octet_count() as u32);
     write_two(form, &header, record.packet.octets(), sink)
@@ -80,7 +83,8 @@ fn write_two<S: Sink>(
     second: &[u8],
     sink: &mut S,
 ) -> Result<(), WriteFault>
-    ensures { Writes S.taken S.failures sink.old sink.new result (written form (first.now ++ second.now)) }
+    ensures { Writes S.taken S.failures sink.old sink.new result
+        (written form (first.now ++ second.now)) }
 {
     write(form, first, sink)?;
     write(form, second, sink)

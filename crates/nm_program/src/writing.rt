@@ -14,7 +14,7 @@ const CHUNK_OCTETS: usize = 1_024;
 
 const CHUNK_DIGITS: usize = 2_048;
 
-/// A sink failed before it had taken all that was to be written. It took a front of it.
+/// A sink failed before it had taken all that was to be written. It took a prefix of it.
 #[derive(Clone, Copy, Debug, PartialEq, Eq, Error)]
 #[error("the sink failed")]
 pub struct WriteFault;
@@ -23,7 +23,7 @@ pub struct WriteFault;
 ///
 /// # Errors
 ///
-/// `WriteFault` where the sink failed: it took a front of what was to be written.
+/// `WriteFault` where the sink failed: it took a prefix of what was to be written.
 pub fn write<S: Sink>(form: Form, octets: &[u8], sink: &mut S) -> Result<(), WriteFault>
     ensures { Writes S.taken S.failures sink.old sink.new result (written form octets.now) }
 {

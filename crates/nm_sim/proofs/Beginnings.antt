@@ -10,10 +10,10 @@ use Rattle.nm_topology.specs.PartValues.{IfaceValue}
 use Rattle.nm_topology.specs.TopologyValue.{TopologyValue}
 use Rattle.nm_model.specs.EventList.{schedule}
 use Rattle.nm_model.specs.Lists.{set_at}
-use Rattle.nm_model.specs.Run.{start_events, sent_after}
+use Rattle.nm_model.specs.Run.{transmission_events, sent_after}
 use Rattle.nm_iface.specs.declared.port.Start.{Start}
 use Rattle.nm_sim.specs.Network.{net_of, far_from}
-use Rattle.nm_sim.specs.Effects.{StartsAt}
+use Rattle.nm_sim.specs.Effects.{TransmitsAt}
 use Rattle.nm_sim.specs.Timelines.{AreFresh, TimelineValue, TimelineRepresents, everywhere}
 use Rattle.nm_sim.proofs.Represents.{set_here, set_there}
 
@@ -21,18 +21,18 @@ pub peer_is : (t : TopologyValue) (i : ℕ) (x : IfaceValue) → slice_get t.ifa
 unfolding net_of
 peer_is t i x e = ap (λ o. (far_from i o).peer) e
 
-module _ {L : Type 0} (t : TopologyValue) (line : TimelineValue L) (time : ℕ) (sent : ℕ → List (ℕ × List ℕ)) (numbered : TimelineRepresents t line sent) (i : ℕ) (st : Start) (begins : StartsAt t time (i, st))
+module _ {L : Type 0} (t : TopologyValue) (line : TimelineValue L) (time : ℕ) (sent : ℕ → List (ℕ × List ℕ)) (numbered : TimelineRepresents t line sent) (i : ℕ) (st : Start) (transmits : TransmitsAt t time (i, st))
     (p : ℕ) (peer : (net_of t).peer i ≡ p) (there : p < length t.ifaces) where
   number_is : slice_index line.sent p ≡ length (sent ((net_of t).peer i))
   number_is = numbered.numbers p there ∙ ap (λ c. length (sent c)) (sym peer)
 
   completes_is : st.completes ≡ time + (net_of t).tx i st.twin.packet
   unfolding net_of
-  completes_is = begins.1.completes
+  completes_is = transmits.1.completes
 
   arrives_is : st.arrives ≡ time + (net_of t).tx i st.twin.packet + (net_of t).delay i
   unfolding net_of
-  arrives_is = begins.1.arrives
+  arrives_is = transmits.1.arrives
 
   arrival_key : key_of st.arrives (Arrive p) (slice_index line.sent p)
       ≡ key_of (time + (net_of t).tx i st.twin.packet + (net_of t).delay i) (Arrive ((net_of t).peer i)) (length (sent ((net_of t).peer i)))
@@ -42,17 +42,17 @@ module _ {L : Type 0} (t : TopologyValue) (line : TimelineValue L) (time : ℕ) 
       ≡ key_of (time + (net_of t).tx i st.twin.packet) (Complete i) (length (sent ((net_of t).peer i)))
   completion_key = λ k. key_of (completes_is k) (Complete i) (number_is k)
 
-  pub arrival_fresh : (pending : FinMap key_cmp (Event (List ℕ))) → AreFresh pending (start_events (net_of t) time sent (Some (i, st.twin.packet)))
+  pub arrival_fresh : (pending : FinMap key_cmp (Event (List ℕ))) → AreFresh pending (transmission_events (net_of t) time sent (Some (i, st.twin.packet)))
       → get pending (key_of st.arrives (Arrive p) (slice_index line.sent p)) ≡ None
   arrival_fresh pending h = ap (get pending) arrival_key ∙ h 1 _ refl
 
-  pub completion_fresh : (pending : FinMap key_cmp (Event (List ℕ))) → AreFresh pending (start_events (net_of t) time sent (Some (i, st.twin.packet)))
+  pub completion_fresh : (pending : FinMap key_cmp (Event (List ℕ))) → AreFresh pending (transmission_events (net_of t) time sent (Some (i, st.twin.packet)))
       → get pending (key_of st.completes (Complete i) (slice_index line.sent p)) ≡ None
   completion_fresh pending h = ap (get pending) completion_key ∙ h 0 _ refl
 
   pub begun_events : (pending after : FinMap key_cmp (Event (List ℕ)))
       → after ≡ insert (insert pending (key_of st.arrives (Arrive p) (slice_index line.sent p)) (Delivery st.twin.packet)) (key_of st.completes (Complete i) (slice_index line.sent p)) Completion
-      → after ≡ schedule everywhere (start_events (net_of t) time sent (Some (i, st.twin.packet))) pending
+      → after ≡ schedule everywhere (transmission_events (net_of t) time sent (Some (i, st.twin.packet))) pending
   begun_events pending after e = e ∙ λ k. insert (insert pending (arrival_key k) (Delivery st.twin.packet)) (completion_key k) Completion
 
   pub begun_numbered : (after : TimelineValue L) → after.sent ≡ slice_set line.sent p (slice_index line.sent p + 1)

@@ -17,10 +17,10 @@ use Rattle.nm_iface.specs.declared.port.Start.{Start}
 use Rattle.nm_traffic.specs.Source.{source_at}
 use Rattle.nm_sim.specs.Network.{net_of}
 use Rattle.nm_sim.specs.Devices.{DevicesValue, DevicesRepresent}
-use Rattle.nm_sim.specs.Effects.{Does, Done, IsEffect, Reacts, Sends, StartsAt, start_at, start_of}
+use Rattle.nm_sim.specs.Effects.{Does, Done, IsEffect, Reacts, Sends, TransmitsAt, transmission_at, transmission_of}
 use Rattle.nm_iface.specs.PortValue.{PortValue, takes, with_port}
-use Rattle.nm_iface.specs.Starts.{IsTransmission, packet_started}
-use Rattle.nm_sim.proofs.Sendings.{start_of_at}
+use Rattle.nm_iface.specs.Offers.{IsTransmission, transmitted_packet}
+use Rattle.nm_sim.proofs.Sendings.{transmission_of_at}
 use Rattle.nm_sim.proofs.Represents.{port_after, port_turned, same_done, set_same}
 
 module _ (net : Net (List ℕ) NodeStateValue) (ports : ℕ → Port (List ℕ)) (time : ℕ) (came : Option (ℕ × List ℕ)) (n : NodeStateValue) (follows : Option (ℕ × List ℕ)) where
@@ -37,8 +37,8 @@ module _ (net : Net (List ℕ) NodeStateValue) (ports : ℕ → Port (List ℕ))
   follows_is (Some s) = refl
 
 module _ (t : TopologyValue) (node : ℕ → NodeStateValue) (port : ℕ → Port (List ℕ)) (time v : ℕ) (o : Origin) (x : List ℕ) (d e : DevicesValue)
-    (sent : Option (ℕ × List ℕ)) (begun : Option (ℕ × Start)) (r : Reacts t node port v o x d sent)
-    (s : Sends t (set_at node v (reaction t v (node v) o x).0) port time sent e begun) (came follows : Option (ℕ × List ℕ)) where
+    (sent : Option (ℕ × List ℕ)) (sending : Option (ℕ × Start)) (r : Reacts t node port v o x d sent)
+    (s : Sends t (set_at node v (reaction t v (node v) o x).0) port time sent e sending) (came follows : Option (ℕ × List ℕ)) where
   abbrev effect_is : Effect (List ℕ) NodeStateValue
   effect_is = sent_on (net_of t) port time came (reaction t v (node v) o x).0 (reaction t v (node v) o x).1 follows
 
@@ -49,60 +49,60 @@ module _ (t : TopologyValue) (node : ℕ → NodeStateValue) (port : ℕ → Por
       (subst (λ z. DevicesRepresent t e (set_at node v (reaction t v (node v) o x).0) (turned port (sent_on (net_of t) port time came (reaction t v (node v) o x).0 z follows).turn))
       r.sends (s.represented (reaction t v (node v) o x).0 came follows))
 
-  reacted_does : (done : Done) → done.came ≡ came → done.start ≡ begun → done.follows ≡ follows → IsEffect t time done effect_is
+  reacted_does : (done : Done) → done.came ≡ came → done.transmission ≡ sending → done.follows ≡ follows → IsEffect t time done effect_is
   reacted_does done a b c = record {
     came = a ∙ sym (came_is (net_of t) port time came (reaction t v (node v) o x).0 follows (reaction t v (node v) o x).1);
-    start = ap start_of b ∙ s.start (reaction t v (node v) o x).0 came follows
-        ∙ ap (λ z. (sent_on (net_of t) port time came (reaction t v (node v) o x).0 z follows).start) r.sends;
-    begins = subst (λ z. IfSome z (StartsAt t time)) (sym b) s.begins;
+    transmission = ap transmission_of b ∙ s.transmission (reaction t v (node v) o x).0 came follows
+        ∙ ap (λ z. (sent_on (net_of t) port time came (reaction t v (node v) o x).0 z follows).transmission) r.sends;
+    transmits = subst (λ z. IfSome z (TransmitsAt t time)) (sym b) s.transmits;
     follows = c ∙ sym (follows_is (net_of t) port time came (reaction t v (node v) o x).0 follows (reaction t v (node v) o x).1);
   }
 
 -- a packet arrived at interface i of node v
 pub arrives_by : (t : TopologyValue) (node : ℕ → NodeStateValue) (port : ℕ → Port (List ℕ)) (time v i number : ℕ) (x : List ℕ) (d e : DevicesValue)
-    (sent : Option (ℕ × List ℕ)) (begun : Option (ℕ × Start)) (done : Done) → (net_of t).owner i ≡ v
-    → Reacts t node port v (Arrival i) x d sent → Sends t (set_at node v (reaction t v (node v) (Arrival i) x).0) port time sent e begun
-    → done.came ≡ Some (i, x) → done.start ≡ begun → done.follows ≡ None → Does t node port (key_of time (Arrive i) number) (Delivery x) e done
+    (sent : Option (ℕ × List ℕ)) (sending : Option (ℕ × Start)) (done : Done) → (net_of t).owner i ≡ v
+    → Reacts t node port v (Arrival i) x d sent → Sends t (set_at node v (reaction t v (node v) (Arrival i) x).0) port time sent e sending
+    → done.came ≡ Some (i, x) → done.transmission ≡ sending → done.follows ≡ None → Does t node port (key_of time (Arrive i) number) (Delivery x) e done
 unfolding net_of
-arrives_by t node port time v i number x d e sent begun done owner r s a b c =
-    subst (λ w. Reacts t node port w (Arrival i) x d sent → Sends t (set_at node w (reaction t w (node w) (Arrival i) x).0) port time sent e begun
+arrives_by t node port time v i number x d e sent sending done owner r s a b c =
+    subst (λ w. Reacts t node port w (Arrival i) x d sent → Sends t (set_at node w (reaction t w (node w) (Arrival i) x).0) port time sent e sending
     → Does t node port (key_of time (Arrive i) number) (Delivery x) e done) owner
     (λ r' s'. record {
-      represented = reacted_stand t node port time ((net_of t).owner i) (Arrival i) x d e sent begun r' s' (Some (i, x)) None;
-      does = reacted_does t node port time ((net_of t).owner i) (Arrival i) x d e sent begun r' s' (Some (i, x)) None done a b c;
+      represented = reacted_stand t node port time ((net_of t).owner i) (Arrival i) x d e sent sending r' s' (Some (i, x)) None;
+      does = reacted_does t node port time ((net_of t).owner i) (Arrival i) x d e sent sending r' s' (Some (i, x)) None done a b c;
     }) r s
 
 -- source j of node v handed a packet over
 pub fires_by : (t : TopologyValue) (node : ℕ → NodeStateValue) (port : ℕ → Port (List ℕ)) (time v j number : ℕ) (x : List ℕ) (d e : DevicesValue)
-    (sent : Option (ℕ × List ℕ)) (begun : Option (ℕ × Start)) (done : Done) → (net_of t).source_node j ≡ v
-    → Reacts t node port v (Source j) x d sent → Sends t (set_at node v (reaction t v (node v) (Source j) x).0) port time sent e begun
-    → done.came ≡ None → done.start ≡ begun → done.follows ≡ source_at t j (suc number) → Does t node port (key_of time (Fire j) number) (Delivery x) e done
+    (sent : Option (ℕ × List ℕ)) (sending : Option (ℕ × Start)) (done : Done) → (net_of t).source_node j ≡ v
+    → Reacts t node port v (Source j) x d sent → Sends t (set_at node v (reaction t v (node v) (Source j) x).0) port time sent e sending
+    → done.came ≡ None → done.transmission ≡ sending → done.follows ≡ source_at t j (suc number) → Does t node port (key_of time (Fire j) number) (Delivery x) e done
 unfolding net_of
-fires_by t node port time v j number x d e sent begun done owner r s a b c =
-    subst (λ w. Reacts t node port w (Source j) x d sent → Sends t (set_at node w (reaction t w (node w) (Source j) x).0) port time sent e begun
+fires_by t node port time v j number x d e sent sending done owner r s a b c =
+    subst (λ w. Reacts t node port w (Source j) x d sent → Sends t (set_at node w (reaction t w (node w) (Source j) x).0) port time sent e sending
     → Does t node port (key_of time (Fire j) number) (Delivery x) e done) owner
     (λ r' s'. record {
-      represented = reacted_stand t node port time ((net_of t).source_node j) (Source j) x d e sent begun r' s' None (source_at t j (suc number));
-      does = reacted_does t node port time ((net_of t).source_node j) (Source j) x d e sent begun r' s' None (source_at t j (suc number)) done a b c;
+      represented = reacted_stand t node port time ((net_of t).source_node j) (Source j) x d e sent sending r' s' None (source_at t j (suc number));
+      does = reacted_does t node port time ((net_of t).source_node j) (Source j) x d e sent sending r' s' None (source_at t j (suc number)) done a b c;
     }) r s
 
 -- a transmission of interface i is complete
 module _ (t : TopologyValue) (d e : DevicesValue) (node : ℕ → NodeStateValue) (port : ℕ → Port (List ℕ)) (s : DevicesRepresent t d node port) (time i number : ℕ)
     (w : PortValue) (room : ℕ) (start : Option Start) (here : slice_get d.ports i ≡ Some w) (within : i < length t.ifaces) where
-  starts_packet : (o : Option Start) → IfSome o (λ z. IsTransmission w.rate w.delay time z.twin.packet z) → IfSome (start_at i o) (StartsAt t time)
-  starts_packet None h = tt
-  starts_packet (Some z) h = let p = s.ports i w here in (within, subst (λ (y : ℕ × ℕ). IsTransmission y.0 y.1 time z.twin.packet z) (λ k. (p.rate k, p.delay k)) h)
+  transmits_packet : (o : Option Start) → IfSome o (λ z. IsTransmission w.rate w.delay time z.twin.packet z) → IfSome (transmission_at i o) (TransmitsAt t time)
+  transmits_packet None h = tt
+  transmits_packet (Some z) h = let p = s.ports i w here in (within, subst (λ (y : ℕ × ℕ). IsTransmission y.0 y.1 time z.twin.packet z) (λ k. (p.rate k, p.delay k)) h)
 
   same_node : DevicesRepresent t e node (set_at port i (completed ((net_of t).tx i) time (port i).dropped (port i).busy).0)
       → DevicesRepresent t e (set_at node ((net_of t).owner i) (node ((net_of t).owner i))) (set_at port i (completed ((net_of t).tx i) time (port i).dropped (port i).busy).0)
   same_node z = subst (λ f. DevicesRepresent t e f (set_at port i (completed ((net_of t).tx i) time (port i).dropped (port i).busy).0)) (sym (λ k v. set_same node ((net_of t).owner i) v k)) z
 
   pub completes_by : e.nodes ≡ d.nodes → e.ports ≡ slice_set d.ports i (with_port w (completed (takes w.rate) time w.dropped w.busy).0 room) → e.sources ≡ d.sources
-      → packet_started start ≡ (completed (takes w.rate) time w.dropped w.busy).1
+      → transmitted_packet start ≡ (completed (takes w.rate) time w.dropped w.busy).1
       → IfSome start (λ z. IsTransmission w.rate w.delay time z.twin.packet z)
-      → (done : Done) → done.came ≡ None → done.start ≡ start_at i start → done.follows ≡ None
+      → (done : Done) → done.came ≡ None → done.transmission ≡ transmission_at i start → done.follows ≡ None
       → Does t node port (key_of time (Complete i) number) Completion e done
-  completes_by nodes ports sources packet begins done a b c =
+  completes_by nodes ports sources packet transmits done a b c =
       let p = s.ports i w here in
       let same = same_done t i w (port i) p time in
       let after = port_after t i w (port i) p time (completed (takes w.rate) time w.dropped w.busy) (completed ((net_of t).tx i) time (port i).dropped (port i).busy) room same in
@@ -110,8 +110,8 @@ module _ (t : TopologyValue) (d e : DevicesValue) (node : ℕ → NodeStateValue
         represented = same_node (port_turned t d e node port s i _ _ nodes ports sources after);
         does = record {
           came = a;
-          start = ap start_of b ∙ start_of_at i start ∙ ap (at_iface i) (packet ∙ same.2);
-          begins = subst (λ z. IfSome z (StartsAt t time)) (sym b) (starts_packet start begins);
+          transmission = ap transmission_of b ∙ transmission_of_at i start ∙ ap (at_iface i) (packet ∙ same.2);
+          transmits = subst (λ z. IfSome z (TransmitsAt t time)) (sym b) (transmits_packet start transmits);
           follows = c;
         };
       }

@@ -1,4 +1,5 @@
 mod Beginnings
+mod Channels
 mod Doings
 mod Networks
 mod Openings

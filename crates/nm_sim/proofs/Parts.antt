@@ -11,7 +11,7 @@ use Rattle.nm_model.specs.EventList.{schedule}
 use Rattle.nm_model.specs.Lists.{nth, set_at}
 use Rattle.nm_model.specs.Network.{node_of}
 use Rattle.nm_model.specs.Orderly.{IsOrderly}
-use Rattle.nm_model.specs.Run.{Effect, State, effect, in_record, next_events, out_record, sent_after, start_events, step, step_at, turned}
+use Rattle.nm_model.specs.Run.{Effect, State, effect, in_record, next_events, out_record, sent_after, transmission_events, step, step_at, turned}
 use Rattle.nm_forward.specs.State.{NodeStateValue}
 use Rattle.nm_iface.specs.declared.port.Start.{Start}
 use Rattle.nm_model.specs.EventList.{is_before}
@@ -22,30 +22,30 @@ use Rattle.std.specs.Option.{option_map}
 use Rattle.std.proofs.lemmas.Bool.Decides.{nat_tests}
 use Rattle.nm_sim.specs.Tables.{AllAt}
 use Rattle.nm_sim.specs.Devices.{DevicesValue, IsSame, DevicesRepresent}
-use Rattle.nm_sim.specs.Effects.{Done, IsPlaceIn, StartsAt, start_of}
+use Rattle.nm_sim.specs.Effects.{Done, IsPlaceIn, TransmitsAt, transmission_of}
 use Rattle.nm_sim.specs.Network.{net_of}
 use Rattle.std.proofs.lemmas.Option.{slice_get_cases, slice_get_past}
 use Rattle.nm_forward.specs.declared.counter.Counter.{Counter}
 use Rattle.nm_forward.specs.Counter.{counter_number}
-use Rattle.nm_iface.specs.PortValue.{saturated}
+use Rattle.nm_base.specs.Count.{saturated}
 use Rattle.nm_sim.specs.Part.{IsUnderWay, PartValue, Represents, Taken, count_at, drops_at}
 use Rattle.nm_sim.specs.Timelines.{TimelineRepresents, everywhere}
-use Rattle.nm_sim.proofs.Schedules.{one_more, placed_next, placed_remove, placed_schedule, placed_start, schedule_append}
+use Rattle.nm_sim.proofs.Schedules.{one_more, placed_next, placed_remove, placed_schedule, placed_transmission, schedule_append}
 use Rattle.nm_sim.proofs.Beginnings.{numbered_same}
 use Rattle.nm_sim.proofs.Pendings.{put_back}
 use Rattle.nm_sim.proofs.Steps.{least_has}
 
-begins_within : (t : TopologyValue) (time : ℕ) (o : Option (ℕ × Start)) → IfSome o (StartsAt t time) → IfSome (start_of o) (λ z. z.0 < length t.ifaces)
-begins_within t time None h = tt
-begins_within t time (Some z) h = h.0
+transmits_within : (t : TopologyValue) (time : ℕ) (o : Option (ℕ × Start)) → IfSome o (TransmitsAt t time) → IfSome (transmission_of o) (λ z. z.0 < length t.ifaces)
+transmits_within t time None h = tt
+transmits_within t time (Some z) h = h.0
 
 -- an event that is under way is done with the transmission that starts
 pub represents_after : {L : Type 0} (pending : L → FinMap key_cmp (Event (List ℕ))) (t : TopologyValue) (k : Key) (e : Event (List ℕ)) (done : Done) (p q : PartValue L)
     (s : State (List ℕ) NodeStateValue) → IsInOrder t.nodes t.ifaces t.links → IsOrderly (net_of t) everywhere (step (net_of t) everywhere s)
     → IsUnderWay pending t k e done p s → q.devices ≡ p.devices
-    → TimelineRepresents t q.timeline (sent_after (net_of t) k.time s.sent (start_of done.start))
-    → pending q.timeline.events ≡ schedule everywhere (start_events (net_of t) k.time s.sent (start_of done.start)) (pending p.timeline.events)
-    → q.timeline.records ≡ p.timeline.records ++ out_record k.time (start_of done.start)
+    → TimelineRepresents t q.timeline (sent_after (net_of t) k.time s.sent (transmission_of done.transmission))
+    → pending q.timeline.events ≡ schedule everywhere (transmission_events (net_of t) k.time s.sent (transmission_of done.transmission)) (pending p.timeline.events)
+    → q.timeline.records ≡ p.timeline.records ++ out_record k.time (transmission_of done.transmission)
     → q.steps ≡ p.steps + 1
     → Represents pending t q (step (net_of t) everywhere s)
 represents_after pending t k e done p q s order orderly way devices numbered events records steps =
@@ -53,25 +53,25 @@ represents_after pending t k e done p q s order orderly way devices numbered eve
     let does = way.does.does in
     let m : Effect (List ℕ) NodeStateValue = effect (net_of t) s.node s.port k.time k.place k.number e in
     let here : IsPlaceIn t k.place = taken.placed k e (least_has s.pending (k, e) taken.first) in
-    let events' : pending q.timeline.events ≡ schedule everywhere (start_events (net_of t) k.time s.sent m.start ++ next_events k.place k.number m.follows) (remove s.pending k)
-    = events ∙ ap (schedule everywhere (start_events (net_of t) k.time s.sent (start_of done.start))) taken.events
-    ∙ (λ i. schedule everywhere (start_events (net_of t) k.time s.sent (does.start i)) (schedule everywhere (next_events k.place k.number (does.follows i)) (remove s.pending k)))
-    ∙ sym (schedule_append (start_events (net_of t) k.time s.sent m.start) (next_events k.place k.number m.follows) (remove s.pending k)) in
-    let records' : q.timeline.records ≡ s.records ++ (in_record k.time m.came ++ out_record k.time m.start)
-    = records ∙ ap (λ l. l ++ out_record k.time (start_of done.start)) taken.records
-    ∙ (λ i. (s.records ++ in_record k.time (does.came i)) ++ out_record k.time (does.start i))
-    ∙ append_assoc s.records (in_record k.time m.came) (out_record k.time m.start) in
-    let within = subst (λ o. IfSome o (λ z. z.0 < length t.ifaces)) does.start (begins_within t k.time done.start does.begins) in
+    let events' : pending q.timeline.events ≡ schedule everywhere (transmission_events (net_of t) k.time s.sent m.transmission ++ next_events k.place k.number m.follows) (remove s.pending k)
+    = events ∙ ap (schedule everywhere (transmission_events (net_of t) k.time s.sent (transmission_of done.transmission))) taken.events
+    ∙ (λ i. schedule everywhere (transmission_events (net_of t) k.time s.sent (does.transmission i)) (schedule everywhere (next_events k.place k.number (does.follows i)) (remove s.pending k)))
+    ∙ sym (schedule_append (transmission_events (net_of t) k.time s.sent m.transmission) (next_events k.place k.number m.follows) (remove s.pending k)) in
+    let records' : q.timeline.records ≡ s.records ++ (in_record k.time m.came ++ out_record k.time m.transmission)
+    = records ∙ ap (λ l. l ++ out_record k.time (transmission_of done.transmission)) taken.records
+    ∙ (λ i. (s.records ++ in_record k.time (does.came i)) ++ out_record k.time (does.transmission i))
+    ∙ append_assoc s.records (in_record k.time m.came) (out_record k.time m.transmission) in
+    let within = subst (λ o. IfSome o (λ z. z.0 < length t.ifaces)) does.transmission (transmits_within t k.time done.transmission does.transmits) in
     let again : step_at (net_of t) everywhere s (Some (k, e)) ≡ step (net_of t) everywhere s = ap (step_at (net_of t) everywhere s) (sym taken.first) in
     subst (Represents pending t q) again record {
       orderly = subst (IsOrderly (net_of t) everywhere) (sym again) orderly;
       devices = subst (λ d. DevicesRepresent t d (set_at s.node (node_of (net_of t) k.place) m.after) (turned s.port m.turn)) (sym devices) way.does.represented;
-      numbered = subst (λ o. TimelineRepresents t q.timeline (sent_after (net_of t) k.time s.sent o)) does.start numbered;
-      few = λ c. let f = one_more t k.time p.steps s.sent m.start taken.few c in omega (arith, f, steps);
+      numbered = subst (λ o. TimelineRepresents t q.timeline (sent_after (net_of t) k.time s.sent o)) does.transmission numbered;
+      few = λ c. let f = one_more t k.time p.steps s.sent m.transmission taken.few c in omega (arith, f, steps);
       events = events';
-      placed = placed_schedule (IsPlaceIn t) (start_events (net_of t) k.time s.sent m.start ++ next_events k.place k.number m.follows) (remove s.pending k)
-          (either (start_events (net_of t) k.time s.sent m.start) (next_events k.place k.number m.follows)
-          (placed_start t order k.time s.sent m.start within) (placed_next (IsPlaceIn t) k.place k.number m.follows here))
+      placed = placed_schedule (IsPlaceIn t) (transmission_events (net_of t) k.time s.sent m.transmission ++ next_events k.place k.number m.follows) (remove s.pending k)
+          (either (transmission_events (net_of t) k.time s.sent m.transmission) (next_events k.place k.number m.follows)
+          (placed_transmission t order k.time s.sent m.transmission within) (placed_next (IsPlaceIn t) k.place k.number m.follows here))
           (placed_remove (IsPlaceIn t) s.pending k taken.placed);
       records = records';
     }

@@ -4,17 +4,18 @@ use Rattle.std.proofs.lemmas.Bool.Decides.{nat_tests}
 use Rattle.nm_topology.specs.PartValues.{IfaceValue}
 use Rattle.nm_topology.specs.TopologyValue.{TopologyValue}
 use Rattle.nm_model.specs.Lists.{set_at}
-use Rattle.nm_model.specs.Port.{Busy, Port, idle_port, offered, completed, next_started}
+use Rattle.nm_model.specs.Port.{Busy, Port, idle_port, offered, completed, next_transmitting}
 use Rattle.nm_forward.specs.State.{NodeStateValue, table_of}
 use Rattle.nm_traffic.specs.Source.{source_of}
-use Rattle.nm_iface.specs.PortValue.{PortValue, saturated, has_room, takes, with_port}
+use Rattle.nm_base.specs.Count.{saturated}
+use Rattle.nm_iface.specs.PortValue.{PortValue, has_room, takes, with_port}
 use Rattle.nm_sim.specs.Network.{far_from, far_of, queue_from, queue_of, net_of}
 use Rattle.nm_sim.specs.Devices.{DevicesValue, IsPortOf, DevicesRepresent}
 use Rattle.nm_sim.specs.Tables.{AllAt}
 use Rattle.nm_sim.proofs.Tables.{all_set}
 
 pub first_port : (t : TopologyValue) (i : ℕ) (x : IfaceValue) (w : PortValue) → slice_get t.ifaces i ≡ Some x
-    → w.limit ≡ x.queue → w.rate ≡ x.far.rate → w.delay ≡ x.far.delay → w.busy ≡ None → w.dropped ≡ 0 → IsPortOf t i w idle_port
+    → w.limit ≡ record { packets = x.queue; octets = x.queue_octets } → w.rate ≡ x.far.rate → w.delay ≡ x.far.delay → w.busy ≡ None → w.dropped ≡ 0 → IsPortOf t i w idle_port
 first_port t i x w e limit rate delay busy dropped = record {
   limit = limit ∙ sym (ap queue_from e);
   rate = rate ∙ sym (ap (λ o. (far_from i o).rate) e);
@@ -47,7 +48,7 @@ completed_counted : (tx : List ℕ → ℕ) (now n : ℕ) (b : Option (Busy (Lis
 completed_counted tx now n None = (refl, counted_twice n, refl)
 completed_counted tx now n (Some b) = go b.waiting
   where
-    go : (waiting : List (List ℕ)) → IsSameTurn (next_started tx now (saturated n) waiting) (next_started tx now n waiting)
+    go : (waiting : List (List ℕ)) → IsSameTurn (next_transmitting tx now (saturated n) waiting) (next_transmitting tx now n waiting)
     go [] = (refl, counted_twice n, refl)
     go (x ∷ waiting) = (refl, counted_twice n, refl)
 

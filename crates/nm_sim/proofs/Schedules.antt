@@ -12,7 +12,7 @@ use Rattle.nm_topology.specs.Accepted.{IsInOrder}
 use Rattle.nm_topology.specs.TopologyValue.{TopologyValue}
 use Rattle.nm_model.specs.EventList.{schedule}
 use Rattle.nm_model.specs.Lists.{nth, set_at}
-use Rattle.nm_model.specs.Run.{next_events, sent_after, start_events}
+use Rattle.nm_model.specs.Run.{next_events, sent_after, transmission_events}
 use Rattle.nm_sim.specs.Effects.{IsPlaceIn}
 use Rattle.nm_sim.specs.Network.{net_of}
 use Rattle.nm_sim.specs.Timelines.{AreFresh, everywhere}
@@ -83,12 +83,12 @@ module _ (t : TopologyValue) (order : IsInOrder t.nodes t.ifaces t.links) where
       (λ g. absurd (omega (arith, g.0, h)))
       ((slice_get_cases t.ifaces i).1)
 
-  pub placed_start : (time : ℕ) (sent : ℕ → List (ℕ × List ℕ)) (o : Option (ℕ × List ℕ)) → IfSome o (λ z. z.0 < length t.ifaces)
-      → (i : ℕ) (f : Key × Event (List ℕ)) → nth (start_events (net_of t) time sent o) i ≡ Some f → IsPlaceIn t f.0.place
-  placed_start time sent None h i f e = absurd cc
-  placed_start time sent (Some z) h zero f e = let s : Complete z.0 ≡ f.0.place = ap (λ (g : Key × Event (List ℕ)). g.0.place) (same_some _ f e) in subst (IsPlaceIn t) s h
-  placed_start time sent (Some z) h (suc zero) f e = let s : Arrive ((net_of t).peer z.0) ≡ f.0.place = ap (λ (g : Key × Event (List ℕ)). g.0.place) (same_some _ f e) in subst (IsPlaceIn t) s (peer_there z.0 h)
-  placed_start time sent (Some z) h (suc (suc i)) f e = absurd cc
+  pub placed_transmission : (time : ℕ) (sent : ℕ → List (ℕ × List ℕ)) (o : Option (ℕ × List ℕ)) → IfSome o (λ z. z.0 < length t.ifaces)
+      → (i : ℕ) (f : Key × Event (List ℕ)) → nth (transmission_events (net_of t) time sent o) i ≡ Some f → IsPlaceIn t f.0.place
+  placed_transmission time sent None h i f e = absurd cc
+  placed_transmission time sent (Some z) h zero f e = let s : Complete z.0 ≡ f.0.place = ap (λ (g : Key × Event (List ℕ)). g.0.place) (same_some _ f e) in subst (IsPlaceIn t) s h
+  placed_transmission time sent (Some z) h (suc zero) f e = let s : Arrive ((net_of t).peer z.0) ≡ f.0.place = ap (λ (g : Key × Event (List ℕ)). g.0.place) (same_some _ f e) in subst (IsPlaceIn t) s (peer_there z.0 h)
+  placed_transmission time sent (Some z) h (suc (suc i)) f e = absurd cc
 
 pub placed_next : (P : Place → Type 0) (place : Place) (number : ℕ) (o : Option (ℕ × List ℕ)) → P place
     → (i : ℕ) (f : Key × Event (List ℕ)) → nth (next_events place number o) i ≡ Some f → P f.0.place

@@ -7,45 +7,45 @@ use Rattle.nm_model.specs.Run.{at_iface}
 use Rattle.nm_forward.specs.State.{NodeStateValue}
 use Rattle.nm_iface.specs.PortValue.{PortValue, has_room, takes, with_port}
 use Rattle.nm_iface.specs.declared.port.Start.{Start}
-use Rattle.nm_iface.specs.Starts.{IsTransmission, packet_started}
+use Rattle.nm_iface.specs.Offers.{IsTransmission, transmitted_packet}
 use Rattle.nm_sim.specs.Network.{net_of}
 use Rattle.nm_sim.specs.Devices.{DevicesValue, DevicesRepresent}
-use Rattle.nm_sim.specs.Effects.{Sends, StartsAt, start_at, start_of}
+use Rattle.nm_sim.specs.Effects.{Sends, TransmitsAt, transmission_at, transmission_of}
 use Rattle.nm_sim.proofs.Represents.{same_offer, port_after, port_turned}
 
-pub start_of_at : (i : ℕ) (start : Option Start) → start_of (start_at i start) ≡ at_iface i (packet_started start)
-start_of_at i None = refl
-start_of_at i (Some s) = refl
+pub transmission_of_at : (i : ℕ) (start : Option Start) → transmission_of (transmission_at i start) ≡ at_iface i (transmitted_packet start)
+transmission_of_at i None = refl
+transmission_of_at i (Some s) = refl
 
 module _ (t : TopologyValue) (d e : DevicesValue) (node : ℕ → NodeStateValue) (port : ℕ → Port (List ℕ)) (s : DevicesRepresent t d node port) (time : ℕ) where
   -- nothing is sent
   pub sends_nothing : e ≡ d → Sends t node port time None e None
   sends_nothing same = record {
     represented = λ n came follows. subst (λ z. DevicesRepresent t z node port) (sym same) s;
-    start = λ n came follows. refl;
-    begins = tt;
+    transmission = λ n came follows. refl;
+    transmits = tt;
   }
 
   module _ (i : ℕ) (x : List ℕ) (w : PortValue) (room : ℕ) (start : Option Start) (here : slice_get d.ports i ≡ Some w) (within : i < length t.ifaces) where
-    pub begins_at : (o : Option Start) → IfSome o (IsTransmission w.rate w.delay time x) → IfSome (start_at i o) (StartsAt t time)
-    begins_at None h = tt
-    begins_at (Some z) h =
+    pub transmits_at : (o : Option Start) → IfSome o (IsTransmission w.rate w.delay time x) → IfSome (transmission_at i o) (TransmitsAt t time)
+    transmits_at None h = tt
+    transmits_at (Some z) h =
         let p = s.ports i w here in
         (within, subst (λ (y : ℕ × ℕ). IsTransmission y.0 y.1 time z.twin.packet z) (λ k. (p.rate k, p.delay k)) (subst (λ y. IsTransmission w.rate w.delay time y z) (sym h.packet) h))
 
     pub sends_by : e.nodes ≡ d.nodes
         → e.ports ≡ slice_set d.ports i (with_port w (offered (has_room w.limit) (takes w.rate) time x w.dropped w.busy).0 room)
         → e.sources ≡ d.sources
-        → packet_started start ≡ (offered (has_room w.limit) (takes w.rate) time x w.dropped w.busy).1
+        → transmitted_packet start ≡ (offered (has_room w.limit) (takes w.rate) time x w.dropped w.busy).1
         → IfSome start (IsTransmission w.rate w.delay time x)
-        → Sends t node port time (Some (i, x)) e (start_at i start)
-    sends_by nodes ports sources packet begins =
+        → Sends t node port time (Some (i, x)) e (transmission_at i start)
+    sends_by nodes ports sources packet transmits =
         let p = s.ports i w here in
         let same = same_offer t i w (port i) p time x in
         let after = port_after t i w (port i) p time (offered (has_room w.limit) (takes w.rate) time x w.dropped w.busy)
         (offered ((net_of t).room i) ((net_of t).tx i) time x (port i).dropped (port i).busy) room same in
         record {
           represented = λ n came follows. port_turned t d e node port s i _ _ nodes ports sources after;
-          start = λ n came follows. start_of_at i start ∙ ap (at_iface i) (packet ∙ same.2);
-          begins = begins_at start begins;
+          transmission = λ n came follows. transmission_of_at i start ∙ ap (at_iface i) (packet ∙ same.2);
+          transmits = transmits_at start transmits;
         }

@@ -13,14 +13,14 @@ use Rattle.nm_base.specs.Key.{key_cmp, key_of}
 use Rattle.nm_topology.specs.TopologyValue.{TopologyValue}
 use Rattle.nm_model.specs.EventList.{least, schedule}
 use Rattle.nm_model.specs.Lists.{nth, set_at}
-use Rattle.nm_model.specs.Run.{Effect, State, effect, in_record, made, next_events, start_events, step}
+use Rattle.nm_model.specs.Run.{Effect, State, effect, in_record, made, next_events, transmission_events, step}
 use Rattle.nm_forward.specs.State.{NodeStateValue}
 use Rattle.nm_forward.specs.Reaction.{reaction}
 use Rattle.nm_iface.specs.declared.port.Start.{Start}
 use Rattle.nm_traffic.specs.Source.{source_at}
 use Rattle.nm_sim.specs.Devices.{DevicesValue}
 use Rattle.nm_sim.specs.Tables.{AllAt}
-use Rattle.nm_sim.specs.Effects.{Reacts, Sends, start_of}
+use Rattle.nm_sim.specs.Effects.{Reacts, Sends, transmission_of}
 use Rattle.nm_sim.specs.Network.{net_of}
 use Rattle.nm_sim.specs.Part.{HasReacted, IsReady, IsUnderWay, PartValue, Performed, Represents, Taken}
 use Rattle.nm_sim.specs.Timelines.{AreFresh, TimelineValue, TimelineRepresents, everywhere}
@@ -96,15 +96,15 @@ module _ {L : Type 0} (pending : L → FinMap key_cmp (Event (List ℕ))) (t : T
     pub follows_fresh : Taken pending t k e None None p s → AreFresh (pending p.timeline.events) (next_events k.place k.number follows)
     follows_fresh h = subst (λ m. AreFresh m (next_events k.place k.number follows)) (sym h.events)
         (subst (λ o. AreFresh (remove s.pending k) (next_events k.place k.number o)) (sym same)
-        (second_fresh (remove s.pending k) (start_events (net_of t) k.time s.sent does_at.start) k.place k.number does_at.follows fresh apart))
+        (second_fresh (remove s.pending k) (transmission_events (net_of t) k.time s.sent does_at.transmission) k.place k.number does_at.follows fresh apart))
 
     -- and then those of the transmission that starts
-    pub start_fresh : (came : Option (ℕ × List ℕ)) (start : Option (ℕ × Start)) → start_of start ≡ does_at.start → Taken pending t k e came follows p s
-        → AreFresh (pending p.timeline.events) (start_events (net_of t) k.time s.sent (start_of start))
-    start_fresh came start begins h = subst (λ m. AreFresh m (start_events (net_of t) k.time s.sent (start_of start))) (sym h.events)
+    pub transmission_fresh : (came : Option (ℕ × List ℕ)) (start : Option (ℕ × Start)) → transmission_of start ≡ does_at.transmission → Taken pending t k e came follows p s
+        → AreFresh (pending p.timeline.events) (transmission_events (net_of t) k.time s.sent (transmission_of start))
+    transmission_fresh came start transmits h = subst (λ m. AreFresh m (transmission_events (net_of t) k.time s.sent (transmission_of start))) (sym h.events)
         (subst (λ (o : Option (ℕ × List ℕ) × Option (ℕ × List ℕ)). AreFresh (schedule everywhere (next_events k.place k.number o.1) (remove s.pending k))
-        (start_events (net_of t) k.time s.sent o.0)) (sym (λ i. (begins i, same i)))
-        (first_fresh (remove s.pending k) (start_events (net_of t) k.time s.sent does_at.start) k.place k.number does_at.follows fresh apart))
+        (transmission_events (net_of t) k.time s.sent o.0)) (sym (λ i. (transmits i, same i)))
+        (first_fresh (remove s.pending k) (transmission_events (net_of t) k.time s.sent does_at.transmission) k.place k.number does_at.follows fresh apart))
 
 -- what follows when source j hands a packet over
 pub fires_next : (t : TopologyValue) (s : State (List ℕ) NodeStateValue) (time j number : ℕ) (x : List ℕ)
@@ -146,7 +146,7 @@ module _ {L : Type 0} (pending : L → FinMap key_cmp (Event (List ℕ))) (room_
 -- and what it sends was offered to a port
 pub sends_on : {L : Type 0} (pending : L → FinMap key_cmp (Event (List ℕ))) (t : TopologyValue) (k : Key) (e : Event (List ℕ)) (came follows sent : Option (ℕ × List ℕ)) (start : Option (ℕ × Start))
     (node : ℕ → NodeStateValue) (p q : PartValue L) (s : State (List ℕ) NodeStateValue) → HasReacted pending t k e came follows sent node p s → Sends t node s.port k.time sent q.devices start
-    → q.timeline ≡ p.timeline → q.steps ≡ p.steps → IsUnderWay pending t k e (record { came = came; start = start; follows = follows }) q s
+    → q.timeline ≡ p.timeline → q.steps ≡ p.steps → IsUnderWay pending t k e (record { came = came; transmission = start; follows = follows }) q s
 sends_on pending t k e came follows sent start node p q s h o line steps = record {
   taken = taken_same pending t k e p q s h.taken line steps;
   does = h.does q.devices start o;

@@ -3,7 +3,8 @@ use Rattle.std.specs.Prelude.{◌≡◌, ◌⊎◌, ℕ, ◌≤◌, List, length
 use Rattle.nm_topology.specs.TopologyValue.{TopologyValue}
 use Rattle.nm_model.specs.Port.{Port}
 use Rattle.nm_forward.specs.State.{NodeStateValue, table_of}
-use Rattle.nm_iface.specs.PortValue.{PortValue, saturated}
+use Rattle.nm_base.specs.Count.{saturated}
+use Rattle.nm_iface.specs.PortValue.{PortValue}
 use Rattle.nm_traffic.specs.Source.{source_of}
 use Rattle.nm_traffic.specs.SourceValues.{SourceValue}
 use Rattle.nm_sim.specs.Tables.{AllAt}

@@ -17,7 +17,7 @@ use Rattle.nm_forward.specs.State.{NodeStateValue}
 use Rattle.nm_forward.specs.Reaction.{FitsOrigin, reaction}
 use Rattle.nm_iface.specs.PortValue.{PortValue}
 use Rattle.nm_iface.specs.declared.port.Start.{Start}
-use Rattle.nm_iface.specs.Starts.{IsTransmission}
+use Rattle.nm_iface.specs.Offers.{IsTransmission}
 use Rattle.nm_sim.specs.Devices.{DevicesValue, DevicesRepresent}
 use Rattle.nm_sim.specs.Network.{far_of, net_of}
 
@@ -42,31 +42,31 @@ CanHappen t d (Complete i) number (Delivery x) = ⊥
 CanHappen t d (Fire j) number Completion = ⊥
 
 -- the packet whose transmission starts, and where
-abbrev pub start_of : Option (ℕ × Start) → Option (ℕ × List ℕ)
-start_of None = None
-start_of (Some s) = Some (s.0, s.1.twin.packet)
+abbrev pub transmission_of : Option (ℕ × Start) → Option (ℕ × List ℕ)
+transmission_of None = None
+transmission_of (Some s) = Some (s.0, s.1.twin.packet)
 
 -- a start, and where
-abbrev pub start_at : ℕ → Option Start → Option (ℕ × Start)
-start_at i None = None
-start_at i (Some s) = Some (i, s)
+abbrev pub transmission_at : ℕ → Option Start → Option (ℕ × Start)
+transmission_at i None = None
+transmission_at i (Some s) = Some (i, s)
 
 -- the transmission that starts at this time, by an interface that is there
-abbrev pub StartsAt : TopologyValue → ℕ → ℕ × Start → Type 0
-StartsAt t time s = (s.0 < length t.ifaces) × IsTransmission (far_of t s.0).rate (far_of t s.0).delay time s.1.twin.packet s.1
+abbrev pub TransmitsAt : TopologyValue → ℕ → ℕ × Start → Type 0
+TransmitsAt t time s = (s.0 < length t.ifaces) × IsTransmission (far_of t s.0).rate (far_of t s.0).delay time s.1.twin.packet s.1
 
 -- What was done beside the change of a node and of one port: the packet that arrived, and where, the transmission that starts, and where, and
 -- the source's next packet, and when it comes.
 pub record Done : Type 0 where
   pub came : Option (ℕ × List ℕ)
-  pub start : Option (ℕ × Start)
+  pub transmission : Option (ℕ × Start)
   pub follows : Option (ℕ × List ℕ)
 
 -- what was done is this effect
 pub record IsEffect (t : TopologyValue) (time : ℕ) (e : Done) (m : Effect (List ℕ) NodeStateValue) : Type 0 where
   pub came : e.came ≡ m.came
-  pub start : start_of e.start ≡ m.start
-  pub begins : IfSome e.start (StartsAt t time)
+  pub transmission : transmission_of e.transmission ≡ m.transmission
+  pub transmits : IfSome e.transmission (TransmitsAt t time)
   pub follows : e.follows ≡ m.follows
 
 -- after an event of this key, done where nodes and ports had these states
@@ -76,10 +76,10 @@ pub record Does (t : TopologyValue) (node : ℕ → NodeStateValue) (port : ℕ 
   pub does : IsEffect t k.time e (effect (net_of t) node port k.time k.place k.number event)
 
 -- after a node has sent this, or nothing
-pub record Sends (t : TopologyValue) (node : ℕ → NodeStateValue) (port : ℕ → Port (List ℕ)) (time : ℕ) (sent : Option (ℕ × List ℕ)) (d : DevicesValue) (begun : Option (ℕ × Start)) : Type 0 where
+pub record Sends (t : TopologyValue) (node : ℕ → NodeStateValue) (port : ℕ → Port (List ℕ)) (time : ℕ) (sent : Option (ℕ × List ℕ)) (d : DevicesValue) (sending : Option (ℕ × Start)) : Type 0 where
   pub represented : (n : NodeStateValue) (came follows : Option (ℕ × List ℕ)) → DevicesRepresent t d node (turned port (sent_on (net_of t) port time came n sent follows).turn)
-  pub start : (n : NodeStateValue) (came follows : Option (ℕ × List ℕ)) → start_of begun ≡ (sent_on (net_of t) port time came n sent follows).start
-  pub begins : IfSome begun (StartsAt t time)
+  pub transmission : (n : NodeStateValue) (came follows : Option (ℕ × List ℕ)) → transmission_of sending ≡ (sent_on (net_of t) port time came n sent follows).transmission
+  pub transmits : IfSome sending (TransmitsAt t time)
 
 -- after node v has reacted to a packet
 pub record Reacts (t : TopologyValue) (node : ℕ → NodeStateValue) (port : ℕ → Port (List ℕ)) (v : ℕ) (o : Origin) (x : List ℕ) (d : DevicesValue) (sent : Option (ℕ × List ℕ)) : Type 0 where

@@ -7,7 +7,7 @@ use Rattle.nm_topology.specs.Accepted.{owners_of, parts_of}
 use Rattle.nm_topology.specs.TopologyValue.{TopologyValue}
 use Rattle.nm_forward.specs.State.{NodeStateValue, first_state}
 use Rattle.nm_forward.specs.Reaction.{reaction}
-use Rattle.nm_iface.specs.PortValue.{has_room, takes}
+use Rattle.nm_iface.specs.PortValue.{QueueLimit, has_room, takes}
 use Rattle.nm_iface.specs.Transmission.{transmission_time}
 use Rattle.nm_traffic.specs.Source.{source_at}
 
@@ -19,12 +19,12 @@ far_from i (Some x) = x.far
 abbrev pub far_of : TopologyValue → ℕ → Far
 far_of t i = far_from i (slice_get t.ifaces i)
 
--- packets that may wait
-abbrev pub queue_from : Option IfaceValue → ℕ
-queue_from None = 0
-queue_from (Some x) = x.queue
+-- how much may wait: packets, and octets if these are limited too
+abbrev pub queue_from : Option IfaceValue → QueueLimit
+queue_from None = record { packets = 0; octets = None }
+queue_from (Some x) = record { packets = x.queue; octets = x.queue_octets }
 
-abbrev pub queue_of : TopologyValue → ℕ → ℕ
+abbrev pub queue_of : TopologyValue → ℕ → QueueLimit
 queue_of t i = queue_from (slice_get t.ifaces i)
 
 -- Times are in nanoseconds. A node that isn't there is in no partition.

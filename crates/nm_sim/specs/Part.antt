@@ -14,7 +14,7 @@ use Rattle.nm_forward.specs.declared.counter.Counter.{Counter}
 use Rattle.nm_forward.specs.Counter.{counter_number}
 use Rattle.nm_forward.specs.State.{NodeStateValue}
 use Rattle.nm_iface.specs.declared.port.Start.{Start}
-use Rattle.nm_iface.specs.PortValue.{saturated}
+use Rattle.nm_base.specs.Count.{saturated}
 use Rattle.nm_sim.specs.Network.{net_of}
 use Rattle.nm_sim.specs.Devices.{DevicesValue, DevicesRepresent}
 use Rattle.nm_sim.specs.Effects.{Does, Done, IsPlaceIn, Sends}
@@ -66,7 +66,7 @@ pub record HasReacted {L : Type 0} (pending : L → FinMap key_cmp (Event (List 
   pub taken : Taken pending t k e came follows p s
   pub represented : DevicesRepresent t p.devices node s.port
   pub does : (d : DevicesValue) (start : Option (ℕ × Start)) → Sends t node s.port k.time sent d start
-      → Does t s.node s.port k e d (record { came = came; start = start; follows = follows })
+      → Does t s.node s.port k e d (record { came = came; transmission = start; follows = follows })
 
 -- it was done, but that no transmission started yet
 pub record IsUnderWay {L : Type 0} (pending : L → FinMap key_cmp (Event (List ℕ))) (t : TopologyValue) (k : Key) (e : Event (List ℕ))

@@ -16,7 +16,7 @@ ghost use Rattle.nm_sim.specs.Devices.{DevicesRepresent, IsPortOf, IsSame, Devic
 ghost use Rattle.nm_traffic.specs.Source.{source_at, source_of};
 ghost use Rattle.nm_forward.specs.Counter.{counter_number};
 ghost use Rattle.std.specs.Option.{option_map};
-ghost use Rattle.nm_sim.specs.Effects.{Does, IsBusy, Reacts, Sends, start_at as start_at_iface};
+ghost use Rattle.nm_sim.specs.Effects.{Does, IsBusy, Reacts, Sends, transmission_at as transmission_at_iface};
 
 use crate::fired::Fired;
 use nm_base::{Event, IfaceNo, Key, NodeNo, Origin, Packet, Place, SourceNo, Time};
@@ -45,9 +45,17 @@ impl Model for Devices {
 
     ghost Value = { DevicesValue };
 
-    ghost view = { λ d. record { nodes = d.nodes.items; ports = d.ports.items; sources = d.sources.items; used = d.used } };
+    ghost view = { λ d. record
+        { nodes = d.nodes.items; ports = d.ports.items; sources = d.sources.items; used = d.used } };
 
-    ghost invariant = { λ d. HaveRoom (record { nodes = d.nodes.items; ports = d.ports.items; sources = d.sources.items; used = d.used }) };
+    ghost invariant = { λ d. HaveRoom
+        (record {
+          nodes = d.nodes.items;
+          ports = d.ports.items;
+          sources = d.sources.items;
+          used =
+              d.used;
+        }) };
 }
 
 /// All nodes at the start of a run.
@@ -55,7 +63,7 @@ fn first_nodes(alloc: Global, topology: &Topology) -> Result<Vec<NodeState>, All
     ensures count { IfOk result (λ v. length v.items ≡ length topology.now.nodes) }
     ensures value { IfOk result (λ v. AllAt (λ i n. n ≡ first_state topology.now i) v.items) }
 {
-    accepted_topologies_are_in_order(topology);
+    accepted_topologies_are_in_order(topology); // law: nodes have numbers of 32 bits
     let count = topology.nodes().len();
     let mut nodes = Vec::with_capacity(alloc, count)?;
     for number in 0..count {
@@ -70,11 +78,17 @@ fn first_ports(alloc: Global, topology: &Topology) -> Result<Vec<Port>, AllocErr
     ensures value { IfOk result (λ v. AllAt (λ i w. IsPortOf topology.now i w idle_port) v.items) }
     ensures room { IfOk result (λ v. AllAt (λ i w. 1 ≤ w.room) v.items) }
 {
-    accepted_topologies_are_in_order(topology);
+    accepted_topologies_are_in_order(topology); // law: rates and delays are within their limits
     let mut ports = Vec::with_capacity(alloc, topology.ifaces().len())?;
     for iface in topology.ifaces() {
         let far = iface.far();
-        let mut port = Port::new(alloc, iface.queue(), far.rate, far.delay);
+        let mut port = Port::new(
+            alloc,
+            iface.queue(),
+            iface.queue_octets(),
+            far.rate,
+            far.delay,
+        );
         port.reserve_one()?;
         ports.push(port)?;
     }
@@ -86,7 +100,7 @@ fn first_sources(alloc: Global, topology: &Topology) -> Result<Vec<Source>, Allo
     ensures count { IfOk result (λ v. length v.items ≡ length topology.now.sources) }
     ensures value { IfOk result (λ v. AllAt (λ j s. source_of topology.now j ≡ Some s) v.items) }
 {
-    accepted_topologies_are_in_order(topology);
+    accepted_topologies_are_in_order(topology); // law: sources have numbers of 32 bits
     let count = topology.sources().len();
     let mut sources = Vec::with_capacity(alloc, count)?;
     for number in 0..count {
@@ -96,18 +110,18 @@ fn first_sources(alloc: Global, topology: &Topology) -> Result<Vec<Source>, Allo
 }
 
 /// The node of a source.
-fn node_of(topology: &Topology, source: SourceNo) -> NodeNo
+fn node_of_source(topology: &Topology, source: SourceNo) -> NodeNo
     requires { source < length topology.now.sources }
     ensures there { result < length topology.now.nodes }
     ensures node { (net_of topology.now).source_node source ≡ result }
 {
-    accepted_topologies_are_in_order(topology);
+    accepted_topologies_are_in_order(topology); // law: a source's node is there
     topology.sources()[source.index()].node
 }
 
-/// A start, and where.
-fn start_at(iface: IfaceNo, start: Option<Start>) -> Option<(IfaceNo, Start)>
-    ensures { result ≡ start_at_iface iface start }
+/// A transmission that starts, and where.
+fn transmission_at(iface: IfaceNo, start: Option<Start>) -> Option<(IfaceNo, Start)>
+    ensures { result ≡ transmission_at_iface iface start }
 {
     match start {
         Some(start) => Some((iface, start)),
@@ -118,7 +132,8 @@ fn start_at(iface: IfaceNo, start: Option<Start>) -> Option<(IfaceNo, Start)>
 impl Devices {
     /// The devices of a topology at the start of a run.
     pub fn new(alloc: Global, topology: &Topology) -> Result<Self, AllocError>
-        ensures { IfOk result (λ d. DevicesRepresent topology.now d (first_state topology.now) (λ i. idle_port)) }
+        ensures { IfOk result
+            (λ d. DevicesRepresent topology.now d (first_state topology.now) (λ i. idle_port)) }
     {
         Ok(Devices {
             nodes: first_nodes(alloc, topology)?,
@@ -144,7 +159,8 @@ impl Devices {
 
     /// What the node counted, if it is there.
     pub fn counter(&self, node: NodeNo, counter: Counter) -> Option<u64>
-        ensures { result ≡ option_map (λ n. slice_index n.counters (counter_number counter)) (slice_get self.now.nodes node) }
+        ensures { result ≡ option_map (λ n. slice_index n.counters (counter_number counter))
+            (slice_get self.now.nodes node) }
     {
         match self.nodes.get(node.index()) {
             Some(state) => Some(state.counter(counter)),
@@ -152,7 +168,8 @@ impl Devices {
         }
     }
 
-    /// How many packets were dropped at the interface, if it is there. It stops at the greatest `u64`.
+    /// How many packets were dropped at the interface, if it is there. It stops at the greatest
+    /// `u64`.
     pub fn dropped(&self, iface: IfaceNo) -> Option<u64>
         ensures { result ≡ option_map (λ w. w.dropped) (slice_get self.now.ports iface) }
     {
@@ -180,7 +197,8 @@ impl Devices {
         Ok(())
     }
 
-    /// What a node sends is offered to its interface: the transmission that starts, and where, if one does.
+    /// What a node sends is offered to its interface: the transmission that starts, and where, if
+    /// one does.
     #[inline(always)]
     pub fn offer(
         &mut self,
@@ -192,7 +210,8 @@ impl Devices {
         requires own { IfSome (sent_of reaction) (λ s. s.0 < length topology.now.ifaces) }
         requires count { length self.old.ports ≡ length topology.now.ifaces }
         requires room { AllAt (λ i w. 1 ≤ w.room) self.old.ports }
-        ensures sends { (node : ℕ → NodeStateValue) (port : ℕ → PortState (List ℕ)) → DevicesRepresent topology.now self.old node port
+        ensures sends { (node : ℕ → NodeStateValue) (port : ℕ → PortState (List ℕ))
+            → DevicesRepresent topology.now self.old node port
             → Sends topology.now node port time (sent_of reaction) self.new result }
     {
         let Reaction::Send(iface, twin) = reaction else {
@@ -219,11 +238,14 @@ impl Devices {
         requires represented { DevicesRepresentSome topology.now self.old }
         ensures err { OnErr result (self.new ≡ self.old) }
         ensures ports { self.new.ports ≡ self.old.ports }
-        ensures own { IfOk result (λ r. IfSome (sent_of r) (λ s. s.0 < length topology.now.ifaces)) }
-        ensures reacts { (states : ℕ → NodeStateValue) (ports : ℕ → PortState (List ℕ)) → DevicesRepresent topology.now self.old states ports
-            → IfOk result (λ r. Reacts topology.now states ports node origin packet.now self.new (sent_of r)) }
+        ensures own { IfOk result
+            (λ r. IfSome (sent_of r) (λ s. s.0 < length topology.now.ifaces)) }
+        ensures reacts { (states : ℕ → NodeStateValue) (ports : ℕ → PortState (List ℕ))
+            → DevicesRepresent topology.now self.old states ports
+            → IfOk result
+            (λ r. Reacts topology.now states ports node origin packet.now self.new (sent_of r)) }
     {
-        a_node_sends_by_its_own_interfaces(topology);
+        a_node_sends_by_its_own_interfaces(topology); // law: what is sent leaves by an interface
         react(
             alloc,
             topology,
@@ -233,7 +255,8 @@ impl Devices {
         )
     }
 
-    /// What the node of an interface does with a packet that arrives there. An `Err` changes nothing.
+    /// What the node of an interface does with a packet that arrives there. An `Err` changes
+    /// nothing.
     pub fn react_to_arrival(
         &mut self,
         alloc: Global,
@@ -245,18 +268,23 @@ impl Devices {
         requires represented { DevicesRepresentSome topology.now self.old }
         ensures err { OnErr result (self.new ≡ self.old) }
         ensures ports { self.new.ports ≡ self.old.ports }
-        ensures own { IfOk result (λ r. IfSome (sent_of r) (λ s. s.0 < length topology.now.ifaces)) }
-        ensures reacts { (states : ℕ → NodeStateValue) (ports : ℕ → PortState (List ℕ)) → DevicesRepresent topology.now self.old states ports
-            → IfOk result (λ r. Reacts topology.now states ports ((net_of topology.now).owner iface) (Arrival iface) packet.now
+        ensures own { IfOk result
+            (λ r. IfSome (sent_of r) (λ s. s.0 < length topology.now.ifaces)) }
+        ensures reacts { (states : ℕ → NodeStateValue) (ports : ℕ → PortState (List ℕ))
+            → DevicesRepresent topology.now self.old states ports
+            → IfOk result
+            (λ r. Reacts topology.now states ports ((net_of topology.now).owner iface)
+            (Arrival iface) packet.now
             self.new (sent_of r)) }
     {
-        accepted_topologies_are_in_order(topology);
+        accepted_topologies_are_in_order(topology); // law: an interface's node is there
         let node = topology.iface(iface).node();
         let origin = Origin::Arrival(iface);
         self.react(alloc, topology, node, origin, packet)
     }
 
-    /// A transmission is complete, and that of the packet that waits first starts, if one does: which, and where.
+    /// A transmission is complete, and that of the packet that waits first starts, if one does:
+    /// which, and where.
     pub fn complete(
         &mut self,
         topology: &Topology,
@@ -269,15 +297,16 @@ impl Devices {
         requires count { length self.old.ports ≡ length topology.now.ifaces }
         ensures does { (states : ℕ → NodeStateValue) (ports : ℕ → PortState (List ℕ)) (number : ℕ)
             → DevicesRepresent topology.now self.old states ports
-            → Does topology.now states ports (key_of time (Complete iface) number) Completion self.new
-            (record { came = None; start = result; follows = None }) }
+            → Does topology.now states ports
+            (key_of time (Complete iface) number) Completion self.new
+            (record { came = None; transmission = result; follows = None }) }
     {
         let start = self.ports[iface.index()].done(time);
-        start_at(iface, start)
+        transmission_at(iface, start)
     }
 
-    /// What the node of a source does with a packet that the source hands over, and the source's next packet. An `Err`
-    /// changes nothing.
+    /// What the node of a source does with a packet that the source hands over, and the source's
+    /// next packet. An `Err` changes nothing.
     pub fn react_to_source(
         &mut self,
         alloc: Global,
@@ -292,14 +321,18 @@ impl Devices {
         requires represented { DevicesRepresentSome topology.now self.old }
         ensures err { OnErr result (self.new ≡ self.old) }
         ensures ports { self.new.ports ≡ self.old.ports }
-        ensures own { IfOk result (λ f. IfSome (sent_of f.reaction) (λ s. s.0 < length topology.now.ifaces)) }
+        ensures own { IfOk result
+            (λ f. IfSome (sent_of f.reaction) (λ s. s.0 < length topology.now.ifaces)) }
         ensures follows { IfOk result (λ f. f.follows ≡ source_at topology.now source (number + 1)) }
-        ensures reacts { (states : ℕ → NodeStateValue) (ports : ℕ → PortState (List ℕ)) → DevicesRepresent topology.now self.old states ports
-            → IfOk result (λ f. Reacts topology.now states ports ((net_of topology.now).source_node source) (FromSource source)
+        ensures reacts { (states : ℕ → NodeStateValue) (ports : ℕ → PortState (List ℕ))
+            → DevicesRepresent topology.now self.old states ports
+            → IfOk result
+            (λ f. Reacts topology.now states ports ((net_of topology.now).source_node source)
+            (FromSource source)
             packet.now self.new (sent_of f.reaction)) }
     {
         let follows = self.sources[source.index()].next(alloc, number + 1)?;
-        let node = node_of(topology, source);
+        let node = node_of_source(topology, source);
         let origin = Origin::Source(source);
         let reaction = self.react(alloc, topology, node, origin, packet)?;
         Ok(Fired { reaction, follows })

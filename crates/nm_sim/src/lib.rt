@@ -1,4 +1,5 @@
-//! The simulator with one event list: a part of a simulation goes on event by event, and its trace is that of the network.
+//! The simulator with one event list: a part of a simulation goes on event by event, and its trace
+//! is that of the network.
 #![tactic(auto)]
 
 mod devices;

@@ -66,11 +66,12 @@ fn first_timeline<L: EventList + Drop>(
 ) -> Result<Timeline<L>, AllocError>
     requires { DevicesRepresentSome topology.now devices.now }
     ensures events { IfOk result (λ l. L.pending l.events
-        ≡ schedule everywhere (source_events (net_of topology.now) (length topology.now.sources)) empty) }
+        ≡ schedule everywhere
+        (source_events (net_of topology.now) (length topology.now.sources)) empty) }
     ensures sent { IfOk result (λ l. l.sent ≡ replicate (length topology.now.ifaces) 0) }
     ensures records { IfOk result (λ l. l.records ≡ []) }
 {
-    accepted_topologies_are_in_order(topology);
+    accepted_topologies_are_in_order(topology); // law: sources have numbers of 32 bits
     let mut timeline = Timeline::new(alloc, topology.ifaces().len())?;
     let count = topology.sources().len();
     for number in 0..count {
@@ -91,11 +92,12 @@ impl<L: EventList> Part<L> {
     pub fn start(alloc: Global, topology: &Topology) -> Result<Self, AllocError>
     where
         L: Drop,
-        ensures represents { IfOk result (λ p. Represents L.pending topology.now p (start (net_of topology.now) everywhere [])) }
+        ensures represents { IfOk result
+            (λ p. Represents L.pending topology.now p (start (net_of topology.now) everywhere [])) }
         ensures steps { IfOk result (λ p. p.steps ≡ 0) }
     {
-        every_topology_is_a_network(topology);
-        every_state_is_orderly::<Packet, NodeState>();
+        every_topology_is_a_network(topology); // law: `net_of` is a network of the model
+        every_state_is_orderly::<Packet, NodeState>(); // law: the first state is orderly
         let devices = Devices::new(alloc, topology)?;
         let timeline = first_timeline(alloc, topology, &devices)?;
         Ok(Part {
@@ -105,8 +107,8 @@ impl<L: EventList> Part<L> {
         })
     }
 
-    /// Does the event of the least key, if its time is before `before`, which is at most the network's `stop`: `Some` of
-    /// that key, or `None` where nothing before `before` is to come.
+    /// Does the event of the least key, if its time is before `before`, which is at most the
+    /// network's `stop`: `Some` of that key, or `None` where nothing before `before` is to come.
     ///
     /// # Errors
     ///
@@ -160,7 +162,8 @@ impl<L: EventList> Part<L> {
 
     /// What the node counted, if it is there.
     pub fn counter(&self, node: NodeNo, counter: Counter) -> Option<u64>
-        ensures { (t : TopologyValue) (s : State (List ℕ) NodeStateValue) → Represents L.pending t self.now s
+        ensures { (t : TopologyValue) (s : State (List ℕ) NodeStateValue)
+            → Represents L.pending t self.now s
             → result ≡ count_at t s node counter }
     {
         self.devices.counter(node, counter)
@@ -168,7 +171,8 @@ impl<L: EventList> Part<L> {
 
     /// How many packets were dropped at the interface, if it is there.
     pub fn dropped(&self, iface: IfaceNo) -> Option<u64>
-        ensures { (t : TopologyValue) (s : State (List ℕ) NodeStateValue) → Represents L.pending t self.now s
+        ensures { (t : TopologyValue) (s : State (List ℕ) NodeStateValue)
+            → Represents L.pending t self.now s
             → result ≡ drops_at t s iface }
     {
         self.devices.dropped(iface)
@@ -198,23 +202,28 @@ impl<L: EventList> Part<L> {
         self.timeline.into_records()
     }
 
-    /// Does the event of the least key, for which there is memory. An `Err` leaves the event where it was.
+    /// Does the event of the least key, for which there is memory. An `Err` leaves the event where
+    /// it was.
     #[inline(always)]
     fn perform(&mut self, alloc: Global, topology: &Topology) -> Result<(), AllocError>
         requires least { (s : State (List ℕ) NodeStateValue) × (e : EventKey × PendingEvent (List ℕ))
-            × Represents L.pending topology.now self.old s × (least s.pending ≡ Some e) × (e.0.time < topology.now.stop) }
+            × Represents L.pending topology.now self.old s × (least s.pending ≡ Some e)
+            × (e.0.time < topology.now.stop) }
         requires steps { self.old.steps < 2 ^ 62 }
         requires ports { AllAt (λ i w. 1 ≤ w.room) self.old.devices.ports }
         requires room { 2 ≤ L.room self.old.timeline.events }
         requires spare { 2 ≤ self.old.timeline.spare }
-        ensures ok { OnOk result ((s : State (List ℕ) NodeStateValue) → Represents L.pending topology.now self.old s
-            → Represents L.pending topology.now self.new (step (net_of topology.now) everywhere s)) }
-        ensures err { OnErr result ((s : State (List ℕ) NodeStateValue) → Represents L.pending topology.now self.old s
+        ensures ok { OnOk result
+            ((s : State (List ℕ) NodeStateValue) → Represents L.pending topology.now self.old s
+            → Represents L.pending topology.now self.new
+            (step (net_of topology.now) everywhere s)) }
+        ensures err { OnErr result
+            ((s : State (List ℕ) NodeStateValue) → Represents L.pending topology.now self.old s
             → Represents L.pending topology.now self.new s) }
         ensures one { OnOk result (self.new.steps ≡ self.old.steps + 1) }
         ensures none { OnErr result (self.new.steps ≡ self.old.steps) }
     {
-        accepted_topologies_are_in_order(topology);
+        accepted_topologies_are_in_order(topology); // law: `stop` is within its limit
         let Some((key, event)) = self.timeline.take_least() else {
             unreachable!()
         };
@@ -230,11 +239,12 @@ impl<L: EventList> Part<L> {
         key: Key,
         event: Event,
     ) -> Result<(), AllocError>
-        requires { (s : State (List ℕ) NodeStateValue) × IsReady L.pending L.room topology.now key event self.old s }
+        requires { (s : State (List ℕ) NodeStateValue)
+            × IsReady L.pending L.room topology.now key event self.old s }
         ensures { Performed L.pending L.room topology.now key event self.old self.new result }
     {
-        accepted_topologies_are_in_order(topology);
-        source_times_rise(topology);
+        accepted_topologies_are_in_order(topology); // law: the far end is there
+        source_times_rise(topology); // law: packets have octets
         let Key {
             time,
             place,
@@ -268,8 +278,10 @@ impl<L: EventList> Part<L> {
         packet: Packet,
     ) -> Result<(), AllocError>
         requires { (s : State (List ℕ) NodeStateValue)
-            × IsReady L.pending L.room topology.now (key_of time (Arrive iface) number) (Delivery packet) self.old s }
-        ensures { Performed L.pending L.room topology.now (key_of time (Arrive iface) number) (Delivery packet)
+            × IsReady L.pending L.room topology.now (key_of time (Arrive iface) number)
+            (Delivery packet) self.old s }
+        ensures { Performed L.pending L.room topology.now (key_of time (Arrive iface) number)
+            (Delivery packet)
             self.old self.new result }
     {
         let Ok(reaction) = self
@@ -294,9 +306,11 @@ impl<L: EventList> Part<L> {
     #[inline(always)]
     fn complete(&mut self, topology: &Topology, time: Time, iface: IfaceNo)
         requires { (number : ℕ) × (s : State (List ℕ) NodeStateValue)
-            × IsReady L.pending L.room topology.now (key_of time (Complete iface) number) Completion self.old s }
+            × IsReady L.pending L.room topology.now
+            (key_of time (Complete iface) number) Completion self.old s }
         ensures { (number : ℕ)
-            → Performed L.pending L.room topology.now (key_of time (Complete iface) number) Completion self.old self.new (Ok tt) }
+            → Performed L.pending L.room topology.now
+            (key_of time (Complete iface) number) Completion self.old self.new (Ok tt) }
     {
         let start = self.devices.complete(topology, time, iface);
         self.finish(topology, time, start);
@@ -316,12 +330,14 @@ impl<L: EventList> Part<L> {
         requires fits { FitsOrigin topology.now (FromSource source) packet }
         requires number { number < 2 ^ 63 }
         requires ready { (s : State (List ℕ) NodeStateValue)
-            × IsReady L.pending L.room topology.now (key_of time (Fire source) number) (Delivery packet) self.old s }
-        ensures { Performed L.pending L.room topology.now (key_of time (Fire source) number) (Delivery packet)
+            × IsReady L.pending L.room topology.now (key_of time (Fire source) number)
+            (Delivery packet) self.old s }
+        ensures { Performed L.pending L.room topology.now (key_of time (Fire source) number)
+            (Delivery packet)
             self.old self.new result }
     {
-        every_topology_is_a_network(topology);
-        new_keys_are_new::<Packet, NodeState>();
+        every_topology_is_a_network(topology); // law: `net_of` is a network of the model
+        new_keys_are_new::<Packet, NodeState>(); // law: no event to come has the next key
         let place = Place::Fire(source);
         let key = Key {
             time,
@@ -340,7 +356,8 @@ impl<L: EventList> Part<L> {
         Ok(())
     }
 
-    /// The event that is under way is done: what its node sends is offered to a port, and a transmission starts, if one does.
+    /// The event that is under way is done: what its node sends is offered to a port, and a
+    /// transmission starts, if one does.
     fn send(&mut self, topology: &Topology, time: Time, reaction: Reaction)
         requires time { time ≤ MAX_TIME }
         requires own { IfSome (sent_of reaction) (λ z. z.0 < length topology.now.ifaces) }
@@ -348,12 +365,16 @@ impl<L: EventList> Part<L> {
         requires ports { AllAt (λ i w. 1 ≤ w.room) self.old.devices.ports }
         requires room { 2 ≤ L.room self.old.timeline.events }
         requires spare { 1 ≤ self.old.timeline.spare }
-        requires reacted { (q : EventPlace) × (n : ℕ) × (e : PendingEvent (List ℕ)) × (came follows : Option (ℕ × List ℕ))
+        requires reacted { (q : EventPlace) × (n : ℕ) × (e : PendingEvent (List ℕ))
+            × (came follows : Option (ℕ × List ℕ))
             × (node : ℕ → NodeStateValue) × (s : State (List ℕ) NodeStateValue)
-            × HasReacted L.pending topology.now (key_of time q n) e came follows (sent_of reaction) node self.old s }
-        ensures represents { (q : EventPlace) (n : ℕ) (e : PendingEvent (List ℕ)) (came follows : Option (ℕ × List ℕ))
+            × HasReacted L.pending topology.now (key_of time q n) e came follows
+            (sent_of reaction) node self.old s }
+        ensures represents { (q : EventPlace) (n : ℕ) (e : PendingEvent (List ℕ))
+            (came follows : Option (ℕ × List ℕ))
             (node : ℕ → NodeStateValue) (s : State (List ℕ) NodeStateValue)
-            → HasReacted L.pending topology.now (key_of time q n) e came follows (sent_of reaction) node self.old s
+            → HasReacted L.pending topology.now (key_of time q n) e came follows
+            (sent_of reaction) node self.old s
             → Represents L.pending topology.now self.new (step (net_of topology.now) everywhere s) }
         ensures steps { self.new.steps ≡ self.old.steps + 1 }
     {
@@ -367,19 +388,23 @@ impl<L: EventList> Part<L> {
         requires steps { self.old.steps < 2 ^ 62 }
         requires room { 2 ≤ L.room self.old.timeline.events }
         requires spare { 1 ≤ self.old.timeline.spare }
-        requires under_way { (q : EventPlace) × (n : ℕ) × (e : PendingEvent (List ℕ)) × (came follows : Option (ℕ × List ℕ))
-            × (s : State (List ℕ) NodeStateValue) × IsUnderWay L.pending topology.now (key_of time q n) e
-            (record { came = came; start = start; follows = follows }) self.old s }
-        ensures represents { (q : EventPlace) (n : ℕ) (e : PendingEvent (List ℕ)) (came follows : Option (ℕ × List ℕ))
-            (s : State (List ℕ) NodeStateValue) → IsUnderWay L.pending topology.now (key_of time q n) e
-            (record { came = came; start = start; follows = follows }) self.old s
+        requires under_way { (q : EventPlace) × (n : ℕ) × (e : PendingEvent (List ℕ))
+            × (came follows : Option (ℕ × List ℕ))
+            × (s : State (List ℕ) NodeStateValue)
+            × IsUnderWay L.pending topology.now (key_of time q n) e
+            (record { came = came; transmission = start; follows = follows }) self.old s }
+        ensures represents { (q : EventPlace) (n : ℕ) (e : PendingEvent (List ℕ))
+            (came follows : Option (ℕ × List ℕ))
+            (s : State (List ℕ) NodeStateValue)
+            → IsUnderWay L.pending topology.now (key_of time q n) e
+            (record { came = came; transmission = start; follows = follows }) self.old s
             → Represents L.pending topology.now self.new (step (net_of topology.now) everywhere s) }
         ensures steps { self.new.steps ≡ self.old.steps + 1 }
     {
-        every_topology_is_a_network(topology);
-        accepted_topologies_are_in_order(topology);
-        every_state_is_orderly::<Packet, NodeState>();
-        new_keys_are_new::<Packet, NodeState>();
+        every_topology_is_a_network(topology); // law: `net_of` is a network of the model
+        accepted_topologies_are_in_order(topology); // law: a link and its two ends agree
+        every_state_is_orderly::<Packet, NodeState>(); // law: the state after is orderly
+        new_keys_are_new::<Packet, NodeState>(); // law: no event to come has a new key
         self.timeline.schedule_transmission(topology, time, start);
         self.steps += 1;
     }

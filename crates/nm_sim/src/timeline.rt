@@ -8,9 +8,9 @@ ghost use Rattle.nm_base.specs.declared.key.Place.TheVariants.{Arrive, Complete}
 ghost use Rattle.nm_base.specs.declared.event.Event.TheVariants.{Completion, Delivery};
 ghost use Rattle.nm_base.specs.declared.record.Dir.TheVariants.{In, Out};
 ghost use Rattle.nm_model.specs.EventList.{is_before, least};
-ghost use Rattle.nm_model.specs.Run.{first_event, in_record, out_record, next_events, start_events, sent_after};
+ghost use Rattle.nm_model.specs.Run.{first_event, in_record, out_record, next_events, transmission_events, sent_after};
 ghost use Rattle.nm_model.specs.EventList.{schedule};
-ghost use Rattle.nm_sim.specs.Effects.{StartsAt, start_of};
+ghost use Rattle.nm_sim.specs.Effects.{TransmitsAt, transmission_of};
 ghost use Rattle.nm_sim.specs.Network.{net_of};
 ghost use Rattle.nm_sim.specs.Timelines.{AreFresh, IsFew, TimelineRepresents, everywhere};
 
@@ -23,8 +23,8 @@ use nm_traffic::SourcePacket;
 use std::alloc::{AllocError, Global};
 use std::marker::Model;
 
-/// What lies ahead and what has passed: the events to come, how many packets were put on each interface so far, by the
-/// interface that receives them, and the records.
+/// What lies ahead and what has passed: the events to come, how many packets were put on each
+/// interface so far, by the interface that receives them, and the records.
 #[derive(Drop)]
 pub struct Timeline<L> {
     events: L,
@@ -95,7 +95,8 @@ impl<L: EventList> Timeline<L> {
     /// Takes the event of the least key out.
     pub fn take_least(&mut self) -> Option<(Key, Event)>
         ensures least { result ≡ least (L.pending self.old.events) }
-        ensures rest { IfSome result (λ e. L.pending self.new.events ≡ remove (L.pending self.old.events) e.0) }
+        ensures rest { IfSome result
+            (λ e. L.pending self.new.events ≡ remove (L.pending self.old.events) e.0) }
         ensures none { IfNone result (L.pending self.new.events ≡ L.pending self.old.events) }
         ensures room { IfSome result (λ e. L.room self.new.events ≡ L.room self.old.events + 1) }
         ensures others { self.new ≡ record self.old { events = self.new.events } }
@@ -158,7 +159,8 @@ impl<L: EventList> Timeline<L> {
         requires room { 1 ≤ L.room self.old.events }
         requires fresh { AreFresh (L.pending self.old.events) (next_events key.place key.number follows) }
         ensures events { L.pending self.new.events
-            ≡ schedule everywhere (next_events key.place key.number follows) (L.pending self.old.events) }
+            ≡ schedule everywhere (next_events key.place key.number follows)
+            (L.pending self.old.events) }
         ensures room { L.room self.old.events ≤ L.room self.new.events + 1 }
         ensures others { self.new ≡ record self.old { events = self.new.events } }
     {
@@ -186,40 +188,51 @@ impl<L: EventList> Timeline<L> {
         time: Time,
         start: Option<(IfaceNo, Start)>,
     )
-        requires begins { IfSome start (StartsAt topology.now time) }
-        requires numbered { (sent : ℕ → List (ℕ × List ℕ)) × TimelineRepresents topology.now self.old sent × IsFew sent
-            × AreFresh (L.pending self.old.events) (start_events (net_of topology.now) time sent (start_of start)) }
+        requires transmits { IfSome start (TransmitsAt topology.now time) }
+        requires numbered { (sent : ℕ → List (ℕ × List ℕ)) × TimelineRepresents topology.now self.old sent
+            × IsFew sent
+            × AreFresh (L.pending self.old.events)
+            (transmission_events (net_of topology.now) time sent (transmission_of start)) }
         requires spare { 1 ≤ self.old.spare }
         requires room { 2 ≤ L.room self.old.events }
-        ensures events { (sent : ℕ → List (ℕ × List ℕ)) → TimelineRepresents topology.now self.old sent → L.pending self.new.events
-            ≡ schedule everywhere (start_events (net_of topology.now) time sent (start_of start)) (L.pending self.old.events) }
+        ensures events { (sent : ℕ → List (ℕ × List ℕ)) → TimelineRepresents topology.now self.old sent
+            → L.pending self.new.events
+            ≡ schedule everywhere
+            (transmission_events (net_of topology.now) time sent (transmission_of start))
+            (L.pending self.old.events) }
         ensures numbered { (sent : ℕ → List (ℕ × List ℕ)) → TimelineRepresents topology.now self.old sent
-            → TimelineRepresents topology.now self.new (sent_after (net_of topology.now) time sent (start_of start)) }
-        ensures records { self.new.records ≡ self.old.records ++ out_record time (start_of start) }
+            → TimelineRepresents topology.now self.new
+            (sent_after (net_of topology.now) time sent (transmission_of start)) }
+        ensures records { self.new.records ≡ self.old.records ++ out_record time (transmission_of start) }
     {
-        accepted_topologies_are_in_order(topology);
-        if let Some(begun) = start {
-            let (iface, start) = begun;
+        accepted_topologies_are_in_order(topology); // law: the peer is there
+        if let Some(sending) = start {
+            let (iface, start) = sending;
             let peer = topology.iface(iface).far().peer;
             self.put_transmission(time, iface, peer, start);
         }
     }
 
-    /// A transmission starts at an interface, towards its peer: its completion and its arrival are to come.
+    /// A transmission starts at an interface, towards its peer: its completion and its arrival are
+    /// to come.
     #[inline(always)]
     fn put_transmission(&mut self, time: Time, iface: IfaceNo, peer: IfaceNo, start: Start)
         requires peer { peer < length self.old.sent }
         requires count { slice_index self.old.sent peer < 2 ^ 63 }
         requires spare { 1 ≤ self.old.spare }
         requires room { 2 ≤ L.room self.old.events }
-        requires arrival { get (L.pending self.old.events) (key_of start.arrives (Arrive peer) (slice_index self.old.sent peer)) ≡ None }
-        requires completion { get (L.pending self.old.events) (key_of start.completes (Complete iface) (slice_index self.old.sent peer)) ≡ None }
+        requires arrival { get (L.pending self.old.events)
+            (key_of start.arrives (Arrive peer) (slice_index self.old.sent peer)) ≡ None }
+        requires completion { get (L.pending self.old.events)
+            (key_of start.completes (Complete iface) (slice_index self.old.sent peer)) ≡ None }
         ensures events { L.pending self.new.events ≡ insert (insert (L.pending self.old.events)
-            (key_of start.arrives (Arrive peer) (slice_index self.old.sent peer)) (Delivery start.twin.packet))
+            (key_of start.arrives (Arrive peer) (slice_index self.old.sent peer))
+            (Delivery start.twin.packet))
             (key_of start.completes (Complete iface) (slice_index self.old.sent peer)) Completion }
         ensures sent { self.new.sent ≡ slice_set self.old.sent peer (slice_index self.old.sent peer + 1) }
         ensures records { self.new.records
-            ≡ self.old.records ++ record { time = time; iface = iface; dir = Out; packet = start.twin.packet } ∷ [] }
+            ≡ self.old.records ++ record
+            { time = time; iface = iface; dir = Out; packet = start.twin.packet } ∷ [] }
     {
         let number = self.sent[peer.index()];
         self.sent[peer.index()] = number + 1;

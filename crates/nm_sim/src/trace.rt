@@ -41,8 +41,8 @@ fn run(
     Err(AllocError)
 }
 
-/// The whole trace of a network before a time and before its `stop`, by one event list (J. Misra, 1986, section 1): what
-/// every other way of running it is compared with.
+/// The whole trace of a network before a time and before its `stop`, by one event list (J. Misra,
+/// 1986, section 1): what every other way of running it is compared with.
 ///
 /// # Errors
 ///

@@ -143,7 +143,7 @@ impl Write for Tired {
 fn sinks_fail_with_their_writer(rt: HostRuntime) {
     let mut sink = StdSink::new(Tired { calls: 0 });
     let cut = Err(CutShort { taken: 4 });
-    holds(&rt, "a front", write_all(&mut sink, b"abcdef") == cut);
+    holds(&rt, "a prefix", write_all(&mut sink, b"abcdef") == cut);
     holds(&rt, "a fault", sink.write_some(b"abcdef") == Err(SinkFault));
     eq_number(&rt, "calls", u64::from(sink.writer().calls), 4);
 }

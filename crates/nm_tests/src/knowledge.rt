@@ -257,3 +257,78 @@ fn a_copy_knows_the_same(rt: HostRuntime) -> Result<(), Fail> {
     holds(&rt, "a copy", is_known(&copy, &[(0, 1), (9, 2)], 11));
     Ok(())
 }
+
+/// Knowledge of so many messages, at the times 1, 2, ..
+fn know_of_length(alloc: Global, count: u64) -> Result<Know, Fail> {
+    let packet = packet_of(alloc, 3)?;
+    let mut know = Know::new(alloc);
+    for number in 0..count {
+        let time = Time::from_nanoseconds(number + 1);
+        if know.accept_data(number, time, &packet) != Ok(New) {
+            return Err("the messages rise".into());
+        }
+    }
+    Ok(know)
+}
+
+/// Whether two know the same.
+fn is_same(left: &Know, right: &Know) -> bool {
+    for number in 0..left.len() as u64 {
+        if left.message(number) != right.message(number) {
+            return false;
+        }
+    }
+    left.len() == right.len() && left.clock() == right.clock()
+}
+
+/// A copy of knowledge of so many messages is equal, stays as it was when the original grows, and is merged back.
+fn copy_and_merge(rt: &(impl Abort + AllocGlobal), count: u64) -> Result<(), Fail> {
+    let mut know = know_of_length(rt.alloc(), count)?;
+    let mut copy = know.copy(rt.alloc())?;
+    holds(rt, "a copy", is_same(&know, &copy));
+    let packet = packet_of(rt.alloc(), 4)?;
+    let told = know.accept_data(
+        count,
+        Time::from_nanoseconds(count.saturating_add(5)),
+        &packet,
+    );
+    holds(rt, "one more", told == Ok(New));
+    let was = know_of_length(rt.alloc(), count)?;
+    holds(rt, "the copy then", is_same(&copy, &was));
+    holds(rt, "the longer one, merged", know.merge(&copy) == Ok(()));
+    holds(
+        rt,
+        "it has one more",
+        know.len() as u64 == count.saturating_add(1),
+    );
+    holds(rt, "the copy, merged", copy.merge(&know) == Ok(()));
+    holds(rt, "the original", is_same(&copy, &know));
+    Ok(())
+}
+
+#[test]
+fn copies_at_the_edges_of_blocks(rt: HostRuntime) -> Result<(), Fail> {
+    for count in [0, 255, 256, 257, 513] {
+        copy_and_merge(&rt, count)?;
+    }
+    Ok(())
+}
+
+#[test]
+fn a_merge_in_three_calls(rt: HostRuntime) -> Result<(), Fail> {
+    let mut know = know_of(rt.alloc(), TWO, 5)?;
+    let late = know_of(rt.alloc(), TWO_FOUR, 4)?;
+    let fault = know.check_merge(&late);
+    holds(&rt, "a fault", fault == Err(KnowFault::Late { clock: 5 }));
+    let other = know_of(rt.alloc(), THREE, 6)?;
+    match know.check_merge(&other) {
+        Ok(()) => {
+            let gain = know.reserve_merge(&other)?;
+            holds(&rt, "nothing is taken yet", is_known(&know, TWO, 5));
+            know.take(gain);
+        }
+        Err(_) => return Err("the two agree".into()),
+    }
+    holds(&rt, "what is taken", is_known(&know, THREE, 6));
+    Ok(())
+}

@@ -7,6 +7,8 @@
 #[cfg(test)]
 mod base;
 #[cfg(test)]
+mod events;
+#[cfg(test)]
 mod forward;
 #[cfg(test)]
 mod knowledge;

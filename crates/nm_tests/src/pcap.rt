@@ -67,7 +67,7 @@ fn answers_at(budget: usize) -> (Result<(), PcapFault>, Result<(), PcapFault>) {
     }
 }
 
-/// A sink of this budget has a front of the file, and the writer says so once.
+/// A sink of this budget has a prefix of the file, and the writer says so once.
 fn is_cut(rt: &(impl Abort + AllocGlobal), record: &Record, front: &[u8]) -> Result<(), AllocError>
     requires { «record».now.time ≡ 0 }
 {
@@ -80,7 +80,7 @@ fn is_cut(rt: &(impl Abort + AllocGlobal), record: &Record, front: &[u8]) -> Res
         let again = out.put(record);
         assert!(rt; again == Err(PcapFault::Failed), "budget {budget}");
     }
-    eq_octets(rt, "a front", out.sink().octets(), front);
+    eq_octets(rt, "a prefix", out.sink().octets(), front);
     Ok(())
 }
 

@@ -2,7 +2,7 @@
 
 use crate::same::{eq_number, eq_shown, eq_text};
 use crate::texts::{DUO, PARTITIONS};
-use nm_base::{IfaceNo, NodeNo};
+use nm_base::{ChanNo, IfaceNo, NodeNo};
 use nm_topology::{Refusal, TopoFault, Topology};
 use std::alloc::Global;
 use std::process::Abort;
@@ -32,6 +32,76 @@ fn answer_with(alloc: Global, old: &str, new: &str) -> Result<u64, Fail> {
     }
     let text = DUO.replacen(alloc, old, new, 1)?;
     Ok(answer(alloc, text.as_str().as_bytes()))
+}
+
+/// What is read of DUO with this `format`, and these keys more in its first table of `iface`.
+fn answer_in_format(alloc: Global, format: &str, keys: &str) -> Result<u64, Fail> {
+    let head = format!(in alloc; "format = {format}")?;
+    let text = DUO.replacen(alloc, "format = 1", head.as_str(), 1)?;
+    let queue = format!(in alloc; "queue = 4{keys}")?;
+    let text = text
+        .as_str()
+        .replacen(alloc, "queue = 4", queue.as_str(), 1)?;
+    Ok(answer(alloc, text.as_str().as_bytes()))
+}
+
+/// Rows of a format, keys of an interface and an answer.
+fn answers_in_formats_are(
+    rt: &(impl Abort + AllocGlobal),
+    rows: &[(&str, &str, u64)],
+) -> Result<(), Fail> {
+    for (format, keys, want) in rows {
+        let found = answer_in_format(rt.alloc(), format, keys)?;
+        let row = format!(in rt.alloc(); "format {format}{keys}")?;
+        eq_number(rt, row.as_str(), found, *want);
+    }
+    Ok(())
+}
+
+#[test]
+fn formats_of_texts(rt: HostRuntime) -> Result<(), Fail> {
+    let rows = [
+        ("0", "", 5),
+        ("1", "", 0),
+        ("2", "", 0),
+        ("3", "", 5),
+        ("-1", "", 5),
+        ("true", "", 4),
+        ("\"2\"", "", 4),
+    ];
+    answers_in_formats_are(&rt, &rows)
+}
+
+/// Format 1 does not know the limit in octets, whatever its value.
+#[test]
+fn limits_in_octets(rt: HostRuntime) -> Result<(), Fail> {
+    let rows = [
+        ("1", ", queue_octets = 0", 3),
+        ("1", ", queue_octets = 655350001", 3),
+        ("1", ", queue_octets = true", 3),
+        ("2", ", queue_octets = 0", 0),
+        ("2", ", queue_octets = 655350000", 0),
+        ("2", ", queue_octets = 655350001", 5),
+        ("2", ", queue_octets = -1", 5),
+        ("2", ", queue_octets = true", 4),
+        ("2", ", queue_octets = 100.0", 4),
+        ("2", ", queue_octets = \"100\"", 4),
+        ("2", ", octets = 100", 3),
+    ];
+    answers_in_formats_are(&rt, &rows)
+}
+
+/// An interface has the limit of its table, or none.
+#[test]
+fn limits_in_octets_of_interfaces(rt: HostRuntime) -> Result<(), Fail> {
+    let text = DUO.replacen(rt.alloc(), "format = 1", "format = 2", 1)?;
+    let new = "queue = 4, queue_octets = 100";
+    let text = text.as_str().replacen(rt.alloc(), "queue = 4", new, 1)?;
+    let topology = Topology::read(rt.alloc(), text.as_str().as_bytes())?;
+    assert!(rt; topology.ifaces().len() == 2);
+    assert!(rt; topology.iface(IfaceNo::new(0)).queue_octets() == Some(100));
+    assert!(rt; topology.iface(IfaceNo::new(1)).queue_octets().is_none());
+    Ok(())
 }
 
 /// What is read of a text that has so many empty tables in this array.
@@ -252,6 +322,10 @@ fn parts_have_numbers(rt: HostRuntime) -> Result<(), Fail> {
         let channel = topology.channel_of(IfaceNo::new(iface));
         let found = channel.map_or(9, |channel| channel.number());
         eq_number(&rt, "a channel", u64::from(found), want);
+    }
+    for (channel, want) in [(0, 0), (1, 1), (3, 3), (4, 6), (511, 6)] {
+        let found = topology.receiver(ChanNo::new(channel));
+        eq_number(&rt, "a receiver", u64::from(found.number()), want);
     }
     Ok(())
 }

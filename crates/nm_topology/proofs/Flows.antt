@@ -1,28 +1,37 @@
 -- The tables of `source` are read to traffic in range.
-use Rattle.std.proofs.Common.{◌≡◌, All, ℕ, suc, ◌+◌, ◌-◌, ◌≤◌, List, [], ◌∷◌, length, Result, Ok, Err, refl, ap, subst, arith}
+use Rattle.std.proofs.Common.{◌≡◌, All, ℕ, suc, ◌+◌, ◌-◌, ◌≤◌, List, [], ◌∷◌, length, Result, Ok}
+use Rattle.std.proofs.Common.{Err, refl, ap, subst, arith}
 use Rattle.std.specs.Prelude.{nat_le, codes}
 use Rattle.std.proofs.lemmas.Bool.Decides.{nat_tests}
 use Rattle.std.proofs.lemmas.List.Elements.{All-nil, All-cons}
 use Rattle.hex.specs.Hex.{decode_of}
 use Rattle.hex.specs.declared.error.FromHexError.{FromHexError}
 use Rattle.toml.specs.Data.{Data, string, array, Items, no_items, item, Members, get_member}
-use Rattle.nm_base.specs.declared.limits.TheConstants.{MAX_COUNT, MAX_INTERVAL, MAX_RAW_PACKETS, MAX_TIME}
+use Rattle.nm_base.specs.declared.limits.TheConstants.{MAX_COUNT, MAX_INTERVAL, MAX_RAW_PACKETS}
+use Rattle.nm_base.specs.declared.limits.TheConstants.{MAX_TIME}
 use Rattle.nm_topology.specs.declared.fault.Refusal.{Refusal}
 use Rattle.nm_topology.specs.declared.fault.Refusal.TheVariants.{Kind, TooMany}
 use Rattle.nm_topology.specs.declared.traffic.Flow.{Flow}
 use Rattle.nm_topology.specs.declared.traffic.RawPacket.{RawPacket}
-use Rattle.nm_topology.specs.declared.parse.sources.NamedTraffic.TheVariants.{Cbr as NamedCbr, Echo as NamedEcho, Raw as NamedRaw}
+use Rattle.nm_topology.specs.declared.parse.sources.NamedTraffic.TheVariants.{Cbr as NamedCbr}
+use Rattle.nm_topology.specs.declared.parse.sources.NamedTraffic.TheVariants.{Echo as NamedEcho}
+use Rattle.nm_topology.specs.declared.parse.sources.NamedTraffic.TheVariants.{Raw as NamedRaw}
 use Rattle.nm_topology.specs.declared.parse.sources.SourceKind.{SourceKind}
-use Rattle.nm_topology.specs.declared.parse.sources.SourceKind.TheVariants.{Cbr as CbrKind, Echo as EchoKind, Raw as RawKind}
+use Rattle.nm_topology.specs.declared.parse.sources.SourceKind.TheVariants.{Cbr as CbrKind}
+use Rattle.nm_topology.specs.declared.parse.sources.SourceKind.TheVariants.{Echo as EchoKind}
+use Rattle.nm_topology.specs.declared.parse.sources.SourceKind.TheVariants.{Raw as RawKind}
 use Rattle.nm_topology.specs.Fault.{◌>>=◌}
 use Rattle.nm_topology.specs.Parse.Fields.{required, optional, number_in, required_text, only}
 use Rattle.nm_topology.specs.Parse.Arrays.{is_table, all_fit, count, in_table}
 use Rattle.nm_topology.specs.Parse.Forms.{name_of, usable_address_of}
 use Rattle.nm_topology.specs.Parse.SourceTableValue.{SourceTableValue}
-use Rattle.nm_topology.specs.Parse.Sources.{decoded, octets_of, packet_of, packets_from, packets_of, flow_keys, flow_of, cbr_of, echo_of, raw_of, source_kind_of, source_by, source_table_of}
+use Rattle.nm_topology.specs.Parse.Sources.{decoded, octets_of, packet_of, packets_from, packets_of}
+use Rattle.nm_topology.specs.Parse.Sources.{flow_keys, flow_of, cbr_of, echo_of, raw_of}
+use Rattle.nm_topology.specs.Parse.Sources.{source_kind_of, source_by, source_table_of}
 use Rattle.nm_topology.specs.Limits.{FitsFlow, AreRising, FitsPackets}
 use Rattle.nm_topology.specs.Parse.Ranges.{FitsNamedTraffic}
-use Rattle.nm_topology.proofs.Steps.{step, required-within, optional-within, required-holds, both_passed, in_table-holds}
+use Rattle.nm_topology.proofs.Steps.{step, required-within, optional-within, required-holds}
+use Rattle.nm_topology.proofs.Steps.{both_passed, in_table-holds}
 
 decoded-within : (mtu : ℕ) (r : Result (List ℕ) FromHexError) (octets : List ℕ) → decoded mtu r ≡ Ok octets → (1 ≤ length octets) × (length octets ≤ mtu)
 decoded-within mtu (Ok os) octets e = grind (arith, nat_tests, e)

@@ -1,6 +1,9 @@
+pub mod Channels
+pub mod Distinct
 pub mod Doubles
 pub mod Ends
 pub mod Flows
+pub mod Formats
 pub mod Keys
 pub mod Limits
 pub mod Members

@@ -1,9 +1,13 @@
 -- Tables in range make a topology within the limits.
-use Rattle.std.proofs.Common.{◌≡◌, All, ℕ, zero, suc, ◌+◌, ◌<◌, ◌≤◌, true, max, List, [], ◌∷◌, length, map, Result, Ok, Err, refl, sym, ap, ◌∙◌, subst, arith, add-zero, ⊎_elim}
-use Rattle.std.specs.Prelude.{slice_index_or}
+use Rattle.std.proofs.Common.{◌≡◌, All, ℕ, zero, suc, ◌+◌, ◌<◌, ◌≤◌, true, max, List, [], ◌∷◌}
+use Rattle.std.proofs.Common.{length, map, Result, Ok, Err, refl, sym, ap, ◌∙◌, subst, arith}
+use Rattle.std.proofs.Common.{add-zero, ⊎_elim}
+use Rattle.std.specs.Prelude.{slice_index_or, IfSome, Option}
 use Rattle.std.proofs.lemmas.List.Elements.{All-nil, All-cons, All-weaker}
-use Rattle.nm_base.specs.declared.limits.TheConstants.{MAX_DELAY, MAX_PORTS_OF_NODE, MAX_QUEUE, MAX_RATE, MIN_RATE}
+use Rattle.nm_base.specs.declared.limits.TheConstants.{MAX_DELAY, MAX_PORTS_OF_NODE, MAX_QUEUE}
+use Rattle.nm_base.specs.declared.limits.TheConstants.{MAX_RATE, MIN_RATE}
 use Rattle.nm_topology.specs.declared.fault.Refusal.{Refusal}
+use Rattle.nm_base.specs.declared.limits.TheConstants.{MAX_QUEUE_OCTETS}
 use Rattle.nm_topology.specs.declared.parts.Far.{Far}
 use Rattle.nm_topology.specs.declared.parts.Link.{Link}
 use Rattle.nm_topology.specs.declared.parts.Route.{Route}
@@ -12,14 +16,19 @@ use Rattle.nm_topology.specs.declared.traffic.Source.{Source}
 use Rattle.nm_topology.specs.declared.traffic.Traffic.{Traffic}
 use Rattle.nm_topology.specs.declared.traffic.Traffic.TheVariants.{Cbr, Echo, Raw}
 use Rattle.nm_topology.specs.declared.parse.sources.NamedTraffic.{NamedTraffic}
-use Rattle.nm_topology.specs.declared.parse.sources.NamedTraffic.TheVariants.{Cbr as NamedCbr, Echo as NamedEcho, Raw as NamedRaw}
+use Rattle.nm_topology.specs.declared.parse.sources.NamedTraffic.TheVariants.{Cbr as NamedCbr}
+use Rattle.nm_topology.specs.declared.parse.sources.NamedTraffic.TheVariants.{Echo as NamedEcho}
+use Rattle.nm_topology.specs.declared.parse.sources.NamedTraffic.TheVariants.{Raw as NamedRaw}
 use Rattle.nm_topology.specs.Fault.{◌>>=◌}
 use Rattle.nm_topology.specs.Parse.TableValues.{NodeTableValue, IfaceTableValue, LinkTableValue}
 use Rattle.nm_topology.specs.Parse.SourceTableValue.{SourceTableValue}
 use Rattle.nm_topology.specs.Parse.DocumentValue.{DocumentValue}
 use Rattle.nm_topology.specs.Names.{distinct_names}
-use Rattle.nm_topology.specs.Resolve.{all_of, number_of_name, via_of, owner_of, link_between, placed_route, placed_traffic, placed_source, resolved, resolved_by}
-use Rattle.nm_topology.specs.Build.{numbers_from, far_by_links, far_ends, partition_count, placed_nodes, placed_ifaces}
+use Rattle.nm_topology.specs.Resolve.{all_of, number_of_name, via_of, owner_of, link_between}
+use Rattle.nm_topology.specs.Resolve.{placed_route, placed_traffic, placed_source, resolved}
+use Rattle.nm_topology.specs.Resolve.{resolved_by}
+use Rattle.nm_topology.specs.Build.{numbers_from, far_by_links, far_ends, partition_count}
+use Rattle.nm_topology.specs.Build.{placed_nodes, placed_ifaces}
 use Rattle.nm_topology.specs.Validate.{uses, are_used_once}
 use Rattle.nm_topology.specs.PartValues.{IfaceValue}
 use Rattle.nm_topology.specs.ResolvedValue.{ResolvedValue}
@@ -139,9 +148,19 @@ ifaces-within (r ∷ rs) [] fs a b = All-nil IsPort
 ifaces-within (r ∷ rs) (o ∷ os) [] a b = All-nil IsPort
 ifaces-within (r ∷ rs) (o ∷ os) (f ∷ fs) a b =
     let end = b 0 f (omega arith) in
-    All-cons IsPort (record { name = r.name; node = o; address = r.address; queue = r.queue; far = f }) (placed_ifaces rs os fs)
+    All-cons IsPort (record { name = r.name; node = o; address = r.address; queue = r.queue; queue_octets = r.queue_octets; far = f }) (placed_ifaces rs os fs)
     (a 0 r (omega arith), end.0, end.1, end.2)
     (ifaces-within rs os fs (λ k d h. a (suc k) d (omega arith)) (λ k d h. b (suc k) d (omega arith)))
+
+-- what is true of the limits in octets of all tables is true of those of all interfaces
+octets-within : (P : Option ℕ → Type 0) (tables : List IfaceTableValue) (owners : List ℕ) (far : List Far)
+    → All (λ r. P r.queue_octets) tables → All (λ i. P i.queue_octets) (placed_ifaces tables owners far)
+octets-within P [] os fs a = All-nil (λ i. P i.queue_octets)
+octets-within P (r ∷ rs) [] fs a = All-nil (λ i. P i.queue_octets)
+octets-within P (r ∷ rs) (o ∷ os) [] a = All-nil (λ i. P i.queue_octets)
+octets-within P (r ∷ rs) (o ∷ os) (f ∷ fs) a =
+    All-cons (λ i. P i.queue_octets) (record { name = r.name; node = o; address = r.address; queue = r.queue; queue_octets = r.queue_octets; far = f })
+    (placed_ifaces rs os fs) (a 0 r (omega arith)) (octets-within P rs os fs (λ k d h. a (suc k) d (omega arith)))
 
 nodes-within : (P : ℕ → List ℕ → Type 0) (tables : List NodeTableValue) (node_routes : List (List Route)) → All (λ r. P r.partition r.ports) tables → All (λ n. P n.partition n.ports) (placed_nodes tables node_routes)
 nodes-within P [] ts a = All-nil (λ n. P n.partition n.ports)
@@ -186,6 +205,10 @@ module _ (d : DocumentValue) (t : ResolvedValue) (node_routes : List (List Route
   ports = subst (λ is. All IsPort is) (sym put.ifaces)
       (ifaces-within d.ifaces t.owners (far_ends (length d.ifaces) t.links) range.ifaces (fars-rated (length d.ifaces) t.links links used))
 
+  octets : All (λ i. IfSome i.queue_octets (λ n. n ≤ MAX_QUEUE_OCTETS)) v.ifaces
+  octets = subst (λ is. All (λ i. IfSome i.queue_octets (λ n. n ≤ MAX_QUEUE_OCTETS)) is) (sym put.ifaces)
+      (octets-within (λ o. IfSome o (λ n. n ≤ MAX_QUEUE_OCTETS)) d.ifaces t.owners (far_ends (length d.ifaces) t.links) range.queue_octets)
+
   nodes : All (λ n. (n.partition < v.partitions) × (length n.ports ≤ MAX_PORTS_OF_NODE)) v.nodes
   nodes =
       let tables : All (λ r. (r.partition < v.partitions) × (length r.ports ≤ MAX_PORTS_OF_NODE)) d.nodes =
@@ -201,6 +224,7 @@ module _ (d : DocumentValue) (t : ResolvedValue) (node_routes : List (List Route
     greatest_mtu = omega (arith, put.mtu, range.greatest_mtu);
     nodes = nodes;
     ifaces = ports;
+    queue_octets = octets;
     sources = subst (λ m. All (λ s. FitsTraffic m s.traffic) v.sources) (sym put.mtu)
         (subst (λ ss. All (λ s. FitsTraffic d.mtu s.traffic) ss) (sym put.sources)
         (All-weaker (λ s. FitsTraffic d.mtu s.traffic × HasOctets s.traffic) (λ s. FitsTraffic d.mtu s.traffic) (λ s h. h.0) t.sources fit));

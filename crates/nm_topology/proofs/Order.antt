@@ -1,5 +1,7 @@
 -- Tables that pass the tests make a topology that is in order.
-use Rattle.std.proofs.Common.{◌≡◌, All, ℕ, zero, suc, ◌+◌, ◌<◌, ◌≤◌, ◌==◌, Bool, true, false, not, cond, List, [], ◌∷◌, length, map, Some, Ok, refl, sym, ap, ◌∙◌, subst, arith, add-zero, zero-add, ⊎_elim}
+use Rattle.std.proofs.Common.{◌≡◌, All, ℕ, zero, suc, ◌+◌, ◌<◌, ◌≤◌, ◌==◌, Bool, true, false, not}
+use Rattle.std.proofs.Common.{cond, List, [], ◌∷◌, length, map, Some, Ok, refl, sym, ap, ◌∙◌, subst}
+use Rattle.std.proofs.Common.{arith, add-zero, zero-add, ⊎_elim}
 use Rattle.std.specs.Prelude.{nat_le, nat_eq, slice_get, slice_index}
 use Rattle.std.specs.List.{list_all, list_any}
 use Rattle.std.proofs.lemmas.Bool.Decides.{nat_tests}
@@ -13,19 +15,21 @@ use Rattle.nm_topology.specs.Fault.{◌>>=◌, demand}
 use Rattle.nm_topology.specs.Parse.TableValues.{NodeTableValue, IfaceTableValue}
 use Rattle.nm_topology.specs.PartValues.{NodeValue, IfaceValue}
 use Rattle.nm_topology.specs.ResolvedValue.{ResolvedValue}
-use Rattle.nm_topology.specs.Build.{numbers_from, far_by_links, far_ends, routes_at, routes_of_nodes, placed_nodes, placed_ifaces, receivers_of}
+use Rattle.nm_topology.specs.Build.{numbers_from, far_by_links, far_ends, routes_at}
+use Rattle.nm_topology.specs.Build.{routes_of_nodes, placed_nodes, placed_ifaces, receivers_of}
 use Rattle.nm_topology.specs.Validate.{uses, are_used_once, same_route, is_undelayed_cut, tested}
 use Rattle.nm_topology.specs.Names.{has_double}
-use Rattle.nm_topology.specs.declared.fault.Refusal.TheVariants.{IfaceUse, DoubleAddress, DoubleRoute, TooMany, CutDelay}
+use Rattle.nm_topology.specs.declared.fault.Refusal.TheVariants.{IfaceUse, DoubleAddress}
+use Rattle.nm_topology.specs.declared.fault.Refusal.TheVariants.{DoubleRoute, TooMany, CutDelay}
 use Rattle.nm_topology.specs.Accepted.{parts_of, owners_of, IsLinked, IsInOrder}
 use Rattle.nm_topology.proofs.Ends.{far-a, far-b, far-on, apart, back}
 use Rattle.std.proofs.lemmas.List.Elements.{All-cons}
 use Rattle.nm_topology.proofs.Uses.{same_or_not}
 use Rattle.nm_topology.proofs.Wires.{is_same, is_other}
 
--- demands that were all met, of which three are asked for
-all_met : (b c d s f g : Bool) (o p q r u v : Refusal) → (demand b o >>= λ x. demand c p >>= λ x. demand d q >>= λ x. demand s r >>= λ x. demand f u >>= λ x. demand g v) ≡ Ok tt → (b ≡ true) × (s ≡ true) × (g ≡ true)
-all_met true true true true true true o p q r u v e = (refl, refl, refl)
+-- demands that were all met, of which five are asked for
+all_met : (b c d s f g : Bool) (o p q r u v : Refusal) → (demand b o >>= λ x. demand c p >>= λ x. demand d q >>= λ x. demand s r >>= λ x. demand f u >>= λ x. demand g v) ≡ Ok tt → (b ≡ true) × (c ≡ true) × (d ≡ true) × (s ≡ true) × (g ≡ true)
+all_met true true true true true true o p q r u v e = (refl, refl, refl, refl, refl)
 all_met true true true true true false o p q r u v e = cc
 all_met true true true true false g o p q r u v e = cc
 all_met true true true false f g o p q r u v e = cc
@@ -91,7 +95,7 @@ ifaces-nodes P [] os fs a = λ k d h. absurd (omega arith)
 ifaces-nodes P (i ∷ is) [] fs a = λ k d h. absurd (omega arith)
 ifaces-nodes P (i ∷ is) (o ∷ os) [] a = λ k d h. absurd (omega arith)
 ifaces-nodes P (i ∷ is) (o ∷ os) (f ∷ fs) a =
-    All-cons (λ x. P x.node) (record { name = i.name; node = o; address = i.address; queue = i.queue; far = f }) (placed_ifaces is os fs)
+    All-cons (λ x. P x.node) (record { name = i.name; node = o; address = i.address; queue = i.queue; queue_octets = i.queue_octets; far = f }) (placed_ifaces is os fs)
     (a 0 0 (omega arith)) (ifaces-nodes P is os fs (λ k d h. a (suc k) d (omega arith)))
 
 -- the routes of a node, of routes that all have a property
@@ -138,19 +142,27 @@ is_false true e = cc
 is_false false e = refl
 
 -- what the tests of the whole ask
-pub record Passed (parts : List ℕ) (nodes ifaces : ℕ) (t : ResolvedValue) : Type 0 where
+pub record Passed (parts addresses : List ℕ) (nodes ifaces : ℕ) (t : ResolvedValue) : Type 0 where
   pub used : are_used_once ifaces t.links ≡ true
+  pub different : has_double nat_eq addresses ≡ false
+  pub single : has_double same_route t.routes ≡ false
   pub short : list_all (λ rs. nat_le (length rs) MAX_ROUTES_OF_NODE) (routes_of_nodes nodes t.routes) ≡ true
   pub cuts : list_any (is_undelayed_cut parts t.owners) t.links ≡ false
 
-pub passed : (parts addresses : List ℕ) (nodes ifaces : ℕ) (t : ResolvedValue) → tested parts addresses nodes ifaces t ≡ Ok tt → Passed parts nodes ifaces t
+pub passed : (parts addresses : List ℕ) (nodes ifaces : ℕ) (t : ResolvedValue) → tested parts addresses nodes ifaces t ≡ Ok tt → Passed parts addresses nodes ifaces t
 passed parts addresses nodes ifaces t e =
     let short : Bool = list_all (λ rs. nat_le (length rs) MAX_ROUTES_OF_NODE) (routes_of_nodes nodes t.routes) in
     let cut : Bool = list_any (is_undelayed_cut parts t.owners) t.links in
     let h = all_met (are_used_once ifaces t.links) (not (has_double nat_eq addresses)) (not (has_double same_route t.routes)) short
     (nat_le (length (receivers_of parts t.owners (far_ends ifaces t.links))) MAX_CHANNELS) (not cut)
     IfaceUse DoubleAddress DoubleRoute TooMany TooMany CutDelay e in
-    record { used = h.0; short = h.1; cuts = is_false cut h.2 }
+    record {
+      used = h.0;
+      different = is_false (has_double nat_eq addresses) h.1;
+      single = is_false (has_double same_route t.routes) h.2;
+      short = h.3;
+      cuts = is_false cut h.4;
+    }
 
 module _ (tables : List NodeTableValue) (faces : List IfaceTableValue) (t : ResolvedValue) (addresses : List ℕ)
     (same : length t.owners ≡ length faces)
@@ -170,7 +182,7 @@ module _ (tables : List NodeTableValue) (faces : List IfaceTableValue) (t : Reso
   abbrev ifaces : List IfaceValue
   ifaces = placed_ifaces faces t.owners far
 
-  pass : Passed (map (λ n. n.partition) tables) (length tables) (length faces) t
+  pass : Passed (map (λ n. n.partition) tables) addresses (length tables) (length faces) t
   pass = passed (map (λ n. n.partition) tables) addresses (length tables) (length faces) t e
 
   node_routes-length : length node_routes ≡ length tables

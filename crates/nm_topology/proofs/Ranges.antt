@@ -1,22 +1,33 @@
 -- What is read from a text is in range.
-use Rattle.std.proofs.Common.{◌≡◌, ℕ, ◌≤◌, List, [], ◌∷◌, length, Result, Ok, Err, arith}
+use Rattle.std.proofs.Common.{◌≡◌, ℕ, ◌≤◌, List, [], ◌∷◌, length, Option, Some, None, IfSome}
+use Rattle.std.proofs.Common.{Result, Ok, Err, subst, arith}
 use Rattle.std.specs.Prelude.{codes}
-use Rattle.toml.specs.Data.{Members, get_member}
-use Rattle.nm_base.specs.declared.limits.TheConstants.{MAX_DELAY, MAX_IFACES, MAX_LINKS, MAX_MTU, MAX_NODES, MAX_PORTS_OF_NODE, MAX_QUEUE, MAX_RATE, MAX_ROUTES, MAX_SOURCES, MAX_TIME, MIN_MTU, MIN_RATE}
+use Rattle.toml.specs.Data.{Data, Members, get_member}
+use Rattle.nm_base.specs.declared.limits.TheConstants.{MAX_DELAY, MAX_IFACES, MAX_LINKS, MAX_MTU}
+use Rattle.nm_base.specs.declared.limits.TheConstants.{MAX_NODES, MAX_PORTS_OF_NODE, MAX_QUEUE}
+use Rattle.nm_base.specs.declared.limits.TheConstants.{MAX_RATE, MAX_ROUTES, MAX_SOURCES, MAX_TIME}
+use Rattle.nm_base.specs.declared.limits.TheConstants.{MIN_MTU, MIN_RATE}
 use Rattle.nm_topology.specs.declared.fault.Refusal.{Refusal}
+use Rattle.nm_topology.specs.declared.parse.head.Format.{Format}
+use Rattle.nm_base.specs.declared.limits.TheConstants.{MAX_QUEUE_OCTETS}
+use Rattle.std.proofs.lemmas.List.Elements.{All-weaker}
 use Rattle.nm_topology.specs.declared.node.NodeKind.{NodeKind}
 use Rattle.nm_topology.specs.Fault.{◌>>=◌}
-use Rattle.nm_topology.specs.Parse.Fields.{required, optional, number_in, required_text, only}
+use Rattle.nm_topology.specs.Parse.Fields.{required, optional, number_in, some_number_in}
+use Rattle.nm_topology.specs.Parse.Fields.{required_text, only}
 use Rattle.nm_topology.specs.Parse.Arrays.{is_integer, is_table, in_table, array_of}
 use Rattle.nm_topology.specs.Parse.Forms.{name_of, node_kind_of, usable_address_of}
-use Rattle.nm_topology.specs.Parse.TableValues.{NodeTableValue, IfaceTableValue, LinkTableValue, RouteTableValue}
+use Rattle.nm_topology.specs.Parse.TableValues.{NodeTableValue, IfaceTableValue, LinkTableValue}
+use Rattle.nm_topology.specs.Parse.TableValues.{RouteTableValue}
 use Rattle.nm_topology.specs.Parse.SourceTableValue.{SourceTableValue}
-use Rattle.nm_topology.specs.Parse.Tables.{node_table_of, iface_table_of, link_table_of, route_table_of}
+use Rattle.nm_topology.specs.Parse.Tables.{iface_keys, node_table_of, iface_table_of, link_table_of}
+use Rattle.nm_topology.specs.Parse.Tables.{route_table_of}
 use Rattle.nm_topology.specs.Parse.Sources.{source_table_of}
 use Rattle.nm_topology.specs.Parse.DocumentValue.{DocumentValue}
-use Rattle.nm_topology.specs.Parse.Document.{document_of, with_tables}
+use Rattle.nm_topology.specs.Parse.Document.{document_of, format_of, with_tables}
 use Rattle.nm_topology.specs.Parse.Ranges.{IsLinkInRange, FitsNamedTraffic, IsInRange}
-use Rattle.nm_topology.proofs.Steps.{step, required-within, optional-holds, in_table-holds}
+use Rattle.nm_topology.proofs.Steps.{step, number-within, required-within, optional-holds}
+use Rattle.nm_topology.proofs.Steps.{in_table-holds}
 use Rattle.nm_topology.proofs.Flows.{source-fits}
 
 node-read : (known : Result Unit Refusal) (name : Result (List ℕ) Refusal) (kind : Result NodeKind Refusal) (partition : Result ℕ Refusal) (ports : Result (List ℕ) Refusal) (n : NodeTableValue) → (known >>= λ k. name >>= λ a. kind >>= λ b. partition >>= λ c. ports >>= λ d. Ok (record { name = a; kind = b; partition = c; ports = d })) ≡ Ok n → ports ≡ Ok n.ports
@@ -37,22 +48,34 @@ node_in_range t n e =
     let few = optional-holds (λ p. Unit {0}) is_integer MAX_PORTS_OF_NODE (number_in 0 65535) (λ d x h. tt) (get_member (codes "ports") t) n.ports ports in
     few.1
 
-iface-read : (known : Result Unit Refusal) (name node : Result (List ℕ) Refusal) (address queue : Result ℕ Refusal) (i : IfaceTableValue) → (known >>= λ k. name >>= λ a. node >>= λ b. address >>= λ c. queue >>= λ d. Ok (record { name = a; node = b; address = c; queue = d })) ≡ Ok i → queue ≡ Ok i.queue
-iface-read (Ok k) (Ok a) (Ok b) (Ok c) (Ok d) i e = cc
-iface-read (Ok k) (Ok a) (Ok b) (Ok c) (Err r) i e = cc
-iface-read (Ok k) (Ok a) (Ok b) (Err r) queue i e = cc
-iface-read (Ok k) (Ok a) (Err r) address queue i e = cc
-iface-read (Ok k) (Err r) node address queue i e = cc
-iface-read (Err r) name node address queue i e = cc
+iface-read : (known : Result Unit Refusal) (name node : Result (List ℕ) Refusal) (address queue : Result ℕ Refusal) (octets : Result (Option ℕ) Refusal) (i : IfaceTableValue) → (known >>= λ k. name >>= λ a. node >>= λ b. address >>= λ c. queue >>= λ d. octets >>= λ f. Ok (record { name = a; node = b; address = c; queue = d; queue_octets = f })) ≡ Ok i → (queue ≡ Ok i.queue) × (octets ≡ Ok i.queue_octets)
+iface-read (Ok k) (Ok a) (Ok b) (Ok c) (Ok d) (Ok f) i e = (cc, cc)
+iface-read (Ok k) (Ok a) (Ok b) (Ok c) (Ok d) (Err r) i e = cc
+iface-read (Ok k) (Ok a) (Ok b) (Ok c) (Err r) octets i e = cc
+iface-read (Ok k) (Ok a) (Ok b) (Err r) queue octets i e = cc
+iface-read (Ok k) (Ok a) (Err r) address queue octets i e = cc
+iface-read (Ok k) (Err r) node address queue octets i e = cc
+iface-read (Err r) name node address queue octets i e = cc
 
-iface_in_range : (t : Members) (i : IfaceTableValue) → iface_table_of t ≡ Ok i → i.queue ≤ MAX_QUEUE
+some-within : (least greatest : ℕ) (o : Option Data) (n : Option ℕ) → optional None (some_number_in least greatest) o ≡ Ok n → IfSome n (λ m. m ≤ greatest)
+some-within least greatest None n e = let none : ◌≡◌ {A = Option ℕ} None n = cc in subst (λ m. IfSome m (λ k. k ≤ greatest)) none tt
+some-within least greatest (Some d) n e =
+    let a = step (number_in least greatest d) (λ m. Ok (Some m)) n e in
+    let some : Some a.0 ≡ n = cc (a.2) in
+    subst (λ m. IfSome m (λ k. k ≤ greatest)) some (number-within least greatest a.0 d a.1).1
+
+abbrev IsQueued : IfaceTableValue → Type 0
+IsQueued i = (i.queue ≤ MAX_QUEUE) × IfSome i.queue_octets (λ n. n ≤ MAX_QUEUE_OCTETS)
+
+iface_in_range : (format : Format) (t : Members) (i : IfaceTableValue) → iface_table_of format t ≡ Ok i → IsQueued i
 unfolding iface_table_of
-iface_in_range t i e =
-    let queue = iface-read (only (codes "name" ∷ codes "node" ∷ codes "address" ∷ codes "queue" ∷ []) t)
+iface_in_range format t i e =
+    let read = iface-read (only (iface_keys format) t)
     (required_text name_of (get_member (codes "name") t)) (required_text name_of (get_member (codes "node") t))
-    (required_text usable_address_of (get_member (codes "address") t)) (required (number_in 0 MAX_QUEUE) (get_member (codes "queue") t)) i e in
-    let within = required-within 0 MAX_QUEUE i.queue (get_member (codes "queue") t) queue in
-    within.1
+    (required_text usable_address_of (get_member (codes "address") t)) (required (number_in 0 MAX_QUEUE) (get_member (codes "queue") t))
+    (optional None (some_number_in 0 MAX_QUEUE_OCTETS) (get_member (codes "queue_octets") t)) i e in
+    let within = required-within 0 MAX_QUEUE i.queue (get_member (codes "queue") t) read.0 in
+    (within.1, some-within 0 MAX_QUEUE_OCTETS (get_member (codes "queue_octets") t) i.queue_octets read.1)
 
 link-read : (known : Result Unit Refusal) (a b : Result (List ℕ) Refusal) (rate delay : Result ℕ Refusal) (l : LinkTableValue) → (known >>= λ k. a >>= λ x. b >>= λ y. rate >>= λ r. delay >>= λ d. Ok (record { a = x; b = y; rate = r; delay = d })) ≡ Ok l → (rate ≡ Ok l.rate) × (delay ≡ Ok l.delay)
 link-read (Ok k) (Ok x) (Ok y) (Ok r) (Ok d) l e = (cc, cc)
@@ -73,23 +96,22 @@ link_in_range t l e =
     (rate.0, rate.1, delay.1)
 
 -- what the steps of reading a document gave
-record DocumentRead (stop mtu : Result ℕ Refusal) (nodes : Result (List NodeTableValue) Refusal) (ifaces : Result (List IfaceTableValue) Refusal) (links : Result (List LinkTableValue) Refusal) (sources : ℕ → Result (List SourceTableValue) Refusal) (d : DocumentValue) : Type 0 where
+record DocumentRead (format : Format) (stop mtu : Result ℕ Refusal) (nodes : Result (List NodeTableValue) Refusal) (ifaces : Format → Result (List IfaceTableValue) Refusal) (links : Result (List LinkTableValue) Refusal) (sources : ℕ → Result (List SourceTableValue) Refusal) (d : DocumentValue) : Type 0 where
   stop_is : stop ≡ Ok d.stop
   mtu_is : mtu ≡ Ok d.mtu
   nodes_are : nodes ≡ Ok d.nodes
-  ifaces_are : ifaces ≡ Ok d.ifaces
+  ifaces_are : ifaces format ≡ Ok d.ifaces
   links_are : links ≡ Ok d.links
   sources_are : sources d.mtu ≡ Ok d.sources
 
-document-read : (known : Result Unit Refusal) (format stop mtu : Result ℕ Refusal) (nodes : Result (List NodeTableValue) Refusal) (ifaces : Result (List IfaceTableValue) Refusal) (links : Result (List LinkTableValue) Refusal) (routes : Result (List RouteTableValue) Refusal) (sources : ℕ → Result (List SourceTableValue) Refusal) (d : DocumentValue) → (known >>= λ k. format >>= λ a. stop >>= λ b. mtu >>= λ c. nodes >>= λ g. ifaces >>= λ h. links >>= λ i. routes >>= λ j. sources c >>= λ l. Ok (record { stop = b; mtu = c; nodes = g; ifaces = h; links = i; routes = j; sources = l })) ≡ Ok d → DocumentRead stop mtu nodes ifaces links sources d
-document-read (Ok k) (Ok a) (Ok b) (Ok c) (Ok g) (Ok h) (Ok i) (Ok j) sources d e =
-    let last = step (sources c) (λ l. Ok (record { stop = b; mtu = c; nodes = g; ifaces = h; links = i; routes = j; sources = l })) d e in
-    let given : sources c ≡ Ok last.0 = last.1 in
-    let whole : record { stop = b; mtu = c; nodes = g; ifaces = h; links = i; routes = j; sources = last.0 } ≡ d = cc (last.2) in
-    record { stop_is = cc; mtu_is = cc; nodes_are = cc; ifaces_are = cc; links_are = cc; sources_are = cc }
-document-read (Ok k) (Ok a) (Ok b) (Ok c) (Ok g) (Ok h) (Ok i) (Err r) sources d e = cc
-document-read (Ok k) (Ok a) (Ok b) (Ok c) (Ok g) (Ok h) (Err r) routes sources d e = cc
-document-read (Ok k) (Ok a) (Ok b) (Ok c) (Ok g) (Err r) links routes sources d e = cc
+document-read : (known : Result Unit Refusal) (format : Result Format Refusal) (stop mtu : Result ℕ Refusal) (nodes : Result (List NodeTableValue) Refusal) (ifaces : Format → Result (List IfaceTableValue) Refusal) (links : Result (List LinkTableValue) Refusal) (routes : Result (List RouteTableValue) Refusal) (sources : ℕ → Result (List SourceTableValue) Refusal) (d : DocumentValue) → (known >>= λ k. format >>= λ a. stop >>= λ b. mtu >>= λ c. nodes >>= λ g. ifaces a >>= λ h. links >>= λ i. routes >>= λ j. sources c >>= λ l. Ok (record { stop = b; mtu = c; nodes = g; ifaces = h; links = i; routes = j; sources = l })) ≡ Ok d → (a : Format) × DocumentRead a stop mtu nodes ifaces links sources d
+document-read (Ok k) (Ok a) (Ok b) (Ok c) (Ok g) ifaces links routes sources d e =
+    let hs = step (ifaces a) (λ h. links >>= λ i. routes >>= λ j. sources c >>= λ l. Ok (record { stop = b; mtu = c; nodes = g; ifaces = h; links = i; routes = j; sources = l })) d e in
+    let is = step links (λ i. routes >>= λ j. sources c >>= λ l. Ok (record { stop = b; mtu = c; nodes = g; ifaces = hs.0; links = i; routes = j; sources = l })) d hs.2 in
+    let js = step routes (λ j. sources c >>= λ l. Ok (record { stop = b; mtu = c; nodes = g; ifaces = hs.0; links = is.0; routes = j; sources = l })) d is.2 in
+    let ls = step (sources c) (λ l. Ok (record { stop = b; mtu = c; nodes = g; ifaces = hs.0; links = is.0; routes = js.0; sources = l })) d js.2 in
+    let whole : record { stop = b; mtu = c; nodes = g; ifaces = hs.0; links = is.0; routes = js.0; sources = ls.0 } ≡ d = cc (ls.2) in
+    (a, record { stop_is = cc; mtu_is = cc; nodes_are = cc; ifaces_are = cc (hs.1); links_are = cc (is.1); sources_are = cc (ls.1) })
 document-read (Ok k) (Ok a) (Ok b) (Ok c) (Err r) ifaces links routes sources d e = cc
 document-read (Ok k) (Ok a) (Ok b) (Err r) nodes ifaces links routes sources d e = cc
 document-read (Ok k) (Ok a) (Err r) mtu nodes ifaces links routes sources d e = cc
@@ -99,22 +121,24 @@ document-read (Err r) format stop mtu nodes ifaces links routes sources d e = cc
 pub document_in_range : (t : Members) (d : DocumentValue) → document_of t ≡ Ok d → IsInRange d
 unfolding document_of with_tables
 document_in_range t d e =
+    let faces : Format → Result (List IfaceTableValue) Refusal = λ f. optional [] (array_of is_table MAX_IFACES (in_table (iface_table_of f))) (get_member (codes "iface") t) in
     let sources : ℕ → Result (List SourceTableValue) Refusal = λ m. optional [] (array_of is_table MAX_SOURCES (in_table (source_table_of m))) (get_member (codes "source") t) in
-    let read = document-read
+    let found = document-read
     (only (codes "format" ∷ codes "stop" ∷ codes "mtu" ∷ codes "node" ∷ codes "iface" ∷ codes "link" ∷ codes "route" ∷ codes "source" ∷ []) t)
-    (required (number_in 1 1) (get_member (codes "format") t)) (required (number_in 1 MAX_TIME) (get_member (codes "stop") t))
+    (required format_of (get_member (codes "format") t)) (required (number_in 1 MAX_TIME) (get_member (codes "stop") t))
     (required (number_in MIN_MTU MAX_MTU) (get_member (codes "mtu") t))
     (optional [] (array_of is_table MAX_NODES (in_table node_table_of)) (get_member (codes "node") t))
-    (optional [] (array_of is_table MAX_IFACES (in_table iface_table_of)) (get_member (codes "iface") t))
+    faces
     (optional [] (array_of is_table MAX_LINKS (in_table link_table_of)) (get_member (codes "link") t))
     (optional [] (array_of is_table MAX_ROUTES (in_table route_table_of)) (get_member (codes "route") t)) sources d e in
+    let read = found.1 in
     let stop = required-within 1 MAX_TIME d.stop (get_member (codes "stop") t) read.stop_is in
     let mtu = required-within MIN_MTU MAX_MTU d.mtu (get_member (codes "mtu") t) read.mtu_is in
     let room : 28 ≤ d.mtu = omega (arith, mtu.0) in
     let nodes = optional-holds (λ n. length n.ports ≤ MAX_PORTS_OF_NODE) is_table MAX_NODES (in_table node_table_of)
     (in_table-holds (λ n. length n.ports ≤ MAX_PORTS_OF_NODE) node_table_of node_in_range) (get_member (codes "node") t) d.nodes read.nodes_are in
-    let ifaces = optional-holds (λ i. i.queue ≤ MAX_QUEUE) is_table MAX_IFACES (in_table iface_table_of)
-    (in_table-holds (λ i. i.queue ≤ MAX_QUEUE) iface_table_of iface_in_range) (get_member (codes "iface") t) d.ifaces read.ifaces_are in
+    let ifaces = optional-holds IsQueued is_table MAX_IFACES (in_table (iface_table_of found.0))
+    (in_table-holds IsQueued (iface_table_of found.0) (iface_in_range found.0)) (get_member (codes "iface") t) d.ifaces read.ifaces_are in
     let links = optional-holds IsLinkInRange is_table MAX_LINKS (in_table link_table_of)
     (in_table-holds IsLinkInRange link_table_of link_in_range) (get_member (codes "link") t) d.links read.links_are in
     let fit = optional-holds (λ s. FitsNamedTraffic d.mtu s.traffic) is_table MAX_SOURCES (in_table (source_table_of d.mtu))
@@ -125,7 +149,8 @@ document_in_range t d e =
       least_mtu = mtu.0;
       greatest_mtu = mtu.1;
       nodes = nodes.0;
-      ifaces = ifaces.0;
+      ifaces = All-weaker IsQueued (λ i. i.queue ≤ MAX_QUEUE) (λ i h. h.0) d.ifaces ifaces.0;
+      queue_octets = All-weaker IsQueued (λ i. IfSome i.queue_octets (λ n. n ≤ MAX_QUEUE_OCTETS)) (λ i h. h.1) d.ifaces ifaces.0;
       links = links.0;
       sources = fit.0;
     }

@@ -1,12 +1,15 @@
 -- The least number below a bound that passes.
-use Rattle.std.proofs.Common.{◌≡◌, ◌⊎◌, ℕ, zero, suc, ◌<◌, ◌+◌, Bool, true, false, List, Option, Some, None, IfSome, decimal, length, [], refl, sym, ◌∙◌, ap, subst, arith, inl, inr}
+use Rattle.std.proofs.Common.{◌≡◌, ◌⊎◌, ℕ, zero, suc, ◌<◌, ◌+◌, Bool, true, false, List, Option}
+use Rattle.std.proofs.Common.{Some, None, IfSome, decimal, length, [], refl, sym, ◌∙◌, ap, subst}
+use Rattle.std.proofs.Common.{arith, inl, inr}
 use Rattle.std.specs.List.{position_or_len, after_first, before_first}
 use Rattle.std.specs.Option.{option_and_then}
 use Rattle.std.specs.Str.{bytes_eq}
 use Rattle.std.proofs.lemmas.List.{drop_all}
 use Rattle.std.proofs.lemmas.Fmt.{decimal_is_IsNumeral}
 use Rattle.std.proofs.lemmas.Slice.Eq.{bytes_eq-Decides}
-use Rattle.nm_topology.specs.Parse.Forms.{or_this, least_below, is_slash, length_of, address_of, prefix_at, prefix_of}
+use Rattle.nm_topology.specs.Parse.Forms.{or_this, least_below, is_slash, length_of, address_of}
+use Rattle.nm_topology.specs.Parse.Forms.{prefix_at, prefix_of}
 
 below_or_last : (a n : ℕ) → a < suc n → (a < n) ⊎ (a ≡ n)
 below_or_last a n h = grind arith

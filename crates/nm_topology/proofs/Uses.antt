@@ -1,5 +1,8 @@
 -- Counting ends of links, and tests of each number below a bound.
-use Rattle.std.proofs.Common.{◌≡◌, ◌⊎◌, ℕ, suc, ◌+◌, ◌-◌, ◌<◌, Bool, true, false, cond, ◌&&◌, ◌||◌, ◌==◌, min, List, [], ◌∷◌, ◌++◌, length, filter, get_or, map, refl, sym, ap, ◌∙◌, subst, arith, ⊎_elim, add_assoc, add-one, add-zero, zero-add, append_assoc, length-set, get_or-set_same, get_or-set_other}
+use Rattle.std.proofs.Common.{◌≡◌, ◌⊎◌, ℕ, suc, ◌+◌, ◌-◌, ◌<◌, Bool, true, false, cond, ◌&&◌, ◌||◌}
+use Rattle.std.proofs.Common.{◌==◌, min, List, [], ◌∷◌, ◌++◌, length, filter, get_or, map, refl}
+use Rattle.std.proofs.Common.{sym, ap, ◌∙◌, subst, arith, ⊎_elim, add_assoc, add-one, add-zero}
+use Rattle.std.proofs.Common.{zero-add, append_assoc, length-set, get_or-set_same, get_or-set_other}
 use Rattle.std.proofs.lemmas.Bool.Decides.{nat_tests}
 use Rattle.std.specs.List.{list_all, list_any}
 use Rattle.nm_topology.specs.declared.parts.Link.{Link}

@@ -1,34 +1,39 @@
 -- A document and its numbers, put together, are in order and within the limits.
-use Rattle.std.proofs.Common.{◌≡◌, All, ℕ, ◌<◌, ◌≤◌, List, length, map, Ok, refl, sym, ap, ◌∙◌, subst}
-use Rattle.std.specs.Prelude.{slice_index}
-use Rattle.nm_base.specs.declared.limits.TheConstants.{MAX_CHANNELS, MAX_IFACES, MAX_LINKS, MAX_NODES, MAX_PARTITIONS, MAX_SOURCES}
+use Rattle.std.proofs.Common.{◌≡◌, All, ℕ, ◌≤◌, List, length, map, Ok, refl, sym, ap, ◌∙◌}
+use Rattle.std.proofs.Common.{subst}
+use Rattle.nm_base.specs.declared.limits.TheConstants.{MAX_CHANNELS, MAX_IFACES, MAX_LINKS}
+use Rattle.nm_base.specs.declared.limits.TheConstants.{MAX_NODES, MAX_PARTITIONS, MAX_SOURCES}
 use Rattle.nm_topology.specs.declared.parts.Link.{Link}
 use Rattle.nm_topology.specs.declared.parts.Route.{Route}
 use Rattle.nm_topology.specs.declared.traffic.Source.{Source}
 use Rattle.nm_topology.specs.Fault.{◌>>=◌}
-use Rattle.nm_topology.specs.Parse.TableValues.{NodeTableValue, IfaceTableValue, LinkTableValue, RouteTableValue}
+use Rattle.nm_topology.specs.Parse.TableValues.{NodeTableValue, IfaceTableValue, LinkTableValue}
+use Rattle.nm_topology.specs.Parse.TableValues.{RouteTableValue}
 use Rattle.nm_topology.specs.Parse.SourceTableValue.{SourceTableValue}
 use Rattle.nm_topology.specs.Parse.DocumentValue.{DocumentValue}
 use Rattle.nm_topology.specs.PartValues.{NodeValue, IfaceValue}
 use Rattle.nm_topology.specs.ResolvedValue.{ResolvedValue}
 use Rattle.nm_topology.specs.TopologyValue.{TopologyValue}
-use Rattle.nm_topology.specs.Build.{routes_at, routes_of_nodes, far_by_links, far_ends, partition_count, placed_nodes, placed_ifaces, receivers_of, put_together}
-use Rattle.nm_topology.specs.Resolve.{resolved}
+use Rattle.nm_topology.specs.Build.{routes_at, routes_of_nodes, far_by_links, far_ends}
+use Rattle.nm_topology.specs.Build.{partition_count, placed_nodes, placed_ifaces, receivers_of}
+use Rattle.nm_topology.specs.Build.{put_together}
+use Rattle.nm_topology.specs.Resolve.{IsNumbered, resolved}
 use Rattle.nm_topology.specs.Topology.{network_of}
 use Rattle.nm_topology.specs.Validate.{tested}
-use Rattle.nm_topology.specs.Limits.{HasOctets, IsWithinLimits}
-use Rattle.nm_topology.specs.Accepted.{IsInOrder, IsPlaced, owners_of}
+use Rattle.nm_topology.specs.Accepted.{AreReceivers, HasNoDoubles, IsAccepted, IsInOrder, IsPlaced}
+use Rattle.nm_topology.specs.Accepted.{owners_of}
+use Rattle.nm_topology.specs.Accepted.{parts_of}
 use Rattle.nm_topology.specs.Parse.Ranges.{IsInRange}
 use Rattle.nm_topology.proofs.Limits.{IsPutTogether, within_limits, have_octets}
-use Rattle.nm_topology.proofs.Order.{passed as all_passed, in_order, nodes-length, numbers-length, ifaces-owners, ifaces-length}
+use Rattle.nm_topology.proofs.Channels.{are_receivers}
+use Rattle.nm_topology.proofs.Distinct.{no_doubles}
+use Rattle.nm_topology.proofs.Order.{Passed, passed as all_passed, in_order, nodes-length}
+use Rattle.nm_topology.proofs.Order.{nodes-parts, numbers-length, iface-far, ifaces-owners}
+use Rattle.nm_topology.proofs.Order.{ifaces-length}
 
 -- the tables of a text, and what numbering gives of them
 pub record IsRead (ns : List NodeTableValue) (is : List IfaceTableValue) (ls : List LinkTableValue) (rs : List RouteTableValue) (ss : List SourceTableValue) (t : ResolvedValue) : Type 0 where
-  pub owners : (length t.owners ≡ length is) × All (λ o. o < length ns) t.owners
-  pub counts : (length t.links ≡ length ls) × (length t.sources ≡ length ss)
-  pub links : All (λ l. (l.a < length is) × (l.b < length is)) t.links
-  pub vias : All (λ r. (r.route.via < length is) × (slice_index t.owners r.route.via ≡ r.node)) t.routes
-  pub sources : All (λ s. IsPlaced (length ns) t.owners s) t.sources
+  pub numbered : IsNumbered (length ns) (length is) (length ls) (length ss) t
   pub value : resolved ns is ls rs ss ≡ Ok t
 
 pub read_along : {ns ms : List NodeTableValue} {is js : List IfaceTableValue} {ls ks : List LinkTableValue} {rs qs : List RouteTableValue} {ss : List SourceTableValue} {t : ResolvedValue}
@@ -38,20 +43,6 @@ read_along {ns} {ms} {is} {js} {ls} {ks} {rs} {qs} {ss} {t} n i l r h =
     (subst (λ xs. IsRead ms js xs rs ss t) l
     (subst (λ xs. IsRead ms xs ls rs ss t) i
     (subst (λ xs. IsRead xs is ls rs ss t) n h)))
-
--- what a topology keeps
-abbrev pub IsSound : TopologyValue → Type 0
-IsSound v =
-    IsInOrder v.nodes v.ifaces v.links
-    × (length v.nodes ≤ MAX_NODES)
-    × (length v.ifaces ≤ MAX_IFACES)
-    × (length v.links ≤ MAX_LINKS)
-    × (length v.sources ≤ MAX_SOURCES)
-    × (length v.receivers ≤ MAX_CHANNELS)
-    × All (λ s. IsPlaced (length v.nodes) (owners_of v.ifaces) s) v.sources
-    × (v.partitions ≤ MAX_PARTITIONS)
-    × IsWithinLimits v
-    × All (λ s. HasOctets s.traffic) v.sources
 
 -- a document and its numbers, put together part by part
 pub record IsMade (digest : List ℕ) (d : DocumentValue) (t : ResolvedValue) (v : TopologyValue) : Type 0 where
@@ -99,7 +90,7 @@ module _ (d : DocumentValue) (t : ResolvedValue) (digest : List ℕ)
   put = record { stop = refl; mtu = refl; nodes = refl; ifaces = refl; sources = refl; partitions = refl }
 
   order : IsInOrder v.nodes v.ifaces v.links
-  order = in_order d.nodes d.ifaces t (map (λ i. i.address) d.ifaces) read.owners.0 read.owners.1 read.links read.vias passed
+  order = in_order d.nodes d.ifaces t (map (λ i. i.address) d.ifaces) read.numbered.owners.0 read.numbered.owners.1 read.numbered.ends read.numbered.vias passed
 
   nodes-count : length v.nodes ≡ length d.nodes
   nodes-count = nodes-length d.nodes node_routes (numbers-length (λ j. routes_at j t.routes) (length d.nodes) 0)
@@ -108,29 +99,48 @@ module _ (d : DocumentValue) (t : ResolvedValue) (digest : List ℕ)
   far-count = numbers-length (λ i. far_by_links i t.links) (length d.ifaces) 0
 
   ifaces-count : length v.ifaces ≡ length d.ifaces
-  ifaces-count = ifaces-length d.ifaces t.owners (far_ends (length d.ifaces) t.links) read.owners.0 far-count
+  ifaces-count = ifaces-length d.ifaces t.owners (far_ends (length d.ifaces) t.links) read.numbered.owners.0 far-count
 
   owners-are : t.owners ≡ owners_of v.ifaces
-  owners-are = sym (ifaces-owners d.ifaces t.owners (far_ends (length d.ifaces) t.links) read.owners.0 far-count)
+  owners-are = sym (ifaces-owners d.ifaces t.owners (far_ends (length d.ifaces) t.links) read.numbered.owners.0 far-count)
 
   sources : All (λ s. IsPlaced (length v.nodes) (owners_of v.ifaces) s) v.sources
   sources = subst (λ os. All (λ s. IsPlaced (length v.nodes) os s) t.sources) owners-are
-      (subst (λ m. All (λ s. IsPlaced m t.owners s) t.sources) (sym nodes-count) read.sources)
+      (subst (λ m. All (λ s. IsPlaced m t.owners s) t.sources) (sym nodes-count) read.numbered.placed)
 
-  pub sound : IsInRange d → IsCounted d → length v.receivers ≤ MAX_CHANNELS → v.partitions ≤ MAX_PARTITIONS → IsSound v
-  sound range counts few parts =
-      let used = (all_passed (map (λ n. n.partition) d.nodes) (map (λ i. i.address) d.ifaces) (length d.nodes) (length d.ifaces) t passed).used in (
-        order,
-        subst (λ m. m ≤ MAX_NODES) (sym nodes-count) counts.0,
-        subst (λ m. m ≤ MAX_IFACES) (sym ifaces-count) counts.1,
-        subst (λ m. m ≤ MAX_LINKS) (sym read.counts.0) counts.2,
-        subst (λ m. m ≤ MAX_SOURCES) (sym read.counts.1) counts.3,
-        few,
-        sources,
-        parts,
-        within_limits d t node_routes v range read.value used put,
-        have_octets d t node_routes v range read.value used put,
-      )
+  pass : Passed (map (λ n. n.partition) d.nodes) (map (λ i. i.address) d.ifaces) (length d.nodes) (length d.ifaces) t
+  pass = all_passed (map (λ n. n.partition) d.nodes) (map (λ i. i.address) d.ifaces) (length d.nodes) (length d.ifaces) t passed
+
+  routes-count : length node_routes ≡ length d.nodes
+  routes-count = numbers-length (λ j. routes_at j t.routes) (length d.nodes) 0
+
+  receivers : AreReceivers v.nodes v.ifaces v.receivers
+  receivers =
+      let far = far_ends (length d.ifaces) t.links in
+      subst (λ ps. AreReceivers v.nodes v.ifaces (receivers_of ps t.owners far)) (nodes-parts d.nodes node_routes routes-count)
+      (subst (λ os. AreReceivers v.nodes v.ifaces (receivers_of (parts_of v.nodes) os far)) (sym owners-are)
+      (are_receivers v.nodes v.ifaces t.links far order (ifaces-count ∙ sym far-count) (iface-far d.ifaces t.owners far)))
+
+  doubles : HasNoDoubles v.nodes v.ifaces
+  doubles =
+      no_doubles d.nodes d.ifaces d.links d.routes d.sources t (far_ends (length d.ifaces) t.links) read.value read.numbered.owners.0 far-count
+      pass.different pass.single routes-count
+
+  pub sound : IsInRange d → IsCounted d → length v.receivers ≤ MAX_CHANNELS → v.partitions ≤ MAX_PARTITIONS → IsAccepted v
+  sound range counts few parts = (
+    order,
+    subst (λ m. m ≤ MAX_NODES) (sym nodes-count) counts.0,
+    subst (λ m. m ≤ MAX_IFACES) (sym ifaces-count) counts.1,
+    subst (λ m. m ≤ MAX_LINKS) (sym read.numbered.counts.0) counts.2,
+    subst (λ m. m ≤ MAX_SOURCES) (sym read.numbered.counts.1) counts.3,
+    few,
+    sources,
+    parts,
+    within_limits d t node_routes v range read.value pass.used put,
+    have_octets d t node_routes v range read.value pass.used put,
+    receivers,
+    doubles,
+  )
 
   pub network-read : network_of digest d ≡ Ok (put_together digest d t)
   unfolding network_of

@@ -1,5 +1,6 @@
 -- One link more, and the far ends of interfaces.
-use Rattle.std.proofs.Common.{◌≡◌, All, ℕ, zero, suc, ◌<◌, true, false, ◌==◌, cond, List, [], ◌∷◌, length, set, Some, refl, sym, ap, ◌∙◌, arith, ⊎_elim, length-set}
+use Rattle.std.proofs.Common.{◌≡◌, All, ℕ, zero, suc, ◌<◌, true, false, ◌==◌, cond, List, [], ◌∷◌}
+use Rattle.std.proofs.Common.{length, set, Some, refl, sym, ap, ◌∙◌, arith, ⊎_elim, length-set}
 use Rattle.std.specs.Prelude.{slice_get}
 use Rattle.std.proofs.lemmas.Bool.Decides.{nat_tests}
 use Rattle.std.proofs.lemmas.List.Elements.{All-set}

@@ -1,4 +1,5 @@
--- What hangs together: the routes of each node, the far end of each interface, the receivers of channels, the partitions.
+-- What hangs together: the routes of each node, the far end of each interface, the receivers of
+-- channels, the partitions.
 use Rattle.nm_topology.specs.Parse.DocumentValue.{DocumentValue}
 use Rattle.nm_topology.specs.PartValues.{NodeValue, IfaceValue}
 use Rattle.nm_topology.specs.Parse.TableValues.{IfaceTableValue, NodeTableValue}
@@ -6,7 +7,8 @@ use Rattle.nm_topology.specs.declared.parts.Far.{Far}
 use Rattle.nm_topology.specs.declared.parts.Link.{Link}
 use Rattle.nm_topology.specs.declared.parts.PlacedRoute.{PlacedRoute}
 use Rattle.nm_topology.specs.declared.parts.Route.{Route}
-use Rattle.std.specs.Prelude.{ℕ, Bool, ◌==◌, if◌then◌else◌, List, [], ◌∷◌, slice_index, zero, suc, ◌+◌, not, map, slice_index_or as get_or, set, max, length, filter}
+use Rattle.std.specs.Prelude.{ℕ, Bool, ◌==◌, if◌then◌else◌, List, [], ◌∷◌, slice_index, zero, suc}
+use Rattle.std.specs.Prelude.{◌+◌, not, map, slice_index_or as get_or, set, max, length, filter}
 use Rattle.nm_topology.specs.ResolvedValue.{ResolvedValue}
 use Rattle.nm_topology.specs.TopologyValue.{TopologyValue}
 
@@ -25,12 +27,14 @@ abbrev pub far_by_links : ℕ → List Link → Far
 far_by_links i [] = record { peer = i; rate = 0; delay = 0 }
 far_by_links i (l ∷ ls) =
     if l.a == i then record { peer = l.b; rate = l.rate; delay = l.delay }
-    else (if l.b == i then record { peer = l.a; rate = l.rate; delay = l.delay } else far_by_links i ls)
+    else (if l.b == i then record { peer = l.a; rate = l.rate; delay = l.delay }
+    else far_by_links i ls)
 
 -- the far ends with those of one link set
 abbrev pub joined : List Far → Link → List Far
 joined far l =
-    set (set far l.b (record { peer = l.a; rate = l.rate; delay = l.delay })) l.a (record { peer = l.b; rate = l.rate; delay = l.delay })
+    set (set far l.b (record { peer = l.a; rate = l.rate; delay = l.delay })) l.a
+    (record { peer = l.b; rate = l.rate; delay = l.delay })
 
 -- the partition of an interface, by the partitions of nodes and the owners of interfaces
 abbrev pub part_of : List ℕ → List ℕ → ℕ → ℕ
@@ -49,7 +53,8 @@ peer_at far i = (get_or far i (far_by_links i [])).peer
 
 -- whether the interface, of those with these far ends, receives a channel
 abbrev pub is_receiver : List ℕ → List ℕ → List Far → ℕ → Bool
-is_receiver parts owners far i = not (part_of parts owners i == part_of parts owners (peer_at far i))
+is_receiver parts owners far i =
+    not (part_of parts owners i == part_of parts owners (peer_at far i))
 
 -- the greatest partition plus one
 abbrev pub partition_count : List ℕ → ℕ
@@ -60,14 +65,23 @@ abbrev pub placed_nodes : List NodeTableValue → List (List Route) → List Nod
 placed_nodes [] node_routes = []
 placed_nodes (n ∷ ns) [] = []
 placed_nodes (n ∷ ns) (t ∷ ts) =
-    record { name = n.name; kind = n.kind; partition = n.partition; ports = n.ports; routes = t } ∷ placed_nodes ns ts
+    record { name = n.name; kind = n.kind; partition = n.partition; ports = n.ports; routes = t }
+    ∷ placed_nodes ns ts
 
 abbrev pub placed_ifaces : List IfaceTableValue → List ℕ → List Far → List IfaceValue
 placed_ifaces [] owners far = []
 placed_ifaces (i ∷ is) [] far = []
 placed_ifaces (i ∷ is) (o ∷ os) [] = []
 placed_ifaces (i ∷ is) (o ∷ os) (f ∷ fs) =
-    record { name = i.name; node = o; address = i.address; queue = i.queue; far = f } ∷ placed_ifaces is os fs
+    record {
+      name = i.name;
+      node = o;
+      address = i.address;
+      queue = i.queue;
+      queue_octets = i.queue_octets;
+      far = f;
+    }
+    ∷ placed_ifaces is os fs
 
 -- the interfaces that receive a channel: channel n comes in at the n-th of them
 abbrev pub receivers_of : List ℕ → List ℕ → List Far → List ℕ
@@ -82,7 +96,8 @@ put_together digest d t = record {
   ifaces = placed_ifaces d.ifaces t.owners (far_ends (length d.ifaces) t.links);
   links = t.links;
   sources = t.sources;
-  receivers = receivers_of (map (λ n. n.partition) d.nodes) t.owners (far_ends (length d.ifaces) t.links);
+  receivers =
+      receivers_of (map (λ n. n.partition) d.nodes) t.owners (far_ends (length d.ifaces) t.links);
   partitions = partition_count (map (λ n. n.partition) d.nodes);
   digest = digest;
 }

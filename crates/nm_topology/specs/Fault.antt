@@ -1,7 +1,10 @@
 -- The numbers of the faults, and what it means that a function reads what a definition says.
 use Rattle.std.specs.Prelude.{◌≡◌, ℕ, Bool, if◌then◌else◌, Result, Ok, Err}
 use Rattle.nm_topology.specs.declared.fault.Refusal.{Refusal}
-use Rattle.nm_topology.specs.declared.fault.Refusal.TheVariants.{Text, Missing, UnknownKey, Kind, Range, TooMany, DoubleName, NoSuch, IfaceUse, DoubleAddress, DoubleRoute, CutDelay, Hex}
+use Rattle.nm_topology.specs.declared.fault.Refusal.TheVariants.{Text, Missing, UnknownKey, Kind}
+use Rattle.nm_topology.specs.declared.fault.Refusal.TheVariants.{Range, TooMany, DoubleName, NoSuch}
+use Rattle.nm_topology.specs.declared.fault.Refusal.TheVariants.{IfaceUse, DoubleAddress}
+use Rattle.nm_topology.specs.declared.fault.Refusal.TheVariants.{DoubleRoute, CutDelay, Hex}
 use Rattle.nm_topology.specs.declared.fault.TopoFault.{TopoFault}
 use Rattle.nm_topology.specs.declared.fault.TopoFault.TheVariants.{Refused, Memory}
 

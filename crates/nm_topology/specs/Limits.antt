@@ -1,6 +1,9 @@
 -- The ranges of what an accepted topology says.
-use Rattle.std.specs.Prelude.{ℕ, ◌+◌, ◌<◌, ◌≤◌, All, List, [], ◌∷◌, length}
-use Rattle.nm_base.specs.declared.limits.TheConstants.{MAX_COUNT, MAX_DELAY, MAX_INTERVAL, MAX_MTU, MAX_PORTS_OF_NODE, MAX_QUEUE, MAX_RATE, MAX_RAW_PACKETS, MAX_TIME, MIN_MTU, MIN_RATE}
+use Rattle.std.specs.Prelude.{ℕ, ◌+◌, ◌<◌, ◌≤◌, All, List, [], ◌∷◌, length, IfSome}
+use Rattle.nm_base.specs.declared.limits.TheConstants.{MAX_QUEUE_OCTETS}
+use Rattle.nm_base.specs.declared.limits.TheConstants.{MAX_COUNT, MAX_DELAY, MAX_INTERVAL, MAX_MTU}
+use Rattle.nm_base.specs.declared.limits.TheConstants.{MAX_PORTS_OF_NODE, MAX_QUEUE, MAX_RATE}
+use Rattle.nm_base.specs.declared.limits.TheConstants.{MAX_RAW_PACKETS, MAX_TIME, MIN_MTU, MIN_RATE}
 use Rattle.nm_topology.specs.declared.traffic.Flow.{Flow}
 use Rattle.nm_topology.specs.declared.traffic.RawPacket.{RawPacket}
 use Rattle.nm_topology.specs.declared.traffic.Traffic.{Traffic}
@@ -40,5 +43,8 @@ pub record IsWithinLimits (t : TopologyValue) : Type 0 where
   pub least_mtu : MIN_MTU ≤ t.mtu
   pub greatest_mtu : t.mtu ≤ MAX_MTU
   pub nodes : All (λ n. (n.partition < t.partitions) × (length n.ports ≤ MAX_PORTS_OF_NODE)) t.nodes
-  pub ifaces : All (λ i. (i.queue ≤ MAX_QUEUE) × (MIN_RATE ≤ i.far.rate) × (i.far.rate ≤ MAX_RATE) × (i.far.delay ≤ MAX_DELAY)) t.ifaces
+  pub ifaces : All
+      (λ i. (i.queue ≤ MAX_QUEUE)
+      × (MIN_RATE ≤ i.far.rate) × (i.far.rate ≤ MAX_RATE) × (i.far.delay ≤ MAX_DELAY)) t.ifaces
+  pub queue_octets : All (λ i. IfSome i.queue_octets (λ n. n ≤ MAX_QUEUE_OCTETS)) t.ifaces
   pub sources : All (λ s. FitsTraffic t.mtu s.traffic) t.sources

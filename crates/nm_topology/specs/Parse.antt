@@ -20,4 +20,5 @@ use Rattle.toml.specs.Parse.{parse_document}
 
 -- the TOML document of a text of octets
 abbrev pub top_table_of : List ℕ → Result Members Refusal
-top_table_of text = if utf8_valid_len text == length text then ok_or (parse_document text) Text else Err Text
+top_table_of text =
+    if utf8_valid_len text == length text then ok_or (parse_document text) Text else Err Text

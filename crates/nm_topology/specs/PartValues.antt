@@ -1,5 +1,5 @@
 -- What contracts see of a topology.
-use Rattle.std.specs.Prelude.{ℕ, List}
+use Rattle.std.specs.Prelude.{ℕ, List, Option}
 use Rattle.nm_topology.specs.declared.node.NodeKind.{NodeKind}
 use Rattle.nm_topology.specs.declared.parts.Far.{Far}
 use Rattle.nm_topology.specs.declared.parts.Route.{Route}
@@ -16,4 +16,5 @@ pub record IfaceValue : Type 0 where
   pub node : ℕ
   pub address : ℕ
   pub queue : ℕ
+  pub queue_octets : Option ℕ
   pub far : Far

@@ -2,7 +2,8 @@
 
 ghost use Rattle.std.specs.Prelude.{◌≡◌, ◌≤◌, ◌<◌, map, length, All, IfOk};
 ghost use Rattle.nm_base.specs.declared.limits.TheConstants.{MAX_CHANNELS, MAX_IFACES};
-ghost use Rattle.nm_topology.specs.Build.{far_ends, placed_ifaces, placed_nodes, receivers_of, routes_of_nodes};
+ghost use Rattle.nm_topology.specs.Build.{far_ends, placed_ifaces, placed_nodes, receivers_of};
+ghost use Rattle.nm_topology.specs.Build.{routes_of_nodes};
 ghost use Rattle.nm_topology.specs.Fault.{Gives};
 ghost use Rattle.nm_topology.specs.Validate.{tested};
 
@@ -18,8 +19,8 @@ use std::alloc::{AllocError, Global};
 pub mod partitions;
 pub mod wiring;
 
-/// What hangs together: the routes of each node, the far end of each interface, and the interfaces that receive a
-/// channel.
+/// What hangs together: the routes of each node, the far end of each interface, and the interfaces
+/// that receive a channel.
 #[derive(Drop)]
 pub struct Wired {
     pub node_routes: Vec<NodeRoutes>,

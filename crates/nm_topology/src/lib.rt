@@ -1,10 +1,12 @@
-//! From the topology text to the network, or to the first fault, in the passes of a compiler: `parse` (the text, then its
-//! tables, with names), `names` (names and their numbers), `resolve` (numbers in place of names), `build` (what hangs
-//! together) and `validate` (the tests of the whole, in their order).
+//! From the topology text to the network, or to the first fault, in the passes of a compiler:
+//! `parse` (the text, then its tables, with names), `names` (names and their numbers), `resolve`
+//! (numbers in place of names), `build` (what hangs together) and `validate` (the tests of the
+//! whole, in their order).
 #![tactic(auto)]
 
 mod build;
 pub mod fault;
+pub mod laws;
 mod names;
 pub mod node;
 mod parse;

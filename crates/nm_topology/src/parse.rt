@@ -16,6 +16,7 @@ pub mod arrays;
 pub mod document;
 pub mod fields;
 pub mod forms;
+pub mod head;
 pub mod sources;
 pub mod tables;
 

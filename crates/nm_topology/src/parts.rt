@@ -157,7 +157,8 @@ impl Node {
         self.partition
     }
 
-    /// The UDP ports at which something listens, in the order of the text. One may stand there twice.
+    /// The UDP ports at which something listens, in the order of the text. One may stand there
+    /// twice.
     pub fn ports(&self) -> &[u16]
         ensures { result.now ≡ self.now.ports }
     {
@@ -179,6 +180,7 @@ pub struct Iface {
     node: NodeNo,
     address: Address,
     queue: u16,
+    queue_octets: Option<u32>,
     far: Far,
 }
 
@@ -193,6 +195,7 @@ impl Model for Iface {
       node = i.node;
       address = i.address;
       queue = i.queue;
+      queue_octets = i.queue_octets;
       far = i.far;
     } };
 }
@@ -206,6 +209,7 @@ impl Iface {
               node = node;
               address = table.address;
               queue = table.queue;
+              queue_octets = table.queue_octets;
               far = far;
             } }
     {
@@ -214,12 +218,14 @@ impl Iface {
             node: _,
             address,
             queue,
+            queue_octets,
         } = table;
         Iface {
             name,
             node,
             address,
             queue,
+            queue_octets,
             far,
         }
     }
@@ -248,6 +254,13 @@ impl Iface {
         ensures { result ≡ self.now.queue }
     {
         self.queue
+    }
+
+    /// How many octets may wait, 0 to 655,350,000, or `None` where there is no such limit.
+    pub fn queue_octets(&self) -> Option<u32>
+        ensures { result ≡ self.now.queue_octets }
+    {
+        self.queue_octets
     }
 
     /// The interface at the other end of the link, and the link's rate and delay.

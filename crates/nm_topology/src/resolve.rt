@@ -1,10 +1,9 @@
 //! All tables with numbers in place of names.
 
-ghost use Rattle.std.specs.Prelude.{◌≡◌, ◌<◌, ◌≤◌, All, length, slice_index, IfOk};
+ghost use Rattle.std.specs.Prelude.{◌≡◌, ◌≤◌, length, IfOk};
 ghost use Rattle.nm_base.specs.declared.limits.TheConstants.{MAX_IFACES};
 ghost use Rattle.nm_topology.specs.Fault.{Gives};
-ghost use Rattle.nm_topology.specs.Resolve.{resolved, resolved_by};
-ghost use Rattle.nm_topology.specs.Accepted.{IsPlaced};
+ghost use Rattle.nm_topology.specs.Resolve.{IsNumbered, resolved, resolved_by};
 
 use crate::fault::TopoFault;
 use crate::names::Names;
@@ -52,19 +51,9 @@ fn resolve_by(
     sources: Vec<SourceTable>,
 ) -> Result<Resolved, TopoFault>
     requires { length iface_names.now ≡ length ifaces.now }
-    ensures owners { IfOk result
-        (λ n. (length n.owners ≡ length ifaces.now)
-        × All (λ o. o < length node_names.now) n.owners) }
-    ensures counts { IfOk result
-        (λ n. (length n.links ≡ length links.now) × (length n.sources ≡ length sources.items)) }
-    ensures links { IfOk result
-        (λ n. All (λ l. (l.a < length ifaces.now) × (l.b < length ifaces.now)) n.links) }
-    ensures routes { IfOk result (λ n. All (λ r. r.node < length node_names.now) n.routes) }
-    ensures vias { IfOk result
-        (λ n. All (λ r. (r.route.via < length ifaces.now)
-        × (slice_index n.owners r.route.via ≡ r.node)) n.routes) }
-    ensures sources { IfOk result
-        (λ n. All (λ s. IsPlaced (length node_names.now) n.owners s) n.sources) }
+    ensures numbered { IfOk result
+        (λ n. IsNumbered (length node_names.now) (length ifaces.now) (length links.now)
+        (length sources.items) n) }
     ensures value { Gives (λ n. n) result
         (resolved_by node_names.now iface_names.now ifaces.now links.now routes.now sources.items) }
 {
@@ -92,18 +81,9 @@ pub fn resolve(
 ) -> Result<Resolved, TopoFault>
     requires nodes { length nodes.now ≤ MAX_IFACES }
     requires ifaces { length ifaces.now ≤ MAX_IFACES }
-    ensures owners { IfOk result
-        (λ n. (length n.owners ≡ length ifaces.now) × All (λ o. o < length nodes.now) n.owners) }
-    ensures counts { IfOk result
-        (λ n. (length n.links ≡ length links.now) × (length n.sources ≡ length sources.items)) }
-    ensures links { IfOk result
-        (λ n. All (λ l. (l.a < length ifaces.now) × (l.b < length ifaces.now)) n.links) }
-    ensures routes { IfOk result (λ n. All (λ r. r.node < length nodes.now) n.routes) }
-    ensures vias { IfOk result
-        (λ n. All (λ r. (r.route.via < length ifaces.now)
-        × (slice_index n.owners r.route.via ≡ r.node)) n.routes) }
-    ensures sources { IfOk result
-        (λ n. All (λ s. IsPlaced (length nodes.now) n.owners s) n.sources) }
+    ensures numbered { IfOk result
+        (λ n. IsNumbered (length nodes.now) (length ifaces.now) (length links.now)
+        (length sources.items) n) }
     ensures value { Gives (λ n. n) result
         (resolved nodes.now ifaces.now links.now routes.now sources.items) }
 {

@@ -1,12 +1,16 @@
 //! A topology, and the reading of one.
 
-ghost use Rattle.nm_base.specs.declared.limits.TheConstants.{MAX_CHANNELS, MAX_IFACES, MAX_LINKS, MAX_NODES, MAX_PARTITIONS, MAX_SOURCES};
+ghost use Rattle.nm_base.specs.declared.limits.TheConstants.{MAX_CHANNELS, MAX_IFACES, MAX_LINKS};
+ghost use Rattle.nm_base.specs.declared.limits.TheConstants.{MAX_NODES, MAX_PARTITIONS};
+ghost use Rattle.nm_base.specs.declared.limits.TheConstants.{MAX_SOURCES};
 ghost use Rattle.nm_topology.specs.Limits.{HasOctets, IsWithinLimits};
-ghost use Rattle.nm_topology.specs.Accepted.{IsInOrder, IsPlaced, owners_of};
+ghost use Rattle.nm_topology.specs.Accepted.{AreReceivers, HasNoDoubles, IsInOrder, IsPlaced};
+ghost use Rattle.nm_topology.specs.Accepted.{owners_of};
 ghost use Rattle.nm_topology.specs.Parse.Ranges.{IsInRange};
-ghost use Rattle.std.specs.Prelude.{◌≡◌, ◌<◌, ◌≤◌, All, Some, length, slice_get};
+ghost use Rattle.std.specs.Prelude.{◌≡◌, ◌↔◌, ℕ, ◌<◌, ◌≤◌, All, Some, length, slice_get};
 ghost use Rattle.nm_topology.specs.Fault.{Gives};
-ghost use Rattle.nm_topology.specs.Topology.{channel_from, network_of, topology_of};
+ghost use Rattle.nm_topology.specs.Topology.{channel_from, network_of, receiving_iface};
+ghost use Rattle.nm_topology.specs.Topology.{topology_of};
 
 use crate::build::{self, Placed};
 use crate::fault::{Refusal, TopoFault};
@@ -36,35 +40,22 @@ pub struct Topology {
 }
 
 impl Model for Topology {
-    ghost use Rattle.std.specs.Prelude.{◌≤◌, All, length};
-    ghost use Rattle.nm_base.specs.declared.limits.TheConstants.{MAX_CHANNELS, MAX_IFACES, MAX_LINKS, MAX_NODES, MAX_PARTITIONS, MAX_SOURCES};
-    ghost use Rattle.nm_topology.specs.Limits.{HasOctets, IsWithinLimits};
-    ghost use Rattle.nm_topology.specs.Accepted.{IsInOrder, IsPlaced, owners_of};
+    ghost use Rattle.nm_topology.specs.Accepted.{IsAccepted};
     ghost use Rattle.nm_topology.specs.TopologyValue.{TopologyValue};
 
     ghost Value = { TopologyValue };
 
-    ghost invariant = { λ t.
-        IsInOrder t.nodes.items t.ifaces.items t.links.items
-        × (length t.nodes.items ≤ MAX_NODES)
-        × (length t.ifaces.items ≤ MAX_IFACES)
-        × (length t.links.items ≤ MAX_LINKS)
-        × (length t.sources.items ≤ MAX_SOURCES)
-        × (length t.receivers.items ≤ MAX_CHANNELS)
-        × All (λ s. IsPlaced (length t.nodes.items) (owners_of t.ifaces.items) s) t.sources.items
-        × (t.partitions ≤ MAX_PARTITIONS)
-        × IsWithinLimits (record {
-          stop = t.stop;
-          mtu = t.mtu;
-          nodes = t.nodes.items;
-          ifaces = t.ifaces.items;
-          links = t.links.items;
-          sources = t.sources.items;
-          receivers = t.receivers.items;
-          partitions = t.partitions;
-          digest = t.digest;
-        })
-        × All (λ s. HasOctets s.traffic) t.sources.items };
+    ghost invariant = { λ t. IsAccepted (record {
+      stop = t.stop;
+      mtu = t.mtu;
+      nodes = t.nodes.items;
+      ifaces = t.ifaces.items;
+      links = t.links.items;
+      sources = t.sources.items;
+      receivers = t.receivers.items;
+      partitions = t.partitions;
+      digest = t.digest;
+    }) };
 
     ghost view = { λ t. record {
       stop = t.stop;
@@ -80,7 +71,7 @@ impl Model for Topology {
 }
 
 /// The network that a document says.
-#[tactic(auto, using(crate::proofs::Order::in_order), unfolding(crate::specs::Topology::network_of))]
+#[tactic(auto, unfolding(crate::specs::Topology::network_of))]
 fn network(alloc: Global, document: Document, digest: [u8; 32]) -> Result<Topology, TopoFault>
     requires { IsInRange document }
     ensures { Gives (λ t. t) result (network_of digest document) }
@@ -121,9 +112,10 @@ fn network(alloc: Global, document: Document, digest: [u8; 32]) -> Result<Topolo
 }
 
 impl Topology {
-    /// Reads a topology text of at most 16,777,216 octets. The fault is the first in the reading order: the length, then
-    /// UTF-8 and TOML, then the tables key by key, then names, then the tests of the whole (docs/FORMATS.md). After
-    /// `Memory` the same call may succeed with more of it.
+    /// Reads a topology text of at most 16,777,216 octets. The fault is the first in the reading
+    /// order: the length, then UTF-8 and TOML, then the tables key by key, then names, then the
+    /// tests of the whole (docs/FORMATS.md). After `Memory` the same call may succeed with more of
+    /// it.
     #[tactic(auto, unfolding(crate::specs::Topology::topology_of))]
     pub fn read(alloc: Global, text: &[u8]) -> Result<Topology, TopoFault>
         ensures { Gives (λ t. t) result (topology_of text.now) }
@@ -201,6 +193,17 @@ impl Topology {
         &self.receivers
     }
 
+    /// The interface at which a channel comes in. For a number past the last channel it is the
+    /// number of interfaces, at which there is none.
+    pub fn receiver(&self, channel: ChanNo) -> IfaceNo
+        ensures { result ≡ receiving_iface self.now channel }
+    {
+        match self.receivers.get(channel.index()) {
+            Some(iface) => *iface,
+            None => IfaceNo::new(self.ifaces.len() as u32),
+        }
+    }
+
     /// The channel that this interface receives, if its link comes from another partition.
     pub fn channel_of(&self, iface: IfaceNo) -> Option<ChanNo>
         ensures { result ≡ channel_from 0 self.now.receivers iface }
@@ -230,11 +233,15 @@ impl Topology {
     }
 }
 
-/// What every accepted topology has: the layers above rely on it. Each interface is one end of exactly one link, and is
-/// of a node that is there; whatever it is linked to is another interface, linked back to it over the same rate and
-/// delay; the routes and the raw packets of a node leave by interfaces of its own; a link between partitions delays by
-/// at least 1 ns; counts are within the limits; times, sizes, rates, delays, queues and counts of packets are in their
-/// ranges, and the packets of a raw source come one after another; and no raw packet is empty.
+/// What every accepted topology has: the layers above rely on it. Each interface is one end of
+/// exactly one link, and is of a node that is there; whatever it is linked to is another interface,
+/// linked back to it over the same rate and delay; the routes and the raw packets of a node leave
+/// by interfaces of its own; a link between partitions delays by at least 1 ns; counts are within
+/// the limits; times, sizes, rates, delays, queues and counts of packets are in their ranges, and
+/// the packets of a raw source come one after another; and no raw packet is empty. The receivers of
+/// channels rise, and are exactly the interfaces whose links come from another partition. No two
+/// nodes have one name, no two interfaces one name or one address, and no two routes of a node one
+/// prefix.
 pub fn accepted_topologies_are_in_order(topology: &Topology)
     ensures order { IsInOrder topology.now.nodes topology.now.ifaces topology.now.links }
     ensures nodes { length topology.now.nodes ≤ MAX_NODES }
@@ -248,6 +255,23 @@ pub fn accepted_topologies_are_in_order(topology: &Topology)
     ensures partitions { topology.now.partitions ≤ MAX_PARTITIONS }
     ensures limits { IsWithinLimits topology.now }
     ensures octets { All (λ s. HasOctets s.traffic) topology.now.sources }
+    ensures receivers { AreReceivers topology.now.nodes topology.now.ifaces topology.now.receivers }
+    ensures doubles { HasNoDoubles topology.now.nodes topology.now.ifaces }
 {
     let _nodes = &topology.nodes;
+}
+
+/// Channel numbers and the interfaces at which channels come in say the same: `receiver` and
+/// `channel_of` are each other's inverse. A channel that there is comes in at an interface that
+/// there is, and any other number at none.
+pub fn channels_are_numbered_by_their_receivers(topology: &Topology)
+    ensures inverse { (i c : ℕ) → i < length topology.now.ifaces
+        → (channel_from 0 topology.now.receivers i ≡ Some c)
+        ↔ (receiving_iface topology.now c ≡ i) }
+    ensures there { (c : ℕ) → c < length topology.now.receivers
+        → receiving_iface topology.now c < length topology.now.ifaces }
+    ensures none { (c : ℕ) → length topology.now.receivers ≤ c
+        → receiving_iface topology.now c ≡ length topology.now.ifaces }
+{
+    accepted_topologies_are_in_order(topology);
 }

@@ -18,8 +18,8 @@ use std::alloc::Global;
 
 pub mod checks;
 
-/// Tests the whole, in the order of docs/FORMATS.md: nodes in these partitions, these interfaces, what their names
-/// resolved to and what hangs together. Names are tested where they are resolved.
+/// Tests the whole, in the order of docs/FORMATS.md: nodes in these partitions, these interfaces,
+/// what their names resolved to and what hangs together. Names are tested where they are resolved.
 pub fn validate(
     alloc: Global,
     parts: &[PartNo],

@@ -1,6 +1,7 @@
 //! Sources of echo requests (RFC 792).
 
 ghost use Rattle.std.specs.Prelude.{◌≡◌, ◌≤◌, ◌%◌, ◌++◌, IfOk};
+ghost use Rattle.nm_packet.specs.declared.limits.TheConstants.{MAX_PACKET_DATA};
 ghost use Rattle.nm_packet.specs.Octets.{word};
 ghost use Rattle.nm_topology.specs.declared.traffic.Traffic.TheVariants.{Echo as EchoTraffic};
 ghost use Rattle.nm_traffic.specs.Flow.{echo_message, flow_data};
@@ -23,7 +24,7 @@ pub struct EchoSource {
     echo: Echo,
     octets: Vec<u8>,
     ghost made: { octets.items ≡ flow_data echo.flow },
-    ghost fits: { echo.flow.size ≤ 65507 },
+    ghost fits: { echo.flow.size ≤ MAX_PACKET_DATA },
 }
 
 /// The rest of the header of an echo request: identifier and sequence number.
@@ -37,7 +38,7 @@ fn rest_of_header(identifier: u16, sequence_number: u16) -> [u8; 4]
 
 impl EchoSource {
     pub fn new(alloc: Global, echo: Echo) -> Result<Self, AllocError>
-        requires { echo.flow.size ≤ 65507 }
+        requires { echo.flow.size ≤ MAX_PACKET_DATA }
         ensures { IfOk result (λ s. s.echo ≡ echo) }
     {
         let octets = vec![in alloc; echo.flow.fill; echo.flow.size as usize]?;

@@ -31,6 +31,6 @@ pub fn source_times_rise(topology: &Topology)
     ensures greatest { ArePackets topology.now }
     ensures least { HaveOctets topology.now }
 {
-    accepted_topologies_are_in_order(topology);
-    times_rise_within_limits();
+    accepted_topologies_are_in_order(topology); // law: sources are within their limits
+    times_rise_within_limits(); // law: so their times fit
 }

@@ -37,7 +37,7 @@ impl Source {
         ensures packets { IfOk result (λ s. (number : ℕ)
             → source_at topology.now source number ≡ packet_at s.stop s.traffic number) }
     {
-        accepted_topologies_are_in_order(topology);
+        accepted_topologies_are_in_order(topology); // law: the source is within its limits
         let traffic = &topology.sources()[source.index()].traffic;
         Ok(Source {
             stop: topology.stop(),

@@ -23,7 +23,8 @@ fn words<R: Env + Alloc>(rt: &R) -> io::Result<Vec<String<R::A>, R::A>> {
     Ok(words)
 }
 
-/// The input that the words name: standard input for `-`, and else a file. Words of no command name none.
+/// The input that the words name: standard input for `-`, and else a file. Words of no command name
+/// none.
 fn open(rt: &HostRuntime, words: &[String]) -> Source {
     let Some(command) = Command::of(words) else {
         return Source::Missing;

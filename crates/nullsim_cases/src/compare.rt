@@ -9,7 +9,8 @@ pub fn push_line(text: &mut String, line: &str) -> Result<(), AllocError> {
     text.push('\n')
 }
 
-/// Prints the lines of two texts that differ from the other's line in the same place, and answers whether there is one.
+/// Prints the lines of two texts that differ from the other's line in the same place, and answers
+/// whether there is one.
 pub fn differs(rt: &impl Print, name: &str, expected: &str, found: &str) -> io::Result<bool> {
     if expected == found {
         return Ok(false);

@@ -1,4 +1,5 @@
-//! All that was read of a topology text. Interfaces are named by their numbers, from 0 in the order of the text.
+//! All that was read of a topology text. Interfaces are named by their numbers, from 0 in the order
+//! of the text.
 //!
 //! ```text
 //! stop NANOSECONDS

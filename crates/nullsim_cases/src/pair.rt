@@ -1,9 +1,11 @@
-//! Cases of a text each: `NAME.toml`, whose octets are read as they are, and `NAME.expect`, the lines that it shows.
+//! Cases of a text each: `NAME.toml`, whose octets are read as they are, and `NAME.expect`, the
+//! lines that it shows.
 //!
-//! In the folder `networks` these are a line `iface NAME HEX` for each interface, with its trace file in hexadecimal, a
-//! line `counter NODE NAME VALUE` for each counter above 0, and a line `dropped IFACE VALUE` for each interface at which
-//! packets were dropped. In each other folder it is the line `accepted`, or `fault N` with the number of the first fault.
-//! Lines that begin with `#` are comments.
+//! In the folder `networks` these are a line `iface NAME HEX` for each interface, with its trace
+//! file in hexadecimal, a line `counter NODE NAME VALUE` for each counter above 0, and a line
+//! `dropped IFACE VALUE` for each interface at which packets were dropped. In each other folder it
+//! is the line `accepted`, or `fault N` with the number of the first fault. Lines that begin with
+//! `#` are comments.
 
 use crate::compare::{differs, push_line};
 use crate::show::{Show, View};

@@ -1,5 +1,5 @@
-//! The records of a trace: a line `TIME IFACE in|out COUNT HEX` each, with the count of the packet's octets, and the octets
-//! without the zeros that end them.
+//! The records of a trace: a line `TIME IFACE in|out COUNT HEX` each, with the count of the
+//! packet's octets, and the octets without the zeros that end them.
 
 use nm_base::{Dir, Record};
 use nm_topology::Topology;

@@ -11,7 +11,8 @@ use nm_sim::Part;
 use nm_topology::Topology;
 use std::alloc::{AllocError, Global};
 
-/// Does the part's first event, if its time is before `before` and before the network's `stop`: its key, if one was done.
+/// Does the part's first event, if its time is before `before` and before the network's `stop`: its
+/// key, if one was done.
 ///
 /// # Errors
 ///
@@ -40,7 +41,8 @@ pub fn run_before<L: EventList + Drop>(
     topology: &Topology,
     before: Time,
 ) -> Result<Part<L>, AllocError>
-    ensures { IfOk result (λ p. (s : State (List ℕ) NodeStateValue) × Represents L.pending topology.now p s) }
+    ensures { IfOk result
+        (λ p. (s : State (List ℕ) NodeStateValue) × Represents L.pending topology.now p s) }
 {
     let mut part = Part::start(alloc, topology)?;
     for _ in 0..u64::MAX {

@@ -7,7 +7,8 @@
 //! | `trace` | the records in their order (module `records`), then the lines of `counts` |
 //! | `counts` | `NODE COUNTER VALUE` for each counter above 0, then `IFACE dropped VALUE` for each interface that dropped packets |
 //!
-//! Of a text that is refused, each of them is the line `fault N`, with the number of the first fault.
+//! Of a text that is refused, each of them is the line `fault N`, with the number of the first
+//! fault.
 
 use crate::counted::{Words, push_counted};
 use crate::network::network_text;
@@ -39,7 +40,8 @@ pub enum View {
     Trace,
     /// Its counters and its drops alone.
     Counts,
-    /// The trace file of each interface, its counters and its drops, as the independent model writes them.
+    /// The trace file of each interface, its counters and its drops, as the independent model
+    /// writes them.
     Files,
 }
 

@@ -1,4 +1,5 @@
-//! Cases that are changes of one text: `NAME.cases`, lines of a key, a space and what belongs to the key.
+//! Cases that are changes of one text: `NAME.cases`, lines of a key, a space and what belongs to
+//! the key.
 //!
 //! ```text
 //! # Names: 1 to 32 characters of a to z, 0 to 9 and hyphen, and no hyphen first.
@@ -27,8 +28,9 @@
 //! | `before` | a time in nanoseconds: what is shown is what was done before it, and before `stop` |
 //! | `>` | a line that is to be shown, in the order of what is shown |
 //!
-//! The changes of a case are made one after another. A piece that is not there is an error, so no case is ever about another
-//! text than its lines say. No line ends with a space. Empty lines, and lines that begin with `#`, say nothing.
+//! The changes of a case are made one after another. A piece that is not there is an error, so no
+//! case is ever about another text than its lines say. No line ends with a space. Empty lines, and
+//! lines that begin with `#`, say nothing.
 
 mod lines;
 

@@ -1,4 +1,5 @@
-//! Topologies of two hosts, their trace files as they stand on disk, and a run of the program in memory.
+//! Topologies of two hosts, their trace files as they stand on disk, and a run of the program in
+//! memory.
 
 use nm_base::MemSink;
 use nm_command::Status;

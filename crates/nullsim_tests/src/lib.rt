@@ -1,4 +1,5 @@
-//! Tests of the program: its words, its ways to end, and its one function over words, an input and sinks.
+//! Tests of the program: its words, its ways to end, and its one function over words, an input and
+//! sinks.
 #![tactic(auto)]
 
 #[cfg(test)]

@@ -31,7 +31,7 @@ fn a_topology_that_is_refused(rt: HostRuntime) -> Result<(), Fail> {
     for (text, refusal) in [
         ("?", Refusal::Text),
         ("format = 1\nstop = 1\n", Refusal::Missing),
-        ("format = 2\n", Refusal::Range),
+        ("format = 3\n", Refusal::Range),
     ] {
         ends(&rt, "one - c0", text.as_bytes(), Status::Topology(refusal))?;
     }

@@ -6,7 +6,8 @@ use std::alloc::Global;
 use std::process::Abort;
 use std::test::Fail;
 
-/// 1,100,000 nanoseconds: 100,000 for 100 octets at 8,000,000 bits per second, and a delay of 1,000,000.
+/// 1,100,000 nanoseconds: 100,000 for 100 octets at 8,000,000 bits per second, and a delay of
+/// 1,000,000.
 const ARRIVAL: [u8; 8] = [0, 0, 0, 0, 0xe0, 0xc8, 0x10, 0];
 
 /// The program writes these octets of a text for each of these lines of words.

@@ -1,5 +1,6 @@
 -- Arrays: what each member is read to, in order.
-use Rattle.std.specs.Prelude.{ℕ, zero, suc, Bool, true, false, ◌&&◌, nat_le, if◌then◌else◌, List, [], ◌∷◌, Result, Ok, Err}
+use Rattle.std.specs.Prelude.{ℕ, zero, suc, Bool, true, false, ◌&&◌, nat_le, if◌then◌else◌, List}
+use Rattle.std.specs.Prelude.{[], ◌∷◌, Result, Ok, Err}
 use Rattle.toml.specs.Data.{Data, integer, array, table, Items, no_items, item, Members}
 use Rattle.nm_topology.specs.declared.fault.Refusal.{Refusal}
 use Rattle.nm_topology.specs.declared.fault.Refusal.TheVariants.{Kind, TooMany}
@@ -27,10 +28,14 @@ each read no_items = Ok []
 each read (item d ds) = read d >>= λ x. each read ds >>= λ xs. Ok (x ∷ xs)
 
 -- members of one type, of which there are at most so many
-abbrev pub members_of : {X : Type 0} → (Data → Bool) → ℕ → (Data → Result X Refusal) → Items → Result (List X) Refusal
-members_of fits limit read ds = if all_fit fits ds then (if nat_le (count ds) limit then each read ds else Err TooMany) else Err Kind
+abbrev pub members_of : {X : Type 0} → (Data → Bool) → ℕ → (Data → Result X Refusal) → Items
+    → Result (List X) Refusal
+members_of fits limit read ds =
+    if all_fit fits ds then (if nat_le (count ds) limit then each read ds else Err TooMany)
+    else Err Kind
 
-abbrev pub array_of : {X : Type 0} → (Data → Bool) → ℕ → (Data → Result X Refusal) → Data → Result (List X) Refusal
+abbrev pub array_of : {X : Type 0} → (Data → Bool) → ℕ → (Data → Result X Refusal) → Data
+    → Result (List X) Refusal
 array_of fits limit read (array ds) = members_of fits limit read ds
 array_of fits limit read _ = Err Kind
 

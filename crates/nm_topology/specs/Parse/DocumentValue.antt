@@ -1,6 +1,7 @@
 -- What a whole topology text says, with names in place of numbers.
 use Rattle.std.specs.Prelude.{ℕ, List}
-use Rattle.nm_topology.specs.Parse.TableValues.{NodeTableValue, IfaceTableValue, LinkTableValue, RouteTableValue}
+use Rattle.nm_topology.specs.Parse.TableValues.{NodeTableValue, IfaceTableValue, LinkTableValue}
+use Rattle.nm_topology.specs.Parse.TableValues.{RouteTableValue}
 use Rattle.nm_topology.specs.Parse.SourceTableValue.{SourceTableValue}
 
 pub record DocumentValue : Type 0 where

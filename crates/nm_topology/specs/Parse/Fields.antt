@@ -1,5 +1,6 @@
 -- Fields of tables: which keys a table has, and how a value is read.
-use Rattle.std.specs.Prelude.{ℕ, ℤ, pos, negsuc, Bool, true, ◌&&◌, nat_le, if◌then◌else◌, List, Option, Some, None, Result, Ok, Err}
+use Rattle.std.specs.Prelude.{ℕ, ℤ, pos, negsuc, Bool, true, ◌&&◌, nat_le, if◌then◌else◌, List}
+use Rattle.std.specs.Prelude.{Option, Some, None, Result, Ok, Err}
 use Rattle.toml.specs.Data.{Data, string, integer, Members, no_members, member}
 use Rattle.std.specs.List.{list_any}
 use Rattle.std.specs.Str.{bytes_eq}
@@ -24,6 +25,10 @@ whole_in least greatest (negsuc n) = Err Range
 abbrev pub number_in : ℕ → ℕ → Data → Result ℕ Refusal
 number_in least greatest (integer z) = whole_in least greatest z
 number_in least greatest _ = Err Kind
+
+-- the same, for a key that may be absent
+abbrev pub some_number_in : ℕ → ℕ → Data → Result (Option ℕ) Refusal
+some_number_in least greatest d = number_in least greatest d >>= λ n. Ok (Some n)
 
 abbrev pub in_form : {X : Type 0} → Option X → Result X Refusal
 in_form None = Err Range

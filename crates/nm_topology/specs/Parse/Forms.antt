@@ -1,5 +1,7 @@
 -- The forms of texts in a topology: names, addresses, prefixes.
-use Rattle.std.specs.Prelude.{ℕ, zero, suc, ◌-◌, ◌%◌, ◌^◌, Bool, true, false, ◌&&◌, ◌||◌, not, ◌==◌, nat_le, if◌then◌else◌, List, [], ◌∷◌, length, Option, Some, None, codes, decimal}
+use Rattle.std.specs.Prelude.{ℕ, zero, suc, ◌-◌, ◌%◌, ◌^◌, Bool, true, false, ◌&&◌, ◌||◌, not, ◌==◌}
+use Rattle.std.specs.Prelude.{nat_le, if◌then◌else◌, List, [], ◌∷◌, length, Option, Some, None}
+use Rattle.std.specs.Prelude.{codes, decimal}
 use Rattle.std.specs.List.{list_all, before_first, after_first}
 use Rattle.std.specs.Option.{option_and_then}
 use Rattle.std.specs.Str.{bytes_eq}
@@ -25,7 +27,8 @@ is_name_character c = (nat_le 97 c && nat_le c 122) || (nat_le 48 c && nat_le c 
 -- 1 to 32 such characters, the first of them no hyphen
 abbrev pub is_name : List ℕ → Bool
 is_name [] = false
-is_name (c ∷ cs) = not (c == 45) && nat_le (length (c ∷ cs)) 32 && list_all is_name_character (c ∷ cs)
+is_name (c ∷ cs) =
+    not (c == 45) && nat_le (length (c ∷ cs)) 32 && list_all is_name_character (c ∷ cs)
 
 abbrev pub name_of : List ℕ → Option (List ℕ)
 name_of text = if is_name text then Some text else None
@@ -36,7 +39,8 @@ address_of text = least_below (2 ^ 32) (λ a. bytes_eq text (address_text a))
 
 -- the same, but for martians
 abbrev pub usable_address_of : List ℕ → Option ℕ
-usable_address_of text = option_and_then (λ a. if is_martian a then None else Some a) (address_of text)
+usable_address_of text =
+    option_and_then (λ a. if is_martian a then None else Some a) (address_of text)
 
 -- the length of a prefix that a text writes, 0 to 32
 abbrev pub length_of : List ℕ → Option ℕ
@@ -44,14 +48,20 @@ length_of text = least_below 33 (λ n. bytes_eq text (decimal n))
 
 -- the prefix of these bits and this length, where the bits past the length are 0
 abbrev pub prefix_at : ℕ → ℕ → Option Prefix
-prefix_at bits n = if bits % 2 ^ (32 - n) == 0 then Some (record { address = bits; length = n }) else None
+prefix_at bits n =
+    if bits % 2 ^ (32 - n) == 0 then Some (record { address = bits; length = n }) else None
 
 abbrev pub is_slash : ℕ → Bool
 is_slash c = c == 47
 
 -- an address, a slash and a length, where the bits of the address past that length are 0
 abbrev pub prefix_of : List ℕ → Option Prefix
-prefix_of text = option_and_then (λ a. option_and_then (λ n. prefix_at a n) (length_of (after_first is_slash text))) (address_of (before_first is_slash text))
+prefix_of text =
+    option_and_then
+    (λ a. option_and_then (λ n. prefix_at a n) (length_of (after_first is_slash text)))
+    (address_of (before_first is_slash text))
 
 abbrev pub node_kind_of : List ℕ → Option NodeKind
-node_kind_of text = if bytes_eq text (codes "host") then Some Host else (if bytes_eq text (codes "router") then Some Router else None)
+node_kind_of text =
+    if bytes_eq text (codes "host") then Some Host
+    else (if bytes_eq text (codes "router") then Some Router else None)

@@ -1,8 +1,13 @@
 -- The ranges of what a topology text says, with names in place of numbers.
-use Rattle.std.specs.Prelude.{ℕ, ◌≤◌, All, length}
-use Rattle.nm_base.specs.declared.limits.TheConstants.{MAX_DELAY, MAX_MTU, MAX_PORTS_OF_NODE, MAX_QUEUE, MAX_RATE, MAX_TIME, MIN_MTU, MIN_RATE}
+use Rattle.std.specs.Prelude.{ℕ, ◌≤◌, All, length, IfSome}
+use Rattle.nm_base.specs.declared.limits.TheConstants.{MAX_QUEUE_OCTETS}
+use Rattle.nm_base.specs.declared.limits.TheConstants.{MAX_DELAY, MAX_MTU, MAX_PORTS_OF_NODE}
+use Rattle.nm_base.specs.declared.limits.TheConstants.{MAX_QUEUE, MAX_RATE, MAX_TIME, MIN_MTU}
+use Rattle.nm_base.specs.declared.limits.TheConstants.{MIN_RATE}
 use Rattle.nm_topology.specs.declared.parse.sources.NamedTraffic.{NamedTraffic}
-use Rattle.nm_topology.specs.declared.parse.sources.NamedTraffic.TheVariants.{Cbr as NamedCbr, Echo as NamedEcho, Raw as NamedRaw}
+use Rattle.nm_topology.specs.declared.parse.sources.NamedTraffic.TheVariants.{Cbr as NamedCbr}
+use Rattle.nm_topology.specs.declared.parse.sources.NamedTraffic.TheVariants.{Echo as NamedEcho}
+use Rattle.nm_topology.specs.declared.parse.sources.NamedTraffic.TheVariants.{Raw as NamedRaw}
 use Rattle.nm_topology.specs.Parse.TableValues.{LinkTableValue}
 use Rattle.nm_topology.specs.Parse.DocumentValue.{DocumentValue}
 use Rattle.nm_topology.specs.Limits.{FitsFlow, FitsPackets}
@@ -13,7 +18,8 @@ IsLinkInRange l = (MIN_RATE ≤ l.rate) × (l.rate ≤ MAX_RATE) × (l.delay ≤
 unfoldable pub FitsNamedTraffic : ℕ → NamedTraffic → Type 0
 FitsNamedTraffic mtu (NamedCbr c) = FitsFlow mtu c.flow
 FitsNamedTraffic mtu (NamedEcho e) = FitsFlow mtu e.flow
-FitsNamedTraffic mtu (NamedRaw r) = FitsPackets mtu r.packets × All (λ p. 1 ≤ length p.packet) r.packets
+FitsNamedTraffic mtu (NamedRaw r) =
+    FitsPackets mtu r.packets × All (λ p. 1 ≤ length p.packet) r.packets
 
 pub record IsInRange (d : DocumentValue) : Type 0 where
   pub least_stop : 1 ≤ d.stop
@@ -22,5 +28,6 @@ pub record IsInRange (d : DocumentValue) : Type 0 where
   pub greatest_mtu : d.mtu ≤ MAX_MTU
   pub nodes : All (λ n. length n.ports ≤ MAX_PORTS_OF_NODE) d.nodes
   pub ifaces : All (λ i. i.queue ≤ MAX_QUEUE) d.ifaces
+  pub queue_octets : All (λ i. IfSome i.queue_octets (λ n. n ≤ MAX_QUEUE_OCTETS)) d.ifaces
   pub links : All IsLinkInRange d.links
   pub sources : All (λ s. FitsNamedTraffic d.mtu s.traffic) d.sources

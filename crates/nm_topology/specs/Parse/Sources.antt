@@ -1,25 +1,34 @@
--- The tables of `source`: for each kind its keys in order, whether they are required, and their types and ranges.
-use Rattle.std.specs.Prelude.{ℕ, ◌+◌, ◌-◌, ◌&&◌, nat_le, if◌then◌else◌, List, [], ◌∷◌, length, Option, Some, None, Result, Ok, Err, codes}
+-- The tables of `source`: for each kind its keys in order, whether they are required, and their
+-- types and ranges.
+use Rattle.std.specs.Prelude.{ℕ, ◌+◌, ◌-◌, ◌&&◌, nat_le, if◌then◌else◌, List, [], ◌∷◌, length}
+use Rattle.std.specs.Prelude.{Option, Some, None, Result, Ok, Err, codes}
 use Rattle.std.specs.Str.{bytes_eq}
 use Rattle.toml.specs.Data.{Data, array, Items, no_items, item, Members, get_member}
 use Rattle.hex.specs.Hex.{decode_of}
 use Rattle.hex.specs.declared.error.FromHexError.{FromHexError}
-use Rattle.nm_base.specs.declared.limits.TheConstants.{MAX_COUNT, MAX_INTERVAL, MAX_RAW_PACKETS, MAX_TIME}
+use Rattle.nm_base.specs.declared.limits.TheConstants.{MAX_COUNT, MAX_INTERVAL, MAX_RAW_PACKETS}
+use Rattle.nm_base.specs.declared.limits.TheConstants.{MAX_TIME}
 use Rattle.nm_topology.specs.declared.fault.Refusal.{Refusal}
 use Rattle.nm_topology.specs.declared.fault.Refusal.TheVariants.{Hex, Kind, Range, TooMany}
 use Rattle.nm_topology.specs.declared.traffic.Flow.{Flow}
 use Rattle.nm_topology.specs.declared.traffic.RawPacket.{RawPacket}
 use Rattle.nm_topology.specs.Fault.{◌>>=◌}
-use Rattle.nm_topology.specs.Parse.Fields.{required, optional, number_in, plain_text, required_text, only}
+use Rattle.nm_topology.specs.Parse.Fields.{required, optional, number_in, plain_text, required_text}
+use Rattle.nm_topology.specs.Parse.Fields.{only}
 use Rattle.nm_topology.specs.Parse.Arrays.{is_table, all_fit, count, in_table}
 use Rattle.nm_topology.specs.Parse.Forms.{name_of, usable_address_of}
-use Rattle.nm_topology.specs.declared.parse.sources.NamedTraffic.TheVariants.{Cbr as NamedCbr, Echo as NamedEcho, Raw as NamedRaw}
+use Rattle.nm_topology.specs.declared.parse.sources.NamedTraffic.TheVariants.{Cbr as NamedCbr}
+use Rattle.nm_topology.specs.declared.parse.sources.NamedTraffic.TheVariants.{Echo as NamedEcho}
+use Rattle.nm_topology.specs.declared.parse.sources.NamedTraffic.TheVariants.{Raw as NamedRaw}
 use Rattle.nm_topology.specs.declared.parse.sources.SourceKind.{SourceKind}
-use Rattle.nm_topology.specs.declared.parse.sources.SourceKind.TheVariants.{Cbr as CbrKind, Echo as EchoKind, Raw as RawKind}
+use Rattle.nm_topology.specs.declared.parse.sources.SourceKind.TheVariants.{Cbr as CbrKind}
+use Rattle.nm_topology.specs.declared.parse.sources.SourceKind.TheVariants.{Echo as EchoKind}
+use Rattle.nm_topology.specs.declared.parse.sources.SourceKind.TheVariants.{Raw as RawKind}
 use Rattle.nm_topology.specs.Parse.SourceTableValue.{SourceTableValue}
 
 abbrev pub decoded : ℕ → Result (List ℕ) FromHexError → Result (List ℕ) Refusal
-decoded mtu (Ok octets) = if nat_le 1 (length octets) && nat_le (length octets) mtu then Ok octets else Err Range
+decoded mtu (Ok octets) =
+    if nat_le 1 (length octets) && nat_le (length octets) mtu then Ok octets else Err Range
 decoded mtu (Err e) = Err Hex
 
 -- hexadecimal, 1 to mtu octets
@@ -36,10 +45,16 @@ packet_of mtu least t = do
 -- packets one after another, each later than the one before
 abbrev pub packets_from : ℕ → ℕ → Items → Result (List RawPacket) Refusal
 packets_from mtu least no_items = Ok []
-packets_from mtu least (item d ds) = in_table (packet_of mtu least) d >>= λ p. packets_from mtu (p.at + 1) ds >>= λ ps. Ok (p ∷ ps)
+packets_from mtu least (item d ds) =
+    in_table (packet_of mtu least) d >>= λ p.
+    packets_from mtu (p.at + 1) ds >>= λ ps.
+    Ok (p ∷ ps)
 
 abbrev pub packets_of : ℕ → Data → Result (List RawPacket) Refusal
-packets_of mtu (array ds) = if all_fit is_table ds then (if nat_le (count ds) MAX_RAW_PACKETS then packets_from mtu 0 ds else Err TooMany) else Err Kind
+packets_of mtu (array ds) =
+    if all_fit is_table ds
+    then (if nat_le (count ds) MAX_RAW_PACKETS then packets_from mtu 0 ds else Err TooMany)
+    else Err Kind
 packets_of mtu _ = Err Kind
 
 -- the keys that UDP and echo sources share, but for what leads to them
@@ -51,20 +66,38 @@ flow_of mtu t = do
   interval ← required (number_in 1 MAX_INTERVAL) (get_member (codes "interval") t)
   count ← required (number_in 0 MAX_COUNT) (get_member (codes "count") t)
   ttl ← optional 64 (number_in 1 255) (get_member (codes "ttl") t)
-  Ok (record { size = size; fill = fill; start = start; interval = interval; count = count; ttl = ttl })
+  Ok (record {
+    size = size;
+    fill = fill;
+    start = start;
+    interval = interval;
+    count = count;
+    ttl = ttl;
+  })
 
 abbrev pub flow_keys : List (List ℕ)
-flow_keys = codes "size" ∷ codes "fill" ∷ codes "start" ∷ codes "interval" ∷ codes "count" ∷ codes "ttl" ∷ []
+flow_keys =
+    codes "size" ∷ codes "fill" ∷ codes "start" ∷ codes "interval" ∷ codes "count" ∷ codes "ttl"
+    ∷ []
 
 unfoldable pub cbr_of : ℕ → Members → Result SourceTableValue Refusal
 cbr_of mtu t = do
-  known ← only (codes "kind" ∷ codes "node" ∷ codes "to" ∷ codes "sport" ∷ codes "dport" ∷ flow_keys) t
+  known ← only (codes "kind" ∷ codes "node" ∷ codes "to" ∷ codes "sport" ∷ codes "dport"
+      ∷ flow_keys) t
   node ← required_text name_of (get_member (codes "node") t)
   to ← required_text usable_address_of (get_member (codes "to") t)
   source ← required (number_in 0 65535) (get_member (codes "sport") t)
   destination ← required (number_in 0 65535) (get_member (codes "dport") t)
   flow ← flow_of mtu t
-  Ok (record { node = node; traffic = NamedCbr (record { to = to; source_port = source; destination_port = destination; flow = flow }) })
+  Ok (record {
+    node = node;
+    traffic = NamedCbr (record {
+      to = to;
+      source_port = source;
+      destination_port = destination;
+      flow = flow;
+    });
+  })
 
 unfoldable pub echo_of : ℕ → Members → Result SourceTableValue Refusal
 echo_of mtu t = do
@@ -73,7 +106,10 @@ echo_of mtu t = do
   to ← required_text usable_address_of (get_member (codes "to") t)
   identifier ← required (number_in 0 65535) (get_member (codes "ident") t)
   flow ← flow_of mtu t
-  Ok (record { node = node; traffic = NamedEcho (record { to = to; identifier = identifier; flow = flow }) })
+  Ok (record {
+    node = node;
+    traffic = NamedEcho (record { to = to; identifier = identifier; flow = flow });
+  })
 
 unfoldable pub raw_of : ℕ → Members → Result SourceTableValue Refusal
 raw_of mtu t = do
@@ -86,7 +122,8 @@ raw_of mtu t = do
 abbrev pub source_kind_of : List ℕ → Option SourceKind
 source_kind_of text =
     if bytes_eq text (codes "cbr") then Some CbrKind
-    else (if bytes_eq text (codes "echo") then Some EchoKind else (if bytes_eq text (codes "raw") then Some RawKind else None))
+    else (if bytes_eq text (codes "echo") then Some EchoKind
+    else (if bytes_eq text (codes "raw") then Some RawKind else None))
 
 abbrev pub source_by : SourceKind → ℕ → Members → Result SourceTableValue Refusal
 source_by CbrKind mtu t = cbr_of mtu t

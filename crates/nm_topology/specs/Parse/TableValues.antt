@@ -1,5 +1,5 @@
 -- What the tables of a topology text say, with names in place of numbers.
-use Rattle.std.specs.Prelude.{ℕ, List}
+use Rattle.std.specs.Prelude.{ℕ, List, Option}
 use Rattle.nm_topology.specs.declared.node.NodeKind.{NodeKind}
 use Rattle.nm_topology.specs.declared.prefix.Prefix.{Prefix}
 
@@ -14,6 +14,7 @@ pub record IfaceTableValue : Type 0 where
   pub node : List ℕ
   pub address : ℕ
   pub queue : ℕ
+  pub queue_octets : Option ℕ
 
 pub record LinkTableValue : Type 0 where
   pub a : List ℕ

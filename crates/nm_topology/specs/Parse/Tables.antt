@@ -1,13 +1,20 @@
--- The tables of a topology text: for each its keys in order, whether they are required, and their types and ranges.
-use Rattle.std.specs.Prelude.{[], ◌∷◌, Result, Ok, codes}
+-- The tables of a topology text: for each its keys in order, whether they are required, and their
+-- types and ranges.
+use Rattle.std.specs.Prelude.{ℕ, List, [], ◌∷◌, None, Result, Ok, codes}
 use Rattle.toml.specs.Data.{Members, get_member}
-use Rattle.nm_base.specs.declared.limits.TheConstants.{MAX_DELAY, MAX_PORTS_OF_NODE, MAX_QUEUE, MAX_RATE, MIN_RATE}
+use Rattle.nm_base.specs.declared.limits.TheConstants.{MAX_DELAY, MAX_PORTS_OF_NODE, MAX_QUEUE}
+use Rattle.nm_base.specs.declared.limits.TheConstants.{MAX_RATE, MIN_RATE}
 use Rattle.nm_topology.specs.declared.fault.Refusal.{Refusal}
+use Rattle.nm_base.specs.declared.limits.TheConstants.{MAX_QUEUE_OCTETS}
+use Rattle.nm_topology.specs.declared.parse.head.Format.{Format}
+use Rattle.nm_topology.specs.declared.parse.head.Format.TheVariants.{One, Two}
 use Rattle.nm_topology.specs.Fault.{◌>>=◌}
-use Rattle.nm_topology.specs.Parse.Fields.{required, optional, number_in, required_text, only}
+use Rattle.nm_topology.specs.Parse.Fields.{required, optional, number_in, some_number_in}
+use Rattle.nm_topology.specs.Parse.Fields.{required_text, only}
 use Rattle.nm_topology.specs.Parse.Arrays.{is_integer, array_of}
 use Rattle.nm_topology.specs.Parse.Forms.{name_of, node_kind_of, usable_address_of, prefix_of}
-use Rattle.nm_topology.specs.Parse.TableValues.{NodeTableValue, IfaceTableValue, LinkTableValue, RouteTableValue}
+use Rattle.nm_topology.specs.Parse.TableValues.{NodeTableValue, IfaceTableValue, LinkTableValue}
+use Rattle.nm_topology.specs.Parse.TableValues.{RouteTableValue}
 
 unfoldable pub node_table_of : Members → Result NodeTableValue Refusal
 node_table_of t = do
@@ -15,17 +22,25 @@ node_table_of t = do
   name ← required_text name_of (get_member (codes "name") t)
   kind ← required_text node_kind_of (get_member (codes "kind") t)
   partition ← required (number_in 0 63) (get_member (codes "partition") t)
-  ports ← optional [] (array_of is_integer MAX_PORTS_OF_NODE (number_in 0 65535)) (get_member (codes "ports") t)
+  ports ← optional [] (array_of is_integer MAX_PORTS_OF_NODE (number_in 0 65535))
+      (get_member (codes "ports") t)
   Ok (record { name = name; kind = kind; partition = partition; ports = ports })
 
-unfoldable pub iface_table_of : Members → Result IfaceTableValue Refusal
-iface_table_of t = do
-  known ← only (codes "name" ∷ codes "node" ∷ codes "address" ∷ codes "queue" ∷ []) t
+-- in format 2 the key `queue_octets` stands last, and may be absent; format 1 does not know it
+abbrev pub iface_keys : Format → List (List ℕ)
+iface_keys One = codes "name" ∷ codes "node" ∷ codes "address" ∷ codes "queue" ∷ []
+iface_keys Two =
+    codes "name" ∷ codes "node" ∷ codes "address" ∷ codes "queue" ∷ codes "queue_octets" ∷ []
+
+unfoldable pub iface_table_of : Format → Members → Result IfaceTableValue Refusal
+iface_table_of format t = do
+  known ← only (iface_keys format) t
   name ← required_text name_of (get_member (codes "name") t)
   node ← required_text name_of (get_member (codes "node") t)
   address ← required_text usable_address_of (get_member (codes "address") t)
   queue ← required (number_in 0 MAX_QUEUE) (get_member (codes "queue") t)
-  Ok (record { name = name; node = node; address = address; queue = queue })
+  octets ← optional None (some_number_in 0 MAX_QUEUE_OCTETS) (get_member (codes "queue_octets") t)
+  Ok (record { name = name; node = node; address = address; queue = queue; queue_octets = octets })
 
 unfoldable pub link_table_of : Members → Result LinkTableValue Refusal
 link_table_of t = do

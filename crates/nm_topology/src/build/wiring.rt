@@ -1,8 +1,10 @@
 //! What hangs together: the far end of each interface, the routes of each node.
 
-ghost use Rattle.std.specs.Prelude.{◌≡◌, ℕ, ◌<◌, ◌≤◌, [], Some, All, length, slice_get, slice_index_or, filter, IfOk};
+ghost use Rattle.std.specs.Prelude.{◌≡◌, ℕ, ◌<◌, ◌≤◌, [], Some, All, length, slice_get};
+ghost use Rattle.std.specs.Prelude.{slice_index_or, filter, IfOk};
 ghost use Rattle.nm_base.specs.declared.limits.TheConstants.{MAX_IFACES};
-ghost use Rattle.nm_topology.specs.Build.{far_by_links, far_ends, routes_of_nodes, joined, is_receiver, numbers_from};
+ghost use Rattle.nm_topology.specs.Build.{far_by_links, far_ends, routes_of_nodes, joined};
+ghost use Rattle.nm_topology.specs.Build.{is_receiver, numbers_from};
 
 use crate::build::partitions::part_of;
 use crate::parts::{Far, Link, NodeRoutes, PlacedRoute};

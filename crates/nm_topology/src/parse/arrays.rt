@@ -1,15 +1,18 @@
 //! Arrays of a topology text: what each member is read to, in order.
 
-ghost use Rattle.std.specs.Prelude.{◌≡◌, ℕ, ◌≤◌, Bool, [], length, IfOk, Result};
+ghost use Rattle.std.specs.Prelude.{◌≡◌, ◌≤◌, Bool, [], length, IfOk, Result};
 ghost use Rattle.toml.specs.Data.{Data, Members, get_member};
 ghost use Rattle.toml.specs.View.{view, items_view, table_view};
 ghost use Rattle.nm_topology.specs.declared.fault.Refusal.{Refusal as RefusalValue};
-ghost use Rattle.nm_topology.specs.Parse.Arrays.{all_fit, each, members_of, array_of, in_table, is_table};
+ghost use Rattle.nm_topology.specs.declared.parse.head.Head.{Head as HeadValue};
+ghost use Rattle.nm_topology.specs.Parse.Arrays.{all_fit, each, members_of, array_of, in_table};
+ghost use Rattle.nm_topology.specs.Parse.Arrays.{is_table};
 ghost use Rattle.nm_topology.specs.Fault.{Gives};
 ghost use Rattle.nm_topology.specs.Parse.Fields.{optional};
 
 use crate::fault::{Refusal, TopoFault};
 use crate::parse::fields::field;
+use crate::parse::head::Head;
 use std::alloc::Global;
 use toml::{Table, Value};
 
@@ -25,24 +28,24 @@ pub trait Member: Drop {
 
 /// A member that is read by itself.
 pub trait Element: Member {
-    // What a value is read to, where packets have at most so many octets.
-    ghost reads: { ℕ → Data → Result Self RefusalValue };
+    // What a value is read to, in a text with this head.
+    ghost reads: { HeadValue → Data → Result Self RefusalValue };
 
-    /// Reads a member. Packets have at most `mtu` octets, which leaves room for headers.
-    fn read(alloc: Global, mtu: u16, value: &Value) -> Result<Self, TopoFault>
-        requires { 28 ≤ mtu }
-        ensures { Gives (λ x. x) result (reads mtu (view value.now)) };
+    /// Reads a member of a text with this head, whose mtu leaves room for headers.
+    fn read(alloc: Global, head: Head, value: &Value) -> Result<Self, TopoFault>
+        requires { 28 ≤ head.mtu }
+        ensures { Gives (λ x. x) result (reads head (view value.now)) };
 }
 
 /// A member that is a table, and is read by its keys.
 pub trait FromTable: Drop {
-    // What a table is read to, where packets have at most so many octets.
-    ghost of_table: { ℕ → Members → Result Self RefusalValue };
+    // What a table is read to, in a text with this head.
+    ghost of_table: { HeadValue → Members → Result Self RefusalValue };
 
-    /// Reads a table. Packets have at most `mtu` octets, which leaves room for headers.
-    fn from_table(alloc: Global, mtu: u16, table: &Table) -> Result<Self, TopoFault>
-        requires { 28 ≤ mtu }
-        ensures { Gives (λ x. x) result (of_table mtu (table_view table.now)) };
+    /// Reads a table of a text with this head, whose mtu leaves room for headers.
+    fn from_table(alloc: Global, head: Head, table: &Table) -> Result<Self, TopoFault>
+        requires { 28 ≤ head.mtu }
+        ensures { Gives (λ x. x) result (of_table head (table_view table.now)) };
 }
 
 impl<T: FromTable> Member for T {
@@ -54,11 +57,11 @@ impl<T: FromTable> Member for T {
 }
 
 impl<T: FromTable> Element for T {
-    ghost reads = { λ mtu d. in_table (T.of_table mtu) d };
+    ghost reads = { λ head d. in_table (T.of_table head) d };
 
-    fn read(alloc: Global, mtu: u16, value: &Value) -> Result<T, TopoFault> {
+    fn read(alloc: Global, head: Head, value: &Value) -> Result<T, TopoFault> {
         match value {
-            Value::Table(table) => T::from_table(alloc, mtu, table),
+            Value::Table(table) => T::from_table(alloc, head, table),
             _ => Err(TopoFault::Refused(Refusal::Kind)),
         }
     }
@@ -67,19 +70,19 @@ impl<T: FromTable> Element for T {
 /// An optional array of at most `limit` members of one type; absent is empty.
 pub fn optional_array<T: Element>(
     alloc: Global,
-    mtu: u16,
+    head: Head,
     table: &Table,
     key: &str,
     limit: usize,
 ) -> Result<Vec<T>, TopoFault>
-    requires { 28 ≤ mtu }
+    requires { 28 ≤ head.mtu }
     ensures count { IfOk result (λ v. length v.items ≤ limit) }
     ensures value { Gives (λ v. v.items) result
-        (optional [] (array_of T.has_type limit (T.reads mtu))
+        (optional [] (array_of T.has_type limit (T.reads head))
         (get_member key.now (table_view table.now))) }
 {
     match field(table, key) {
-        Some(value) => array(alloc, mtu, limit, value),
+        Some(value) => array(alloc, head, limit, value),
         None => Ok(Vec::new(alloc)),
     }
 }
@@ -87,17 +90,17 @@ pub fn optional_array<T: Element>(
 /// An array of members of one type, of which there are at most `limit`.
 fn array<T: Element>(
     alloc: Global,
-    mtu: u16,
+    head: Head,
     limit: usize,
     value: &Value,
 ) -> Result<Vec<T>, TopoFault>
-    requires { 28 ≤ mtu }
+    requires { 28 ≤ head.mtu }
     ensures count { IfOk result (λ v. length v.items ≤ limit) }
     ensures value { Gives (λ v. v.items) result
-        (array_of T.has_type limit (T.reads mtu) (view value.now)) }
+        (array_of T.has_type limit (T.reads head) (view value.now)) }
 {
     match value {
-        Value::Array(items) => members(alloc, mtu, limit, items),
+        Value::Array(items) => members(alloc, head, limit, items),
         _ => Err(TopoFault::Refused(Refusal::Kind)),
     }
 }
@@ -105,14 +108,14 @@ fn array<T: Element>(
 #[tactic(auto, using(crate::proofs::Members::count_view))]
 fn members<T: Element>(
     alloc: Global,
-    mtu: u16,
+    head: Head,
     limit: usize,
     items: &[Value],
 ) -> Result<Vec<T>, TopoFault>
-    requires { 28 ≤ mtu }
+    requires { 28 ≤ head.mtu }
     ensures count { IfOk result (λ v. length v.items ≤ limit) }
     ensures value { Gives (λ v. v.items) result
-        (members_of T.has_type limit (T.reads mtu) (items_view items.now)) }
+        (members_of T.has_type limit (T.reads head) (items_view items.now)) }
 {
     if !all_fit::<T>(items) {
         return Err(TopoFault::Refused(Refusal::Kind));
@@ -120,7 +123,7 @@ fn members<T: Element>(
     if items.len() > limit {
         return Err(TopoFault::Refused(Refusal::TooMany));
     }
-    each(alloc, mtu, items)
+    each(alloc, head, items)
 }
 
 pub fn all_fit<T: Member>(items: &[Value]) -> bool
@@ -134,14 +137,14 @@ pub fn all_fit<T: Member>(items: &[Value]) -> bool
     true
 }
 
-fn each<T: Element>(alloc: Global, mtu: u16, items: &[Value]) -> Result<Vec<T>, TopoFault>
-    requires { 28 ≤ mtu }
+fn each<T: Element>(alloc: Global, head: Head, items: &[Value]) -> Result<Vec<T>, TopoFault>
+    requires { 28 ≤ head.mtu }
     ensures count { IfOk result (λ v. length v.items ≡ length items.now) }
-    ensures value { Gives (λ v. v.items) result (each (T.reads mtu) (items_view items.now)) }
+    ensures value { Gives (λ v. v.items) result (each (T.reads head) (items_view items.now)) }
 {
     let mut members = Vec::new(alloc);
     for item in items {
-        let member = T::read(alloc, mtu, item)?;
+        let member = T::read(alloc, head, item)?;
         members.push(member)?;
     }
     Ok(members)

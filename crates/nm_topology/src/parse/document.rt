@@ -1,13 +1,16 @@
 //! A whole topology text as it is read, with names in place of numbers.
 
-ghost use Rattle.std.specs.Prelude.{◌≤◌};
+ghost use Rattle.std.specs.Prelude.{◌≤◌, codes};
+ghost use Rattle.toml.specs.Data.{get_member};
 ghost use Rattle.toml.specs.View.{table_view};
-ghost use Rattle.nm_topology.specs.Parse.Document.{document_of, with_tables};
+ghost use Rattle.nm_topology.specs.Parse.Document.{document_of, format_of, with_tables};
+ghost use Rattle.nm_topology.specs.Parse.Fields.{required};
 ghost use Rattle.nm_topology.specs.Fault.{Gives};
 
 use crate::fault::TopoFault;
 use crate::parse::arrays::optional_array;
 use crate::parse::fields::{only, required_number};
+use crate::parse::head::{Format, Head};
 use crate::parse::sources::SourceTable;
 use crate::parse::tables::{IfaceTable, LinkTable, NodeTable, RouteTable};
 use nm_base::Time;
@@ -32,7 +35,8 @@ pub struct Document {
 
 impl Model for Document {
     ghost use Rattle.std.specs.Prelude.{◌≤◌, length};
-    ghost use Rattle.nm_base.specs.declared.limits.TheConstants.{MAX_IFACES, MAX_LINKS, MAX_NODES, MAX_SOURCES};
+    ghost use Rattle.nm_base.specs.declared.limits.TheConstants.{MAX_IFACES, MAX_LINKS, MAX_NODES};
+    ghost use Rattle.nm_base.specs.declared.limits.TheConstants.{MAX_SOURCES};
     ghost use Rattle.nm_topology.specs.Parse.DocumentValue.{DocumentValue};
 
     ghost Value = { DocumentValue };
@@ -52,26 +56,37 @@ impl Model for Document {
     } };
 }
 
-/// Reads the arrays of tables of a text that stops then and has packets of at most so many octets.
+/// Reads the arrays of tables of a text with this head that stops then.
 #[tactic(auto, unfolding(crate::specs::Parse::Document::with_tables))]
-fn read_tables(alloc: Global, stop: Time, mtu: u16, table: &Table) -> Result<Document, TopoFault>
-    requires { 28 ≤ mtu }
-    ensures { Gives (λ x. x) result (with_tables stop mtu (table_view table.now)) }
+fn read_tables(alloc: Global, head: Head, stop: Time, table: &Table) -> Result<Document, TopoFault>
+    requires { 28 ≤ head.mtu }
+    ensures { Gives (λ x. x) result (with_tables head stop (table_view table.now)) }
 {
-    let nodes = optional_array(alloc, mtu, table, "node", MAX_NODES)?;
-    let ifaces = optional_array(alloc, mtu, table, "iface", MAX_IFACES)?;
-    let links = optional_array(alloc, mtu, table, "link", MAX_LINKS)?;
-    let routes = optional_array(alloc, mtu, table, "route", MAX_ROUTES)?;
-    let sources = optional_array(alloc, mtu, table, "source", MAX_SOURCES)?;
+    let nodes = optional_array(alloc, head, table, "node", MAX_NODES)?;
+    let ifaces = optional_array(alloc, head, table, "iface", MAX_IFACES)?;
+    let links = optional_array(alloc, head, table, "link", MAX_LINKS)?;
+    let routes = optional_array(alloc, head, table, "route", MAX_ROUTES)?;
+    let sources = optional_array(alloc, head, table, "source", MAX_SOURCES)?;
     Ok(Document {
         stop,
-        mtu,
+        mtu: head.mtu,
         nodes,
         ifaces,
         links,
         routes,
         sources,
     })
+}
+
+/// Reads the format of a text.
+fn required_format(table: &Table) -> Result<Format, TopoFault>
+    ensures { Gives (λ f. f) result
+        (required format_of (get_member (codes "format") (table_view table.now))) }
+{
+    match required_number(table, "format", 1, 2)? {
+        1 => Ok(Format::One),
+        _ => Ok(Format::Two),
+    }
 }
 
 /// Reads the top table.
@@ -85,8 +100,13 @@ pub fn read_document(alloc: Global, table: &Table) -> Result<Document, TopoFault
             "format", "stop", "mtu", "node", "iface", "link", "route", "source",
         ],
     )?;
-    required_number(table, "format", 1, 1)?;
+    let format = required_format(table)?;
     let stop = required_number(table, "stop", 1, MAX_TIME)?;
     let mtu = required_number(table, "mtu", MIN_MTU, MAX_MTU)? as u16;
-    read_tables(alloc, Time::from_nanoseconds(stop), mtu, table)
+    read_tables(
+        alloc,
+        Head { format, mtu },
+        Time::from_nanoseconds(stop),
+        table,
+    )
 }

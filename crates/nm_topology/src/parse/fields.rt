@@ -7,8 +7,10 @@ ghost use Rattle.std.specs.BTreeMap.{keys};
 ghost use Rattle.toml.specs.Data.{get_member};
 ghost use Rattle.toml.specs.View.{table_view, view};
 ghost use Rattle.nm_topology.specs.Fault.{Gives};
-ghost use Rattle.nm_topology.specs.Parse.Fields.{number_in, required, optional, plain_text, required_text, only};
-ghost use Rattle.nm_topology.specs.Parse.Forms.{name_of, node_kind_of, usable_address_of, prefix_of};
+ghost use Rattle.nm_topology.specs.Parse.Fields.{number_in, required, optional, plain_text};
+ghost use Rattle.nm_topology.specs.Parse.Fields.{required_text, only};
+ghost use Rattle.nm_topology.specs.Parse.Forms.{name_of, node_kind_of, usable_address_of};
+ghost use Rattle.nm_topology.specs.Parse.Forms.{prefix_of};
 
 use crate::fault::{Refusal, TopoFault};
 use crate::node::NodeKind;

@@ -3,7 +3,8 @@
 ghost use Rattle.std.specs.Prelude.{◌≡◌, ℕ, ◌<◌, ◌≤◌, ◌^◌, Some, IfSome, decimal};
 ghost use Rattle.std.specs.List.{list_all};
 ghost use Rattle.nm_packet.specs.Address.{address_text};
-ghost use Rattle.nm_topology.specs.Parse.Forms.{is_name, is_name_character, address_of, usable_address_of, length_of, prefix_at, prefix_of};
+ghost use Rattle.nm_topology.specs.Parse.Forms.{is_name, is_name_character, address_of};
+ghost use Rattle.nm_topology.specs.Parse.Forms.{usable_address_of, length_of, prefix_at, prefix_of};
 
 use crate::prefix::Prefix;
 use itoa::Buffer;
@@ -98,7 +99,8 @@ fn printed_length(text: &str) -> Option<u8>
     Some(length)
 }
 
-/// The prefix that the text writes: an address, a slash and a length, where the bits past the length are 0.
+/// The prefix that the text writes: an address, a slash and a length, where the bits past the
+/// length are 0.
 pub fn prefix_of(text: &str) -> Option<Prefix>
     ensures { result ≡ prefix_of text.now }
 {

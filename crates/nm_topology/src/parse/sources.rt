@@ -7,7 +7,9 @@ ghost use Rattle.toml.specs.Data.{array, get_member};
 ghost use Rattle.toml.specs.View.{table_view, items_view, view};
 ghost use Rattle.nm_topology.specs.Fault.{Gives};
 ghost use Rattle.nm_topology.specs.Parse.Fields.{required, required_text};
-ghost use Rattle.nm_topology.specs.Parse.Sources.{octets_of, packet_of, packets_from, packets_of, flow_of, cbr_of, echo_of, raw_of, source_kind_of, source_table_of};
+ghost use Rattle.nm_topology.specs.Parse.Sources.{octets_of, packet_of, packets_from, packets_of};
+ghost use Rattle.nm_topology.specs.Parse.Sources.{flow_of, cbr_of, echo_of, raw_of, source_kind_of};
+ghost use Rattle.nm_topology.specs.Parse.Sources.{source_table_of};
 
 use crate::fault::{Refusal, TopoFault};
 use crate::parse::arrays::{FromTable, Member, all_fit};
@@ -15,6 +17,7 @@ use crate::parse::fields::{
     field, only, optional_number, required_address, required_name, required_number,
     required_plain_text,
 };
+use crate::parse::head::Head;
 use crate::traffic::{Cbr, Echo, Flow, RawPacket};
 use bytes::Bytes;
 use hex::FromHexError;
@@ -290,9 +293,9 @@ fn source_table(alloc: Global, mtu: u16, table: &Table) -> Result<SourceTable, T
 impl FromTable for SourceTable {
     ghost use Rattle.nm_topology.specs.Parse.Sources.{source_table_of};
 
-    ghost of_table = { λ mtu t. source_table_of mtu t };
+    ghost of_table = { λ head t. source_table_of head.mtu t };
 
-    fn from_table(alloc: Global, mtu: u16, table: &Table) -> Result<SourceTable, TopoFault> {
-        source_table(alloc, mtu, table)
+    fn from_table(alloc: Global, head: Head, table: &Table) -> Result<SourceTable, TopoFault> {
+        source_table(alloc, head.mtu, table)
     }
 }

@@ -1,20 +1,27 @@
 //! The tables of a topology text, each read by itself.
 
-ghost use Rattle.std.specs.Prelude.{◌≤◌};
+ghost use Rattle.std.specs.Prelude.{◌≤◌, None, codes};
+ghost use Rattle.toml.specs.Data.{get_member};
 ghost use Rattle.toml.specs.View.{table_view};
+ghost use Rattle.nm_base.specs.declared.limits.TheConstants.{MAX_QUEUE_OCTETS};
 ghost use Rattle.nm_topology.specs.Fault.{Gives};
-ghost use Rattle.nm_topology.specs.Parse.Tables.{node_table_of, iface_table_of, link_table_of, route_table_of};
+ghost use Rattle.nm_topology.specs.Parse.Fields.{only, optional, some_number_in};
+ghost use Rattle.nm_topology.specs.Parse.Tables.{iface_keys, iface_table_of, link_table_of};
+ghost use Rattle.nm_topology.specs.Parse.Tables.{node_table_of, route_table_of};
 
 use crate::fault::TopoFault;
 use crate::names::Named;
 use crate::node::NodeKind;
 use crate::parse::arrays::{Element, FromTable, Member, optional_array};
 use crate::parse::fields::{
-    number, only, required_address, required_name, required_node_kind, required_number,
+    field, number, only, required_address, required_name, required_node_kind, required_number,
     required_prefix,
 };
+use crate::parse::head::{Format, Head};
 use crate::prefix::Prefix;
-use nm_base::limits::{MAX_DELAY, MAX_PORTS_OF_NODE, MAX_QUEUE, MAX_RATE, MIN_RATE};
+use nm_base::limits::{
+    MAX_DELAY, MAX_PORTS_OF_NODE, MAX_QUEUE, MAX_QUEUE_OCTETS, MAX_RATE, MIN_RATE,
+};
 use nm_packet::Address;
 use std::alloc::Global;
 use std::marker::Model;
@@ -60,6 +67,7 @@ pub struct IfaceTable {
     pub node: String,
     pub address: Address,
     pub queue: u16,
+    pub queue_octets: Option<u32>,
 }
 
 impl Model for IfaceTable {
@@ -73,6 +81,7 @@ impl Model for IfaceTable {
       node = string_bytes r.node;
       address = r.address;
       queue = r.queue;
+      queue_octets = r.queue_octets;
     } };
 }
 
@@ -128,20 +137,44 @@ impl Model for RouteTable {
     } };
 }
 
-#[tactic(auto, unfolding(crate::specs::Parse::Tables::iface_table_of))]
-fn iface_table(alloc: Global, table: &Table) -> Result<IfaceTable, TopoFault>
-    ensures { Gives (λ x. x) result (iface_table_of (table_view table.now)) }
+/// Refuses a table of `iface` that has a key which the format has not.
+fn only_iface_keys(format: Format, table: &Table) -> Result<(), TopoFault>
+    ensures { Gives (λ u. u) result (only (iface_keys format) (table_view table.now)) }
 {
-    only(table, &["name", "node", "address", "queue"])?;
+    match format {
+        Format::One => only(table, &["name", "node", "address", "queue"]),
+        Format::Two => only(table, &["name", "node", "address", "queue", "queue_octets"]),
+    }
+}
+
+/// Reads the limit in octets, if there is one. Only a table of format 2 has its key.
+fn queue_octets(table: &Table) -> Result<Option<u32>, TopoFault>
+    ensures { Gives (λ n. n) result
+        (optional None (some_number_in 0 MAX_QUEUE_OCTETS)
+        (get_member (codes "queue_octets") (table_view table.now))) }
+{
+    match field(table, "queue_octets") {
+        Some(value) => Ok(Some(number(value, 0, MAX_QUEUE_OCTETS)? as u32)),
+        None => Ok(None),
+    }
+}
+
+#[tactic(auto, unfolding(crate::specs::Parse::Tables::iface_table_of))]
+fn iface_table(alloc: Global, format: Format, table: &Table) -> Result<IfaceTable, TopoFault>
+    ensures { Gives (λ x. x) result (iface_table_of format (table_view table.now)) }
+{
+    only_iface_keys(format, table)?;
     let name = required_name(alloc, table, "name")?;
     let node = required_name(alloc, table, "node")?;
     let address = required_address(table, "address")?;
     let queue = required_number(table, "queue", 0, MAX_QUEUE)?;
+    let queue_octets = queue_octets(table)?;
     Ok(IfaceTable {
         name,
         node,
         address,
         queue: queue as u16,
+        queue_octets,
     })
 }
 
@@ -181,23 +214,23 @@ impl Member for u16 {
 impl Element for u16 {
     ghost use Rattle.nm_topology.specs.Parse.Fields.{number_in};
 
-    ghost reads = { λ mtu d. number_in 0 65535 d };
+    ghost reads = { λ head d. number_in 0 65535 d };
 
-    fn read(_alloc: Global, _mtu: u16, value: &Value) -> Result<u16, TopoFault> {
+    fn read(_alloc: Global, _head: Head, value: &Value) -> Result<u16, TopoFault> {
         Ok(number(value, 0, 65_535)? as u16)
     }
 }
 
 #[tactic(auto, unfolding(crate::specs::Parse::Tables::node_table_of))]
-fn node_table(alloc: Global, mtu: u16, table: &Table) -> Result<NodeTable, TopoFault>
-    requires { 28 ≤ mtu }
+fn node_table(alloc: Global, head: Head, table: &Table) -> Result<NodeTable, TopoFault>
+    requires { 28 ≤ head.mtu }
     ensures { Gives (λ x. x) result (node_table_of (table_view table.now)) }
 {
     only(table, &["name", "kind", "partition", "ports"])?;
     let name = required_name(alloc, table, "name")?;
     let kind = required_node_kind(table, "kind")?;
     let partition = required_number(table, "partition", 0, 63)?;
-    let ports = optional_array(alloc, mtu, table, "ports", MAX_PORTS_OF_NODE)?;
+    let ports = optional_array(alloc, head, table, "ports", MAX_PORTS_OF_NODE)?;
     Ok(NodeTable {
         name,
         kind,
@@ -209,29 +242,29 @@ fn node_table(alloc: Global, mtu: u16, table: &Table) -> Result<NodeTable, TopoF
 impl FromTable for NodeTable {
     ghost use Rattle.nm_topology.specs.Parse.Tables.{node_table_of};
 
-    ghost of_table = { λ mtu t. node_table_of t };
+    ghost of_table = { λ head t. node_table_of t };
 
-    fn from_table(alloc: Global, mtu: u16, table: &Table) -> Result<NodeTable, TopoFault> {
-        node_table(alloc, mtu, table)
+    fn from_table(alloc: Global, head: Head, table: &Table) -> Result<NodeTable, TopoFault> {
+        node_table(alloc, head, table)
     }
 }
 
 impl FromTable for IfaceTable {
     ghost use Rattle.nm_topology.specs.Parse.Tables.{iface_table_of};
 
-    ghost of_table = { λ mtu t. iface_table_of t };
+    ghost of_table = { λ head t. iface_table_of head.format t };
 
-    fn from_table(alloc: Global, _mtu: u16, table: &Table) -> Result<IfaceTable, TopoFault> {
-        iface_table(alloc, table)
+    fn from_table(alloc: Global, head: Head, table: &Table) -> Result<IfaceTable, TopoFault> {
+        iface_table(alloc, head.format, table)
     }
 }
 
 impl FromTable for LinkTable {
     ghost use Rattle.nm_topology.specs.Parse.Tables.{link_table_of};
 
-    ghost of_table = { λ mtu t. link_table_of t };
+    ghost of_table = { λ head t. link_table_of t };
 
-    fn from_table(alloc: Global, _mtu: u16, table: &Table) -> Result<LinkTable, TopoFault> {
+    fn from_table(alloc: Global, _head: Head, table: &Table) -> Result<LinkTable, TopoFault> {
         link_table(alloc, table)
     }
 }
@@ -239,9 +272,9 @@ impl FromTable for LinkTable {
 impl FromTable for RouteTable {
     ghost use Rattle.nm_topology.specs.Parse.Tables.{route_table_of};
 
-    ghost of_table = { λ mtu t. route_table_of t };
+    ghost of_table = { λ head t. route_table_of t };
 
-    fn from_table(alloc: Global, _mtu: u16, table: &Table) -> Result<RouteTable, TopoFault> {
+    fn from_table(alloc: Global, _head: Head, table: &Table) -> Result<RouteTable, TopoFault> {
         route_table(alloc, table)
     }
 }

@@ -3,7 +3,8 @@
 ghost use Rattle.std.specs.Prelude.{◌≡◌, ◌<◌, ◌≤◌, All, length, slice_index, IfOk};
 ghost use Rattle.nm_base.specs.declared.limits.TheConstants.{MAX_IFACES};
 ghost use Rattle.nm_topology.specs.Fault.{Gives};
-ghost use Rattle.nm_topology.specs.Resolve.{all_of, via_of, owner_of, link_between, placed_route, placed_traffic, placed_source};
+ghost use Rattle.nm_topology.specs.Resolve.{all_of, via_of, owner_of, link_between, placed_route};
+ghost use Rattle.nm_topology.specs.Resolve.{placed_traffic, placed_source};
 ghost use Rattle.nm_topology.specs.Accepted.{IsPlaced, LeavesByOwn};
 
 use crate::fault::{Refusal, TopoFault};

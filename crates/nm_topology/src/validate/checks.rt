@@ -1,12 +1,16 @@
 //! The tests of a topology whose names are replaced by numbers.
 
-ghost use Rattle.std.specs.Prelude.{◌≡◌, ℕ, ◌<◌, ◌≤◌, ◌==◌, All, length, map, min, slice_index, nat_eq, nat_le, not, IfOk};
+ghost use Rattle.std.specs.Prelude.{◌≡◌, ℕ, ◌<◌, ◌≤◌, ◌==◌, All, length, map, min, slice_index};
+ghost use Rattle.std.specs.Prelude.{nat_eq, nat_le, not, IfOk};
 ghost use Rattle.std.specs.List.{list_all, list_any};
 ghost use Rattle.nm_base.specs.declared.limits.TheConstants.{MAX_CHANNELS, MAX_ROUTES_OF_NODE};
-ghost use Rattle.nm_topology.specs.declared.fault.Refusal.TheVariants.{IfaceUse, DoubleAddress, DoubleRoute, TooMany, CutDelay};
+ghost use Rattle.nm_topology.specs.declared.fault.Refusal.TheVariants.{IfaceUse, DoubleAddress};
+ghost use Rattle.nm_topology.specs.declared.fault.Refusal.TheVariants.{DoubleRoute, TooMany};
+ghost use Rattle.nm_topology.specs.declared.fault.Refusal.TheVariants.{CutDelay};
 ghost use Rattle.nm_topology.specs.Fault.{Gives, demand};
 ghost use Rattle.nm_topology.specs.Names.{has_double};
-ghost use Rattle.nm_topology.specs.Validate.{are_used_once, bump, uses, route_key, same_route, is_undelayed_cut};
+ghost use Rattle.nm_topology.specs.Validate.{are_used_once, bump, uses, route_key, same_route};
+ghost use Rattle.nm_topology.specs.Validate.{is_undelayed_cut};
 
 use crate::build::partitions::part_of;
 use crate::fault::{Refusal, TopoFault};

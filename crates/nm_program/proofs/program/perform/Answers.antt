@@ -2,7 +2,7 @@ use Rattle.std.proofs.Common.{ap, inr, sym, ◌∙◌}
 use Rattle.nm_program.specs.TraceFile.{trace_file}
 use Rattle.nm_program.proofs.program.perform.Goals as goal
 
--- the sink failed: it has a front of the answer
+-- the sink failed: it has a prefix of the answer
 pub returns : goal.returns
 returns g c =
     let read = c.in-Ok.ensures in

@@ -12,7 +12,7 @@ loop-iface-preserved c =
     let here : slice_get c.args.topology.now.ifaces c.loop-iface.iface-index ≡ Some c.iface-item.result = search (rules, slice_get_read) in
     let same = c.reserve_one.ensures.same in
     let port : IsPortOf c.args.topology.now c.loop-iface.iface-index c.reserve_one.new.self idle_port
-    = first_port _ _ _ _ here (ap (λ w. w.limit) same ∙ c.new-port.ensures.limit ∙ c.queue.ensures)
+    = first_port _ _ _ _ here (ap (λ w. w.limit) same ∙ c.new-port.ensures.limit ∙ (λ k. record { packets = c.queue.ensures k; octets = c.queue_octets.ensures k }))
     (ap (λ w. w.rate) same ∙ c.new-port.ensures.rate ∙ ap (λ f. f.rate) c.far-far.ensures)
     (ap (λ w. w.delay) same ∙ c.new-port.ensures.delay ∙ ap (λ f. f.delay) c.far-far.ensures)
     (ap (λ w. w.busy) same ∙ c.new-port.ensures.idle) (ap (λ w. w.dropped) same ∙ c.new-port.ensures.dropped) in

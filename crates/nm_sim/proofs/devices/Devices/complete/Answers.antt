@@ -21,5 +21,5 @@ returns c = rw (← c.self.view_is) record {
       let here : slice_get c.self.inside.ports.items c.args.iface ≡ Some c.index_mut.result.now = search (rules, slice_get_read) in
       let after : DevicesValue = record { nodes = c.self.inside.nodes.items; ports = slice_set c.self.inside.ports.items c.index.result c.done-start.new.self; sources = c.self.inside.sources.items; used = c.self.inside.used } in
       completes_by c.args.topology.now (the_view c.self.inside) after states ports s c.args.time c.args.iface number c.index_mut.result.now c.done-start.new.self.room c.done-start.result here c.requires.place
-      refl (λ k. slice_set c.self.inside.ports.items (c.index.ensures k) (c.done-start.ensures.port k)) refl c.done-start.ensures.packet c.done-start.ensures.start _ refl c.start_at.ensures refl;
+      refl (λ k. slice_set c.self.inside.ports.items (c.index.ensures k) (c.done-start.ensures.port k)) refl c.done-start.ensures.packet c.done-start.ensures.start _ refl c.transmission_at.ensures refl;
 }

@@ -2,9 +2,9 @@ use Rattle.std.proofs.Common.{◌≡◌, ◌⊎◌, inl, inr, ◌≤◌, ◌<◌
 use Rattle.std.proofs.lemmas.Option.{slice_get_read}
 use Rattle.nm_base.specs.declared.packet.Twin.{Twin}
 use Rattle.nm_iface.specs.declared.port.Offered.TheVariants.{Dropped}
-use Rattle.nm_iface.specs.Starts.{start_in}
+use Rattle.nm_iface.specs.Offers.{transmission_in}
 use Rattle.nm_sim.specs.contracts.devices.Devices.{the_view}
-use Rattle.nm_sim.specs.Effects.{Sends, start_at}
+use Rattle.nm_sim.specs.Effects.{Sends, transmission_at}
 use Rattle.nm_sim.specs.Devices.{DevicesValue}
 use Rattle.nm_sim.specs.Tables.{AllAt}
 use Rattle.nm_sim.proofs.Sendings.{sends_by}
@@ -29,9 +29,9 @@ returns-in-Started c = rw (← c.self.view_is, c.in-Send.is) record {
       let here : slice_get c.self.inside.ports.items c.in-Send.iface ≡ Some c.index_mut.result.now = search (rules, slice_get_read) in
       let within : c.in-Send.iface < length c.args.topology.now.ifaces = search rules in
       let after : DevicesValue = record { nodes = c.self.inside.nodes.items; ports = slice_set c.self.inside.ports.items c.index.result c.offer.new.self; sources = c.self.inside.sources.items; used = Some c.in-Send.iface } in
-      let sends = sends_by c.args.topology.now (the_view c.self.inside) after node port s c.args.time c.in-Send.iface c.in-Send.twin.packet c.index_mut.result.now c.offer.new.self.room (start_in c.offer.result) here within
+      let sends = sends_by c.args.topology.now (the_view c.self.inside) after node port s c.args.time c.in-Send.iface c.in-Send.twin.packet c.index_mut.result.now c.offer.new.self.room (transmission_in c.offer.result) here within
       refl (λ k. slice_set c.self.inside.ports.items (c.index.ensures k) (c.offer.ensures.port k)) refl c.offer.ensures.packet c.offer.ensures.start in
-      subst (λ o. Sends c.args.topology.now node port c.args.time (Some (c.in-Send.iface, c.in-Send.twin.packet)) after (start_at c.in-Send.iface o)) (ap start_in c.in-Started.is) sends;
+      subst (λ o. Sends c.args.topology.now node port c.args.time (Some (c.in-Send.iface, c.in-Send.twin.packet)) after (transmission_at c.in-Send.iface o)) (ap transmission_in c.in-Started.is) sends;
 }
 
 pub invariant_of-self-2 : goal.invariant_of-self-2
@@ -46,7 +46,7 @@ returns c = rw (← c.self.view_is, c.in-Send.is) record {
       let here : slice_get c.self.inside.ports.items c.in-Send.iface ≡ Some c.index_mut.result.now = search (rules, slice_get_read) in
       let within : c.in-Send.iface < length c.args.topology.now.ifaces = search rules in
       let after : DevicesValue = record { nodes = c.self.inside.nodes.items; ports = slice_set c.self.inside.ports.items c.index.result c.offer.new.self; sources = c.self.inside.sources.items; used = Some c.in-Send.iface } in
-      let sends = sends_by c.args.topology.now (the_view c.self.inside) after node port s c.args.time c.in-Send.iface c.in-Send.twin.packet c.index_mut.result.now c.offer.new.self.room (start_in c.offer.result) here within
+      let sends = sends_by c.args.topology.now (the_view c.self.inside) after node port s c.args.time c.in-Send.iface c.in-Send.twin.packet c.index_mut.result.now c.offer.new.self.room (transmission_in c.offer.result) here within
       refl (λ k. slice_set c.self.inside.ports.items (c.index.ensures k) (c.offer.ensures.port k)) refl c.offer.ensures.packet c.offer.ensures.start in
-      subst (λ o. Sends c.args.topology.now node port c.args.time (Some (c.in-Send.iface, c.in-Send.twin.packet)) after (start_at c.in-Send.iface o)) (⊎_elim (λ h. ap start_in h) (λ (h : (x : Twin) × c.offer.result ≡ Dropped x). ap start_in h.1) c.in-Queued.is) sends;
+      subst (λ o. Sends c.args.topology.now node port c.args.time (Some (c.in-Send.iface, c.in-Send.twin.packet)) after (transmission_at c.in-Send.iface o)) (⊎_elim (λ h. ap transmission_in h) (λ (h : (x : Twin) × c.offer.result ≡ Dropped x). ap transmission_in h.1) c.in-Queued.is) sends;
 }

@@ -18,4 +18,4 @@ returns-clause-follows c =
 pub returns-clause-reacts : goal.returns-clause-reacts
 returns-clause-reacts c = λ states ports s.
     subst (λ v. Reacts c.args.topology.now states ports v (Source c.args.source) c.args.packet.now c.react.new.self (sent_of c.in_ok-reaction.reaction))
-    (sym c.node_of-node.ensures.node) (c.in_ok-reaction.ensures.reacts states ports s)
+    (sym c.node_of_source-node.ensures.node) (c.in_ok-reaction.ensures.reacts states ports s)

@@ -1,4 +1,5 @@
-use Rattle.std.proofs.Common.{◌≡◌, ℕ, List, [], map, get_or, zero-add, All, ◌+◌, ◌-◌, ◌<◌, Some, ◌∷◌, length, drop, rules, arith, subst, sym, ap, ◌∙◌, length-set}
+use Rattle.std.proofs.Common.{◌≡◌, ℕ, List, [], map, get_or, zero-add, All, ◌+◌, ◌-◌, ◌<◌, Some}
+use Rattle.std.proofs.Common.{◌∷◌, length, drop, rules, arith, subst, sym, ap, ◌∙◌, length-set}
 use Rattle.std.specs.Prelude.{slice_get}
 use Rattle.std.proofs.lemmas.Grind.{common_steps}
 use Rattle.std.proofs.lemmas.List.{drop_more}

@@ -1,8 +1,10 @@
-use Rattle.std.proofs.Common.{◌≡◌, ℕ, ◌+◌, ◌-◌, ◌++◌, [], ◌∷◌, Vec, Global, length, filter, sym, ap, ◌∙◌}
+use Rattle.std.proofs.Common.{◌≡◌, ℕ, ◌+◌, ◌-◌, ◌++◌, [], ◌∷◌, Vec, Global, length, filter, sym, ap}
+use Rattle.std.proofs.Common.{◌∙◌}
 use Rattle.nm_topology.specs.Build.{is_receiver, numbers_from}
 use Rattle.nm_topology.proofs.Uses.{passes-more, fails-more}
 use Rattle.nm_topology.proofs.build.wiring.receivers.Goals as goal
-use Rattle.nm_topology.proofs.build.wiring.receivers.Goals.{then-is_receiver+in_ok-push, else-is_receiver}
+use Rattle.nm_topology.proofs.build.wiring.receivers.Goals.{then-is_receiver+in_ok-push}
+use Rattle.nm_topology.proofs.build.wiring.receivers.Goals.{else-is_receiver}
 
 pub loop-number-preserved : goal.loop-number-preserved
 loop-number-preserved c =

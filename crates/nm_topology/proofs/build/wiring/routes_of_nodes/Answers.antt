@@ -1,4 +1,5 @@
-use Rattle.std.proofs.Common.{◌≡◌, ℕ, ◌+◌, ◌<◌, ◌++◌, [], map, length, get_or, drop, zero-add, append-nil, subst, sym, ap, ◌∙◌}
+use Rattle.std.proofs.Common.{◌≡◌, ℕ, ◌+◌, ◌<◌, ◌++◌, [], map, length, get_or, drop, zero-add}
+use Rattle.std.proofs.Common.{append-nil, subst, sym, ap, ◌∙◌}
 use Rattle.std.proofs.lemmas.List.{drop_all}
 use Rattle.nm_topology.specs.Build.{routes_at, numbers_from}
 use Rattle.nm_topology.proofs.Uses.{map-numbers}

@@ -7,5 +7,5 @@ use Rattle.nm_topology.proofs.parse.arrays.each.Given as goal
 abbrev pub invariant-loop-item : goal.invariant-loop-item
 invariant-loop-item g l = record {
   count : length l.members.items ≡ l.item-index;
-  read : each (g.T.Element.reads l.mtu) (items_view l.items) ≡ with_front l.members.items (each (g.T.Element.reads l.mtu) (items_view (drop l.item-index l.items)));
+  read : each (g.T.Element.reads l.head) (items_view l.items) ≡ with_front l.members.items (each (g.T.Element.reads l.head) (items_view (drop l.item-index l.items)));
 }

@@ -1,4 +1,5 @@
-use Rattle.std.proofs.Common.{◌≡◌, ℕ, ◌<◌, min, Bool, List, ◌==◌, length, get_or, subst, sym, ap, ◌∙◌}
+use Rattle.std.proofs.Common.{◌≡◌, ℕ, ◌<◌, min, Bool, List, ◌==◌, length, get_or, subst, sym, ap}
+use Rattle.std.proofs.Common.{◌∙◌}
 use Rattle.std.specs.List.{list_all}
 use Rattle.nm_topology.specs.declared.fault.Refusal.TheVariants.{IfaceUse}
 use Rattle.nm_topology.specs.declared.parts.Link.{Link}

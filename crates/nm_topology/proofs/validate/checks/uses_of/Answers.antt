@@ -1,4 +1,5 @@
-use Rattle.std.proofs.Common.{◌≡◌, ◌+◌, ◌<◌, min, [], ◌∷◌, length, rules, get_or, drop, add-zero, sym, ap, ◌∙◌, length-set}
+use Rattle.std.proofs.Common.{◌≡◌, ◌+◌, ◌<◌, min, [], ◌∷◌, length, rules, get_or, drop, add-zero}
+use Rattle.std.proofs.Common.{sym, ap, ◌∙◌, length-set}
 use Rattle.std.proofs.lemmas.Grind.{common_steps}
 use Rattle.std.proofs.lemmas.List.{drop_all, drop_more}
 use Rattle.nm_topology.specs.declared.parts.Link.{Link}

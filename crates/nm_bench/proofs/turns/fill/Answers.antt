@@ -1,0 +1,23 @@
+use Rattle.std.proofs.Common.{ap, ◌∙◌, arith}
+use Rattle.std.specs.FinMap.{get, get-empty}
+use Rattle.nm_base.specs.Key.{key_cmp}
+use Rattle.nm_bench.proofs.Fresh.{not_yet}
+use Rattle.nm_bench.proofs.turns.fill.Goals as goal
+
+pub loop-number-init : goal.loop-number-init
+loop-number-init g c =
+    let reserved = c.in_ok-reserve.ensures in
+    record {
+      room = omega (arith, reserved.room);
+      fresh = λ q h. ap (λ m. get m q) (reserved.same ∙ c.requires.empty) ∙ get-empty key_cmp q;
+      random = omega arith;
+    }
+
+pub loop-number-preserved : goal.loop-number-preserved
+loop-number-preserved g c =
+    let before = c.loop-number.invariant in
+    record {
+      room = omega (arith, before.room, c.put.ensures.room);
+      fresh = λ q h. ap (λ m. get m q) c.put.ensures.pending ∙ not_yet _ _ q _ (before.fresh q (omega (arith, h))) (omega (arith, h, c.key.ensures));
+      random = c.next-random.ensures;
+    }

@@ -1,0 +1,18 @@
+use Rattle.std.proofs.Common.{◌≡◌, ◌<◌, length, ap, sym, arith, rules}
+use Rattle.std.proofs.lemmas.Grind.{common_steps}
+use Rattle.std.specs.BinaryHeap.{heap_items}
+use Rattle.std.specs.List.{slice_index_or}
+use Rattle.nm_events.specs.Queued.{first_key}
+use Rattle.nm_events.proofs.Heaped.{none_first, top_first}
+use Rattle.nm_events.proofs.key_heap.KeyHeap.first.Goals as goal
+
+pub returns-in_err-entry : goal.returns-in_err-entry
+returns-in_err-entry g c =
+    let none : length (heap_items c.self.inside.heap) ≡ 0 = grind (arith, common_steps, c.in_err-entry.ensures.variant) in
+    rw (c.from_residual.ensures, ← c.self.view_is) (ap first_key (sym (none_first _ none)))
+
+pub returns : goal.returns
+returns g c =
+    let some : 0 < length (heap_items c.self.inside.heap) = grind (arith, common_steps, c.in_ok-entry.ensures.variant) in
+    let is : c.in_ok-entry.entry.now ≡ slice_index_or (heap_items c.self.inside.heap) 0 c.in_ok-entry.entry.now = search rules in
+    rw (← c.self.view_is) (top_first c.in_ok-entry.entry.now _ some is (c.in_ok-entry.ensures.greatest c.self.invariant.0) c.self.invariant.1)

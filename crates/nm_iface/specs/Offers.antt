@@ -1,0 +1,29 @@
+-- Transmissions that start.
+use Rattle.std.specs.Prelude.{◌≡◌, ℕ, ◌+◌, List, Option, Some, None}
+use Rattle.nm_base.specs.declared.packet.Twin.{Twin}
+use Rattle.nm_iface.specs.declared.port.Start.{Start}
+use Rattle.nm_iface.specs.declared.port.Offered.{Offered}
+use Rattle.nm_iface.specs.declared.port.Offered.TheVariants.{Started, Queued, Dropped}
+use Rattle.nm_iface.specs.PortValue.{takes}
+
+-- of this packet at this time, over a link with this rate and delay
+pub record IsTransmission (rate delay now : ℕ) (octets : List ℕ) (s : Start) : Type 0 where
+  pub packet : s.twin.packet ≡ octets
+  pub completes : s.completes ≡ now + takes rate octets
+  pub arrives : s.arrives ≡ now + takes rate octets + delay
+
+-- the packet that starts, if one does
+abbrev pub transmitted_packet : Option Start → Option (List ℕ)
+transmitted_packet None = None
+transmitted_packet (Some s) = Some s.twin.packet
+
+abbrev pub transmission_in : Offered → Option Start
+transmission_in (Started s) = Some s
+transmission_in Queued = None
+transmission_in (Dropped t) = None
+
+-- the packet that is handed back
+abbrev pub handed_back : Offered → Option Twin
+handed_back (Started s) = None
+handed_back Queued = None
+handed_back (Dropped t) = Some t
