@@ -52,16 +52,15 @@ link = [ {a = "a0", b = "b0", rate = 1000, delay = 0} ]
 source = [ {kind = "raw", node = "a", via = "a0", packet = [ {at = 0, data = "45"} ]} ]
 "#;
 
-/// A text is refused for this, or at the first of two calls for memory.
+/// A text is refused for this at each of two calls, but at one of them for memory where that is refused once.
 fn is_refused(rt: &(impl Abort + AllocGlobal), text: &str, refusal: Refusal) {
-    let want = TopoFault::Refused(refusal);
+    let want = Some(TopoFault::Refused(refusal));
+    let memory = Some(TopoFault::Memory);
     let first = Topology::read(rt.alloc(), text.as_bytes()).err();
     let second = Topology::read(rt.alloc(), text.as_bytes()).err();
-    assert!(rt;
-        first == Some(want) || first == Some(TopoFault::Memory),
-        "{text}"
-    );
-    assert!(rt; second == Some(want), "{text}");
+    assert!(rt; first == want || second == want, "{text}");
+    assert!(rt; first == want || first == memory, "{text}");
+    assert!(rt; second == want || second == memory, "{text}");
 }
 
 #[test]
