@@ -1,6 +1,7 @@
 //! Ports: drop-tail queues.
 
 ghost use Rattle.std.specs.Prelude.{◌≡◌, ℕ, ◌+◌, ◌≤◌, if◌then◌else◌, List, Option, Some, None, OnOk, IfSome, IsSome};
+ghost use Rattle.std.specs.Option.{option_map};
 ghost use Rattle.nm_base.specs.declared.limits.TheConstants.{MAX_DELAY, MAX_RATE, MAX_TIME};
 ghost use Rattle.nm_model.specs.Port.{offered, completed, is_refused};
 ghost use Rattle.nm_iface.specs.PortValue.{has_room, takes, with_port};
@@ -178,6 +179,13 @@ impl Port {
                 None
             }
         }
+    }
+
+    /// When the transmission under way completes, if there is one. It takes no memory.
+    pub fn busy_until(&self) -> Option<Time>
+        ensures { result ≡ option_map (λ b. b.completes) self.now.busy }
+    {
+        self.busy_until
     }
 
     /// How many packets were dropped. It stops at the greatest `u64`.

@@ -19,7 +19,7 @@ use Rattle.nm_iface.specs.PortValue.{PortValue}
 use Rattle.nm_iface.specs.declared.port.Start.{Start}
 use Rattle.nm_iface.specs.Offers.{IsTransmission}
 use Rattle.nm_sim.specs.Devices.{DevicesValue, DevicesRepresent}
-use Rattle.nm_sim.specs.Network.{far_of, net_of}
+use Rattle.nm_sim.specs.Network.{IsIfaceHere, far_of, net_of}
 
 -- the place is one of the topology's
 abbrev pub IsPlaceIn : TopologyValue → Place → Type 0
@@ -28,9 +28,10 @@ IsPlaceIn t (Complete i) = i < length t.ifaces
 IsPlaceIn t (Fire j) = j < length t.sources
 
 -- the interface transmits
-abbrev pub IsBusy : Option PortValue → Type 0
+abbrev pub IsBusy : Option (Option PortValue) → Type 0
 IsBusy None = ⊥
-IsBusy (Some w) = IsSome w.busy
+IsBusy (Some None) = ⊥
+IsBusy (Some (Some w)) = IsSome w.busy
 
 -- an event that can happen now
 abbrev pub CanHappen : TopologyValue → DevicesValue → Place → ℕ → Event (List ℕ) → Type 0
@@ -51,9 +52,9 @@ abbrev pub transmission_at : ℕ → Option Start → Option (ℕ × Start)
 transmission_at i None = None
 transmission_at i (Some s) = Some (i, s)
 
--- the transmission that starts at this time, by an interface that is there
-abbrev pub TransmitsAt : TopologyValue → ℕ → ℕ × Start → Type 0
-TransmitsAt t time s = (s.0 < length t.ifaces) × IsTransmission (far_of t s.0).rate (far_of t s.0).delay time s.1.twin.packet s.1
+-- the transmission that starts at this time, by an interface that is here
+abbrev pub TransmitsAt : TopologyValue → Option ℕ → ℕ → ℕ × Start → Type 0
+TransmitsAt t part time s = IsIfaceHere t part s.0 × IsTransmission (far_of t s.0).rate (far_of t s.0).delay time s.1.twin.packet s.1
 
 -- What was done beside the change of a node and of one port: the packet that arrived, and where, the transmission that starts, and where, and
 -- the source's next packet, and when it comes.
@@ -63,25 +64,25 @@ pub record Done : Type 0 where
   pub follows : Option (ℕ × List ℕ)
 
 -- what was done is this effect
-pub record IsEffect (t : TopologyValue) (time : ℕ) (e : Done) (m : Effect (List ℕ) NodeStateValue) : Type 0 where
+pub record IsEffect (t : TopologyValue) (part : Option ℕ) (time : ℕ) (e : Done) (m : Effect (List ℕ) NodeStateValue) : Type 0 where
   pub came : e.came ≡ m.came
   pub transmission : transmission_of e.transmission ≡ m.transmission
-  pub transmits : IfSome e.transmission (TransmitsAt t time)
+  pub transmits : IfSome e.transmission (TransmitsAt t part time)
   pub follows : e.follows ≡ m.follows
 
 -- after an event of this key, done where nodes and ports had these states
-pub record Does (t : TopologyValue) (node : ℕ → NodeStateValue) (port : ℕ → Port (List ℕ)) (k : Key) (event : Event (List ℕ)) (d : DevicesValue) (e : Done) : Type 0 where
+pub record Does (t : TopologyValue) (part : Option ℕ) (node : ℕ → NodeStateValue) (port : ℕ → Port (List ℕ)) (k : Key) (event : Event (List ℕ)) (d : DevicesValue) (e : Done) : Type 0 where
   pub represented : let m : Effect (List ℕ) NodeStateValue = effect (net_of t) node port k.time k.place k.number event in
-      DevicesRepresent t d (set_at node (node_of (net_of t) k.place) m.after) (turned port m.turn)
-  pub does : IsEffect t k.time e (effect (net_of t) node port k.time k.place k.number event)
+      DevicesRepresent t part d (set_at node (node_of (net_of t) k.place) m.after) (turned port m.turn)
+  pub does : IsEffect t part k.time e (effect (net_of t) node port k.time k.place k.number event)
 
 -- after a node has sent this, or nothing
-pub record Sends (t : TopologyValue) (node : ℕ → NodeStateValue) (port : ℕ → Port (List ℕ)) (time : ℕ) (sent : Option (ℕ × List ℕ)) (d : DevicesValue) (sending : Option (ℕ × Start)) : Type 0 where
-  pub represented : (n : NodeStateValue) (came follows : Option (ℕ × List ℕ)) → DevicesRepresent t d node (turned port (sent_on (net_of t) port time came n sent follows).turn)
+pub record Sends (t : TopologyValue) (part : Option ℕ) (node : ℕ → NodeStateValue) (port : ℕ → Port (List ℕ)) (time : ℕ) (sent : Option (ℕ × List ℕ)) (d : DevicesValue) (sending : Option (ℕ × Start)) : Type 0 where
+  pub represented : (n : NodeStateValue) (came follows : Option (ℕ × List ℕ)) → DevicesRepresent t part d node (turned port (sent_on (net_of t) port time came n sent follows).turn)
   pub transmission : (n : NodeStateValue) (came follows : Option (ℕ × List ℕ)) → transmission_of sending ≡ (sent_on (net_of t) port time came n sent follows).transmission
-  pub transmits : IfSome sending (TransmitsAt t time)
+  pub transmits : IfSome sending (TransmitsAt t part time)
 
 -- after node v has reacted to a packet
-pub record Reacts (t : TopologyValue) (node : ℕ → NodeStateValue) (port : ℕ → Port (List ℕ)) (v : ℕ) (o : Origin) (x : List ℕ) (d : DevicesValue) (sent : Option (ℕ × List ℕ)) : Type 0 where
-  pub represented : DevicesRepresent t d (set_at node v (reaction t v (node v) o x).0) port
+pub record Reacts (t : TopologyValue) (part : Option ℕ) (node : ℕ → NodeStateValue) (port : ℕ → Port (List ℕ)) (v : ℕ) (o : Origin) (x : List ℕ) (d : DevicesValue) (sent : Option (ℕ × List ℕ)) : Type 0 where
+  pub represented : DevicesRepresent t part d (set_at node v (reaction t v (node v) o x).0) port
   pub sends : sent ≡ (reaction t v (node v) o x).1

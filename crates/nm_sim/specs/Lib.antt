@@ -3,5 +3,7 @@ pub mod Timelines
 pub mod Tables
 pub mod Devices
 pub mod Effects
+pub mod Outgoing
+pub mod Records
 pub mod Part
 pub mod Trace

@@ -1,6 +1,7 @@
 -- The network of nm_model that an accepted topology describes.
-use Rattle.std.specs.Prelude.{ℕ, List, map, length, Option, Some, None, slice_get, slice_index_or as get_or, slice_index}
-use Rattle.nm_model.specs.Network.{Net}
+use Rattle.std.specs.Prelude.{◌≡◌, ℕ, ◌<◌, ◌==◌, Bool, true, if◌then◌else◌, List, map, length, Option, Some, None, slice_get, slice_index_or as get_or, slice_index}
+use Rattle.nm_base.specs.declared.key.Place.{Place}
+use Rattle.nm_model.specs.Network.{Net, node_of}
 use Rattle.nm_topology.specs.declared.parts.Far.{Far}
 use Rattle.nm_topology.specs.PartValues.{IfaceValue}
 use Rattle.nm_topology.specs.Accepted.{owners_of, parts_of}
@@ -46,3 +47,24 @@ net_of t = record {
   source_node = λ j. slice_index (map (λ s. s.node) t.sources) j;
   source = source_at t;
 }
+
+-- What is here: all of the network, or what is of the nodes of one partition.
+abbrev pub is_node_here : TopologyValue → Option ℕ → ℕ → Bool
+is_node_here t None v = true
+is_node_here t (Some p) v = (net_of t).part v == p
+
+abbrev pub here_of : TopologyValue → Option ℕ → Place → Bool
+here_of t part q = is_node_here t part (node_of (net_of t) q)
+
+abbrev pub is_iface_here : TopologyValue → Option ℕ → ℕ → Bool
+is_iface_here t part i = is_node_here t part ((net_of t).owner i)
+
+abbrev pub is_source_here : TopologyValue → Option ℕ → ℕ → Bool
+is_source_here t part j = is_node_here t part ((net_of t).source_node j)
+
+abbrev pub IsIfaceHere : TopologyValue → Option ℕ → ℕ → Type 0
+IsIfaceHere t part i = (i < length t.ifaces) × (is_iface_here t part i ≡ true)
+
+-- a source's first packet, if it is here
+abbrev pub first_here : TopologyValue → Option ℕ → ℕ → Option (ℕ × List ℕ)
+first_here t part j = if is_source_here t part j then source_at t j 0 else None

@@ -1,11 +1,14 @@
 -- What contracts see of a part of a simulation, and what it represents.
-use Rattle.std.specs.Prelude.{◌≡◌, ℕ, ◌+◌, ◌^◌, ◌<◌, ◌≤◌, ◌++◌, Bool, true, false, ltb, if◌then◌else◌, slice_index, List, length, Option, Some, None, Result, Ok, Err}
+use Rattle.std.specs.Prelude.{◌≡◌, ℕ, ◌+◌, ◌^◌, ◌<◌, ◌≤◌, ◌++◌, Bool, true, false, ltb, ◌&&◌, if◌then◌else◌, slice_index, List, [], length, Option, Some, None, Result, Ok, Err}
 use Rattle.std.specs.Option.{option_map}
-use Rattle.std.specs.FinMap.{FinMap, get, remove}
+use Rattle.std.specs.FinMap.{FinMap, get, insert, remove}
 use Rattle.std.specs.declared.alloc.AllocError.{AllocError}
 use Rattle.nm_base.specs.declared.event.Event.{Event}
+use Rattle.nm_base.specs.declared.event.Event.TheVariants.{Delivery}
 use Rattle.nm_base.specs.declared.key.Key.{Key}
-use Rattle.nm_base.specs.Key.{key_cmp}
+use Rattle.nm_base.specs.declared.key.Place.TheVariants.{Arrive}
+use Rattle.nm_base.specs.Key.{key_cmp, key_of}
+use Rattle.nm_topology.specs.Topology.{receiving_iface}
 use Rattle.nm_topology.specs.TopologyValue.{TopologyValue}
 use Rattle.nm_model.specs.EventList.{least, schedule}
 use Rattle.nm_model.specs.Orderly.{IsOrderly}
@@ -15,80 +18,94 @@ use Rattle.nm_forward.specs.Counter.{counter_number}
 use Rattle.nm_forward.specs.State.{NodeStateValue}
 use Rattle.nm_iface.specs.declared.port.Start.{Start}
 use Rattle.nm_base.specs.Count.{saturated}
-use Rattle.nm_sim.specs.Network.{net_of}
+use Rattle.nm_sim.specs.Network.{here_of, is_iface_here, is_node_here, net_of}
 use Rattle.nm_sim.specs.Devices.{DevicesValue, DevicesRepresent}
+use Rattle.nm_sim.specs.Outgoing.{HaveSpare, OutgoingRepresents, OutgoingValue}
+use Rattle.nm_sim.specs.Records.{RecordsValue}
 use Rattle.nm_sim.specs.Effects.{Does, Done, IsPlaceIn, Sends}
-use Rattle.nm_sim.specs.Tables.{AllAt}
+use Rattle.nm_sim.specs.Tables.{AllSome}
 use Rattle.nm_base.specs.declared.limits.TheConstants.{MAX_TIME}
 use Rattle.nm_sim.specs.Timelines.{TimelineValue, TimelineRepresents, everywhere}
 
 pub record PartValue (L : Type 0) : Type 0 where
+  pub part : Option ℕ
   pub devices : DevicesValue
   pub timeline : TimelineValue L
+  pub outgoing : OutgoingValue
+  pub records : RecordsValue
   pub steps : ℕ
 
--- the part, whose event list has these pending events, represents this state of the network's run
-pub record Represents {L : Type 0} (pending : L → FinMap key_cmp (Event (List ℕ))) (t : TopologyValue) (p : PartValue L) (s : State (List ℕ) NodeStateValue) : Type 0 where
-  pub orderly : IsOrderly (net_of t) everywhere s
-  pub devices : DevicesRepresent t p.devices s.node s.port
+-- the part, whose event list has these pending events, is the whole network (None) or one partition of it, and represents this state of its run
+pub record Represents {L : Type 0} (pending : L → FinMap key_cmp (Event (List ℕ))) (t : TopologyValue) (part : Option ℕ) (p : PartValue L) (s : State (List ℕ) NodeStateValue) : Type 0 where
+  pub part : p.part ≡ part
+  pub orderly : IsOrderly (net_of t) (here_of t part) s
+  pub devices : DevicesRepresent t part p.devices s.node s.port
   pub numbered : TimelineRepresents t p.timeline s.sent
+  pub outgoing : OutgoingRepresents t part p.outgoing s.sent
   pub few : (c : ℕ) → length (s.sent c) ≤ p.steps
   pub events : pending p.timeline.events ≡ s.pending
   pub placed : (q : Key) (y : Event (List ℕ)) → get s.pending q ≡ Some y → IsPlaceIn t q.place
-  pub records : p.timeline.records ≡ s.records
+  pub records : p.records.list ≡ s.records
 
 -- An event was taken out of a part that represented this state. If a packet came with it, the trace has it, and if another follows at its source,
 -- that is pending.
-pub record Taken {L : Type 0} (pending : L → FinMap key_cmp (Event (List ℕ))) (t : TopologyValue) (k : Key) (e : Event (List ℕ))
+pub record Taken {L : Type 0} (pending : L → FinMap key_cmp (Event (List ℕ))) (t : TopologyValue) (part : Option ℕ) (k : Key) (e : Event (List ℕ))
     (came follows : Option (ℕ × List ℕ)) (p : PartValue L) (s : State (List ℕ) NodeStateValue) : Type 0 where
   pub first : least s.pending ≡ Some (k, e)
-  pub orderly : IsOrderly (net_of t) everywhere s
+  pub part : p.part ≡ part
+  pub orderly : IsOrderly (net_of t) (here_of t part) s
   pub numbered : TimelineRepresents t p.timeline s.sent
+  pub outgoing : OutgoingRepresents t part p.outgoing s.sent
   pub few : (c : ℕ) → length (s.sent c) ≤ p.steps
   pub events : pending p.timeline.events ≡ schedule everywhere (next_events k.place k.number follows) (remove s.pending k)
   pub placed : (q : Key) (y : Event (List ℕ)) → get s.pending q ≡ Some y → IsPlaceIn t q.place
-  pub records : p.timeline.records ≡ s.records ++ in_record k.time came
+  pub records : p.records.list ≡ s.records ++ in_record k.time came
+
+-- there is memory for all that an event may do
+pub record HasMemory {L : Type 0} (room_of : L → ℕ) (p : PartValue L) : Type 0 where
+  pub ports : AllSome (λ i w. 1 ≤ w.room) p.devices.ports
+  pub room : 3 ≤ room_of p.timeline.events
+  pub channels : HaveSpare p.outgoing
+  pub spare : 2 ≤ p.records.spare
 
 -- it was taken out and nothing of it is done, and there is memory for all that it may do
-pub record IsReady {L : Type 0} (pending : L → FinMap key_cmp (Event (List ℕ))) (room_of : L → ℕ) (t : TopologyValue) (k : Key) (e : Event (List ℕ))
+pub record IsReady {L : Type 0} (pending : L → FinMap key_cmp (Event (List ℕ))) (room_of : L → ℕ) (t : TopologyValue) (part : Option ℕ) (k : Key) (e : Event (List ℕ))
     (p : PartValue L) (s : State (List ℕ) NodeStateValue) : Type 0 where
-  pub taken : Taken pending t k e None None p s
-  pub devices : DevicesRepresent t p.devices s.node s.port
+  pub taken : Taken pending t part k e None None p s
+  pub devices : DevicesRepresent t part p.devices s.node s.port
   pub time : k.time ≤ MAX_TIME
   pub steps : p.steps < 2 ^ 62
-  pub ports : AllAt (λ i w. 1 ≤ w.room) p.devices.ports
-  pub room : 3 ≤ room_of p.timeline.events
-  pub spare : 2 ≤ p.timeline.spare
+  pub memory : HasMemory room_of p
 
 -- its node has reacted, but nothing of what the node sends was offered to a port yet
-pub record HasReacted {L : Type 0} (pending : L → FinMap key_cmp (Event (List ℕ))) (t : TopologyValue) (k : Key) (e : Event (List ℕ))
+pub record HasReacted {L : Type 0} (pending : L → FinMap key_cmp (Event (List ℕ))) (t : TopologyValue) (part : Option ℕ) (k : Key) (e : Event (List ℕ))
     (came follows sent : Option (ℕ × List ℕ)) (node : ℕ → NodeStateValue) (p : PartValue L) (s : State (List ℕ) NodeStateValue) : Type 0 where
-  pub taken : Taken pending t k e came follows p s
-  pub represented : DevicesRepresent t p.devices node s.port
-  pub does : (d : DevicesValue) (start : Option (ℕ × Start)) → Sends t node s.port k.time sent d start
-      → Does t s.node s.port k e d (record { came = came; transmission = start; follows = follows })
+  pub taken : Taken pending t part k e came follows p s
+  pub represented : DevicesRepresent t part p.devices node s.port
+  pub does : (d : DevicesValue) (start : Option (ℕ × Start)) → Sends t part node s.port k.time sent d start
+      → Does t part s.node s.port k e d (record { came = came; transmission = start; follows = follows })
 
 -- it was done, but that no transmission started yet
-pub record IsUnderWay {L : Type 0} (pending : L → FinMap key_cmp (Event (List ℕ))) (t : TopologyValue) (k : Key) (e : Event (List ℕ))
+pub record IsUnderWay {L : Type 0} (pending : L → FinMap key_cmp (Event (List ℕ))) (t : TopologyValue) (part : Option ℕ) (k : Key) (e : Event (List ℕ))
     (done : Done) (p : PartValue L) (s : State (List ℕ) NodeStateValue) : Type 0 where
-  pub taken : Taken pending t k e done.came done.follows p s
-  pub does : Does t s.node s.port k e p.devices done
+  pub taken : Taken pending t part k e done.came done.follows p s
+  pub does : Does t part s.node s.port k e p.devices done
 
 -- what became of it: it was done, or is back where it was
 abbrev pub Performed : {L : Type 0} → (L → FinMap key_cmp (Event (List ℕ))) → (L → ℕ) → TopologyValue → Key → Event (List ℕ)
     → PartValue L → PartValue L → Result Unit AllocError → Type 0
-Performed pending room t k e old new (Ok u) = ((s : State (List ℕ) NodeStateValue) → IsReady pending room t k e old s
-    → Represents pending t new (step (net_of t) everywhere s)) × (new.steps ≡ old.steps + 1)
-Performed pending room t k e old new (Err x) = ((s : State (List ℕ) NodeStateValue) → IsReady pending room t k e old s
-    → Represents pending t new s) × (new.steps ≡ old.steps)
+Performed pending room t k e old new (Ok u) = ((part : Option ℕ) (s : State (List ℕ) NodeStateValue) → IsReady pending room t part k e old s
+    → Represents pending t part new (step (net_of t) (here_of t part) s)) × (new.steps ≡ old.steps + 1)
+Performed pending room t k e old new (Err x) = ((part : Option ℕ) (s : State (List ℕ) NodeStateValue) → IsReady pending room t part k e old s
+    → Represents pending t part new s) × (new.steps ≡ old.steps)
 
 -- what a step answers, and what the part represents after it
-abbrev pub Stepped : {L : Type 0} → (L → FinMap key_cmp (Event (List ℕ))) → TopologyValue → ℕ → State (List ℕ) NodeStateValue
+abbrev pub Stepped : {L : Type 0} → (L → FinMap key_cmp (Event (List ℕ))) → TopologyValue → Option ℕ → ℕ → State (List ℕ) NodeStateValue
     → PartValue L → PartValue L → Result (Option Key) AllocError → Type 0
-Stepped pending t before s old new (Ok None) = (new ≡ old) × (pends_before before s ≡ false)
-Stepped pending t before s old new (Ok (Some k)) = Represents pending t new (step (net_of t) everywhere s)
+Stepped pending t part before s old new (Ok None) = (new ≡ old) × (pends_before before s ≡ false)
+Stepped pending t part before s old new (Ok (Some k)) = Represents pending t part new (step (net_of t) (here_of t part) s)
     × (pends_before before s ≡ true) × (option_map (λ e. e.0) (least s.pending) ≡ Some k)
-Stepped pending t before s old new (Err e) = Represents pending t new s
+Stepped pending t part before s old new (Err e) = Represents pending t part new s
 
 -- how many events a step did
 abbrev pub events_done : Result (Option Key) AllocError → ℕ
@@ -103,16 +120,25 @@ events_counted (Ok true) = 1
 events_counted (Err e) = 0
 
 -- the same where only whether there was an event is answered
-abbrev pub Advanced : {L : Type 0} → (L → FinMap key_cmp (Event (List ℕ))) → TopologyValue → ℕ → State (List ℕ) NodeStateValue
+abbrev pub Advanced : {L : Type 0} → (L → FinMap key_cmp (Event (List ℕ))) → TopologyValue → Option ℕ → ℕ → State (List ℕ) NodeStateValue
     → PartValue L → PartValue L → Result Bool AllocError → Type 0
-Advanced pending t before s old new (Ok false) = (new ≡ old) × (pends_before before s ≡ false)
-Advanced pending t before s old new (Ok true) = Represents pending t new (step (net_of t) everywhere s) × (pends_before before s ≡ true)
-Advanced pending t before s old new (Err e) = Represents pending t new s
+Advanced pending t part before s old new (Ok false) = (new ≡ old) × (pends_before before s ≡ false)
+Advanced pending t part before s old new (Ok true) = Represents pending t part new (step (net_of t) (here_of t part) s) × (pends_before before s ≡ true)
+Advanced pending t part before s old new (Err e) = Represents pending t part new s
 
--- what node v counted, if it is there
-abbrev pub count_at : TopologyValue → State (List ℕ) NodeStateValue → ℕ → Counter → Option ℕ
-count_at t s v c = if ltb v (length t.nodes) then Some (slice_index (s.node v).counters (counter_number c)) else None
+-- a packet's arrival at an interface, with its number, is pending too
+abbrev pub with_arrival : ℕ → ℕ → ℕ → List ℕ → State (List ℕ) NodeStateValue → State (List ℕ) NodeStateValue
+with_arrival i number time x s = record s { pending = insert s.pending (key_of time (Arrive i) number) (Delivery x) }
 
--- how many packets were dropped at interface i, if it is there; the count stops at the greatest of its type
-abbrev pub drops_at : TopologyValue → State (List ℕ) NodeStateValue → ℕ → Option ℕ
-drops_at t s i = if ltb i (length t.ifaces) then Some (saturated (s.port i).dropped) else None
+-- what node v counted, if it is here
+abbrev pub count_at : TopologyValue → Option ℕ → State (List ℕ) NodeStateValue → ℕ → Counter → Option ℕ
+count_at t part s v c = if ltb v (length t.nodes) && is_node_here t part v then Some (slice_index (s.node v).counters (counter_number c)) else None
+
+-- how many packets were dropped at interface i, if it is here; the count stops at the greatest of its type
+abbrev pub drops_at : TopologyValue → Option ℕ → State (List ℕ) NodeStateValue → ℕ → Option ℕ
+drops_at t part s i = if ltb i (length t.ifaces) && is_iface_here t part i then Some (saturated (s.port i).dropped) else None
+
+-- what was put on a channel that goes out from here: within the whole network there is none
+abbrev pub messages_out : TopologyValue → Option ℕ → State (List ℕ) NodeStateValue → ℕ → List (ℕ × List ℕ)
+messages_out t None s c = []
+messages_out t (Some p) s c = if ltb c (length t.receivers) then s.sent (receiving_iface t c) else []

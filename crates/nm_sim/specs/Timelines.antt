@@ -4,17 +4,14 @@ use Rattle.std.specs.FinMap.{FinMap, get}
 use Rattle.nm_base.specs.declared.event.Event.{Event}
 use Rattle.nm_base.specs.declared.key.Key.{Key}
 use Rattle.nm_base.specs.declared.key.Place.{Place}
-use Rattle.nm_base.specs.declared.record.Record.{Record}
 use Rattle.nm_base.specs.Key.{key_cmp}
 use Rattle.nm_model.specs.Lists.{nth}
 use Rattle.nm_topology.specs.TopologyValue.{TopologyValue}
 
--- the event list, how many packets were put on each interface, the trace, and for how many more records there is memory
+-- the event list, and how many packets were put on each interface
 pub record TimelineValue (L : Type 0) : Type 0 where
   pub events : L
   pub sent : List ℕ
-  pub records : List (Record (List ℕ))
-  pub spare : ℕ
 
 -- the counts of a timeline are those of what was put on the interfaces
 pub record TimelineRepresents {L : Type 0} (t : TopologyValue) (line : TimelineValue L) (sent : ℕ → List (ℕ × List ℕ)) : Type 0 where

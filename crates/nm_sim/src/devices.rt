@@ -1,4 +1,4 @@
-//! The nodes, ports and sources of a simulation.
+//! The nodes, ports and sources of a part of a simulation.
 
 ghost use Rattle.std.specs.Prelude.{◌≡◌, ℕ, slice_get, slice_index, ◌+◌, ◌≤◌, ◌<◌, ◌^◌, List, Option, Some, None, OnOk, OnErr, IfOk, IfSome, Ok, Err, length};
 ghost use Rattle.nm_base.specs.declared.limits.TheConstants.{MAX_TIME};
@@ -10,16 +10,17 @@ ghost use Rattle.nm_model.specs.Port.{Port as PortState, idle_port};
 ghost use Rattle.nm_forward.specs.State.{NodeStateValue, first_state};
 ghost use Rattle.nm_forward.specs.Reaction.{FitsOrigin, sent_of};
 ghost use Rattle.nm_base.specs.Key.{key_of};
-ghost use Rattle.nm_sim.specs.Network.{net_of};
-ghost use Rattle.nm_sim.specs.Tables.{AllAt};
-ghost use Rattle.nm_sim.specs.Devices.{DevicesRepresent, IsPortOf, IsSame, DevicesRepresentSome};
+ghost use Rattle.nm_sim.specs.Network.{first_here, is_iface_here as iface_here, is_node_here as node_here, is_source_here as source_here, net_of};
+ghost use Rattle.nm_sim.specs.Tables.{AllHere, AllSome, IsMember, IsThere};
+ghost use Rattle.nm_sim.specs.Devices.{DevicesRepresent, IsNodeOf, IsPortOf, IsSame, DevicesRepresentSome};
 ghost use Rattle.nm_traffic.specs.Source.{source_at, source_of};
 ghost use Rattle.nm_forward.specs.Counter.{counter_number};
-ghost use Rattle.std.specs.Option.{option_map};
+ghost use Rattle.std.specs.Option.{option_and_then, option_map};
 ghost use Rattle.nm_sim.specs.Effects.{Does, IsBusy, Reacts, Sends, transmission_at as transmission_at_iface};
 
 use crate::fired::Fired;
-use nm_base::{Event, IfaceNo, Key, NodeNo, Origin, Packet, Place, SourceNo, Time};
+use crate::here::{is_iface_here, is_node_here, is_source_here, node_of_source};
+use nm_base::{Event, IfaceNo, Key, NodeNo, Origin, Packet, PartNo, Place, SourceNo, Time};
 use nm_forward::laws::a_node_sends_by_its_own_interfaces;
 use nm_forward::{Counter, NodeState, Reaction, react};
 use nm_iface::port::Offered;
@@ -30,12 +31,12 @@ use nm_traffic::{Source, SourcePacket};
 use std::alloc::{AllocError, Global};
 use std::marker::Model;
 
-/// The nodes, the ports of their interfaces, and the sources, by their numbers.
+/// The nodes, the ports of their interfaces, and the sources, by their numbers: those that are here.
 #[derive(Drop)]
 pub struct Devices {
-    nodes: Vec<NodeState>,
-    ports: Vec<Port>,
-    sources: Vec<Source>,
+    nodes: Vec<Option<NodeState>>,
+    ports: Vec<Option<Port>>,
+    sources: Vec<Option<Source>>,
     /// The port that may have no memory for one more packet.
     used: Option<IfaceNo>,
 }
@@ -58,65 +59,132 @@ impl Model for Devices {
         }) };
 }
 
-/// All nodes at the start of a run.
-fn first_nodes(alloc: Global, topology: &Topology) -> Result<Vec<NodeState>, AllocError>
+/// A node at the start of a run, if it is here.
+fn first_node(
+    alloc: Global,
+    topology: &Topology,
+    part: &Option<PartNo>,
+    node: NodeNo,
+) -> Result<Option<NodeState>, AllocError>
+    requires { node < length topology.now.nodes }
+    ensures { IfOk result (IsThere (node_here topology.now part.now node)
+        (λ n. IsNodeOf topology.now node n (first_state topology.now node))) }
+{
+    if is_node_here(topology, part, node) {
+        let state = NodeState::new(alloc, topology, node)?;
+        Ok(Some(state))
+    } else {
+        Ok(None)
+    }
+}
+
+/// The nodes that are here at the start of a run.
+fn first_nodes(
+    alloc: Global,
+    topology: &Topology,
+    part: &Option<PartNo>,
+) -> Result<Vec<Option<NodeState>>, AllocError>
     ensures count { IfOk result (λ v. length v.items ≡ length topology.now.nodes) }
-    ensures value { IfOk result (λ v. AllAt (λ i n. n ≡ first_state topology.now i) v.items) }
+    ensures value { IfOk result (λ v. AllHere (node_here topology.now part.now)
+        (λ i n. IsNodeOf topology.now i n (first_state topology.now i)) v.items) }
 {
     accepted_topologies_are_in_order(topology); // law: nodes have numbers of 32 bits
     let count = topology.nodes().len();
     let mut nodes = Vec::with_capacity(alloc, count)?;
     for number in 0..count {
-        nodes.push(NodeState::new(alloc, topology, NodeNo::new(number as u32))?)?;
+        let node = first_node(alloc, topology, part, NodeNo::new(number as u32))?;
+        nodes.push(node)?;
     }
     Ok(nodes)
 }
 
-/// The port of each interface, idle, with memory for one packet that waits.
-fn first_ports(alloc: Global, topology: &Topology) -> Result<Vec<Port>, AllocError>
-    ensures count { IfOk result (λ v. length v.items ≡ length topology.now.ifaces) }
-    ensures value { IfOk result (λ v. AllAt (λ i w. IsPortOf topology.now i w idle_port) v.items) }
-    ensures room { IfOk result (λ v. AllAt (λ i w. 1 ≤ w.room) v.items) }
+/// The port of an interface, idle, with memory for one packet that waits, if it is here.
+fn first_port(
+    alloc: Global,
+    topology: &Topology,
+    part: &Option<PartNo>,
+    iface: IfaceNo,
+) -> Result<Option<Port>, AllocError>
+    requires { iface < length topology.now.ifaces }
+    ensures port { IfOk result (IsThere (iface_here topology.now part.now iface)
+        (λ w. IsPortOf topology.now iface w idle_port)) }
+    ensures room { IfOk result (λ o. IfSome o (λ w. 1 ≤ w.room)) }
 {
     accepted_topologies_are_in_order(topology); // law: rates and delays are within their limits
-    let mut ports = Vec::with_capacity(alloc, topology.ifaces().len())?;
-    for iface in topology.ifaces() {
-        let far = iface.far();
-        let mut port = Port::new(
-            alloc,
-            iface.queue(),
-            iface.queue_octets(),
-            far.rate,
-            far.delay,
-        );
-        port.reserve_one()?;
+    if !is_iface_here(topology, part, iface) {
+        return Ok(None);
+    }
+    let described = topology.iface(iface);
+    let far = described.far();
+    let mut port = Port::new(
+        alloc,
+        described.queue(),
+        described.queue_octets(),
+        far.rate,
+        far.delay,
+    );
+    port.reserve_one()?;
+    Ok(Some(port))
+}
+
+/// The ports of the interfaces that are here at the start of a run.
+fn first_ports(
+    alloc: Global,
+    topology: &Topology,
+    part: &Option<PartNo>,
+) -> Result<Vec<Option<Port>>, AllocError>
+    ensures count { IfOk result (λ v. length v.items ≡ length topology.now.ifaces) }
+    ensures value { IfOk result (λ v. AllHere (iface_here topology.now part.now)
+        (λ i w. IsPortOf topology.now i w idle_port) v.items) }
+    ensures room { IfOk result (λ v. AllSome (λ i w. 1 ≤ w.room) v.items) }
+{
+    accepted_topologies_are_in_order(topology); // law: interfaces have numbers of 32 bits
+    let count = topology.ifaces().len();
+    let mut ports = Vec::with_capacity(alloc, count)?;
+    for number in 0..count {
+        let port = first_port(alloc, topology, part, IfaceNo::new(number as u32))?;
         ports.push(port)?;
     }
     Ok(ports)
 }
 
-/// The sources.
-fn first_sources(alloc: Global, topology: &Topology) -> Result<Vec<Source>, AllocError>
+/// A source, if it is here.
+fn first_source(
+    alloc: Global,
+    topology: &Topology,
+    part: &Option<PartNo>,
+    source: SourceNo,
+) -> Result<Option<Source>, AllocError>
+    requires { source < length topology.now.sources }
+    ensures { IfOk result (IsThere (source_here topology.now part.now source)
+        (λ s. source_of topology.now source ≡ Some s)) }
+{
+    if is_source_here(topology, part, source) {
+        let state = Source::new(alloc, topology, source)?;
+        Ok(Some(state))
+    } else {
+        Ok(None)
+    }
+}
+
+/// The sources that are here.
+fn first_sources(
+    alloc: Global,
+    topology: &Topology,
+    part: &Option<PartNo>,
+) -> Result<Vec<Option<Source>>, AllocError>
     ensures count { IfOk result (λ v. length v.items ≡ length topology.now.sources) }
-    ensures value { IfOk result (λ v. AllAt (λ j s. source_of topology.now j ≡ Some s) v.items) }
+    ensures value { IfOk result (λ v. AllHere (source_here topology.now part.now)
+        (λ j s. source_of topology.now j ≡ Some s) v.items) }
 {
     accepted_topologies_are_in_order(topology); // law: sources have numbers of 32 bits
     let count = topology.sources().len();
     let mut sources = Vec::with_capacity(alloc, count)?;
     for number in 0..count {
-        sources.push(Source::new(alloc, topology, SourceNo::new(number as u32))?)?;
+        let source = first_source(alloc, topology, part, SourceNo::new(number as u32))?;
+        sources.push(source)?;
     }
     Ok(sources)
-}
-
-/// The node of a source.
-fn node_of_source(topology: &Topology, source: SourceNo) -> NodeNo
-    requires { source < length topology.now.sources }
-    ensures there { result < length topology.now.nodes }
-    ensures node { (net_of topology.now).source_node source ≡ result }
-{
-    accepted_topologies_are_in_order(topology); // law: a source's node is there
-    topology.sources()[source.index()].node
 }
 
 /// A transmission that starts, and where.
@@ -130,20 +198,24 @@ fn transmission_at(iface: IfaceNo, start: Option<Start>) -> Option<(IfaceNo, Sta
 }
 
 impl Devices {
-    /// The devices of a topology at the start of a run.
-    pub fn new(alloc: Global, topology: &Topology) -> Result<Self, AllocError>
+    /// The devices that are here at the start of a run.
+    pub fn new(
+        alloc: Global,
+        topology: &Topology,
+        part: &Option<PartNo>,
+    ) -> Result<Self, AllocError>
         ensures { IfOk result
-            (λ d. DevicesRepresent topology.now d (first_state topology.now) (λ i. idle_port)) }
+            (λ d. DevicesRepresent topology.now part.now d (first_state topology.now) (λ i. idle_port)) }
     {
         Ok(Devices {
-            nodes: first_nodes(alloc, topology)?,
-            ports: first_ports(alloc, topology)?,
-            sources: first_sources(alloc, topology)?,
+            nodes: first_nodes(alloc, topology, part)?,
+            ports: first_ports(alloc, topology, part)?,
+            sources: first_sources(alloc, topology, part)?,
             used: None,
         })
     }
 
-    /// A source's first packet, if it has one before the run stops, and when it comes.
+    /// A source's first packet, if it is here and has one before the run stops, and when it comes.
     pub fn first_packet(
         &self,
         alloc: Global,
@@ -152,30 +224,36 @@ impl Devices {
     ) -> Result<Option<(Time, SourcePacket)>, AllocError>
         requires place { source < length topology.now.sources }
         requires represented { DevicesRepresentSome topology.now self.now }
-        ensures { IfOk result (λ p. p ≡ source_at topology.now source 0) }
+        ensures { (part : Option ℕ) (node : ℕ → NodeStateValue) (port : ℕ → PortState (List ℕ))
+            → DevicesRepresent topology.now part self.now node port
+            → IfOk result (λ p. p ≡ first_here topology.now part source) }
     {
-        self.sources[source.index()].next(alloc, 0)
-    }
-
-    /// What the node counted, if it is there.
-    pub fn counter(&self, node: NodeNo, counter: Counter) -> Option<u64>
-        ensures { result ≡ option_map (λ n. slice_index n.counters (counter_number counter))
-            (slice_get self.now.nodes node) }
-    {
-        match self.nodes.get(node.index()) {
-            Some(state) => Some(state.counter(counter)),
-            None => None,
+        match &self.sources[source.index()] {
+            Some(state) => state.next(alloc, 0),
+            None => Ok(None),
         }
     }
 
-    /// How many packets were dropped at the interface, if it is there. It stops at the greatest
+    /// What the node counted, if it is here.
+    pub fn counter(&self, node: NodeNo, counter: Counter) -> Option<u64>
+        ensures { result ≡ option_and_then (option_map
+            (λ n. slice_index n.counters (counter_number counter))) (slice_get self.now.nodes node) }
+    {
+        match self.nodes.get(node.index()) {
+            Some(Some(state)) => Some(state.counter(counter)),
+            Some(None) | None => None,
+        }
+    }
+
+    /// How many packets were dropped at the interface, if it is here. It stops at the greatest
     /// `u64`.
     pub fn dropped(&self, iface: IfaceNo) -> Option<u64>
-        ensures { result ≡ option_map (λ w. w.dropped) (slice_get self.now.ports iface) }
+        ensures { result ≡ option_and_then (option_map (λ w. w.dropped))
+            (slice_get self.now.ports iface) }
     {
         match self.ports.get(iface.index()) {
-            Some(port) => Some(port.dropped()),
-            None => None,
+            Some(Some(port)) => Some(port.dropped()),
+            Some(None) | None => None,
         }
     }
 
@@ -186,11 +264,11 @@ impl Devices {
     /// `AllocError` where a queue could not grow. Nothing else changed then.
     pub fn reserve(&mut self) -> Result<(), AllocError>
         ensures same { IsSame self.old self.new }
-        ensures room { OnOk result (AllAt (λ i w. 1 ≤ w.room) self.new.ports) }
+        ensures room { OnOk result (AllSome (λ i w. 1 ≤ w.room) self.new.ports) }
     {
         if let Some(iface) = self.used {
-            if iface.index() < self.ports.len() {
-                self.ports[iface.index()].reserve_one()?;
+            if let Some(Some(port)) = self.ports.get_mut(iface.index()) {
+                port.reserve_one()?;
             }
             self.used = None;
         }
@@ -207,18 +285,20 @@ impl Devices {
         reaction: Reaction,
     ) -> Option<(IfaceNo, Start)>
         requires time { time ≤ MAX_TIME }
-        requires own { IfSome (sent_of reaction) (λ s. s.0 < length topology.now.ifaces) }
-        requires count { length self.old.ports ≡ length topology.now.ifaces }
-        requires room { AllAt (λ i w. 1 ≤ w.room) self.old.ports }
-        ensures sends { (node : ℕ → NodeStateValue) (port : ℕ → PortState (List ℕ))
-            → DevicesRepresent topology.now self.old node port
-            → Sends topology.now node port time (sent_of reaction) self.new result }
+        requires own { IfSome (sent_of reaction) (λ s. IsMember (slice_get self.old.ports s.0)) }
+        requires room { AllSome (λ i w. 1 ≤ w.room) self.old.ports }
+        ensures sends { (part : Option ℕ) (node : ℕ → NodeStateValue) (port : ℕ → PortState (List ℕ))
+            → DevicesRepresent topology.now part self.old node port
+            → Sends topology.now part node port time (sent_of reaction) self.new result }
     {
         let Reaction::Send(iface, twin) = reaction else {
             return None;
         };
         self.used = Some(iface);
-        match self.ports[iface.index()].offer(time, twin) {
+        let Some(port) = &mut self.ports[iface.index()] else {
+            unreachable!()
+        };
+        match port.offer(time, twin) {
             Offered::Started(start) => Some((iface, start)),
             Offered::Queued | Offered::Dropped(_) => None,
         }
@@ -233,26 +313,23 @@ impl Devices {
         origin: Origin,
         packet: &Packet,
     ) -> Result<Reaction, AllocError>
-        requires node { node < length topology.now.nodes }
+        requires node { IsMember (slice_get self.old.nodes node) }
         requires fits { FitsOrigin topology.now origin packet.now }
         requires represented { DevicesRepresentSome topology.now self.old }
         ensures err { OnErr result (self.new ≡ self.old) }
         ensures ports { self.new.ports ≡ self.old.ports }
         ensures own { IfOk result
-            (λ r. IfSome (sent_of r) (λ s. s.0 < length topology.now.ifaces)) }
-        ensures reacts { (states : ℕ → NodeStateValue) (ports : ℕ → PortState (List ℕ))
-            → DevicesRepresent topology.now self.old states ports
+            (λ r. IfSome (sent_of r) (λ s. IsMember (slice_get self.new.ports s.0))) }
+        ensures reacts { (part : Option ℕ) (states : ℕ → NodeStateValue) (ports : ℕ → PortState (List ℕ))
+            → DevicesRepresent topology.now part self.old states ports
             → IfOk result
-            (λ r. Reacts topology.now states ports node origin packet.now self.new (sent_of r)) }
+            (λ r. Reacts topology.now part states ports node origin packet.now self.new (sent_of r)) }
     {
         a_node_sends_by_its_own_interfaces(topology); // law: what is sent leaves by an interface
-        react(
-            alloc,
-            topology,
-            &mut self.nodes[node.index()],
-            origin,
-            packet,
-        )
+        let Some(state) = &mut self.nodes[node.index()] else {
+            unreachable!()
+        };
+        react(alloc, topology, state, origin, packet)
     }
 
     /// What the node of an interface does with a packet that arrives there. An `Err` changes
@@ -264,16 +341,16 @@ impl Devices {
         iface: IfaceNo,
         packet: &Packet,
     ) -> Result<Reaction, AllocError>
-        requires place { iface < length topology.now.ifaces }
+        requires place { IsMember (slice_get self.old.ports iface) }
         requires represented { DevicesRepresentSome topology.now self.old }
         ensures err { OnErr result (self.new ≡ self.old) }
         ensures ports { self.new.ports ≡ self.old.ports }
         ensures own { IfOk result
-            (λ r. IfSome (sent_of r) (λ s. s.0 < length topology.now.ifaces)) }
-        ensures reacts { (states : ℕ → NodeStateValue) (ports : ℕ → PortState (List ℕ))
-            → DevicesRepresent topology.now self.old states ports
+            (λ r. IfSome (sent_of r) (λ s. IsMember (slice_get self.new.ports s.0))) }
+        ensures reacts { (part : Option ℕ) (states : ℕ → NodeStateValue) (ports : ℕ → PortState (List ℕ))
+            → DevicesRepresent topology.now part self.old states ports
             → IfOk result
-            (λ r. Reacts topology.now states ports ((net_of topology.now).owner iface)
+            (λ r. Reacts topology.now part states ports ((net_of topology.now).owner iface)
             (Arrival iface) packet.now
             self.new (sent_of r)) }
     {
@@ -292,16 +369,17 @@ impl Devices {
         iface: IfaceNo,
     ) -> Option<(IfaceNo, Start)>
         requires time { time ≤ MAX_TIME }
-        requires place { iface < length topology.now.ifaces }
         requires busy { IsBusy (slice_get self.old.ports iface) }
-        requires count { length self.old.ports ≡ length topology.now.ifaces }
-        ensures does { (states : ℕ → NodeStateValue) (ports : ℕ → PortState (List ℕ)) (number : ℕ)
-            → DevicesRepresent topology.now self.old states ports
-            → Does topology.now states ports
+        ensures does { (part : Option ℕ) (states : ℕ → NodeStateValue) (ports : ℕ → PortState (List ℕ)) (number : ℕ)
+            → DevicesRepresent topology.now part self.old states ports
+            → Does topology.now part states ports
             (key_of time (Complete iface) number) Completion self.new
             (record { came = None; transmission = result; follows = None }) }
     {
-        let start = self.ports[iface.index()].done(time);
+        let Some(port) = &mut self.ports[iface.index()] else {
+            unreachable!()
+        };
+        let start = port.done(time);
         transmission_at(iface, start)
     }
 
@@ -315,23 +393,26 @@ impl Devices {
         number: u64,
         packet: &Packet,
     ) -> Result<Fired, AllocError>
-        requires place { source < length topology.now.sources }
+        requires place { IsMember (slice_get self.old.sources source) }
         requires fits { FitsOrigin topology.now (FromSource source) packet.now }
         requires number { number < 2 ^ 63 }
         requires represented { DevicesRepresentSome topology.now self.old }
         ensures err { OnErr result (self.new ≡ self.old) }
         ensures ports { self.new.ports ≡ self.old.ports }
         ensures own { IfOk result
-            (λ f. IfSome (sent_of f.reaction) (λ s. s.0 < length topology.now.ifaces)) }
+            (λ f. IfSome (sent_of f.reaction) (λ s. IsMember (slice_get self.new.ports s.0))) }
         ensures follows { IfOk result (λ f. f.follows ≡ source_at topology.now source (number + 1)) }
-        ensures reacts { (states : ℕ → NodeStateValue) (ports : ℕ → PortState (List ℕ))
-            → DevicesRepresent topology.now self.old states ports
+        ensures reacts { (part : Option ℕ) (states : ℕ → NodeStateValue) (ports : ℕ → PortState (List ℕ))
+            → DevicesRepresent topology.now part self.old states ports
             → IfOk result
-            (λ f. Reacts topology.now states ports ((net_of topology.now).source_node source)
+            (λ f. Reacts topology.now part states ports ((net_of topology.now).source_node source)
             (FromSource source)
             packet.now self.new (sent_of f.reaction)) }
     {
-        let follows = self.sources[source.index()].next(alloc, number + 1)?;
+        let Some(state) = &self.sources[source.index()] else {
+            unreachable!()
+        };
+        let follows = state.next(alloc, number + 1)?;
         let node = node_of_source(topology, source);
         let origin = Origin::Source(source);
         let reaction = self.react(alloc, topology, node, origin, packet)?;

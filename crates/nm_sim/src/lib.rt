@@ -1,11 +1,14 @@
-//! The simulator with one event list: a part of a simulation goes on event by event, and its trace
-//! is that of the network.
+//! The simulator: a part of a simulation, the whole network with one event list or one partition
+//! that is fed with messages, goes on event by event.
 #![tactic(auto)]
 
 mod devices;
 mod fired;
+mod here;
 pub mod network;
+mod outgoing;
 pub mod part;
+mod records;
 mod timeline;
 pub mod trace;
 

@@ -1,6 +1,6 @@
 //! A part of a simulation.
 
-ghost use Rattle.std.specs.Prelude.{◌≡◌, ℕ, ◌+◌, ◌<◌, ◌≤◌, ◌^◌, List, [], Option, Some, Ok, IfOk, IfSome, OnOk, OnErr, length, replicate};
+ghost use Rattle.std.specs.Prelude.{◌≡◌, ℕ, ◌+◌, ◌<◌, ◌≤◌, ◌^◌, true, List, [], Option, Some, None, Ok, IfOk, IfSome, OnOk, OnErr, length, replicate};
 ghost use Rattle.nm_base.specs.declared.event.Event.{Event as PendingEvent};
 ghost use Rattle.nm_base.specs.declared.event.Event.TheVariants.{Completion, Delivery};
 ghost use Rattle.nm_base.specs.declared.event.Origin.TheVariants.{Source as FromSource};
@@ -11,27 +11,35 @@ ghost use Rattle.nm_base.specs.declared.limits.TheConstants.{MAX_TIME};
 ghost use Rattle.nm_base.specs.Key.{key_of};
 ghost use Rattle.std.specs.Option.{option_map};
 ghost use Rattle.nm_model.specs.EventList.{least, schedule};
+ghost use Rattle.nm_model.specs.Partition.{comes_in};
+ghost use Rattle.nm_model.specs.Port.{Port as PortState};
 ghost use Rattle.nm_model.specs.Run.{State, start, step, source_events};
 ghost use Rattle.nm_forward.specs.State.{NodeStateValue};
 ghost use Rattle.nm_forward.specs.Reaction.{FitsOrigin, sent_of};
-ghost use Rattle.nm_sim.specs.Network.{net_of};
-ghost use Rattle.nm_sim.specs.Part.{Advanced, HasReacted, IsReady, IsUnderWay, Performed, Represents, Stepped, count_at, drops_at, events_counted, events_done};
+ghost use Rattle.nm_sim.specs.Network.{here_of, net_of};
+ghost use Rattle.nm_sim.specs.Outgoing.{HaveSpare};
+ghost use Rattle.nm_sim.specs.Part.{Advanced, HasMemory, HasReacted, IsReady, IsUnderWay, Performed, Represents, Stepped, count_at, drops_at, events_counted, events_done, messages_out, with_arrival};
+ghost use Rattle.nm_topology.specs.Topology.{receiving_iface};
 ghost use Rattle.nm_topology.specs.TopologyValue.{TopologyValue};
-ghost use Rattle.std.specs.FinMap.{empty};
-ghost use Rattle.nm_sim.specs.Devices.{DevicesRepresentSome};
-ghost use Rattle.nm_sim.specs.Tables.{AllAt};
-ghost use Rattle.nm_sim.specs.Timelines.{everywhere};
+ghost use Rattle.std.specs.FinMap.{empty, get};
+ghost use Rattle.nm_sim.specs.Devices.{DevicesRepresent};
+ghost use Rattle.nm_sim.specs.Tables.{AllSome, IsMember};
+ghost use Rattle.std.specs.Prelude.{slice_get};
 
 use crate::devices::Devices;
-use crate::network::every_topology_is_a_network;
+use crate::network::{channels_are_those_of_the_network, every_topology_is_a_network};
+use crate::outgoing::Outgoing;
+use crate::records::Records;
 use crate::timeline::Timeline;
-use nm_base::{Event, IfaceNo, Key, NodeNo, Packet, Place, Record, SourceNo, Time};
+use nm_base::{ChanNo, Event, IfaceNo, Key, NodeNo, Packet, PartNo, Place, Record, SourceNo, Time};
 use nm_events::EventList;
 use nm_forward::{Counter, NodeState, Reaction};
 use nm_iface::Start;
 use nm_model::orderly::{every_state_is_orderly, new_keys_are_new};
 use nm_topology::Topology;
-use nm_topology::topology::accepted_topologies_are_in_order;
+use nm_topology::topology::{
+    accepted_topologies_are_in_order, channels_are_numbered_by_their_receivers,
+};
 use nm_traffic::laws::source_times_rise;
 use std::alloc::{AllocError, Global};
 use std::marker::Model;
@@ -39,11 +47,16 @@ use std::marker::Model;
 /// The greatest number of events of a part. One more is refused as if its memory were.
 pub const MAX_STEPS: u64 = 1 << 62;
 
-/// A simulation that goes on event by event, in the order of their keys.
+/// A simulation that goes on event by event, in the order of their keys: of a whole network, or of
+/// one partition (a logical process: J. Misra, 1986, section 2), which is fed with the messages of
+/// the channels that come in. Nodes, ports and sources of other partitions are not kept.
 #[derive(Drop)]
 pub struct Part<L> {
+    part: Option<PartNo>,
     devices: Devices,
     timeline: Timeline<L>,
+    outgoing: Outgoing,
+    records: Records,
     steps: u64,
 }
 
@@ -53,30 +66,33 @@ impl<L> Model for Part<L> {
 
     ghost Value = { PartValue L };
 
-    ghost view = { λ p. record { devices = p.devices; timeline = p.timeline; steps = p.steps } };
+    ghost view = { λ p. record
+        { part = p.part; devices = p.devices; timeline = p.timeline; outgoing = p.outgoing; records = p.records; steps = p.steps } };
 
     ghost invariant = { λ p. p.steps ≤ 2 ^ 62 };
 }
 
-/// The timeline of a network at the start of a run: the first packet of each source is to come.
+/// The timeline of a part at the start of a run: the first packet of each source that is here is to
+/// come.
 fn first_timeline<L: EventList + Drop>(
     alloc: Global,
     topology: &Topology,
+    part: &Option<PartNo>,
     devices: &Devices,
 ) -> Result<Timeline<L>, AllocError>
-    requires { DevicesRepresentSome topology.now devices.now }
+    requires { (node : ℕ → NodeStateValue) × (port : ℕ → PortState (List ℕ))
+        × DevicesRepresent topology.now part.now devices.now node port }
     ensures events { IfOk result (λ l. L.pending l.events
-        ≡ schedule everywhere
+        ≡ schedule (here_of topology.now part.now)
         (source_events (net_of topology.now) (length topology.now.sources)) empty) }
     ensures sent { IfOk result (λ l. l.sent ≡ replicate (length topology.now.ifaces) 0) }
-    ensures records { IfOk result (λ l. l.records ≡ []) }
 {
     accepted_topologies_are_in_order(topology); // law: sources have numbers of 32 bits
     let mut timeline = Timeline::new(alloc, topology.ifaces().len())?;
     let count = topology.sources().len();
     for number in 0..count {
         let source = SourceNo::new(number as u32);
-        timeline.reserve()?;
+        timeline.reserve(1)?;
         let first = devices.first_packet(alloc, topology, source)?;
         timeline.schedule_first(source, first);
     }
@@ -84,27 +100,85 @@ fn first_timeline<L: EventList + Drop>(
 }
 
 impl<L: EventList> Part<L> {
-    /// The whole network at the start of a run.
+    /// The part at the start of a run: the whole network, or one partition.
     ///
     /// # Errors
     ///
     /// `AllocError` where memory was refused.
-    pub fn start(alloc: Global, topology: &Topology) -> Result<Self, AllocError>
+    pub fn start(
+        alloc: Global,
+        topology: &Topology,
+        part: Option<PartNo>,
+    ) -> Result<Self, AllocError>
     where
         L: Drop,
-        ensures represents { IfOk result
-            (λ p. Represents L.pending topology.now p (start (net_of topology.now) everywhere [])) }
+        ensures represents { IfOk result (λ p. Represents L.pending topology.now part p
+            (start (net_of topology.now) (here_of topology.now part) [])) }
         ensures steps { IfOk result (λ p. p.steps ≡ 0) }
     {
         every_topology_is_a_network(topology); // law: `net_of` is a network of the model
         every_state_is_orderly::<Packet, NodeState>(); // law: the first state is orderly
-        let devices = Devices::new(alloc, topology)?;
-        let timeline = first_timeline(alloc, topology, &devices)?;
+        let devices = Devices::new(alloc, topology, &part)?;
+        let timeline = first_timeline(alloc, topology, &part, &devices)?;
+        let outgoing = Outgoing::new(alloc, topology, &part)?;
         Ok(Part {
+            part,
             devices,
             timeline,
+            outgoing,
+            records: Records::new(alloc),
             steps: 0,
         })
+    }
+
+    /// Makes room for so many arrivals.
+    ///
+    /// # Errors
+    ///
+    /// `AllocError` where the event list could not grow. The part is as it was then.
+    pub fn reserve(&mut self, count: usize) -> Result<(), AllocError>
+        ensures same { (t : TopologyValue) (part : Option ℕ) (s : State (List ℕ) NodeStateValue)
+            → Represents L.pending t part self.old s → Represents L.pending t part self.new s }
+        ensures events { L.pending self.new.timeline.events ≡ L.pending self.old.timeline.events }
+        ensures room { OnOk result (count ≤ L.room self.new.timeline.events) }
+        ensures keeps { L.room self.old.timeline.events ≤ L.room self.new.timeline.events }
+        ensures steps { self.new.steps ≡ self.old.steps }
+    {
+        self.timeline.reserve(count)
+    }
+
+    /// A message of a channel that comes in: the packet with this number on the channel is to arrive
+    /// at this time. It takes no memory.
+    pub fn put_arrival(
+        &mut self,
+        topology: &Topology,
+        channel: ChanNo,
+        number: u64,
+        time: Time,
+        packet: Packet,
+    )
+        requires comes { (p : ℕ) × (self.old.part ≡ Some p)
+            × (comes_in (net_of topology.now) p (receiving_iface topology.now channel) ≡ true) }
+        requires room { 1 ≤ L.room self.old.timeline.events }
+        requires fresh { get (L.pending self.old.timeline.events)
+            (key_of time (Arrive (receiving_iface topology.now channel)) number) ≡ None }
+        ensures arrival { (part : Option ℕ) (s : State (List ℕ) NodeStateValue)
+            → Represents L.pending topology.now part self.old s
+            → Represents L.pending topology.now part self.new
+            (with_arrival (receiving_iface topology.now channel) number time packet s) }
+        ensures room { L.room self.old.timeline.events ≤ L.room self.new.timeline.events + 1 }
+        ensures steps { self.new.steps ≡ self.old.steps }
+    {
+        every_state_is_orderly::<Packet, NodeState>(); // law: a state that is told more is orderly
+        channels_are_those_of_the_network(topology); // law: what comes in is a channel
+        channels_are_numbered_by_their_receivers(topology); // law: its interface is there
+        let place = Place::Arrive(topology.receiver(channel));
+        let key = Key {
+            time,
+            place,
+            number,
+        };
+        self.timeline.put(key, Event::Delivery(packet));
     }
 
     /// Does the event of the least key, if its time is before `before`, which is at most the
@@ -120,9 +194,11 @@ impl<L: EventList> Part<L> {
         before: Time,
     ) -> Result<Option<Key>, AllocError>
         requires before { before ≤ topology.now.stop }
-        requires represents { (s : State (List ℕ) NodeStateValue) × Represents L.pending topology.now self.old s }
-        ensures step { (s : State (List ℕ) NodeStateValue) → Represents L.pending topology.now self.old s
-            → Stepped L.pending topology.now before s self.old self.new result }
+        requires represents { (part : Option ℕ) × (s : State (List ℕ) NodeStateValue)
+            × Represents L.pending topology.now part self.old s }
+        ensures step { (part : Option ℕ) (s : State (List ℕ) NodeStateValue)
+            → Represents L.pending topology.now part self.old s
+            → Stepped L.pending topology.now part before s self.old self.new result }
         ensures steps { self.new.steps ≡ self.old.steps + events_done result }
     {
         let Some(key) = self.timeline.least() else {
@@ -143,9 +219,11 @@ impl<L: EventList> Part<L> {
         before: Time,
     ) -> Result<bool, AllocError>
         requires before { before ≤ topology.now.stop }
-        requires represents { (s : State (List ℕ) NodeStateValue) × Represents L.pending topology.now self.old s }
-        ensures advance { (s : State (List ℕ) NodeStateValue) → Represents L.pending topology.now self.old s
-            → Advanced L.pending topology.now before s self.old self.new result }
+        requires represents { (part : Option ℕ) × (s : State (List ℕ) NodeStateValue)
+            × Represents L.pending topology.now part self.old s }
+        ensures advance { (part : Option ℕ) (s : State (List ℕ) NodeStateValue)
+            → Represents L.pending topology.now part self.old s
+            → Advanced L.pending topology.now part before s self.old self.new result }
         ensures steps { self.new.steps ≡ self.old.steps + events_counted result }
     {
         if !self.timeline.is_due(before) {
@@ -154,26 +232,39 @@ impl<L: EventList> Part<L> {
         if self.steps == MAX_STEPS {
             return Err(AllocError);
         }
-        self.devices.reserve()?;
-        self.timeline.reserve()?;
+        self.reserve_event()?;
         self.perform(alloc, topology)?;
         Ok(true)
     }
 
-    /// What the node counted, if it is there.
+    /// Makes memory for all that one event may do. An `Err` changes nothing else.
+    #[inline(always)]
+    fn reserve_event(&mut self) -> Result<(), AllocError>
+        ensures same { (t : TopologyValue) (part : Option ℕ) (s : State (List ℕ) NodeStateValue)
+            → Represents L.pending t part self.old s → Represents L.pending t part self.new s }
+        ensures steps { self.new.steps ≡ self.old.steps }
+        ensures memory { OnOk result (HasMemory L.room self.new) }
+    {
+        self.devices.reserve()?;
+        self.timeline.reserve(3)?;
+        self.outgoing.reserve()?;
+        self.records.reserve()
+    }
+
+    /// What the node counted, if it is here.
     pub fn counter(&self, node: NodeNo, counter: Counter) -> Option<u64>
-        ensures { (t : TopologyValue) (s : State (List ℕ) NodeStateValue)
-            → Represents L.pending t self.now s
-            → result ≡ count_at t s node counter }
+        ensures { (t : TopologyValue) (part : Option ℕ) (s : State (List ℕ) NodeStateValue)
+            → Represents L.pending t part self.now s
+            → result ≡ count_at t part s node counter }
     {
         self.devices.counter(node, counter)
     }
 
-    /// How many packets were dropped at the interface, if it is there.
+    /// How many packets were dropped at the interface, if it is here.
     pub fn dropped(&self, iface: IfaceNo) -> Option<u64>
-        ensures { (t : TopologyValue) (s : State (List ℕ) NodeStateValue)
-            → Represents L.pending t self.now s
-            → result ≡ drops_at t s iface }
+        ensures { (t : TopologyValue) (part : Option ℕ) (s : State (List ℕ) NodeStateValue)
+            → Represents L.pending t part self.now s
+            → result ≡ drops_at t part s iface }
     {
         self.devices.dropped(iface)
     }
@@ -186,40 +277,53 @@ impl<L: EventList> Part<L> {
         Some(key.time)
     }
 
+    /// What was put on a channel that goes out from here, each packet with the time at which it
+    /// arrives; its place in the list is its number. Other channels have nothing.
+    pub fn out(&self, channel: ChanNo) -> &[(Time, Packet)]
+        ensures { (t : TopologyValue) (part : Option ℕ) (s : State (List ℕ) NodeStateValue)
+            → Represents L.pending t part self.now s
+            → result.now ≡ messages_out t part s channel }
+    {
+        self.outgoing.messages(channel)
+    }
+
     /// The trace so far, in the order of events.
     pub fn trace(&self) -> &[Record]
-        ensures { result.now ≡ self.now.timeline.records }
+        ensures { (t : TopologyValue) (part : Option ℕ) (s : State (List ℕ) NodeStateValue)
+            → Represents L.pending t part self.now s
+            → result.now ≡ s.records }
     {
-        self.timeline.records()
+        self.records.list()
     }
 
     /// The trace.
     pub fn into_trace(self) -> Vec<Record>
     where
         L: Drop,
-        ensures { result.items ≡ self.timeline.records }
+        ensures { (t : TopologyValue) (part : Option ℕ) (s : State (List ℕ) NodeStateValue)
+            → Represents L.pending t part self s
+            → result.items ≡ s.records }
     {
-        self.timeline.into_records()
+        self.records.into_list()
     }
 
     /// Does the event of the least key, for which there is memory. An `Err` leaves the event where
     /// it was.
     #[inline(always)]
     fn perform(&mut self, alloc: Global, topology: &Topology) -> Result<(), AllocError>
-        requires least { (s : State (List ℕ) NodeStateValue) × (e : EventKey × PendingEvent (List ℕ))
-            × Represents L.pending topology.now self.old s × (least s.pending ≡ Some e)
+        requires least { (part : Option ℕ) × (s : State (List ℕ) NodeStateValue)
+            × (e : EventKey × PendingEvent (List ℕ))
+            × Represents L.pending topology.now part self.old s × (least s.pending ≡ Some e)
             × (e.0.time < topology.now.stop) }
         requires steps { self.old.steps < 2 ^ 62 }
-        requires ports { AllAt (λ i w. 1 ≤ w.room) self.old.devices.ports }
-        requires room { 2 ≤ L.room self.old.timeline.events }
-        requires spare { 2 ≤ self.old.timeline.spare }
-        ensures ok { OnOk result
-            ((s : State (List ℕ) NodeStateValue) → Represents L.pending topology.now self.old s
-            → Represents L.pending topology.now self.new
-            (step (net_of topology.now) everywhere s)) }
-        ensures err { OnErr result
-            ((s : State (List ℕ) NodeStateValue) → Represents L.pending topology.now self.old s
-            → Represents L.pending topology.now self.new s) }
+        requires memory { HasMemory L.room self.old }
+        ensures ok { OnOk result ((part : Option ℕ) (s : State (List ℕ) NodeStateValue)
+            → Represents L.pending topology.now part self.old s
+            → Represents L.pending topology.now part self.new
+            (step (net_of topology.now) (here_of topology.now part) s)) }
+        ensures err { OnErr result ((part : Option ℕ) (s : State (List ℕ) NodeStateValue)
+            → Represents L.pending topology.now part self.old s
+            → Represents L.pending topology.now part self.new s) }
         ensures one { OnOk result (self.new.steps ≡ self.old.steps + 1) }
         ensures none { OnErr result (self.new.steps ≡ self.old.steps) }
     {
@@ -239,8 +343,8 @@ impl<L: EventList> Part<L> {
         key: Key,
         event: Event,
     ) -> Result<(), AllocError>
-        requires { (s : State (List ℕ) NodeStateValue)
-            × IsReady L.pending L.room topology.now key event self.old s }
+        requires { (part : Option ℕ) × (s : State (List ℕ) NodeStateValue)
+            × IsReady L.pending L.room topology.now part key event self.old s }
         ensures { Performed L.pending L.room topology.now key event self.old self.new result }
     {
         accepted_topologies_are_in_order(topology); // law: the far end is there
@@ -277,8 +381,8 @@ impl<L: EventList> Part<L> {
         number: u64,
         packet: Packet,
     ) -> Result<(), AllocError>
-        requires { (s : State (List ℕ) NodeStateValue)
-            × IsReady L.pending L.room topology.now (key_of time (Arrive iface) number)
+        requires { (part : Option ℕ) × (s : State (List ℕ) NodeStateValue)
+            × IsReady L.pending L.room topology.now part (key_of time (Arrive iface) number)
             (Delivery packet) self.old s }
         ensures { Performed L.pending L.room topology.now (key_of time (Arrive iface) number)
             (Delivery packet)
@@ -297,7 +401,7 @@ impl<L: EventList> Part<L> {
             self.timeline.put(key, Event::Delivery(packet));
             return Err(AllocError);
         };
-        self.timeline.record_arrival(time, iface, packet);
+        self.records.record_arrival(time, iface, packet);
         self.send(topology, time, reaction);
         Ok(())
     }
@@ -305,8 +409,8 @@ impl<L: EventList> Part<L> {
     /// A transmission is complete.
     #[inline(always)]
     fn complete(&mut self, topology: &Topology, time: Time, iface: IfaceNo)
-        requires { (number : ℕ) × (s : State (List ℕ) NodeStateValue)
-            × IsReady L.pending L.room topology.now
+        requires { (number : ℕ) × (part : Option ℕ) × (s : State (List ℕ) NodeStateValue)
+            × IsReady L.pending L.room topology.now part
             (key_of time (Complete iface) number) Completion self.old s }
         ensures { (number : ℕ)
             → Performed L.pending L.room topology.now
@@ -329,8 +433,8 @@ impl<L: EventList> Part<L> {
     ) -> Result<(), AllocError>
         requires fits { FitsOrigin topology.now (FromSource source) packet }
         requires number { number < 2 ^ 63 }
-        requires ready { (s : State (List ℕ) NodeStateValue)
-            × IsReady L.pending L.room topology.now (key_of time (Fire source) number)
+        requires ready { (part : Option ℕ) × (s : State (List ℕ) NodeStateValue)
+            × IsReady L.pending L.room topology.now part (key_of time (Fire source) number)
             (Delivery packet) self.old s }
         ensures { Performed L.pending L.room topology.now (key_of time (Fire source) number)
             (Delivery packet)
@@ -360,22 +464,25 @@ impl<L: EventList> Part<L> {
     /// transmission starts, if one does.
     fn send(&mut self, topology: &Topology, time: Time, reaction: Reaction)
         requires time { time ≤ MAX_TIME }
-        requires own { IfSome (sent_of reaction) (λ z. z.0 < length topology.now.ifaces) }
+        requires own { IfSome (sent_of reaction)
+            (λ z. IsMember (slice_get self.old.devices.ports z.0)) }
         requires steps { self.old.steps < 2 ^ 62 }
-        requires ports { AllAt (λ i w. 1 ≤ w.room) self.old.devices.ports }
+        requires ports { AllSome (λ i w. 1 ≤ w.room) self.old.devices.ports }
         requires room { 2 ≤ L.room self.old.timeline.events }
-        requires spare { 1 ≤ self.old.timeline.spare }
-        requires reacted { (q : EventPlace) × (n : ℕ) × (e : PendingEvent (List ℕ))
+        requires channels { HaveSpare self.old.outgoing }
+        requires spare { 1 ≤ self.old.records.spare }
+        requires reacted { (part : Option ℕ) × (q : EventPlace) × (n : ℕ) × (e : PendingEvent (List ℕ))
             × (came follows : Option (ℕ × List ℕ))
             × (node : ℕ → NodeStateValue) × (s : State (List ℕ) NodeStateValue)
-            × HasReacted L.pending topology.now (key_of time q n) e came follows
+            × HasReacted L.pending topology.now part (key_of time q n) e came follows
             (sent_of reaction) node self.old s }
-        ensures represents { (q : EventPlace) (n : ℕ) (e : PendingEvent (List ℕ))
+        ensures represents { (part : Option ℕ) (q : EventPlace) (n : ℕ) (e : PendingEvent (List ℕ))
             (came follows : Option (ℕ × List ℕ))
             (node : ℕ → NodeStateValue) (s : State (List ℕ) NodeStateValue)
-            → HasReacted L.pending topology.now (key_of time q n) e came follows
+            → HasReacted L.pending topology.now part (key_of time q n) e came follows
             (sent_of reaction) node self.old s
-            → Represents L.pending topology.now self.new (step (net_of topology.now) everywhere s) }
+            → Represents L.pending topology.now part self.new
+            (step (net_of topology.now) (here_of topology.now part) s) }
         ensures steps { self.new.steps ≡ self.old.steps + 1 }
     {
         let start = self.devices.offer(topology, time, reaction);
@@ -387,25 +494,30 @@ impl<L: EventList> Part<L> {
     fn finish(&mut self, topology: &Topology, time: Time, start: Option<(IfaceNo, Start)>)
         requires steps { self.old.steps < 2 ^ 62 }
         requires room { 2 ≤ L.room self.old.timeline.events }
-        requires spare { 1 ≤ self.old.timeline.spare }
-        requires under_way { (q : EventPlace) × (n : ℕ) × (e : PendingEvent (List ℕ))
+        requires channels { HaveSpare self.old.outgoing }
+        requires spare { 1 ≤ self.old.records.spare }
+        requires under_way { (part : Option ℕ) × (q : EventPlace) × (n : ℕ) × (e : PendingEvent (List ℕ))
             × (came follows : Option (ℕ × List ℕ))
             × (s : State (List ℕ) NodeStateValue)
-            × IsUnderWay L.pending topology.now (key_of time q n) e
+            × IsUnderWay L.pending topology.now part (key_of time q n) e
             (record { came = came; transmission = start; follows = follows }) self.old s }
-        ensures represents { (q : EventPlace) (n : ℕ) (e : PendingEvent (List ℕ))
+        ensures represents { (part : Option ℕ) (q : EventPlace) (n : ℕ) (e : PendingEvent (List ℕ))
             (came follows : Option (ℕ × List ℕ))
             (s : State (List ℕ) NodeStateValue)
-            → IsUnderWay L.pending topology.now (key_of time q n) e
+            → IsUnderWay L.pending topology.now part (key_of time q n) e
             (record { came = came; transmission = start; follows = follows }) self.old s
-            → Represents L.pending topology.now self.new (step (net_of topology.now) everywhere s) }
+            → Represents L.pending topology.now part self.new
+            (step (net_of topology.now) (here_of topology.now part) s) }
         ensures steps { self.new.steps ≡ self.old.steps + 1 }
     {
         every_topology_is_a_network(topology); // law: `net_of` is a network of the model
         accepted_topologies_are_in_order(topology); // law: a link and its two ends agree
         every_state_is_orderly::<Packet, NodeState>(); // law: the state after is orderly
         new_keys_are_new::<Packet, NodeState>(); // law: no event to come has a new key
-        self.timeline.schedule_transmission(topology, time, start);
+        let transmitted = self
+            .timeline
+            .schedule_transmission(topology, &self.part, &mut self.outgoing, time, start);
+        self.records.record_transmission(time, transmitted);
         self.steps += 1;
     }
 }

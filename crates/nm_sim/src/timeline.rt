@@ -1,81 +1,75 @@
-//! The event list and the trace of a simulation.
+//! The event list of a part, and how many packets were put on each interface.
 
-ghost use Rattle.std.specs.Prelude.{◌≡◌, ℕ, ◌+◌, ◌≤◌, ◌<◌, ◌^◌, List, [], ◌∷◌, ◌++◌, Option, Some, None, OnOk, IfOk, IfSome, IfNone, length, replicate, slice_index, slice_set};
+ghost use Rattle.std.specs.Prelude.{◌≡◌, ℕ, ◌+◌, ◌≤◌, ◌<◌, ◌^◌, ◌++◌, ◌∷◌, List, [], Option, Some, None, OnOk, IfOk, IfSome, IfNone, length, replicate, slice_index, slice_set};
 ghost use Rattle.std.specs.Option.{option_map};
 ghost use Rattle.std.specs.FinMap.{empty, get, insert, remove};
 ghost use Rattle.nm_base.specs.Key.{key_of};
-ghost use Rattle.nm_base.specs.declared.key.Place.TheVariants.{Arrive, Complete};
-ghost use Rattle.nm_base.specs.declared.event.Event.TheVariants.{Completion, Delivery};
-ghost use Rattle.nm_base.specs.declared.record.Dir.TheVariants.{In, Out};
-ghost use Rattle.nm_model.specs.EventList.{is_before, least};
-ghost use Rattle.nm_model.specs.Run.{first_event, in_record, out_record, next_events, transmission_events, sent_after};
-ghost use Rattle.nm_model.specs.EventList.{schedule};
+ghost use Rattle.nm_base.specs.declared.key.Place.TheVariants.{Arrive};
+ghost use Rattle.nm_base.specs.declared.event.Event.TheVariants.{Delivery};
+ghost use Rattle.nm_model.specs.EventList.{is_before, least, schedule};
+ghost use Rattle.nm_model.specs.Lists.{set_at};
+ghost use Rattle.nm_model.specs.Run.{first_event, next_events, transmission_events, sent_after};
 ghost use Rattle.nm_sim.specs.Effects.{TransmitsAt, transmission_of};
-ghost use Rattle.nm_sim.specs.Network.{net_of};
+ghost use Rattle.nm_sim.specs.Network.{IsIfaceHere, here_of, net_of};
+ghost use Rattle.nm_sim.specs.Outgoing.{HaveSpare, OutgoingRepresents, channel_count};
 ghost use Rattle.nm_sim.specs.Timelines.{AreFresh, IsFew, TimelineRepresents, everywhere};
 
-use nm_base::{Dir, Event, IfaceNo, Key, Packet, Place, Record, SourceNo, Time};
+use crate::here::is_iface_here;
+use crate::network::{channels_are_those_of_the_network, every_topology_is_a_network};
+use crate::outgoing::Outgoing;
+use nm_base::{Event, IfaceNo, Key, Packet, PartNo, Place, SourceNo, Time};
 use nm_events::EventList;
 use nm_iface::Start;
 use nm_topology::Topology;
-use nm_topology::topology::accepted_topologies_are_in_order;
+use nm_topology::topology::{
+    accepted_topologies_are_in_order, channels_are_numbered_by_their_receivers,
+};
 use nm_traffic::SourcePacket;
 use std::alloc::{AllocError, Global};
 use std::marker::Model;
 
-/// What lies ahead and what has passed: the events to come, how many packets were put on each
-/// interface so far, by the interface that receives them, and the records.
+/// What lies ahead: the events to come, and how many packets were put on each interface so far, by
+/// the interface that receives them, whose next arrival has that number.
 #[derive(Drop)]
 pub struct Timeline<L> {
     events: L,
     sent: Vec<u64>,
-    records: Vec<Record>,
 }
 
 impl<L> Model for Timeline<L> {
-    ghost use Rattle.std.specs.Prelude.{◌-◌, vec_len, vec_capacity};
     ghost use Rattle.nm_sim.specs.Timelines.{TimelineValue};
 
     ghost Value = { TimelineValue L };
 
-    ghost view = { λ t. record {
-      events = t.events;
-      sent = t.sent.items;
-      records = t.records.items;
-      spare = vec_capacity t.records - vec_len t.records;
-    } };
+    ghost view = { λ t. record { events = t.events; sent = t.sent.items } };
 }
 
 impl<L: EventList> Timeline<L> {
-    /// Nothing has passed, and no event is to come at any of so many interfaces.
+    /// No event is to come, and nothing was put on any of so many interfaces.
     pub fn new(alloc: Global, ifaces: usize) -> Result<Self, AllocError>
     where
         L: Drop,
         ensures events { IfOk result (λ t. L.pending t.events ≡ empty) }
         ensures sent { IfOk result (λ t. t.sent ≡ replicate ifaces 0) }
-        ensures records { IfOk result (λ t. t.records ≡ []) }
     {
         Ok(Timeline {
             events: L::new(alloc),
             sent: vec![in alloc; 0; ifaces]?,
-            records: Vec::new(alloc),
         })
     }
 
-    /// Makes room for what one event adds at most: three events and two records.
+    /// Makes room for so many more events.
     ///
     /// # Errors
     ///
-    /// `AllocError` where a list could not grow. Nothing else changed then.
-    pub fn reserve(&mut self) -> Result<(), AllocError>
+    /// `AllocError` where the list could not grow. Nothing else changed then.
+    pub fn reserve(&mut self, count: usize) -> Result<(), AllocError>
         ensures events { L.pending self.new.events ≡ L.pending self.old.events }
         ensures sent { self.new.sent ≡ self.old.sent }
-        ensures records { self.new.records ≡ self.old.records }
-        ensures room { OnOk result (3 ≤ L.room self.new.events) }
-        ensures spare { OnOk result (2 ≤ self.new.spare) }
+        ensures room { OnOk result (count ≤ L.room self.new.events) }
+        ensures keeps { L.room self.old.events ≤ L.room self.new.events }
     {
-        self.events.reserve(3)?;
-        self.records.reserve(2)
+        self.events.reserve(count)
     }
 
     /// The least key of the events to come.
@@ -135,24 +129,6 @@ impl<L: EventList> Timeline<L> {
         }
     }
 
-    /// A packet arrived.
-    pub fn record_arrival(&mut self, time: Time, iface: IfaceNo, packet: Packet)
-        requires { 1 ≤ self.old.spare }
-        ensures others { self.new ≡ record self.old { records = self.new.records; spare = self.new.spare } }
-        ensures records { self.new.records ≡ self.old.records ++ in_record time (Some (iface, packet)) }
-        ensures spare { self.old.spare ≤ self.new.spare + 1 }
-    {
-        let dir = Dir::In;
-        self.records
-            .push(Record {
-                time,
-                iface,
-                dir,
-                packet,
-            })
-            .unwrap();
-    }
-
     /// The source's next packet is to come, if there is one.
     pub fn schedule_next(&mut self, key: Key, follows: Option<(Time, SourcePacket)>)
         requires number { key.number < 2 ^ 63 }
@@ -180,103 +156,113 @@ impl<L: EventList> Timeline<L> {
         }
     }
 
-    /// A transmission starts, if one does: its completion and its arrival are to come.
+    /// The number of the next packet that is put on an interface.
+    fn take_number(&mut self, receiver: IfaceNo) -> u64
+        requires receiver { receiver < length self.old.sent }
+        requires count { slice_index self.old.sent receiver < 2 ^ 63 }
+        ensures number { result ≡ slice_index self.old.sent receiver }
+        ensures sent { self.new.sent ≡ slice_set self.old.sent receiver (result + 1) }
+        ensures events { self.new.events ≡ self.old.events }
+    {
+        let number = self.sent[receiver.index()];
+        self.sent[receiver.index()] = number + 1;
+        number
+    }
+
+    /// A packet that an interface here sends is to arrive at its peer: an event to come where the
+    /// peer is here too, and else a message on its channel.
+    fn schedule_arrival(
+        &mut self,
+        topology: &Topology,
+        part: &Option<PartNo>,
+        outgoing: &mut Outgoing,
+        iface: IfaceNo,
+        key: Key,
+        packet: Packet,
+    )
+        requires here { IsIfaceHere topology.now part.now iface }
+        requires place { key.place ≡ Arrive ((net_of topology.now).peer iface) }
+        requires count { length outgoing.old.channels ≡ channel_count topology.now part.now }
+        requires room { 1 ≤ L.room self.old.events }
+        requires spare { HaveSpare outgoing.old }
+        requires fresh { get (L.pending self.old.events) key ≡ None }
+        ensures events { L.pending self.new.events
+            ≡ schedule (here_of topology.now part.now) ((key, Delivery packet) ∷ []) (L.pending self.old.events) }
+        ensures room { L.room self.old.events ≤ L.room self.new.events + 1 }
+        ensures sent { self.new.sent ≡ self.old.sent }
+        ensures outgoing { (sent : ℕ → List (ℕ × List ℕ)) → OutgoingRepresents topology.now part.now outgoing.old sent
+            → OutgoingRepresents topology.now part.now outgoing.new
+            (set_at sent ((net_of topology.now).peer iface)
+            (sent ((net_of topology.now).peer iface) ++ (key.time, packet) ∷ [])) }
+    {
+        every_topology_is_a_network(topology); // law: links have two ends
+        accepted_topologies_are_in_order(topology); // law: the peer is there
+        channels_are_those_of_the_network(topology); // law: a link to another partition is a channel
+        channels_are_numbered_by_their_receivers(topology); // law: channels have numbers
+        let peer = topology.iface(iface).far().peer;
+        if is_iface_here(topology, part, peer) {
+            self.events.put(key, Event::Delivery(packet));
+            return;
+        }
+        let Some(channel) = topology.channel_of(peer) else {
+            unreachable!()
+        };
+        outgoing.put(channel, key.time, packet);
+    }
+
+    /// A transmission starts, if one does: its completion is to come, and its arrival is to come or
+    /// is put on its channel. What starts, for the trace.
     #[inline(always)]
     pub fn schedule_transmission(
         &mut self,
         topology: &Topology,
+        part: &Option<PartNo>,
+        outgoing: &mut Outgoing,
         time: Time,
         start: Option<(IfaceNo, Start)>,
-    )
-        requires transmits { IfSome start (TransmitsAt topology.now time) }
+    ) -> Option<(IfaceNo, Packet)>
+        requires transmits { IfSome start (TransmitsAt topology.now part.now time) }
         requires numbered { (sent : ℕ → List (ℕ × List ℕ)) × TimelineRepresents topology.now self.old sent
             × IsFew sent
             × AreFresh (L.pending self.old.events)
             (transmission_events (net_of topology.now) time sent (transmission_of start)) }
-        requires spare { 1 ≤ self.old.spare }
+        requires count { length outgoing.old.channels ≡ channel_count topology.now part.now }
+        requires spare { HaveSpare outgoing.old }
         requires room { 2 ≤ L.room self.old.events }
         ensures events { (sent : ℕ → List (ℕ × List ℕ)) → TimelineRepresents topology.now self.old sent
             → L.pending self.new.events
-            ≡ schedule everywhere
+            ≡ schedule (here_of topology.now part.now)
             (transmission_events (net_of topology.now) time sent (transmission_of start))
             (L.pending self.old.events) }
         ensures numbered { (sent : ℕ → List (ℕ × List ℕ)) → TimelineRepresents topology.now self.old sent
             → TimelineRepresents topology.now self.new
             (sent_after (net_of topology.now) time sent (transmission_of start)) }
-        ensures records { self.new.records ≡ self.old.records ++ out_record time (transmission_of start) }
+        ensures outgoing { (sent : ℕ → List (ℕ × List ℕ)) → OutgoingRepresents topology.now part.now outgoing.old sent
+            → OutgoingRepresents topology.now part.now outgoing.new
+            (sent_after (net_of topology.now) time sent (transmission_of start)) }
+        ensures transmitted { result ≡ transmission_of start }
     {
         accepted_topologies_are_in_order(topology); // law: the peer is there
-        if let Some(sending) = start {
-            let (iface, start) = sending;
-            let peer = topology.iface(iface).far().peer;
-            self.put_transmission(time, iface, peer, start);
-        }
-    }
-
-    /// A transmission starts at an interface, towards its peer: its completion and its arrival are
-    /// to come.
-    #[inline(always)]
-    fn put_transmission(&mut self, time: Time, iface: IfaceNo, peer: IfaceNo, start: Start)
-        requires peer { peer < length self.old.sent }
-        requires count { slice_index self.old.sent peer < 2 ^ 63 }
-        requires spare { 1 ≤ self.old.spare }
-        requires room { 2 ≤ L.room self.old.events }
-        requires arrival { get (L.pending self.old.events)
-            (key_of start.arrives (Arrive peer) (slice_index self.old.sent peer)) ≡ None }
-        requires completion { get (L.pending self.old.events)
-            (key_of start.completes (Complete iface) (slice_index self.old.sent peer)) ≡ None }
-        ensures events { L.pending self.new.events ≡ insert (insert (L.pending self.old.events)
-            (key_of start.arrives (Arrive peer) (slice_index self.old.sent peer))
-            (Delivery start.twin.packet))
-            (key_of start.completes (Complete iface) (slice_index self.old.sent peer)) Completion }
-        ensures sent { self.new.sent ≡ slice_set self.old.sent peer (slice_index self.old.sent peer + 1) }
-        ensures records { self.new.records
-            ≡ self.old.records ++ record
-            { time = time; iface = iface; dir = Out; packet = start.twin.packet } ∷ [] }
-    {
-        let number = self.sent[peer.index()];
-        self.sent[peer.index()] = number + 1;
+        let (iface, start) = start?;
+        let peer = topology.iface(iface).far().peer;
+        let number = self.take_number(peer);
         let Start {
             twin,
             completes,
             arrives,
         } = start;
-        let dir = Dir::Out;
-        self.records
-            .push(Record {
-                time,
-                iface,
-                dir,
-                packet: twin.copy,
-            })
-            .unwrap();
         let arrival = Key {
             time: arrives,
             place: Place::Arrive(peer),
             number,
         };
-        self.events.put(arrival, Event::Delivery(twin.packet));
+        self.schedule_arrival(topology, part, outgoing, iface, arrival, twin.packet);
         let completion = Key {
             time: completes,
             place: Place::Complete(iface),
             number,
         };
         self.events.put(completion, Event::Completion);
-    }
-
-    /// The trace.
-    pub fn records(&self) -> &[Record]
-        ensures { result.now ≡ self.now.records }
-    {
-        &self.records
-    }
-
-    /// The trace.
-    pub fn into_records(self) -> Vec<Record>
-    where
-        L: Drop,
-        ensures { result.items ≡ self.records }
-    {
-        self.records
+        Some((iface, twin.copy))
     }
 }

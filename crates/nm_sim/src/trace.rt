@@ -1,6 +1,6 @@
 //! The trace of a network.
 
-ghost use Rattle.std.specs.Prelude.{◌≡◌, ℕ, ◌≤◌, min, IfOk, OnOk};
+ghost use Rattle.std.specs.Prelude.{◌≡◌, ℕ, ◌≤◌, None, min, IfOk, OnOk};
 ghost use Rattle.nm_events.specs.Held.{pending_of};
 ghost use Rattle.nm_model.specs.Before.{IsBefore};
 ghost use Rattle.nm_model.specs.Run.{one_list};
@@ -29,9 +29,9 @@ fn run(
     part: &mut Part<SortedList>,
 ) -> Result<(), AllocError>
     requires before { before ≤ topology.now.stop }
-    requires represents { Represents pending_of topology.now part.old (one_list (net_of topology.now) 0) }
+    requires represents { Represents pending_of topology.now None part.old (one_list (net_of topology.now) 0) }
     ensures { OnOk result ((n : ℕ) × IsBefore (net_of topology.now) before n
-        × Represents pending_of topology.now part.new (one_list (net_of topology.now) n)) }
+        × Represents pending_of topology.now None part.new (one_list (net_of topology.now) n)) }
 {
     for done in 0..MAX_STEPS + 1 {
         if !part.advance(alloc, topology, before)? {
@@ -51,7 +51,7 @@ pub fn one_list(alloc: Global, topology: &Topology, until: Time) -> Result<Vec<R
     ensures { IfOk result (λ r. IsTraceBefore topology.now until r.items) }
 {
     let before = earlier(until, topology.stop());
-    let mut part = Part::<SortedList>::start(alloc, topology)?;
+    let mut part = Part::<SortedList>::start(alloc, topology, None)?;
     run(alloc, topology, before, &mut part)?;
     Ok(part.into_trace())
 }
