@@ -3,6 +3,7 @@ mod Channels
 mod Doings
 mod Networks
 mod Openings
+mod Outgoings
 mod Parts
 mod Pendings
 mod Reactings
