@@ -1,6 +1,7 @@
 mod Beginnings
 mod Channels
 mod Doings
+mod Kept
 mod Networks
 mod Openings
 mod Outgoings
