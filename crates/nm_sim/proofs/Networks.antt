@@ -8,7 +8,7 @@ use Rattle.std.proofs.Math.Nat.{div-mul-le_self}
 use Rattle.nm_base.specs.declared.limits.TheConstants.{MAX_PORTS_OF_NODE}
 use Rattle.nm_base.specs.declared.event.Origin.{Origin}
 use Rattle.nm_topology.specs.declared.traffic.Source.{Source}
-use Rattle.nm_topology.specs.PartValues.{IfaceValue}
+use Rattle.nm_topology.specs.PartValues.{IfaceValue, NodeValue}
 use Rattle.nm_topology.specs.Accepted.{IsInOrder, IsPlaced, LeavesByOwn, owners_of, parts_of}
 use Rattle.nm_topology.specs.Limits.{IsWithinLimits}
 use Rattle.nm_topology.specs.TopologyValue.{TopologyValue}
@@ -103,6 +103,10 @@ owner_is t i x e = get_or-map (λ z. z.node) t.ifaces i x 0 (slice_get_within t.
 pub source_node_is : (t : TopologyValue) (j : ℕ) (s : Source) → slice_get t.sources j ≡ Some s → (net_of t).source_node j ≡ s.node
 unfolding net_of
 source_node_is t j s e = get_or-map (λ z. z.node) t.sources j s 0 (slice_get_within t.sources j s e) ∙ ap (λ z. z.node) (get_or_from_slice_get t.sources j s s e)
+
+pub part_is : (t : TopologyValue) (v : ℕ) (x : NodeValue) → slice_get t.nodes v ≡ Some x → (net_of t).part v ≡ x.partition
+unfolding net_of
+part_is t v x e = get_or-map (λ z. z.partition) t.nodes v x t.partitions (slice_get_within t.nodes v x e) ∙ ap (λ z. z.partition) (get_or_from_slice_get t.nodes v x x e)
 
 -- the node of a source, read from a list
 pub node_read : (t : TopologyValue) (j k : ℕ) (l : List Source) (d : Source) → l ≡ t.sources → k ≡ j → j < length t.sources
