@@ -17,10 +17,11 @@ use Rattle.nm_iface.specs.declared.port.Start.{Start}
 use Rattle.nm_traffic.specs.Source.{source_at}
 use Rattle.nm_sim.specs.Network.{is_iface_here, net_of}
 use Rattle.nm_sim.specs.Devices.{DevicesValue, DevicesRepresent, IsPortOf}
-use Rattle.nm_sim.specs.Effects.{Does, Done, IsEffect, Reacts, Sends, TransmitsAt, transmission_at, transmission_of}
+use Rattle.nm_sim.specs.Effects.{IsBusy, Does, Done, IsEffect, Reacts, Sends, TransmitsAt, transmission_at, transmission_of}
 use Rattle.nm_iface.specs.PortValue.{PortValue, takes, with_port}
 use Rattle.nm_iface.specs.Offers.{IsTransmission, transmitted_packet}
 use Rattle.nm_sim.proofs.Sendings.{transmission_of_at, transmits_here}
+use Rattle.nm_sim.specs.Tables.{IsMember}
 use Rattle.nm_sim.proofs.Tables.{at_there}
 use Rattle.nm_sim.proofs.Represents.{port_after, port_turned, same_done, set_same}
 
@@ -86,6 +87,12 @@ fires_by t part node port time v j number x d e sent sending done owner r s a b 
       represented = reacted_stand t part node port time ((net_of t).source_node j) (Source j) x d e sent sending r' s' None (source_at t j (suc number));
       does = reacted_does t part node port time ((net_of t).source_node j) (Source j) x d e sent sending r' s' None (source_at t j (suc number)) done a b c;
     }) r s
+
+-- a port that transmits is there
+pub busy_member : (o : Option (Option PortValue)) → IsBusy o → IsMember o
+busy_member None h = absurd h
+busy_member (Some None) h = absurd h
+busy_member (Some (Some w)) h = tt
 
 -- a transmission of interface i is complete
 module _ (t : TopologyValue) (part : Option ℕ) (d e : DevicesValue) (node : ℕ → NodeStateValue) (port : ℕ → Port (List ℕ)) (s : DevicesRepresent t part d node port) (time i number : ℕ)

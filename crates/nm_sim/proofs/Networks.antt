@@ -1,5 +1,6 @@
 -- A topology that is in order and within the limits describes a network.
-use Rattle.std.proofs.Common.{◌≡◌, ℕ, zero, suc, ◌+◌, ◌-◌, ◌*◌, ◌/◌, ◌^◌, ◌<◌, ◌≤◌, List, length, map, All, max, Some, slice_get, slice_index, slice_index_or as get_or, sym, ap, ◌∙◌, subst, arith, ⊎_elim}
+use Rattle.std.proofs.Common.{◌≡◌, ℕ, zero, suc, ◌+◌, ◌-◌, ◌*◌, ◌/◌, ◌^◌, ◌<◌, ◌≤◌, List, length, map, All, max, Option, Some, None, true, false, slice_get, slice_index, slice_index_or as get_or, sym, ap, ◌∙◌, subst, arith, ⊎_elim}
+use Rattle.std.specs.Prelude.{if◌then◌else◌}
 use Rattle.std.proofs.lemmas.Option.{slice_get-get_or, slice_get_cases, slice_get_past, slice_get_within, get_or_from_slice_get}
 use Rattle.std.proofs.lemmas.List.{get_or-map}
 use Rattle.std.proofs.lemmas.List.Elements.{All-get_or}
@@ -19,7 +20,7 @@ use Rattle.std.specs.Option.{option_and_then}
 use Rattle.nm_traffic.specs.Source.{packet_at, source_at, source_of}
 use Rattle.nm_traffic.specs.SourceValues.{SourceValue}
 use Rattle.nm_model.specs.Network.{IsNet, IsParted}
-use Rattle.nm_sim.specs.Network.{far_from, far_of, net_of}
+use Rattle.nm_sim.specs.Network.{far_from, far_of, first_here, is_source_here, net_of}
 
 -- division keeps the order
 divided_le : (a b r : ℕ) → a ≤ b → a / r ≤ b / r
@@ -126,3 +127,10 @@ node_there t j k l d e f h placed =
 pub source_is : (t : TopologyValue) (j n : ℕ) (s : SourceValue) → source_of t j ≡ Some s → source_at t j n ≡ packet_at s.stop s.traffic n
 unfolding source_at
 source_is t j n s e = ap (option_and_then (λ z. packet_at z.stop z.traffic n)) e
+
+-- a source that is here gives its first packet, and one that is not gives none
+pub first_there : (t : TopologyValue) (part : Option ℕ) (j : ℕ) (s : SourceValue) → is_source_here t part j ≡ true → source_of t j ≡ Some s → first_here t part j ≡ packet_at s.stop s.traffic 0
+first_there t part j s e q = ap (λ b. if b then source_at t j 0 else None) e ∙ source_is t j 0 s q
+
+pub first_elsewhere : (t : TopologyValue) (part : Option ℕ) (j : ℕ) → is_source_here t part j ≡ false → first_here t part j ≡ None
+first_elsewhere t part j e = ap (λ b. if b then source_at t j 0 else None) e

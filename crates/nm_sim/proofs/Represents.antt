@@ -1,5 +1,5 @@
 -- Devices that represent the states of nodes and ports.
-use Rattle.std.proofs.Common.{◌≡◌, ◌≢◌, ℕ, ◌+◌, ◌==◌, Bool, true, false, cond, List, [], ◌∷◌, ◌++◌, length, Option, Some, None, slice_get, slice_set, refl, sym, ap, ◌∙◌, subst, arith, length-set}
+use Rattle.std.proofs.Common.{◌≡◌, ◌≢◌, ℕ, ◌+◌, ◌<◌, ◌==◌, Bool, true, false, cond, List, [], ◌∷◌, ◌++◌, length, Option, Some, None, slice_get, slice_set, refl, sym, ap, ◌∙◌, subst, arith, length-set}
 use Rattle.std.proofs.lemmas.Bool.Decides.{nat_tests}
 use Rattle.nm_topology.specs.PartValues.{IfaceValue}
 use Rattle.nm_topology.specs.TopologyValue.{TopologyValue}
@@ -11,8 +11,8 @@ use Rattle.nm_base.specs.Count.{saturated}
 use Rattle.nm_iface.specs.PortValue.{PortValue, has_room, takes, with_port}
 use Rattle.nm_sim.specs.Network.{far_from, far_of, is_iface_here, is_node_here, is_source_here, queue_from, queue_of, net_of}
 use Rattle.nm_sim.specs.Devices.{DevicesValue, IsNodeOf, IsPortOf, DevicesRepresent}
-use Rattle.nm_sim.specs.Tables.{AllHere}
-use Rattle.nm_sim.proofs.Tables.{here_set}
+use Rattle.nm_sim.specs.Tables.{AllHere, IsMember}
+use Rattle.nm_sim.proofs.Tables.{at_there, each_there, here_set, member_at}
 
 pub first_port : (t : TopologyValue) (i : ℕ) (x : IfaceValue) (w : PortValue) → slice_get t.ifaces i ≡ Some x
     → w.limit ≡ record { packets = x.queue; octets = x.queue_octets } → w.rate ≡ x.far.rate → w.delay ≡ x.far.delay → w.busy ≡ None → w.dropped ≡ 0 → IsPortOf t i w idle_port
@@ -123,3 +123,21 @@ module _ (t : TopologyValue) (part : Option ℕ) (d e : DevicesValue) (node : �
     source_count = ap length sources ∙ s.source_count;
     sources = subst (λ l. AllHere (is_source_here t part) (λ j z. source_of t j ≡ Some z) l) (sym sources) s.sources;
   }
+
+module _ (t : TopologyValue) (part : Option ℕ) (d : DevicesValue) (node : ℕ → NodeStateValue) (port : ℕ → Port (List ℕ)) (s : DevicesRepresent t part d node port) (v : ℕ) (within : v < length t.nodes) where
+  node_member : is_node_here t part v ≡ true → IsMember (slice_get d.nodes v)
+  node_member here = each_there (is_node_here t part) (λ u n. IsNodeOf t u n (node u)) d.nodes s.nodes v (omega (arith, within, s.node_count)) here
+
+  -- the node of an interface that has a port
+  pub iface_node : (i : ℕ) → IsMember (slice_get d.ports i) → (net_of t).owner i ≡ v → IsMember (slice_get d.nodes v)
+  iface_node i m e =
+      let w = member_at (slice_get d.ports i) m in
+      let p = at_there (is_iface_here t part) (λ j x. IsPortOf t j x (port j)) d.ports s.ports i w.0 w.1 in
+      node_member (ap (is_node_here t part) (sym e) ∙ p.0)
+
+  -- the node of a source that is here
+  pub source_node : (j : ℕ) → IsMember (slice_get d.sources j) → (net_of t).source_node j ≡ v → IsMember (slice_get d.nodes v)
+  source_node j m e =
+      let w = member_at (slice_get d.sources j) m in
+      let p = at_there (is_source_here t part) (λ k x. source_of t k ≡ Some x) d.sources s.sources j w.0 w.1 in
+      node_member (ap (is_node_here t part) (sym e) ∙ p.0)
