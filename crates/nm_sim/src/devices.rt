@@ -12,7 +12,7 @@ ghost use Rattle.nm_forward.specs.Reaction.{FitsOrigin, sent_of};
 ghost use Rattle.nm_base.specs.Key.{key_of};
 ghost use Rattle.nm_sim.specs.Network.{first_here, is_iface_here as iface_here, is_node_here as node_here, is_source_here as source_here, net_of};
 ghost use Rattle.nm_sim.specs.Tables.{AllHere, AllSome, IsMember, IsThere};
-ghost use Rattle.nm_sim.specs.Devices.{DevicesRepresent, IsNodeOf, IsPortOf, IsSame, DevicesRepresentSome};
+ghost use Rattle.nm_sim.specs.Devices.{DevicesRepresent, IsNodeOf, IsPortOf, IsSame, IsSamePort, DevicesRepresentSome};
 ghost use Rattle.nm_traffic.specs.Source.{source_at, source_of};
 ghost use Rattle.nm_forward.specs.Counter.{counter_number};
 ghost use Rattle.std.specs.Option.{option_and_then, option_map};
@@ -187,6 +187,17 @@ fn first_sources(
     Ok(sources)
 }
 
+/// Makes memory for one more packet at a port, if it is here.
+fn reserve_at(port: &mut Option<Port>) -> Result<(), AllocError>
+    ensures same { IsSamePort port.old port.new }
+    ensures room { OnOk result (IfSome port.new (λ w. 1 ≤ w.room)) }
+{
+    match port {
+        Some(port) => port.reserve_one(),
+        None => Ok(()),
+    }
+}
+
 /// A transmission that starts, and where.
 fn transmission_at(iface: IfaceNo, start: Option<Start>) -> Option<(IfaceNo, Start)>
     ensures { result ≡ transmission_at_iface iface start }
@@ -267,8 +278,8 @@ impl Devices {
         ensures room { OnOk result (AllSome (λ i w. 1 ≤ w.room) self.new.ports) }
     {
         if let Some(iface) = self.used {
-            if let Some(Some(port)) = self.ports.get_mut(iface.index()) {
-                port.reserve_one()?;
+            if iface.index() < self.ports.len() {
+                reserve_at(&mut self.ports[iface.index()])?;
             }
             self.used = None;
         }
