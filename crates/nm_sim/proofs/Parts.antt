@@ -1,5 +1,5 @@
 -- A part after a step represents the state after that step.
-use Rattle.std.proofs.Common.{true≢false, ⊎_elim, cond, ◌&&◌, not, Bool, slice_get, slice_index, ◌≡◌, ℕ, zero, suc, ◌+◌, ◌<◌, true, false, ltb, List, [], ◌∷◌, ◌++◌, length, Option, Some, None, refl, sym, ap, ◌∙◌, subst, arith, append-nil, append_assoc}
+use Rattle.std.proofs.Common.{true≢false, ⊎_elim, cond, ◌&&◌, ◌==◌, not, Bool, slice_get, slice_index, ◌≡◌, ℕ, zero, suc, ◌+◌, ◌<◌, true, false, ltb, List, [], ◌∷◌, ◌++◌, length, Option, Some, None, refl, sym, ap, ◌∙◌, subst, arith, append-nil, append_assoc}
 use Rattle.std.specs.FinMap.{FinMap, insert, remove}
 use Rattle.std.specs.Option.{IfSome}
 use Rattle.nm_base.specs.declared.event.Event.{Event}
