@@ -3,7 +3,7 @@ use Rattle.nm_forward.specs.Reaction.{sent_of}
 use Rattle.std.proofs.lemmas.Option.{slice_get_read}
 use Rattle.std.proofs.lemmas.Result.{IfOk-weaker}
 use Rattle.nm_sim.specs.contracts.devices.Devices.{the_view}
-use Rattle.nm_sim.specs.Devices.{DevicesValue, DevicesRepresent, DevicesRepresentSome}
+use Rattle.nm_sim.specs.Devices.{DevicesValue, DevicesRepresentSome}
 use Rattle.nm_sim.specs.Tables.{IsMember}
 use Rattle.nm_sim.proofs.Tables.{member_within}
 use Rattle.nm_sim.proofs.Reactings.{reacts_by, sends_by_own, table_is}
