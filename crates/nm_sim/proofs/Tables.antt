@@ -46,11 +46,7 @@ pub there : {X : Type 0} (P : X → Type 0) (b : Bool) (x : X) → b ≡ true �
 there P true x e p = p
 there P false x e p = absurd cc
 
--- where nothing is here, nothing is put
-pub none_there : {X : Type 0} (P : X → Type 0) (b : Bool) → b ≡ false → IsThere b P None
-none_there P true e = absurd cc
-none_there P false e = refl
-
+-- the same of what follows from P
 pub weaker : {X : Type 0} (P Q : X → Type 0) (b : Bool) (o : Option X) → ((x : X) → P x → Q x) → IsThere b P o → IsThere b Q o
 weaker P Q true None f h = h
 weaker P Q true (Some x) f h = f x h
