@@ -10,6 +10,7 @@ mod Pendings
 mod Reactings
 mod Schedules
 mod Sendings
+mod Recordings
 mod Represents
 pub mod Stepping
 mod Steps

@@ -20,6 +20,7 @@ use Rattle.nm_sim.specs.Devices.{DevicesRepresent}
 use Rattle.nm_sim.specs.Effects.{IsPlaceIn}
 use Rattle.nm_sim.specs.Network.{first_here, here_of, is_node_here, net_of}
 use Rattle.nm_sim.specs.Outgoing.{channel_count}
+use Rattle.nm_sim.specs.Records.{RecordsRepresent}
 use Rattle.nm_sim.specs.Tables.{AllAt}
 use Rattle.nm_sim.specs.Part.{PartValue, Represents}
 use Rattle.nm_sim.specs.Timelines.{AreFresh, everywhere}
@@ -99,7 +100,7 @@ module _ (t : TopologyValue) (part : Option ℕ) where
   pub represents_first : {L : Type 0} (pending : L → FinMap key_cmp (Event (List ℕ))) (p : PartValue L) → IsOrderly (net_of t) (here_of t part) (start (net_of t) (here_of t part) [])
       → p.part ≡ part → DevicesRepresent t part p.devices (first_state t) (λ i. idle_port) → p.timeline.sent ≡ replicate (length t.ifaces) 0
       → pending p.timeline.events ≡ schedule (here_of t part) (source_events (net_of t) (length t.sources)) empty
-      → length p.outgoing.channels ≡ channel_count t part → AllAt (λ c v. v.messages ≡ []) p.outgoing.channels → p.records.list ≡ []
+      → length p.outgoing.channels ≡ channel_count t part → AllAt (λ c v. v.messages ≡ []) p.outgoing.channels → RecordsRepresent t p.records []
       → Represents pending t part p (start (net_of t) (here_of t part) [])
   unfolding net_of
   represents_first pending p orderly is_part represented sent events channels messages records = record {
@@ -115,6 +116,7 @@ module _ (t : TopologyValue) (part : Option ℕ) where
     events = events;
     placed = λ q y e. placed_first q (events_below (length t.sources) q y e);
     records = records;
+    few_records = omega arith;
   }
 
 -- a part has what is of some nodes

@@ -1,5 +1,5 @@
 -- A part after a step represents the state after that step.
-use Rattle.std.proofs.Common.{true≢false, ⊎_elim, cond, ◌&&◌, ◌==◌, not, Bool, slice_get, slice_index, ◌≡◌, ℕ, zero, suc, ◌+◌, ◌<◌, true, false, ltb, List, [], ◌∷◌, ◌++◌, length, Option, Some, None, refl, sym, ap, ◌∙◌, subst, arith, append-nil, append_assoc}
+use Rattle.std.proofs.Common.{true≢false, ⊎_elim, cond, ◌&&◌, ◌==◌, not, Bool, slice_get, slice_index, ◌≡◌, ℕ, zero, suc, ◌+◌, ◌<◌, ◌≤◌, true, false, ltb, List, [], ◌∷◌, ◌++◌, length, Option, Some, None, refl, sym, ap, ◌∙◌, subst, arith, append-nil, append_assoc, length-append}
 use Rattle.std.specs.FinMap.{FinMap, insert, remove}
 use Rattle.std.specs.Option.{IfSome}
 use Rattle.nm_base.specs.declared.event.Event.{Event}
@@ -27,17 +27,21 @@ use Rattle.nm_iface.specs.PortValue.{PortValue}
 use Rattle.nm_model.specs.Partition.{comes_in}
 use Rattle.nm_sim.specs.Devices.{DevicesRepresent, DevicesValue, IsNodeOf, IsPortOf, IsSame, IsSamePort}
 use Rattle.nm_sim.specs.Effects.{Done, IsPlaceIn, TransmitsAt, transmission_of}
-use Rattle.nm_sim.specs.Network.{here_of, is_iface_here, is_node_here, is_source_here, net_of}
+use Rattle.nm_topology.specs.Topology.{receiving_iface}
+use Rattle.nm_sim.specs.Network.{far_from, here_of, is_iface_here, is_node_here, is_source_here, net_of}
 use Rattle.std.proofs.lemmas.Option.{slice_get_cases, slice_get_past}
 use Rattle.nm_forward.specs.declared.counter.Counter.{Counter}
 use Rattle.nm_forward.specs.Counter.{counter_number}
 use Rattle.nm_base.specs.Count.{saturated}
-use Rattle.nm_sim.specs.Part.{IsUnderWay, PartValue, Represents, Taken, count_at, drops_at, with_arrival}
+use Rattle.nm_sim.specs.Part.{IsUnderWay, PartValue, Represents, Taken, busy_at, completes_at, count_at, drops_at, with_arrival}
 use Rattle.nm_sim.specs.Timelines.{TimelineRepresents}
 use Rattle.nm_sim.proofs.Schedules.{next_here, one_more, placed_insert, placed_next, placed_remove, placed_schedule, placed_transmission, schedule_append}
 use Rattle.nm_sim.proofs.Beginnings.{numbered_same}
 use Rattle.nm_sim.proofs.Pendings.{put_back}
+use Rattle.nm_sim.specs.Records.{RecordsRepresent, RecordsValue}
 use Rattle.nm_sim.proofs.Outgoings.{outgoing_same}
+use Rattle.nm_sim.proofs.Recordings.{records_same}
+use Rattle.nm_base.specs.declared.record.Record.{Record}
 use Rattle.nm_sim.proofs.Steps.{least_has, pending_here}
 use Rattle.nm_sim.proofs.Kept.{Kept}
 use Rattle.nm_model.proofs.ListLemmas.{not_some, some_inj}
@@ -46,6 +50,23 @@ transmits_within : (t : TopologyValue) (part : Option ℕ) (time : ℕ) (o : Opt
 transmits_within t part time None h = tt
 transmits_within t part time (Some z) h = h.0.0
 
+-- an event makes two records at most
+records_few : (time : ℕ) (trace : List (Record (List ℕ))) (came transmission : Option (ℕ × List ℕ)) → length (trace ++ (in_record time came ++ out_record time transmission)) ≤ length trace + 2
+records_few time trace came transmission =
+    let a = length-append trace (in_record time came ++ out_record time transmission) in
+    let b = length-append (in_record time came) (out_record time transmission) in
+    let c = in_one came in
+    let d = out_one transmission in
+    omega (arith, a, b, c, d)
+  where
+    in_one : (o : Option (ℕ × List ℕ)) → length (in_record time o) ≤ 1
+    in_one None = omega arith
+    in_one (Some z) = omega arith
+
+    out_one : (o : Option (ℕ × List ℕ)) → length (out_record time o) ≤ 1
+    out_one None = omega arith
+    out_one (Some z) = omega arith
+
 -- an event that is under way is done with the transmission that starts
 pub represents_after : {L : Type 0} (pending : L → FinMap key_cmp (Event (List ℕ))) (t : TopologyValue) (part : Option ℕ) (k : Key) (e : Event (List ℕ)) (done : Done) (p q : PartValue L)
     (s : State (List ℕ) NodeStateValue) → IsInOrder t.nodes t.ifaces t.links → IsOrderly (net_of t) (here_of t part) (step (net_of t) (here_of t part) s)
@@ -53,7 +74,7 @@ pub represents_after : {L : Type 0} (pending : L → FinMap key_cmp (Event (List
     → TimelineRepresents t q.timeline (sent_after (net_of t) k.time s.sent (transmission_of done.transmission))
     → OutgoingRepresents t part q.outgoing (sent_after (net_of t) k.time s.sent (transmission_of done.transmission))
     → pending q.timeline.events ≡ schedule (here_of t part) (transmission_events (net_of t) k.time s.sent (transmission_of done.transmission)) (pending p.timeline.events)
-    → q.records.list ≡ p.records.list ++ out_record k.time (transmission_of done.transmission)
+    → ((trace : List (Record (List ℕ))) → RecordsRepresent t p.records trace → RecordsRepresent t q.records (trace ++ out_record k.time (transmission_of done.transmission)))
     → q.steps ≡ p.steps + 1
     → Represents pending t part q (step (net_of t) (here_of t part) s)
 represents_after pending t part k e done p q s order orderly way is_part devices numbered outgoing events records steps =
@@ -68,10 +89,10 @@ represents_after pending t part k e done p q s order orderly way is_part devices
     = events ∙ ap (schedule (here_of t part) (transmission_events (net_of t) k.time s.sent (transmission_of done.transmission))) (taken.events ∙ next_here (here_of t part) k.place k.number done.follows (remove s.pending k) is)
     ∙ (λ i. schedule (here_of t part) (transmission_events (net_of t) k.time s.sent (does.transmission i)) (schedule (here_of t part) (next_events k.place k.number (does.follows i)) (remove s.pending k)))
     ∙ sym (schedule_append (here_of t part) (transmission_events (net_of t) k.time s.sent m.transmission) (next_events k.place k.number m.follows) (remove s.pending k)) in
-    let records' : q.records.list ≡ s.records ++ (in_record k.time m.came ++ out_record k.time m.transmission)
-    = records ∙ ap (λ l. l ++ out_record k.time (transmission_of done.transmission)) taken.records
-    ∙ (λ i. (s.records ++ in_record k.time (does.came i)) ++ out_record k.time (does.transmission i))
-    ∙ append_assoc s.records (in_record k.time m.came) (out_record k.time m.transmission) in
+    let records' : RecordsRepresent t q.records (s.records ++ (in_record k.time m.came ++ out_record k.time m.transmission))
+    = subst (RecordsRepresent t q.records)
+    ((λ i. (s.records ++ in_record k.time (does.came i)) ++ out_record k.time (does.transmission i)) ∙ append_assoc s.records (in_record k.time m.came) (out_record k.time m.transmission))
+    (records (s.records ++ in_record k.time done.came) taken.records) in
     let within = subst (λ o. IfSome o (λ z. z.0 < length t.ifaces)) does.transmission (transmits_within t part k.time done.transmission does.transmits) in
     let again : step_at (net_of t) (here_of t part) s (Some (k, e)) ≡ step (net_of t) (here_of t part) s = ap (step_at (net_of t) (here_of t part) s) (sym taken.first) in
     subst (Represents pending t part q) again record {
@@ -87,6 +108,7 @@ represents_after pending t part k e done p q s order orderly way is_part devices
           (placed_transmission t order k.time s.sent m.transmission within) (placed_next (IsPlaceIn t) k.place k.number m.follows place))
           (placed_remove (IsPlaceIn t) s.pending k taken.placed);
       records = records';
+      few_records = let f = taken.few_records in let n = records_few k.time s.records m.came m.transmission in omega (arith, f, n, steps);
     }
   where
     either : (xs ys : List (Key × Event (List ℕ))) → ((i : ℕ) (f : Key × Event (List ℕ)) → nth xs i ≡ Some f → IsPlaceIn t f.0.place)
@@ -99,7 +121,7 @@ represents_after pending t part k e done p q s order orderly way is_part devices
 -- an event that was taken out is put back
 pub represents_again : {L : Type 0} (pending : L → FinMap key_cmp (Event (List ℕ))) (t : TopologyValue) (part : Option ℕ) (k : Key) (e : Event (List ℕ)) (p q : PartValue L) → Kept p q
     → (s : State (List ℕ) NodeStateValue) → Taken pending t part k e None None p s → DevicesRepresent t part p.devices s.node s.port
-    → q.devices ≡ p.devices → q.records.list ≡ p.records.list → pending q.timeline.events ≡ insert (pending p.timeline.events) k e → Represents pending t part q s
+    → q.devices ≡ p.devices → q.records ≡ p.records → pending q.timeline.events ≡ insert (pending p.timeline.events) k e → Represents pending t part q s
 represents_again pending t part k e p q kept s h represented devices records events = record {
   is_part = kept.is_part ∙ h.is_part;
   orderly = h.orderly;
@@ -109,7 +131,8 @@ represents_again pending t part k e p q kept s h represented devices records eve
   few = λ c. let l = h.few c in omega (arith, l, kept.steps);
   events = events ∙ ap (λ m. insert m k e) h.events ∙ put_back s.pending k e (least_has s.pending (k, e) h.first);
   placed = h.placed;
-  records = records ∙ h.records ∙ append-nil s.records;
+  records = subst (λ (r : RecordsValue). RecordsRepresent t r s.records) (sym records) (subst (RecordsRepresent t p.records) (append-nil s.records) h.records);
+  few_records = let l = h.few_records in omega (arith, l, kept.steps);
 }
 
 module _ (t : TopologyValue) (i : ℕ) (port : Port (List ℕ)) where
@@ -144,7 +167,7 @@ represented_same t part d e node port s h = record {
 pub represents_same : {L : Type 0} (pending : L → FinMap key_cmp (Event (List ℕ))) (t : TopologyValue) (part : Option ℕ) (p q : PartValue L) (s : State (List ℕ) NodeStateValue)
     → Represents pending t part p s → q.part ≡ p.part → IsSame p.devices q.devices → pending q.timeline.events ≡ pending p.timeline.events → q.timeline.sent ≡ p.timeline.sent
     → length q.outgoing.channels ≡ length p.outgoing.channels → ((c : ℕ) → messages_in (slice_get q.outgoing.channels c) ≡ messages_in (slice_get p.outgoing.channels c))
-    → q.records.list ≡ p.records.list → q.steps ≡ p.steps → Represents pending t part q s
+    → q.records ≡ record p.records { spare = q.records.spare } → q.steps ≡ p.steps → Represents pending t part q s
 represents_same pending t part p q s h is_part same events sent count messages records steps = record {
   is_part = is_part ∙ h.is_part;
   orderly = h.orderly;
@@ -154,7 +177,8 @@ represents_same pending t part p q s h is_part same events sent count messages r
   few = λ c. let l = h.few c in omega (arith, l, steps);
   events = events ∙ h.events;
   placed = h.placed;
-  records = records ∙ h.records;
+  records = records_same t p.records q.records s.records records h.records;
+  few_records = let l = h.few_records in omega (arith, l, steps);
 }
 
 -- nothing changed
@@ -168,7 +192,7 @@ is_same d = record { nodes = refl; port_count = refl; ports = λ i w e. (w, e, s
 -- a message was put into the event list
 pub represents_told : {L : Type 0} (pending : L → FinMap key_cmp (Event (List ℕ))) (t : TopologyValue) (part : Option ℕ) (i number time : ℕ) (x : List ℕ) (p q : PartValue L) → Kept p q
     → (s : State (List ℕ) NodeStateValue) → Represents pending t part p s → IsOrderly (net_of t) (here_of t part) (with_arrival i number time x s) → i < length t.ifaces
-    → q.devices ≡ p.devices → q.records.list ≡ p.records.list → pending q.timeline.events ≡ insert (pending p.timeline.events) (key_of time (Arrive i) number) (Delivery x)
+    → q.devices ≡ p.devices → q.records ≡ p.records → pending q.timeline.events ≡ insert (pending p.timeline.events) (key_of time (Arrive i) number) (Delivery x)
     → Represents pending t part q (with_arrival i number time x s)
 represents_told pending t part i number time x p q kept s h orderly within devices records events = record {
   is_part = kept.is_part ∙ h.is_part;
@@ -179,7 +203,8 @@ represents_told pending t part i number time x p q kept s h orderly within devic
   few = λ c. let l = h.few c in omega (arith, l, kept.steps);
   events = events ∙ ap (λ m. insert m (key_of time (Arrive i) number) (Delivery x)) h.events;
   placed = placed_insert (IsPlaceIn t) s.pending (key_of time (Arrive i) number) (Delivery x) within h.placed;
-  records = records ∙ h.records;
+  records = subst (λ (r : RecordsValue). RecordsRepresent t r s.records) (sym records) h.records;
+  few_records = let l = h.few_records in omega (arith, l, kept.steps);
 }
 
 -- what comes into a partition is here, and its far end is not
@@ -231,3 +256,50 @@ pub drops_is : (t : TopologyValue) (part : Option ℕ) (d : DevicesValue) (s : S
 drops_is t part d s represented i =
     table_value (is_iface_here t part) (λ i w. IsPortOf t i w (s.port i)) d.ports (λ w. w.dropped) (saturated (s.port i).dropped) i (length t.ifaces)
     represented.ports represented.port_count (λ w p. p.dropped)
+
+-- a record is handed out
+pub represents_handed : {L : Type 0} (pending : L → FinMap key_cmp (Event (List ℕ))) (t : TopologyValue) (part : Option ℕ) (p q : PartValue L) → Kept p q → (s : State (List ℕ) NodeStateValue)
+    → Represents pending t part p s → q.devices ≡ p.devices → pending q.timeline.events ≡ pending p.timeline.events → RecordsRepresent t q.records s.records → Represents pending t part q s
+represents_handed pending t part p q kept s h devices events records = record {
+  is_part = kept.is_part ∙ h.is_part;
+  orderly = h.orderly;
+  devices = subst (λ d. DevicesRepresent t part d s.node s.port) (sym devices) h.devices;
+  numbered = numbered_same t p.timeline q.timeline s.sent kept.sent h.numbered;
+  outgoing = subst (λ o. OutgoingRepresents t part o s.sent) (sym kept.outgoing) h.outgoing;
+  few = λ c. let l = h.few c in omega (arith, l, kept.steps);
+  events = events ∙ h.events;
+  placed = h.placed;
+  records = records;
+  few_records = let l = h.few_records in omega (arith, l, kept.steps);
+}
+
+-- an interface that isn't there is its own far end
+far_past : (t : TopologyValue) (i : ℕ) → length t.ifaces ≤ i → (net_of t).peer i ≡ i
+unfolding net_of
+far_past t i h = ap (λ o. (far_from i o).peer) (slice_get_past t.ifaces i h)
+
+-- past the last channel no interface sends
+pub busy_past : (t : TopologyValue) (part : Option ℕ) (s : State (List ℕ) NodeStateValue) (c : ℕ) → length t.ifaces ≤ receiving_iface t c → busy_at t part s c ≡ 0
+busy_past t part s c h =
+    let far = far_past t (receiving_iface t c) h in
+    let i = (net_of t).peer (receiving_iface t c) in
+    let none : ltb i (length t.ifaces) ≡ false = grind (arith, nat_tests, far, h) in
+    ap (λ b. cond (b && is_iface_here t part i) (completes_at (s.port i).busy) 0) none
+
+-- when the interface that sends on a channel completes its transmission
+pub busy_is : (t : TopologyValue) (part : Option ℕ) (d : DevicesValue) (s : State (List ℕ) NodeStateValue) → DevicesRepresent t part d s.node s.port → (i : ℕ)
+    → completes_at (option_and_then (option_and_then (λ w. w.busy)) (slice_get d.ports i))
+    ≡ cond (ltb i (length t.ifaces) && is_iface_here t part i) (completes_at (s.port i).busy) 0
+busy_is t part d s represented i = ⊎_elim
+    (λ g. let lt : ltb i (length t.ifaces) ≡ true = grind (arith, nat_tests, g.1, represented.port_count) in
+    ap (λ o. completes_at (option_and_then (option_and_then (λ w. w.busy)) o)) g.2 ∙ go (is_iface_here t part i) g.0 (represented.ports i g.0 g.2)
+    ∙ sym (ap (λ b. cond (b && is_iface_here t part i) (completes_at (s.port i).busy) 0) lt))
+    (λ g. let ge : ltb i (length t.ifaces) ≡ false = grind (arith, nat_tests, g.0, represented.port_count) in
+    ap (λ o. completes_at (option_and_then (option_and_then (λ w. w.busy)) o)) (slice_get_past d.ports i g.0)
+    ∙ sym (ap (λ b. cond (b && is_iface_here t part i) (completes_at (s.port i).busy) 0) ge))
+    ((slice_get_cases d.ports i).1)
+  where
+    go : (b : Bool) (o : Option PortValue) → IsThere b (λ w. IsPortOf t i w (s.port i)) o → completes_at (option_and_then (λ w. w.busy) o) ≡ cond b (completes_at (s.port i).busy) 0
+    go true None h = absurd h
+    go true (Some w) h = ap completes_at h.busy
+    go false o h = ap (λ o. completes_at (option_and_then (λ w. w.busy) o)) h

@@ -1,7 +1,7 @@
 -- An event is taken out of a part, and goes on.
 use Rattle.std.specs.declared.alloc.AllocError.{AllocError}
 use Rattle.std.specs.Result.{OnErr, OnOk}
-use Rattle.std.proofs.Common.{Result, Ok, Err, ◌+◌, ◌≤◌, ◌^◌, ◌≡◌, ◌≢◌, ℕ, suc, ◌<◌, ◌++◌, List, Option, Some, None, refl, sym, ap, ◌∙◌, subst, arith, append-nil}
+use Rattle.std.proofs.Common.{Result, Ok, Err, ◌+◌, ◌≤◌, ◌^◌, ◌≡◌, ◌≢◌, ℕ, suc, ◌<◌, ◌++◌, List, [], Option, Some, None, refl, sym, ap, ◌∙◌, subst, arith, append-nil}
 use Rattle.std.specs.FinMap.{FinMap, get, remove}
 use Rattle.nm_base.specs.declared.event.Event.{Event}
 use Rattle.nm_base.specs.declared.event.Event.TheVariants.{Delivery}
@@ -21,6 +21,8 @@ use Rattle.nm_traffic.specs.Source.{source_at}
 use Rattle.nm_sim.specs.Effects.{Reacts, Sends, transmission_of}
 use Rattle.nm_sim.specs.Network.{here_of, net_of}
 use Rattle.nm_sim.specs.Outgoing.{OutgoingRepresents}
+use Rattle.nm_sim.specs.Records.{RecordsRepresent, RecordsValue}
+use Rattle.nm_base.specs.declared.record.Record.{Record}
 use Rattle.nm_sim.specs.Part.{HasMemory, HasReacted, IsReady, IsUnderWay, PartValue, Performed, Represents, Taken}
 use Rattle.nm_sim.specs.Timelines.{AreFresh, TimelineValue, everywhere}
 use Rattle.nm_sim.proofs.Beginnings.{numbered_same}
@@ -33,7 +35,7 @@ use Rattle.nm_model.proofs.Keys.{remove_same}
 module _ {L : Type 0} (pending : L → FinMap key_cmp (Event (List ℕ))) (t : TopologyValue) (part : Option ℕ) (k : Key) (e : Event (List ℕ)) (p q : PartValue L) (kept : Kept p q)
     (s : State (List ℕ) NodeStateValue) where
   pub taken_out : Represents pending t part p s → Some (k, e) ≡ least (pending p.timeline.events) → pending q.timeline.events ≡ remove (pending p.timeline.events) k
-      → q.records.list ≡ p.records.list → Taken pending t part k e None None q s
+      → q.records ≡ p.records → Taken pending t part k e None None q s
   taken_out h first events records = record {
     first = ap (λ m. least m) (sym h.events) ∙ sym first;
     is_part = kept.is_part ∙ h.is_part;
@@ -43,13 +45,14 @@ module _ {L : Type 0} (pending : L → FinMap key_cmp (Event (List ℕ))) (t : T
     few = λ c. let l = h.few c in omega (arith, l, kept.steps);
     events = events ∙ ap (λ m. remove m k) h.events;
     placed = h.placed;
-    records = records ∙ h.records ∙ sym (append-nil s.records);
+    records = subst (λ (r : RecordsValue). RecordsRepresent t r (s.records ++ [])) (sym records) (subst (RecordsRepresent t p.records) (sym (append-nil s.records)) h.records);
+    few_records = let l = h.few_records in omega (arith, l, kept.steps);
   }
 
   -- it goes on: what came is recorded, and what follows is pending
   pub taken_on : {came follows : Option (ℕ × List ℕ)} (came' follows' : Option (ℕ × List ℕ)) → Taken pending t part k e came follows p s
       → pending q.timeline.events ≡ schedule everywhere (next_events k.place k.number follows') (remove s.pending k)
-      → q.records.list ≡ s.records ++ in_record k.time came' → Taken pending t part k e came' follows' q s
+      → RecordsRepresent t q.records (s.records ++ in_record k.time came') → Taken pending t part k e came' follows' q s
   taken_on came' follows' h events records = record {
     first = h.first;
     is_part = kept.is_part ∙ h.is_part;
@@ -60,23 +63,27 @@ module _ {L : Type 0} (pending : L → FinMap key_cmp (Event (List ℕ))) (t : T
     events = events;
     placed = h.placed;
     records = records;
+    few_records = let l = h.few_records in omega (arith, l, kept.steps);
   }
 
   -- its devices change
   pub taken_same : {came follows : Option (ℕ × List ℕ)} → Taken pending t part k e came follows p s → pending q.timeline.events ≡ pending p.timeline.events
-      → q.records.list ≡ p.records.list → Taken pending t part k e came follows q s
-  taken_same {came} {follows} h events records = taken_on came follows h (events ∙ h.events) (records ∙ h.records)
+      → q.records ≡ p.records → Taken pending t part k e came follows q s
+  taken_same {came} {follows} h events records =
+      taken_on came follows h (events ∙ h.events) (subst (λ (r : RecordsValue). RecordsRepresent t r (s.records ++ in_record k.time came)) (sym records) h.records)
 
   -- a packet came with it
   pub taken_came : (came : Option (ℕ × List ℕ)) → Taken pending t part k e None None p s → pending q.timeline.events ≡ pending p.timeline.events
-      → q.records.list ≡ p.records.list ++ in_record k.time came → Taken pending t part k e came None q s
-  taken_came came h events records = taken_on came None h (events ∙ h.events) (records ∙ ap (λ l. l ++ in_record k.time came) (h.records ∙ append-nil s.records))
+      → ((trace : List (Record (List ℕ))) → RecordsRepresent t p.records trace → RecordsRepresent t q.records (trace ++ in_record k.time came)) → Taken pending t part k e came None q s
+  taken_came came h events records =
+      taken_on came None h (events ∙ h.events) (records s.records (subst (RecordsRepresent t p.records) (append-nil s.records) h.records))
 
   -- another follows at its source
   pub taken_follows : (follows : Option (ℕ × List ℕ)) → Taken pending t part k e None None p s
       → pending q.timeline.events ≡ schedule everywhere (next_events k.place k.number follows) (pending p.timeline.events)
-      → q.records.list ≡ p.records.list → Taken pending t part k e None follows q s
-  taken_follows follows h events records = taken_on None follows h (events ∙ ap (schedule everywhere (next_events k.place k.number follows)) h.events) (records ∙ h.records)
+      → q.records ≡ p.records → Taken pending t part k e None follows q s
+  taken_follows follows h events records = taken_on None follows h (events ∙ ap (schedule everywhere (next_events k.place k.number follows)) h.events)
+      (subst (λ (r : RecordsValue). RecordsRepresent t r (s.records ++ [])) (sym records) h.records)
 
 module _ {L : Type 0} (pending : L → FinMap key_cmp (Event (List ℕ))) (t : TopologyValue) (part : Option ℕ) (k : Key) (e : Event (List ℕ)) (p : PartValue L) (s : State (List ℕ) NodeStateValue) where
   -- its key is free
@@ -116,7 +123,8 @@ module _ {L : Type 0} (pending : L → FinMap key_cmp (Event (List ℕ))) (room_
   -- a packet arrived, and its node reacted
   pub arrives_on : (i : ℕ) → IsReady pending room_of t part (key_of time (Arrive i) number) (Delivery x) p s
       → Reacts t part s.node s.port ((net_of t).owner i) (Arrival i) x q.devices sent
-      → pending q.timeline.events ≡ pending p.timeline.events → q.records.list ≡ p.records.list ++ in_record time (Some (i, x))
+      → pending q.timeline.events ≡ pending p.timeline.events
+      → ((trace : List (Record (List ℕ))) → RecordsRepresent t p.records trace → RecordsRepresent t q.records (trace ++ in_record time (Some (i, x))))
       → HasReacted pending t part (key_of time (Arrive i) number) (Delivery x) (Some (i, x)) None sent
       (set_at s.node ((net_of t).owner i) (reaction t ((net_of t).owner i) (s.node ((net_of t).owner i)) (Arrival i) x).0) q s
   arrives_on i ready r events records = record {
@@ -130,7 +138,7 @@ module _ {L : Type 0} (pending : L → FinMap key_cmp (Event (List ℕ))) (room_
       → Reacts t part s.node s.port ((net_of t).source_node j) (Source j) x q.devices sent
       → follows ≡ source_at t j (suc number)
       → pending q.timeline.events ≡ schedule everywhere (next_events (Fire j) number follows) (pending p.timeline.events)
-      → q.records.list ≡ p.records.list
+      → q.records ≡ p.records
       → HasReacted pending t part (key_of time (Fire j) number) (Delivery x) None follows sent
       (set_at s.node ((net_of t).source_node j) (reaction t ((net_of t).source_node j) (s.node ((net_of t).source_node j)) (Source j) x).0) q s
   fires_on j follows ready r next events records = record {
@@ -142,7 +150,7 @@ module _ {L : Type 0} (pending : L → FinMap key_cmp (Event (List ℕ))) (room_
 -- and what it sends was offered to a port
 pub sends_on : {L : Type 0} (pending : L → FinMap key_cmp (Event (List ℕ))) (t : TopologyValue) (part : Option ℕ) (k : Key) (e : Event (List ℕ)) (came follows sent : Option (ℕ × List ℕ))
     (start : Option (ℕ × Start)) (node : ℕ → NodeStateValue) (p q : PartValue L) → Kept p q → (s : State (List ℕ) NodeStateValue) → HasReacted pending t part k e came follows sent node p s
-    → Sends t part node s.port k.time sent q.devices start → pending q.timeline.events ≡ pending p.timeline.events → q.records.list ≡ p.records.list
+    → Sends t part node s.port k.time sent q.devices start → pending q.timeline.events ≡ pending p.timeline.events → q.records ≡ p.records
     → IsUnderWay pending t part k e (record { came = came; transmission = start; follows = follows }) q s
 sends_on pending t part k e came follows sent start node p q kept s h o events records = record {
   taken = taken_same pending t part k e p q kept s h.taken events records;
@@ -183,8 +191,9 @@ module _ {L : Type 0} (pending : L → FinMap key_cmp (Event (List ℕ))) (room_
   performed_err (Ok u) h = tt
   performed_err (Err x) h = λ part s z. h.0 part s (ready part s z)
 
--- how many events were done
+-- how many events were done, and that no record was handed out
 pub performed_one : {L : Type 0} (pending : L → FinMap key_cmp (Event (List ℕ))) (room_of : L → ℕ) (t : TopologyValue) (k : Key) (e : Event (List ℕ)) (q new : PartValue L)
-    (r : Result Unit AllocError) → Performed pending room_of t k e q new r → OnOk r (new.steps ≡ q.steps + 1) × OnErr r (new.steps ≡ q.steps)
-performed_one pending room_of t k e q new (Ok u) h = (h.1, tt)
-performed_one pending room_of t k e q new (Err x) h = (tt, h.1)
+    (r : Result Unit AllocError) → Performed pending room_of t k e q new r
+    → OnOk r (new.steps ≡ q.steps + 1) × OnErr r (new.steps ≡ q.steps) × (new.records.handed ≡ q.records.handed)
+performed_one pending room_of t k e q new (Ok u) h = (h.1, tt, h.2)
+performed_one pending room_of t k e q new (Err x) h = (tt, h.1, h.2)

@@ -1,5 +1,5 @@
 -- What contracts see of a part of a simulation, and what it represents.
-use Rattle.std.specs.Prelude.{◌≡◌, ℕ, ◌+◌, ◌^◌, ◌<◌, ◌≤◌, ◌++◌, Bool, true, false, ltb, ◌&&◌, if◌then◌else◌, slice_index, List, [], length, Option, Some, None, Result, Ok, Err}
+use Rattle.std.specs.Prelude.{◌≡◌, ℕ, ◌+◌, ◌*◌, ◌^◌, ◌<◌, ◌≤◌, ◌++◌, Bool, true, false, ltb, ◌&&◌, if◌then◌else◌, slice_index, List, [], length, Option, Some, None, Result, Ok, Err}
 use Rattle.std.specs.Option.{option_map}
 use Rattle.std.specs.FinMap.{FinMap, get, insert, remove}
 use Rattle.std.specs.declared.alloc.AllocError.{AllocError}
@@ -12,6 +12,7 @@ use Rattle.nm_topology.specs.Topology.{receiving_iface}
 use Rattle.nm_topology.specs.TopologyValue.{TopologyValue}
 use Rattle.nm_model.specs.EventList.{least, schedule}
 use Rattle.nm_model.specs.Orderly.{IsOrderly}
+use Rattle.nm_model.specs.Port.{Busy}
 use Rattle.nm_model.specs.Run.{State, in_record, next_events, pends_before, step}
 use Rattle.nm_forward.specs.declared.counter.Counter.{Counter}
 use Rattle.nm_forward.specs.Counter.{counter_number}
@@ -21,7 +22,7 @@ use Rattle.nm_base.specs.Count.{saturated}
 use Rattle.nm_sim.specs.Network.{here_of, is_iface_here, is_node_here, net_of}
 use Rattle.nm_sim.specs.Devices.{DevicesValue, DevicesRepresent}
 use Rattle.nm_sim.specs.Outgoing.{HaveSpare, OutgoingRepresents, OutgoingValue}
-use Rattle.nm_sim.specs.Records.{RecordsValue}
+use Rattle.nm_sim.specs.Records.{RecordsRepresent, RecordsValue}
 use Rattle.nm_sim.specs.Effects.{Does, Done, IsPlaceIn, Sends}
 use Rattle.nm_sim.specs.Tables.{AllSome}
 use Rattle.nm_base.specs.declared.limits.TheConstants.{MAX_TIME}
@@ -45,7 +46,8 @@ pub record Represents {L : Type 0} (pending : L → FinMap key_cmp (Event (List 
   pub few : (c : ℕ) → length (s.sent c) ≤ p.steps
   pub events : pending p.timeline.events ≡ s.pending
   pub placed : (q : Key) (y : Event (List ℕ)) → get s.pending q ≡ Some y → IsPlaceIn t q.place
-  pub records : p.records.list ≡ s.records
+  pub records : RecordsRepresent t p.records s.records
+  pub few_records : length s.records ≤ 2 * p.steps
 
 -- An event was taken out of a part that represented this state. If a packet came with it, the trace has it, and if another follows at its source,
 -- that is pending.
@@ -59,7 +61,8 @@ pub record Taken {L : Type 0} (pending : L → FinMap key_cmp (Event (List ℕ))
   pub few : (c : ℕ) → length (s.sent c) ≤ p.steps
   pub events : pending p.timeline.events ≡ schedule everywhere (next_events k.place k.number follows) (remove s.pending k)
   pub placed : (q : Key) (y : Event (List ℕ)) → get s.pending q ≡ Some y → IsPlaceIn t q.place
-  pub records : p.records.list ≡ s.records ++ in_record k.time came
+  pub records : RecordsRepresent t p.records (s.records ++ in_record k.time came)
+  pub few_records : length s.records ≤ 2 * p.steps
 
 -- there is memory for all that an event may do
 pub record HasMemory {L : Type 0} (room_of : L → ℕ) (p : PartValue L) : Type 0 where
@@ -95,9 +98,9 @@ pub record IsUnderWay {L : Type 0} (pending : L → FinMap key_cmp (Event (List 
 abbrev pub Performed : {L : Type 0} → (L → FinMap key_cmp (Event (List ℕ))) → (L → ℕ) → TopologyValue → Key → Event (List ℕ)
     → PartValue L → PartValue L → Result Unit AllocError → Type 0
 Performed pending room t k e old new (Ok u) = ((part : Option ℕ) (s : State (List ℕ) NodeStateValue) → IsReady pending room t part k e old s
-    → Represents pending t part new (step (net_of t) (here_of t part) s)) × (new.steps ≡ old.steps + 1)
+    → Represents pending t part new (step (net_of t) (here_of t part) s)) × (new.steps ≡ old.steps + 1) × (new.records.handed ≡ old.records.handed)
 Performed pending room t k e old new (Err x) = ((part : Option ℕ) (s : State (List ℕ) NodeStateValue) → IsReady pending room t part k e old s
-    → Represents pending t part new s) × (new.steps ≡ old.steps)
+    → Represents pending t part new s) × (new.steps ≡ old.steps) × (new.records.handed ≡ old.records.handed)
 
 -- what a step answers, and what the part represents after it
 abbrev pub Stepped : {L : Type 0} → (L → FinMap key_cmp (Event (List ℕ))) → TopologyValue → Option ℕ → ℕ → State (List ℕ) NodeStateValue
@@ -142,3 +145,13 @@ drops_at t part s i = if ltb i (length t.ifaces) && is_iface_here t part i then 
 abbrev pub messages_out : TopologyValue → Option ℕ → State (List ℕ) NodeStateValue → ℕ → List (ℕ × List ℕ)
 messages_out t None s c = []
 messages_out t (Some p) s c = if ltb c (length t.receivers) then s.sent (receiving_iface t c) else []
+
+-- when the interface that sends on a channel completes its transmission; 0 where it is idle, or not here
+abbrev pub completes_at : Option (Busy (List ℕ)) → ℕ
+completes_at None = 0
+completes_at (Some b) = b.completes
+
+abbrev pub busy_at : TopologyValue → Option ℕ → State (List ℕ) NodeStateValue → ℕ → ℕ
+busy_at t part s c =
+    let i = (net_of t).peer (receiving_iface t c) in
+    if ltb i (length t.ifaces) && is_iface_here t part i then completes_at (s.port i).busy else 0

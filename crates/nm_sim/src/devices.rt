@@ -20,6 +20,7 @@ ghost use Rattle.nm_sim.specs.Devices.{DevicesRepresentSome};
 ghost use Rattle.nm_traffic.specs.Source.{source_at, source_of};
 ghost use Rattle.nm_forward.specs.Counter.{counter_number};
 ghost use Rattle.std.specs.Option.{option_and_then, option_map};
+ghost use Rattle.nm_sim.specs.Part.{completes_at};
 ghost use Rattle.nm_sim.specs.Effects.{Does, IsBusy, Reacts, Sends};
 ghost use Rattle.nm_sim.specs.Effects.{transmission_at as transmission_at_iface};
 
@@ -274,6 +275,18 @@ impl Devices {
         match self.ports.get(iface.index()) {
             Some(Some(port)) => Some(port.dropped()),
             Some(None) | None => None,
+        }
+    }
+
+    /// When the transmission under way at the interface completes; 0 where it is idle, or not here.
+    pub fn busy(&self, iface: IfaceNo) -> Time
+        ensures { result ≡ completes_at
+            (option_and_then (option_and_then (λ w. w.busy)) (slice_get self.now.ports iface)) }
+    {
+        let idle = Time::from_nanoseconds(0);
+        match self.ports.get(iface.index()) {
+            Some(Some(port)) => port.busy_until().unwrap_or(idle),
+            Some(None) | None => idle,
         }
     }
 

@@ -18,13 +18,14 @@ ghost use Rattle.nm_forward.specs.State.{NodeStateValue};
 ghost use Rattle.nm_forward.specs.Reaction.{FitsOrigin, sent_of};
 ghost use Rattle.nm_sim.specs.Network.{here_of, net_of};
 ghost use Rattle.nm_sim.specs.Outgoing.{HaveSpare};
-ghost use Rattle.nm_sim.specs.Part.{Advanced, HasMemory, HasReacted, IsReady, IsUnderWay, Performed, Represents, Stepped, count_at, drops_at, events_counted, events_done, messages_out, with_arrival};
+ghost use Rattle.nm_sim.specs.Part.{Advanced, HasMemory, HasReacted, IsReady, IsUnderWay, Performed, Represents, Stepped, busy_at, count_at, drops_at, events_counted, events_done, messages_out, with_arrival};
+ghost use Rattle.nm_sim.specs.Records.{totals_at};
 ghost use Rattle.nm_topology.specs.Topology.{receiving_iface};
 ghost use Rattle.nm_topology.specs.TopologyValue.{TopologyValue};
 ghost use Rattle.std.specs.FinMap.{empty, get};
 ghost use Rattle.nm_sim.specs.Devices.{DevicesRepresent};
 ghost use Rattle.nm_sim.specs.Tables.{AllSome, IsMember};
-ghost use Rattle.std.specs.Prelude.{slice_get};
+ghost use Rattle.std.specs.Prelude.{drop, if◌then◌else◌, is_some, slice_get};
 
 use crate::devices::Devices;
 use crate::network::{channels_are_those_of_the_network, every_topology_is_a_network};
@@ -115,18 +116,20 @@ impl<L: EventList> Part<L> {
         ensures represents { IfOk result (λ p. Represents L.pending topology.now part p
             (start (net_of topology.now) (here_of topology.now part) [])) }
         ensures steps { IfOk result (λ p. p.steps ≡ 0) }
+        ensures handed { IfOk result (λ p. p.records.handed ≡ 0) }
     {
         every_topology_is_a_network(topology); // law: `net_of` is a network of the model
         every_state_is_orderly::<Packet, NodeState>(); // law: the first state is orderly
         let devices = Devices::new(alloc, topology, &part)?;
         let timeline = first_timeline(alloc, topology, &part, &devices)?;
         let outgoing = Outgoing::new(alloc, topology, &part)?;
+        let records = Records::new(alloc, topology.ifaces().len())?;
         Ok(Part {
             part,
             devices,
             timeline,
             outgoing,
-            records: Records::new(alloc),
+            records,
             steps: 0,
         })
     }
@@ -143,6 +146,7 @@ impl<L: EventList> Part<L> {
         ensures room { OnOk result (count ≤ L.room self.new.timeline.events) }
         ensures keeps { L.room self.old.timeline.events ≤ L.room self.new.timeline.events }
         ensures steps { self.new.steps ≡ self.old.steps }
+        ensures handed { self.new.records.handed ≡ self.old.records.handed }
     {
         self.timeline.reserve(count)
     }
@@ -168,6 +172,7 @@ impl<L: EventList> Part<L> {
             (with_arrival (receiving_iface topology.now channel) number time packet s) }
         ensures room { L.room self.old.timeline.events ≤ L.room self.new.timeline.events + 1 }
         ensures steps { self.new.steps ≡ self.old.steps }
+        ensures handed { self.new.records.handed ≡ self.old.records.handed }
     {
         every_state_is_orderly::<Packet, NodeState>(); // law: a state that is told more is orderly
         channels_are_those_of_the_network(topology); // law: what comes in is a channel
@@ -200,6 +205,7 @@ impl<L: EventList> Part<L> {
             → Represents L.pending topology.now part self.old s
             → Stepped L.pending topology.now part before s self.old self.new result }
         ensures steps { self.new.steps ≡ self.old.steps + events_done result }
+        ensures handed { self.new.records.handed ≡ self.old.records.handed }
     {
         let Some(key) = self.timeline.least() else {
             return Ok(None);
@@ -225,6 +231,7 @@ impl<L: EventList> Part<L> {
             → Represents L.pending topology.now part self.old s
             → Advanced L.pending topology.now part before s self.old self.new result }
         ensures steps { self.new.steps ≡ self.old.steps + events_counted result }
+        ensures handed { self.new.records.handed ≡ self.old.records.handed }
     {
         if !self.timeline.is_due(before) {
             return Ok(false);
@@ -243,6 +250,7 @@ impl<L: EventList> Part<L> {
         ensures same { (t : TopologyValue) (part : Option ℕ) (s : State (List ℕ) NodeStateValue)
             → Represents L.pending t part self.old s → Represents L.pending t part self.new s }
         ensures steps { self.new.steps ≡ self.old.steps }
+        ensures handed { self.new.records.handed ≡ self.old.records.handed }
         ensures memory { OnOk result (HasMemory L.room self.new) }
     {
         self.devices.reserve()?;
@@ -287,24 +295,82 @@ impl<L: EventList> Part<L> {
         self.outgoing.messages(channel)
     }
 
-    /// The trace so far, in the order of events.
+    /// When the transmission of the interface that sends on a channel completes; 0 where it is idle,
+    /// or not here. It takes no memory.
+    pub fn busy(&self, topology: &Topology, channel: ChanNo) -> Time
+        ensures { (part : Option ℕ) (s : State (List ℕ) NodeStateValue)
+            → Represents L.pending topology.now part self.now s
+            → result ≡ busy_at topology.now part s channel }
+    {
+        let receiver = topology.receiver(channel);
+        if receiver.index() >= topology.ifaces().len() {
+            return Time::from_nanoseconds(0);
+        }
+        let sender = topology.iface(receiver).far().peer;
+        self.devices.busy(sender)
+    }
+
+    /// The trace so far, in the order of events, without the records that were handed out.
     pub fn trace(&self) -> &[Record]
         ensures { (t : TopologyValue) (part : Option ℕ) (s : State (List ℕ) NodeStateValue)
             → Represents L.pending t part self.now s
-            → result.now ≡ s.records }
+            → result.now ≡ drop self.now.records.handed s.records }
     {
-        self.records.list()
+        self.records.kept()
     }
 
-    /// The trace.
+    /// The trace, without the records that were handed out.
     pub fn into_trace(self) -> Vec<Record>
     where
         L: Drop,
         ensures { (t : TopologyValue) (part : Option ℕ) (s : State (List ℕ) NodeStateValue)
             → Represents L.pending t part self s
-            → result.items ≡ s.records }
+            → result.items ≡ drop self.records.handed s.records }
     {
-        self.records.into_list()
+        self.records.into_kept()
+    }
+
+    /// Takes the first record of the trace out that is kept, if there is one. It takes no memory, and
+    /// gives that of the record to the caller.
+    pub fn hand_out(&mut self) -> Option<Record>
+        requires { (t : TopologyValue) × (part : Option ℕ) × (s : State (List ℕ) NodeStateValue)
+            × Represents L.pending t part self.old s }
+        ensures represents { (t : TopologyValue) (part : Option ℕ) (s : State (List ℕ) NodeStateValue)
+            → Represents L.pending t part self.old s
+            → Represents L.pending t part self.new s
+            × (result ≡ slice_get s.records self.old.records.handed) }
+        ensures handed { self.new.records.handed
+            ≡ self.old.records.handed + (if is_some result then 1 else 0) }
+        ensures timeline { self.new.timeline ≡ self.old.timeline }
+        ensures steps { self.new.steps ≡ self.old.steps }
+    {
+        self.records.hand_out()
+    }
+
+    /// How many records were handed out.
+    pub fn handed(&self) -> u64
+        ensures { result ≡ self.now.records.handed }
+    {
+        self.records.handed()
+    }
+
+    /// How many records the trace has, with those that were handed out.
+    pub fn records(&self) -> u64
+        requires { (t : TopologyValue) × (part : Option ℕ) × (s : State (List ℕ) NodeStateValue)
+            × Represents L.pending t part self.now s }
+        ensures { (t : TopologyValue) (part : Option ℕ) (s : State (List ℕ) NodeStateValue)
+            → Represents L.pending t part self.now s → result ≡ length s.records }
+    {
+        self.records.count()
+    }
+
+    /// How many records an interface has, with those that were handed out, and the octets of their
+    /// trace file with its header. Both stop at the greatest `u64`.
+    pub fn totals(&self, iface: IfaceNo) -> (u64, u64)
+        ensures { (t : TopologyValue) (part : Option ℕ) (s : State (List ℕ) NodeStateValue)
+            → Represents L.pending t part self.now s → result ≡ totals_at t s.records iface }
+    {
+        self.records.totals(iface)
     }
 
     /// Does the event of the least key, for which there is memory. An `Err` leaves the event where
@@ -326,6 +392,7 @@ impl<L: EventList> Part<L> {
             → Represents L.pending topology.now part self.new s) }
         ensures one { OnOk result (self.new.steps ≡ self.old.steps + 1) }
         ensures none { OnErr result (self.new.steps ≡ self.old.steps) }
+        ensures handed { self.new.records.handed ≡ self.old.records.handed }
     {
         accepted_topologies_are_in_order(topology); // law: `stop` is within its limit
         let Some((key, event)) = self.timeline.take_least() else {
@@ -484,6 +551,7 @@ impl<L: EventList> Part<L> {
             → Represents L.pending topology.now part self.new
             (step (net_of topology.now) (here_of topology.now part) s) }
         ensures steps { self.new.steps ≡ self.old.steps + 1 }
+        ensures handed { self.new.records.handed ≡ self.old.records.handed }
     {
         let start = self.devices.offer(topology, time, reaction);
         self.finish(topology, time, start);
@@ -509,6 +577,7 @@ impl<L: EventList> Part<L> {
             → Represents L.pending topology.now part self.new
             (step (net_of topology.now) (here_of topology.now part) s) }
         ensures steps { self.new.steps ≡ self.old.steps + 1 }
+        ensures handed { self.new.records.handed ≡ self.old.records.handed }
     {
         every_topology_is_a_network(topology); // law: `net_of` is a network of the model
         accepted_topologies_are_in_order(topology); // law: a link and its two ends agree

@@ -1,38 +1,81 @@
 //! The records of a trace.
 
-ghost use Rattle.std.specs.Prelude.{◌≡◌, ◌≤◌, ◌+◌, ◌++◌, [], Some, OnOk};
+ghost use Rattle.std.specs.Prelude.{◌≡◌, ℕ, ◌≤◌, ◌<◌, ◌+◌, ◌^◌, ◌==◌, ◌++◌, ◌∷◌, List, [], Some, IfOk, drop, OnOk, length, replicate, slice_get, is_some, if◌then◌else◌};
+ghost use Rattle.std.specs.Option.{option_map};
+ghost use Rattle.nm_base.specs.declared.record.Record.{Record as TraceRecord};
 ghost use Rattle.nm_model.specs.Run.{in_record, out_record};
+ghost use Rattle.nm_pcap.specs.declared.format.TheConstants.{FILE_HEADER_OCTETS};
+ghost use Rattle.nm_topology.specs.TopologyValue.{TopologyValue};
+ghost use Rattle.nm_sim.specs.Records.{RecordsRepresent, total_after, totals_at};
 
+use bytes::Bytes;
 use nm_base::{Dir, IfaceNo, Packet, Record, Time};
+use nm_pcap::format::{FILE_HEADER_OCTETS, RECORD_HEADER_OCTETS};
 use std::alloc::{AllocError, Global};
 use std::marker::Model;
 
-/// The records of a trace, in the order of events.
+/// The records of a trace, in the order of events. Those that were handed out, from the first on,
+/// are not kept.
 #[derive(Drop)]
 pub struct Records {
     list: Vec<Record>,
+    /// How many at the front of the list were handed out: blanks stand there.
+    blanks: usize,
+    /// How many were handed out in all.
+    handed: u64,
+    /// How many records each interface has, and the octets of their trace file.
+    totals: Vec<(u64, u64)>,
 }
 
 impl Model for Records {
-    ghost use Rattle.std.specs.Prelude.{◌-◌, vec_len, vec_capacity};
+    ghost use Rattle.std.specs.Prelude.{◌-◌, ◌≤◌, drop, vec_len, vec_capacity};
     ghost use Rattle.nm_sim.specs.Records.{RecordsValue};
 
     ghost Value = { RecordsValue };
 
     ghost view = { λ r. record {
-      list = r.list.items;
+      kept = drop r.blanks r.list.items;
+      handed = r.handed;
+      totals = r.totals.items;
       spare = vec_capacity r.list - vec_len r.list;
     } };
+
+    ghost invariant = { λ r. r.blanks ≤ vec_len r.list };
+}
+
+/// What stands for a record that was handed out. It takes no memory.
+fn blank() -> Record {
+    let octets = Bytes::from_static(b"\0");
+    Record {
+        time: Time::from_nanoseconds(0),
+        iface: IfaceNo::new(0),
+        dir: Dir::In,
+        packet: Packet::new(octets).unwrap(),
+    }
+}
+
+/// The totals after one more record, of a packet of so many octets.
+fn after_one_more(total: (u64, u64), octets: usize) -> (u64, u64)
+    requires { octets ≤ 2 ^ 16 }
+    ensures { result ≡ total_after total octets }
+{
+    let more = (RECORD_HEADER_OCTETS + octets) as u64;
+    (total.0.saturating_add(1), total.1.saturating_add(more))
 }
 
 impl Records {
-    /// No records. It takes no memory.
-    pub fn new(alloc: Global) -> Self
-        ensures { result.list ≡ [] }
+    /// No records, of so many interfaces.
+    pub fn new(alloc: Global, ifaces: usize) -> Result<Self, AllocError>
+        ensures kept { IfOk result (λ r. r.kept ≡ []) }
+        ensures handed { IfOk result (λ r. r.handed ≡ 0) }
+        ensures totals { IfOk result (λ r. r.totals ≡ replicate ifaces (0, FILE_HEADER_OCTETS)) }
     {
-        Records {
+        Ok(Records {
             list: Vec::new(alloc),
-        }
+            blanks: 0,
+            handed: 0,
+            totals: vec![in alloc; (0, FILE_HEADER_OCTETS as u64); ifaces]?,
+        })
     }
 
     /// Makes room for what one event adds at most: two records.
@@ -41,59 +84,156 @@ impl Records {
     ///
     /// `AllocError` where the list could not grow. Nothing else changed then.
     pub fn reserve(&mut self) -> Result<(), AllocError>
-        ensures list { self.new.list ≡ self.old.list }
+        ensures same { self.new ≡ record self.old { spare = self.new.spare } }
         ensures spare { OnOk result (2 ≤ self.new.spare) }
     {
         self.list.reserve(2)
     }
 
+    /// One more record.
+    fn add(&mut self, record: Record)
+        requires { 1 ≤ self.old.spare }
+        ensures kept { self.new.kept ≡ self.old.kept ++ «record» ∷ [] }
+        ensures handed { self.new.handed ≡ self.old.handed }
+        ensures count { length self.new.totals ≡ length self.old.totals }
+        ensures totals { (i : ℕ) → slice_get self.new.totals i
+            ≡ option_map (λ a. if i == «record».iface then total_after a (length «record».packet) else a)
+            (slice_get self.old.totals i) }
+        ensures spare { self.old.spare ≤ self.new.spare + 1 }
+    {
+        let place = record.iface.index();
+        if place < self.totals.len() {
+            let octets = record.packet.octet_count();
+            self.totals[place] = after_one_more(self.totals[place], octets);
+        }
+        self.list.push(record).unwrap();
+    }
+
     /// A packet arrived.
     pub fn record_arrival(&mut self, time: Time, iface: IfaceNo, packet: Packet)
         requires { 1 ≤ self.old.spare }
-        ensures list { self.new.list ≡ self.old.list ++ in_record time (Some (iface, packet)) }
+        ensures represents { (t : TopologyValue) (trace : List (TraceRecord (List ℕ)))
+            → RecordsRepresent t self.old trace
+            → RecordsRepresent t self.new (trace ++ in_record time (Some (iface, packet))) }
+        ensures handed { self.new.handed ≡ self.old.handed }
         ensures spare { self.old.spare ≤ self.new.spare + 1 }
     {
         let dir = Dir::In;
-        self.list
-            .push(Record {
-                time,
-                iface,
-                dir,
-                packet,
-            })
-            .unwrap();
+        self.add(Record {
+            time,
+            iface,
+            dir,
+            packet,
+        });
     }
 
     /// A transmission started, if one did.
     pub fn record_transmission(&mut self, time: Time, transmitted: Option<(IfaceNo, Packet)>)
         requires { 1 ≤ self.old.spare }
-        ensures { self.new.list ≡ self.old.list ++ out_record time transmitted }
+        ensures represents { (t : TopologyValue) (trace : List (TraceRecord (List ℕ)))
+            → RecordsRepresent t self.old trace
+            → RecordsRepresent t self.new (trace ++ out_record time transmitted) }
+        ensures handed { self.new.handed ≡ self.old.handed }
     {
         if let Some(sent) = transmitted {
             let (iface, packet) = sent;
             let dir = Dir::Out;
-            self.list
-                .push(Record {
-                    time,
-                    iface,
-                    dir,
-                    packet,
-                })
-                .unwrap();
+            self.add(Record {
+                time,
+                iface,
+                dir,
+                packet,
+            });
         }
     }
 
-    /// The records.
-    pub fn list(&self) -> &[Record]
-        ensures { result.now ≡ self.now.list }
+    /// Takes the first record out that is kept, if there is one. It takes no memory.
+    pub fn hand_out(&mut self) -> Option<Record>
+        requires { self.old.handed + length self.old.kept < 2 ^ 64 }
+        ensures first { result ≡ slice_get self.old.kept 0 }
+        ensures represents { (t : TopologyValue) (trace : List (TraceRecord (List ℕ)))
+            → RecordsRepresent t self.old trace → RecordsRepresent t self.new trace }
+        ensures handed { self.new.handed ≡ self.old.handed + (if is_some result then 1 else 0) }
+        ensures spare { self.old.spare ≤ self.new.spare }
     {
-        &self.list
+        if self.blanks == self.list.len() {
+            return None;
+        }
+        let first = self.take_first();
+        self.give_back();
+        Some(first)
     }
 
-    /// The records.
-    pub fn into_list(self) -> Vec<Record>
-        ensures { result.items ≡ self.list }
+    /// Takes the first record out. A blank stands in its place.
+    fn take_first(&mut self) -> Record
+        requires there { 1 ≤ length self.old.kept }
+        requires few { self.old.handed + length self.old.kept < 2 ^ 64 }
+        ensures first { slice_get self.old.kept 0 ≡ Some result }
+        ensures kept { self.new.kept ≡ drop 1 self.old.kept }
+        ensures handed { self.new.handed ≡ self.old.handed + 1 }
+        ensures totals { self.new.totals ≡ self.old.totals }
+        ensures spare { self.new.spare ≡ self.old.spare }
     {
+        let first = std::mem::replace(&mut self.list[self.blanks], blank());
+        self.blanks += 1;
+        self.handed += 1;
+        first
+    }
+
+    /// Gives the places of blanks back to the list where they are half of it at least, so that a
+    /// record is moved once on the average.
+    fn give_back(&mut self)
+        ensures same { self.new ≡ record self.old { spare = self.new.spare } }
+        ensures spare { self.old.spare ≤ self.new.spare }
+    {
+        let count = self.list.len() - self.blanks;
+        if self.blanks >= count {
+            self.list.rotate_left(self.blanks);
+            self.list.truncate(count);
+            self.blanks = 0;
+        }
+    }
+
+    /// How many records were handed out.
+    pub fn handed(&self) -> u64
+        ensures { result ≡ self.now.handed }
+    {
+        self.handed
+    }
+
+    /// How many records there were in all.
+    pub fn count(&self) -> u64
+        requires { self.now.handed + length self.now.kept < 2 ^ 64 }
+        ensures { result ≡ self.now.handed + length self.now.kept }
+    {
+        self.handed + (self.list.len() - self.blanks) as u64
+    }
+
+    /// How many records an interface has, and the octets of their trace file.
+    pub fn totals(&self, iface: IfaceNo) -> (u64, u64)
+        ensures { (t : TopologyValue) (trace : List (TraceRecord (List ℕ)))
+            → RecordsRepresent t self.now trace → result ≡ totals_at t trace iface }
+    {
+        match self.totals.get(iface.index()) {
+            Some(total) => *total,
+            None => (0, FILE_HEADER_OCTETS as u64),
+        }
+    }
+
+    /// The records that are kept.
+    pub fn kept(&self) -> &[Record]
+        ensures { result.now ≡ self.now.kept }
+    {
+        &self.list[self.blanks..]
+    }
+
+    /// The records that are kept.
+    pub fn into_kept(mut self) -> Vec<Record>
+        ensures { result.items ≡ self.kept }
+    {
+        let count = self.list.len() - self.blanks;
+        self.list.rotate_left(self.blanks);
+        self.list.truncate(count);
         self.list
     }
 }

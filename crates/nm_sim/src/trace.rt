@@ -30,8 +30,10 @@ fn run(
 ) -> Result<(), AllocError>
     requires before { before ≤ topology.now.stop }
     requires represents { Represents pending_of topology.now None part.old (one_list (net_of topology.now) 0) }
-    ensures { OnOk result ((n : ℕ) × IsBefore (net_of topology.now) before n
+    requires whole { part.old.records.handed ≡ 0 }
+    ensures done { OnOk result ((n : ℕ) × IsBefore (net_of topology.now) before n
         × Represents pending_of topology.now None part.new (one_list (net_of topology.now) n)) }
+    ensures whole { OnOk result (part.new.records.handed ≡ 0) }
 {
     for done in 0..MAX_STEPS + 1 {
         if !part.advance(alloc, topology, before)? {

@@ -1,4 +1,4 @@
-use Rattle.std.proofs.Common.{◌≡◌, None, min, ap, ◌∙◌, subst}
+use Rattle.std.proofs.Common.{◌≡◌, None, drop, min, ap, ◌∙◌, subst}
 use Rattle.nm_model.specs.Before.{IsBefore}
 use Rattle.nm_model.specs.Run.{one_list}
 use Rattle.nm_sim.specs.Network.{net_of}
@@ -8,8 +8,8 @@ pub returns : goal.returns
 returns c =
     let t = c.args.topology.now in
     let before : c.earlier-before.result ≡ min c.args.until t.stop = c.earlier-before.ensures ∙ ap (min c.args.until) c.stop.ensures in
-    let ran = c.in_ok-run.ensures in (
+    let ran = c.in_ok-run.ensures.done in (
       ran.0,
       subst (λ b. IsBefore (net_of t) b ran.0) before ran.1,
-      c.into_trace.ensures t None (one_list (net_of t) ran.0) ran.2,
+      c.into_trace.ensures t None (one_list (net_of t) ran.0) ran.2 ∙ ap (λ n. drop n (one_list (net_of t) ran.0).records) c.in_ok-run.ensures.whole,
     )

@@ -8,4 +8,5 @@ use Rattle.nm_sim.proofs.trace.run.Given as goal
 abbrev pub invariant-loop-done : goal.invariant-loop-done
 invariant-loop-done l =
     Represents pending_of l.topology None l.part (one_list (net_of l.topology) l.done)
+    × (l.part.records.handed ≡ 0)
     × ((m : ℕ) → m < l.done → pends_before l.before (one_list (net_of l.topology) m) ≡ true)

@@ -1,4 +1,4 @@
-use Rattle.std.proofs.Common.{Some, None, refl, sym, ap, subst}
+use Rattle.std.proofs.Common.{Some, None, refl, sym, ap, ◌∙◌, subst}
 use Rattle.nm_base.specs.declared.event.Event.TheVariants.{Delivery}
 use Rattle.nm_base.specs.declared.key.Place.TheVariants.{Arrive}
 use Rattle.nm_base.specs.Key.{key_of}
@@ -33,6 +33,7 @@ returns-in_default g c = rw (← c.self.view_is) (
       (record { is_part = refl; sent = ap (λ l. l.sent) c.put.ensures.others; outgoing = refl; steps = refl }) s ready.taken ready.devices
       c.in_default.ensures.err refl c.put.ensures.events,
   refl,
+  refl,
 )
 
 pub send-requires-clause-reacted : goal.send-requires-clause-reacted
@@ -51,7 +52,7 @@ send-requires-clause-reacted g c =
       _,
       s,
       arrives_on g.L.EventList.pending g.L.EventList.room c.args.topology.now part c.args.time c.args.number p q (record { is_part = refl; sent = refl; outgoing = refl; steps = refl }) s c.args.packet (sent_of c.in-Ok.reaction) c.args.iface
-          ready (c.in-Ok.ensures.reacts part s.node s.port ready.devices) refl c.record_arrival.ensures.list,
+          ready (c.in-Ok.ensures.reacts part s.node s.port ready.devices) refl (c.record_arrival.ensures.represents c.args.topology.now),
     )
 
 pub returns : goal.returns
@@ -61,6 +62,7 @@ returns g c = rw (← c.self.view_is) (
       let q : PartValue g.row.L.Denot = record { part = c.self.inside.part; devices = c.react_to_arrival.new.self; timeline = c.self.inside.timeline; outgoing = c.self.inside.outgoing; records = c.record_arrival.new.self; steps = c.self.inside.steps } in
       c.send.ensures.represents part (Arrive c.args.iface) c.args.number (Delivery c.args.packet) (Some (c.args.iface, c.args.packet)) None _ s
       (arrives_on g.L.EventList.pending g.L.EventList.room c.args.topology.now part c.args.time c.args.number p q (record { is_part = refl; sent = refl; outgoing = refl; steps = refl }) s c.args.packet (sent_of c.in-Ok.reaction) c.args.iface
-      ready (c.in-Ok.ensures.reacts part s.node s.port ready.devices) refl c.record_arrival.ensures.list),
+      ready (c.in-Ok.ensures.reacts part s.node s.port ready.devices) refl (c.record_arrival.ensures.represents c.args.topology.now)),
   c.send.ensures.steps,
+  c.send.ensures.handed ∙ c.record_arrival.ensures.handed,
 )

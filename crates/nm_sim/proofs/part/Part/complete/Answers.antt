@@ -48,4 +48,5 @@ returns g c = rw (← c.self.view_is) (λ number. (
         does = c.complete-start.ensures.does part s.node s.port number ready.devices;
       }),
   c.finish.ensures.steps,
+  c.finish.ensures.handed,
 ))

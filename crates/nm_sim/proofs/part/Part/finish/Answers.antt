@@ -4,6 +4,7 @@ use Rattle.nm_model.specs.EventList.{schedule}
 use Rattle.nm_model.specs.Run.{out_record, sent_after, transmission_events}
 use Rattle.nm_sim.specs.Effects.{TransmitsAt, transmission_of}
 use Rattle.nm_sim.specs.Network.{here_of, net_of}
+use Rattle.nm_sim.specs.Records.{RecordsRepresent}
 use Rattle.nm_sim.specs.Outgoing.{OutgoingRepresents, channel_count}
 use Rattle.nm_sim.specs.Part.{IsUnderWay, PartValue}
 use Rattle.std.specs.Option.{IfSome}
@@ -58,4 +59,4 @@ returns-clause-represents g c = rw (← c.self.view_is) (λ part q n e came foll
     (subst (λ r. OutgoingRepresents t r after.outgoing (sent_after net c.args.time s.sent (transmission_of c.args.start))) way.taken.is_part
     (did.outgoing s.sent (subst (λ r. OutgoingRepresents t r c.self.inside.outgoing s.sent) (sym way.taken.is_part) way.taken.outgoing)))
     (did.events s.sent way.taken.numbered ∙ ap (λ r. schedule (here_of t r) (transmission_events net c.args.time s.sent (transmission_of c.args.start)) (g.L.EventList.pending c.self.inside.timeline.events)) way.taken.is_part)
-    (c.record_transmission.ensures ∙ ap (λ o. c.self.inside.records.list ++ out_record c.args.time o) did.transmitted) refl)
+    (λ trace h. subst (λ o. RecordsRepresent t after.records (trace ++ out_record c.args.time o)) did.transmitted (c.record_transmission.ensures.represents t trace h)) refl)

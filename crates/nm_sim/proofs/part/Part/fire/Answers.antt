@@ -38,6 +38,7 @@ returns-in_default g c = rw (← c.self.view_is) (
       (record { is_part = refl; sent = ap (λ l. l.sent) c.put.ensures.others; outgoing = refl; steps = refl }) s ready.taken ready.devices
       c.in_default.ensures.err refl c.put.ensures.events,
   refl,
+  refl,
 )
 
 pub schedule_next-requires-clause-fresh : goal.schedule_next-requires-clause-fresh
@@ -89,4 +90,5 @@ returns g c = rw (← c.self.view_is) (
       (fires_on g.L.EventList.pending g.L.EventList.room t part c.args.time c.args.number p q (record { is_part = refl; sent = ap (λ l. l.sent) c.schedule_next.ensures.others; outgoing = refl; steps = refl }) s c.args.packet (sent_of c.in-Ok.fired.reaction) c.args.source c.in-Ok.fired.follows
       ready (c.in-Ok.ensures.reacts part s.node s.port ready.devices) (c.in-Ok.ensures.follows ∙ ap (source_at t c.args.source) n) c.schedule_next.ensures.events refl),
   c.send.ensures.steps,
+  c.send.ensures.handed,
 )

@@ -49,3 +49,6 @@ returns-clause-one g c = rw (← c.self.view_is) (performed_one g.L.EventList.pe
 
 pub returns-clause-none : goal.returns-clause-none
 returns-clause-none g c = rw (← c.self.view_is) (performed_one g.L.EventList.pending g.L.EventList.room c.args.topology.now c.in-Some.key c.in-Some.event _ c.dispatch.new.self c.dispatch.result c.dispatch.ensures).1
+
+pub returns-clause-handed : goal.returns-clause-handed
+returns-clause-handed g c = rw (← c.self.view_is) (performed_one g.L.EventList.pending g.L.EventList.room c.args.topology.now c.in-Some.key c.in-Some.event _ c.dispatch.new.self c.dispatch.result c.dispatch.ensures).2

@@ -29,4 +29,4 @@ returns-clause-same g c = λ t part s h.
     let p : PartValue g.row.L.Denot = record { part = c.self.inside.part; devices = c.self.inside.devices; timeline = c.self.inside.timeline; outgoing = c.self.inside.outgoing; records = c.self.inside.records; steps = c.self.inside.steps } in
     let q : PartValue g.row.L.Denot = record { part = c.self.inside.part; devices = c.reserve.new.self; timeline = c.reserve-2.new.self; outgoing = c.reserve-3.new.self; records = c.reserve-4.new.self; steps = c.self.inside.steps } in
     let represents = subst (λ (p : PartValue g.row.L.Denot). Represents g.L.EventList.pending t part p s) (sym c.self.view_is) h in
-    represents_same g.L.EventList.pending t part p q s represents refl c.reserve.ensures.same c.reserve-2.ensures.events c.reserve-2.ensures.sent c.reserve-3.ensures.count c.reserve-3.ensures.messages c.reserve-4.ensures.list refl
+    represents_same g.L.EventList.pending t part p q s represents refl c.reserve.ensures.same c.reserve-2.ensures.events c.reserve-2.ensures.sent c.reserve-3.ensures.count c.reserve-3.ensures.messages c.reserve-4.ensures.same refl

@@ -1,8 +1,6 @@
-use Rattle.std.proofs.Common.{sym, subst, ◌∙◌}
-use Rattle.nm_sim.specs.Part.{PartValue, Represents}
+use Rattle.std.proofs.Common.{ap, ◌∙◌}
+use Rattle.nm_sim.specs.Part.{PartValue}
 use Rattle.nm_sim.proofs.part.Part.trace.Goals as goal
 
 pub returns : goal.returns
-returns g c = λ t part s h.
-    let represents = subst (λ (p : PartValue g.row.L.Denot). Represents g.L.EventList.pending t part p s) (sym c.self.view_is) h in
-    c.list.ensures ∙ represents.records
+returns g c = λ t part s h. c.kept.ensures ∙ ap (λ (p : PartValue g.row.L.Denot). p.records.kept) c.self.view_is ∙ h.records.kept

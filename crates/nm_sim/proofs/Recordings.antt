@@ -1,0 +1,107 @@
+-- The records of a trace: one more is added, or the first that is kept is handed out.
+use Rattle.std.proofs.Common.{◌≡◌, ℕ, zero, suc, ◌+◌, ◌≤◌, ◌==◌, Bool, true, false, cond, List, [], ◌∷◌, ◌++◌, drop, flat_map, length, replicate, Some, slice_get, refl, sym, ap, ◌∙◌, arith, ⊎_elim, length-append, option_map}
+use Rattle.std.proofs.lemmas.Bool.Decides.{nat_tests}
+use Rattle.std.proofs.lemmas.Grind.{flat_map-append}
+use Rattle.std.proofs.lemmas.List.{drop-append-le, length-drop, length-replicate}
+use Rattle.std.proofs.lemmas.Option.{slice_get_cases, slice_get_past}
+use Rattle.nm_base.specs.Count.{saturated}
+use Rattle.nm_base.specs.declared.record.Record.{Record}
+use Rattle.nm_topology.specs.TopologyValue.{TopologyValue}
+use Rattle.nm_model.specs.Lists.{keep_where}
+use Rattle.nm_model.proofs.ListLemmas.{kept-append, not_some, some_inj}
+use Rattle.nm_pcap.specs.declared.format.TheConstants.{FILE_HEADER_OCTETS, RECORD_HEADER_OCTETS}
+use Rattle.nm_pcap.specs.Format.{file_header, pcap, record_header, record_octets}
+use Rattle.nm_sim.specs.Records.{RecordsRepresent, RecordsValue, total_after, totals_of}
+
+-- the trace file of one more record
+file_more : (own : List (Record (List ℕ))) (r : Record (List ℕ)) → length (pcap (own ++ r ∷ [])) ≡ length (pcap own) + (RECORD_HEADER_OCTETS + length r.packet)
+file_more own r =
+    let a = length-append file_header (flat_map record_octets (own ++ r ∷ [])) in
+    let b = ap length (flat_map-append record_octets own (r ∷ [])) in
+    let c = length-append (flat_map record_octets own) (flat_map record_octets (r ∷ [])) in
+    let d = length-append file_header (flat_map record_octets own) in
+    let e = length-append (record_octets r) [] in
+    let f = length-append (record_header r.time (length r.packet)) r.packet in
+    let g : length (record_header r.time (length r.packet)) ≡ RECORD_HEADER_OCTETS = refl in
+    omega (arith, a, b, c, d, e, f, g)
+
+kept_here : (i : ℕ) (r : Record (List ℕ)) → (i == r.iface) ≡ true → keep_where (λ x. x.iface == i) (r ∷ []) ≡ r ∷ []
+kept_here i r h = let e : (r.iface == i) ≡ true = grind (arith, nat_tests, h) in ap (λ b. cond b (r ∷ []) []) e
+
+kept_there : (i : ℕ) (r : Record (List ℕ)) → (i == r.iface) ≡ false → keep_where (λ x. x.iface == i) (r ∷ []) ≡ []
+kept_there i r h = let e : (r.iface == i) ≡ false = grind (arith, nat_tests, h) in ap (λ b. cond b (r ∷ []) []) e
+
+totals_more : (i : ℕ) (trace : List (Record (List ℕ))) (r : Record (List ℕ)) → (b : Bool) → (i == r.iface) ≡ b
+    → totals_of i (trace ++ r ∷ []) ≡ cond b (total_after (totals_of i trace) (length r.packet)) (totals_of i trace)
+totals_more i trace r true h =
+    let own = keep_where (λ x. x.iface == i) trace in
+    let e : keep_where (λ x. x.iface == i) (trace ++ r ∷ []) ≡ own ++ r ∷ [] = kept-append (λ x. x.iface == i) trace (r ∷ []) ∙ ap (λ l. own ++ l) (kept_here i r h) in
+    let n = ap length e ∙ length-append own (r ∷ []) in
+    let m = ap (λ l. length (pcap l)) e ∙ file_more own r in
+    (λ k. (saturated (n k), saturated (m k))) ∙ (λ k. (twice (length own) 1 k, twice (length (pcap own)) (RECORD_HEADER_OCTETS + length r.packet) k))
+  where
+    twice : (n m : ℕ) → saturated (n + m) ≡ saturated (saturated n + m)
+    twice n m = omega arith
+totals_more i trace r false h = ap (λ l. (saturated (length l), saturated (length (pcap l))))
+    (kept-append (λ x. x.iface == i) trace (r ∷ []) ∙ ap (λ l. keep_where (λ x. x.iface == i) trace ++ l) (kept_there i r h) ∙ append_nil (keep_where (λ x. x.iface == i) trace))
+  where
+    append_nil : (l : List (Record (List ℕ))) → l ++ [] ≡ l
+    append_nil [] = refl
+    append_nil (x ∷ l) = ap (λ k. x ∷ k) (append_nil l)
+
+module _ (t : TopologyValue) (a b : RecordsValue) (trace : List (Record (List ℕ))) where
+  pub records_more : (r : Record (List ℕ)) → b.kept ≡ a.kept ++ r ∷ [] → b.handed ≡ a.handed → length b.totals ≡ length a.totals
+      → ((i : ℕ) → slice_get b.totals i ≡ option_map (λ x. cond (i == r.iface) (total_after x (length r.packet)) x) (slice_get a.totals i))
+      → RecordsRepresent t a trace → RecordsRepresent t b (trace ++ r ∷ [])
+  records_more r kept handed count totals h = record {
+    kept = kept ∙ ap (λ l. l ++ r ∷ []) h.kept ∙ sym (drop-append-le a.handed trace (r ∷ []) h.few) ∙ ap (λ n. drop n (trace ++ r ∷ [])) (sym handed);
+    few = let l = length-append trace (r ∷ []) in let f = h.few in omega (arith, handed, f, l);
+    count = count ∙ h.count;
+    totals = λ i y e. ⊎_elim
+        (λ g. some_inj y (cond (i == r.iface) (total_after g.0 (length r.packet)) g.0)
+        (sym e ∙ totals i ∙ ap (option_map (λ x. cond (i == r.iface) (total_after x (length r.packet)) x)) g.2)
+        ∙ ap (λ x. cond (i == r.iface) (total_after x (length r.packet)) x) (h.totals i g.0 g.2) ∙ sym (totals_more i trace r (i == r.iface) refl))
+        (λ g. absurd (not_some y (sym (totals i ∙ ap (option_map (λ x. cond (i == r.iface) (total_after x (length r.packet)) x)) (slice_get_past a.totals i g.0)) ∙ e)))
+        ((slice_get_cases a.totals i).1);
+  }
+
+  pub records_handed : 1 ≤ length a.kept → b.kept ≡ drop 1 a.kept → b.handed ≡ a.handed + 1 → b.totals ≡ a.totals → RecordsRepresent t a trace → RecordsRepresent t b trace
+  records_handed there kept handed totals h = record {
+    kept = kept ∙ ap (drop 1) h.kept ∙ drop_more a.handed trace ∙ ap (λ n. drop n trace) (sym handed);
+    few = let l = ap length h.kept ∙ length-drop a.handed trace in omega (arith, handed, l, there);
+    count = ap length totals ∙ h.count;
+    totals = λ i y e. h.totals i y (ap (λ l. slice_get l i) (sym totals) ∙ e);
+  }
+    where
+      drop_more : (n : ℕ) (l : List (Record (List ℕ))) → drop 1 (drop n l) ≡ drop (n + 1) l
+      drop_more zero l = refl
+      drop_more (suc n) [] = let e : suc (n + 1) ≡ suc n + 1 = omega arith in ap (λ k. drop k []) e
+      drop_more (suc n) (x ∷ l) = let e : suc (n + 1) ≡ suc n + 1 = omega arith in drop_more n l ∙ ap (λ k. drop k (x ∷ l)) e
+
+  pub records_same : b ≡ record a { spare = b.spare } → RecordsRepresent t a trace → RecordsRepresent t b trace
+  records_same e h = record {
+    kept = ap (λ r. r.kept) e ∙ h.kept ∙ ap (λ n. drop n trace) (sym (ap (λ r. r.handed) e));
+    few = let n = ap (λ r. r.handed) e in let f = h.few in omega (arith, n, f);
+    count = ap (λ r. length r.totals) e ∙ h.count;
+    totals = λ i y g. h.totals i y (ap (λ r. slice_get r.totals i) (sym e) ∙ g);
+  }
+
+-- the first of what is left
+pub first_left : (n : ℕ) (l : List (Record (List ℕ))) → slice_get (drop n l) 0 ≡ slice_get l n
+first_left zero l = refl
+first_left (suc n) [] = refl
+first_left (suc n) (x ∷ l) = first_left n l
+
+-- at the start
+pub records_first : (t : TopologyValue) (r : RecordsValue) → r.kept ≡ [] → r.handed ≡ 0 → r.totals ≡ replicate (length t.ifaces) (0, FILE_HEADER_OCTETS) → RecordsRepresent t r []
+records_first t r kept handed totals = record {
+  kept = kept ∙ ap (λ n. drop n []) (sym handed);
+  few = omega (arith, handed);
+  count = ap length totals ∙ length-replicate (length t.ifaces) (0, FILE_HEADER_OCTETS);
+  totals = λ i y e. all (length t.ifaces) i y (ap (λ l. slice_get l i) (sym totals) ∙ e);
+}
+  where
+    all : (n i : ℕ) (y : ℕ × ℕ) → slice_get (replicate n (0, FILE_HEADER_OCTETS)) i ≡ Some y → y ≡ totals_of i []
+    all zero i y e = absurd cc
+    all (suc n) zero y e = some_inj y (0, FILE_HEADER_OCTETS) (sym e)
+    all (suc n) (suc i) y e = all n i y e
