@@ -110,7 +110,7 @@ fn counts_are(rt: &impl Abort, part: &Part<SortedList>, rows: &[(u32, Option<u64
 #[test]
 fn not_there(rt: HostRuntime) -> Result<(), Fail> {
     let topology = Topology::read(rt.alloc(), DUO.as_bytes())?;
-    let part = Part::<SortedList>::start(rt.alloc(), &topology)?;
+    let part = Part::<SortedList>::start(rt.alloc(), &topology, None)?;
     counts_are(
         &rt,
         &part,

@@ -1,0 +1,261 @@
+//! `nm_sim`: parts of one partition each, fed by hand with what the others put on their channels.
+
+ghost use Rattle.std.specs.Prelude.{IfOk};
+ghost use Rattle.nm_events.specs.Held.{pending_of};
+ghost use Rattle.nm_sim.specs.Tables.{AllAt};
+ghost use Rattle.nm_tests.specs.Fed.{IsFed};
+
+use crate::fed::{Fed, partition_of};
+use crate::run::{count_events, run_steps};
+use crate::same::{eq_number, eq_numbers, holds};
+use crate::texts::{CROSS, RING, SPLIT, STAR};
+use nm_base::{ChanNo, IfaceNo, NodeNo, PartNo, Record, Time};
+use nm_events::SortedList;
+use nm_forward::Counter;
+use nm_sim::{Part, one_list};
+use nm_topology::Topology;
+use std::alloc::{AllocError, Global};
+use std::process::Abort;
+use std::test::Fail;
+
+/// A part of each partition at the start of a run.
+fn start_all(alloc: Global, topology: &Topology) -> Result<Vec<Fed<SortedList>>, AllocError>
+    ensures { IfOk result
+        (λ v. AllAt (λ i f. IsFed pending_of topology.now f.of f.part f.told.items) v.items) }
+{
+    let mut parts = Vec::new(alloc);
+    for number in 0..topology.partitions() {
+        parts.push(Fed::start(alloc, topology, PartNo::new(number))?)?;
+    }
+    Ok(parts)
+}
+
+/// The least delay of a link between two partitions, or `stop` where there is none.
+fn least_delay(rt: &impl Abort, topology: &Topology) -> u64 {
+    let mut least = topology.stop().nanoseconds();
+    for link in topology.links() {
+        let is_cut = partition_of(rt, topology, link.a) != partition_of(rt, topology, link.b);
+        if is_cut && link.delay < least {
+            least = link.delay;
+        }
+    }
+    least
+}
+
+/// The receiver of a channel is told what the sender put on it and it was not told yet.
+fn deliver(
+    rt: &impl Abort,
+    topology: &Topology,
+    parts: &mut [Fed<SortedList>],
+    channel: ChanNo,
+) -> Result<(), AllocError>
+    requires { AllAt (λ i f. IsFed pending_of topology.now f.of f.part f.told.items) parts.old }
+    ensures { AllAt (λ i f. IsFed pending_of topology.now f.of f.part f.told.items) parts.new }
+{
+    let receiver = topology.receiver(channel);
+    let to = partition_of(rt, topology, receiver).index();
+    let from = partition_of(rt, topology, topology.iface(receiver).far().peer).index();
+    assert!(rt; from < parts.len());
+    assert!(rt; to < parts.len());
+    for _ in 0..parts[from].part.out(channel).len() {
+        let number = parts[to].told_of(channel);
+        let Some(message) = parts[from].message(channel, number)? else {
+            return Ok(());
+        };
+        parts[to].tell(rt, topology, channel, &message)?;
+    }
+    Ok(())
+}
+
+/// All parts run to a time, and are then told what was put on their channels.
+fn run_to(
+    rt: &(impl Abort + AllocGlobal),
+    topology: &Topology,
+    parts: &mut [Fed<SortedList>],
+    before: Time,
+) -> Result<(), AllocError>
+    requires { AllAt (λ i f. IsFed pending_of topology.now f.of f.part f.told.items) parts.old }
+    ensures { AllAt (λ i f. IsFed pending_of topology.now f.of f.part f.told.items) parts.new }
+{
+    for number in 0..parts.len() {
+        parts[number].run(rt.alloc(), topology, before)?;
+    }
+    for channel in 0..topology.receivers().len() {
+        deliver(rt, topology, parts, ChanNo::new(channel as u32))?;
+    }
+    Ok(())
+}
+
+/// All partitions after their runs, a least delay at a time: nothing that is sent in such a time
+/// arrives in it.
+fn run_all(
+    rt: &(impl Abort + AllocGlobal),
+    topology: &Topology,
+) -> Result<Vec<Fed<SortedList>>, AllocError>
+    ensures { IfOk result
+        (λ v. AllAt (λ i f. IsFed pending_of topology.now f.of f.part f.told.items) v.items) }
+{
+    let mut parts = start_all(rt.alloc(), topology)?;
+    let delay = least_delay(rt, topology);
+    assert!(rt; delay >= 1);
+    for round in 0..topology.stop().nanoseconds() / delay {
+        let before = Time::from_nanoseconds(delay.saturating_mul(round + 1));
+        run_to(rt, topology, &mut parts, before)?;
+    }
+    run_to(rt, topology, &mut parts, topology.stop())?;
+    Ok(parts)
+}
+
+/// A part's trace is what the trace of the whole network has of its interfaces.
+fn has_its_records(rt: &impl Abort, topology: &Topology, whole: &[Record], fed: &Fed<SortedList>) {
+    let mut own = fed.part.trace().iter();
+    for (number, record) in whole.iter().enumerate() {
+        if partition_of(rt, topology, record.iface) == fed.of {
+            let found = own.next();
+            assert!(rt; found == Some(record), "record {number}");
+        }
+    }
+    holds(rt, "no more records", own.next().is_none());
+}
+
+/// The parts of a network do so many events each, and together do all of the whole network, with
+/// its records.
+fn are_one_list(rt: &(impl Abort + AllocGlobal), text: &str, events: &[u64]) -> Result<(), Fail> {
+    let topology = Topology::read(rt.alloc(), text.as_bytes())?;
+    let whole = one_list(rt.alloc(), &topology, topology.stop())?;
+    let mut all = 0u64;
+    let mut done = Vec::new(rt.alloc());
+    for fed in &run_all(rt, &topology)? {
+        has_its_records(rt, &topology, &whole, fed);
+        done.push(fed.events)?;
+        all = all.saturating_add(fed.events);
+    }
+    eq_numbers(rt, "events of each", &done, events);
+    let want = count_events::<SortedList>(rt.alloc(), &topology)?;
+    eq_number(rt, "events of all", all, want);
+    Ok(())
+}
+
+/// Parts that tell each other their messages do what one event list does.
+#[test]
+fn parts_fed_by_hand_give_the_trace_of_one_list(rt: HostRuntime) -> Result<(), Fail> {
+    are_one_list(&rt, SPLIT, &[2, 1])?;
+    are_one_list(&rt, RING, &[4, 4, 2])?;
+    are_one_list(&rt, CROSS, &[21, 0, 16])?;
+    are_one_list(&rt, STAR, &[16, 24])
+}
+
+/// Partition 0, told at its start the first message of each of these channels, one after another,
+/// and then run.
+fn told_in_order(
+    rt: &(impl Abort + AllocGlobal),
+    topology: &Topology,
+    sender: &Fed<SortedList>,
+    channels: &[u32],
+) -> Result<Fed<SortedList>, Fail> {
+    let mut fed = Fed::start(rt.alloc(), topology, PartNo::new(0))?;
+    for number in channels {
+        let channel = ChanNo::new(*number);
+        match sender.message(channel, 0)? {
+            Some(message) => fed.tell(rt, topology, channel, &message)?,
+            None => return Err("the channel has a message".into()),
+        }
+    }
+    fed.run(rt.alloc(), topology, topology.stop())?;
+    Ok(fed)
+}
+
+/// The interfaces of records, all of which are of this time.
+fn ifaces_at(
+    rt: &(impl Abort + AllocGlobal),
+    records: &[Record],
+    time: u64,
+) -> Result<Vec<u64>, AllocError> {
+    let mut ifaces = Vec::new(rt.alloc());
+    for record in records {
+        eq_number(rt, "a time", record.time.nanoseconds(), time);
+        ifaces.push(u64::from(record.iface.number()))?;
+    }
+    Ok(ifaces)
+}
+
+/// What arrives at one time is done by the numbers of interfaces, in whatever order it was told.
+#[test]
+fn replies_at_one_nanosecond_come_in_the_order_of_interfaces(rt: HostRuntime) -> Result<(), Fail> {
+    let topology = Topology::read(rt.alloc(), STAR.as_bytes())?;
+    let whole = one_list(rt.alloc(), &topology, topology.stop())?;
+    let mut sender = Fed::start(rt.alloc(), &topology, PartNo::new(1))?;
+    sender.run(rt.alloc(), &topology, topology.stop())?;
+    for channels in [
+        [0, 2, 4, 6, 8, 10, 12, 14],
+        [14, 12, 10, 8, 6, 4, 2, 0],
+        [6, 0, 14, 2, 12, 4, 10, 8],
+        [8, 10, 0, 12, 14, 6, 2, 4],
+    ] {
+        let fed = told_in_order(&rt, &topology, &sender, channels.as_slice())?;
+        has_its_records(&rt, &topology, &whole, &fed);
+        let ifaces = ifaces_at(&rt, fed.part.trace(), 1_028_000)?;
+        let want = [0, 0, 2, 2, 4, 4, 6, 6, 8, 8, 10, 10, 12, 12, 14, 14];
+        eq_numbers(&rt, "interfaces", &ifaces, &want);
+    }
+    Ok(())
+}
+
+/// What each of its nodes originated, what was dropped at each of its interfaces, and the times of
+/// what it put on each channel, by numbers from 0.
+type Row<'a> = (&'a [Option<u64>], &'a [Option<u64>], &'a [&'a [u64]]);
+
+/// A part counted, dropped and sent this, and has nothing else.
+fn has(rt: &impl Abort, part: &Part<SortedList>, (nodes, ifaces, channels): Row<'_>) {
+    for (number, want) in (0..).zip(nodes) {
+        let found = part.counter(NodeNo::new(number), Counter::Originated);
+        assert!(rt; found == *want, "node {number}");
+    }
+    for (number, want) in (0..).zip(ifaces) {
+        let found = part.dropped(IfaceNo::new(number));
+        assert!(rt; found == *want, "interface {number}");
+    }
+    for (number, want) in (0..).zip(channels) {
+        let found = part.out(ChanNo::new(number));
+        assert!(rt; found.len() == want.len(), "channel {number}");
+        for ((time, _), want) in found.iter().zip(*want) {
+            eq_number(rt, "a message", time.nanoseconds(), *want);
+        }
+    }
+}
+
+/// A part answers for its own nodes, interfaces and outgoing channels alone.
+#[test]
+fn a_part_has_its_own_nodes_and_interfaces_alone(rt: HostRuntime) -> Result<(), Fail> {
+    let topology = Topology::read(rt.alloc(), CROSS.as_bytes())?;
+    let (no, zero, one, five) = (None, Some(0), Some(1), Some(5));
+    let rows: [Row<'_>; 3] = [
+        (
+            &[five, zero, no, no, no],
+            &[zero, zero, no, no, one, no, no],
+            &[&[], &[340_000, 540_000, 740_000, 852_000], &[]],
+        ),
+        (&[no; 5], &[no; 7], &[&[], &[], &[]]),
+        (
+            &[no, no, zero, one, no],
+            &[no, no, zero, zero, no, zero, no],
+            &[&[514_000], &[], &[]],
+        ),
+    ];
+    for (fed, row) in run_all(&rt, &topology)?.iter().zip(rows) {
+        has(&rt, &fed.part, row);
+    }
+    let nowhere = Fed::start(rt.alloc(), &topology, PartNo::new(3))?;
+    has(&rt, &nowhere.part, (&[no; 5], &[no; 7], &[&[], &[], &[]]));
+    let whole = run_steps(rt.alloc(), &topology, 37)?;
+    has(
+        &rt,
+        &whole,
+        (
+            &[five, zero, zero, one, no],
+            &[zero, zero, zero, zero, one, zero, no],
+            &[&[], &[], &[]],
+        ),
+    );
+    Ok(())
+}
