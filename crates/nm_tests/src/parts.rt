@@ -6,10 +6,11 @@ ghost use Rattle.nm_sim.specs.Tables.{AllAt};
 ghost use Rattle.nm_tests.specs.Fed.{IsFed};
 
 use crate::fed::{Fed, partition_of};
-use crate::run::{count_events, run_steps};
+use crate::run::{Step, count_events, run_steps};
 use crate::same::{eq_number, eq_numbers, holds};
+use crate::sim::{StepRow, do_and_leave, nth};
 use crate::texts::{CROSS, RING, SPLIT, STAR};
-use nm_base::{ChanNo, IfaceNo, NodeNo, PartNo, Record, Time};
+use nm_base::{ChanNo, IfaceNo, NodeNo, PartNo, Place, Record, Time};
 use nm_events::SortedList;
 use nm_forward::Counter;
 use nm_sim::{Part, one_list};
@@ -145,6 +146,33 @@ fn parts_fed_by_hand_give_the_trace_of_one_list(rt: HostRuntime) -> Result<(), F
     are_one_list(&rt, STAR, &[16, 24])
 }
 
+/// A part is told the next message that another put on a channel.
+fn hear(
+    rt: &impl Abort,
+    topology: &Topology,
+    fed: &mut Fed<SortedList>,
+    sender: &Fed<SortedList>,
+    channel: u32,
+) -> Result<(), Fail>
+    requires { IsFed pending_of topology.now fed.old.of fed.old.part fed.old.told.items }
+    ensures { IsFed pending_of topology.now fed.new.of fed.new.part fed.new.told.items }
+{
+    let channel = ChanNo::new(channel);
+    match sender.message(channel, fed.told_of(channel))? {
+        Some(message) => Ok(fed.tell(rt, topology, channel, &message)?),
+        None => Err("there is one message more".into()),
+    }
+}
+
+/// A partition after a run in which it was told nothing.
+fn alone(alloc: Global, topology: &Topology, number: u32) -> Result<Fed<SortedList>, AllocError>
+    ensures { IfOk result (λ f. IsFed pending_of topology.now f.of f.part f.told.items) }
+{
+    let mut fed = Fed::start(alloc, topology, PartNo::new(number))?;
+    fed.run(alloc, topology, topology.stop())?;
+    Ok(fed)
+}
+
 /// Partition 0, told at its start the first message of each of these channels, one after another,
 /// and then run.
 fn told_in_order(
@@ -154,12 +182,8 @@ fn told_in_order(
     channels: &[u32],
 ) -> Result<Fed<SortedList>, Fail> {
     let mut fed = Fed::start(rt.alloc(), topology, PartNo::new(0))?;
-    for number in channels {
-        let channel = ChanNo::new(*number);
-        match sender.message(channel, 0)? {
-            Some(message) => fed.tell(rt, topology, channel, &message)?,
-            None => return Err("the channel has a message".into()),
-        }
+    for channel in channels {
+        hear(rt, topology, &mut fed, sender, *channel)?;
     }
     fed.run(rt.alloc(), topology, topology.stop())?;
     Ok(fed)
@@ -184,8 +208,7 @@ fn ifaces_at(
 fn replies_at_one_nanosecond_come_in_the_order_of_interfaces(rt: HostRuntime) -> Result<(), Fail> {
     let topology = Topology::read(rt.alloc(), STAR.as_bytes())?;
     let whole = one_list(rt.alloc(), &topology, topology.stop())?;
-    let mut sender = Fed::start(rt.alloc(), &topology, PartNo::new(1))?;
-    sender.run(rt.alloc(), &topology, topology.stop())?;
+    let sender = alone(rt.alloc(), &topology, 1)?;
     for channels in [
         [0, 2, 4, 6, 8, 10, 12, 14],
         [14, 12, 10, 8, 6, 4, 2, 0],
@@ -198,6 +221,69 @@ fn replies_at_one_nanosecond_come_in_the_order_of_interfaces(rt: HostRuntime) ->
         let want = [0, 0, 2, 2, 4, 4, 6, 6, 8, 8, 10, 10, 12, 12, 14, 14];
         eq_numbers(&rt, "interfaces", &ifaces, &want);
     }
+    Ok(())
+}
+
+/// A part's steps, one after another, do and leave what is said.
+fn does(
+    rt: &(impl Abort + AllocGlobal),
+    topology: &Topology,
+    fed: &mut Fed<SortedList>,
+    rows: &[(u64, StepRow)],
+) -> Result<(), AllocError>
+    requires { IsFed pending_of topology.now fed.old.of fed.old.part fed.old.told.items }
+    ensures { IsFed pending_of topology.now fed.new.of fed.new.part fed.new.told.items }
+{
+    for (before, row) in rows {
+        let done = fed.step(rt.alloc(), topology, Time::from_nanoseconds(*before))?;
+        let least = fed.part.least();
+        let records = fed.part.trace().len();
+        let step = Step {
+            done,
+            least,
+            records,
+        };
+        do_and_leave(rt, &[step], &[*row]);
+    }
+    Ok(())
+}
+
+/// A message's arrival has the message's number, whether it was told at the start or later.
+#[test]
+fn steps_of_a_part_that_is_told_more(rt: HostRuntime) -> Result<(), Fail> {
+    let topology = Topology::read(rt.alloc(), RING.as_bytes())?;
+    let sender = alone(rt.alloc(), &topology, 0)?;
+    let mut fed = Fed::start(rt.alloc(), &topology, PartNo::new(1))?;
+    let (from, to) = (
+        Place::Arrive(IfaceNo::new(1)),
+        Place::Complete(IfaceNo::new(2)),
+    );
+    does(&rt, &topology, &mut fed, &[(10_000_000, (None, None, 0))])?;
+    hear(&rt, &topology, &mut fed, &sender, 1)?;
+    does(
+        &rt,
+        &topology,
+        &mut fed,
+        &[
+            (1_100_000, (None, Some(1_100_000), 0)),
+            (1_100_001, (nth(1_100_000, from, 0), Some(1_200_000), 2)),
+            (1_200_000, (None, Some(1_200_000), 2)),
+            (10_000_000, (nth(1_200_000, to, 0), None, 2)),
+            (10_000_000, (None, None, 2)),
+        ],
+    )?;
+    hear(&rt, &topology, &mut fed, &sender, 1)?;
+    does(
+        &rt,
+        &topology,
+        &mut fed,
+        &[
+            (3_100_000, (None, Some(3_100_000), 2)),
+            (u64::MAX, (nth(3_100_000, from, 1), Some(3_200_000), 4)),
+            (u64::MAX, (nth(3_200_000, to, 1), None, 4)),
+            (u64::MAX, (None, None, 4)),
+        ],
+    )?;
     Ok(())
 }
 
