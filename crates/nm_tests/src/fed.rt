@@ -1,13 +1,15 @@
-//! A part of one partition that is fed by hand: the messages of each channel, one after another.
+//! Parts of one partition each, fed by hand: the messages of each channel, one after another.
 
-ghost use Rattle.std.specs.Prelude.{◌≡◌, true, IfOk};
+ghost use Rattle.std.specs.Prelude.{◌≡◌, ◌<◌, true, IfOk, length};
 ghost use Rattle.nm_model.specs.Partition.{comes_in};
+ghost use Rattle.nm_events.specs.Held.{pending_of};
 ghost use Rattle.nm_sim.specs.Network.{net_of};
+ghost use Rattle.nm_sim.specs.Tables.{AllAt};
 ghost use Rattle.nm_tests.specs.Fed.{IsFed};
 ghost use Rattle.nm_topology.specs.Topology.{receiving_iface};
 
 use nm_base::{ChanNo, IfaceNo, Key, Packet, PartNo, Time};
-use nm_events::EventList;
+use nm_events::{EventList, SortedList};
 use nm_sim::Part;
 use nm_sim::network::channels_are_those_of_the_network;
 use nm_topology::Topology;
@@ -17,7 +19,8 @@ use std::process::Abort;
 
 /// The partition of an interface, which has to be there.
 pub fn partition_of(rt: &impl Abort, topology: &Topology, iface: IfaceNo) -> PartNo
-    ensures { result ≡ (net_of topology.now).part ((net_of topology.now).owner iface) }
+    ensures there { iface < length topology.now.ifaces }
+    ensures part { result ≡ (net_of topology.now).part ((net_of topology.now).owner iface) }
 {
     accepted_topologies_are_in_order(topology); // law: an interface's node is there
     assert!(rt; iface.index() < topology.ifaces().len());
@@ -28,7 +31,7 @@ pub fn partition_of(rt: &impl Abort, topology: &Topology, iface: IfaceNo) -> Par
 fn comes(rt: &impl Abort, topology: &Topology, of: PartNo, channel: ChanNo)
     ensures { comes_in (net_of topology.now) of (receiving_iface topology.now channel) ≡ true }
 {
-    channels_are_those_of_the_network(topology); // law: a channel comes into its receiver's partition
+    channels_are_those_of_the_network(topology); // law: a channel comes in at its receiver
     assert!(rt; channel.index() < topology.receivers().len());
     assert!(rt; partition_of(rt, topology, topology.receiver(channel)) == of);
 }
@@ -144,4 +147,93 @@ impl<L: EventList> Fed<L> {
             None => 0,
         }
     }
+}
+
+/// A part of each partition at the start of a run.
+fn start_all(alloc: Global, topology: &Topology) -> Result<Vec<Fed<SortedList>>, AllocError>
+    ensures { IfOk result
+        (λ v. AllAt (λ i f. IsFed pending_of topology.now f.of f.part f.told.items) v.items) }
+{
+    let mut parts = Vec::new(alloc);
+    for number in 0..topology.partitions() {
+        parts.push(Fed::start(alloc, topology, PartNo::new(number))?)?;
+    }
+    Ok(parts)
+}
+
+/// The least delay of a link between two partitions, or `stop` where there is none.
+fn least_delay(rt: &impl Abort, topology: &Topology) -> u64 {
+    let mut least = topology.stop().nanoseconds();
+    for link in topology.links() {
+        let is_cut = partition_of(rt, topology, link.a) != partition_of(rt, topology, link.b);
+        if is_cut && link.delay < least {
+            least = link.delay;
+        }
+    }
+    least
+}
+
+/// The receiver of a channel is told what the sender put on it and it was not told yet.
+fn deliver(
+    rt: &impl Abort,
+    topology: &Topology,
+    parts: &mut [Fed<SortedList>],
+    channel: ChanNo,
+) -> Result<(), AllocError>
+    requires { AllAt (λ i f. IsFed pending_of topology.now f.of f.part f.told.items) parts.old }
+    ensures { AllAt (λ i f. IsFed pending_of topology.now f.of f.part f.told.items) parts.new }
+{
+    let receiver = topology.receiver(channel);
+    let to = partition_of(rt, topology, receiver).index();
+    let from = partition_of(rt, topology, topology.iface(receiver).far().peer).index();
+    assert!(rt; from < parts.len());
+    assert!(rt; to < parts.len());
+    for _ in 0..parts[from].part.out(channel).len() {
+        let number = parts[to].told_of(channel);
+        let Some(message) = parts[from].message(channel, number)? else {
+            return Ok(());
+        };
+        parts[to].tell(rt, topology, channel, &message)?;
+    }
+    Ok(())
+}
+
+/// All parts run to a time, and are then told what was put on their channels.
+fn run_to(
+    rt: &(impl Abort + AllocGlobal),
+    topology: &Topology,
+    parts: &mut [Fed<SortedList>],
+    before: Time,
+) -> Result<(), AllocError>
+    requires { AllAt (λ i f. IsFed pending_of topology.now f.of f.part f.told.items) parts.old }
+    ensures { AllAt (λ i f. IsFed pending_of topology.now f.of f.part f.told.items) parts.new }
+{
+    for number in 0..parts.len() {
+        parts[number].run(rt.alloc(), topology, before)?;
+    }
+    accepted_topologies_are_in_order(topology); // law: channels have numbers of 32 bits
+    for channel in 0..topology.receivers().len() {
+        deliver(rt, topology, parts, ChanNo::new(channel as u32))?;
+    }
+    Ok(())
+}
+
+/// All partitions after their runs, a least delay at a time: nothing that is sent in such a time
+/// arrives in it.
+pub fn run_all(
+    rt: &(impl Abort + AllocGlobal),
+    topology: &Topology,
+) -> Result<Vec<Fed<SortedList>>, AllocError>
+    ensures { IfOk result
+        (λ v. AllAt (λ i f. IsFed pending_of topology.now f.of f.part f.told.items) v.items) }
+{
+    let mut parts = start_all(rt.alloc(), topology)?;
+    let delay = least_delay(rt, topology);
+    assert!(rt; delay >= 1);
+    for round in 0..topology.stop().nanoseconds() / delay {
+        let before = Time::from_nanoseconds(delay.saturating_mul(round + 1));
+        run_to(rt, topology, &mut parts, before)?;
+    }
+    run_to(rt, topology, &mut parts, topology.stop())?;
+    Ok(parts)
 }

@@ -20,6 +20,7 @@ use nm_forward::{Counter, Origin, Reaction};
 use nm_knowledge::{Accepted, Know, KnowFault};
 use nm_packet::{Icmp, MessageKind};
 use nm_sim::{Part, one_list};
+use nm_topology::topology::accepted_topologies_are_in_order;
 use nm_topology::{Refusal, TopoFault, Topology};
 use nm_traffic::{Source, SourcePacket};
 use std::alloc::{AllocError, Global};
@@ -222,6 +223,7 @@ struct Shown {
 
 /// What is seen of a part.
 fn seen(topology: &Topology, part: &Part<SortedList>) -> Shown {
+    accepted_topologies_are_in_order(topology); // law: what is numbered has numbers of 32 bits
     let mut seen = Shown {
         least: part.least(),
         records: part.trace().len(),

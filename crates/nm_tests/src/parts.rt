@@ -2,10 +2,9 @@
 
 ghost use Rattle.std.specs.Prelude.{IfOk};
 ghost use Rattle.nm_events.specs.Held.{pending_of};
-ghost use Rattle.nm_sim.specs.Tables.{AllAt};
 ghost use Rattle.nm_tests.specs.Fed.{IsFed};
 
-use crate::fed::{Fed, partition_of};
+use crate::fed::{Fed, partition_of, run_all};
 use crate::run::{Step, count_events, run_steps};
 use crate::same::{eq_number, eq_numbers, holds};
 use crate::sim::{StepRow, do_and_leave, nth};
@@ -18,94 +17,6 @@ use nm_topology::Topology;
 use std::alloc::{AllocError, Global};
 use std::process::Abort;
 use std::test::Fail;
-
-/// A part of each partition at the start of a run.
-fn start_all(alloc: Global, topology: &Topology) -> Result<Vec<Fed<SortedList>>, AllocError>
-    ensures { IfOk result
-        (λ v. AllAt (λ i f. IsFed pending_of topology.now f.of f.part f.told.items) v.items) }
-{
-    let mut parts = Vec::new(alloc);
-    for number in 0..topology.partitions() {
-        parts.push(Fed::start(alloc, topology, PartNo::new(number))?)?;
-    }
-    Ok(parts)
-}
-
-/// The least delay of a link between two partitions, or `stop` where there is none.
-fn least_delay(rt: &impl Abort, topology: &Topology) -> u64 {
-    let mut least = topology.stop().nanoseconds();
-    for link in topology.links() {
-        let is_cut = partition_of(rt, topology, link.a) != partition_of(rt, topology, link.b);
-        if is_cut && link.delay < least {
-            least = link.delay;
-        }
-    }
-    least
-}
-
-/// The receiver of a channel is told what the sender put on it and it was not told yet.
-fn deliver(
-    rt: &impl Abort,
-    topology: &Topology,
-    parts: &mut [Fed<SortedList>],
-    channel: ChanNo,
-) -> Result<(), AllocError>
-    requires { AllAt (λ i f. IsFed pending_of topology.now f.of f.part f.told.items) parts.old }
-    ensures { AllAt (λ i f. IsFed pending_of topology.now f.of f.part f.told.items) parts.new }
-{
-    let receiver = topology.receiver(channel);
-    let to = partition_of(rt, topology, receiver).index();
-    let from = partition_of(rt, topology, topology.iface(receiver).far().peer).index();
-    assert!(rt; from < parts.len());
-    assert!(rt; to < parts.len());
-    for _ in 0..parts[from].part.out(channel).len() {
-        let number = parts[to].told_of(channel);
-        let Some(message) = parts[from].message(channel, number)? else {
-            return Ok(());
-        };
-        parts[to].tell(rt, topology, channel, &message)?;
-    }
-    Ok(())
-}
-
-/// All parts run to a time, and are then told what was put on their channels.
-fn run_to(
-    rt: &(impl Abort + AllocGlobal),
-    topology: &Topology,
-    parts: &mut [Fed<SortedList>],
-    before: Time,
-) -> Result<(), AllocError>
-    requires { AllAt (λ i f. IsFed pending_of topology.now f.of f.part f.told.items) parts.old }
-    ensures { AllAt (λ i f. IsFed pending_of topology.now f.of f.part f.told.items) parts.new }
-{
-    for number in 0..parts.len() {
-        parts[number].run(rt.alloc(), topology, before)?;
-    }
-    for channel in 0..topology.receivers().len() {
-        deliver(rt, topology, parts, ChanNo::new(channel as u32))?;
-    }
-    Ok(())
-}
-
-/// All partitions after their runs, a least delay at a time: nothing that is sent in such a time
-/// arrives in it.
-fn run_all(
-    rt: &(impl Abort + AllocGlobal),
-    topology: &Topology,
-) -> Result<Vec<Fed<SortedList>>, AllocError>
-    ensures { IfOk result
-        (λ v. AllAt (λ i f. IsFed pending_of topology.now f.of f.part f.told.items) v.items) }
-{
-    let mut parts = start_all(rt.alloc(), topology)?;
-    let delay = least_delay(rt, topology);
-    assert!(rt; delay >= 1);
-    for round in 0..topology.stop().nanoseconds() / delay {
-        let before = Time::from_nanoseconds(delay.saturating_mul(round + 1));
-        run_to(rt, topology, &mut parts, before)?;
-    }
-    run_to(rt, topology, &mut parts, topology.stop())?;
-    Ok(parts)
-}
 
 /// A part's trace is what the trace of the whole network has of its interfaces.
 fn has_its_records(rt: &impl Abort, topology: &Topology, whole: &[Record], fed: &Fed<SortedList>) {
@@ -287,22 +198,25 @@ fn steps_of_a_part_that_is_told_more(rt: HostRuntime) -> Result<(), Fail> {
     Ok(())
 }
 
+/// Numbers of nodes, interfaces and channels.
+const NUMBERS: &[u32] = &[0, 1, 2, 3, 4, 5, 6];
+
 /// What each of its nodes originated, what was dropped at each of its interfaces, and the times of
 /// what it put on each channel, by numbers from 0.
 type Row<'a> = (&'a [Option<u64>], &'a [Option<u64>], &'a [&'a [u64]]);
 
 /// A part counted, dropped and sent this, and has nothing else.
 fn has(rt: &impl Abort, part: &Part<SortedList>, (nodes, ifaces, channels): Row<'_>) {
-    for (number, want) in (0..).zip(nodes) {
-        let found = part.counter(NodeNo::new(number), Counter::Originated);
+    for (number, want) in NUMBERS.iter().zip(nodes) {
+        let found = part.counter(NodeNo::new(*number), Counter::Originated);
         assert!(rt; found == *want, "node {number}");
     }
-    for (number, want) in (0..).zip(ifaces) {
-        let found = part.dropped(IfaceNo::new(number));
+    for (number, want) in NUMBERS.iter().zip(ifaces) {
+        let found = part.dropped(IfaceNo::new(*number));
         assert!(rt; found == *want, "interface {number}");
     }
-    for (number, want) in (0..).zip(channels) {
-        let found = part.out(ChanNo::new(number));
+    for (number, want) in NUMBERS.iter().zip(channels) {
+        let found = part.out(ChanNo::new(*number));
         assert!(rt; found.len() == want.len(), "channel {number}");
         for ((time, _), want) in found.iter().zip(*want) {
             eq_number(rt, "a message", time.nanoseconds(), *want);

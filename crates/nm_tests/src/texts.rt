@@ -50,9 +50,9 @@ source = [
   {kind = "cbr", node = "a", to = "10.0.0.2", sport = 1000, dport = 9, size = 72, start = 0, interval = 1000000, count = 1} ]
 "#;
 
-/// a and r in partition 0, s and b in partition 2, and nothing in partition 1. The last two of the six
-/// interfaces are those of the link between the partitions. There r drops the third of a's packets. A packet of b
-/// makes an error at a.
+/// a and r in partition 0, s and b in partition 2, and nothing in partition 1. The last two of the
+/// six interfaces are those of the link between the partitions. There r drops the third of a's
+/// packets. A packet of b makes an error at a.
 pub const CROSS: &str = r#"format = 1
 stop = 1000000
 mtu = 1500
@@ -80,7 +80,8 @@ source = [
   {kind = "cbr", node = "b", to = "10.0.0.1", sport = 1, dport = 8, size = 0, start = 400000, interval = 1, count = 1} ]
 "#;
 
-/// c, in partition 0, and h, in partition 1, with eight links. By each of them h asks c for an echo at 0.
+/// c, in partition 0, and h, in partition 1, with eight links. By each of them h asks c for an echo
+/// at 0.
 pub const STAR: &str = r#"format = 1
 stop = 10000000
 mtu = 1500
