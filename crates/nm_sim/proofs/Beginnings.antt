@@ -1,9 +1,11 @@
 -- A transmission starts: its events, and the counts of what was put on the interfaces.
-use Rattle.std.proofs.Common.{◌≡◌, ◌≢◌, ℕ, ◌+◌, ◌<◌, ◌==◌, Bool, true, false, true≢false, List, [], ◌∷◌, ◌++◌, length, Some, None, slice_get, slice_index, slice_set, refl, sym, ap, ◌∙◌, arith, length-append, length-set, get_or-set_same, get_or-set_other}
+use Rattle.std.proofs.Common.{◌≡◌, ◌≢◌, ℕ, ◌+◌, ◌<◌, ◌==◌, Bool, true, false, true≢false, cond, List, [], ◌∷◌, ◌++◌, length, Option, Some, None, slice_get, slice_index, slice_set, refl, sym, ap, ◌∙◌, arith, length-append, length-set, get_or-set_same, get_or-set_other}
 use Rattle.std.proofs.lemmas.Bool.Decides.{nat_tests}
 use Rattle.std.specs.FinMap.{FinMap, get, insert}
 use Rattle.nm_base.specs.declared.event.Event.{Event}
 use Rattle.nm_base.specs.declared.event.Event.TheVariants.{Delivery, Completion}
+use Rattle.nm_base.specs.declared.key.Key.{Key}
+use Rattle.nm_base.specs.declared.key.Place.{Place}
 use Rattle.nm_base.specs.declared.key.Place.TheVariants.{Arrive, Complete}
 use Rattle.nm_base.specs.Key.{key_of, key_cmp}
 use Rattle.nm_topology.specs.PartValues.{IfaceValue}
@@ -11,36 +13,47 @@ use Rattle.nm_topology.specs.TopologyValue.{TopologyValue}
 use Rattle.nm_model.specs.EventList.{schedule}
 use Rattle.nm_model.specs.Lists.{set_at}
 use Rattle.nm_model.specs.Run.{transmission_events, sent_after}
+use Rattle.nm_model.proofs.ListLemmas.{set_here, set_there}
 use Rattle.nm_iface.specs.declared.port.Start.{Start}
-use Rattle.nm_sim.specs.Network.{net_of, far_from}
+use Rattle.nm_sim.specs.Network.{net_of, far_from, here_of}
 use Rattle.nm_sim.specs.Effects.{TransmitsAt}
-use Rattle.nm_sim.specs.Timelines.{AreFresh, TimelineValue, TimelineRepresents, everywhere}
-use Rattle.nm_sim.proofs.Represents.{set_here, set_there}
+use Rattle.nm_sim.specs.Timelines.{AreFresh, TimelineValue, TimelineRepresents}
+use Rattle.nm_sim.proofs.Pendings.{other_place, still_none}
 
 pub peer_is : (t : TopologyValue) (i : ℕ) (x : IfaceValue) → slice_get t.ifaces i ≡ Some x → (net_of t).peer i ≡ x.far.peer
 unfolding net_of
 peer_is t i x e = ap (λ o. (far_from i o).peer) e
 
-module _ {L : Type 0} (t : TopologyValue) (line : TimelineValue L) (time : ℕ) (sent : ℕ → List (ℕ × List ℕ)) (numbered : TimelineRepresents t line sent) (i : ℕ) (st : Start) (transmits : TransmitsAt t time (i, st))
-    (p : ℕ) (peer : (net_of t).peer i ≡ p) (there : p < length t.ifaces) where
+-- a completion's key stays free where an arrival is scheduled
+pub still_free : {X : Type 0} (here : Place → Bool) (m after : FinMap key_cmp X) (k : Key) (v : X) (time i n : ℕ) (c : ℕ) → k.place ≡ Arrive c
+    → after ≡ schedule here ((k, v) ∷ []) m → get m (key_of time (Complete i) n) ≡ None → get after (key_of time (Complete i) n) ≡ None
+still_free here m after k v time i n c place e free = ap (λ l. get l (key_of time (Complete i) n)) e ∙ go (here k.place)
+  where
+    go : (b : Bool) → get (cond b (insert m k v) m) (key_of time (Complete i) n) ≡ None
+    go true = still_none m (insert m k v) k v (key_of time (Complete i) n) (λ q. other_place time k.time i c n k.number (q ∙ λ j. key_of k.time (place j) k.number)) refl free
+    go false = free
+
+-- when a transmission is complete, and when its packet arrives
+completes_at : (t : TopologyValue) (part : Option ℕ) (time i : ℕ) (st : Start) → TransmitsAt t part time (i, st) → st.completes ≡ time + (net_of t).tx i st.twin.packet
+unfolding net_of
+completes_at t part time i st h = h.1.completes
+
+pub arrives_at : (t : TopologyValue) (part : Option ℕ) (time i : ℕ) (st : Start) → TransmitsAt t part time (i, st) → st.arrives ≡ time + (net_of t).tx i st.twin.packet + (net_of t).delay i
+unfolding net_of
+arrives_at t part time i st h = h.1.arrives
+
+module _ {L : Type 0} (t : TopologyValue) (line : TimelineValue L) (time : ℕ) (sent : ℕ → List (ℕ × List ℕ)) (numbered : TimelineRepresents t line sent) (part : Option ℕ) (i : ℕ) (st : Start)
+    (transmits : TransmitsAt t part time (i, st)) (p : ℕ) (peer : (net_of t).peer i ≡ p) (there : p < length t.ifaces) where
   number_is : slice_index line.sent p ≡ length (sent ((net_of t).peer i))
   number_is = numbered.numbers p there ∙ ap (λ c. length (sent c)) (sym peer)
 
-  completes_is : st.completes ≡ time + (net_of t).tx i st.twin.packet
-  unfolding net_of
-  completes_is = transmits.1.completes
-
-  arrives_is : st.arrives ≡ time + (net_of t).tx i st.twin.packet + (net_of t).delay i
-  unfolding net_of
-  arrives_is = transmits.1.arrives
-
   arrival_key : key_of st.arrives (Arrive p) (slice_index line.sent p)
       ≡ key_of (time + (net_of t).tx i st.twin.packet + (net_of t).delay i) (Arrive ((net_of t).peer i)) (length (sent ((net_of t).peer i)))
-  arrival_key = λ k. key_of (arrives_is k) (Arrive (sym peer k)) (number_is k)
+  arrival_key = λ k. key_of (arrives_at t part time i st transmits k) (Arrive (sym peer k)) (number_is k)
 
   completion_key : key_of st.completes (Complete i) (slice_index line.sent p)
       ≡ key_of (time + (net_of t).tx i st.twin.packet) (Complete i) (length (sent ((net_of t).peer i)))
-  completion_key = λ k. key_of (completes_is k) (Complete i) (number_is k)
+  completion_key = λ k. key_of (completes_at t part time i st transmits k) (Complete i) (number_is k)
 
   pub arrival_fresh : (pending : FinMap key_cmp (Event (List ℕ))) → AreFresh pending (transmission_events (net_of t) time sent (Some (i, st.twin.packet)))
       → get pending (key_of st.arrives (Arrive p) (slice_index line.sent p)) ≡ None
@@ -50,10 +63,19 @@ module _ {L : Type 0} (t : TopologyValue) (line : TimelineValue L) (time : ℕ) 
       → get pending (key_of st.completes (Complete i) (slice_index line.sent p)) ≡ None
   completion_fresh pending h = ap (get pending) completion_key ∙ h 0 _ refl
 
-  pub begun_events : (pending after : FinMap key_cmp (Event (List ℕ)))
-      → after ≡ insert (insert pending (key_of st.arrives (Arrive p) (slice_index line.sent p)) (Delivery st.twin.packet)) (key_of st.completes (Complete i) (slice_index line.sent p)) Completion
-      → after ≡ schedule everywhere (transmission_events (net_of t) time sent (Some (i, st.twin.packet))) pending
-  begun_events pending after e = e ∙ λ k. insert (insert pending (arrival_key k) (Delivery st.twin.packet)) (completion_key k) Completion
+  pub begun_events : (pending middle after : FinMap key_cmp (Event (List ℕ)))
+      → middle ≡ schedule (here_of t part) ((key_of st.arrives (Arrive p) (slice_index line.sent p), Delivery st.twin.packet) ∷ []) pending
+      → after ≡ insert middle (key_of st.completes (Complete i) (slice_index line.sent p)) Completion
+      → after ≡ schedule (here_of t part) (transmission_events (net_of t) time sent (Some (i, st.twin.packet))) pending
+  begun_events pending middle after m e =
+      e ∙ (λ k. insert (m k) (completion_key k) Completion)
+      ∙ ap (λ a. insert (schedule (here_of t part) ((a, Delivery st.twin.packet) ∷ []) pending)
+      (key_of (time + (net_of t).tx i st.twin.packet) (Complete i) (length (sent ((net_of t).peer i)))) Completion) arrival_key
+      ∙ sym (ap (λ b. cond b (insert arrived (key_of (time + (net_of t).tx i st.twin.packet) (Complete i) (length (sent ((net_of t).peer i)))) Completion) arrived) transmits.0.1)
+    where
+      arrived : FinMap key_cmp (Event (List ℕ))
+      arrived = schedule (here_of t part)
+          ((key_of (time + (net_of t).tx i st.twin.packet + (net_of t).delay i) (Arrive ((net_of t).peer i)) (length (sent ((net_of t).peer i))), Delivery st.twin.packet) ∷ []) pending
 
   pub begun_numbered : (after : TimelineValue L) → after.sent ≡ slice_set line.sent p (slice_index line.sent p + 1)
       → TimelineRepresents t after (sent_after (net_of t) time sent (Some (i, st.twin.packet)))

@@ -1,5 +1,5 @@
 -- An event is done: its node reacts, and what it sends is offered to a port; or a transmission is complete.
-use Rattle.std.proofs.Common.{◌≡◌, ℕ, suc, ◌<◌, List, length, Option, Some, None, slice_get, slice_set, refl, sym, ap, ◌∙◌, subst}
+use Rattle.std.proofs.Common.{◌≡◌, ℕ, suc, List, Option, Some, None, slice_get, slice_set, refl, sym, ap, ◌∙◌, subst}
 use Rattle.std.specs.Option.{IfSome}
 use Rattle.nm_base.specs.declared.key.Place.TheVariants.{Arrive, Complete, Fire}
 use Rattle.nm_base.specs.declared.event.Event.TheVariants.{Delivery, Completion}
@@ -15,12 +15,14 @@ use Rattle.nm_forward.specs.State.{NodeStateValue}
 use Rattle.nm_forward.specs.Reaction.{reaction}
 use Rattle.nm_iface.specs.declared.port.Start.{Start}
 use Rattle.nm_traffic.specs.Source.{source_at}
-use Rattle.nm_sim.specs.Network.{net_of}
-use Rattle.nm_sim.specs.Devices.{DevicesValue, DevicesRepresent}
-use Rattle.nm_sim.specs.Effects.{Does, Done, IsEffect, Reacts, Sends, TransmitsAt, transmission_at, transmission_of}
+use Rattle.nm_sim.specs.Network.{is_iface_here, net_of}
+use Rattle.nm_sim.specs.Devices.{DevicesValue, DevicesRepresent, IsPortOf}
+use Rattle.nm_sim.specs.Effects.{IsBusy, Does, Done, IsEffect, Reacts, Sends, TransmitsAt, transmission_at, transmission_of}
 use Rattle.nm_iface.specs.PortValue.{PortValue, takes, with_port}
 use Rattle.nm_iface.specs.Offers.{IsTransmission, transmitted_packet}
-use Rattle.nm_sim.proofs.Sendings.{transmission_of_at}
+use Rattle.nm_sim.proofs.Sendings.{transmission_of_at, transmits_here}
+use Rattle.nm_sim.specs.Tables.{IsMember}
+use Rattle.nm_sim.proofs.Tables.{at_there}
 use Rattle.nm_sim.proofs.Represents.{port_after, port_turned, same_done, set_same}
 
 module _ (net : Net (List ℕ) NodeStateValue) (ports : ℕ → Port (List ℕ)) (time : ℕ) (came : Option (ℕ × List ℕ)) (n : NodeStateValue) (follows : Option (ℕ × List ℕ)) where
@@ -36,82 +38,84 @@ module _ (net : Net (List ℕ) NodeStateValue) (ports : ℕ → Port (List ℕ))
   follows_is None = refl
   follows_is (Some s) = refl
 
-module _ (t : TopologyValue) (node : ℕ → NodeStateValue) (port : ℕ → Port (List ℕ)) (time v : ℕ) (o : Origin) (x : List ℕ) (d e : DevicesValue)
-    (sent : Option (ℕ × List ℕ)) (sending : Option (ℕ × Start)) (r : Reacts t node port v o x d sent)
-    (s : Sends t (set_at node v (reaction t v (node v) o x).0) port time sent e sending) (came follows : Option (ℕ × List ℕ)) where
+module _ (t : TopologyValue) (part : Option ℕ) (node : ℕ → NodeStateValue) (port : ℕ → Port (List ℕ)) (time v : ℕ) (o : Origin) (x : List ℕ) (d e : DevicesValue)
+    (sent : Option (ℕ × List ℕ)) (sending : Option (ℕ × Start)) (r : Reacts t part node port v o x d sent)
+    (s : Sends t part (set_at node v (reaction t v (node v) o x).0) port time sent e sending) (came follows : Option (ℕ × List ℕ)) where
   abbrev effect_is : Effect (List ℕ) NodeStateValue
   effect_is = sent_on (net_of t) port time came (reaction t v (node v) o x).0 (reaction t v (node v) o x).1 follows
 
-  reacted_stand : DevicesRepresent t e (set_at node v effect_is.after) (turned port effect_is.turn)
+  reacted_stand : DevicesRepresent t part e (set_at node v effect_is.after) (turned port effect_is.turn)
   reacted_stand =
       let a = after_is (net_of t) port time came (reaction t v (node v) o x).0 follows (reaction t v (node v) o x).1 in
-      subst (λ n. DevicesRepresent t e (set_at node v n) (turned port effect_is.turn)) (sym a)
-      (subst (λ z. DevicesRepresent t e (set_at node v (reaction t v (node v) o x).0) (turned port (sent_on (net_of t) port time came (reaction t v (node v) o x).0 z follows).turn))
+      subst (λ n. DevicesRepresent t part e (set_at node v n) (turned port effect_is.turn)) (sym a)
+      (subst (λ z. DevicesRepresent t part e (set_at node v (reaction t v (node v) o x).0) (turned port (sent_on (net_of t) port time came (reaction t v (node v) o x).0 z follows).turn))
       r.sends (s.represented (reaction t v (node v) o x).0 came follows))
 
-  reacted_does : (done : Done) → done.came ≡ came → done.transmission ≡ sending → done.follows ≡ follows → IsEffect t time done effect_is
+  reacted_does : (done : Done) → done.came ≡ came → done.transmission ≡ sending → done.follows ≡ follows → IsEffect t part time done effect_is
   reacted_does done a b c = record {
     came = a ∙ sym (came_is (net_of t) port time came (reaction t v (node v) o x).0 follows (reaction t v (node v) o x).1);
     transmission = ap transmission_of b ∙ s.transmission (reaction t v (node v) o x).0 came follows
         ∙ ap (λ z. (sent_on (net_of t) port time came (reaction t v (node v) o x).0 z follows).transmission) r.sends;
-    transmits = subst (λ z. IfSome z (TransmitsAt t time)) (sym b) s.transmits;
+    transmits = subst (λ z. IfSome z (TransmitsAt t part time)) (sym b) s.transmits;
     follows = c ∙ sym (follows_is (net_of t) port time came (reaction t v (node v) o x).0 follows (reaction t v (node v) o x).1);
   }
 
 -- a packet arrived at interface i of node v
-pub arrives_by : (t : TopologyValue) (node : ℕ → NodeStateValue) (port : ℕ → Port (List ℕ)) (time v i number : ℕ) (x : List ℕ) (d e : DevicesValue)
+pub arrives_by : (t : TopologyValue) (part : Option ℕ) (node : ℕ → NodeStateValue) (port : ℕ → Port (List ℕ)) (time v i number : ℕ) (x : List ℕ) (d e : DevicesValue)
     (sent : Option (ℕ × List ℕ)) (sending : Option (ℕ × Start)) (done : Done) → (net_of t).owner i ≡ v
-    → Reacts t node port v (Arrival i) x d sent → Sends t (set_at node v (reaction t v (node v) (Arrival i) x).0) port time sent e sending
-    → done.came ≡ Some (i, x) → done.transmission ≡ sending → done.follows ≡ None → Does t node port (key_of time (Arrive i) number) (Delivery x) e done
+    → Reacts t part node port v (Arrival i) x d sent → Sends t part (set_at node v (reaction t v (node v) (Arrival i) x).0) port time sent e sending
+    → done.came ≡ Some (i, x) → done.transmission ≡ sending → done.follows ≡ None → Does t part node port (key_of time (Arrive i) number) (Delivery x) e done
 unfolding net_of
-arrives_by t node port time v i number x d e sent sending done owner r s a b c =
-    subst (λ w. Reacts t node port w (Arrival i) x d sent → Sends t (set_at node w (reaction t w (node w) (Arrival i) x).0) port time sent e sending
-    → Does t node port (key_of time (Arrive i) number) (Delivery x) e done) owner
+arrives_by t part node port time v i number x d e sent sending done owner r s a b c =
+    subst (λ w. Reacts t part node port w (Arrival i) x d sent → Sends t part (set_at node w (reaction t w (node w) (Arrival i) x).0) port time sent e sending
+    → Does t part node port (key_of time (Arrive i) number) (Delivery x) e done) owner
     (λ r' s'. record {
-      represented = reacted_stand t node port time ((net_of t).owner i) (Arrival i) x d e sent sending r' s' (Some (i, x)) None;
-      does = reacted_does t node port time ((net_of t).owner i) (Arrival i) x d e sent sending r' s' (Some (i, x)) None done a b c;
+      represented = reacted_stand t part node port time ((net_of t).owner i) (Arrival i) x d e sent sending r' s' (Some (i, x)) None;
+      does = reacted_does t part node port time ((net_of t).owner i) (Arrival i) x d e sent sending r' s' (Some (i, x)) None done a b c;
     }) r s
 
 -- source j of node v handed a packet over
-pub fires_by : (t : TopologyValue) (node : ℕ → NodeStateValue) (port : ℕ → Port (List ℕ)) (time v j number : ℕ) (x : List ℕ) (d e : DevicesValue)
+pub fires_by : (t : TopologyValue) (part : Option ℕ) (node : ℕ → NodeStateValue) (port : ℕ → Port (List ℕ)) (time v j number : ℕ) (x : List ℕ) (d e : DevicesValue)
     (sent : Option (ℕ × List ℕ)) (sending : Option (ℕ × Start)) (done : Done) → (net_of t).source_node j ≡ v
-    → Reacts t node port v (Source j) x d sent → Sends t (set_at node v (reaction t v (node v) (Source j) x).0) port time sent e sending
-    → done.came ≡ None → done.transmission ≡ sending → done.follows ≡ source_at t j (suc number) → Does t node port (key_of time (Fire j) number) (Delivery x) e done
+    → Reacts t part node port v (Source j) x d sent → Sends t part (set_at node v (reaction t v (node v) (Source j) x).0) port time sent e sending
+    → done.came ≡ None → done.transmission ≡ sending → done.follows ≡ source_at t j (suc number) → Does t part node port (key_of time (Fire j) number) (Delivery x) e done
 unfolding net_of
-fires_by t node port time v j number x d e sent sending done owner r s a b c =
-    subst (λ w. Reacts t node port w (Source j) x d sent → Sends t (set_at node w (reaction t w (node w) (Source j) x).0) port time sent e sending
-    → Does t node port (key_of time (Fire j) number) (Delivery x) e done) owner
+fires_by t part node port time v j number x d e sent sending done owner r s a b c =
+    subst (λ w. Reacts t part node port w (Source j) x d sent → Sends t part (set_at node w (reaction t w (node w) (Source j) x).0) port time sent e sending
+    → Does t part node port (key_of time (Fire j) number) (Delivery x) e done) owner
     (λ r' s'. record {
-      represented = reacted_stand t node port time ((net_of t).source_node j) (Source j) x d e sent sending r' s' None (source_at t j (suc number));
-      does = reacted_does t node port time ((net_of t).source_node j) (Source j) x d e sent sending r' s' None (source_at t j (suc number)) done a b c;
+      represented = reacted_stand t part node port time ((net_of t).source_node j) (Source j) x d e sent sending r' s' None (source_at t j (suc number));
+      does = reacted_does t part node port time ((net_of t).source_node j) (Source j) x d e sent sending r' s' None (source_at t j (suc number)) done a b c;
     }) r s
 
+-- a port that transmits is there
+pub busy_member : (o : Option (Option PortValue)) → IsBusy o → IsMember o
+busy_member None h = absurd h
+busy_member (Some None) h = absurd h
+busy_member (Some (Some w)) h = tt
+
 -- a transmission of interface i is complete
-module _ (t : TopologyValue) (d e : DevicesValue) (node : ℕ → NodeStateValue) (port : ℕ → Port (List ℕ)) (s : DevicesRepresent t d node port) (time i number : ℕ)
-    (w : PortValue) (room : ℕ) (start : Option Start) (here : slice_get d.ports i ≡ Some w) (within : i < length t.ifaces) where
-  transmits_packet : (o : Option Start) → IfSome o (λ z. IsTransmission w.rate w.delay time z.twin.packet z) → IfSome (transmission_at i o) (TransmitsAt t time)
-  transmits_packet None h = tt
-  transmits_packet (Some z) h = let p = s.ports i w here in (within, subst (λ (y : ℕ × ℕ). IsTransmission y.0 y.1 time z.twin.packet z) (λ k. (p.rate k, p.delay k)) h)
+module _ (t : TopologyValue) (part : Option ℕ) (d e : DevicesValue) (node : ℕ → NodeStateValue) (port : ℕ → Port (List ℕ)) (s : DevicesRepresent t part d node port) (time i number : ℕ)
+    (w : PortValue) (room : ℕ) (start : Option Start) (here : slice_get d.ports i ≡ Some (Some w)) where
+  same_node : DevicesRepresent t part e node (set_at port i (completed ((net_of t).tx i) time (port i).dropped (port i).busy).0)
+      → DevicesRepresent t part e (set_at node ((net_of t).owner i) (node ((net_of t).owner i))) (set_at port i (completed ((net_of t).tx i) time (port i).dropped (port i).busy).0)
+  same_node z = subst (λ f. DevicesRepresent t part e f (set_at port i (completed ((net_of t).tx i) time (port i).dropped (port i).busy).0)) (sym (λ k v. set_same node ((net_of t).owner i) v k)) z
 
-  same_node : DevicesRepresent t e node (set_at port i (completed ((net_of t).tx i) time (port i).dropped (port i).busy).0)
-      → DevicesRepresent t e (set_at node ((net_of t).owner i) (node ((net_of t).owner i))) (set_at port i (completed ((net_of t).tx i) time (port i).dropped (port i).busy).0)
-  same_node z = subst (λ f. DevicesRepresent t e f (set_at port i (completed ((net_of t).tx i) time (port i).dropped (port i).busy).0)) (sym (λ k v. set_same node ((net_of t).owner i) v k)) z
-
-  pub completes_by : e.nodes ≡ d.nodes → e.ports ≡ slice_set d.ports i (with_port w (completed (takes w.rate) time w.dropped w.busy).0 room) → e.sources ≡ d.sources
+  pub completes_by : e.nodes ≡ d.nodes → e.ports ≡ slice_set d.ports i (Some (with_port w (completed (takes w.rate) time w.dropped w.busy).0 room)) → e.sources ≡ d.sources
       → transmitted_packet start ≡ (completed (takes w.rate) time w.dropped w.busy).1
       → IfSome start (λ z. IsTransmission w.rate w.delay time z.twin.packet z)
       → (done : Done) → done.came ≡ None → done.transmission ≡ transmission_at i start → done.follows ≡ None
-      → Does t node port (key_of time (Complete i) number) Completion e done
+      → Does t part node port (key_of time (Complete i) number) Completion e done
   completes_by nodes ports sources packet transmits done a b c =
-      let p = s.ports i w here in
-      let same = same_done t i w (port i) p time in
-      let after = port_after t i w (port i) p time (completed (takes w.rate) time w.dropped w.busy) (completed ((net_of t).tx i) time (port i).dropped (port i).busy) room same in
+      let p = at_there (is_iface_here t part) (λ j v. IsPortOf t j v (port j)) d.ports s.ports i w here in
+      let same = same_done t i w (port i) p.1 time in
+      let after = port_after t i w (port i) p.1 time (completed (takes w.rate) time w.dropped w.busy) (completed ((net_of t).tx i) time (port i).dropped (port i).busy) room same in
       record {
-        represented = same_node (port_turned t d e node port s i _ _ nodes ports sources after);
+        represented = same_node (port_turned t part d e node port s i _ _ nodes ports sources p.0 after);
         does = record {
           came = a;
           transmission = ap transmission_of b ∙ transmission_of_at i start ∙ ap (at_iface i) (packet ∙ same.2);
-          transmits = subst (λ z. IfSome z (TransmitsAt t time)) (sym b) (transmits_packet start transmits);
+          transmits = subst (λ z. IfSome z (TransmitsAt t part time)) (sym b) (transmits_here t part d node port s time i w here start transmits);
           follows = c;
         };
       }

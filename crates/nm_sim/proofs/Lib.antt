@@ -1,8 +1,10 @@
 mod Beginnings
 mod Channels
 mod Doings
+mod Kept
 mod Networks
 mod Openings
+mod Outgoings
 mod Parts
 mod Pendings
 mod Reactings

@@ -1,5 +1,6 @@
 -- A topology that is in order and within the limits describes a network.
-use Rattle.std.proofs.Common.{◌≡◌, ℕ, zero, suc, ◌+◌, ◌-◌, ◌*◌, ◌/◌, ◌^◌, ◌<◌, ◌≤◌, List, length, map, All, max, Some, slice_get, slice_index, slice_index_or as get_or, sym, ap, ◌∙◌, subst, arith, ⊎_elim}
+use Rattle.std.proofs.Common.{◌≡◌, ℕ, zero, suc, ◌+◌, ◌-◌, ◌*◌, ◌/◌, ◌^◌, ◌<◌, ◌≤◌, List, length, map, All, max, Option, Some, None, true, false, slice_get, slice_index, slice_index_or as get_or, sym, ap, ◌∙◌, subst, arith, ⊎_elim}
+use Rattle.std.specs.Prelude.{if◌then◌else◌}
 use Rattle.std.proofs.lemmas.Option.{slice_get-get_or, slice_get_cases, slice_get_past, slice_get_within, get_or_from_slice_get}
 use Rattle.std.proofs.lemmas.List.{get_or-map}
 use Rattle.std.proofs.lemmas.List.Elements.{All-get_or}
@@ -8,7 +9,7 @@ use Rattle.std.proofs.Math.Nat.{div-mul-le_self}
 use Rattle.nm_base.specs.declared.limits.TheConstants.{MAX_PORTS_OF_NODE}
 use Rattle.nm_base.specs.declared.event.Origin.{Origin}
 use Rattle.nm_topology.specs.declared.traffic.Source.{Source}
-use Rattle.nm_topology.specs.PartValues.{IfaceValue}
+use Rattle.nm_topology.specs.PartValues.{IfaceValue, NodeValue}
 use Rattle.nm_topology.specs.Accepted.{IsInOrder, IsPlaced, LeavesByOwn, owners_of, parts_of}
 use Rattle.nm_topology.specs.Limits.{IsWithinLimits}
 use Rattle.nm_topology.specs.TopologyValue.{TopologyValue}
@@ -19,7 +20,7 @@ use Rattle.std.specs.Option.{option_and_then}
 use Rattle.nm_traffic.specs.Source.{packet_at, source_at, source_of}
 use Rattle.nm_traffic.specs.SourceValues.{SourceValue}
 use Rattle.nm_model.specs.Network.{IsNet, IsParted}
-use Rattle.nm_sim.specs.Network.{far_from, far_of, net_of}
+use Rattle.nm_sim.specs.Network.{far_from, far_of, first_here, is_source_here, net_of}
 
 -- division keeps the order
 divided_le : (a b r : ℕ) → a ≤ b → a / r ≤ b / r
@@ -104,6 +105,10 @@ pub source_node_is : (t : TopologyValue) (j : ℕ) (s : Source) → slice_get t.
 unfolding net_of
 source_node_is t j s e = get_or-map (λ z. z.node) t.sources j s 0 (slice_get_within t.sources j s e) ∙ ap (λ z. z.node) (get_or_from_slice_get t.sources j s s e)
 
+pub part_is : (t : TopologyValue) (v : ℕ) (x : NodeValue) → slice_get t.nodes v ≡ Some x → (net_of t).part v ≡ x.partition
+unfolding net_of
+part_is t v x e = get_or-map (λ z. z.partition) t.nodes v x t.partitions (slice_get_within t.nodes v x e) ∙ ap (λ z. z.partition) (get_or_from_slice_get t.nodes v x x e)
+
 -- the node of a source, read from a list
 pub node_read : (t : TopologyValue) (j k : ℕ) (l : List Source) (d : Source) → l ≡ t.sources → k ≡ j → j < length t.sources
     → (net_of t).source_node j ≡ (get_or l k d).node
@@ -122,3 +127,10 @@ node_there t j k l d e f h placed =
 pub source_is : (t : TopologyValue) (j n : ℕ) (s : SourceValue) → source_of t j ≡ Some s → source_at t j n ≡ packet_at s.stop s.traffic n
 unfolding source_at
 source_is t j n s e = ap (option_and_then (λ z. packet_at z.stop z.traffic n)) e
+
+-- a source that is here gives its first packet, and one that is not gives none
+pub first_there : (t : TopologyValue) (part : Option ℕ) (j : ℕ) (s : SourceValue) → is_source_here t part j ≡ true → source_of t j ≡ Some s → first_here t part j ≡ packet_at s.stop s.traffic 0
+first_there t part j s e q = ap (λ b. if b then source_at t j 0 else None) e ∙ source_is t j 0 s q
+
+pub first_elsewhere : (t : TopologyValue) (part : Option ℕ) (j : ℕ) → is_source_here t part j ≡ false → first_here t part j ≡ None
+first_elsewhere t part j e = ap (λ b. if b then source_at t j 0 else None) e

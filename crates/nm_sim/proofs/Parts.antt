@@ -1,10 +1,12 @@
 -- A part after a step represents the state after that step.
-use Rattle.std.proofs.Common.{true≢false, ⊎_elim, cond, slice_get, slice_index, ◌≡◌, ℕ, zero, suc, ◌+◌, ◌<◌, true, false, ltb, List, [], ◌∷◌, ◌++◌, length, Option, Some, None, refl, sym, ap, ◌∙◌, subst, arith, append-nil, append_assoc}
+use Rattle.std.proofs.Common.{true≢false, ⊎_elim, cond, ◌&&◌, ◌==◌, not, Bool, slice_get, slice_index, ◌≡◌, ℕ, zero, suc, ◌+◌, ◌<◌, true, false, ltb, List, [], ◌∷◌, ◌++◌, length, Option, Some, None, refl, sym, ap, ◌∙◌, subst, arith, append-nil, append_assoc}
 use Rattle.std.specs.FinMap.{FinMap, insert, remove}
 use Rattle.std.specs.Option.{IfSome}
 use Rattle.nm_base.specs.declared.event.Event.{Event}
 use Rattle.nm_base.specs.declared.key.Key.{Key}
-use Rattle.nm_base.specs.Key.{key_cmp}
+use Rattle.nm_base.specs.declared.event.Event.TheVariants.{Delivery}
+use Rattle.nm_base.specs.declared.key.Place.TheVariants.{Arrive}
+use Rattle.nm_base.specs.Key.{key_cmp, key_of}
 use Rattle.nm_topology.specs.Accepted.{IsInOrder}
 use Rattle.nm_topology.specs.TopologyValue.{TopologyValue}
 use Rattle.nm_model.specs.EventList.{schedule}
@@ -16,62 +18,73 @@ use Rattle.nm_forward.specs.State.{NodeStateValue}
 use Rattle.nm_iface.specs.declared.port.Start.{Start}
 use Rattle.nm_model.specs.EventList.{is_before}
 use Rattle.nm_model.specs.Port.{Port}
-use Rattle.nm_forward.specs.State.{table_of}
 use Rattle.nm_traffic.specs.Source.{source_of}
-use Rattle.std.specs.Option.{option_map}
+use Rattle.std.specs.Option.{option_and_then, option_map}
 use Rattle.std.proofs.lemmas.Bool.Decides.{nat_tests}
-use Rattle.nm_sim.specs.Tables.{AllAt}
-use Rattle.nm_sim.specs.Devices.{DevicesValue, IsSame, DevicesRepresent}
+use Rattle.nm_sim.specs.Tables.{AllHere, IsThere}
+use Rattle.nm_sim.specs.Outgoing.{OutgoingRepresents, messages_in}
+use Rattle.nm_iface.specs.PortValue.{PortValue}
+use Rattle.nm_model.specs.Partition.{comes_in}
+use Rattle.nm_sim.specs.Devices.{DevicesRepresent, DevicesValue, IsNodeOf, IsPortOf, IsSame, IsSamePort}
 use Rattle.nm_sim.specs.Effects.{Done, IsPlaceIn, TransmitsAt, transmission_of}
-use Rattle.nm_sim.specs.Network.{net_of}
+use Rattle.nm_sim.specs.Network.{here_of, is_iface_here, is_node_here, is_source_here, net_of}
 use Rattle.std.proofs.lemmas.Option.{slice_get_cases, slice_get_past}
 use Rattle.nm_forward.specs.declared.counter.Counter.{Counter}
 use Rattle.nm_forward.specs.Counter.{counter_number}
 use Rattle.nm_base.specs.Count.{saturated}
-use Rattle.nm_sim.specs.Part.{IsUnderWay, PartValue, Represents, Taken, count_at, drops_at}
-use Rattle.nm_sim.specs.Timelines.{TimelineRepresents, everywhere}
-use Rattle.nm_sim.proofs.Schedules.{one_more, placed_next, placed_remove, placed_schedule, placed_transmission, schedule_append}
+use Rattle.nm_sim.specs.Part.{IsUnderWay, PartValue, Represents, Taken, count_at, drops_at, with_arrival}
+use Rattle.nm_sim.specs.Timelines.{TimelineRepresents}
+use Rattle.nm_sim.proofs.Schedules.{next_here, one_more, placed_insert, placed_next, placed_remove, placed_schedule, placed_transmission, schedule_append}
 use Rattle.nm_sim.proofs.Beginnings.{numbered_same}
 use Rattle.nm_sim.proofs.Pendings.{put_back}
-use Rattle.nm_sim.proofs.Steps.{least_has}
+use Rattle.nm_sim.proofs.Outgoings.{outgoing_same}
+use Rattle.nm_sim.proofs.Steps.{least_has, pending_here}
+use Rattle.nm_sim.proofs.Kept.{Kept}
+use Rattle.nm_model.proofs.ListLemmas.{not_some, some_inj}
 
-transmits_within : (t : TopologyValue) (time : ℕ) (o : Option (ℕ × Start)) → IfSome o (TransmitsAt t time) → IfSome (transmission_of o) (λ z. z.0 < length t.ifaces)
-transmits_within t time None h = tt
-transmits_within t time (Some z) h = h.0
+transmits_within : (t : TopologyValue) (part : Option ℕ) (time : ℕ) (o : Option (ℕ × Start)) → IfSome o (TransmitsAt t part time) → IfSome (transmission_of o) (λ z. z.0 < length t.ifaces)
+transmits_within t part time None h = tt
+transmits_within t part time (Some z) h = h.0.0
 
 -- an event that is under way is done with the transmission that starts
-pub represents_after : {L : Type 0} (pending : L → FinMap key_cmp (Event (List ℕ))) (t : TopologyValue) (k : Key) (e : Event (List ℕ)) (done : Done) (p q : PartValue L)
-    (s : State (List ℕ) NodeStateValue) → IsInOrder t.nodes t.ifaces t.links → IsOrderly (net_of t) everywhere (step (net_of t) everywhere s)
-    → IsUnderWay pending t k e done p s → q.devices ≡ p.devices
+pub represents_after : {L : Type 0} (pending : L → FinMap key_cmp (Event (List ℕ))) (t : TopologyValue) (part : Option ℕ) (k : Key) (e : Event (List ℕ)) (done : Done) (p q : PartValue L)
+    (s : State (List ℕ) NodeStateValue) → IsInOrder t.nodes t.ifaces t.links → IsOrderly (net_of t) (here_of t part) (step (net_of t) (here_of t part) s)
+    → IsUnderWay pending t part k e done p s → q.part ≡ p.part → q.devices ≡ p.devices
     → TimelineRepresents t q.timeline (sent_after (net_of t) k.time s.sent (transmission_of done.transmission))
-    → pending q.timeline.events ≡ schedule everywhere (transmission_events (net_of t) k.time s.sent (transmission_of done.transmission)) (pending p.timeline.events)
-    → q.timeline.records ≡ p.timeline.records ++ out_record k.time (transmission_of done.transmission)
+    → OutgoingRepresents t part q.outgoing (sent_after (net_of t) k.time s.sent (transmission_of done.transmission))
+    → pending q.timeline.events ≡ schedule (here_of t part) (transmission_events (net_of t) k.time s.sent (transmission_of done.transmission)) (pending p.timeline.events)
+    → q.records.list ≡ p.records.list ++ out_record k.time (transmission_of done.transmission)
     → q.steps ≡ p.steps + 1
-    → Represents pending t q (step (net_of t) everywhere s)
-represents_after pending t k e done p q s order orderly way devices numbered events records steps =
+    → Represents pending t part q (step (net_of t) (here_of t part) s)
+represents_after pending t part k e done p q s order orderly way is_part devices numbered outgoing events records steps =
     let taken = way.taken in
     let does = way.does.does in
+    let here = here_of t part in
     let m : Effect (List ℕ) NodeStateValue = effect (net_of t) s.node s.port k.time k.place k.number e in
-    let here : IsPlaceIn t k.place = taken.placed k e (least_has s.pending (k, e) taken.first) in
-    let events' : pending q.timeline.events ≡ schedule everywhere (transmission_events (net_of t) k.time s.sent m.transmission ++ next_events k.place k.number m.follows) (remove s.pending k)
-    = events ∙ ap (schedule everywhere (transmission_events (net_of t) k.time s.sent (transmission_of done.transmission))) taken.events
-    ∙ (λ i. schedule everywhere (transmission_events (net_of t) k.time s.sent (does.transmission i)) (schedule everywhere (next_events k.place k.number (does.follows i)) (remove s.pending k)))
-    ∙ sym (schedule_append (transmission_events (net_of t) k.time s.sent m.transmission) (next_events k.place k.number m.follows) (remove s.pending k)) in
-    let records' : q.timeline.records ≡ s.records ++ (in_record k.time m.came ++ out_record k.time m.transmission)
+    let there = least_has s.pending (k, e) taken.first in
+    let place : IsPlaceIn t k.place = taken.placed k e there in
+    let is : here_of t part k.place ≡ true = pending_here t part s taken.orderly k e there in
+    let events' : pending q.timeline.events ≡ schedule (here_of t part) (transmission_events (net_of t) k.time s.sent m.transmission ++ next_events k.place k.number m.follows) (remove s.pending k)
+    = events ∙ ap (schedule (here_of t part) (transmission_events (net_of t) k.time s.sent (transmission_of done.transmission))) (taken.events ∙ next_here (here_of t part) k.place k.number done.follows (remove s.pending k) is)
+    ∙ (λ i. schedule (here_of t part) (transmission_events (net_of t) k.time s.sent (does.transmission i)) (schedule (here_of t part) (next_events k.place k.number (does.follows i)) (remove s.pending k)))
+    ∙ sym (schedule_append (here_of t part) (transmission_events (net_of t) k.time s.sent m.transmission) (next_events k.place k.number m.follows) (remove s.pending k)) in
+    let records' : q.records.list ≡ s.records ++ (in_record k.time m.came ++ out_record k.time m.transmission)
     = records ∙ ap (λ l. l ++ out_record k.time (transmission_of done.transmission)) taken.records
     ∙ (λ i. (s.records ++ in_record k.time (does.came i)) ++ out_record k.time (does.transmission i))
     ∙ append_assoc s.records (in_record k.time m.came) (out_record k.time m.transmission) in
-    let within = subst (λ o. IfSome o (λ z. z.0 < length t.ifaces)) does.transmission (transmits_within t k.time done.transmission does.transmits) in
-    let again : step_at (net_of t) everywhere s (Some (k, e)) ≡ step (net_of t) everywhere s = ap (step_at (net_of t) everywhere s) (sym taken.first) in
-    subst (Represents pending t q) again record {
-      orderly = subst (IsOrderly (net_of t) everywhere) (sym again) orderly;
-      devices = subst (λ d. DevicesRepresent t d (set_at s.node (node_of (net_of t) k.place) m.after) (turned s.port m.turn)) (sym devices) way.does.represented;
+    let within = subst (λ o. IfSome o (λ z. z.0 < length t.ifaces)) does.transmission (transmits_within t part k.time done.transmission does.transmits) in
+    let again : step_at (net_of t) (here_of t part) s (Some (k, e)) ≡ step (net_of t) (here_of t part) s = ap (step_at (net_of t) (here_of t part) s) (sym taken.first) in
+    subst (Represents pending t part q) again record {
+      is_part = is_part ∙ taken.is_part;
+      orderly = subst (IsOrderly (net_of t) (here_of t part)) (sym again) orderly;
+      devices = subst (λ d. DevicesRepresent t part d (set_at s.node (node_of (net_of t) k.place) m.after) (turned s.port m.turn)) (sym devices) way.does.represented;
       numbered = subst (λ o. TimelineRepresents t q.timeline (sent_after (net_of t) k.time s.sent o)) does.transmission numbered;
+      outgoing = subst (λ o. OutgoingRepresents t part q.outgoing (sent_after (net_of t) k.time s.sent o)) does.transmission outgoing;
       few = λ c. let f = one_more t k.time p.steps s.sent m.transmission taken.few c in omega (arith, f, steps);
       events = events';
-      placed = placed_schedule (IsPlaceIn t) (transmission_events (net_of t) k.time s.sent m.transmission ++ next_events k.place k.number m.follows) (remove s.pending k)
+      placed = placed_schedule (IsPlaceIn t) (here_of t part) (transmission_events (net_of t) k.time s.sent m.transmission ++ next_events k.place k.number m.follows) (remove s.pending k)
           (either (transmission_events (net_of t) k.time s.sent m.transmission) (next_events k.place k.number m.follows)
-          (placed_transmission t order k.time s.sent m.transmission within) (placed_next (IsPlaceIn t) k.place k.number m.follows here))
+          (placed_transmission t order k.time s.sent m.transmission within) (placed_next (IsPlaceIn t) k.place k.number m.follows place))
           (placed_remove (IsPlaceIn t) s.pending k taken.placed);
       records = records';
     }
@@ -84,74 +97,137 @@ represents_after pending t k e done p q s order orderly way devices numbered eve
     either (x ∷ xs) ys h k (suc i) f z = either xs ys (λ j. h (suc j)) k i f z
 
 -- an event that was taken out is put back
-pub represents_again : {L : Type 0} (pending : L → FinMap key_cmp (Event (List ℕ))) (t : TopologyValue) (k : Key) (e : Event (List ℕ)) (p q : PartValue L)
-    (s : State (List ℕ) NodeStateValue) → Taken pending t k e None None p s → DevicesRepresent t p.devices s.node s.port
-    → q.devices ≡ p.devices → q.timeline.sent ≡ p.timeline.sent → q.timeline.records ≡ p.timeline.records → q.steps ≡ p.steps
-    → pending q.timeline.events ≡ insert (pending p.timeline.events) k e → Represents pending t q s
-represents_again pending t k e p q s h represented devices sent records steps events = record {
+pub represents_again : {L : Type 0} (pending : L → FinMap key_cmp (Event (List ℕ))) (t : TopologyValue) (part : Option ℕ) (k : Key) (e : Event (List ℕ)) (p q : PartValue L) → Kept p q
+    → (s : State (List ℕ) NodeStateValue) → Taken pending t part k e None None p s → DevicesRepresent t part p.devices s.node s.port
+    → q.devices ≡ p.devices → q.records.list ≡ p.records.list → pending q.timeline.events ≡ insert (pending p.timeline.events) k e → Represents pending t part q s
+represents_again pending t part k e p q kept s h represented devices records events = record {
+  is_part = kept.is_part ∙ h.is_part;
   orderly = h.orderly;
-  devices = subst (λ d. DevicesRepresent t d s.node s.port) (sym devices) represented;
-  numbered = numbered_same t p.timeline q.timeline s.sent sent h.numbered;
-  few = λ c. let l = h.few c in omega (arith, l, steps);
+  devices = subst (λ d. DevicesRepresent t part d s.node s.port) (sym devices) represented;
+  numbered = numbered_same t p.timeline q.timeline s.sent kept.sent h.numbered;
+  outgoing = subst (λ o. OutgoingRepresents t part o s.sent) (sym kept.outgoing) h.outgoing;
+  few = λ c. let l = h.few c in omega (arith, l, kept.steps);
   events = events ∙ ap (λ m. insert m k e) h.events ∙ put_back s.pending k e (least_has s.pending (k, e) h.first);
   placed = h.placed;
   records = records ∙ h.records ∙ append-nil s.records;
 }
 
-represented_same : (t : TopologyValue) (d e : DevicesValue) (node : ℕ → NodeStateValue) (port : ℕ → Port (List ℕ)) → DevicesRepresent t d node port → IsSame d e → DevicesRepresent t e node port
-represented_same t d e node port s h = record {
+module _ (t : TopologyValue) (i : ℕ) (port : Port (List ℕ)) where
+  port_same : (here : Bool) (v w : Option PortValue) → IsSamePort v w → IsThere here (λ z. IsPortOf t i z port) v → IsThere here (λ z. IsPortOf t i z port) w
+  port_same true None None e h = h
+  port_same true None (Some w) e h = absurd e
+  port_same true (Some v) None e h = absurd e
+  port_same true (Some v) (Some w) e h = record {
+    limit = ap (λ z. z.limit) e ∙ h.limit;
+    rate = ap (λ z. z.rate) e ∙ h.rate;
+    delay = ap (λ z. z.delay) e ∙ h.delay;
+    busy = ap (λ z. z.busy) e ∙ h.busy;
+    dropped = ap (λ z. z.dropped) e ∙ h.dropped;
+  }
+  port_same false None None e h = refl
+  port_same false None (Some w) e h = absurd e
+  port_same false (Some v) None e h = absurd e
+  port_same false (Some v) (Some w) e h = absurd (not_some v (sym h))
+
+represented_same : (t : TopologyValue) (part : Option ℕ) (d e : DevicesValue) (node : ℕ → NodeStateValue) (port : ℕ → Port (List ℕ)) → DevicesRepresent t part d node port → IsSame d e
+    → DevicesRepresent t part e node port
+represented_same t part d e node port s h = record {
   node_count = ap length h.nodes ∙ s.node_count;
-  nodes = subst (λ l. AllAt (λ v n. n ≡ node v) l) (sym h.nodes) s.nodes;
-  tables = subst (λ l. AllAt (λ v n. n.table ≡ table_of t v) l) (sym h.nodes) s.tables;
+  nodes = subst (λ l. AllHere (is_node_here t part) (λ v n. IsNodeOf t v n (node v)) l) (sym h.nodes) s.nodes;
   port_count = h.port_count ∙ s.port_count;
-  ports = λ i w e. let v = h.ports i w e in let p = s.ports i v.0 v.1 in record {
-    limit = ap (λ z. z.limit) v.2 ∙ p.limit;
-    rate = ap (λ z. z.rate) v.2 ∙ p.rate;
-    delay = ap (λ z. z.delay) v.2 ∙ p.delay;
-    busy = ap (λ z. z.busy) v.2 ∙ p.busy;
-    dropped = ap (λ z. z.dropped) v.2 ∙ p.dropped;
-  };
+  ports = λ i w e. let v = h.ports i w e in port_same t i (port i) (is_iface_here t part i) v.0 w v.2 (s.ports i v.0 v.1);
   source_count = ap length h.sources ∙ s.source_count;
-  sources = subst (λ l. AllAt (λ j z. source_of t j ≡ Some z) l) (sym h.sources) s.sources;
+  sources = subst (λ l. AllHere (is_source_here t part) (λ j z. source_of t j ≡ Some z) l) (sym h.sources) s.sources;
 }
 
 -- memory that was made changes nothing
-pub represents_same : {L : Type 0} (pending : L → FinMap key_cmp (Event (List ℕ))) (t : TopologyValue) (p q : PartValue L) (s : State (List ℕ) NodeStateValue) → Represents pending t p s
-    → IsSame p.devices q.devices → pending q.timeline.events ≡ pending p.timeline.events → q.timeline.sent ≡ p.timeline.sent → q.timeline.records ≡ p.timeline.records
-    → q.steps ≡ p.steps → Represents pending t q s
-represents_same pending t p q s h same events sent records steps = record {
+pub represents_same : {L : Type 0} (pending : L → FinMap key_cmp (Event (List ℕ))) (t : TopologyValue) (part : Option ℕ) (p q : PartValue L) (s : State (List ℕ) NodeStateValue)
+    → Represents pending t part p s → q.part ≡ p.part → IsSame p.devices q.devices → pending q.timeline.events ≡ pending p.timeline.events → q.timeline.sent ≡ p.timeline.sent
+    → length q.outgoing.channels ≡ length p.outgoing.channels → ((c : ℕ) → messages_in (slice_get q.outgoing.channels c) ≡ messages_in (slice_get p.outgoing.channels c))
+    → q.records.list ≡ p.records.list → q.steps ≡ p.steps → Represents pending t part q s
+represents_same pending t part p q s h is_part same events sent count messages records steps = record {
+  is_part = is_part ∙ h.is_part;
   orderly = h.orderly;
-  devices = represented_same t p.devices q.devices s.node s.port h.devices same;
+  devices = represented_same t part p.devices q.devices s.node s.port h.devices same;
   numbered = numbered_same t p.timeline q.timeline s.sent sent h.numbered;
+  outgoing = outgoing_same t part p.outgoing q.outgoing s.sent count messages h.outgoing;
   few = λ c. let l = h.few c in omega (arith, l, steps);
   events = events ∙ h.events;
   placed = h.placed;
   records = records ∙ h.records;
 }
 
+-- nothing changed
+pub is_same : (d : DevicesValue) → IsSame d d
+is_same d = record { nodes = refl; port_count = refl; ports = λ i w e. (w, e, same w); sources = refl }
+  where
+    same : (w : Option PortValue) → IsSamePort w w
+    same None = tt
+    same (Some w) = refl
+
+-- a message was put into the event list
+pub represents_told : {L : Type 0} (pending : L → FinMap key_cmp (Event (List ℕ))) (t : TopologyValue) (part : Option ℕ) (i number time : ℕ) (x : List ℕ) (p q : PartValue L) → Kept p q
+    → (s : State (List ℕ) NodeStateValue) → Represents pending t part p s → IsOrderly (net_of t) (here_of t part) (with_arrival i number time x s) → i < length t.ifaces
+    → q.devices ≡ p.devices → q.records.list ≡ p.records.list → pending q.timeline.events ≡ insert (pending p.timeline.events) (key_of time (Arrive i) number) (Delivery x)
+    → Represents pending t part q (with_arrival i number time x s)
+represents_told pending t part i number time x p q kept s h orderly within devices records events = record {
+  is_part = kept.is_part ∙ h.is_part;
+  orderly = orderly;
+  devices = subst (λ d. DevicesRepresent t part d s.node s.port) (sym devices) h.devices;
+  numbered = numbered_same t p.timeline q.timeline s.sent kept.sent h.numbered;
+  outgoing = subst (λ o. OutgoingRepresents t part o s.sent) (sym kept.outgoing) h.outgoing;
+  few = λ c. let l = h.few c in omega (arith, l, kept.steps);
+  events = events ∙ ap (λ m. insert m (key_of time (Arrive i) number) (Delivery x)) h.events;
+  placed = placed_insert (IsPlaceIn t) s.pending (key_of time (Arrive i) number) (Delivery x) within h.placed;
+  records = records ∙ h.records;
+}
+
+-- what comes into a partition is here, and its far end is not
+pub comes_here : (t : TopologyValue) (part : Option ℕ) (p i : ℕ) → part ≡ Some p → comes_in (net_of t) p i ≡ true
+    → (here_of t part (Arrive i) ≡ true) × (here_of t part (Arrive ((net_of t).peer i)) ≡ false)
+comes_here t None p i e h = absurd (not_some p e)
+comes_here t (Some r) p i e h =
+    let same : r ≡ p = some_inj r p e in
+    let both = halves ((net_of t).part ((net_of t).owner i) == p) ((net_of t).part ((net_of t).owner ((net_of t).peer i)) == p) h in (
+      ap (λ z. (net_of t).part ((net_of t).owner i) == z) same ∙ both.0,
+      ap (λ z. (net_of t).part ((net_of t).owner ((net_of t).peer i)) == z) same ∙ both.1,
+    )
+  where
+    halves : (a b : Bool) → (a && not b) ≡ true → (a ≡ true) × (b ≡ false)
+    halves true true k = absurd (true≢false (sym k))
+    halves true false k = (refl, refl)
+    halves false b k = absurd (true≢false (sym k))
+
 -- the event that is due
 pub due_entry : (before : ℕ) (o : Option (Key × Event (List ℕ))) → is_before before o ≡ true → (e : Key × Event (List ℕ)) × (o ≡ Some e) × (e.0.time < before)
 due_entry before None h = absurd (true≢false (sym h))
 due_entry before (Some e) h = (e, refl, grind (arith, nat_tests, h))
 
-pub counter_is : (t : TopologyValue) (d : DevicesValue) (s : State (List ℕ) NodeStateValue) → DevicesRepresent t d s.node s.port → (v : ℕ) (c : Counter)
-    → option_map (λ n. slice_index n.counters (counter_number c)) (slice_get d.nodes v) ≡ count_at t s v c
-counter_is t d s represented v c = ⊎_elim
-    (λ g. let lt : ltb v (length t.nodes) ≡ true = grind (arith, nat_tests, g.1, represented.node_count) in
-    ap (option_map (λ n. slice_index n.counters (counter_number c))) g.2 ∙ ap (λ n. Some (slice_index n.counters (counter_number c))) (represented.nodes v g.0 g.2)
-    ∙ sym (ap (λ b. cond b (Some (slice_index (s.node v).counters (counter_number c))) None) lt))
-    (λ g. let ge : ltb v (length t.nodes) ≡ false = grind (arith, nat_tests, g.0, represented.node_count) in
-    ap (option_map (λ n. slice_index n.counters (counter_number c))) (slice_get_past d.nodes v g.0)
-    ∙ sym (ap (λ b. cond b (Some (slice_index (s.node v).counters (counter_number c))) None) ge))
-    ((slice_get_cases d.nodes v).1)
+-- what a table has where it is here
+here_value : {X Y : Type 0} (P : X → Type 0) (f : X → Y) (y : Y) → ((x : X) → P x → f x ≡ y) → (b : Bool) (o : Option X) → IsThere b P o → option_map f o ≡ cond b (Some y) None
+here_value P f y h true None p = absurd p
+here_value P f y h true (Some x) p = ap Some (h x p)
+here_value P f y h false o p = ap (option_map f) p
 
-pub drops_is : (t : TopologyValue) (d : DevicesValue) (s : State (List ℕ) NodeStateValue) → DevicesRepresent t d s.node s.port → (i : ℕ)
-    → option_map (λ w. w.dropped) (slice_get d.ports i) ≡ drops_at t s i
-drops_is t d s represented i = ⊎_elim
-    (λ g. let lt : ltb i (length t.ifaces) ≡ true = grind (arith, nat_tests, g.1, represented.port_count) in
-    ap (option_map (λ w. w.dropped)) g.2 ∙ ap Some (represented.ports i g.0 g.2).dropped
-    ∙ sym (ap (λ b. cond b (Some (saturated (s.port i).dropped)) None) lt))
-    (λ g. let ge : ltb i (length t.ifaces) ≡ false = grind (arith, nat_tests, g.0, represented.port_count) in
-    ap (option_map (λ w. w.dropped)) (slice_get_past d.ports i g.0)
-    ∙ sym (ap (λ b. cond b (Some (saturated (s.port i).dropped)) None) ge))
-    ((slice_get_cases d.ports i).1)
+table_value : {X Y : Type 0} (here : ℕ → Bool) (P : ℕ → X → Type 0) (xs : List (Option X)) (f : X → Y) (y : Y) (i n : ℕ) → AllHere here P xs → length xs ≡ n
+    → ((x : X) → P i x → f x ≡ y) → option_and_then (option_map f) (slice_get xs i) ≡ cond (ltb i n && here i) (Some y) None
+table_value here P xs f y i n all count h = ⊎_elim
+    (λ g. let lt : ltb i n ≡ true = grind (arith, nat_tests, g.1, count) in
+    ap (option_and_then (option_map f)) g.2 ∙ here_value (P i) f y h (here i) g.0 (all i g.0 g.2)
+    ∙ sym (ap (λ b. cond (b && here i) (Some y) None) lt))
+    (λ g. let ge : ltb i n ≡ false = grind (arith, nat_tests, g.0, count) in
+    ap (option_and_then (option_map f)) (slice_get_past xs i g.0)
+    ∙ sym (ap (λ b. cond (b && here i) (Some y) None) ge))
+    ((slice_get_cases xs i).1)
+
+pub counter_is : (t : TopologyValue) (part : Option ℕ) (d : DevicesValue) (s : State (List ℕ) NodeStateValue) → DevicesRepresent t part d s.node s.port → (v : ℕ) (c : Counter)
+    → option_and_then (option_map (λ n. slice_index n.counters (counter_number c))) (slice_get d.nodes v) ≡ count_at t part s v c
+counter_is t part d s represented v c =
+    table_value (is_node_here t part) (λ v n. IsNodeOf t v n (s.node v)) d.nodes (λ n. slice_index n.counters (counter_number c)) (slice_index (s.node v).counters (counter_number c)) v (length t.nodes)
+    represented.nodes represented.node_count (λ n p. ap (λ z. slice_index z.counters (counter_number c)) p.0)
+
+pub drops_is : (t : TopologyValue) (part : Option ℕ) (d : DevicesValue) (s : State (List ℕ) NodeStateValue) → DevicesRepresent t part d s.node s.port → (i : ℕ)
+    → option_and_then (option_map (λ w. w.dropped)) (slice_get d.ports i) ≡ drops_at t part s i
+drops_is t part d s represented i =
+    table_value (is_iface_here t part) (λ i w. IsPortOf t i w (s.port i)) d.ports (λ w. w.dropped) (saturated (s.port i).dropped) i (length t.ifaces)
+    represented.ports represented.port_count (λ w p. p.dropped)

@@ -1,5 +1,5 @@
 -- What a node does with a packet.
-use Rattle.std.proofs.Common.{◌≡◌, ℕ, ◌<◌, true, false, cond, ◌==◌, List, length, Option, Some, None, slice_get, slice_set, refl, sym, ap, ◌∙◌, subst}
+use Rattle.std.proofs.Common.{◌≡◌, ℕ, true, false, cond, ◌==◌, List, Option, Some, None, slice_get, slice_set, refl, sym, ap, ◌∙◌, subst, arith}
 use Rattle.std.specs.Option.{IfSome}
 use Rattle.nm_base.specs.declared.event.Origin.{Origin}
 use Rattle.nm_base.specs.declared.event.Origin.TheVariants.{Arrival, Source as FromSource}
@@ -13,7 +13,10 @@ use Rattle.nm_model.specs.Port.{Port}
 use Rattle.nm_forward.specs.State.{IsIfaceOf, NodeStateValue, table_of, table_from}
 use Rattle.nm_forward.specs.Originate.{Consequence, Nothing, Counts, Sends, Originates, concluded}
 use Rattle.nm_forward.specs.Reaction.{reaction, arrived, handed, handed_by}
-use Rattle.nm_sim.specs.Devices.{DevicesValue, DevicesRepresent}
+use Rattle.nm_sim.specs.Devices.{DevicesValue, DevicesRepresent, IsNodeOf, IsPortOf}
+use Rattle.nm_sim.specs.Network.{is_iface_here, is_node_here, net_of}
+use Rattle.nm_sim.specs.Tables.{IsMember}
+use Rattle.nm_sim.proofs.Tables.{at_there, each_there}
 use Rattle.nm_sim.specs.Effects.{Reacts}
 use Rattle.nm_sim.proofs.Represents.{node_changed}
 
@@ -49,26 +52,39 @@ table_node t v = go (slice_get t.nodes v)
     go None = refl
     go (Some n) = refl
 
-module _ (t : TopologyValue) (d e : DevicesValue) (node : ℕ → NodeStateValue) (port : ℕ → Port (List ℕ)) (s : DevicesRepresent t d node port) (v : ℕ) (n : NodeStateValue) (here : slice_get d.nodes v ≡ Some n) where
+module _ (t : TopologyValue) (part : Option ℕ) (d e : DevicesValue) (node : ℕ → NodeStateValue) (port : ℕ → Port (List ℕ)) (s : DevicesRepresent t part d node port) (v : ℕ) (n : NodeStateValue)
+    (here : slice_get d.nodes v ≡ Some (Some n)) where
+  -- the node is here, and in the state that it has there
+  pub node_is : (is_node_here t part v ≡ true) × IsNodeOf t v n (node v)
+  node_is = at_there (is_node_here t part) (λ u m. IsNodeOf t u m (node u)) d.nodes s.nodes v n here
+
+  number_is : n.table.node ≡ v
+  number_is = ap (λ z. z.node) node_is.1.1 ∙ table_node t v
+
   pub table_is : n.table ≡ table_of t n.table.node
-  table_is = s.tables v n here ∙ ap (table_of t) (sym (ap (λ z. z.node) (s.tables v n here) ∙ table_node t v))
+  table_is = node_is.1.1 ∙ ap (table_of t) (sym number_is)
 
   pub reacts_by : (m : NodeStateValue) (o : Origin) (x : List ℕ) (sent : Option (ℕ × List ℕ)) → (m, sent) ≡ reaction t n.table.node n o x
-      → e.nodes ≡ slice_set d.nodes v m → e.ports ≡ d.ports → e.sources ≡ d.sources → Reacts t node port v o x e sent
+      → e.nodes ≡ slice_set d.nodes v (Some m) → e.ports ≡ d.ports → e.sources ≡ d.sources → Reacts t part node port v o x e sent
   reacts_by m o x sent q nodes ports sources =
-      let at : n.table.node ≡ v = ap (λ z. z.node) (s.tables v n here) ∙ table_node t v in
-      let r : ◌≡◌ {A = NodeStateValue × Option (ℕ × List ℕ)} (m, sent) (reaction t v (node v) o x) = q ∙ (λ k. reaction t (at k) (s.nodes v n here k) o x) in
-      let table : m.table ≡ table_of t v = ap (λ z. z.0.table) q ∙ keeps_table t n.table.node n o x ∙ s.tables v n here in
+      let r : ◌≡◌ {A = NodeStateValue × Option (ℕ × List ℕ)} (m, sent) (reaction t v (node v) o x) = q ∙ (λ k. reaction t (number_is k) (node_is.1.0 k) o x) in
+      let table : m.table ≡ table_of t v = ap (λ z. z.0.table) q ∙ keeps_table t n.table.node n o x ∙ node_is.1.1 in
       record {
-        represented = subst (λ z. DevicesRepresent t e (set_at node v z) port) (ap (λ z. z.0) r) (node_changed t d e node port s v m nodes ports sources table);
+        represented = subst (λ z. DevicesRepresent t part e (set_at node v z) port) (ap (λ z. z.0) r) (node_changed t part d e node port s v m nodes ports sources node_is.0 table);
         sends = ap (λ z. z.1) r;
       }
 
-within_of : (t : TopologyValue) (v : ℕ) (o : Option (ℕ × List ℕ)) → ((s : ℕ × List ℕ) → o ≡ Some s → IsIfaceOf t.ifaces v s.0) → IfSome o (λ s. s.0 < length t.ifaces)
-within_of t v None h = tt
-within_of t v (Some s) h = (h s refl).0
+  -- the interfaces of a node that is here have ports
+  own_port : (i : ℕ) → IsIfaceOf t.ifaces v i → IsMember (slice_get d.ports i)
+  unfolding net_of
+  own_port i own = each_there (is_iface_here t part) (λ j w. IsPortOf t j w (port j)) d.ports s.ports i (omega (arith, own.0, s.port_count))
+      (ap (is_node_here t part) own.1 ∙ node_is.0)
 
-pub sends_within : (t : TopologyValue) (v : ℕ) (n : NodeStateValue) (o : Origin) (x : List ℕ) (m : NodeStateValue) (sent : Option (ℕ × List ℕ))
-    → ((v : ℕ) (n : NodeStateValue) (o : Origin) (x : List ℕ) (s : ℕ × List ℕ) → (reaction t v n o x).1 ≡ Some s → IsIfaceOf t.ifaces v s.0)
-    → (m, sent) ≡ reaction t v n o x → IfSome sent (λ s. s.0 < length t.ifaces)
-sends_within t v n o x m sent own q = within_of t v sent (λ s e. own v n o x s (sym (ap (λ z. z.1) q) ∙ e))
+  pub sends_by_own : (o : Origin) (x : List ℕ) (m : NodeStateValue) (sent : Option (ℕ × List ℕ))
+      → ((v : ℕ) (n : NodeStateValue) (o : Origin) (x : List ℕ) (s : ℕ × List ℕ) → (reaction t v n o x).1 ≡ Some s → IsIfaceOf t.ifaces v s.0)
+      → (m, sent) ≡ reaction t n.table.node n o x → IfSome sent (λ s. IsMember (slice_get d.ports s.0))
+  sends_by_own o x m sent own q = go sent (ap (λ z. z.1) q)
+    where
+      go : (a : Option (ℕ × List ℕ)) → a ≡ (reaction t n.table.node n o x).1 → IfSome a (λ s. IsMember (slice_get d.ports s.0))
+      go None e = tt
+      go (Some a) e = own_port a.0 (subst (λ u. IsIfaceOf t.ifaces u a.0) number_is (own n.table.node n o x a (sym e)))

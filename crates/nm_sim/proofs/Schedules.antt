@@ -1,13 +1,13 @@
 -- What an event makes is new, and stands at places of the topology.
-use Rattle.std.proofs.Common.{◌≡◌, ◌≢◌, ◌⊎◌, inl, inr, ℕ, zero, suc, ◌+◌, ◌<◌, ◌≤◌, ◌==◌, Bool, true, false, List, [], ◌∷◌, ◌++◌, length, Option, Some, None, refl, sym, ap, ◌∙◌, subst, arith, ⊎_elim, length-append}
-use Rattle.std.proofs.lemmas.Bool.Decides.{nat_tests}
+use Rattle.std.proofs.Common.{◌≡◌, ◌≢◌, ℕ, zero, suc, ◌+◌, ◌<◌, ◌≤◌, Bool, true, false, cond, List, [], ◌∷◌, ◌++◌, length, Option, Some, None, refl, sym, ap, ◌∙◌, subst, arith, ⊎_elim, length-append}
 use Rattle.std.specs.FinMap.{FinMap, get, insert, remove}
 use Rattle.std.specs.Option.{IfSome}
 use Rattle.nm_base.specs.declared.event.Event.{Event}
 use Rattle.nm_base.specs.declared.key.Key.{Key}
 use Rattle.nm_base.specs.declared.key.Place.{Place}
 use Rattle.nm_base.specs.declared.key.Place.TheVariants.{Arrive, Complete}
-use Rattle.nm_base.specs.Key.{key_cmp}
+use Rattle.nm_base.specs.declared.event.Event.TheVariants.{Delivery}
+use Rattle.nm_base.specs.Key.{key_cmp, key_of}
 use Rattle.nm_topology.specs.Accepted.{IsInOrder}
 use Rattle.nm_topology.specs.TopologyValue.{TopologyValue}
 use Rattle.nm_model.specs.EventList.{schedule}
@@ -18,25 +18,28 @@ use Rattle.nm_sim.specs.Network.{net_of}
 use Rattle.nm_sim.specs.Timelines.{AreFresh, everywhere}
 use Rattle.nm_sim.proofs.Beginnings.{peer_is}
 use Rattle.nm_model.proofs.Keys.{insert_other, key_decides, remove_other, remove_same}
-use Rattle.nm_sim.proofs.Represents.{set_here, set_there}
+use Rattle.nm_model.proofs.ListLemmas.{same_number, set_here, set_there, some_inj}
 use Rattle.std.proofs.lemmas.Option.{slice_get_cases}
 
 nth_after : {A : Type 0} (xs ys : List A) (m : ℕ) → nth (xs ++ ys) (length xs + m) ≡ nth ys m
 nth_after {A} [] ys m = let e : length {A = A} [] + m ≡ m = omega arith in ap (nth ys) e
 nth_after (x ∷ xs) ys m = let e : length (x ∷ xs) + m ≡ suc (length xs + m) = omega arith in ap (nth (x ∷ xs ++ ys)) e ∙ nth_after xs ys m
 
-pub same_some : {A : Type 0} (x y : A) → Some x ≡ Some y → x ≡ y
-same_some x y e = cc
-
 nth_before : {A : Type 0} (xs ys : List A) (m : ℕ) (x : A) → nth xs m ≡ Some x → (m < length xs) × (nth (xs ++ ys) m ≡ Some x)
 nth_before [] ys m x e = absurd cc
 nth_before (y ∷ xs) ys zero x e = (omega arith, e)
 nth_before (y ∷ xs) ys (suc m) x e = let h = nth_before xs ys m x e in (omega (arith, h.0), h.1)
 
-pub schedule_append : (xs ys : List (Key × Event (List ℕ))) (m : FinMap key_cmp (Event (List ℕ)))
-    → schedule everywhere (xs ++ ys) m ≡ schedule everywhere xs (schedule everywhere ys m)
-schedule_append [] ys m = refl
-schedule_append (x ∷ xs) ys m = ap (λ l. insert l x.0 x.1) (schedule_append xs ys m)
+pub schedule_append : (here : Place → Bool) (xs ys : List (Key × Event (List ℕ))) (m : FinMap key_cmp (Event (List ℕ)))
+    → schedule here (xs ++ ys) m ≡ schedule here xs (schedule here ys m)
+schedule_append here [] ys m = refl
+schedule_append here (x ∷ xs) ys m = ap (λ l. cond (here x.0.place) (insert l x.0 x.1) l) (schedule_append here xs ys m)
+
+-- what follows at a place that is here
+pub next_here : (here : Place → Bool) (place : Place) (number : ℕ) (o : Option (ℕ × List ℕ)) (m : FinMap key_cmp (Event (List ℕ))) → here place ≡ true
+    → schedule everywhere (next_events place number o) m ≡ schedule here (next_events place number o) m
+next_here here place number None m h = refl
+next_here here place number (Some f) m h = sym (ap (λ b. cond b (insert m (key_of f.0 place (suc number)) (Delivery f.1)) m) h)
 
 -- events in two lists, of which the second is that of a source, are new one after another
 module _ (pending : FinMap key_cmp (Event (List ℕ))) (xs : List (Key × Event (List ℕ))) (place : Place) (number : ℕ) (follows : Option (ℕ × List ℕ))
@@ -59,15 +62,25 @@ module _ (pending : FinMap key_cmp (Event (List ℕ))) (xs : List (Key × Event 
 
 -- whatever is pending after events are put stands at one of the places
 module _ (P : Place → Type 0) where
-  pub placed_schedule : (es : List (Key × Event (List ℕ))) (m : FinMap key_cmp (Event (List ℕ)))
+  pub placed_insert : (m : FinMap key_cmp (Event (List ℕ))) (k : Key) (v : Event (List ℕ)) → P k.place
+      → ((q : Key) (y : Event (List ℕ)) → get m q ≡ Some y → P q.place)
+      → (q : Key) (y : Event (List ℕ)) → get (insert m k v) q ≡ Some y → P q.place
+  placed_insert m k v p h q y e = ⊎_elim
+      (λ same. subst (λ z. P z.place) (sym same) p)
+      (λ other. h q y (sym (insert_other m k v q other) ∙ e))
+      (key_decides q k)
+
+  pub placed_schedule : (here : Place → Bool) (es : List (Key × Event (List ℕ))) (m : FinMap key_cmp (Event (List ℕ)))
       → ((i : ℕ) (f : Key × Event (List ℕ)) → nth es i ≡ Some f → P f.0.place)
       → ((q : Key) (y : Event (List ℕ)) → get m q ≡ Some y → P q.place)
-      → (q : Key) (y : Event (List ℕ)) → get (schedule everywhere es m) q ≡ Some y → P q.place
-  placed_schedule [] m h k q y e = k q y e
-  placed_schedule (x ∷ es) m h k q y e = ⊎_elim
-      (λ same. subst (λ z. P z.place) (sym same) (h 0 x refl))
-      (λ other. placed_schedule es m (λ i f g. h (suc i) f g) k q y (sym (insert_other (schedule everywhere es m) x.0 x.1 q other) ∙ e))
-      (key_decides q x.0)
+      → (q : Key) (y : Event (List ℕ)) → get (schedule here es m) q ≡ Some y → P q.place
+  placed_schedule here [] m h k q y e = k q y e
+  placed_schedule here (x ∷ es) m h k q y e = go (placed_schedule here es m (λ i f g. h (suc i) f g) k) (here x.0.place) e
+    where
+      go : ((r : Key) (z : Event (List ℕ)) → get (schedule here es m) r ≡ Some z → P r.place)
+          → (b : Bool) → get (cond b (insert (schedule here es m) x.0 x.1) (schedule here es m)) q ≡ Some y → P q.place
+      go rest true g = placed_insert (schedule here es m) x.0 x.1 (h 0 x refl) rest q y g
+      go rest false g = rest q y g
 
   pub placed_remove : (m : FinMap key_cmp (Event (List ℕ))) (r : Key) → ((q : Key) (y : Event (List ℕ)) → get m q ≡ Some y → P q.place)
       → (q : Key) (y : Event (List ℕ)) → get (remove m r) q ≡ Some y → P q.place
@@ -86,14 +99,14 @@ module _ (t : TopologyValue) (order : IsInOrder t.nodes t.ifaces t.links) where
   pub placed_transmission : (time : ℕ) (sent : ℕ → List (ℕ × List ℕ)) (o : Option (ℕ × List ℕ)) → IfSome o (λ z. z.0 < length t.ifaces)
       → (i : ℕ) (f : Key × Event (List ℕ)) → nth (transmission_events (net_of t) time sent o) i ≡ Some f → IsPlaceIn t f.0.place
   placed_transmission time sent None h i f e = absurd cc
-  placed_transmission time sent (Some z) h zero f e = let s : Complete z.0 ≡ f.0.place = ap (λ (g : Key × Event (List ℕ)). g.0.place) (same_some _ f e) in subst (IsPlaceIn t) s h
-  placed_transmission time sent (Some z) h (suc zero) f e = let s : Arrive ((net_of t).peer z.0) ≡ f.0.place = ap (λ (g : Key × Event (List ℕ)). g.0.place) (same_some _ f e) in subst (IsPlaceIn t) s (peer_there z.0 h)
+  placed_transmission time sent (Some z) h zero f e = let s : Complete z.0 ≡ f.0.place = ap (λ (g : Key × Event (List ℕ)). g.0.place) (some_inj _ f e) in subst (IsPlaceIn t) s h
+  placed_transmission time sent (Some z) h (suc zero) f e = let s : Arrive ((net_of t).peer z.0) ≡ f.0.place = ap (λ (g : Key × Event (List ℕ)). g.0.place) (some_inj _ f e) in subst (IsPlaceIn t) s (peer_there z.0 h)
   placed_transmission time sent (Some z) h (suc (suc i)) f e = absurd cc
 
 pub placed_next : (P : Place → Type 0) (place : Place) (number : ℕ) (o : Option (ℕ × List ℕ)) → P place
     → (i : ℕ) (f : Key × Event (List ℕ)) → nth (next_events place number o) i ≡ Some f → P f.0.place
 placed_next P place number None h i f e = absurd cc
-placed_next P place number (Some z) h zero f e = let s : place ≡ f.0.place = ap (λ (g : Key × Event (List ℕ)). g.0.place) (same_some _ f e) in subst P s h
+placed_next P place number (Some z) h zero f e = let s : place ≡ f.0.place = ap (λ (g : Key × Event (List ℕ)). g.0.place) (some_inj _ f e) in subst P s h
 placed_next P place number (Some z) h (suc i) f e = absurd cc
 
 -- one more packet at most is put on an interface
@@ -105,17 +118,10 @@ one_more t time n sent (Some z) h c = ⊎_elim
     let e = ap (λ j. length (set_at sent ((net_of t).peer z.0) put j)) same ∙ ap length (set_here sent ((net_of t).peer z.0) put) ∙ length-append (sent ((net_of t).peer z.0)) (message ∷ []) in
     omega (arith, l, e))
     (λ other. let l = h c in let e = ap length (set_there sent ((net_of t).peer z.0) put c other) in omega (arith, l, e))
-    (cases c ((net_of t).peer z.0))
+    (same_number c ((net_of t).peer z.0))
   where
     message : ℕ × List ℕ
     message = (time + (net_of t).tx z.0 z.1 + (net_of t).delay z.0, z.1)
 
     put : List (ℕ × List ℕ)
     put = sent ((net_of t).peer z.0) ++ message ∷ []
-
-    cases : (a b : ℕ) → (a ≡ b) ⊎ (a ≢ b)
-    cases a b = go (a == b) refl
-      where
-        go : (r : Bool) → (a == b) ≡ r → (a ≡ b) ⊎ (a ≢ b)
-        go true q = inl (grind (arith, nat_tests, q))
-        go false q = inr (λ f. absurd (grind (arith, nat_tests, q, f)))

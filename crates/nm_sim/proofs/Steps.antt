@@ -1,5 +1,5 @@
 -- A step of a part is the step of what it represents.
-use Rattle.std.proofs.Common.{◌≡◌, ℕ, zero, suc, ◌<◌, ◌≤◌, ◌^◌, cond, List, [], ◌∷◌, length, Option, Some, None, slice_get, refl, sym, ap, ◌∙◌, subst, arith}
+use Rattle.std.proofs.Common.{◌≡◌, ℕ, zero, suc, ◌<◌, ◌≤◌, Bool, true, false, true≢false, ⊎_elim, cond, List, [], ◌∷◌, length, Option, Some, None, slice_get, refl, sym, ap, ◌∙◌, subst, arith}
 use Rattle.std.specs.FinMap.{FinMap, entries, get, get-entries, insert, remove}
 use Rattle.std.specs.Cmp.{tied_itself}
 use Rattle.std.specs.Ordering.{is_eq, eq_by_cmp}
@@ -24,11 +24,13 @@ use Rattle.nm_forward.specs.State.{NodeStateValue}
 use Rattle.nm_forward.specs.Reaction.{FitsOrigin, FitsSource}
 use Rattle.nm_iface.specs.PortValue.{PortValue}
 use Rattle.nm_traffic.specs.Orderly.{ComeBeforeStop, EndForGood, FitsMtu, FitTheMtu, TimesRise}
-use Rattle.nm_traffic.specs.Source.{source_at}
-use Rattle.nm_sim.specs.Devices.{DevicesValue, DevicesRepresent}
+use Rattle.nm_traffic.specs.Source.{source_at, source_of}
+use Rattle.nm_sim.specs.Devices.{DevicesValue, DevicesRepresent, IsPortOf}
 use Rattle.nm_sim.specs.Effects.{CanHappen, IsBusy, IsPlaceIn}
-use Rattle.nm_sim.specs.Network.{net_of}
-use Rattle.nm_sim.specs.Timelines.{everywhere}
+use Rattle.nm_sim.specs.Network.{here_of, is_iface_here, is_source_here, net_of}
+use Rattle.nm_sim.specs.Tables.{AllHere, IsMember, IsThere}
+use Rattle.nm_model.proofs.ListLemmas.{not_some}
+use Rattle.std.proofs.lemmas.Option.{slice_get_cases}
 
 -- the entry of the least key is there
 pub least_has : {X : Type 0} (m : FinMap key_cmp X) (e : Key × X) → least m ≡ Some e → get m e.0 ≡ Some e.1
@@ -52,10 +54,17 @@ module _ (t : TopologyValue) (rise : TimesRise t) (end : EndForGood t) where
       go before None f = absurd (let none = end j n f in cc)
       go before (Some b) f = let h = before b f in let r = rise j n b a f e in omega arith
 
-past : {X : Type 0} (xs : List X) (i : ℕ) → slice_get xs i ≡ None → length xs ≤ i
-past [] i e = omega arith
-past (x ∷ xs) zero e = absurd cc
-past (x ∷ xs) (suc i) e = let h = past xs i e in omega arith
+-- what is here is kept
+kept_member : {X : Type 0} (here : ℕ → Bool) (P : ℕ → X → Type 0) (xs : List (Option X)) (i : ℕ) → AllHere here P xs → here i ≡ true → i < length xs → IsMember (slice_get xs i)
+kept_member {X} here P xs i h e l = ⊎_elim
+    (λ g. subst IsMember (sym g.2) (go (here i) e g.0 (h i g.0 g.2)))
+    (λ g. absurd (omega (arith, g.0, l)))
+    ((slice_get_cases xs i).1)
+  where
+    go : (b : Bool) → b ≡ true → (o : Option X) → IsThere b (P i) o → IsMember (Some o)
+    go true f None p = absurd p
+    go true f (Some x) p = tt
+    go false f o p = absurd (true≢false (sym f))
 
 module _ (t : TopologyValue) (limits : IsWithinLimits t) (fit : FitTheMtu t) where
   fits_traffic : (traffic : Traffic) (x : List ℕ) → FitsMtu t.mtu traffic (length x) → Rattle.nm_forward.specs.Reaction.FitsHeaders traffic x
@@ -70,22 +79,47 @@ module _ (t : TopologyValue) (limits : IsWithinLimits t) (fit : FitTheMtu t) whe
       go None f = tt
       go (Some s) f = fits_traffic s.traffic a.1 (fit j n s a f e)
 
-module _ (t : TopologyValue) (s : State (List ℕ) NodeStateValue) (orderly : IsOrderly (net_of t) everywhere s) (d : DevicesValue) (represented : DevicesRepresent t d s.node s.port) where
-  busy_at : (i : ℕ) (b : Busy (List ℕ)) → (s.port i).busy ≡ Some b → i < length t.ifaces → IsBusy (slice_get d.ports i)
-  busy_at i b e h = go (slice_get d.ports i) refl
+-- what is pending is here
+pub pending_here : (t : TopologyValue) (part : Option ℕ) (s : State (List ℕ) NodeStateValue) → IsOrderly (net_of t) (here_of t part) s → (k : Key) (y : Event (List ℕ)) → get s.pending k ≡ Some y
+    → here_of t part k.place ≡ true
+pending_here t part s orderly k y e = go (here_of t part k.place) refl
+  where
+    go : (b : Bool) → here_of t part k.place ≡ b → b ≡ true
+    go true f = refl
+    go false f = absurd (not_some y (sym (orderly.own k f) ∙ e))
+
+module _ (t : TopologyValue) (part : Option ℕ) (s : State (List ℕ) NodeStateValue) (orderly : IsOrderly (net_of t) (here_of t part) s) (d : DevicesValue)
+    (represented : DevicesRepresent t part d s.node s.port) where
+  busy_at : (i : ℕ) (b : Busy (List ℕ)) → (s.port i).busy ≡ Some b → i < length t.ifaces → is_iface_here t part i ≡ true → IsBusy (slice_get d.ports i)
+  busy_at i b e l h = ⊎_elim
+      (λ g. subst IsBusy (sym g.2) (go (is_iface_here t part i) h g.0 (represented.ports i g.0 g.2)))
+      (λ g. absurd (omega (arith, g.0, l, represented.port_count)))
+      ((slice_get_cases d.ports i).1)
     where
-      go : (o : Option PortValue) → slice_get d.ports i ≡ o → IsBusy o
-      go None f = absurd (let n = past d.ports i f in omega (arith, n, h, represented.port_count))
-      go (Some w) f = let p = represented.ports i w f in subst IsSome (sym (p.busy ∙ e)) refl
+      go : (here : Bool) → here ≡ true → (o : Option PortValue) → IsThere here (λ w. IsPortOf t i w (s.port i)) o → IsBusy (Some o)
+      go true h None p = absurd p
+      go true h (Some w) p = subst IsSome (sym (p.busy ∙ e)) refl
+      go false h o p = absurd (true≢false (sym h))
 
   -- where a completion is pending, the interface transmits
   pub is_busy : (i time number : ℕ) (y : Event (List ℕ)) → get s.pending (key_of time (Complete i) number) ≡ Some y → i < length t.ifaces → IsBusy (slice_get d.ports i)
-  is_busy i time number y e h = let c = orderly.completion i time number y e in busy_at i c.0 c.2 h
+  is_busy i time number y e h =
+      let c = orderly.completion i time number y e in
+      busy_at i c.0 c.2 h (pending_here t part s orderly (key_of time (Complete i) number) y e)
+
+  -- where an arrival is pending, or a source's packet, the port or the source is kept
+  pub port_is_kept : (i time number : ℕ) (y : Event (List ℕ)) → get s.pending (key_of time (Arrive i) number) ≡ Some y → i < length t.ifaces → IsMember (slice_get d.ports i)
+  port_is_kept i time number y e h =
+      kept_member (is_iface_here t part) (λ i w. IsPortOf t i w (s.port i)) d.ports i represented.ports (pending_here t part s orderly (key_of time (Arrive i) number) y e) (omega (arith, h, represented.port_count))
+
+  pub source_is_kept : (j time number : ℕ) (y : Event (List ℕ)) → get s.pending (key_of time (Fire j) number) ≡ Some y → j < length t.sources → IsMember (slice_get d.sources j)
+  source_is_kept j time number y e h =
+      kept_member (is_source_here t part) (λ j z. source_of t j ≡ Some z) d.sources j represented.sources (pending_here t part s orderly (key_of time (Fire j) number) y e) (omega (arith, h, represented.source_count))
 
 module _ (t : TopologyValue) (limits : IsWithinLimits t) (fit : FitTheMtu t) (rise : TimesRise t) (end : EndForGood t) (before : ComeBeforeStop t)
-    (s : State (List ℕ) NodeStateValue) (orderly : IsOrderly (net_of t) everywhere s)
+    (part : Option ℕ) (s : State (List ℕ) NodeStateValue) (orderly : IsOrderly (net_of t) (here_of t part) s)
     (placed : (q : Key) (y : Event (List ℕ)) → get s.pending q ≡ Some y → IsPlaceIn t q.place)
-    (d : DevicesValue) (represented : DevicesRepresent t d s.node s.port) where
+    (d : DevicesValue) (represented : DevicesRepresent t part d s.node s.port) where
   -- an event that is pending can happen
   pub can_happen : (k : Key) (y : Event (List ℕ)) → get s.pending k ≡ Some y → CanHappen t d k.place k.number y
   unfolding net_of
@@ -94,7 +128,7 @@ module _ (t : TopologyValue) (limits : IsWithinLimits t) (fit : FitTheMtu t) (ri
       go : (p : Place) (z : Event (List ℕ)) → IsPlaceIn t p → get s.pending (key_of k.time p k.number) ≡ Some z → CanHappen t d p k.number z
       go (Arrive i) (Delivery x) h f = h
       go (Arrive i) Completion h f = absurd (let a = orderly.arrival i k.time k.number Completion f in let b = a.1 in cc)
-      go (Complete i) Completion h f = (h, is_busy t s orderly d represented i k.time k.number Completion f h)
+      go (Complete i) Completion h f = (h, is_busy t part s orderly d represented i k.time k.number Completion f h)
       go (Complete i) (Delivery x) h f = absurd (let c = orderly.completion i k.time k.number (Delivery x) f in let b = c.1 in cc)
       go (Fire j) (Delivery x) h f =
           let c = orderly.source j k.time k.number (Delivery x) f in
@@ -108,20 +142,3 @@ module _ (t : TopologyValue) (limits : IsWithinLimits t) (fit : FitTheMtu t) (ri
           from_net : (x' x : List ℕ) → x' ≡ x → (net_of t).source j k.number ≡ Some (k.time, x') → source_at t j k.number ≡ Some (k.time, x)
           from_net x' x e g = g ∙ ap (λ z. Some (k.time, z)) e
       go (Fire j) Completion h f = absurd (let c = orderly.source j k.time k.number Completion f in let b = c.1 in cc)
-
-module _ (t : TopologyValue) (limits : IsWithinLimits t) (rise : TimesRise t) (end : EndForGood t) (before : ComeBeforeStop t)
-    (s : State (List ℕ) NodeStateValue) (orderly : IsOrderly (net_of t) everywhere s) (n : ℕ) (few : (c : ℕ) → length (s.sent c) ≤ n) (bound : n ≤ 2 ^ 62) where
-  -- the numbers of events that are pending are small
-  pub number_small : (k : Key) (y : Event (List ℕ)) → get s.pending k ≡ Some y → k.number < 2 ^ 63
-  unfolding net_of
-  number_small k y e = go k.place e
-    where
-      go : (p : Place) → get s.pending (key_of k.time p k.number) ≡ Some y → k.number < 2 ^ 63
-      go (Arrive i) f = let h = orderly.inner i k.time k.number y refl f in let g = few i in omega arith
-      go (Complete i) f = let c = orderly.completion i k.time k.number y f in let g = few ((net_of t).peer i) in let h = c.4 in omega (arith, g, h, bound)
-      go (Fire j) f =
-          let c = orderly.source j k.time k.number y f in
-          let a = number_le t rise end j k.number (k.time, c.0) c.2 in
-          let b = before j k.number (k.time, c.0) c.2 in
-          let stop = limits.greatest_stop in
-          omega (arith, a, b, stop)

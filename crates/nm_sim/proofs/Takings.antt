@@ -18,72 +18,69 @@ use Rattle.nm_forward.specs.State.{NodeStateValue}
 use Rattle.nm_forward.specs.Reaction.{reaction}
 use Rattle.nm_iface.specs.declared.port.Start.{Start}
 use Rattle.nm_traffic.specs.Source.{source_at}
-use Rattle.nm_sim.specs.Devices.{DevicesValue}
-use Rattle.nm_sim.specs.Tables.{AllAt}
 use Rattle.nm_sim.specs.Effects.{Reacts, Sends, transmission_of}
-use Rattle.nm_sim.specs.Network.{net_of}
-use Rattle.nm_sim.specs.Part.{HasReacted, IsReady, IsUnderWay, PartValue, Performed, Represents, Taken}
-use Rattle.nm_sim.specs.Timelines.{AreFresh, TimelineValue, TimelineRepresents, everywhere}
+use Rattle.nm_sim.specs.Network.{here_of, net_of}
+use Rattle.nm_sim.specs.Outgoing.{OutgoingRepresents}
+use Rattle.nm_sim.specs.Part.{HasMemory, HasReacted, IsReady, IsUnderWay, PartValue, Performed, Represents, Taken}
+use Rattle.nm_sim.specs.Timelines.{AreFresh, TimelineValue, everywhere}
 use Rattle.nm_sim.proofs.Beginnings.{numbered_same}
+use Rattle.nm_sim.proofs.Kept.{Kept}
 use Rattle.nm_sim.proofs.Doings.{arrives_by, fires_by, follows_is}
-use Rattle.nm_sim.proofs.Schedules.{first_fresh, same_some, second_fresh}
+use Rattle.nm_sim.proofs.Schedules.{first_fresh, second_fresh}
+use Rattle.nm_model.proofs.ListLemmas.{some_inj}
 use Rattle.nm_model.proofs.Keys.{remove_same}
 
-module _ {L : Type 0} (pending : L → FinMap key_cmp (Event (List ℕ))) (t : TopologyValue) (k : Key) (e : Event (List ℕ)) (p q : PartValue L) (s : State (List ℕ) NodeStateValue) where
-  pub taken_out : Represents pending t p s → Some (k, e) ≡ least (pending p.timeline.events) → pending q.timeline.events ≡ remove (pending p.timeline.events) k
-      → q.timeline.sent ≡ p.timeline.sent → q.timeline.records ≡ p.timeline.records → q.steps ≡ p.steps → Taken pending t k e None None q s
-  taken_out h first events sent records steps = record {
+module _ {L : Type 0} (pending : L → FinMap key_cmp (Event (List ℕ))) (t : TopologyValue) (part : Option ℕ) (k : Key) (e : Event (List ℕ)) (p q : PartValue L) (kept : Kept p q)
+    (s : State (List ℕ) NodeStateValue) where
+  pub taken_out : Represents pending t part p s → Some (k, e) ≡ least (pending p.timeline.events) → pending q.timeline.events ≡ remove (pending p.timeline.events) k
+      → q.records.list ≡ p.records.list → Taken pending t part k e None None q s
+  taken_out h first events records = record {
     first = ap (λ m. least m) (sym h.events) ∙ sym first;
+    is_part = kept.is_part ∙ h.is_part;
     orderly = h.orderly;
-    numbered = numbered_same t p.timeline q.timeline s.sent sent h.numbered;
-    few = λ c. let l = h.few c in omega (arith, l, steps);
+    numbered = numbered_same t p.timeline q.timeline s.sent kept.sent h.numbered;
+    outgoing = subst (λ o. OutgoingRepresents t part o s.sent) (sym kept.outgoing) h.outgoing;
+    few = λ c. let l = h.few c in omega (arith, l, kept.steps);
     events = events ∙ ap (λ m. remove m k) h.events;
     placed = h.placed;
     records = records ∙ h.records ∙ sym (append-nil s.records);
   }
 
-  -- its devices change
-  pub taken_same : {came follows : Option (ℕ × List ℕ)} → Taken pending t k e came follows p s → q.timeline ≡ p.timeline → q.steps ≡ p.steps → Taken pending t k e came follows q s
-  taken_same h line steps = record {
+  -- it goes on: what came is recorded, and what follows is pending
+  pub taken_on : {came follows : Option (ℕ × List ℕ)} (came' follows' : Option (ℕ × List ℕ)) → Taken pending t part k e came follows p s
+      → pending q.timeline.events ≡ schedule everywhere (next_events k.place k.number follows') (remove s.pending k)
+      → q.records.list ≡ s.records ++ in_record k.time came' → Taken pending t part k e came' follows' q s
+  taken_on came' follows' h events records = record {
     first = h.first;
+    is_part = kept.is_part ∙ h.is_part;
     orderly = h.orderly;
-    numbered = subst (λ (l : TimelineValue L). TimelineRepresents t l s.sent) (sym line) h.numbered;
-    few = λ c. let l = h.few c in omega (arith, l, steps);
-    events = ap (λ (l : TimelineValue L). pending l.events) line ∙ h.events;
+    numbered = numbered_same t p.timeline q.timeline s.sent kept.sent h.numbered;
+    outgoing = subst (λ o. OutgoingRepresents t part o s.sent) (sym kept.outgoing) h.outgoing;
+    few = λ c. let l = h.few c in omega (arith, l, kept.steps);
+    events = events;
     placed = h.placed;
-    records = ap (λ (l : TimelineValue L). l.records) line ∙ h.records;
+    records = records;
   }
+
+  -- its devices change
+  pub taken_same : {came follows : Option (ℕ × List ℕ)} → Taken pending t part k e came follows p s → pending q.timeline.events ≡ pending p.timeline.events
+      → q.records.list ≡ p.records.list → Taken pending t part k e came follows q s
+  taken_same {came} {follows} h events records = taken_on came follows h (events ∙ h.events) (records ∙ h.records)
 
   -- a packet came with it
-  pub taken_came : (came : Option (ℕ × List ℕ)) → Taken pending t k e None None p s → pending q.timeline.events ≡ pending p.timeline.events
-      → q.timeline.sent ≡ p.timeline.sent → q.timeline.records ≡ p.timeline.records ++ in_record k.time came → q.steps ≡ p.steps → Taken pending t k e came None q s
-  taken_came came h events sent records steps = record {
-    first = h.first;
-    orderly = h.orderly;
-    numbered = numbered_same t p.timeline q.timeline s.sent sent h.numbered;
-    few = λ c. let l = h.few c in omega (arith, l, steps);
-    events = events ∙ h.events;
-    placed = h.placed;
-    records = records ∙ ap (λ l. l ++ in_record k.time came) (h.records ∙ append-nil s.records);
-  }
+  pub taken_came : (came : Option (ℕ × List ℕ)) → Taken pending t part k e None None p s → pending q.timeline.events ≡ pending p.timeline.events
+      → q.records.list ≡ p.records.list ++ in_record k.time came → Taken pending t part k e came None q s
+  taken_came came h events records = taken_on came None h (events ∙ h.events) (records ∙ ap (λ l. l ++ in_record k.time came) (h.records ∙ append-nil s.records))
 
   -- another follows at its source
-  pub taken_follows : (follows : Option (ℕ × List ℕ)) → Taken pending t k e None None p s
+  pub taken_follows : (follows : Option (ℕ × List ℕ)) → Taken pending t part k e None None p s
       → pending q.timeline.events ≡ schedule everywhere (next_events k.place k.number follows) (pending p.timeline.events)
-      → q.timeline.sent ≡ p.timeline.sent → q.timeline.records ≡ p.timeline.records → q.steps ≡ p.steps → Taken pending t k e None follows q s
-  taken_follows follows h events sent records steps = record {
-    first = h.first;
-    orderly = h.orderly;
-    numbered = numbered_same t p.timeline q.timeline s.sent sent h.numbered;
-    few = λ c. let l = h.few c in omega (arith, l, steps);
-    events = events ∙ ap (schedule everywhere (next_events k.place k.number follows)) h.events;
-    placed = h.placed;
-    records = records ∙ h.records;
-  }
+      → q.records.list ≡ p.records.list → Taken pending t part k e None follows q s
+  taken_follows follows h events records = taken_on None follows h (events ∙ ap (schedule everywhere (next_events k.place k.number follows)) h.events) (records ∙ h.records)
 
-module _ {L : Type 0} (pending : L → FinMap key_cmp (Event (List ℕ))) (t : TopologyValue) (k : Key) (e : Event (List ℕ)) (p : PartValue L) (s : State (List ℕ) NodeStateValue) where
+module _ {L : Type 0} (pending : L → FinMap key_cmp (Event (List ℕ))) (t : TopologyValue) (part : Option ℕ) (k : Key) (e : Event (List ℕ)) (p : PartValue L) (s : State (List ℕ) NodeStateValue) where
   -- its key is free
-  pub key_is_free : Taken pending t k e None None p s → get (pending p.timeline.events) k ≡ None
+  pub key_is_free : Taken pending t part k e None None p s → get (pending p.timeline.events) k ≡ None
   key_is_free h = ap (λ m. get m k) h.events ∙ remove_same s.pending k
 
   abbrev does_at : Effect (List ℕ) NodeStateValue
@@ -93,13 +90,13 @@ module _ {L : Type 0} (pending : L → FinMap key_cmp (Event (List ℕ))) (t : T
       (fresh : (m : ℕ) (f : Key × Event (List ℕ)) → nth (made (net_of t) s (k, e)) m ≡ Some f → get (remove s.pending k) f.0 ≡ None)
       (apart : (m n : ℕ) (f g : Key × Event (List ℕ)) → m < n → nth (made (net_of t) s (k, e)) m ≡ Some f → nth (made (net_of t) s (k, e)) n ≡ Some g → f.0 ≢ g.0) where
     -- the source's next event is new
-    pub follows_fresh : Taken pending t k e None None p s → AreFresh (pending p.timeline.events) (next_events k.place k.number follows)
+    pub follows_fresh : Taken pending t part k e None None p s → AreFresh (pending p.timeline.events) (next_events k.place k.number follows)
     follows_fresh h = subst (λ m. AreFresh m (next_events k.place k.number follows)) (sym h.events)
         (subst (λ o. AreFresh (remove s.pending k) (next_events k.place k.number o)) (sym same)
         (second_fresh (remove s.pending k) (transmission_events (net_of t) k.time s.sent does_at.transmission) k.place k.number does_at.follows fresh apart))
 
     -- and then those of the transmission that starts
-    pub transmission_fresh : (came : Option (ℕ × List ℕ)) (start : Option (ℕ × Start)) → transmission_of start ≡ does_at.transmission → Taken pending t k e came follows p s
+    pub transmission_fresh : (came : Option (ℕ × List ℕ)) (start : Option (ℕ × Start)) → transmission_of start ≡ does_at.transmission → Taken pending t part k e came follows p s
         → AreFresh (pending p.timeline.events) (transmission_events (net_of t) k.time s.sent (transmission_of start))
     transmission_fresh came start transmits h = subst (λ m. AreFresh m (transmission_events (net_of t) k.time s.sent (transmission_of start))) (sym h.events)
         (subst (λ (o : Option (ℕ × List ℕ) × Option (ℕ × List ℕ)). AreFresh (schedule everywhere (next_events k.place k.number o.1) (remove s.pending k))
@@ -114,80 +111,77 @@ fires_next t s time j number x =
     let v = (net_of t).source_node j in
     sym (follows_is (net_of t) s.port time None (reaction t v (s.node v) (Source j) x).0 (source_at t j (suc number)) (reaction t v (s.node v) (Source j) x).1)
 
-module _ {L : Type 0} (pending : L → FinMap key_cmp (Event (List ℕ))) (room_of : L → ℕ) (t : TopologyValue) (time number : ℕ) (p q : PartValue L) (s : State (List ℕ) NodeStateValue)
-    (x : List ℕ) (sent : Option (ℕ × List ℕ)) where
+module _ {L : Type 0} (pending : L → FinMap key_cmp (Event (List ℕ))) (room_of : L → ℕ) (t : TopologyValue) (part : Option ℕ) (time number : ℕ) (p q : PartValue L) (kept : Kept p q)
+    (s : State (List ℕ) NodeStateValue) (x : List ℕ) (sent : Option (ℕ × List ℕ)) where
   -- a packet arrived, and its node reacted
-  pub arrives_on : (i : ℕ) → IsReady pending room_of t (key_of time (Arrive i) number) (Delivery x) p s
-      → Reacts t s.node s.port ((net_of t).owner i) (Arrival i) x q.devices sent
-      → pending q.timeline.events ≡ pending p.timeline.events → q.timeline.sent ≡ p.timeline.sent
-      → q.timeline.records ≡ p.timeline.records ++ in_record time (Some (i, x)) → q.steps ≡ p.steps
-      → HasReacted pending t (key_of time (Arrive i) number) (Delivery x) (Some (i, x)) None sent
+  pub arrives_on : (i : ℕ) → IsReady pending room_of t part (key_of time (Arrive i) number) (Delivery x) p s
+      → Reacts t part s.node s.port ((net_of t).owner i) (Arrival i) x q.devices sent
+      → pending q.timeline.events ≡ pending p.timeline.events → q.records.list ≡ p.records.list ++ in_record time (Some (i, x))
+      → HasReacted pending t part (key_of time (Arrive i) number) (Delivery x) (Some (i, x)) None sent
       (set_at s.node ((net_of t).owner i) (reaction t ((net_of t).owner i) (s.node ((net_of t).owner i)) (Arrival i) x).0) q s
-  arrives_on i ready r events line records steps = record {
-    taken = taken_came pending t _ _ p q s (Some (i, x)) ready.taken events line records steps;
+  arrives_on i ready r events records = record {
+    taken = taken_came pending t part _ _ p q kept s (Some (i, x)) ready.taken events records;
     represented = r.represented;
-    does = λ d start o. arrives_by t s.node s.port time ((net_of t).owner i) i number x q.devices d sent start _ refl r o refl refl refl;
+    does = λ d start o. arrives_by t part s.node s.port time ((net_of t).owner i) i number x q.devices d sent start _ refl r o refl refl refl;
   }
 
   -- a source handed a packet over, and its node reacted
-  pub fires_on : (j : ℕ) (follows : Option (ℕ × List ℕ)) → IsReady pending room_of t (key_of time (Fire j) number) (Delivery x) p s
-      → Reacts t s.node s.port ((net_of t).source_node j) (Source j) x q.devices sent
+  pub fires_on : (j : ℕ) (follows : Option (ℕ × List ℕ)) → IsReady pending room_of t part (key_of time (Fire j) number) (Delivery x) p s
+      → Reacts t part s.node s.port ((net_of t).source_node j) (Source j) x q.devices sent
       → follows ≡ source_at t j (suc number)
-      → pending q.timeline.events ≡ schedule everywhere (next_events (Fire j) number follows) (pending p.timeline.events) → q.timeline.sent ≡ p.timeline.sent
-      → q.timeline.records ≡ p.timeline.records → q.steps ≡ p.steps
-      → HasReacted pending t (key_of time (Fire j) number) (Delivery x) None follows sent
+      → pending q.timeline.events ≡ schedule everywhere (next_events (Fire j) number follows) (pending p.timeline.events)
+      → q.records.list ≡ p.records.list
+      → HasReacted pending t part (key_of time (Fire j) number) (Delivery x) None follows sent
       (set_at s.node ((net_of t).source_node j) (reaction t ((net_of t).source_node j) (s.node ((net_of t).source_node j)) (Source j) x).0) q s
-  fires_on j follows ready r next events line records steps = record {
-    taken = taken_follows pending t _ _ p q s follows ready.taken events line records steps;
+  fires_on j follows ready r next events records = record {
+    taken = taken_follows pending t part _ _ p q kept s follows ready.taken events records;
     represented = r.represented;
-    does = λ d start o. fires_by t s.node s.port time ((net_of t).source_node j) j number x q.devices d sent start _ refl r o refl refl next;
+    does = λ d start o. fires_by t part s.node s.port time ((net_of t).source_node j) j number x q.devices d sent start _ refl r o refl refl next;
   }
 
 -- and what it sends was offered to a port
-pub sends_on : {L : Type 0} (pending : L → FinMap key_cmp (Event (List ℕ))) (t : TopologyValue) (k : Key) (e : Event (List ℕ)) (came follows sent : Option (ℕ × List ℕ)) (start : Option (ℕ × Start))
-    (node : ℕ → NodeStateValue) (p q : PartValue L) (s : State (List ℕ) NodeStateValue) → HasReacted pending t k e came follows sent node p s → Sends t node s.port k.time sent q.devices start
-    → q.timeline ≡ p.timeline → q.steps ≡ p.steps → IsUnderWay pending t k e (record { came = came; transmission = start; follows = follows }) q s
-sends_on pending t k e came follows sent start node p q s h o line steps = record {
-  taken = taken_same pending t k e p q s h.taken line steps;
+pub sends_on : {L : Type 0} (pending : L → FinMap key_cmp (Event (List ℕ))) (t : TopologyValue) (part : Option ℕ) (k : Key) (e : Event (List ℕ)) (came follows sent : Option (ℕ × List ℕ))
+    (start : Option (ℕ × Start)) (node : ℕ → NodeStateValue) (p q : PartValue L) → Kept p q → (s : State (List ℕ) NodeStateValue) → HasReacted pending t part k e came follows sent node p s
+    → Sends t part node s.port k.time sent q.devices start → pending q.timeline.events ≡ pending p.timeline.events → q.records.list ≡ p.records.list
+    → IsUnderWay pending t part k e (record { came = came; transmission = start; follows = follows }) q s
+sends_on pending t part k e came follows sent start node p q kept s h o events records = record {
+  taken = taken_same pending t part k e p q kept s h.taken events records;
   does = h.does q.devices start o;
 }
 
 -- the event of the least key comes before the end
-pub time_is : {L : Type 0} (pending : L → FinMap key_cmp (Event (List ℕ))) (t : TopologyValue) (p : PartValue L) (s : State (List ℕ) NodeStateValue) → Represents pending t p s → (k : Key) (e : Event (List ℕ))
-    → Some (k, e) ≡ least (pending p.timeline.events) → (f : Key × Event (List ℕ)) → least s.pending ≡ Some f → f.0.time < t.stop → t.stop ≤ MAX_TIME → k.time ≤ MAX_TIME
-time_is pending t p s h k e first f least_is early stop =
-    let same : (k, e) ≡ f = same_some (k, e) f (first ∙ ap (λ m. least m) h.events ∙ least_is) in
+pub time_is : {L : Type 0} (pending : L → FinMap key_cmp (Event (List ℕ))) (t : TopologyValue) (part : Option ℕ) (p : PartValue L) (s : State (List ℕ) NodeStateValue)
+    → Represents pending t part p s → (k : Key) (e : Event (List ℕ)) → Some (k, e) ≡ least (pending p.timeline.events)
+    → (f : Key × Event (List ℕ)) → least s.pending ≡ Some f → f.0.time < t.stop → t.stop ≤ MAX_TIME → k.time ≤ MAX_TIME
+time_is pending t part p s h k e first f least_is early stop =
+    let same : (k, e) ≡ f = some_inj (k, e) f (first ∙ ap (λ m. least m) h.events ∙ least_is) in
     let time : k.time ≡ f.0.time = ap (λ (y : Key × Event (List ℕ)). y.0.time) same in
     omega (arith, time, early, stop)
 
 -- it is taken out, where there is memory for all that it may do
-pub ready_at : {L : Type 0} (pending : L → FinMap key_cmp (Event (List ℕ))) (room_of : L → ℕ) (t : TopologyValue) (k : Key) (e : Event (List ℕ)) (d : DevicesValue) (line after : TimelineValue L) (steps : ℕ)
-    → Some (k, e) ≡ least (pending line.events) → pending after.events ≡ remove (pending line.events) k → after ≡ record line { events = after.events }
-    → k.time ≤ MAX_TIME → steps < 2 ^ 62 → AllAt (λ i w. 1 ≤ w.room) d.ports → 3 ≤ room_of after.events → 2 ≤ line.spare
-    → (s : State (List ℕ) NodeStateValue) → Represents pending t (record { devices = d; timeline = line; steps = steps }) s
-    → IsReady pending room_of t k e (record { devices = d; timeline = after; steps = steps }) s
-ready_at pending room_of t k e d line after steps first rest others time few ports room spare s represents = record {
-  taken = taken_out pending t k e (record { devices = d; timeline = line; steps = steps }) (record { devices = d; timeline = after; steps = steps }) s
-      represents first rest (ap (λ l. l.sent) others) (ap (λ l. l.records) others) refl;
+pub ready_at : {L : Type 0} (pending : L → FinMap key_cmp (Event (List ℕ))) (room_of : L → ℕ) (t : TopologyValue) (k : Key) (e : Event (List ℕ)) (p : PartValue L) (after : TimelineValue L)
+    → Some (k, e) ≡ least (pending p.timeline.events) → pending after.events ≡ remove (pending p.timeline.events) k → after ≡ record p.timeline { events = after.events }
+    → k.time ≤ MAX_TIME → p.steps < 2 ^ 62 → HasMemory room_of p → room_of after.events ≡ room_of p.timeline.events + 1
+    → (part : Option ℕ) (s : State (List ℕ) NodeStateValue) → Represents pending t part p s → IsReady pending room_of t part k e (record p { timeline = after }) s
+ready_at pending room_of t k e p after first rest others time few memory more part s represents = record {
+  taken = taken_out pending t part k e p (record p { timeline = after }) (record { is_part = refl; sent = ap (λ l. l.sent) others; outgoing = refl; steps = refl }) s represents first rest refl;
   devices = represents.devices;
   time = time;
   steps = few;
-  ports = ports;
-  room = room;
-  spare = let e = ap (λ l. l.spare) others in omega (arith, e, spare);
+  memory = record { ports = memory.ports; room = let r = memory.room in omega (arith, r, more); channels = memory.channels; spare = memory.spare };
 }
 
 module _ {L : Type 0} (pending : L → FinMap key_cmp (Event (List ℕ))) (room_of : L → ℕ) (t : TopologyValue) (k : Key) (e : Event (List ℕ)) (p q new : PartValue L)
-    (ready : (s : State (List ℕ) NodeStateValue) → Represents pending t p s → IsReady pending room_of t k e q s) where
+    (ready : (part : Option ℕ) (s : State (List ℕ) NodeStateValue) → Represents pending t part p s → IsReady pending room_of t part k e q s) where
   pub performed_ok : (r : Result Unit AllocError) → Performed pending room_of t k e q new r
-      → OnOk r ((s : State (List ℕ) NodeStateValue) → Represents pending t p s → Represents pending t new (step (net_of t) everywhere s))
-  performed_ok (Ok u) h = λ s z. h.0 s (ready s z)
+      → OnOk r ((part : Option ℕ) (s : State (List ℕ) NodeStateValue) → Represents pending t part p s → Represents pending t part new (step (net_of t) (here_of t part) s))
+  performed_ok (Ok u) h = λ part s z. h.0 part s (ready part s z)
   performed_ok (Err x) h = tt
 
   pub performed_err : (r : Result Unit AllocError) → Performed pending room_of t k e q new r
-      → OnErr r ((s : State (List ℕ) NodeStateValue) → Represents pending t p s → Represents pending t new s)
+      → OnErr r ((part : Option ℕ) (s : State (List ℕ) NodeStateValue) → Represents pending t part p s → Represents pending t part new s)
   performed_err (Ok u) h = tt
-  performed_err (Err x) h = λ s z. h.0 s (ready s z)
+  performed_err (Err x) h = λ part s z. h.0 part s (ready part s z)
 
 -- how many events were done
 pub performed_one : {L : Type 0} (pending : L → FinMap key_cmp (Event (List ℕ))) (room_of : L → ℕ) (t : TopologyValue) (k : Key) (e : Event (List ℕ)) (q new : PartValue L)

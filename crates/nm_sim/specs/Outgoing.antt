@@ -1,5 +1,5 @@
 -- What a part puts on the channels that go out of it.
-use Rattle.std.specs.Prelude.{◌≡◌, ℕ, zero, ◌≤◌, List, [], length, Option, Some, None, slice_get}
+use Rattle.std.specs.Prelude.{◌≡◌, ℕ, zero, ◌≤◌, List, [], length, Option, Some, None}
 use Rattle.nm_topology.specs.Topology.{receiving_iface}
 use Rattle.nm_topology.specs.TopologyValue.{TopologyValue}
 use Rattle.nm_sim.specs.Tables.{AllAt}

@@ -37,7 +37,7 @@ pub record PartValue (L : Type 0) : Type 0 where
 
 -- the part, whose event list has these pending events, is the whole network (None) or one partition of it, and represents this state of its run
 pub record Represents {L : Type 0} (pending : L → FinMap key_cmp (Event (List ℕ))) (t : TopologyValue) (part : Option ℕ) (p : PartValue L) (s : State (List ℕ) NodeStateValue) : Type 0 where
-  pub part : p.part ≡ part
+  pub is_part : p.part ≡ part
   pub orderly : IsOrderly (net_of t) (here_of t part) s
   pub devices : DevicesRepresent t part p.devices s.node s.port
   pub numbered : TimelineRepresents t p.timeline s.sent
@@ -52,7 +52,7 @@ pub record Represents {L : Type 0} (pending : L → FinMap key_cmp (Event (List 
 pub record Taken {L : Type 0} (pending : L → FinMap key_cmp (Event (List ℕ))) (t : TopologyValue) (part : Option ℕ) (k : Key) (e : Event (List ℕ))
     (came follows : Option (ℕ × List ℕ)) (p : PartValue L) (s : State (List ℕ) NodeStateValue) : Type 0 where
   pub first : least s.pending ≡ Some (k, e)
-  pub part : p.part ≡ part
+  pub is_part : p.part ≡ part
   pub orderly : IsOrderly (net_of t) (here_of t part) s
   pub numbered : TimelineRepresents t p.timeline s.sent
   pub outgoing : OutgoingRepresents t part p.outgoing s.sent

@@ -1,5 +1,5 @@
 -- What contracts see of the records of a trace.
-use Rattle.std.specs.Prelude.{◌≡◌, ℕ, List}
+use Rattle.std.specs.Prelude.{ℕ, List}
 use Rattle.nm_base.specs.declared.record.Record.{Record}
 
 -- the records, and for how many more there is memory

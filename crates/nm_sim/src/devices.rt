@@ -1,6 +1,7 @@
 //! The nodes, ports and sources of a part of a simulation.
 
-ghost use Rattle.std.specs.Prelude.{◌≡◌, ℕ, slice_get, slice_index, ◌+◌, ◌≤◌, ◌<◌, ◌^◌, List, Option, Some, None, OnOk, OnErr, IfOk, IfSome, Ok, Err, length};
+ghost use Rattle.std.specs.Prelude.{◌≡◌, ℕ, slice_get, slice_index, ◌+◌, ◌≤◌, ◌<◌, ◌^◌, List};
+ghost use Rattle.std.specs.Prelude.{Option, Some, None, OnOk, OnErr, IfOk, IfSome, Ok, Err, length};
 ghost use Rattle.nm_base.specs.declared.limits.TheConstants.{MAX_TIME};
 ghost use Rattle.nm_base.specs.declared.event.Origin.TheVariants.{Arrival, Source as FromSource};
 ghost use Rattle.nm_base.specs.declared.key.Place.TheVariants.{Complete};
@@ -10,13 +11,17 @@ ghost use Rattle.nm_model.specs.Port.{Port as PortState, idle_port};
 ghost use Rattle.nm_forward.specs.State.{NodeStateValue, first_state};
 ghost use Rattle.nm_forward.specs.Reaction.{FitsOrigin, sent_of};
 ghost use Rattle.nm_base.specs.Key.{key_of};
-ghost use Rattle.nm_sim.specs.Network.{first_here, is_iface_here as iface_here, is_node_here as node_here, is_source_here as source_here, net_of};
+ghost use Rattle.nm_sim.specs.Network.{first_here, is_iface_here as iface_here};
+ghost use Rattle.nm_sim.specs.Network.{is_node_here as node_here, is_source_here as source_here};
+ghost use Rattle.nm_sim.specs.Network.{net_of};
 ghost use Rattle.nm_sim.specs.Tables.{AllHere, AllSome, IsMember, IsThere};
-ghost use Rattle.nm_sim.specs.Devices.{DevicesRepresent, IsNodeOf, IsPortOf, IsSame, DevicesRepresentSome};
+ghost use Rattle.nm_sim.specs.Devices.{DevicesRepresent, IsNodeOf, IsPortOf, IsSame, IsSamePort};
+ghost use Rattle.nm_sim.specs.Devices.{DevicesRepresentSome};
 ghost use Rattle.nm_traffic.specs.Source.{source_at, source_of};
 ghost use Rattle.nm_forward.specs.Counter.{counter_number};
 ghost use Rattle.std.specs.Option.{option_and_then, option_map};
-ghost use Rattle.nm_sim.specs.Effects.{Does, IsBusy, Reacts, Sends, transmission_at as transmission_at_iface};
+ghost use Rattle.nm_sim.specs.Effects.{Does, IsBusy, Reacts, Sends};
+ghost use Rattle.nm_sim.specs.Effects.{transmission_at as transmission_at_iface};
 
 use crate::fired::Fired;
 use crate::here::{is_iface_here, is_node_here, is_source_here, node_of_source};
@@ -31,7 +36,7 @@ use nm_traffic::{Source, SourcePacket};
 use std::alloc::{AllocError, Global};
 use std::marker::Model;
 
-/// The nodes, the ports of their interfaces, and the sources, by their numbers: those that are here.
+/// The nodes, the ports of their interfaces, and the sources that are here, by their numbers.
 #[derive(Drop)]
 pub struct Devices {
     nodes: Vec<Option<NodeState>>,
@@ -46,16 +51,19 @@ impl Model for Devices {
 
     ghost Value = { DevicesValue };
 
-    ghost view = { λ d. record
-        { nodes = d.nodes.items; ports = d.ports.items; sources = d.sources.items; used = d.used } };
+    ghost view = { λ d. record {
+      nodes = d.nodes.items;
+      ports = d.ports.items;
+      sources = d.sources.items;
+      used = d.used;
+    } };
 
     ghost invariant = { λ d. HaveRoom
         (record {
           nodes = d.nodes.items;
           ports = d.ports.items;
           sources = d.sources.items;
-          used =
-              d.used;
+          used = d.used;
         }) };
 }
 
@@ -187,6 +195,17 @@ fn first_sources(
     Ok(sources)
 }
 
+/// Makes memory for one more packet at a port, if it is here.
+fn reserve_at(port: &mut Option<Port>) -> Result<(), AllocError>
+    ensures same { IsSamePort port.old port.new }
+    ensures room { OnOk result (IfSome port.new (λ w. 1 ≤ w.room)) }
+{
+    match port {
+        Some(port) => port.reserve_one(),
+        None => Ok(()),
+    }
+}
+
 /// A transmission that starts, and where.
 fn transmission_at(iface: IfaceNo, start: Option<Start>) -> Option<(IfaceNo, Start)>
     ensures { result ≡ transmission_at_iface iface start }
@@ -204,8 +223,8 @@ impl Devices {
         topology: &Topology,
         part: &Option<PartNo>,
     ) -> Result<Self, AllocError>
-        ensures { IfOk result
-            (λ d. DevicesRepresent topology.now part.now d (first_state topology.now) (λ i. idle_port)) }
+        ensures { IfOk result (λ d. DevicesRepresent topology.now part.now d
+            (first_state topology.now) (λ i. idle_port)) }
     {
         Ok(Devices {
             nodes: first_nodes(alloc, topology, part)?,
@@ -236,8 +255,9 @@ impl Devices {
 
     /// What the node counted, if it is here.
     pub fn counter(&self, node: NodeNo, counter: Counter) -> Option<u64>
-        ensures { result ≡ option_and_then (option_map
-            (λ n. slice_index n.counters (counter_number counter))) (slice_get self.now.nodes node) }
+        ensures { result ≡ option_and_then
+            (option_map (λ n. slice_index n.counters (counter_number counter)))
+            (slice_get self.now.nodes node) }
     {
         match self.nodes.get(node.index()) {
             Some(Some(state)) => Some(state.counter(counter)),
@@ -267,8 +287,8 @@ impl Devices {
         ensures room { OnOk result (AllSome (λ i w. 1 ≤ w.room) self.new.ports) }
     {
         if let Some(iface) = self.used {
-            if let Some(Some(port)) = self.ports.get_mut(iface.index()) {
-                port.reserve_one()?;
+            if iface.index() < self.ports.len() {
+                reserve_at(&mut self.ports[iface.index()])?;
             }
             self.used = None;
         }
@@ -287,7 +307,8 @@ impl Devices {
         requires time { time ≤ MAX_TIME }
         requires own { IfSome (sent_of reaction) (λ s. IsMember (slice_get self.old.ports s.0)) }
         requires room { AllSome (λ i w. 1 ≤ w.room) self.old.ports }
-        ensures sends { (part : Option ℕ) (node : ℕ → NodeStateValue) (port : ℕ → PortState (List ℕ))
+        ensures sends { (part : Option ℕ) (node : ℕ → NodeStateValue)
+            (port : ℕ → PortState (List ℕ))
             → DevicesRepresent topology.now part self.old node port
             → Sends topology.now part node port time (sent_of reaction) self.new result }
     {
@@ -320,10 +341,12 @@ impl Devices {
         ensures ports { self.new.ports ≡ self.old.ports }
         ensures own { IfOk result
             (λ r. IfSome (sent_of r) (λ s. IsMember (slice_get self.new.ports s.0))) }
-        ensures reacts { (part : Option ℕ) (states : ℕ → NodeStateValue) (ports : ℕ → PortState (List ℕ))
+        ensures reacts { (part : Option ℕ) (states : ℕ → NodeStateValue)
+            (ports : ℕ → PortState (List ℕ))
             → DevicesRepresent topology.now part self.old states ports
             → IfOk result
-            (λ r. Reacts topology.now part states ports node origin packet.now self.new (sent_of r)) }
+            (λ r. Reacts topology.now part states ports node origin packet.now self.new
+            (sent_of r)) }
     {
         a_node_sends_by_its_own_interfaces(topology); // law: what is sent leaves by an interface
         let Some(state) = &mut self.nodes[node.index()] else {
@@ -347,7 +370,8 @@ impl Devices {
         ensures ports { self.new.ports ≡ self.old.ports }
         ensures own { IfOk result
             (λ r. IfSome (sent_of r) (λ s. IsMember (slice_get self.new.ports s.0))) }
-        ensures reacts { (part : Option ℕ) (states : ℕ → NodeStateValue) (ports : ℕ → PortState (List ℕ))
+        ensures reacts { (part : Option ℕ) (states : ℕ → NodeStateValue)
+            (ports : ℕ → PortState (List ℕ))
             → DevicesRepresent topology.now part self.old states ports
             → IfOk result
             (λ r. Reacts topology.now part states ports ((net_of topology.now).owner iface)
@@ -370,7 +394,8 @@ impl Devices {
     ) -> Option<(IfaceNo, Start)>
         requires time { time ≤ MAX_TIME }
         requires busy { IsBusy (slice_get self.old.ports iface) }
-        ensures does { (part : Option ℕ) (states : ℕ → NodeStateValue) (ports : ℕ → PortState (List ℕ)) (number : ℕ)
+        ensures does { (part : Option ℕ) (states : ℕ → NodeStateValue)
+            (ports : ℕ → PortState (List ℕ)) (number : ℕ)
             → DevicesRepresent topology.now part self.old states ports
             → Does topology.now part states ports
             (key_of time (Complete iface) number) Completion self.new
@@ -401,8 +426,10 @@ impl Devices {
         ensures ports { self.new.ports ≡ self.old.ports }
         ensures own { IfOk result
             (λ f. IfSome (sent_of f.reaction) (λ s. IsMember (slice_get self.new.ports s.0))) }
-        ensures follows { IfOk result (λ f. f.follows ≡ source_at topology.now source (number + 1)) }
-        ensures reacts { (part : Option ℕ) (states : ℕ → NodeStateValue) (ports : ℕ → PortState (List ℕ))
+        ensures follows { IfOk result
+            (λ f. f.follows ≡ source_at topology.now source (number + 1)) }
+        ensures reacts { (part : Option ℕ) (states : ℕ → NodeStateValue)
+            (ports : ℕ → PortState (List ℕ))
             → DevicesRepresent topology.now part self.old states ports
             → IfOk result
             (λ f. Reacts topology.now part states ports ((net_of topology.now).source_node source)

@@ -1,7 +1,8 @@
 //! What is here: all of a network, or the nodes of one partition with their interfaces and sources.
 
 ghost use Rattle.std.specs.Prelude.{◌≡◌, ◌<◌, length};
-ghost use Rattle.nm_sim.specs.Network.{is_iface_here as iface_here, is_node_here as node_here, is_source_here as source_here, net_of};
+ghost use Rattle.nm_sim.specs.Network.{is_iface_here as iface_here, is_node_here as node_here};
+ghost use Rattle.nm_sim.specs.Network.{is_source_here as source_here, net_of};
 
 use nm_base::{IfaceNo, NodeNo, PartNo, SourceNo};
 use nm_topology::Topology;

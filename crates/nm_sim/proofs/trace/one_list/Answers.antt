@@ -1,5 +1,6 @@
-use Rattle.std.proofs.Common.{◌≡◌, min, ap, ◌∙◌, subst}
+use Rattle.std.proofs.Common.{◌≡◌, None, min, ap, ◌∙◌, subst}
 use Rattle.nm_model.specs.Before.{IsBefore}
+use Rattle.nm_model.specs.Run.{one_list}
 use Rattle.nm_sim.specs.Network.{net_of}
 use Rattle.nm_sim.proofs.trace.one_list.Goals as goal
 
@@ -10,5 +11,5 @@ returns c =
     let ran = c.in_ok-run.ensures in (
       ran.0,
       subst (λ b. IsBefore (net_of t) b ran.0) before ran.1,
-      c.into_trace.ensures ∙ ran.2.records,
+      c.into_trace.ensures t None (one_list (net_of t) ran.0) ran.2,
     )

@@ -1,4 +1,4 @@
-use Rattle.std.proofs.Common.{◌≡◌, suc, ◌+◌, true, Ok, sym, subst, arith, ⊎_elim}
+use Rattle.std.proofs.Common.{◌≡◌, suc, ◌+◌, true, None, Ok, sym, subst, arith, ⊎_elim}
 use Rattle.std.proofs.lemmas.Bool.{cases_lt}
 use Rattle.nm_events.specs.Held.{pending_of}
 use Rattle.nm_model.specs.Run.{one_list, pends_before}
@@ -11,24 +11,24 @@ returns-then-not-branch c =
     let t = c.args.topology.now in
     let s = one_list (net_of t) c.loop-done.done in
     let represents = c.loop-done.invariant.0 in
-    let ended = subst (λ b. Advanced pending_of t c.args.before s c.loop-done.part c.advance.new.self (Ok b)) c.if-not-branch.true
-    (c.in_ok-advance.ensures.advance s represents) in (
+    let ended = subst (λ b. Advanced pending_of t None c.args.before s c.loop-done.part c.advance.new.self (Ok b)) c.if-not-branch.true
+    (c.in_ok-advance.ensures.advance None s represents) in (
       c.loop-done.done,
       record {
         over = ended.1;
         first = λ m h. c.loop-done.invariant.1 m h;
       },
-      subst (λ p. Represents pending_of t p s) (sym ended.0) represents,
+      subst (λ p. Represents pending_of t None p s) (sym ended.0) represents,
     )
 
 pub loop-done-preserved : goal.loop-done-preserved
 loop-done-preserved c =
     let t = c.args.topology.now in
     let s = one_list (net_of t) c.loop-done.done in
-    let more = subst (λ b. Advanced pending_of t c.args.before s c.loop-done.part c.advance.new.self (Ok b)) c.if-not-branch.false
-    (c.in_ok-advance.ensures.advance s c.loop-done.invariant.0) in
+    let more = subst (λ b. Advanced pending_of t None c.args.before s c.loop-done.part c.advance.new.self (Ok b)) c.if-not-branch.false
+    (c.in_ok-advance.ensures.advance None s c.loop-done.invariant.0) in
     let next : suc c.loop-done.done ≡ c.loop-done.done + 1 = omega arith in (
-      subst (λ n. Represents pending_of t c.advance.new.self (one_list (net_of t) n)) next more.0,
+      subst (λ n. Represents pending_of t None c.advance.new.self (one_list (net_of t) n)) next more.0,
       λ m h. ⊎_elim
           (λ l. c.loop-done.invariant.1 m l)
           (λ g. let same : c.loop-done.done ≡ m = omega (arith, g, h) in subst (λ k. pends_before c.args.before (one_list (net_of t) k) ≡ true) same more.1)

@@ -1,13 +1,22 @@
-use Rattle.std.proofs.Common.{sym, ◌∙◌, subst}
+use Rattle.std.proofs.Common.{length, ◌<◌, sym, ◌∙◌, subst}
 use Rattle.std.specs.Result.{IfOk}
 use Rattle.nm_base.specs.declared.event.Origin.TheVariants.{Arrival}
 use Rattle.nm_forward.specs.Reaction.{sent_of}
 use Rattle.nm_sim.specs.Effects.{Reacts}
-use Rattle.nm_sim.proofs.Networks.{owner_is}
+use Rattle.nm_sim.proofs.Networks.{all_at, owner_is}
+use Rattle.nm_sim.proofs.Represents.{iface_node}
 use Rattle.nm_sim.proofs.devices.Devices.react_to_arrival.Goals as goal
 
-pub returns-clause-reacts : goal.returns-clause-reacts
-returns-clause-reacts c = λ states ports s.
+pub react-requires-clause-node : goal.react-requires-clause-node
+react-requires-clause-node c =
+    let z = c.requires.represented in
     let owner = owner_is c.args.topology.now c.args.iface c.iface.result.now c.iface.ensures ∙ sym c.node-node.ensures in
-    subst (λ v. IfOk c.react.result (λ r. Reacts c.args.topology.now states ports v (Arrival c.args.iface) c.args.packet.now c.react.new.self (sent_of r)))
-    (sym owner) (c.react.ensures.reacts states ports s)
+    let within : c.node-node.result < length c.args.topology.now.nodes = subst (λ v. v < length c.args.topology.now.nodes) (sym c.node-node.ensures)
+    (all_at (λ x. x.node < length c.args.topology.now.nodes) c.args.topology.now.ifaces c.args.iface c.iface.result.now c.iface.ensures c.accepted_topologies_are_in_order.ensures.order.owners) in
+    iface_node c.args.topology.now z.0 _ z.1 z.2 z.3 c.node-node.result within c.args.iface c.requires.place owner
+
+pub returns-clause-reacts : goal.returns-clause-reacts
+returns-clause-reacts c = λ part states ports s.
+    let owner = owner_is c.args.topology.now c.args.iface c.iface.result.now c.iface.ensures ∙ sym c.node-node.ensures in
+    subst (λ v. IfOk c.react.result (λ r. Reacts c.args.topology.now part states ports v (Arrival c.args.iface) c.args.packet.now c.react.new.self (sent_of r)))
+    (sym owner) (c.react.ensures.reacts part states ports s)

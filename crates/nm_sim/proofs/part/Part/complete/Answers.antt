@@ -7,41 +7,45 @@ use Rattle.nm_sim.proofs.Steps.{is_busy, least_has}
 use Rattle.nm_sim.proofs.Takings.{taken_same}
 use Rattle.nm_sim.proofs.part.Part.complete.Goals as goal
 
-pub complete-start-requires-clause-place : goal.complete-start-requires-clause-place
-complete-start-requires-clause-place g c =
-    let taken = c.requires.2.taken in
-    taken.placed _ _ (least_has c.requires.1.pending _ taken.first)
-
 pub complete-start-requires-clause-busy : goal.complete-start-requires-clause-busy
 complete-start-requires-clause-busy g c =
-    let s = c.requires.1 in
-    let ready = subst (λ (p : PartValue g.row.L.Denot). IsReady g.L.EventList.pending g.L.EventList.room c.args.topology.now (key_of c.args.time (Complete c.args.iface) c.requires.0) Completion p s) (sym c.self.view_is) c.requires.2 in
+    let part = c.requires.1 in
+    let s = c.requires.2 in
+    let ready = subst (λ (p : PartValue g.row.L.Denot). IsReady g.L.EventList.pending g.L.EventList.room c.args.topology.now part (key_of c.args.time (Complete c.args.iface) c.requires.0) Completion p s) (sym c.self.view_is) c.requires.3 in
     let there = least_has s.pending (key_of c.args.time (Complete c.args.iface) c.requires.0, Completion) ready.taken.first in
-    is_busy c.args.topology.now s ready.taken.orderly c.self.inside.devices ready.devices c.args.iface c.args.time c.requires.0 Completion there (ready.taken.placed _ _ there)
+    is_busy c.args.topology.now part s ready.taken.orderly c.self.inside.devices ready.devices c.args.iface c.args.time c.requires.0 Completion there (ready.taken.placed _ _ there)
 
 pub finish-requires-clause-under_way : goal.finish-requires-clause-under_way
 finish-requires-clause-under_way g c =
-    let s = c.requires.1 in
-    let p : PartValue g.row.L.Denot = record { devices = c.self.inside.devices; timeline = c.self.inside.timeline; steps = c.self.inside.steps } in
-    let q : PartValue g.row.L.Denot = record { devices = c.complete-start.new.self; timeline = c.self.inside.timeline; steps = c.self.inside.steps } in
+    let part = c.requires.1 in
+    let s = c.requires.2 in
+    let p : PartValue g.row.L.Denot = record { part = c.self.inside.part; devices = c.self.inside.devices; timeline = c.self.inside.timeline; outgoing = c.self.inside.outgoing; records = c.self.inside.records; steps = c.self.inside.steps } in
+    let q : PartValue g.row.L.Denot = record { part = c.self.inside.part; devices = c.complete-start.new.self; timeline = c.self.inside.timeline; outgoing = c.self.inside.outgoing; records = c.self.inside.records; steps = c.self.inside.steps } in
     let k = key_of c.args.time (Complete c.args.iface) c.requires.0 in
-    let ready = subst (λ (p : PartValue g.row.L.Denot). IsReady g.L.EventList.pending g.L.EventList.room c.args.topology.now k Completion p s) (sym c.self.view_is) c.requires.2 in (
+    let ready = subst (λ (p : PartValue g.row.L.Denot). IsReady g.L.EventList.pending g.L.EventList.room c.args.topology.now part k Completion p s) (sym c.self.view_is) c.requires.3 in (
+      part,
       Complete c.args.iface,
       c.requires.0,
       Completion,
       None,
       None,
       s,
-      record { taken = taken_same g.L.EventList.pending c.args.topology.now k Completion p q s ready.taken refl refl; does = c.complete-start.ensures.does s.node s.port c.requires.0 ready.devices },
+      record {
+        taken = taken_same g.L.EventList.pending c.args.topology.now part k Completion p q (record { is_part = refl; sent = refl; outgoing = refl; steps = refl }) s ready.taken refl refl;
+        does = c.complete-start.ensures.does part s.node s.port c.requires.0 ready.devices;
+      },
     )
 
 pub returns : goal.returns
 returns g c = rw (← c.self.view_is) (λ number. (
-  λ s ready.
-      let p : PartValue g.row.L.Denot = record { devices = c.self.inside.devices; timeline = c.self.inside.timeline; steps = c.self.inside.steps } in
-      let q : PartValue g.row.L.Denot = record { devices = c.complete-start.new.self; timeline = c.self.inside.timeline; steps = c.self.inside.steps } in
+  λ part s ready.
+      let p : PartValue g.row.L.Denot = record { part = c.self.inside.part; devices = c.self.inside.devices; timeline = c.self.inside.timeline; outgoing = c.self.inside.outgoing; records = c.self.inside.records; steps = c.self.inside.steps } in
+      let q : PartValue g.row.L.Denot = record { part = c.self.inside.part; devices = c.complete-start.new.self; timeline = c.self.inside.timeline; outgoing = c.self.inside.outgoing; records = c.self.inside.records; steps = c.self.inside.steps } in
       let k = key_of c.args.time (Complete c.args.iface) number in
-      c.finish.ensures.represents (Complete c.args.iface) number Completion None None s
-      (record { taken = taken_same g.L.EventList.pending c.args.topology.now k Completion p q s ready.taken refl refl; does = c.complete-start.ensures.does s.node s.port number ready.devices }),
+      c.finish.ensures.represents part (Complete c.args.iface) number Completion None None s
+      (record {
+        taken = taken_same g.L.EventList.pending c.args.topology.now part k Completion p q (record { is_part = refl; sent = refl; outgoing = refl; steps = refl }) s ready.taken refl refl;
+        does = c.complete-start.ensures.does part s.node s.port number ready.devices;
+      }),
   c.finish.ensures.steps,
 ))

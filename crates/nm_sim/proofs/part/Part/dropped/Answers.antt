@@ -4,6 +4,6 @@ use Rattle.nm_sim.proofs.Parts.{drops_is}
 use Rattle.nm_sim.proofs.part.Part.dropped.Goals as goal
 
 pub returns : goal.returns
-returns g c = λ t s h.
-    let represents = subst (λ (p : PartValue g.row.L.Denot). Represents g.L.EventList.pending t p s) (sym c.self.view_is) h in
-    c.dropped.ensures ∙ drops_is t c.self.inside.devices s represents.devices c.args.iface
+returns g c = λ t part s h.
+    let represents = subst (λ (p : PartValue g.row.L.Denot). Represents g.L.EventList.pending t part p s) (sym c.self.view_is) h in
+    c.dropped.ensures ∙ drops_is t part c.self.inside.devices s represents.devices c.args.iface

@@ -1,6 +1,5 @@
-use Rattle.std.proofs.Common.{◌^◌, ◌<◌, ◌≤◌, sym, subst, arith}
-use Rattle.nm_sim.specs.Part.{PartValue, Represents}
-use Rattle.nm_sim.specs.Tables.{AllAt}
+use Rattle.std.proofs.Common.{◌^◌, ◌<◌, sym, subst}
+use Rattle.nm_sim.specs.Part.{HasMemory, PartValue, Represents}
 use Rattle.nm_sim.proofs.Takings.{performed_err, performed_ok, performed_one, ready_at, time_is}
 use Rattle.nm_sim.proofs.part.Part.perform.Goals as goal
 
@@ -8,51 +7,41 @@ pub dispatch-requires : goal.dispatch-requires
 dispatch-requires g c =
     let z = c.requires.least in
     let t = c.args.topology.now in
-    let p : PartValue g.row.L.Denot = record { devices = c.self.inside.devices; timeline = c.self.inside.timeline; steps = c.self.inside.steps } in
-    let q : PartValue g.row.L.Denot = record { devices = c.self.inside.devices; timeline = c.take_least.new.self; steps = c.self.inside.steps } in
-    let represents = subst (λ (p : PartValue g.row.L.Denot). Represents g.L.EventList.pending t p z.0) (sym c.self.view_is) z.2 in
+    let p : PartValue g.row.L.Denot = record { part = c.self.inside.part; devices = c.self.inside.devices; timeline = c.self.inside.timeline; outgoing = c.self.inside.outgoing; records = c.self.inside.records; steps = c.self.inside.steps } in
+    let represents = subst (λ (p : PartValue g.row.L.Denot). Represents g.L.EventList.pending t z.0 p z.1) (sym c.self.view_is) z.3 in
     let stop = c.accepted_topologies_are_in_order.ensures.limits.greatest_stop in
-    let time = time_is g.L.EventList.pending t p z.0 represents c.in-Some.key c.in-Some.event c.in-Some.ensures.least z.1 z.3 z.4 stop in
-    let had = subst (λ (p : PartValue g.row.L.Denot). (p.steps < 2 ^ 62) × AllAt (λ i w. 1 ≤ w.room) p.devices.ports × (2 ≤ g.L.EventList.room p.timeline.events) × (2 ≤ p.timeline.spare)) (sym c.self.view_is)
-    (c.requires.steps, c.requires.ports, c.requires.room, c.requires.spare) in
-    let more = c.in-Some.ensures.room in
-    let room : 3 ≤ g.L.EventList.room c.take_least.new.self.events = omega (arith, more, had.2) in
-    let ready = ready_at g.L.EventList.pending g.L.EventList.room t c.in-Some.key c.in-Some.event c.self.inside.devices c.self.inside.timeline c.take_least.new.self c.self.inside.steps
-    c.in-Some.ensures.least c.in-Some.ensures.rest c.in-Some.ensures.others time had.0 had.1 room had.3 in
-    (z.0, ready z.0 represents)
+    let time = time_is g.L.EventList.pending t z.0 p z.1 represents c.in-Some.key c.in-Some.event c.in-Some.ensures.least z.2 z.4 z.5 stop in
+    let had = subst (λ (p : PartValue g.row.L.Denot). (p.steps < 2 ^ 62) × HasMemory g.L.EventList.room p) (sym c.self.view_is) (c.requires.steps, c.requires.memory) in
+    let ready = ready_at g.L.EventList.pending g.L.EventList.room t c.in-Some.key c.in-Some.event p c.take_least.new.self
+    c.in-Some.ensures.least c.in-Some.ensures.rest c.in-Some.ensures.others time had.0 had.1 c.in-Some.ensures.room in
+    (z.0, z.1, ready z.0 z.1 represents)
 
 pub returns-clause-ok : goal.returns-clause-ok
 returns-clause-ok g c =
     let z = c.requires.least in
     let t = c.args.topology.now in
-    let p : PartValue g.row.L.Denot = record { devices = c.self.inside.devices; timeline = c.self.inside.timeline; steps = c.self.inside.steps } in
-    let q : PartValue g.row.L.Denot = record { devices = c.self.inside.devices; timeline = c.take_least.new.self; steps = c.self.inside.steps } in
-    let represents = subst (λ (p : PartValue g.row.L.Denot). Represents g.L.EventList.pending t p z.0) (sym c.self.view_is) z.2 in
+    let p : PartValue g.row.L.Denot = record { part = c.self.inside.part; devices = c.self.inside.devices; timeline = c.self.inside.timeline; outgoing = c.self.inside.outgoing; records = c.self.inside.records; steps = c.self.inside.steps } in
+    let represents = subst (λ (p : PartValue g.row.L.Denot). Represents g.L.EventList.pending t z.0 p z.1) (sym c.self.view_is) z.3 in
     let stop = c.accepted_topologies_are_in_order.ensures.limits.greatest_stop in
-    let time = time_is g.L.EventList.pending t p z.0 represents c.in-Some.key c.in-Some.event c.in-Some.ensures.least z.1 z.3 z.4 stop in
-    let had = subst (λ (p : PartValue g.row.L.Denot). (p.steps < 2 ^ 62) × AllAt (λ i w. 1 ≤ w.room) p.devices.ports × (2 ≤ g.L.EventList.room p.timeline.events) × (2 ≤ p.timeline.spare)) (sym c.self.view_is)
-    (c.requires.steps, c.requires.ports, c.requires.room, c.requires.spare) in
-    let more = c.in-Some.ensures.room in
-    let room : 3 ≤ g.L.EventList.room c.take_least.new.self.events = omega (arith, more, had.2) in
-    let ready = ready_at g.L.EventList.pending g.L.EventList.room t c.in-Some.key c.in-Some.event c.self.inside.devices c.self.inside.timeline c.take_least.new.self c.self.inside.steps
-    c.in-Some.ensures.least c.in-Some.ensures.rest c.in-Some.ensures.others time had.0 had.1 room had.3 in
+    let time = time_is g.L.EventList.pending t z.0 p z.1 represents c.in-Some.key c.in-Some.event c.in-Some.ensures.least z.2 z.4 z.5 stop in
+    let had = subst (λ (p : PartValue g.row.L.Denot). (p.steps < 2 ^ 62) × HasMemory g.L.EventList.room p) (sym c.self.view_is) (c.requires.steps, c.requires.memory) in
+    let ready = ready_at g.L.EventList.pending g.L.EventList.room t c.in-Some.key c.in-Some.event p c.take_least.new.self
+    c.in-Some.ensures.least c.in-Some.ensures.rest c.in-Some.ensures.others time had.0 had.1 c.in-Some.ensures.room in
+    let q : PartValue g.row.L.Denot = record { part = c.self.inside.part; devices = c.self.inside.devices; timeline = c.take_least.new.self; outgoing = c.self.inside.outgoing; records = c.self.inside.records; steps = c.self.inside.steps } in
     rw (← c.self.view_is) (performed_ok g.L.EventList.pending g.L.EventList.room t c.in-Some.key c.in-Some.event p q c.dispatch.new.self ready c.dispatch.result c.dispatch.ensures)
 
 pub returns-clause-err : goal.returns-clause-err
 returns-clause-err g c =
     let z = c.requires.least in
     let t = c.args.topology.now in
-    let p : PartValue g.row.L.Denot = record { devices = c.self.inside.devices; timeline = c.self.inside.timeline; steps = c.self.inside.steps } in
-    let q : PartValue g.row.L.Denot = record { devices = c.self.inside.devices; timeline = c.take_least.new.self; steps = c.self.inside.steps } in
-    let represents = subst (λ (p : PartValue g.row.L.Denot). Represents g.L.EventList.pending t p z.0) (sym c.self.view_is) z.2 in
+    let p : PartValue g.row.L.Denot = record { part = c.self.inside.part; devices = c.self.inside.devices; timeline = c.self.inside.timeline; outgoing = c.self.inside.outgoing; records = c.self.inside.records; steps = c.self.inside.steps } in
+    let represents = subst (λ (p : PartValue g.row.L.Denot). Represents g.L.EventList.pending t z.0 p z.1) (sym c.self.view_is) z.3 in
     let stop = c.accepted_topologies_are_in_order.ensures.limits.greatest_stop in
-    let time = time_is g.L.EventList.pending t p z.0 represents c.in-Some.key c.in-Some.event c.in-Some.ensures.least z.1 z.3 z.4 stop in
-    let had = subst (λ (p : PartValue g.row.L.Denot). (p.steps < 2 ^ 62) × AllAt (λ i w. 1 ≤ w.room) p.devices.ports × (2 ≤ g.L.EventList.room p.timeline.events) × (2 ≤ p.timeline.spare)) (sym c.self.view_is)
-    (c.requires.steps, c.requires.ports, c.requires.room, c.requires.spare) in
-    let more = c.in-Some.ensures.room in
-    let room : 3 ≤ g.L.EventList.room c.take_least.new.self.events = omega (arith, more, had.2) in
-    let ready = ready_at g.L.EventList.pending g.L.EventList.room t c.in-Some.key c.in-Some.event c.self.inside.devices c.self.inside.timeline c.take_least.new.self c.self.inside.steps
-    c.in-Some.ensures.least c.in-Some.ensures.rest c.in-Some.ensures.others time had.0 had.1 room had.3 in
+    let time = time_is g.L.EventList.pending t z.0 p z.1 represents c.in-Some.key c.in-Some.event c.in-Some.ensures.least z.2 z.4 z.5 stop in
+    let had = subst (λ (p : PartValue g.row.L.Denot). (p.steps < 2 ^ 62) × HasMemory g.L.EventList.room p) (sym c.self.view_is) (c.requires.steps, c.requires.memory) in
+    let ready = ready_at g.L.EventList.pending g.L.EventList.room t c.in-Some.key c.in-Some.event p c.take_least.new.self
+    c.in-Some.ensures.least c.in-Some.ensures.rest c.in-Some.ensures.others time had.0 had.1 c.in-Some.ensures.room in
+    let q : PartValue g.row.L.Denot = record { part = c.self.inside.part; devices = c.self.inside.devices; timeline = c.take_least.new.self; outgoing = c.self.inside.outgoing; records = c.self.inside.records; steps = c.self.inside.steps } in
     rw (← c.self.view_is) (performed_err g.L.EventList.pending g.L.EventList.room t c.in-Some.key c.in-Some.event p q c.dispatch.new.self ready c.dispatch.result c.dispatch.ensures)
 
 pub returns-clause-one : goal.returns-clause-one

@@ -1,52 +1,102 @@
-use Rattle.std.proofs.Common.{◌≡◌, sym, ap, ◌∙◌, subst, arith}
+use Rattle.std.proofs.Common.{◌≡◌, ◌+◌, None, [], ◌∷◌, ◌++◌, slice_index, slice_set, refl, sym, ap, ◌∙◌, subst, arith}
+use Rattle.std.specs.FinMap.{get, insert}
 use Rattle.std.specs.Option.{IfSome}
+use Rattle.nm_base.specs.declared.event.Event.TheVariants.{Completion, Delivery}
+use Rattle.nm_base.specs.declared.key.Place.TheVariants.{Arrive, Complete}
+use Rattle.nm_base.specs.Key.{key_of}
 use Rattle.nm_model.specs.EventList.{schedule}
+use Rattle.nm_model.specs.Lists.{set_at}
 use Rattle.nm_model.specs.Run.{transmission_events, sent_after}
 use Rattle.nm_sim.specs.Effects.{TransmitsAt, transmission_of}
-use Rattle.nm_sim.specs.Network.{net_of}
-use Rattle.nm_sim.specs.Timelines.{AreFresh, TimelineRepresents, everywhere}
-use Rattle.nm_sim.proofs.Beginnings.{peer_is, arrival_fresh, completion_fresh, begun_events, begun_numbered}
+use Rattle.nm_sim.specs.Network.{here_of, net_of}
+use Rattle.nm_sim.specs.Outgoing.{OutgoingRepresents}
+use Rattle.nm_sim.specs.Timelines.{AreFresh, TimelineRepresents, TimelineValue}
+use Rattle.nm_sim.proofs.Beginnings.{arrival_fresh, arrives_at, begun_events, begun_numbered, completion_fresh, peer_is, still_free}
 use Rattle.nm_sim.proofs.timeline.Timeline.schedule_transmission.Goals as goal
 
-pub put_transmission-requires-clause-peer : goal.put_transmission-requires-clause-peer
-put_transmission-requires-clause-peer g c =
-    let linked = c.accepted_topologies_are_in_order.ensures.order.linked c.in-Some.sending.0 c.iface.result.now c.iface.ensures in
+pub take_number-number-requires-clause-receiver : goal.take_number-number-requires-clause-receiver
+take_number-number-requires-clause-receiver g c =
+    let linked = c.accepted_topologies_are_in_order.ensures.order.linked c.in_ok-iface.iface c.iface.result.now c.iface.ensures in
     let peer = ap (λ f. f.peer) c.far-peer.ensures in
     omega (arith, linked.within, peer, c.requires.numbered.1.count)
 
-pub put_transmission-requires-clause-arrival : goal.put_transmission-requires-clause-arrival
-put_transmission-requires-clause-arrival g c =
-    let linked = c.accepted_topologies_are_in_order.ensures.order.linked c.in-Some.sending.0 c.iface.result.now c.iface.ensures in
+pub take_number-number-requires-clause-count : goal.take_number-number-requires-clause-count
+take_number-number-requires-clause-count g c =
+    let linked = c.accepted_topologies_are_in_order.ensures.order.linked c.in_ok-iface.iface c.iface.result.now c.iface.ensures in
     let peer = ap (λ f. f.peer) c.far-peer.ensures in
-    let transmits = subst (λ o. IfSome o (TransmitsAt c.args.topology.now c.args.time)) c.in-Some.is c.requires.transmits in
-    let fresh = subst (λ o. AreFresh (g.L.EventList.pending c.args.self.now.events) (transmission_events (net_of c.args.topology.now) c.args.time c.requires.numbered.0 (transmission_of o))) c.in-Some.is c.requires.numbered.3 in
-    arrival_fresh c.args.topology.now c.args.self.now c.args.time c.requires.numbered.0 c.requires.numbered.1 c.in-Some.sending.0 c.in-Some.sending.1 transmits
-    c.far-peer.result.peer (peer_is c.args.topology.now c.in-Some.sending.0 c.iface.result.now c.iface.ensures ∙ sym peer) (omega (arith, linked.within, peer)) _ fresh
+    let number = c.requires.numbered.1.numbers c.far-peer.result.peer (omega (arith, linked.within, peer)) in
+    let few = c.requires.numbered.2 c.far-peer.result.peer in
+    omega (arith, number, few)
 
-pub put_transmission-requires-clause-completion : goal.put_transmission-requires-clause-completion
-put_transmission-requires-clause-completion g c =
-    let linked = c.accepted_topologies_are_in_order.ensures.order.linked c.in-Some.sending.0 c.iface.result.now c.iface.ensures in
-    let peer = ap (λ f. f.peer) c.far-peer.ensures in
-    let transmits = subst (λ o. IfSome o (TransmitsAt c.args.topology.now c.args.time)) c.in-Some.is c.requires.transmits in
-    let fresh = subst (λ o. AreFresh (g.L.EventList.pending c.args.self.now.events) (transmission_events (net_of c.args.topology.now) c.args.time c.requires.numbered.0 (transmission_of o))) c.in-Some.is c.requires.numbered.3 in
-    completion_fresh c.args.topology.now c.args.self.now c.args.time c.requires.numbered.0 c.requires.numbered.1 c.in-Some.sending.0 c.in-Some.sending.1 transmits
-    c.far-peer.result.peer (peer_is c.args.topology.now c.in-Some.sending.0 c.iface.result.now c.iface.ensures ∙ sym peer) (omega (arith, linked.within, peer)) _ fresh
+pub schedule_arrival-requires-clause-place : goal.schedule_arrival-requires-clause-place
+schedule_arrival-requires-clause-place g c =
+    ap Arrive (ap (λ f. f.peer) c.far-peer.ensures ∙ sym (peer_is c.args.topology.now c.in_ok-iface.iface c.iface.result.now c.iface.ensures))
 
-pub returns-in-Some-clause-events : goal.returns-in-Some-clause-events
-returns-in-Some-clause-events g c = λ sent numbered.
-    let linked = c.accepted_topologies_are_in_order.ensures.order.linked c.in-Some.sending.0 c.iface.result.now c.iface.ensures in
+pub schedule_arrival-requires-clause-fresh : goal.schedule_arrival-requires-clause-fresh
+schedule_arrival-requires-clause-fresh g c =
+    let t = c.args.topology.now in
+    let z = c.requires.numbered in
+    let linked = c.accepted_topologies_are_in_order.ensures.order.linked c.in_ok-iface.iface c.iface.result.now c.iface.ensures in
     let peer = ap (λ f. f.peer) c.far-peer.ensures in
-    let transmits = subst (λ o. IfSome o (TransmitsAt c.args.topology.now c.args.time)) c.in-Some.is c.requires.transmits in
-    subst (λ o. g.L.EventList.pending c.put_transmission.new.self.events ≡ schedule everywhere (transmission_events (net_of c.args.topology.now) c.args.time sent (transmission_of o)) (g.L.EventList.pending c.args.self.now.events))
-    (sym c.in-Some.is)
-    (begun_events c.args.topology.now c.args.self.now c.args.time sent numbered c.in-Some.sending.0 c.in-Some.sending.1 transmits
-    c.far-peer.result.peer (peer_is c.args.topology.now c.in-Some.sending.0 c.iface.result.now c.iface.ensures ∙ sym peer) (omega (arith, linked.within, peer)) _ _ c.put_transmission.ensures.events)
+    let transmits = subst (λ o. IfSome o (TransmitsAt t c.args.part.now c.args.time)) c.in_ok-iface.was c.requires.transmits in
+    let fresh = subst (λ o. AreFresh (g.L.EventList.pending c.args.self.now.events) (transmission_events (net_of t) c.args.time z.0 (transmission_of o))) c.in_ok-iface.was z.3 in
+    let free = arrival_fresh t c.args.self.now c.args.time z.0 z.1 c.args.part.now c.in_ok-iface.iface c.in_ok-iface.start transmits
+    c.far-peer.result.peer (peer_is t c.in_ok-iface.iface c.iface.result.now c.iface.ensures ∙ sym peer) (omega (arith, linked.within, peer)) _ fresh in
+    (λ k. get (g.L.EventList.pending (c.take_number-number.ensures.events k)) (key_of c.in_ok-iface.start.arrives (Arrive c.far-peer.result.peer) (c.take_number-number.ensures.number k))) ∙ free
 
-pub returns-in-Some-clause-numbered : goal.returns-in-Some-clause-numbered
-returns-in-Some-clause-numbered g c = λ sent numbered.
-    let linked = c.accepted_topologies_are_in_order.ensures.order.linked c.in-Some.sending.0 c.iface.result.now c.iface.ensures in
+pub put-requires-clause-fresh : goal.put-requires-clause-fresh
+put-requires-clause-fresh g c =
+    let t = c.args.topology.now in
+    let z = c.requires.numbered in
+    let linked = c.accepted_topologies_are_in_order.ensures.order.linked c.in_ok-iface.iface c.iface.result.now c.iface.ensures in
     let peer = ap (λ f. f.peer) c.far-peer.ensures in
-    let transmits = subst (λ o. IfSome o (TransmitsAt c.args.topology.now c.args.time)) c.in-Some.is c.requires.transmits in
-    subst (λ o. TimelineRepresents c.args.topology.now c.put_transmission.new.self (sent_after (net_of c.args.topology.now) c.args.time sent (transmission_of o))) (sym c.in-Some.is)
-    (begun_numbered c.args.topology.now c.args.self.now c.args.time sent numbered c.in-Some.sending.0 c.in-Some.sending.1 transmits
-    c.far-peer.result.peer (peer_is c.args.topology.now c.in-Some.sending.0 c.iface.result.now c.iface.ensures ∙ sym peer) (omega (arith, linked.within, peer)) c.put_transmission.new.self c.put_transmission.ensures.sent)
+    let transmits = subst (λ o. IfSome o (TransmitsAt t c.args.part.now c.args.time)) c.in_ok-iface.was c.requires.transmits in
+    let fresh = subst (λ o. AreFresh (g.L.EventList.pending c.args.self.now.events) (transmission_events (net_of t) c.args.time z.0 (transmission_of o))) c.in_ok-iface.was z.3 in
+    let free = completion_fresh t c.args.self.now c.args.time z.0 z.1 c.args.part.now c.in_ok-iface.iface c.in_ok-iface.start transmits
+    c.far-peer.result.peer (peer_is t c.in_ok-iface.iface c.iface.result.now c.iface.ensures ∙ sym peer) (omega (arith, linked.within, peer)) _ fresh in
+    let before : get (g.L.EventList.pending c.take_number-number.new.self.events) (key_of c.in_ok-iface.start.completes (Complete c.in_ok-iface.iface) c.take_number-number.result) ≡ None
+    = (λ k. get (g.L.EventList.pending (c.take_number-number.ensures.events k)) (key_of c.in_ok-iface.start.completes (Complete c.in_ok-iface.iface) (c.take_number-number.ensures.number k))) ∙ free in
+    still_free (here_of t c.args.part.now) (g.L.EventList.pending c.take_number-number.new.self.events) (g.L.EventList.pending c.self.inside.events)
+    (key_of c.in_ok-iface.start.arrives (Arrive c.far-peer.result.peer) c.take_number-number.result) (Delivery c.in_ok-iface.start.twin.packet)
+    c.in_ok-iface.start.completes c.in_ok-iface.iface c.take_number-number.result c.far-peer.result.peer refl
+    (ap (λ (l : TimelineValue g.row.L.Denot). g.L.EventList.pending l.events) c.self.view_is ∙ c.schedule_arrival.ensures.events) before
+
+pub returns-clause-events : goal.returns-clause-events
+returns-clause-events g c = λ sent numbered.
+    let t = c.args.topology.now in
+    let linked = c.accepted_topologies_are_in_order.ensures.order.linked c.in_ok-iface.iface c.iface.result.now c.iface.ensures in
+    let peer = ap (λ f. f.peer) c.far-peer.ensures in
+    let transmits = subst (λ o. IfSome o (TransmitsAt t c.args.part.now c.args.time)) c.in_ok-iface.was c.requires.transmits in
+    let middle : g.L.EventList.pending c.self.inside.events
+    ≡ schedule (here_of t c.args.part.now) ((key_of c.in_ok-iface.start.arrives (Arrive c.far-peer.result.peer) (slice_index c.args.self.now.sent c.far-peer.result.peer), Delivery c.in_ok-iface.start.twin.packet) ∷ [])
+    (g.L.EventList.pending c.args.self.now.events)
+    = ap (λ (l : TimelineValue g.row.L.Denot). g.L.EventList.pending l.events) c.self.view_is ∙ c.schedule_arrival.ensures.events
+    ∙ (λ k. schedule (here_of t c.args.part.now) ((key_of c.in_ok-iface.start.arrives (Arrive c.far-peer.result.peer) (c.take_number-number.ensures.number k), Delivery c.in_ok-iface.start.twin.packet) ∷ [])
+    (g.L.EventList.pending (c.take_number-number.ensures.events k))) in
+    subst (λ o. g.L.EventList.pending c.put.new.self ≡ schedule (here_of t c.args.part.now) (transmission_events (net_of t) c.args.time sent (transmission_of o)) (g.L.EventList.pending c.args.self.now.events))
+    (sym c.in_ok-iface.was)
+    (begun_events t c.args.self.now c.args.time sent numbered c.args.part.now c.in_ok-iface.iface c.in_ok-iface.start transmits
+    c.far-peer.result.peer (peer_is t c.in_ok-iface.iface c.iface.result.now c.iface.ensures ∙ sym peer) (omega (arith, linked.within, peer)) _ _ _ middle
+    (c.put.ensures.pending ∙ ap (λ n. insert (g.L.EventList.pending c.self.inside.events) (key_of c.in_ok-iface.start.completes (Complete c.in_ok-iface.iface) n) Completion) c.take_number-number.ensures.number))
+
+pub returns-clause-numbered : goal.returns-clause-numbered
+returns-clause-numbered g c = λ sent numbered.
+    let t = c.args.topology.now in
+    let linked = c.accepted_topologies_are_in_order.ensures.order.linked c.in_ok-iface.iface c.iface.result.now c.iface.ensures in
+    let peer = ap (λ f. f.peer) c.far-peer.ensures in
+    let transmits = subst (λ o. IfSome o (TransmitsAt t c.args.part.now c.args.time)) c.in_ok-iface.was c.requires.transmits in
+    let after : TimelineValue g.row.L.Denot = record { events = c.put.new.self; sent = c.self.inside.sent.items } in
+    subst (λ o. TimelineRepresents t after (sent_after (net_of t) c.args.time sent (transmission_of o))) (sym c.in_ok-iface.was)
+    (begun_numbered t c.args.self.now c.args.time sent numbered c.args.part.now c.in_ok-iface.iface c.in_ok-iface.start transmits
+    c.far-peer.result.peer (peer_is t c.in_ok-iface.iface c.iface.result.now c.iface.ensures ∙ sym peer) (omega (arith, linked.within, peer)) after
+    (ap (λ (l : TimelineValue g.row.L.Denot). l.sent) c.self.view_is ∙ c.schedule_arrival.ensures.sent ∙ c.take_number-number.ensures.sent
+    ∙ ap (λ n. slice_set c.args.self.now.sent c.far-peer.result.peer (n + 1)) c.take_number-number.ensures.number))
+
+pub returns-clause-outgoing : goal.returns-clause-outgoing
+returns-clause-outgoing g c = λ sent h.
+    let t = c.args.topology.now in
+    let transmits = subst (λ o. IfSome o (TransmitsAt t c.args.part.now c.args.time)) c.in_ok-iface.was c.requires.transmits in
+    subst (λ o. OutgoingRepresents t c.args.part.now c.schedule_arrival.new.outgoing (sent_after (net_of t) c.args.time sent (transmission_of o))) (sym c.in_ok-iface.was)
+    (subst (λ a. OutgoingRepresents t c.args.part.now c.schedule_arrival.new.outgoing
+    (set_at sent ((net_of t).peer c.in_ok-iface.iface) (sent ((net_of t).peer c.in_ok-iface.iface) ++ (a, c.in_ok-iface.start.twin.packet) ∷ [])))
+    (arrives_at t c.args.part.now c.args.time c.in_ok-iface.iface c.in_ok-iface.start transmits) (c.schedule_arrival.ensures.outgoing sent h))
