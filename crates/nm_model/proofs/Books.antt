@@ -50,19 +50,48 @@ module _ {X : Type 0} (f : Key × X → Bool) where
       go false i (inl c) rest = both_ways (f (q, v)) h (ap f (λ j. (c.0 j, c.1 j)) ∙ i)
       go false i (inr c) rest = rest c
 
+still_absent : {X : Type 0} (m : FinMap key_cmp X) (k q : Key) → get m q ≡ None → get (remove m k) q ≡ None
+still_absent m k q none = ⊎_elim
+    (λ f. subst (λ z. get (remove m k) z ≡ None) (sym f) (remove_same m k))
+    (λ f. remove_other m k q f ∙ none)
+    (key_decides q k)
+
 module _ {P N : Type 0} (net : Net P N) (ok : IsNet net) (p : ℕ) where
   -- a partition's pending events are its own
   alien_step : (s : State P N) → ((q : Key) → in_part net p q.place ≡ false → get s.pending q ≡ None) → (o : Option (Key × Event P)) → (q : Key) → in_part net p q.place ≡ false → get (step_at net (in_part net p) s o).pending q ≡ None
   alien_step s h None q mq = h q mq
-  alien_step s h (Some e) q mq = put_elsewhere (in_part net p) (new_events net e.0 s.sent (effect net s.node s.port e.0.time e.0.place e.0.number e.1)) (remove s.pending e.0) q mq ∙ gone (key_decides q e.0)
-    where
-      gone : (q ≡ e.0) ⊎ (q ≢ e.0) → get (remove s.pending e.0) q ≡ None
-      gone (inl f) = subst (λ z. get (remove s.pending e.0) z ≡ None) (sym f) (remove_same s.pending e.0)
-      gone (inr f) = remove_other s.pending e.0 q f ∙ h q mq
+  alien_step s h (Some e) q mq = put_elsewhere (in_part net p) (new_events net e.0 s.sent (effect net s.node s.port e.0.time e.0.place e.0.number e.1)) (remove s.pending e.0) q mq ∙ still_absent s.pending e.0 q (h q mq)
 
   pub alien : (K : Knowledge P) (k : ℕ) (q : Key) → in_part net p q.place ≡ false → get (from_scratch net p K k).pending q ≡ None
   alien K zero q mq = put_elsewhere (in_part net p) (source_events net net.sources) _ q mq ∙ messages_only net p K q (λ c pl ch. both_ways (in_part net p q.place) (ap (in_part net p) pl ∙ (and_both _ _ ch).0) mq)
   alien K (suc k) q mq = alien_step (from_scratch net p K k) (alien K k) (least (from_scratch net p K k).pending) q mq
+
+  -- no event that one of the partition makes comes in by a channel
+  pub not_by_channel : (s : State P N) (e : Key × Event P) → in_part net p e.0.place ≡ true → (c : ℕ) (q : Key) → q.place ≡ Arrive c → comes_in net p c ≡ true → (y : Event P) → ¬ (IsNew net e.0 s.sent (effect net s.node s.port e.0.time e.0.place e.0.number e.1) q y)
+  not_by_channel s e mn c q pl ch y (Ends u f g i) = let w : Arrive c ≡ Complete u.0 = sym pl ∙ ap (λ r. r.place) g in cc
+  not_by_channel s e mn c q pl ch y (GoesOn u f g i) =
+      let a = (effect_is net ok s.node s.port e.0.time e.0.place e.0.number e.1).follows_is u f in
+      let w : Arrive c ≡ Fire a.0 = sym pl ∙ ap (λ r. r.place) g ∙ a.1 in cc
+  not_by_channel s e mn c q pl ch y (Comes u f g i) =
+      let is = effect_is net ok s.node s.port e.0.time e.0.place e.0.number e.1 in
+      let pc : c ≡ net.peer u.0 = arrive_inj _ _ (sym pl ∙ ap (λ r. r.place) g) in
+      let d = is.transmission_turn u f in
+      let own : net.owner u.0 ≡ node_of net e.0.place = is.turn_owner (u.0, d.0) d.1 in
+      let far : in_part net p (Arrive (net.peer c)) ≡ true = ap (λ j. in_part net p (Arrive (net.peer j))) pc ∙ ap (λ j. in_part net p (Arrive j)) (ok.twice u.0) ∙ ap (λ v. net.part v == p) own ∙ mn in
+      both_ways (in_part net p (Arrive (net.peer c))) far (not_true _ (and_both _ _ ch).1)
+
+  -- so what wasn't told isn't pending after a step either
+  untold_at : (s : State P N) (q : Key) (c : ℕ) → q.place ≡ Arrive c → comes_in net p c ≡ true → get s.pending q ≡ None → (o : Option (Key × Event P)) → ((e : Key × Event P) → o ≡ Some e → in_part net p e.0.place ≡ true) → get (step_at net (in_part net p) s o).pending q ≡ None
+  untold_at s q c pl ch none None mn = none
+  untold_at s q c pl ch none (Some e) mn =
+      let made = new_events net e.0 s.sent (effect net s.node s.port e.0.time e.0.place e.0.number e.1) in
+      put_absent (in_part net p) made (remove s.pending e.0) q
+      (absent_unless q made (λ v a. not_by_channel s e (mn e refl) c q pl ch v (made_among net e.0 s.sent _ q v a)))
+      ∙ still_absent s.pending e.0 q none
+
+  pub untold_step : (s : State P N) → ((q : Key) → in_part net p q.place ≡ false → get s.pending q ≡ None) → (c t n : ℕ) → comes_in net p c ≡ true → get s.pending (key_of t (Arrive c) n) ≡ None → get (step net (in_part net p) s).pending (key_of t (Arrive c) n) ≡ None
+  untold_step s own c t n ch none = untold_at s (key_of t (Arrive c) n) c refl ch none (least s.pending) (λ e h.
+      ⊎_elim (λ b. b) (λ b. let has = least_has s.pending e h in let missing = own e.0 b in absurd (cc)) (bool_cases (in_part net p e.0.place)))
 
   module _ (K J : Knowledge P) (under : IsUnderAll net p K J) where
     abbrev pub more : FinMap key_cmp (Event P) → FinMap key_cmp (Event P)
@@ -150,20 +179,6 @@ module _ {P N : Type 0} (net : Net P N) (ok : IsNet net) (p : ℕ) where
           (λ h. least_min s.pending e q y m h)
           (put_from (λ q. true) (new_messages net p K J) s.pending q y f))
 
-      -- no event that it makes comes in by a channel
-      pub not_by_channel : (c : ℕ) (q : Key) → q.place ≡ Arrive c → comes_in net p c ≡ true → (y : Event P) → ¬ (IsNew net e.0 s.sent does q y)
-      not_by_channel c q pl ch y (Ends u f g i) = let w : Arrive c ≡ Complete u.0 = sym pl ∙ ap (λ r. r.place) g in cc
-      not_by_channel c q pl ch y (GoesOn u f g i) =
-          let a = (effect_is net ok s.node s.port e.0.time e.0.place e.0.number e.1).follows_is u f in
-          let w : Arrive c ≡ Fire a.0 = sym pl ∙ ap (λ r. r.place) g ∙ a.1 in cc
-      not_by_channel c q pl ch y (Comes u f g i) =
-          let is = effect_is net ok s.node s.port e.0.time e.0.place e.0.number e.1 in
-          let pc : c ≡ net.peer u.0 = arrive_inj _ _ (sym pl ∙ ap (λ r. r.place) g) in
-          let d = is.transmission_turn u f in
-          let own : net.owner u.0 ≡ node_of net e.0.place = is.turn_owner (u.0, d.0) d.1 in
-          let far : in_part net p (Arrive (net.peer c)) ≡ true = ap (λ j. in_part net p (Arrive (net.peer j))) pc ∙ ap (λ j. in_part net p (Arrive j)) (ok.twice u.0) ∙ ap (λ v. net.part v == p) own ∙ mn in
-          both_ways (in_part net p (Arrive (net.peer c))) far (not_true _ (and_both _ _ ch).1)
-
       removed_more : (q : Key) → get (remove (more s.pending) e.0) q ≡ get (more (remove s.pending e.0)) q
       removed_more q = ⊎_elim
           (λ f. subst (λ z. get (remove (more s.pending) e.0) z ≡ get (more (remove s.pending e.0)) z) (sym f)
@@ -182,7 +197,7 @@ module _ {P N : Type 0} (net : Net P N) (ok : IsNet net) (p : ℕ) where
           go (Fire j) f = plain (λ c g ch. let z : Fire j ≡ Arrive c = sym f ∙ g in cc)
           go (Arrive c) f = ⊎_elim
               (λ ch.
-              let absent = absent_unless q (new_events net e.0 s.sent does) (λ v a. not_by_channel c q f ch v (made_among net e.0 s.sent does q v a)) in
+              let absent = absent_unless q (new_events net e.0 s.sent does) (λ v a. not_by_channel s e mn c q f ch v (made_among net e.0 s.sent does q v a)) in
               put_absent (in_part net p) (new_events net e.0 s.sent does) _ q absent ∙ removed_more q
               ∙ put_alike (λ z. true) (λ z. true) (new_messages net p K J) _ _ q refl (sym (put_absent (in_part net p) (new_events net e.0 s.sent does) (remove s.pending e.0) q absent)))
               (λ ch. plain (λ d g dh. both_ways (comes_in net p d) dh (ap (comes_in net p) (arrive_inj d c (sym g ∙ f)) ∙ ch)))

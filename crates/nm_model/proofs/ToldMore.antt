@@ -31,7 +31,7 @@ module _ {P N : Type 0} (net : Net P N) (ok : IsNet net) (p : ℕ) (K : Knowledg
       let f : get (step_at net (in_part net p) s (Some y.0)).pending (key_of t (Arrive c) n) ≡ Some x = ap (λ o. get (step_at net (in_part net p) s o).pending (key_of t (Arrive c) n)) (sym y.1) ∙ e in
       let own : in_part net p y.0.0.place ≡ true = ⊎_elim (λ z. z) (λ z. let none = alien net ok p K k y.0.0 z in let has = least_has s.pending y.0 y.1 in absurd (cc)) (bool_cases (in_part net p y.0.0.place)) in
       ⊎_elim
-      (λ z. absurd (not_by_channel net ok p K K (λ d dh. under_self (K d)) s y.0 y.1 own y.2 c (key_of t (Arrive c) n) refl ch x z))
+      (λ z. absurd (not_by_channel net ok p s y.0 own c (key_of t (Arrive c) n) refl ch x z))
       (λ z. told_pending k (λ m lt. w m (omega arith)) c t n x ch z.1)
       (pending_case net y.0.0 s.sent (effect net s.node s.port y.0.0.time y.0.0.place y.0.0.number y.0.1) (in_part net p) s.pending (key_of t (Arrive c) n) x f)
 

@@ -14,7 +14,7 @@ ghost use Rattle.nm_model.specs.EventList.{least};
 ghost use Rattle.nm_model.specs.Network.{Net, IsNet};
 ghost use Rattle.nm_model.specs.Run.{State, one_list, made, step, start};
 ghost use Rattle.nm_model.specs.Knowledge.{Knowledge, Know};
-ghost use Rattle.nm_model.specs.Partition.{in_part};
+ghost use Rattle.nm_model.specs.Partition.{comes_in, in_part};
 ghost use Rattle.nm_model.specs.Replica.{from_scratch};
 ghost use Rattle.nm_model.specs.Orderly.{IsByNode, IsOrderly};
 
@@ -47,4 +47,15 @@ pub fn new_keys_are_new<P, N>()
         (f g : Key × Event P) → m < n
         → nth (made net s e) m ≡ Some f → nth (made net s e) n ≡ Some g
         → f.0 ≢ g.0 }
+{}
+
+/// Only messages bring arrivals on channels: at the start none is pending at all, and what a
+/// partition was not told is not pending after a step either.
+pub fn only_messages_bring_arrivals<P, N>()
+    ensures opens { (net : Net P N) (here : Place → Bool) (c t n : ℕ)
+        → get (start net here []).pending (key_of t (Arrive c) n) ≡ None }
+    ensures steps { (net : Net P N) → IsNet net → (p : ℕ) (s : State P N)
+        → IsOrderly net (in_part net p) s → (c t n : ℕ) → comes_in net p c ≡ true
+        → get s.pending (key_of t (Arrive c) n) ≡ None
+        → get (step net (in_part net p) s).pending (key_of t (Arrive c) n) ≡ None }
 {}

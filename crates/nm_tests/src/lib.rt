@@ -9,6 +9,8 @@ mod base;
 #[cfg(test)]
 mod events;
 #[cfg(test)]
+mod fed;
+#[cfg(test)]
 mod forward;
 #[cfg(test)]
 mod knowledge;
@@ -16,6 +18,8 @@ mod knowledge;
 mod memory;
 #[cfg(test)]
 mod packet;
+#[cfg(test)]
+mod parts;
 #[cfg(test)]
 mod pcap;
 #[cfg(test)]

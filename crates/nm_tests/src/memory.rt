@@ -3,18 +3,24 @@
 //!
 //! What a test only needs is asked for twice, so that it is there even where memory was refused.
 
+ghost use Rattle.std.specs.Prelude.{◌≡◌, IfOk};
+ghost use Rattle.nm_events.specs.Held.{pending_of};
+ghost use Rattle.nm_tests.specs.Fed.{IsFed};
+
+use crate::fed::Fed;
 use crate::forward::Bench;
 use crate::knowledge::is_known;
 use crate::run::run_steps;
 use crate::same::{eq_number, eq_numbers, eq_octets, holds};
 use crate::texts::{DUO, RING, TRIO};
 use bytes::Bytes;
-use nm_base::{IfaceNo, NodeNo, Packet, Record, SourceNo, Time};
+use nm_base::{ChanNo, IfaceNo, Key, NodeNo, Packet, PartNo, Record, SourceNo, Time};
 use nm_events::SortedList;
 use nm_forward::{Counter, Origin, Reaction};
 use nm_knowledge::{Accepted, Know, KnowFault};
 use nm_packet::{Icmp, MessageKind};
 use nm_sim::{Part, one_list};
+use nm_topology::topology::accepted_topologies_are_in_order;
 use nm_topology::{Refusal, TopoFault, Topology};
 use nm_traffic::{Source, SourcePacket};
 use std::alloc::{AllocError, Global};
@@ -201,6 +207,151 @@ fn part_whole(rt: HostRuntime) -> Result<(), Fail> {
     let first = one_list(rt.alloc(), &topology, topology.stop());
     let second = one_list(rt.alloc(), &topology, topology.stop());
     eq_number(&rt, "records", either(first, second)?.len() as u64, 8);
+    Ok(())
+}
+
+/// What a refused call leaves as it was: the least time, the counts of records and of messages, and
+/// the sums of what is counted and dropped.
+#[derive(Clone, Copy, PartialEq, Eq)]
+struct Shown {
+    least: Option<Time>,
+    records: usize,
+    sent: usize,
+    counted: u64,
+    dropped: u64,
+}
+
+/// What is seen of a part.
+fn seen(topology: &Topology, part: &Part<SortedList>) -> Shown {
+    accepted_topologies_are_in_order(topology); // law: what is numbered has numbers of 32 bits
+    let mut seen = Shown {
+        least: part.least(),
+        records: part.trace().len(),
+        sent: 0,
+        counted: 0,
+        dropped: 0,
+    };
+    for number in 0..topology.receivers().len() {
+        let out = part.out(ChanNo::new(number as u32));
+        seen.sent = seen.sent.saturating_add(out.len());
+    }
+    for number in 0..topology.nodes().len() {
+        for counter in Counter::ALL {
+            let count = part.counter(NodeNo::new(number as u32), counter);
+            seen.counted = seen.counted.saturating_add(count.unwrap_or(0));
+        }
+    }
+    for number in 0..topology.ifaces().len() {
+        let count = part.dropped(IfaceNo::new(number as u32));
+        seen.dropped = seen.dropped.saturating_add(count.unwrap_or(0));
+    }
+    seen
+}
+
+/// A partition of the ring at its start, asked for again where memory was refused.
+fn fed_at_last(
+    alloc: Global,
+    topology: &Topology,
+    number: u32,
+) -> Result<Fed<SortedList>, AllocError>
+    ensures { IfOk result (λ f. IsFed pending_of topology.now f.of f.part f.told.items) }
+{
+    let first = Fed::start(alloc, topology, PartNo::new(number));
+    if first.is_ok() {
+        return first;
+    }
+    Fed::start(alloc, topology, PartNo::new(number))
+}
+
+/// A message is told, again where memory was refused.
+fn tell_at_last(
+    rt: &impl Abort,
+    topology: &Topology,
+    fed: &mut Fed<SortedList>,
+    channel: ChanNo,
+    message: &(Time, Packet),
+) -> Result<(), AllocError>
+    requires { IsFed pending_of topology.now fed.old.of fed.old.part fed.old.told.items }
+    ensures { IsFed pending_of topology.now fed.new.of fed.new.part fed.new.told.items }
+{
+    let before = seen(topology, &fed.part);
+    if fed.tell(rt, topology, channel, message).is_ok() {
+        return Ok(());
+    }
+    holds(rt, "as it was", seen(topology, &fed.part) == before);
+    fed.tell(rt, topology, channel, message)
+}
+
+/// A step, done again where memory was refused.
+fn step_at_last(
+    rt: &(impl Abort + AllocGlobal),
+    topology: &Topology,
+    fed: &mut Fed<SortedList>,
+) -> Result<Option<Key>, AllocError>
+    requires { IsFed pending_of topology.now fed.old.of fed.old.part fed.old.told.items }
+    ensures { IsFed pending_of topology.now fed.new.of fed.new.part fed.new.told.items }
+{
+    let before = seen(topology, &fed.part);
+    if let Ok(done) = fed.step(rt.alloc(), topology, topology.stop()) {
+        return Ok(done);
+    }
+    holds(rt, "as it was", seen(topology, &fed.part) == before);
+    fed.step(rt.alloc(), topology, topology.stop())
+}
+
+/// A copy of a message that a part put on a channel, asked for again where memory was refused.
+fn message_at_last(
+    sender: &Fed<SortedList>,
+    channel: ChanNo,
+    number: usize,
+) -> Result<Option<(Time, Packet)>, AllocError> {
+    let first = sender.message(channel, number);
+    either(first, sender.message(channel, number))
+}
+
+/// A partition of the ring, told what another put on a channel and then run.
+fn ring_after(
+    rt: &(impl Abort + AllocGlobal),
+    topology: &Topology,
+    number: u32,
+    told: Option<(&Fed<SortedList>, ChanNo)>,
+) -> Result<Fed<SortedList>, Fail> {
+    let mut fed = fed_at_last(rt.alloc(), topology, number)?;
+    if let Some((sender, channel)) = told {
+        for number in 0..sender.part.out(channel).len() {
+            if let Some(message) = message_at_last(sender, channel, number)? {
+                tell_at_last(rt, topology, &mut fed, channel, &message)?;
+            }
+        }
+    }
+    for _ in 0..20 {
+        if step_at_last(rt, topology, &mut fed)?.is_none() {
+            return Ok(fed);
+        }
+    }
+    Err("it has fewer events".into())
+}
+
+/// A partition's start, its messages and its steps: a refused one changes nothing.
+#[test]
+fn part_refused(rt: HostRuntime) -> Result<(), Fail> {
+    let topology = network(rt.alloc(), RING)?;
+    let n0 = ring_after(&rt, &topology, 0, None)?;
+    let n1 = ring_after(&rt, &topology, 1, Some((&n0, ChanNo::new(1))))?;
+    let n2 = ring_after(&rt, &topology, 2, Some((&n1, ChanNo::new(3))))?;
+    times_are(&rt, n0.part.trace(), &[0, 2_000_000]);
+    let passed = [1_100_000, 1_100_000, 3_100_000, 3_100_000];
+    times_are(&rt, n1.part.trace(), &passed);
+    times_are(&rt, n2.part.trace(), &[2_200_000, 4_200_000]);
+    counts_two(&rt, &n0.part, 0, Counter::Originated);
+    counts_two(&rt, &n1.part, 1, Counter::Forwarded);
+    counts_two(&rt, &n2.part, 2, Counter::Udp);
+    eq_numbers(
+        &rt,
+        "events",
+        &[n0.events, n1.events, n2.events],
+        &[4, 4, 2],
+    );
     Ok(())
 }
 

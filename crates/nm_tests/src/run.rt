@@ -1,6 +1,6 @@
 //! Runs of a part.
 
-ghost use Rattle.std.specs.Prelude.{ℕ, List, IfOk};
+ghost use Rattle.std.specs.Prelude.{ℕ, List, None, IfOk};
 ghost use Rattle.nm_forward.specs.State.{NodeStateValue};
 ghost use Rattle.nm_model.specs.Run.{State};
 ghost use Rattle.nm_sim.specs.Part.{Represents};
@@ -22,8 +22,8 @@ fn step_before<L: EventList>(
     part: &mut Part<L>,
     before: Time,
 ) -> Result<Option<Key>, AllocError>
-    requires { (s : State (List ℕ) NodeStateValue) × Represents L.pending topology.now part.old s }
-    ensures { (s : State (List ℕ) NodeStateValue) × Represents L.pending topology.now part.new s }
+    requires { (s : State (List ℕ) NodeStateValue) × Represents L.pending topology.now None part.old s }
+    ensures { (s : State (List ℕ) NodeStateValue) × Represents L.pending topology.now None part.new s }
 {
     let stop = topology.stop();
     let before = if before < stop { before } else { stop };
@@ -40,13 +40,31 @@ pub fn run_steps<L: EventList + Drop>(
     topology: &Topology,
     count: usize,
 ) -> Result<Part<L>, AllocError>
-    ensures { IfOk result (λ p. (s : State (List ℕ) NodeStateValue) × Represents L.pending topology.now p s) }
+    ensures { IfOk result (λ p. (s : State (List ℕ) NodeStateValue) × Represents L.pending topology.now None p s) }
 {
-    let mut part = Part::start(alloc, topology)?;
+    let mut part = Part::start(alloc, topology, None)?;
     for _ in 0..count {
         let _done = step_before(alloc, topology, &mut part, topology.stop());
     }
     Ok(part)
+}
+
+/// How many events the whole network has before its `stop`.
+///
+/// # Errors
+///
+/// `AllocError` where memory was refused.
+pub fn count_events<L: EventList + Drop>(
+    alloc: Global,
+    topology: &Topology,
+) -> Result<u64, AllocError> {
+    let mut part = Part::<L>::start(alloc, topology, None)?;
+    for done in 0..u64::MAX {
+        if step_before(alloc, topology, &mut part, topology.stop())?.is_none() {
+            return Ok(done);
+        }
+    }
+    Err(AllocError)
 }
 
 /// What a step did, and what it left.
@@ -70,7 +88,7 @@ pub fn steps_before<L: EventList + Drop>(
     topology: &Topology,
     befores: &[Time],
 ) -> Result<Vec<Step>, AllocError> {
-    let mut part = Part::<L>::start(alloc, topology)?;
+    let mut part = Part::<L>::start(alloc, topology, None)?;
     let mut steps = Vec::new(alloc);
     for before in befores {
         let done = step_before(alloc, topology, &mut part, *before)?;

@@ -43,20 +43,20 @@ fn transmission_times(rt: HostRuntime) {
     );
 }
 
-/// The first event at a place.
-fn first(time: u64, place: Place) -> Option<Key> {
+/// An event at a place.
+pub fn nth(time: u64, place: Place, number: u64) -> Option<Key> {
     Some(Key {
         time: Time::from_nanoseconds(time),
         place,
-        number: 0,
+        number,
     })
 }
 
 /// The key of the event that a step does, the least time of what is to come then, and how many records there are.
-type Row = (Option<Key>, Option<u64>, usize);
+pub type StepRow = (Option<Key>, Option<u64>, usize);
 
 /// Each of these steps, one after another, does and leaves what is said.
-fn do_and_leave(rt: &impl Abort, steps: &[Step], rows: &[Row]) {
+pub fn do_and_leave(rt: &impl Abort, steps: &[Step], rows: &[StepRow]) {
     assert!(rt; steps.len() == rows.len());
     for (number, (step, (done, least, records))) in steps.iter().zip(rows).enumerate() {
         let least = least.map(Time::from_nanoseconds);
@@ -70,9 +70,9 @@ fn do_and_leave(rt: &impl Abort, steps: &[Step], rows: &[Row]) {
 #[test]
 fn steps_of_one_packet(rt: HostRuntime) -> Result<(), Fail> {
     let topology = Topology::read(rt.alloc(), DUO.as_bytes())?;
-    let source = first(0, Place::Fire(SourceNo::new(0)));
-    let complete = first(100_000, Place::Complete(IfaceNo::new(0)));
-    let arrive = first(1_100_000, Place::Arrive(IfaceNo::new(1)));
+    let source = nth(0, Place::Fire(SourceNo::new(0)), 0);
+    let complete = nth(100_000, Place::Complete(IfaceNo::new(0)), 0);
+    let arrive = nth(1_100_000, Place::Arrive(IfaceNo::new(1)), 0);
     let befores = [
         0, 0, 1, 0, 100_000, 100_001, 1_100_000, 10_000_000, 10_000_000,
     ]
@@ -110,7 +110,7 @@ fn counts_are(rt: &impl Abort, part: &Part<SortedList>, rows: &[(u32, Option<u64
 #[test]
 fn not_there(rt: HostRuntime) -> Result<(), Fail> {
     let topology = Topology::read(rt.alloc(), DUO.as_bytes())?;
-    let part = Part::<SortedList>::start(rt.alloc(), &topology)?;
+    let part = Part::<SortedList>::start(rt.alloc(), &topology, None)?;
     counts_are(
         &rt,
         &part,

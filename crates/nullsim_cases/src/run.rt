@@ -1,6 +1,6 @@
 //! The run of a network.
 
-ghost use Rattle.std.specs.Prelude.{ℕ, List, IfOk};
+ghost use Rattle.std.specs.Prelude.{ℕ, List, None, IfOk};
 ghost use Rattle.nm_forward.specs.State.{NodeStateValue};
 ghost use Rattle.nm_model.specs.Run.{State};
 ghost use Rattle.nm_sim.specs.Part.{Represents};
@@ -23,8 +23,8 @@ fn step_before<L: EventList>(
     part: &mut Part<L>,
     before: Time,
 ) -> Result<Option<Key>, AllocError>
-    requires { (s : State (List ℕ) NodeStateValue) × Represents L.pending topology.now part.old s }
-    ensures { (s : State (List ℕ) NodeStateValue) × Represents L.pending topology.now part.new s }
+    requires { (s : State (List ℕ) NodeStateValue) × Represents L.pending topology.now None part.old s }
+    ensures { (s : State (List ℕ) NodeStateValue) × Represents L.pending topology.now None part.new s }
 {
     let stop = topology.stop();
     let before = if before < stop { before } else { stop };
@@ -42,9 +42,9 @@ pub fn run_before<L: EventList + Drop>(
     before: Time,
 ) -> Result<Part<L>, AllocError>
     ensures { IfOk result
-        (λ p. (s : State (List ℕ) NodeStateValue) × Represents L.pending topology.now p s) }
+        (λ p. (s : State (List ℕ) NodeStateValue) × Represents L.pending topology.now None p s) }
 {
-    let mut part = Part::start(alloc, topology)?;
+    let mut part = Part::start(alloc, topology, None)?;
     for _ in 0..u64::MAX {
         if step_before(alloc, topology, &mut part, before)?.is_none() {
             return Ok(part);

@@ -1,0 +1,261 @@
+//! `nm_sim`: parts of one partition each, fed by hand with what the others put on their channels.
+
+ghost use Rattle.std.specs.Prelude.{IfOk};
+ghost use Rattle.nm_events.specs.Held.{pending_of};
+ghost use Rattle.nm_tests.specs.Fed.{IsFed};
+
+use crate::fed::{Fed, partition_of, run_all};
+use crate::run::{Step, count_events, run_steps};
+use crate::same::{eq_number, eq_numbers, holds};
+use crate::sim::{StepRow, do_and_leave, nth};
+use crate::texts::{CROSS, RING, SPLIT, STAR};
+use nm_base::{ChanNo, IfaceNo, NodeNo, PartNo, Place, Record, Time};
+use nm_events::SortedList;
+use nm_forward::Counter;
+use nm_sim::{Part, one_list};
+use nm_topology::Topology;
+use std::alloc::{AllocError, Global};
+use std::process::Abort;
+use std::test::Fail;
+
+/// A part's trace is what the trace of the whole network has of its interfaces.
+fn has_its_records(rt: &impl Abort, topology: &Topology, whole: &[Record], fed: &Fed<SortedList>) {
+    let mut own = fed.part.trace().iter();
+    for (number, record) in whole.iter().enumerate() {
+        if partition_of(rt, topology, record.iface) == fed.of {
+            let found = own.next();
+            assert!(rt; found == Some(record), "record {number}");
+        }
+    }
+    holds(rt, "no more records", own.next().is_none());
+}
+
+/// The parts of a network do so many events each, and together do all of the whole network, with
+/// its records.
+fn are_one_list(rt: &(impl Abort + AllocGlobal), text: &str, events: &[u64]) -> Result<(), Fail> {
+    let topology = Topology::read(rt.alloc(), text.as_bytes())?;
+    let whole = one_list(rt.alloc(), &topology, topology.stop())?;
+    let mut all = 0u64;
+    let mut done = Vec::new(rt.alloc());
+    for fed in &run_all(rt, &topology)? {
+        has_its_records(rt, &topology, &whole, fed);
+        done.push(fed.events)?;
+        all = all.saturating_add(fed.events);
+    }
+    eq_numbers(rt, "events of each", &done, events);
+    let want = count_events::<SortedList>(rt.alloc(), &topology)?;
+    eq_number(rt, "events of all", all, want);
+    Ok(())
+}
+
+/// Parts that tell each other their messages do what one event list does.
+#[test]
+fn parts_fed_by_hand_give_the_trace_of_one_list(rt: HostRuntime) -> Result<(), Fail> {
+    are_one_list(&rt, SPLIT, &[2, 1])?;
+    are_one_list(&rt, RING, &[4, 4, 2])?;
+    are_one_list(&rt, CROSS, &[21, 0, 16])?;
+    are_one_list(&rt, STAR, &[16, 24])
+}
+
+/// A part is told the next message that another put on a channel.
+fn hear(
+    rt: &impl Abort,
+    topology: &Topology,
+    fed: &mut Fed<SortedList>,
+    sender: &Fed<SortedList>,
+    channel: u32,
+) -> Result<(), Fail>
+    requires { IsFed pending_of topology.now fed.old.of fed.old.part fed.old.told.items }
+    ensures { IsFed pending_of topology.now fed.new.of fed.new.part fed.new.told.items }
+{
+    let channel = ChanNo::new(channel);
+    match sender.message(channel, fed.told_of(channel))? {
+        Some(message) => Ok(fed.tell(rt, topology, channel, &message)?),
+        None => Err("there is one message more".into()),
+    }
+}
+
+/// A partition after a run in which it was told nothing.
+fn alone(alloc: Global, topology: &Topology, number: u32) -> Result<Fed<SortedList>, AllocError>
+    ensures { IfOk result (λ f. IsFed pending_of topology.now f.of f.part f.told.items) }
+{
+    let mut fed = Fed::start(alloc, topology, PartNo::new(number))?;
+    fed.run(alloc, topology, topology.stop())?;
+    Ok(fed)
+}
+
+/// Partition 0, told at its start the first message of each of these channels, one after another,
+/// and then run.
+fn told_in_order(
+    rt: &(impl Abort + AllocGlobal),
+    topology: &Topology,
+    sender: &Fed<SortedList>,
+    channels: &[u32],
+) -> Result<Fed<SortedList>, Fail> {
+    let mut fed = Fed::start(rt.alloc(), topology, PartNo::new(0))?;
+    for channel in channels {
+        hear(rt, topology, &mut fed, sender, *channel)?;
+    }
+    fed.run(rt.alloc(), topology, topology.stop())?;
+    Ok(fed)
+}
+
+/// The interfaces of records, all of which are of this time.
+fn ifaces_at(
+    rt: &(impl Abort + AllocGlobal),
+    records: &[Record],
+    time: u64,
+) -> Result<Vec<u64>, AllocError> {
+    let mut ifaces = Vec::new(rt.alloc());
+    for record in records {
+        eq_number(rt, "a time", record.time.nanoseconds(), time);
+        ifaces.push(u64::from(record.iface.number()))?;
+    }
+    Ok(ifaces)
+}
+
+/// What arrives at one time is done by the numbers of interfaces, in whatever order it was told.
+#[test]
+fn replies_at_one_nanosecond_come_in_the_order_of_interfaces(rt: HostRuntime) -> Result<(), Fail> {
+    let topology = Topology::read(rt.alloc(), STAR.as_bytes())?;
+    let whole = one_list(rt.alloc(), &topology, topology.stop())?;
+    let sender = alone(rt.alloc(), &topology, 1)?;
+    for channels in [
+        [0, 2, 4, 6, 8, 10, 12, 14],
+        [14, 12, 10, 8, 6, 4, 2, 0],
+        [6, 0, 14, 2, 12, 4, 10, 8],
+        [8, 10, 0, 12, 14, 6, 2, 4],
+    ] {
+        let fed = told_in_order(&rt, &topology, &sender, channels.as_slice())?;
+        has_its_records(&rt, &topology, &whole, &fed);
+        let ifaces = ifaces_at(&rt, fed.part.trace(), 1_028_000)?;
+        let want = [0, 0, 2, 2, 4, 4, 6, 6, 8, 8, 10, 10, 12, 12, 14, 14];
+        eq_numbers(&rt, "interfaces", &ifaces, &want);
+    }
+    Ok(())
+}
+
+/// A part's steps, one after another, do and leave what is said.
+fn does(
+    rt: &(impl Abort + AllocGlobal),
+    topology: &Topology,
+    fed: &mut Fed<SortedList>,
+    rows: &[(u64, StepRow)],
+) -> Result<(), AllocError>
+    requires { IsFed pending_of topology.now fed.old.of fed.old.part fed.old.told.items }
+    ensures { IsFed pending_of topology.now fed.new.of fed.new.part fed.new.told.items }
+{
+    for (before, row) in rows {
+        let done = fed.step(rt.alloc(), topology, Time::from_nanoseconds(*before))?;
+        let least = fed.part.least();
+        let records = fed.part.trace().len();
+        let step = Step {
+            done,
+            least,
+            records,
+        };
+        do_and_leave(rt, &[step], &[*row]);
+    }
+    Ok(())
+}
+
+/// A message's arrival has the message's number, whether it was told at the start or later.
+#[test]
+fn steps_of_a_part_that_is_told_more(rt: HostRuntime) -> Result<(), Fail> {
+    let topology = Topology::read(rt.alloc(), RING.as_bytes())?;
+    let sender = alone(rt.alloc(), &topology, 0)?;
+    let mut fed = Fed::start(rt.alloc(), &topology, PartNo::new(1))?;
+    let (from, to) = (
+        Place::Arrive(IfaceNo::new(1)),
+        Place::Complete(IfaceNo::new(2)),
+    );
+    does(&rt, &topology, &mut fed, &[(10_000_000, (None, None, 0))])?;
+    hear(&rt, &topology, &mut fed, &sender, 1)?;
+    does(
+        &rt,
+        &topology,
+        &mut fed,
+        &[
+            (1_100_000, (None, Some(1_100_000), 0)),
+            (1_100_001, (nth(1_100_000, from, 0), Some(1_200_000), 2)),
+            (1_200_000, (None, Some(1_200_000), 2)),
+            (10_000_000, (nth(1_200_000, to, 0), None, 2)),
+            (10_000_000, (None, None, 2)),
+        ],
+    )?;
+    hear(&rt, &topology, &mut fed, &sender, 1)?;
+    does(
+        &rt,
+        &topology,
+        &mut fed,
+        &[
+            (3_100_000, (None, Some(3_100_000), 2)),
+            (u64::MAX, (nth(3_100_000, from, 1), Some(3_200_000), 4)),
+            (u64::MAX, (nth(3_200_000, to, 1), None, 4)),
+            (u64::MAX, (None, None, 4)),
+        ],
+    )?;
+    Ok(())
+}
+
+/// Numbers of nodes, interfaces and channels.
+const NUMBERS: &[u32] = &[0, 1, 2, 3, 4, 5, 6];
+
+/// What each of its nodes originated, what was dropped at each of its interfaces, and the times of
+/// what it put on each channel, by numbers from 0.
+type Row<'a> = (&'a [Option<u64>], &'a [Option<u64>], &'a [&'a [u64]]);
+
+/// A part counted, dropped and sent this, and has nothing else.
+fn has(rt: &impl Abort, part: &Part<SortedList>, (nodes, ifaces, channels): Row<'_>) {
+    for (number, want) in NUMBERS.iter().zip(nodes) {
+        let found = part.counter(NodeNo::new(*number), Counter::Originated);
+        assert!(rt; found == *want, "node {number}");
+    }
+    for (number, want) in NUMBERS.iter().zip(ifaces) {
+        let found = part.dropped(IfaceNo::new(*number));
+        assert!(rt; found == *want, "interface {number}");
+    }
+    for (number, want) in NUMBERS.iter().zip(channels) {
+        let found = part.out(ChanNo::new(*number));
+        assert!(rt; found.len() == want.len(), "channel {number}");
+        for ((time, _), want) in found.iter().zip(*want) {
+            eq_number(rt, "a message", time.nanoseconds(), *want);
+        }
+    }
+}
+
+/// A part answers for its own nodes, interfaces and outgoing channels alone.
+#[test]
+fn a_part_has_its_own_nodes_and_interfaces_alone(rt: HostRuntime) -> Result<(), Fail> {
+    let topology = Topology::read(rt.alloc(), CROSS.as_bytes())?;
+    let (no, zero, one, five) = (None, Some(0), Some(1), Some(5));
+    let rows: [Row<'_>; 3] = [
+        (
+            &[five, zero, no, no, no],
+            &[zero, zero, no, no, one, no, no],
+            &[&[], &[340_000, 540_000, 740_000, 852_000], &[]],
+        ),
+        (&[no; 5], &[no; 7], &[&[], &[], &[]]),
+        (
+            &[no, no, zero, one, no],
+            &[no, no, zero, zero, no, zero, no],
+            &[&[514_000], &[], &[]],
+        ),
+    ];
+    for (fed, row) in run_all(&rt, &topology)?.iter().zip(rows) {
+        has(&rt, &fed.part, row);
+    }
+    let nowhere = Fed::start(rt.alloc(), &topology, PartNo::new(3))?;
+    has(&rt, &nowhere.part, (&[no; 5], &[no; 7], &[&[], &[], &[]]));
+    let whole = run_steps(rt.alloc(), &topology, 37)?;
+    has(
+        &rt,
+        &whole,
+        (
+            &[five, zero, zero, one, no],
+            &[zero, zero, zero, zero, one, zero, no],
+            &[&[], &[], &[]],
+        ),
+    );
+    Ok(())
+}
