@@ -286,7 +286,7 @@ impl<L: EventList> Part<L> {
     }
 
     /// What was put on a channel that goes out from here, each packet with the time at which it
-    /// arrives; its place in the list is its number. Other channels have nothing.
+    /// arrives; its place in the list is its number. Nothing is ever put on other channels.
     pub fn out(&self, channel: ChanNo) -> &[(Time, Packet)]
         ensures { (t : TopologyValue) (part : Option ℕ) (s : State (List ℕ) NodeStateValue)
             → Represents L.pending t part self.now s

@@ -13,6 +13,8 @@ mod fed;
 #[cfg(test)]
 mod forward;
 #[cfg(test)]
+mod handed;
+#[cfg(test)]
 mod knowledge;
 #[cfg(test)]
 mod memory;

@@ -16,7 +16,7 @@ use std::alloc::{AllocError, Global};
 /// # Errors
 ///
 /// `AllocError` where memory was refused. No part of the event was done then.
-fn step_before<L: EventList>(
+pub fn step_before<L: EventList>(
     alloc: Global,
     topology: &Topology,
     part: &mut Part<L>,
