@@ -67,8 +67,14 @@ impl<L> Model for Part<L> {
 
     ghost Value = { PartValue L };
 
-    ghost view = { λ p. record
-        { part = p.part; devices = p.devices; timeline = p.timeline; outgoing = p.outgoing; records = p.records; steps = p.steps } };
+    ghost view = { λ p. record {
+      part = p.part;
+      devices = p.devices;
+      timeline = p.timeline;
+      outgoing = p.outgoing;
+      records = p.records;
+      steps = p.steps;
+    } };
 
     ghost invariant = { λ p. p.steps ≤ 2 ^ 62 };
 }
@@ -151,8 +157,8 @@ impl<L: EventList> Part<L> {
         self.timeline.reserve(count)
     }
 
-    /// A message of a channel that comes in: the packet with this number on the channel is to arrive
-    /// at this time. It takes no memory.
+    /// A message of a channel that comes in: the packet with this number on the channel is to
+    /// arrive at this time. It takes no memory.
     pub fn put_arrival(
         &mut self,
         topology: &Topology,
@@ -295,8 +301,8 @@ impl<L: EventList> Part<L> {
         self.outgoing.messages(channel)
     }
 
-    /// When the transmission of the interface that sends on a channel completes; 0 where it is idle,
-    /// or not here. It takes no memory.
+    /// When the transmission of the interface that sends on a channel completes; 0 where it is
+    /// idle, or not here. It takes no memory.
     pub fn busy(&self, topology: &Topology, channel: ChanNo) -> Time
         ensures { (part : Option ℕ) (s : State (List ℕ) NodeStateValue)
             → Represents L.pending topology.now part self.now s
@@ -330,13 +336,13 @@ impl<L: EventList> Part<L> {
         self.records.into_kept()
     }
 
-    /// Takes the first record of the trace out that is kept, if there is one. It takes no memory, and
-    /// gives that of the record to the caller.
+    /// Takes the first record of the trace out that is kept, if there is one. It takes no memory,
+    /// and gives that of the record to the caller.
     pub fn hand_out(&mut self) -> Option<Record>
         requires { (t : TopologyValue) × (part : Option ℕ) × (s : State (List ℕ) NodeStateValue)
             × Represents L.pending t part self.old s }
-        ensures represents { (t : TopologyValue) (part : Option ℕ) (s : State (List ℕ) NodeStateValue)
-            → Represents L.pending t part self.old s
+        ensures represents { (t : TopologyValue) (part : Option ℕ)
+            (s : State (List ℕ) NodeStateValue) → Represents L.pending t part self.old s
             → Represents L.pending t part self.new s
             × (result ≡ slice_get s.records self.old.records.handed) }
         ensures handed { self.new.records.handed
@@ -538,8 +544,8 @@ impl<L: EventList> Part<L> {
         requires room { 2 ≤ L.room self.old.timeline.events }
         requires channels { HaveSpare self.old.outgoing }
         requires spare { 1 ≤ self.old.records.spare }
-        requires reacted { (part : Option ℕ) × (q : EventPlace) × (n : ℕ) × (e : PendingEvent (List ℕ))
-            × (came follows : Option (ℕ × List ℕ))
+        requires reacted { (part : Option ℕ) × (q : EventPlace) × (n : ℕ)
+            × (e : PendingEvent (List ℕ)) × (came follows : Option (ℕ × List ℕ))
             × (node : ℕ → NodeStateValue) × (s : State (List ℕ) NodeStateValue)
             × HasReacted L.pending topology.now part (key_of time q n) e came follows
             (sent_of reaction) node self.old s }
@@ -564,8 +570,8 @@ impl<L: EventList> Part<L> {
         requires room { 2 ≤ L.room self.old.timeline.events }
         requires channels { HaveSpare self.old.outgoing }
         requires spare { 1 ≤ self.old.records.spare }
-        requires under_way { (part : Option ℕ) × (q : EventPlace) × (n : ℕ) × (e : PendingEvent (List ℕ))
-            × (came follows : Option (ℕ × List ℕ))
+        requires under_way { (part : Option ℕ) × (q : EventPlace) × (n : ℕ)
+            × (e : PendingEvent (List ℕ)) × (came follows : Option (ℕ × List ℕ))
             × (s : State (List ℕ) NodeStateValue)
             × IsUnderWay L.pending topology.now part (key_of time q n) e
             (record { came = came; transmission = start; follows = follows }) self.old s }

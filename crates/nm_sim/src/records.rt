@@ -97,7 +97,8 @@ impl Records {
         ensures handed { self.new.handed ≡ self.old.handed }
         ensures count { length self.new.totals ≡ length self.old.totals }
         ensures totals { (i : ℕ) → slice_get self.new.totals i
-            ≡ option_map (λ a. if i == «record».iface then total_after a (length «record».packet) else a)
+            ≡ option_map
+            (λ a. if i == «record».iface then total_after a (length «record».packet) else a)
             (slice_get self.old.totals i) }
         ensures spare { self.old.spare ≤ self.new.spare + 1 }
     {

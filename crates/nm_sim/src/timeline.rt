@@ -133,7 +133,8 @@ impl<L: EventList> Timeline<L> {
     pub fn schedule_next(&mut self, key: Key, follows: Option<(Time, SourcePacket)>)
         requires number { key.number < 2 ^ 63 }
         requires room { 1 ≤ L.room self.old.events }
-        requires fresh { AreFresh (L.pending self.old.events) (next_events key.place key.number follows) }
+        requires fresh { AreFresh (L.pending self.old.events)
+            (next_events key.place key.number follows) }
         ensures events { L.pending self.new.events
             ≡ schedule everywhere (next_events key.place key.number follows)
             (L.pending self.old.events) }
@@ -187,17 +188,19 @@ impl<L: EventList> Timeline<L> {
         requires spare { HaveSpare outgoing.old }
         requires fresh { get (L.pending self.old.events) key ≡ None }
         ensures events { L.pending self.new.events
-            ≡ schedule (here_of topology.now part.now) ((key, Delivery packet) ∷ []) (L.pending self.old.events) }
+            ≡ schedule (here_of topology.now part.now) ((key, Delivery packet) ∷ [])
+            (L.pending self.old.events) }
         ensures room { L.room self.old.events ≤ L.room self.new.events + 1 }
         ensures sent { self.new.sent ≡ self.old.sent }
-        ensures outgoing { (sent : ℕ → List (ℕ × List ℕ)) → OutgoingRepresents topology.now part.now outgoing.old sent
+        ensures outgoing { (sent : ℕ → List (ℕ × List ℕ))
+            → OutgoingRepresents topology.now part.now outgoing.old sent
             → OutgoingRepresents topology.now part.now outgoing.new
             (set_at sent ((net_of topology.now).peer iface)
             (sent ((net_of topology.now).peer iface) ++ (key.time, packet) ∷ [])) }
     {
         every_topology_is_a_network(topology); // law: links have two ends
         accepted_topologies_are_in_order(topology); // law: the peer is there
-        channels_are_those_of_the_network(topology); // law: a link to another partition is a channel
+        channels_are_those_of_the_network(topology); // law: links between partitions
         channels_are_numbered_by_their_receivers(topology); // law: channels have numbers
         let peer = topology.iface(iface).far().peer;
         if is_iface_here(topology, part, peer) {
@@ -222,22 +225,25 @@ impl<L: EventList> Timeline<L> {
         start: Option<(IfaceNo, Start)>,
     ) -> Option<(IfaceNo, Packet)>
         requires transmits { IfSome start (TransmitsAt topology.now part.now time) }
-        requires numbered { (sent : ℕ → List (ℕ × List ℕ)) × TimelineRepresents topology.now self.old sent
-            × IsFew sent
+        requires numbered { (sent : ℕ → List (ℕ × List ℕ))
+            × TimelineRepresents topology.now self.old sent × IsFew sent
             × AreFresh (L.pending self.old.events)
             (transmission_events (net_of topology.now) time sent (transmission_of start)) }
         requires count { length outgoing.old.channels ≡ channel_count topology.now part.now }
         requires spare { HaveSpare outgoing.old }
         requires room { 2 ≤ L.room self.old.events }
-        ensures events { (sent : ℕ → List (ℕ × List ℕ)) → TimelineRepresents topology.now self.old sent
+        ensures events { (sent : ℕ → List (ℕ × List ℕ))
+            → TimelineRepresents topology.now self.old sent
             → L.pending self.new.events
             ≡ schedule (here_of topology.now part.now)
             (transmission_events (net_of topology.now) time sent (transmission_of start))
             (L.pending self.old.events) }
-        ensures numbered { (sent : ℕ → List (ℕ × List ℕ)) → TimelineRepresents topology.now self.old sent
+        ensures numbered { (sent : ℕ → List (ℕ × List ℕ))
+            → TimelineRepresents topology.now self.old sent
             → TimelineRepresents topology.now self.new
             (sent_after (net_of topology.now) time sent (transmission_of start)) }
-        ensures outgoing { (sent : ℕ → List (ℕ × List ℕ)) → OutgoingRepresents topology.now part.now outgoing.old sent
+        ensures outgoing { (sent : ℕ → List (ℕ × List ℕ))
+            → OutgoingRepresents topology.now part.now outgoing.old sent
             → OutgoingRepresents topology.now part.now outgoing.new
             (sent_after (net_of topology.now) time sent (transmission_of start)) }
         ensures transmitted { result ≡ transmission_of start }

@@ -29,7 +29,8 @@ fn run(
     part: &mut Part<SortedList>,
 ) -> Result<(), AllocError>
     requires before { before ≤ topology.now.stop }
-    requires represents { Represents pending_of topology.now None part.old (one_list (net_of topology.now) 0) }
+    requires represents { Represents pending_of topology.now None part.old
+        (one_list (net_of topology.now) 0) }
     requires whole { part.old.records.handed ≡ 0 }
     ensures done { OnOk result ((n : ℕ) × IsBefore (net_of topology.now) before n
         × Represents pending_of topology.now None part.new (one_list (net_of topology.now) n)) }

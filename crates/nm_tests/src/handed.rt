@@ -29,8 +29,10 @@ struct Run {
 
 /// Hands out all records that a part keeps.
 fn hand_out_all(topology: &Topology, run: &mut Run) -> Result<(), AllocError>
-    requires { (s : State (List ℕ) NodeStateValue) × Represents pending_of topology.now None run.old.part s }
-    ensures { (s : State (List ℕ) NodeStateValue) × Represents pending_of topology.now None run.new.part s }
+    requires { (s : State (List ℕ) NodeStateValue)
+        × Represents pending_of topology.now None run.old.part s }
+    ensures { (s : State (List ℕ) NodeStateValue)
+        × Represents pending_of topology.now None run.new.part s }
 {
     for _ in 0..u64::MAX {
         match run.part.hand_out() {
@@ -43,7 +45,8 @@ fn hand_out_all(topology: &Topology, run: &mut Run) -> Result<(), AllocError>
 
 /// A whole run that hands all records out after so many events, again and again.
 fn run_handing_out(alloc: Global, topology: &Topology, every: u64) -> Result<Run, AllocError>
-    ensures { IfOk result (λ r. (s : State (List ℕ) NodeStateValue) × Represents pending_of topology.now None r.part s) }
+    ensures { IfOk result (λ r. (s : State (List ℕ) NodeStateValue)
+        × Represents pending_of topology.now None r.part s) }
 {
     let part = Part::start(alloc, topology, None)?;
     let handed = Vec::new(alloc);
