@@ -55,6 +55,16 @@ bench: bin/nullsim bin/nm_bench
 	@for work in heap-random sorted-random heap-nearly sorted-nearly know copy; do \
 	  python3 bench/time.py $$work bin/nm_bench $$work || exit 1; \
 	done
+	@python3 bench/topology.py limits > bin/limits.toml
+	@for work in topology parts; do \
+	  python3 bench/time.py "limits, $$work" bin/nm_bench $$work bin/limits.toml || exit 1; \
+	done
+	@for packets in 15900 31800; do \
+	  python3 bench/topology.py line $$packets > bin/line-$$packets.toml && \
+	  for work in kept flat; do \
+	    python3 bench/time.py "line of $$packets packets, $$work" bin/nm_bench $$work bin/line-$$packets.toml || exit 1; \
+	  done; \
+	done
 
 cases: bin/nullsim
 	@tools/cases.sh bin/nullsim $(if $(CASES),'$(CASES)',crates/nullsim_cases/data/cases/networks crates/nullsim_cases/data/cases/readings)

@@ -1,5 +1,8 @@
 #!/usr/bin/env python3
-"""Runs a command with its output thrown away: processor time, peak memory, and for `line` packet-hops a second."""
+"""Runs a command with its output thrown away: processor time, peak memory, and for `line` packet-hops a second.
+
+The system counts this script's own memory, some 13 MiB, as the least of the command's.
+"""
 import resource
 import subprocess
 import sys

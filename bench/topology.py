@@ -1,5 +1,8 @@
 #!/usr/bin/env python3
-"""Writes a topology for a measurement to standard output: topology.py line|grid|star, or topology.py hub|spread PACKETS."""
+"""Writes a topology for a measurement to standard output.
+
+topology.py line [PACKETS], topology.py grid|star|limits, or topology.py hub|spread PACKETS.
+"""
 import sys
 
 
@@ -42,8 +45,8 @@ class Net:
         self.nodes, self.ifaces, self.links, self.routes = [], [], [], []
         self.next = {}
 
-    def node(self, name, kind="router"):
-        self.nodes.append(dict(name=name, kind=kind, partition=0, ports=[9]))
+    def node(self, name, kind="router", partition=0):
+        self.nodes.append(dict(name=name, kind=kind, partition=partition, ports=[9]))
         self.next[name] = {}
 
     def link(self, a, b, rate, delay, queue=64):
@@ -153,8 +156,35 @@ def spread(packets):
     hub(packets, lambda part: round(1_000 * 1_000_000 ** part))
 
 
+def limits(partitions=64, size=16, chords=12, between=4, packets=4):
+    """Every limit at once: 64 partitions of 16 routers, 2,048 links, of which 256 join partitions,
+    and a source and 64 routes for each router."""
+    net = Net()
+    for p in range(partitions):
+        for i in range(size):
+            net.node(f"p{p}-{i}", partition=p)
+    for p in range(partitions):
+        for i in range(size):
+            net.link(f"p{p}-{i}", f"p{p}-{(i + 1) % size}", 1_000_000_000, 1_000)
+        for i in range(chords):
+            net.link(f"p{p}-{i}", f"p{p}-{(i + 5) % size}", 1_000_000_000, 2_000)
+        for i in range(between):
+            net.link(f"p{p}-{4 * i}", f"p{(p + 1) % partitions}-{4 * i + 2}", 1_000_000_000, 100_000)
+    targets = [f"p{p}-{p % size}" for p in range(partitions)]
+    addresses = [net.address(target) for target in targets]
+    for target, address in zip(targets, addresses):
+        net.reach(target, address + "/32")
+        # a route at the target itself is never used, but makes 64 for each node
+        net.routes.append(dict(node=target, to=address + "/32", via=f"{target}-0"))
+    sources = [cbr(node["name"], addresses[(7 * n + node["partition"]) % partitions], 72, 100 * n, 50_000, packets)
+               for n, node in enumerate(net.nodes)]
+    write(10 ** 9, net.nodes, net.ifaces, net.links, net.routes, sources)
+
+
 if __name__ == "__main__":
-    if sys.argv[1] in ("hub", "spread"):
-        {"hub": equal, "spread": spread}[sys.argv[1]](int(sys.argv[2]))
+    kinds = {"line": line, "grid": grid, "star": star, "limits": limits, "hub": equal, "spread": spread}
+    words = sys.argv[2:]
+    if sys.argv[1] == "line" and words:
+        line(packets=int(words[0]))
     else:
-        {"line": line, "grid": grid, "star": star}[sys.argv[1]]()
+        kinds[sys.argv[1]](*map(int, words))

@@ -1,12 +1,20 @@
-//! Works an event list, or knowledge of a channel, so that it can be timed from outside (`make
-//! bench`). One word says which: `heap-random`, `heap-nearly`, `sorted-random` and `sorted-nearly`
-//! take a million keys through a list of 4,096, and print the last one's time; `know` makes
-//! knowledge of a million messages, and `copy` copies it a hundred times.
+//! Works an event list, knowledge of a channel, or the parts of a simulation, so that it can be
+//! timed from outside (`make bench`). One word says which: `heap-random`, `heap-nearly`,
+//! `sorted-random` and `sorted-nearly` take a million keys through a list of 4,096, and print the
+//! last one's time; `know` makes knowledge of a million messages, and `copy` copies it a hundred
+//! times.
+//!
+//! With a second word, the name of a file with a topology: `topology` reads it, and prints how many
+//! nodes there are; `parts` starts two parts for each partition, and prints how many; `kept` and
+//! `flat` run the whole network to its stop, and print how many records there are: `flat` hands out
+//! each at once, and `kept` none.
 #![tactic(auto)]
 
+mod network;
 mod turns;
 
 use bytes::Bytes;
+use network::{Task, work_over};
 use nm_base::{Packet, Time};
 use nm_events::{EventList, HeapList, SortedList};
 use nm_knowledge::{Accepted, Know};
@@ -40,17 +48,40 @@ fn copy(alloc: Global, copies: u64) -> Result<u64, Error> {
     Ok(kept.len() as u64)
 }
 
-fn main(rt: HostRuntime) -> Result<(), Error> {
-    let mut word = env::args(&rt)?.skip(1);
-    let word = word.next().ok_or(ErrorKind::InvalidInput)?;
-    let done = match word.as_str() {
-        "heap-random" => work::<HeapList>(rt.alloc(), Order::Random)?,
-        "heap-nearly" => work::<HeapList>(rt.alloc(), Order::Nearly)?,
-        "sorted-random" => work::<SortedList>(rt.alloc(), Order::Random)?,
-        "sorted-nearly" => work::<SortedList>(rt.alloc(), Order::Nearly)?,
-        "know" => copy(rt.alloc(), 0)?,
-        "copy" => copy(rt.alloc(), 100)?,
+/// Does the work that one word names.
+fn work_alone(alloc: Global, word: &str) -> Result<u64, Error> {
+    let done = match word {
+        "heap-random" => work::<HeapList>(alloc, Order::Random)?,
+        "heap-nearly" => work::<HeapList>(alloc, Order::Nearly)?,
+        "sorted-random" => work::<SortedList>(alloc, Order::Random)?,
+        "sorted-nearly" => work::<SortedList>(alloc, Order::Nearly)?,
+        "know" => copy(alloc, 0)?,
+        "copy" => copy(alloc, 100)?,
         _ => return Err(ErrorKind::InvalidInput.into()),
+    };
+    Ok(done)
+}
+
+/// The task over a topology that a word names.
+fn task(word: &str) -> Option<Task> {
+    match word {
+        "topology" => Some(Task::Read),
+        "parts" => Some(Task::Parts),
+        "kept" => Some(Task::Kept),
+        "flat" => Some(Task::Flat),
+        _ => None,
+    }
+}
+
+fn main(rt: HostRuntime) -> Result<(), Error> {
+    let mut words = env::args(&rt)?.skip(1);
+    let word = words.next().ok_or(ErrorKind::InvalidInput)?;
+    let done = match words.next() {
+        None => work_alone(rt.alloc(), word.as_str())?,
+        Some(path) => {
+            let task = task(word.as_str()).ok_or(ErrorKind::InvalidInput)?;
+            work_over(&rt, task, path.as_str())?
+        }
     };
     println!(rt; "{done}")?;
     Ok(())
