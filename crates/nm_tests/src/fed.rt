@@ -10,10 +10,14 @@ ghost use Rattle.nm_topology.specs.Topology.{receiving_iface};
 
 use nm_base::{ChanNo, IfaceNo, Key, Packet, PartNo, Time};
 use nm_events::{EventList, SortedList};
+use nm_forward::NodeState;
+use nm_model::orderly::only_messages_bring_arrivals;
 use nm_sim::Part;
-use nm_sim::network::channels_are_those_of_the_network;
+use nm_sim::network::{channels_are_those_of_the_network, every_topology_is_a_network};
 use nm_topology::Topology;
-use nm_topology::topology::accepted_topologies_are_in_order;
+use nm_topology::topology::{
+    accepted_topologies_are_in_order, channels_are_numbered_by_their_receivers,
+};
 use std::alloc::{AllocError, Global};
 use std::process::Abort;
 
@@ -55,6 +59,7 @@ impl<L: EventList> Fed<L> {
             (λ f. IsFed L.pending topology.now f.of f.part f.told.items) }
         ensures of { IfOk result (λ f. f.of ≡ of) }
     {
+        only_messages_bring_arrivals::<Packet, NodeState>(); // law: no arrival is pending yet
         Ok(Fed {
             of,
             part: Part::start(alloc, topology, Some(of))?,
@@ -75,6 +80,7 @@ impl<L: EventList> Fed<L> {
         ensures fed { IsFed L.pending topology.now self.new.of self.new.part self.new.told.items }
         ensures of { self.new.of ≡ self.old.of }
     {
+        channels_are_numbered_by_their_receivers(topology); // law: no two come in at one interface
         comes(rt, topology, self.of, channel);
         assert!(rt; channel.index() < self.told.len());
         let number = self.told[channel.index()];
@@ -86,6 +92,25 @@ impl<L: EventList> Fed<L> {
             .put_arrival(topology, channel, number as u64, *time, packet);
         self.told[channel.index()] = number + 1;
         Ok(())
+    }
+
+    /// Does what `step` does, but does not count it.
+    fn advance(
+        &mut self,
+        alloc: Global,
+        topology: &Topology,
+        before: Time,
+    ) -> Result<Option<Key>, AllocError>
+        requires { IsFed L.pending topology.now self.old.of self.old.part self.old.told.items }
+        ensures fed { IsFed L.pending topology.now self.new.of self.new.part self.new.told.items }
+        ensures of { self.new.of ≡ self.old.of }
+    {
+        every_topology_is_a_network(topology); // law: `net_of` is a network of the model
+        channels_are_those_of_the_network(topology); // law: a channel comes in at its receiver
+        only_messages_bring_arrivals::<Packet, NodeState>(); // law: steps bring none
+        let stop = topology.stop();
+        let before = if before < stop { before } else { stop };
+        self.part.step(alloc, topology, before)
     }
 
     /// Does the first event, if its time is before `before` and before the network's `stop`: its
@@ -100,12 +125,8 @@ impl<L: EventList> Fed<L> {
         ensures fed { IsFed L.pending topology.now self.new.of self.new.part self.new.told.items }
         ensures of { self.new.of ≡ self.old.of }
     {
-        let stop = topology.stop();
-        let before = if before < stop { before } else { stop };
-        let done = self.part.step(alloc, topology, before)?;
-        if done.is_some() {
-            self.events = self.events.saturating_add(1);
-        }
+        let done = self.advance(alloc, topology, before)?;
+        self.events = self.events.saturating_add(u64::from(done.is_some()));
         Ok(done)
     }
 
@@ -173,6 +194,23 @@ fn least_delay(rt: &impl Abort, topology: &Topology) -> u64 {
     least
 }
 
+/// One of the parts is told the next message of a channel.
+fn tell_at(
+    rt: &impl Abort,
+    topology: &Topology,
+    parts: &mut [Fed<SortedList>],
+    to: usize,
+    channel: ChanNo,
+    message: &(Time, Packet),
+) -> Result<(), AllocError>
+    requires fed { AllAt (λ i f. IsFed pending_of topology.now f.of f.part f.told.items) parts.old }
+    requires there { to < length parts.old }
+    ensures fed { AllAt (λ i f. IsFed pending_of topology.now f.of f.part f.told.items) parts.new }
+    ensures same { length parts.new ≡ length parts.old }
+{
+    parts[to].tell(rt, topology, channel, message)
+}
+
 /// The receiver of a channel is told what the sender put on it and it was not told yet.
 fn deliver(
     rt: &impl Abort,
@@ -181,7 +219,8 @@ fn deliver(
     channel: ChanNo,
 ) -> Result<(), AllocError>
     requires { AllAt (λ i f. IsFed pending_of topology.now f.of f.part f.told.items) parts.old }
-    ensures { AllAt (λ i f. IsFed pending_of topology.now f.of f.part f.told.items) parts.new }
+    ensures fed { AllAt (λ i f. IsFed pending_of topology.now f.of f.part f.told.items) parts.new }
+    ensures same { length parts.new ≡ length parts.old }
 {
     let receiver = topology.receiver(channel);
     let to = partition_of(rt, topology, receiver).index();
@@ -193,9 +232,25 @@ fn deliver(
         let Some(message) = parts[from].message(channel, number)? else {
             return Ok(());
         };
-        parts[to].tell(rt, topology, channel, &message)?;
+        tell_at(rt, topology, parts, to, channel, &message)?;
     }
     Ok(())
+}
+
+/// One of the parts runs to a time.
+fn run_at(
+    alloc: Global,
+    topology: &Topology,
+    parts: &mut [Fed<SortedList>],
+    number: usize,
+    before: Time,
+) -> Result<(), AllocError>
+    requires fed { AllAt (λ i f. IsFed pending_of topology.now f.of f.part f.told.items) parts.old }
+    requires there { number < length parts.old }
+    ensures fed { AllAt (λ i f. IsFed pending_of topology.now f.of f.part f.told.items) parts.new }
+    ensures same { length parts.new ≡ length parts.old }
+{
+    parts[number].run(alloc, topology, before)
 }
 
 /// All parts run to a time, and are then told what was put on their channels.
@@ -206,10 +261,11 @@ fn run_to(
     before: Time,
 ) -> Result<(), AllocError>
     requires { AllAt (λ i f. IsFed pending_of topology.now f.of f.part f.told.items) parts.old }
-    ensures { AllAt (λ i f. IsFed pending_of topology.now f.of f.part f.told.items) parts.new }
+    ensures fed { AllAt (λ i f. IsFed pending_of topology.now f.of f.part f.told.items) parts.new }
+    ensures same { length parts.new ≡ length parts.old }
 {
     for number in 0..parts.len() {
-        parts[number].run(rt.alloc(), topology, before)?;
+        run_at(rt.alloc(), topology, parts, number, before)?;
     }
     accepted_topologies_are_in_order(topology); // law: channels have numbers of 32 bits
     for channel in 0..topology.receivers().len() {
@@ -218,8 +274,27 @@ fn run_to(
     Ok(())
 }
 
-/// All partitions after their runs, a least delay at a time: nothing that is sent in such a time
-/// arrives in it.
+/// All parts run to the end, a least delay at a time: nothing that is sent in such a time arrives
+/// in it.
+fn run_rounds(
+    rt: &(impl Abort + AllocGlobal),
+    topology: &Topology,
+    parts: &mut [Fed<SortedList>],
+) -> Result<(), AllocError>
+    requires { AllAt (λ i f. IsFed pending_of topology.now f.of f.part f.told.items) parts.old }
+    ensures fed { AllAt (λ i f. IsFed pending_of topology.now f.of f.part f.told.items) parts.new }
+    ensures same { length parts.new ≡ length parts.old }
+{
+    let delay = least_delay(rt, topology);
+    assert!(rt; delay >= 1);
+    for round in 0..topology.stop().nanoseconds() / delay {
+        let before = Time::from_nanoseconds(delay.saturating_mul(round + 1));
+        run_to(rt, topology, parts, before)?;
+    }
+    run_to(rt, topology, parts, topology.stop())
+}
+
+/// All partitions after their runs.
 pub fn run_all(
     rt: &(impl Abort + AllocGlobal),
     topology: &Topology,
@@ -228,12 +303,6 @@ pub fn run_all(
         (λ v. AllAt (λ i f. IsFed pending_of topology.now f.of f.part f.told.items) v.items) }
 {
     let mut parts = start_all(rt.alloc(), topology)?;
-    let delay = least_delay(rt, topology);
-    assert!(rt; delay >= 1);
-    for round in 0..topology.stop().nanoseconds() / delay {
-        let before = Time::from_nanoseconds(delay.saturating_mul(round + 1));
-        run_to(rt, topology, &mut parts, before)?;
-    }
-    run_to(rt, topology, &mut parts, topology.stop())?;
+    run_rounds(rt, topology, &mut parts)?;
     Ok(parts)
 }

@@ -309,36 +309,74 @@ fn message_at_last(
     either(first, sender.message(channel, number))
 }
 
+/// A partition is told what another put on a channel.
+fn tell_all(
+    rt: &(impl Abort + AllocGlobal),
+    topology: &Topology,
+    fed: &mut Fed<SortedList>,
+    sender: &Fed<SortedList>,
+    channel: ChanNo,
+) -> Result<(), AllocError>
+    requires { IsFed pending_of topology.now fed.old.of fed.old.part fed.old.told.items }
+    ensures { IsFed pending_of topology.now fed.new.of fed.new.part fed.new.told.items }
+{
+    for number in 0..sender.part.out(channel).len() {
+        let Some(message) = message_at_last(sender, channel, number)? else {
+            return Ok(());
+        };
+        tell_at_last(rt, topology, fed, channel, &message)?;
+    }
+    Ok(())
+}
+
+/// It does all its events, of which it has fewer than 20.
+fn run_at_last(
+    rt: &(impl Abort + AllocGlobal),
+    topology: &Topology,
+    fed: &mut Fed<SortedList>,
+) -> Result<(), Fail>
+    requires { IsFed pending_of topology.now fed.old.of fed.old.part fed.old.told.items }
+{
+    for _ in 0..20 {
+        if step_at_last(rt, topology, fed)?.is_none() {
+            return Ok(());
+        }
+    }
+    Err("it has fewer events".into())
+}
+
+/// A partition of the ring that is told nothing, after its run.
+fn ring_alone(
+    rt: &(impl Abort + AllocGlobal),
+    topology: &Topology,
+    number: u32,
+) -> Result<Fed<SortedList>, Fail> {
+    let mut fed = fed_at_last(rt.alloc(), topology, number)?;
+    run_at_last(rt, topology, &mut fed)?;
+    Ok(fed)
+}
+
 /// A partition of the ring, told what another put on a channel and then run.
 fn ring_after(
     rt: &(impl Abort + AllocGlobal),
     topology: &Topology,
     number: u32,
-    told: Option<(&Fed<SortedList>, ChanNo)>,
+    sender: &Fed<SortedList>,
+    channel: u32,
 ) -> Result<Fed<SortedList>, Fail> {
     let mut fed = fed_at_last(rt.alloc(), topology, number)?;
-    if let Some((sender, channel)) = told {
-        for number in 0..sender.part.out(channel).len() {
-            if let Some(message) = message_at_last(sender, channel, number)? {
-                tell_at_last(rt, topology, &mut fed, channel, &message)?;
-            }
-        }
-    }
-    for _ in 0..20 {
-        if step_at_last(rt, topology, &mut fed)?.is_none() {
-            return Ok(fed);
-        }
-    }
-    Err("it has fewer events".into())
+    tell_all(rt, topology, &mut fed, sender, ChanNo::new(channel))?;
+    run_at_last(rt, topology, &mut fed)?;
+    Ok(fed)
 }
 
 /// A partition's start, its messages and its steps: a refused one changes nothing.
 #[test]
 fn part_refused(rt: HostRuntime) -> Result<(), Fail> {
     let topology = network(rt.alloc(), RING)?;
-    let n0 = ring_after(&rt, &topology, 0, None)?;
-    let n1 = ring_after(&rt, &topology, 1, Some((&n0, ChanNo::new(1))))?;
-    let n2 = ring_after(&rt, &topology, 2, Some((&n1, ChanNo::new(3))))?;
+    let n0 = ring_alone(&rt, &topology, 0)?;
+    let n1 = ring_after(&rt, &topology, 1, &n0, 1)?;
+    let n2 = ring_after(&rt, &topology, 2, &n1, 3)?;
     times_are(&rt, n0.part.trace(), &[0, 2_000_000]);
     let passed = [1_100_000, 1_100_000, 3_100_000, 3_100_000];
     times_are(&rt, n1.part.trace(), &passed);

@@ -9,7 +9,7 @@ use crate::run::{Step, count_events, run_steps};
 use crate::same::{eq_number, eq_numbers, holds};
 use crate::sim::{StepRow, do_and_leave, nth};
 use crate::texts::{CROSS, RING, SPLIT, STAR};
-use nm_base::{ChanNo, IfaceNo, NodeNo, PartNo, Place, Record, Time};
+use nm_base::{ChanNo, IfaceNo, Key, NodeNo, PartNo, Place, Record, Time};
 use nm_events::SortedList;
 use nm_forward::Counter;
 use nm_sim::{Part, one_list};
@@ -30,21 +30,39 @@ fn has_its_records(rt: &impl Abort, topology: &Topology, whole: &[Record], fed: 
     holds(rt, "no more records", own.next().is_none());
 }
 
+/// How many events each part did, which has its records.
+fn events_of_each(
+    rt: &(impl Abort + AllocGlobal),
+    topology: &Topology,
+    whole: &[Record],
+) -> Result<Vec<u64>, AllocError> {
+    let parts = run_all(rt, topology)?;
+    let mut done = Vec::new(rt.alloc());
+    for fed in &parts {
+        has_its_records(rt, topology, whole, fed);
+        done.push(fed.events)?;
+    }
+    Ok(done)
+}
+
+/// The sum of numbers.
+fn sum(numbers: &[u64]) -> u64 {
+    let mut all = 0u64;
+    for number in numbers {
+        all = all.saturating_add(*number);
+    }
+    all
+}
+
 /// The parts of a network do so many events each, and together do all of the whole network, with
 /// its records.
 fn are_one_list(rt: &(impl Abort + AllocGlobal), text: &str, events: &[u64]) -> Result<(), Fail> {
     let topology = Topology::read(rt.alloc(), text.as_bytes())?;
     let whole = one_list(rt.alloc(), &topology, topology.stop())?;
-    let mut all = 0u64;
-    let mut done = Vec::new(rt.alloc());
-    for fed in &run_all(rt, &topology)? {
-        has_its_records(rt, &topology, &whole, fed);
-        done.push(fed.events)?;
-        all = all.saturating_add(fed.events);
-    }
+    let done = events_of_each(rt, &topology, &whole)?;
     eq_numbers(rt, "events of each", &done, events);
     let want = count_events::<SortedList>(rt.alloc(), &topology)?;
-    eq_number(rt, "events of all", all, want);
+    eq_number(rt, "events of all", sum(&done), want);
     Ok(())
 }
 
@@ -114,23 +132,38 @@ fn ifaces_at(
     Ok(ifaces)
 }
 
+/// Partition 0, told the replies in this order, has its records by the numbers of interfaces.
+fn is_in_order(
+    rt: &(impl Abort + AllocGlobal),
+    topology: &Topology,
+    whole: &[Record],
+    sender: &Fed<SortedList>,
+    channels: &[u32],
+) -> Result<(), Fail> {
+    let fed = told_in_order(rt, topology, sender, channels)?;
+    has_its_records(rt, topology, whole, &fed);
+    let ifaces = ifaces_at(rt, fed.part.trace(), 1_028_000)?;
+    let want = [0, 0, 2, 2, 4, 4, 6, 6, 8, 8, 10, 10, 12, 12, 14, 14];
+    eq_numbers(rt, "interfaces", &ifaces, &want);
+    Ok(())
+}
+
+/// Orders in which the replies of the star are told.
+const ORDERS: &[[u32; 8]] = &[
+    [0, 2, 4, 6, 8, 10, 12, 14],
+    [14, 12, 10, 8, 6, 4, 2, 0],
+    [6, 0, 14, 2, 12, 4, 10, 8],
+    [8, 10, 0, 12, 14, 6, 2, 4],
+];
+
 /// What arrives at one time is done by the numbers of interfaces, in whatever order it was told.
 #[test]
 fn replies_at_one_nanosecond_come_in_the_order_of_interfaces(rt: HostRuntime) -> Result<(), Fail> {
     let topology = Topology::read(rt.alloc(), STAR.as_bytes())?;
     let whole = one_list(rt.alloc(), &topology, topology.stop())?;
     let sender = alone(rt.alloc(), &topology, 1)?;
-    for channels in [
-        [0, 2, 4, 6, 8, 10, 12, 14],
-        [14, 12, 10, 8, 6, 4, 2, 0],
-        [6, 0, 14, 2, 12, 4, 10, 8],
-        [8, 10, 0, 12, 14, 6, 2, 4],
-    ] {
-        let fed = told_in_order(&rt, &topology, &sender, channels.as_slice())?;
-        has_its_records(&rt, &topology, &whole, &fed);
-        let ifaces = ifaces_at(&rt, fed.part.trace(), 1_028_000)?;
-        let want = [0, 0, 2, 2, 4, 4, 6, 6, 8, 8, 10, 10, 12, 12, 14, 14];
-        eq_numbers(&rt, "interfaces", &ifaces, &want);
+    for channels in ORDERS {
+        is_in_order(&rt, &topology, &whole, &sender, channels.as_slice())?;
     }
     Ok(())
 }
@@ -159,103 +192,152 @@ fn does(
     Ok(())
 }
 
+/// A part is told the next message of a channel, and its steps then do and leave what is said.
+fn hears_and_does(
+    rt: &(impl Abort + AllocGlobal),
+    topology: &Topology,
+    fed: &mut Fed<SortedList>,
+    sender: &Fed<SortedList>,
+    channel: u32,
+    rows: &[(u64, StepRow)],
+) -> Result<(), Fail>
+    requires { IsFed pending_of topology.now fed.old.of fed.old.part fed.old.told.items }
+    ensures { IsFed pending_of topology.now fed.new.of fed.new.part fed.new.told.items }
+{
+    hear(rt, topology, fed, sender, channel)?;
+    Ok(does(rt, topology, fed, rows)?)
+}
+
+/// An arrival at interface 1.
+fn from(time: u64, number: u64) -> Option<Key> {
+    nth(time, Place::Arrive(IfaceNo::new(1)), number)
+}
+
+/// The end of a transmission at interface 2.
+fn to(time: u64, number: u64) -> Option<Key> {
+    nth(time, Place::Complete(IfaceNo::new(2)), number)
+}
+
 /// A message's arrival has the message's number, whether it was told at the start or later.
 #[test]
 fn steps_of_a_part_that_is_told_more(rt: HostRuntime) -> Result<(), Fail> {
     let topology = Topology::read(rt.alloc(), RING.as_bytes())?;
     let sender = alone(rt.alloc(), &topology, 0)?;
     let mut fed = Fed::start(rt.alloc(), &topology, PartNo::new(1))?;
-    let (from, to) = (
-        Place::Arrive(IfaceNo::new(1)),
-        Place::Complete(IfaceNo::new(2)),
-    );
     does(&rt, &topology, &mut fed, &[(10_000_000, (None, None, 0))])?;
-    hear(&rt, &topology, &mut fed, &sender, 1)?;
-    does(
-        &rt,
-        &topology,
-        &mut fed,
-        &[
-            (1_100_000, (None, Some(1_100_000), 0)),
-            (1_100_001, (nth(1_100_000, from, 0), Some(1_200_000), 2)),
-            (1_200_000, (None, Some(1_200_000), 2)),
-            (10_000_000, (nth(1_200_000, to, 0), None, 2)),
-            (10_000_000, (None, None, 2)),
-        ],
-    )?;
-    hear(&rt, &topology, &mut fed, &sender, 1)?;
-    does(
-        &rt,
-        &topology,
-        &mut fed,
-        &[
-            (3_100_000, (None, Some(3_100_000), 2)),
-            (u64::MAX, (nth(3_100_000, from, 1), Some(3_200_000), 4)),
-            (u64::MAX, (nth(3_200_000, to, 1), None, 4)),
-            (u64::MAX, (None, None, 4)),
-        ],
-    )?;
-    Ok(())
+    let first = [
+        (1_100_000, (None, Some(1_100_000), 0)),
+        (1_100_001, (from(1_100_000, 0), Some(1_200_000), 2)),
+        (1_200_000, (None, Some(1_200_000), 2)),
+        (10_000_000, (to(1_200_000, 0), None, 2)),
+        (10_000_000, (None, None, 2)),
+    ];
+    hears_and_does(&rt, &topology, &mut fed, &sender, 1, &first)?;
+    let second = [
+        (3_100_000, (None, Some(3_100_000), 2)),
+        (u64::MAX, (from(3_100_000, 1), Some(3_200_000), 4)),
+        (u64::MAX, (to(3_200_000, 1), None, 4)),
+        (u64::MAX, (None, None, 4)),
+    ];
+    hears_and_does(&rt, &topology, &mut fed, &sender, 1, &second)
 }
 
 /// Numbers of nodes, interfaces and channels.
 const NUMBERS: &[u32] = &[0, 1, 2, 3, 4, 5, 6];
 
-/// What each of its nodes originated, what was dropped at each of its interfaces, and the times of
-/// what it put on each channel, by numbers from 0.
-type Row<'a> = (&'a [Option<u64>], &'a [Option<u64>], &'a [&'a [u64]]);
-
-/// A part counted, dropped and sent this, and has nothing else.
-fn has(rt: &impl Abort, part: &Part<SortedList>, (nodes, ifaces, channels): Row<'_>) {
+/// What nodes originated, by their numbers from 0.
+fn originated(rt: &impl Abort, part: &Part<SortedList>, nodes: &[Option<u64>]) {
     for (number, want) in NUMBERS.iter().zip(nodes) {
         let found = part.counter(NodeNo::new(*number), Counter::Originated);
         assert!(rt; found == *want, "node {number}");
     }
+}
+
+/// What was dropped at interfaces, by their numbers from 0.
+fn dropped(rt: &impl Abort, part: &Part<SortedList>, ifaces: &[Option<u64>]) {
     for (number, want) in NUMBERS.iter().zip(ifaces) {
         let found = part.dropped(IfaceNo::new(*number));
         assert!(rt; found == *want, "interface {number}");
     }
-    for (number, want) in NUMBERS.iter().zip(channels) {
-        let found = part.out(ChanNo::new(*number));
-        assert!(rt; found.len() == want.len(), "channel {number}");
-        for ((time, _), want) in found.iter().zip(*want) {
-            eq_number(rt, "a message", time.nanoseconds(), *want);
-        }
+}
+
+/// The times of the messages of a channel.
+fn sent_at(rt: &impl Abort, part: &Part<SortedList>, channel: u32, times: &[u64]) {
+    let found = part.out(ChanNo::new(channel));
+    assert!(rt; found.len() == times.len(), "channel {channel}");
+    for (message, want) in found.iter().zip(times) {
+        eq_number(rt, "a message", message.0.nanoseconds(), *want);
     }
 }
+
+/// The times of the messages of channels, by their numbers from 0.
+fn sent(rt: &impl Abort, part: &Part<SortedList>, channels: &[&[u64]]) {
+    for (number, want) in NUMBERS.iter().zip(channels) {
+        sent_at(rt, part, *number, want);
+    }
+}
+
+/// What each of its nodes originated, what was dropped at each of its interfaces, and the times of
+/// what it put on each channel.
+struct Row<'a> {
+    nodes: &'a [Option<u64>],
+    ifaces: &'a [Option<u64>],
+    channels: &'a [&'a [u64]],
+}
+
+/// A part counted, dropped and sent this, and has nothing else.
+fn has(rt: &impl Abort, part: &Part<SortedList>, row: &Row<'_>) {
+    originated(rt, part, row.nodes);
+    dropped(rt, part, row.ifaces);
+    sent(rt, part, row.channels);
+}
+
+/// A partition that is not there, or has no node.
+const NOTHING: Row<'static> = Row {
+    nodes: &[None, None, None, None, None],
+    ifaces: &[None, None, None, None, None, None, None],
+    channels: &[&[], &[], &[]],
+};
+
+/// What each partition of the cross has after its run.
+const PARTS: &[Row<'static>] = &[
+    Row {
+        nodes: &[Some(5), Some(0), None, None, None],
+        ifaces: &[Some(0), Some(0), None, None, Some(1), None, None],
+        channels: &[&[], &[340_000, 540_000, 740_000, 852_000], &[]],
+    },
+    NOTHING,
+    Row {
+        nodes: &[None, None, Some(0), Some(1), None],
+        ifaces: &[None, None, Some(0), Some(0), None, Some(0), None],
+        channels: &[&[514_000], &[], &[]],
+    },
+];
+
+/// What all of the cross has after its run.
+const WHOLE: Row<'static> = Row {
+    nodes: &[Some(5), Some(0), Some(0), Some(1), None],
+    ifaces: &[Some(0), Some(0), Some(0), Some(0), Some(1), Some(0), None],
+    channels: &[&[], &[], &[]],
+};
 
 /// A part answers for its own nodes, interfaces and outgoing channels alone.
 #[test]
 fn a_part_has_its_own_nodes_and_interfaces_alone(rt: HostRuntime) -> Result<(), Fail> {
     let topology = Topology::read(rt.alloc(), CROSS.as_bytes())?;
-    let (no, zero, one, five) = (None, Some(0), Some(1), Some(5));
-    let rows: [Row<'_>; 3] = [
-        (
-            &[five, zero, no, no, no],
-            &[zero, zero, no, no, one, no, no],
-            &[&[], &[340_000, 540_000, 740_000, 852_000], &[]],
-        ),
-        (&[no; 5], &[no; 7], &[&[], &[], &[]]),
-        (
-            &[no, no, zero, one, no],
-            &[no, no, zero, zero, no, zero, no],
-            &[&[514_000], &[], &[]],
-        ),
-    ];
-    for (fed, row) in run_all(&rt, &topology)?.iter().zip(rows) {
+    for (fed, row) in run_all(&rt, &topology)?.iter().zip(PARTS) {
         has(&rt, &fed.part, row);
     }
-    let nowhere = Fed::start(rt.alloc(), &topology, PartNo::new(3))?;
-    has(&rt, &nowhere.part, (&[no; 5], &[no; 7], &[&[], &[], &[]]));
+    Ok(())
+}
+
+/// A partition that is not there has nothing, and the whole network no channel.
+#[test]
+fn nowhere_is_nothing_and_the_whole_has_no_channel(rt: HostRuntime) -> Result<(), Fail> {
+    let topology = Topology::read(rt.alloc(), CROSS.as_bytes())?;
+    let nowhere = Fed::<SortedList>::start(rt.alloc(), &topology, PartNo::new(3))?;
+    has(&rt, &nowhere.part, &NOTHING);
     let whole = run_steps(rt.alloc(), &topology, 37)?;
-    has(
-        &rt,
-        &whole,
-        (
-            &[five, zero, zero, one, no],
-            &[zero, zero, zero, zero, one, zero, no],
-            &[&[], &[], &[]],
-        ),
-    );
+    has(&rt, &whole, &WHOLE);
     Ok(())
 }
