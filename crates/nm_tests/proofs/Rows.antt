@@ -1,5 +1,5 @@
 -- Lists whose members all keep something.
-use Rattle.std.proofs.Common.{◌≡◌, ℕ, zero, suc, List, [], ◌∷◌, ◌++◌, Some, slice_get, set, subst}
+use Rattle.std.proofs.Common.{◌≡◌, ℕ, zero, suc, List, [], ◌∷◌, ◌++◌, Some, set, subst}
 use Rattle.nm_sim.specs.Tables.{AllAt}
 
 same_some : {X : Type 0} (x y : X) → Some x ≡ Some y → x ≡ y
