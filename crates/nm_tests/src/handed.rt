@@ -1,6 +1,6 @@
 //! `nm_sim`: records that a part hands out, their totals, and when a channel's sender is busy.
 
-ghost use Rattle.std.specs.Prelude.{ℕ, List, Option, None, Some, IfOk};
+ghost use Rattle.std.specs.Prelude.{ℕ, List, None, IfOk};
 ghost use Rattle.nm_events.specs.Held.{pending_of};
 ghost use Rattle.nm_forward.specs.State.{NodeStateValue};
 ghost use Rattle.nm_model.specs.Run.{State};
@@ -43,6 +43,25 @@ fn hand_out_all(topology: &Topology, run: &mut Run) -> Result<(), AllocError>
     Ok(())
 }
 
+/// Hands out all records that a part keeps where it is time to: after so many events, again and
+/// again.
+fn hand_out_in_turn(
+    topology: &Topology,
+    run: &mut Run,
+    done: u64,
+    every: u64,
+) -> Result<(), AllocError>
+    requires { (s : State (List ℕ) NodeStateValue)
+        × Represents pending_of topology.now None run.old.part s }
+    ensures { (s : State (List ℕ) NodeStateValue)
+        × Represents pending_of topology.now None run.new.part s }
+{
+    if done % every.max(1) == 0 {
+        return hand_out_all(topology, run);
+    }
+    Ok(())
+}
+
 /// A whole run that hands all records out after so many events, again and again.
 fn run_handing_out(alloc: Global, topology: &Topology, every: u64) -> Result<Run, AllocError>
     ensures { IfOk result (λ r. (s : State (List ℕ) NodeStateValue)
@@ -52,9 +71,7 @@ fn run_handing_out(alloc: Global, topology: &Topology, every: u64) -> Result<Run
     let handed = Vec::new(alloc);
     let mut run = Run { part, handed };
     for done in 0..u64::MAX {
-        if done % every.max(1) == 0 {
-            hand_out_all(topology, &mut run)?;
-        }
+        hand_out_in_turn(topology, &mut run, done, every)?;
         if step_before(alloc, topology, &mut run.part, topology.stop())?.is_none() {
             return Ok(run);
         }
