@@ -42,16 +42,8 @@ bin/nm_bench: $(SOURCES) | toolchain
 	@tools/build nm_bench $@ $(JOBS)
 
 bench: bin/nullsim bin/nm_bench
-	@for kind in line grid star; do \
-	  python3 bench/topology.py $$kind > bin/$$kind.toml && \
-	  python3 bench/time.py $$kind bin/nullsim one bin/$$kind.toml || exit 1; \
-	done
-	@for packets in 64000 128000 256000 512000 1024000; do \
-	  for kind in hub spread; do \
-	    python3 bench/topology.py $$kind $$packets > bin/$$kind.toml && \
-	    python3 bench/time.py "$$kind, $$packets packets" bin/nullsim one bin/$$kind.toml || exit 1; \
-	  done; \
-	done
+	@python3 bench/one.py bin/nullsim bin/nm_bench line grid star line-1000 grid-1000 star-1000 ring-1000 mixed routes large many line=79365
+	@python3 bench/one.py bin/nullsim bin/nm_bench $(foreach packets,64000 128000 256000 512000 1024000,hub=$(packets) spread=$(packets))
 	@for work in heap-random sorted-random heap-nearly sorted-nearly know copy; do \
 	  python3 bench/time.py $$work bin/nm_bench $$work || exit 1; \
 	done

@@ -1,7 +1,7 @@
 #!/usr/bin/env python3
 """Writes a topology for a measurement to standard output.
 
-topology.py line [PACKETS], topology.py grid|star|limits, or topology.py hub|spread PACKETS.
+topology.py KIND [PACKETS]; docs/BENCH.md says what each kind is, and how many packets it sends where none are asked for.
 """
 import sys
 
@@ -20,6 +20,10 @@ def quoted(value):
     if isinstance(value, list):
         return "[" + ", ".join(str(v) for v in value) + "]"
     return str(value)
+
+
+# The octets of the headers of a datagram: IPv4 and UDP.
+HEADERS = 28
 
 
 def write(stop, nodes, ifaces, links, routes, sources):
@@ -80,8 +84,8 @@ class Net:
         return next(i["address"] for i in self.ifaces if i["node"] == name)
 
 
-def line(routers=64, packets=15_900):
-    """A million packet-hops along a line of 64 routers, 40 packets under way at a time."""
+def line(packets=15_900, octets=100, interval=4_000, routers=64):
+    """Packets along a line of routers, from one end to the other."""
     net = Net()
     for i in range(routers):
         net.node(f"r{i}")
@@ -90,35 +94,62 @@ def line(routers=64, packets=15_900):
     target = f"r{routers - 1}"
     address = net.address(target)
     net.reach(target, address + "/32")
-    interval = 4_000
     write(10 ** 12, net.nodes, net.ifaces, net.links, net.routes,
-          [cbr("r0", address, 72, 0, interval, packets)])
+          [cbr("r0", address, octets - HEADERS, 0, interval, packets)])
 
 
-def grid(side=8, packets=2_000):
-    """Flows from each router of a grid to the one across."""
+def ring(packets=245, octets=1_000, routers=64):
+    """Flows from each router of a ring to the one across."""
     net = Net()
+    for i in range(routers):
+        net.node(f"r{i}")
+    for i in range(routers):
+        net.link(f"r{i}", f"r{(i + 1) % routers}", 1_000_000_000, 10_000)
+    sources = []
+    for i in range(routers):
+        target = f"r{(i + routers // 2) % routers}"
+        address = net.address(target)
+        net.reach(target, address + "/32")
+        sources.append(cbr(f"r{i}", address, octets - HEADERS, 1_000 * i, 400_000, packets))
+    write(10 ** 12, net.nodes, net.ifaces, net.links, net.routes, sources)
+
+
+# A grid's links: all of one rate and delay, or rates and delays that differ from link to link: 100 Mbit/s to 10 Gbit/s, and a microsecond
+# to 10 milliseconds in equal ratios.
+def same_links(number, count):
+    return 1_000_000_000, 10_000
+
+
+def mixed_links(number, count):
+    return 10 ** (8 + number % 3), round(1_000 * 10_000 ** (number * 37 % count / (count - 1)))
+
+
+def grid(packets=2_000, octets=228, interval=50_000, side=8, links=same_links, sends=lambda x, y: True):
+    """Flows from the routers of a grid that send to the ones across."""
+    net = Net()
+    count = 2 * side * (side - 1)
     for x in range(side):
         for y in range(side):
             net.node(f"g{x}-{y}")
     for x in range(side):
         for y in range(side):
             if x + 1 < side:
-                net.link(f"g{x}-{y}", f"g{x + 1}-{y}", 1_000_000_000, 10_000)
+                net.link(f"g{x}-{y}", f"g{x + 1}-{y}", *links(len(net.links), count))
             if y + 1 < side:
-                net.link(f"g{x}-{y}", f"g{x}-{y + 1}", 1_000_000_000, 10_000)
+                net.link(f"g{x}-{y}", f"g{x}-{y + 1}", *links(len(net.links), count))
     sources = []
     for x in range(side):
-        for y in range(side):
+        for y in filter(lambda y: sends(x, y), range(side)):
             target = f"g{side - 1 - x}-{side - 1 - y}"
             address = net.address(target)
             net.reach(target, address + "/32")
-            sources.append(cbr(f"g{x}-{y}", address, 200, 1_000 * (x * side + y), 50_000, packets))
+            start = 1_000 * (x * side + y)
+            sources.append(cbr(f"g{x}-{y}", address, octets - HEADERS, start, interval, packets))
     write(10 ** 12, net.nodes, net.ifaces, net.links, net.routes, sources)
 
 
-def star(leaves=32, packets=20_000):
-    """Hosts that send to one host over a link that is too slow: most packets are dropped."""
+def star(packets=20_000, octets=528, interval=60_000, leaves=32):
+    """Hosts that send to one host over a link that is too slow."""
     net = Net()
     net.node("hub")
     net.node("sink", "host")
@@ -128,9 +159,23 @@ def star(leaves=32, packets=20_000):
     for i in range(leaves):
         net.node(f"h{i}", "host")
         net.link(f"h{i}", "hub", 1_000_000_000, 1_000)
-        sources.append(cbr(f"h{i}", address, 500, 100 * i, 60_000, packets))
+        sources.append(cbr(f"h{i}", address, octets - HEADERS, 100 * i, interval, packets))
     net.reach("sink", address + "/32")
     write(10 ** 12, net.nodes, net.ifaces, net.links, net.routes, sources)
+
+
+def many(packets=490, sources=1_024):
+    """Many sources at one host, which sends through a router to another."""
+    net = Net()
+    net.node("h0", "host")
+    net.node("r")
+    net.node("h1", "host")
+    net.link("h0", "r", 1_000_000_000, 1_000)
+    net.link("r", "h1", 1_000_000_000, 1_000)
+    address = net.address("h1")
+    net.reach("h1", address + "/32")
+    write(10 ** 12, net.nodes, net.ifaces, net.links, net.routes,
+          [cbr("h0", address, 72, 1_000 * i, 1_000 * sources, packets) for i in range(sources)])
 
 
 def hub(packets, delay, hosts=256):
@@ -156,13 +201,13 @@ def spread(packets):
     hub(packets, lambda part: round(1_000 * 1_000_000 ** part))
 
 
-def limits(partitions=64, size=16, chords=12, between=4, packets=4):
-    """Every limit at once: 64 partitions of 16 routers, 2,048 links, of which 256 join partitions,
-    and a source and 64 routes for each router."""
+def limits(packets=4, partitions=64, size=16, chords=12, between=4, is_cut=True):
+    """64 groups of 16 routers, 2,048 links, of which 256 join groups, and a source and 64 routes for each router. Where it is cut, each
+    group is a partition: every limit at once."""
     net = Net()
     for p in range(partitions):
         for i in range(size):
-            net.node(f"p{p}-{i}", partition=p)
+            net.node(f"p{p}-{i}", partition=p if is_cut else 0)
     for p in range(partitions):
         for i in range(size):
             net.link(f"p{p}-{i}", f"p{p}-{(i + 1) % size}", 1_000_000_000, 1_000)
@@ -176,15 +221,27 @@ def limits(partitions=64, size=16, chords=12, between=4, packets=4):
         net.reach(target, address + "/32")
         # a route at the target itself is never used, but makes 64 for each node
         net.routes.append(dict(node=target, to=address + "/32", via=f"{target}-0"))
-    sources = [cbr(node["name"], addresses[(7 * n + node["partition"]) % partitions], 72, 100 * n, 50_000, packets)
+    sources = [cbr(node["name"], addresses[(7 * n + n // size) % partitions], 72, 100 * n, 50_000, packets)
                for n, node in enumerate(net.nodes)]
     write(10 ** 9, net.nodes, net.ifaces, net.links, net.routes, sources)
 
 
+KINDS = {
+    "line": line,
+    "grid": grid,
+    "star": star,
+    "line-1000": lambda packets=7_940: line(packets, 1_000, 20_000),
+    "grid-1000": lambda packets=708: grid(packets, 1_000, 100_000, side=16, sends=lambda x, y: x == 0 or y == 0),
+    "star-1000": lambda packets=10_400: star(packets, 1_000, 1_280_000),
+    "ring-1000": ring,
+    "mixed": lambda packets=2_000: grid(packets, links=mixed_links),
+    "routes": lambda packets=50: limits(packets, is_cut=False),
+    "large": lambda packets=2_000: grid(packets, 1_500, 400_000),
+    "many": many,
+    "limits": limits,
+    "hub": equal,
+    "spread": spread,
+}
+
 if __name__ == "__main__":
-    kinds = {"line": line, "grid": grid, "star": star, "limits": limits, "hub": equal, "spread": spread}
-    words = sys.argv[2:]
-    if sys.argv[1] == "line" and words:
-        line(packets=int(words[0]))
-    else:
-        kinds[sys.argv[1]](*map(int, words))
+    KINDS[sys.argv[1]](*map(int, sys.argv[2:]))
