@@ -5,7 +5,8 @@ ghost use Rattle.std.specs.Borrow.{ftrue};
 
 use std::marker::{Model, PhantomData};
 
-/// How often something has failed: a whole number without bound, for contracts alone. It takes no memory.
+/// How often something has failed: a whole number without bound, for contracts alone. It takes no
+/// memory.
 #[derive(Drop)]
 pub struct FailureCount {
     marker: PhantomData<()>,

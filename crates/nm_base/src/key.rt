@@ -8,8 +8,8 @@ ghost use Rattle.nm_base.specs.Key.{key_cmp, key_cmp_total, place_number, IsPlac
 use crate::{IfaceNo, SourceNo, Time};
 use std::cmp::Ordering;
 
-/// Where an event stands. At one moment arrivals and completions come by the number of their interface, an interface's
-/// arrival before its completion, and sources come after all interfaces.
+/// Where an event stands. At one moment arrivals and completions come by the number of their
+/// interface, an interface's arrival before its completion, and sources come after all interfaces.
 #[derive(Clone, Copy, Debug)]
 pub enum Place {
     /// A packet arrives at an interface.
@@ -21,7 +21,8 @@ pub enum Place {
 }
 
 impl Place {
-    /// Its number in the order of places. Sources come after every interface that a number of 32 bits can name.
+    /// Its number in the order of places. Sources come after every interface that a number of 32
+    /// bits can name.
     fn rank(self) -> u64
         ensures rank { result ≡ place_number (2 ^ 32) self }
         ensures place { IsPlaceOf (2 ^ 32) self }
@@ -34,7 +35,8 @@ impl Place {
     }
 }
 
-/// The key of an event. Events are done in the order of their keys: by time, then place, then number.
+/// The key of an event. Events are done in the order of their keys: by time, then place, then
+/// number.
 #[derive(Clone, Copy, Debug)]
 pub struct Key {
     pub time: Time,

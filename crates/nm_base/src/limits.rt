@@ -1,12 +1,15 @@
-//! The limits of a simulation, each stated once. What is past a limit is refused, and the refusal names it.
+//! The limits of a simulation, each stated once. What is past a limit is refused, and the refusal
+//! names it.
 
 /// The greatest `stop`, 10^15 nanoseconds, which is 11 days and 13 hours. Each record is before it.
 pub const MAX_TIME: u64 = 1_000_000_000_000_000;
 
-/// The greatest number of octets of a packet: what the total length of an IPv4 header can say (RFC 791, section 3.1).
+/// The greatest number of octets of a packet: what the total length of an IPv4 header can say (RFC
+/// 791, section 3.1).
 pub const MAX_PACKET_OCTETS: usize = 65_535;
 
-/// The least and the greatest `mtu`, in octets. Every host takes a datagram of 576 octets (RFC 791, section 3.1).
+/// The least and the greatest `mtu`, in octets. Every host takes a datagram of 576 octets (RFC 791,
+/// section 3.1).
 pub const MIN_MTU: u64 = 576;
 
 pub const MAX_MTU: u64 = 65_535;

@@ -7,8 +7,8 @@ use crate::sink::{Sink, SinkFault};
 use std::alloc::{AllocError, Global};
 use std::marker::Model;
 
-/// Keeps what it takes, up to a budget of octets, and fails at each call after that. A clause sees the octets that it
-/// took, the room that is left, and the count of failures.
+/// Keeps what it takes, up to a budget of octets, and fails at each call after that. A clause sees
+/// the octets that it took, the room that is left, and the count of failures.
 #[derive(Drop)]
 pub struct MemSink {
     held: Vec<u8>,
@@ -22,13 +22,18 @@ impl Model for MemSink {
 
     ghost Value = { MemorySink };
 
-    ghost view = { λ s. record { octets = s.held.items; room = s.left; failures = s.failed.count } };
+    ghost view = { λ s. record {
+      octets = s.held.items;
+      room = s.left;
+      failures = s.failed.count;
+    } };
 
     ghost invariant = { λ s. vec_len s.held + s.left ≤ vec_capacity s.held };
 }
 
 impl MemSink {
-    /// An empty sink that takes this many octets. Its memory is taken here, so that no later call takes any.
+    /// An empty sink that takes this many octets. Its memory is taken here, so that no later call
+    /// takes any.
     pub fn new(alloc: Global, budget: usize) -> Result<Self, AllocError>
         ensures { IfOk result (λ sink. sink ≡ record { octets = []; room = budget; failures = 0 }) }
     {
@@ -64,9 +69,14 @@ impl Sink for MemSink {
         requires { 0 < length octets.now }
         ensures bounds { IfOk result (λ n. (1 ≤ n) × (n ≤ length octets.now)) }
         ensures most { IfOk result (λ n. n ≡ min self.old.room (length octets.now)) }
-        ensures taken { IfOk result (λ n. self.new ≡ record self.old { octets = self.old.octets ++ take n octets.now; room = self.old.room - n }) }
+        ensures taken { IfOk result (λ n. self.new
+            ≡ record self.old {
+              octets = self.old.octets ++ take n octets.now;
+              room = self.old.room - n;
+            }) }
         ensures full { IsOk result ↔ (0 < self.old.room) }
-        ensures fault { OnErr result (self.new ≡ record self.old { failures = self.old.failures + 1 }) }
+        ensures fault { OnErr result (self.new
+            ≡ record self.old { failures = self.old.failures + 1 }) }
     {
         let count = self.left.min(octets.len());
         if count == 0 {

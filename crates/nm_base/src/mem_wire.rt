@@ -15,7 +15,8 @@ pub enum Ending {
     Fault,
 }
 
-/// Gives a list in pieces, and takes up to a budget of octets, after which each write fails. A clause sees `MemoryWire`.
+/// Gives a list in pieces, and takes up to a budget of octets, after which each write fails. A
+/// clause sees `MemoryWire`.
 #[derive(Drop)]
 pub struct MemWire {
     source: Vec<u8>,
@@ -43,13 +44,15 @@ impl Model for MemWire {
       failures = w.failed.count;
     } };
 
-    ghost invariant = { λ w. (w.at ≤ vec_len w.source) × (vec_len w.held + w.room ≤ vec_capacity w.held)
+    ghost invariant = { λ w. (w.at ≤ vec_len w.source)
+        × (vec_len w.held + w.room ≤ vec_capacity w.held)
         × (1 ≤ w.piece) };
 }
 
 impl MemWire {
-    /// A wire that gives the octets of `source` and then answers with this ending, and that takes `room` octets. No call
-    /// moves more than `piece` octets. Its memory is taken here, so that no later call takes any.
+    /// A wire that gives the octets of `source` and then answers with this ending, and that takes
+    /// `room` octets. No call moves more than `piece` octets. Its memory is taken here, so that no
+    /// later call takes any.
     pub fn new(
         alloc: Global,
         source: Vec<u8>,
@@ -97,14 +100,18 @@ impl Wire for MemWire {
 
     ghost failures = { λ w. w.failures };
 
-    /// Gives as many octets as are left, as the buffer takes and as a call moves; where none is left, it answers the ending.
+    /// Gives as many octets as are left, as the buffer takes and as a call moves; where none is
+    /// left, it answers the ending.
     fn read_some(&mut self, buffer: &mut [u8]) -> Read
         requires { 0 < length buffer.old }
-        ensures reads { ReadDoes given_octets (λ w. w.failures) self.old self.new result buffer.new }
-        ensures answer { result ≡ read_answer self.old.ending (read_count self.old (length buffer.old)) }
+        ensures reads { ReadDoes
+            given_octets (λ w. w.failures) self.old self.new result buffer.new }
+        ensures answer { result
+            ≡ read_answer self.old.ending (read_count self.old (length buffer.old)) }
         ensures wire { self.new ≡ after_read self.old (read_count self.old (length buffer.old)) }
         ensures buffer { buffer.new ≡ after_copy
-            (take (read_count self.old (length buffer.old)) (drop self.old.at self.old.source)) buffer.old }
+            (take (read_count self.old (length buffer.old)) (drop self.old.at self.old.source))
+            buffer.old }
     {
         let left = self.source.len() - self.at;
         let count = left.min(self.piece).min(buffer.len());
@@ -123,11 +130,13 @@ impl Wire for MemWire {
         Read::Got(count)
     }
 
-    /// Takes as many octets as there is room for and as a call moves, and fails where there is no room.
+    /// Takes as many octets as there is room for and as a call moves, and fails where there is no
+    /// room.
     fn write_some(&mut self, octets: &[u8]) -> Written
         requires { 0 < length octets.now }
         ensures answer { result ≡ write_answer (write_count self.old (length octets.now)) }
-        ensures wire { self.new ≡ after_write self.old octets.now (write_count self.old (length octets.now)) }
+        ensures wire { self.new
+            ≡ after_write self.old octets.now (write_count self.old (length octets.now)) }
     {
         let count = self.room.min(self.piece).min(octets.len());
         if count == 0 {

@@ -1,4 +1,5 @@
-//! Numbers that name parts of a topology, each a type of its own so that one is never taken for another.
+//! Numbers that name parts of a topology, each a type of its own so that one is never taken for
+//! another.
 //!
 //! Every number is that of the whole topology, in a partition too. A clause sees the number.
 
@@ -63,8 +64,8 @@ pub type IfaceNo = Number<Iface>;
 /// Channels.
 pub enum Chan {}
 
-/// The number of a channel, one direction of a link between two partitions, from 0 in the order of the receiving
-/// interfaces' numbers.
+/// The number of a channel, one direction of a link between two partitions, from 0 in the order of
+/// the receiving interfaces' numbers.
 pub type ChanNo = Number<Chan>;
 
 /// Partitions.

@@ -5,7 +5,8 @@ ghost use Rattle.std.specs.Borrow.{ftrue};
 
 use std::marker::{Model, PhantomData};
 
-/// The octets that went one way over a connection, from the first on: a list for contracts alone. It takes no memory.
+/// The octets that went one way over a connection, from the first on: a list for contracts alone.
+/// It takes no memory.
 #[derive(Drop)]
 pub struct Octets {
     marker: PhantomData<()>,

@@ -8,7 +8,8 @@ use bytes::Bytes;
 use std::alloc::AllocError;
 use std::marker::Model;
 
-/// The octets of a packet, from 1 to 65,535 of them. A clause sees the list of octets. Copies share their octets.
+/// The octets of a packet, from 1 to 65,535 of them. A clause sees the list of octets. Copies share
+/// their octets.
 #[derive(Clone, Debug, Drop, PartialEq, Eq)]
 pub struct Packet {
     octets: Bytes,
@@ -69,7 +70,8 @@ impl Packet {
     }
 }
 
-/// Two equal packets, one to send on and one to record, so that every copy is made before anything changes.
+/// Two equal packets, one to send on and one to record, so that every copy is made before anything
+/// changes.
 #[derive(Drop)]
 pub struct Twin {
     pub packet: Packet,

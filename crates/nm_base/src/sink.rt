@@ -18,11 +18,13 @@ pub trait Sink {
     // How often the sink has failed.
     ghost failures: { Self → ℕ };
 
-    /// Takes the first octets of a list that is not empty, at least one of them, and answers how many.
+    /// Takes the first octets of a list that is not empty, at least one of them, and answers how
+    /// many.
     ///
     /// # Errors
     ///
-    /// `SinkFault` where the sink failed. It took nothing then, and its count of failures is one more.
+    /// `SinkFault` where the sink failed. It took nothing then, and its count of failures is one
+    /// more.
     fn write_some(&mut self, octets: &[u8]) -> Result<usize, SinkFault>
         requires { 0 < length octets.now }
         ensures bounds { IfOk result (λ n. (1 ≤ n) × (n ≤ length octets.now)) }
@@ -30,7 +32,8 @@ pub trait Sink {
         ensures faults { failures self.new ≡ failures self.old + (if is_ok result then 0 else 1) };
 }
 
-/// A sink failed before it had taken a whole list: it took only so many of the list's octets, from the front.
+/// A sink failed before it had taken a whole list: it took only so many of the list's octets, from
+/// the front.
 #[derive(Clone, Copy, Debug, PartialEq, Eq, Error)]
 #[error("the sink failed after {taken} octets")]
 pub struct CutShort {
@@ -46,7 +49,8 @@ pub fn write_all<S: Sink>(sink: &mut S, octets: &[u8]) -> Result<(), CutShort>
     ensures whole { OnOk result (Appends (S.taken sink.old) (S.taken sink.new) octets.now) }
     ensures no_fault { OnOk result (S.failures sink.new ≡ S.failures sink.old) }
     ensures part { IfErr result (λ e. e.taken < length octets.now) }
-    ensures front { IfErr result (λ e. Appends (S.taken sink.old) (S.taken sink.new) (take e.taken octets.now)) }
+    ensures front { IfErr result (λ e. Appends (S.taken sink.old) (S.taken sink.new)
+        (take e.taken octets.now)) }
     ensures fault { IfErr result (λ e. S.failures sink.new ≡ S.failures sink.old + 1) }
 {
     let mut taken = 0;

@@ -8,8 +8,8 @@ use crate::sink::{Sink, SinkFault};
 use std::io::{self, Write};
 use std::marker::Model;
 
-/// Writes to a file, a stream or memory. A write that fails or that takes nothing is a fault. A clause sees the writer
-/// and the count of failures.
+/// Writes to a file, a stream or memory. A write that fails or that takes nothing is a fault. A
+/// clause sees the writer and the count of failures.
 #[derive(Drop)]
 pub struct StdSink<W> {
     writer: W,
@@ -68,10 +68,11 @@ impl<W: Write> StdSink<W> {
     }
 }
 
-/// How many octets a writer took by its answer, or `None` where it failed: it answered an error, or took nothing of a list that is not
-/// empty.
+/// How many octets a writer took by its answer, or `None` where it failed: it answered an error, or
+/// took nothing of a list that is not empty.
 fn taken_count(answer: io::Result<usize>) -> Option<usize>
-    ensures { MatchResult answer (λ n. result ≡ (if nat_lt 0 n then Some n else None)) (λ _. result ≡ None) }
+    ensures { MatchResult answer
+        (λ n. result ≡ (if nat_lt 0 n then Some n else None)) (λ _. result ≡ None) }
 {
     match answer {
         Ok(count) if count > 0 => Some(count),

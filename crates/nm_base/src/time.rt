@@ -4,7 +4,8 @@ ghost use Rattle.std.specs.Prelude.{◌≡◌, ℕ};
 
 use std::marker::Model;
 
-/// A moment of simulated time, in whole nanoseconds from the start of the run. A clause sees the nanoseconds.
+/// A moment of simulated time, in whole nanoseconds from the start of the run. A clause sees the
+/// nanoseconds.
 #[derive(Clone, Copy, Debug, PartialEq, Eq, PartialOrd, Ord)]
 pub struct Time {
     nanoseconds: u64,

@@ -26,7 +26,8 @@ pub enum Written {
     Fault,
 }
 
-/// One connection. A clause sees the octets that it gave and took so far, and how often it has failed.
+/// One connection. A clause sees the octets that it gave and took so far, and how often it has
+/// failed.
 pub trait Wire {
     ghost use Rattle.nm_base.specs.Wire.{ReadDoes, WriteDoes};
 

@@ -1,3 +1,4 @@
+pub mod Fresh
 mod Heaped
 mod Held
 mod InOrder

@@ -10,8 +10,8 @@ ghost use Rattle.nm_model.specs.EventList.{is_before, least as least_entry};
 use nm_base::{Event, Key, Time};
 use std::alloc::{AllocError, Global};
 
-/// The events that are still to come (J. Misra, 1986, section 1). A clause sees a finite map from keys to events, and for
-/// how many more events there is room. Only `reserve` takes memory.
+/// The events that are still to come (J. Misra, 1986, section 1). A clause sees a finite map from
+/// keys to events, and for how many more events there is room. Only `reserve` takes memory.
 pub trait EventList: Sized {
     // The pending events.
     ghost pending: { Self → FinMap key_cmp (PendingEvent (List ℕ)) };
@@ -27,7 +27,8 @@ pub trait EventList: Sized {
     ///
     /// # Errors
     ///
-    /// `AllocError` where the list could not grow. It has the same events then, and room for as many more as it had.
+    /// `AllocError` where the list could not grow. It has the same events then, and room for as
+    /// many more as it had.
     fn reserve(&mut self, count: usize) -> Result<(), AllocError>
         ensures same { pending self.new ≡ pending self.old }
         ensures room { OnOk result (count ≤ room self.new) }
@@ -51,7 +52,8 @@ pub trait EventList: Sized {
     /// Takes the event of the least key out. Its place is room for another.
     fn take_least(&mut self) -> Option<(Key, Event)>
         ensures least { result ≡ least_entry (pending self.old) }
-        ensures rest { IfSome result (λ entry. pending self.new ≡ remove (pending self.old) entry.0) }
+        ensures rest { IfSome result (λ entry. pending self.new
+            ≡ remove (pending self.old) entry.0) }
         ensures none { IfNone result (pending self.new ≡ pending self.old) }
         ensures room { IfSome result (λ entry. room self.new ≡ room self.old + 1) };
 

@@ -9,8 +9,8 @@ use crate::key_heap::KeyHeap;
 use nm_base::{Event, Key, Time};
 use std::alloc::{AllocError, Global};
 
-/// Keeps the events in a binary heap, so that an event is put, and the least is taken, in logarithmic time whatever the
-/// order in which their keys come.
+/// Keeps the events in a binary heap, so that an event is put, and the least is taken, in
+/// logarithmic time whatever the order in which their keys come.
 #[derive(Drop)]
 pub struct HeapList {
     heap: KeyHeap<Event>,

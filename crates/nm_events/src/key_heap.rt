@@ -14,7 +14,8 @@ use std::cmp::Reverse;
 use std::collections::BinaryHeap;
 use std::marker::Model;
 
-/// A value under its key. Of two entries the one of the lesser key is the greater, and a heap has its greatest first.
+/// A value under its key. Of two entries the one of the lesser key is the greater, and a heap has
+/// its greatest first.
 #[derive(Drop)]
 #[derive_where(PartialEq, Eq, PartialOrd, Ord)]
 struct Entry<X> {
@@ -23,7 +24,8 @@ struct Entry<X> {
     value: X,
 }
 
-/// Values by their keys, the least key first, in a binary heap: a value is put, and the first is taken, in logarithmic time.
+/// Values by their keys, the least key first, in a binary heap: a value is put, and the first is
+/// taken, in logarithmic time.
 #[derive(Drop)]
 pub(crate) struct KeyHeap<X> {
     heap: BinaryHeap<Entry<X>>,
@@ -42,7 +44,8 @@ impl<X> Model for KeyHeap<X> {
       capacity = heap_capacity h.heap;
     } };
 
-    ghost invariant = { λ h. IsHeap entry_cmp (heap_items h.heap) × AreDistinct (pairs (heap_items h.heap)) };
+    ghost invariant = { λ h. IsHeap entry_cmp (heap_items h.heap)
+        × AreDistinct (pairs (heap_items h.heap)) };
 }
 
 impl<X> KeyHeap<X> {
@@ -59,7 +62,8 @@ impl<X> KeyHeap<X> {
     ///
     /// # Errors
     ///
-    /// `AllocError` where the heap could not grow. It has the same values then, and room for as many as it had.
+    /// `AllocError` where the heap could not grow. It has the same values then, and room for as
+    /// many as it had.
     pub(crate) fn reserve(&mut self, count: usize) -> Result<(), AllocError>
         ensures same { self.new.entries ≡ self.old.entries }
         ensures kept { self.old.capacity ≤ self.new.capacity }

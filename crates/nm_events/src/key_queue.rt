@@ -16,8 +16,9 @@ use std::alloc::{AllocError, Global};
 use std::collections::VecDeque;
 use std::marker::Model;
 
-/// Values by their keys, the least key first. Those whose keys come in turn stand in a ring, one behind the other: there
-/// one is put, and the first is taken, in constant time. The others are in a heap.
+/// Values by their keys, the least key first. Those whose keys come in turn stand in a ring, one
+/// behind the other: there one is put, and the first is taken, in constant time. The others are in
+/// a heap.
 ///
 /// Both have room for all.
 #[derive(Drop)]

@@ -18,11 +18,12 @@ enum Kind {
     Source,
 }
 
-/// Keeps the events of each kind in the order of their keys: those of one kind mostly come in that order, so that a new
-/// one is put behind the others, in constant time; at worst it takes logarithmic time. The least event is the first of one
-/// of the queues.
+/// Keeps the events of each kind in the order of their keys: those of one kind mostly come in that
+/// order, so that a new one is put behind the others, in constant time; at worst it takes
+/// logarithmic time. The least event is the first of one of the queues.
 ///
-/// Each queue has room for all events, whichever kind they are of, and for as many more as `room` says.
+/// Each queue has room for all events, whichever kind they are of, and for as many more as `room`
+/// says.
 #[derive(Drop)]
 pub struct SortedList {
     completions: KeyQueue<()>,
@@ -46,7 +47,8 @@ impl Model for SortedList {
       room = s.room;
     } };
 
-    ghost invariant = { λ s. IsHeld s.completions.entries s.arrivals.entries s.sources.entries s.room
+    ghost invariant = { λ s. IsHeld s.completions.entries s.arrivals.entries s.sources.entries
+        s.room
         (min (min s.completions.capacity s.arrivals.capacity) s.sources.capacity) };
 }
 

@@ -12,8 +12,8 @@ ghost use Rattle.nm_forward.specs.Counter.{counter_name, counter_number};
 /// UDP in the UDP-MIB (RFC 4113). No counter is ipSystemStatsInDelivers, what was handed to a
 /// protocol: it is the sum of [`IcmpBad`](Counter::IcmpBad), [`Echo`](Counter::Echo),
 /// [`Icmp`](Counter::Icmp), [`UdpBad`](Counter::UdpBad), [`Udp`](Counter::Udp) and
-/// [`Port`](Counter::Port). Nor is one ipSystemStatsOutRequests, what protocols asked to send: it is
-/// the sum of [`ToSelf`](Counter::ToSelf), [`NoRoute`](Counter::NoRoute) and
+/// [`Port`](Counter::Port). Nor is one ipSystemStatsOutRequests, what protocols asked to send: it
+/// is the sum of [`ToSelf`](Counter::ToSelf), [`NoRoute`](Counter::NoRoute) and
 /// [`Originated`](Counter::Originated).
 #[derive(Clone, Copy)]
 pub enum Counter {

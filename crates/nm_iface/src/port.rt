@@ -77,7 +77,10 @@ impl Model for Port {
       limit = record { packets = p.limit; octets = most_of p.octets };
       rate = p.rate;
       delay = p.delay;
-      busy = option_map (λ t. record { completes = t; waiting = map (λ w. w.packet) p.waiting.items }) p.busy_until;
+      busy = option_map (λ t. record {
+        completes = t;
+        waiting = map (λ w. w.packet) p.waiting.items;
+      }) p.busy_until;
       dropped = p.dropped;
       room = deque_capacity p.waiting - deque_len p.waiting;
     } };
@@ -116,7 +119,8 @@ impl Port {
     ///
     /// # Errors
     ///
-    /// `AllocError` where the queue could not grow. Nothing changed then, but that there may be more room.
+    /// `AllocError` where the queue could not grow. Nothing changed then, but that there may be
+    /// more room.
     pub fn reserve_one(&mut self) -> Result<(), AllocError>
         ensures same { self.new ≡ record self.old { room = self.new.room } }
         ensures room { OnOk result (1 ≤ self.new.room) }
@@ -133,12 +137,17 @@ impl Port {
     pub fn offer(&mut self, now: Time, twin: Twin) -> Offered
         requires now { now ≤ MAX_TIME }
         requires room { 1 ≤ self.old.room }
-        ensures port { self.new ≡ with_port self.old (offered (has_room self.old.limit) (takes self.old.rate) now twin.packet
+        ensures port { self.new ≡ with_port self.old
+            (offered (has_room self.old.limit) (takes self.old.rate) now twin.packet
             self.old.dropped self.old.busy).0 self.new.room }
-        ensures packet { transmitted_packet (transmission_in result) ≡ (offered (has_room self.old.limit) (takes self.old.rate) now
+        ensures packet { transmitted_packet (transmission_in result)
+            ≡ (offered (has_room self.old.limit) (takes self.old.rate) now
             twin.packet self.old.dropped self.old.busy).1 }
-        ensures start { IfSome (transmission_in result) (IsTransmission self.old.rate self.old.delay now twin.packet) }
-        ensures back { handed_back result ≡ if is_refused (has_room self.old.limit) twin.packet self.old.busy then Some twin else None }
+        ensures start { IfSome (transmission_in result)
+            (IsTransmission self.old.rate self.old.delay now twin.packet) }
+        ensures back { handed_back result
+            ≡ if is_refused (has_room self.old.limit) twin.packet self.old.busy
+            then Some twin else None }
         ensures left { self.old.room ≤ self.new.room + 1 }
     {
         if self.busy_until.is_none() {
@@ -156,15 +165,17 @@ impl Port {
         Offered::Dropped(twin)
     }
 
-    /// The transmission under way is complete, and that of the packet at the front of the queue starts, if one waits. It
-    /// takes no memory.
+    /// The transmission under way is complete, and that of the packet at the front of the queue
+    /// starts, if one waits. It takes no memory.
     pub fn done(&mut self, now: Time) -> Option<Start>
         requires now { now ≤ MAX_TIME }
         requires busy { IsSome self.old.busy }
         ensures port { self.new ≡ with_port self.old
             (completed (takes self.old.rate) now self.old.dropped self.old.busy).0 self.new.room }
-        ensures packet { transmitted_packet result ≡ (completed (takes self.old.rate) now self.old.dropped self.old.busy).1 }
-        ensures start { IfSome result (λ s. IsTransmission self.old.rate self.old.delay now s.twin.packet s) }
+        ensures packet { transmitted_packet result
+            ≡ (completed (takes self.old.rate) now self.old.dropped self.old.busy).1 }
+        ensures start { IfSome result
+            (λ s. IsTransmission self.old.rate self.old.delay now s.twin.packet s) }
         ensures room { self.old.room ≤ self.new.room }
     {
         match self.waiting.pop_front() {

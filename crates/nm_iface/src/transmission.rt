@@ -4,8 +4,8 @@ ghost use Rattle.std.specs.Prelude.{◌≡◌, ◌≤◌, ◌<◌, ◌^◌};
 ghost use Rattle.nm_base.specs.declared.limits.TheConstants.{MAX_PACKET_OCTETS, MAX_RATE};
 ghost use Rattle.nm_iface.specs.Transmission.{transmission_time as time_of};
 
-/// The nanoseconds that the transmission of a packet of so many octets takes at this rate, in bits per second: the octets'
-/// bits divided by the rate, rounded up, and at least one.
+/// The nanoseconds that the transmission of a packet of so many octets takes at this rate, in bits
+/// per second: the octets' bits divided by the rate, rounded up, and at least one.
 pub fn transmission_time(rate: u64, octets: usize) -> u64
     requires least { 1 ≤ rate }
     requires greatest { rate ≤ MAX_RATE }

@@ -36,7 +36,8 @@ pub enum KnowFault {
     /// The memory for one more message was refused, or 2^50 messages are known.
     #[error("out of memory for messages")]
     Memory,
-    /// A null message whose clock is after the known message of this number, which it says comes at or after its clock.
+    /// A null message whose clock is after the known message of this number, which it says comes at
+    /// or after its clock.
     #[error("a null message contradicts message {count}")]
     Contrary { count: u64 },
 }

@@ -22,9 +22,10 @@ use nm_model::knowledge::{accept_laws, join_faults_are_right, join_laws};
 use std::alloc::{AllocError, Global};
 use std::marker::Model;
 
-/// What is known of a channel: its first messages, each with its time of arrival, and a clock, at or after which all later
-/// messages arrive. The times of the messages rise, up to the clock. Packets are shared, and no call copies their octets. A
-/// clause sees the list of (time, packet) and the clock.
+/// What is known of a channel: its first messages, each with its time of arrival, and a clock, at
+/// or after which all later messages arrive. The times of the messages rise, up to the clock.
+/// Packets are shared, and no call copies their octets. A clause sees the list of (time, packet)
+/// and the clock.
 #[derive(Drop)]
 pub struct Know {
     messages: Messages,
@@ -104,9 +105,10 @@ impl Know {
     ///
     /// # Errors
     ///
-    /// `Gap` where messages before it have not come. `Differs` where another message of this number is known. For the next
-    /// message: `Late` where it is before the clock, `NotRising` where it is not after the last message, and `Memory` where
-    /// the memory for it was refused or 2^50 messages are known. A refusal changes nothing.
+    /// `Gap` where messages before it have not come. `Differs` where another message of this number
+    /// is known. For the next message: `Late` where it is before the clock, `NotRising` where it is
+    /// not after the last message, and `Memory` where the memory for it was refused or 2^50
+    /// messages are known. A refusal changes nothing.
     pub fn accept_data(
         &mut self,
         number: u64,
@@ -147,12 +149,13 @@ impl Know {
         Ok(Accepted::New)
     }
 
-    /// A null message: all messages of the channel from number `count` on arrive at `clock` or later. It takes no memory.
+    /// A null message: all messages of the channel from number `count` on arrive at `clock` or
+    /// later. It takes no memory.
     ///
     /// # Errors
     ///
-    /// `Gap` where messages before number `count` have not come. `Contrary` where message `count` is known and is before
-    /// `clock`. A refusal changes nothing.
+    /// `Gap` where messages before number `count` have not come. `Contrary` where message `count`
+    /// is known and is before `clock`. A refusal changes nothing.
     pub fn accept_null(&mut self, count: u64, clock: Time) -> Result<Accepted, KnowFault>
         ensures answer { answer result ≡ Some (accept_null self.old count clock).answer }
         ensures after { self.new ≡ (accept_null self.old count clock).after }
@@ -175,12 +178,14 @@ impl Know {
         Ok(Accepted::Raised)
     }
 
-    /// Whether what another knows of the same channel can be merged with this, and else why not. It takes no memory.
+    /// Whether what another knows of the same channel can be merged with this, and else why not. It
+    /// takes no memory.
     ///
     /// # Errors
     ///
-    /// `Differs` names the first number at which both have a message and these differ. Where there is none, `Late` names
-    /// the clock of one that is after the first message that the other has past its end.
+    /// `Differs` names the first number at which both have a message and these differ. Where there
+    /// is none, `Late` names the clock of one that is after the first message that the other has
+    /// past its end.
     pub fn check_merge(&self, other: &Know) -> Result<(), KnowFault>
         ensures { Finds self.now other.now result }
     {
@@ -242,9 +247,9 @@ impl Know {
         }
     }
 
-    /// Takes what another knows of the same channel: afterwards this has the longer list and the greater clock. The memory
-    /// for all its new messages is taken at once, and their packets are shared. It is `check_merge`, `reserve_merge` and
-    /// `take` in a row.
+    /// Takes what another knows of the same channel: afterwards this has the longer list and the
+    /// greater clock. The memory for all its new messages is taken at once, and their packets are
+    /// shared. It is `check_merge`, `reserve_merge` and `take` in a row.
     ///
     /// # Errors
     ///

@@ -1,4 +1,5 @@
-//! Laws of the definitions: a function's contract is the law, and its body does nothing but call the laws that it rests on.
+//! Laws of the definitions: a function's contract is the law, and its body does nothing but call
+//! the laws that it rests on.
 
 ghost use Rattle.std.specs.Prelude.{◌≡◌, ℕ, ◌≤◌, Bool, List, length, Contains, ◌↔◌};
 ghost use Rattle.nm_model.specs.Knowledge.{Know as Knowledge, IsKnow};
@@ -16,12 +17,14 @@ pub fn packets_are_told_apart()
     ensures apart { TellsApart same_octets }
 {}
 
-/// The order in which messages and null messages are accepted does not matter, nor how often each is: two lists of the same
-/// ones, each of which is accepted all along, leave the same knowledge. A refusal changes nothing, so what was refused may
-/// stand between them.
+/// The order in which messages and null messages are accepted does not matter, nor how often each
+/// is: two lists of the same ones, each of which is accepted all along, leave the same knowledge. A
+/// refusal changes nothing, so what was refused may stand between them.
 pub fn order_does_not_matter<P>()
-    ensures { (same : P → P → Bool) → TellsApart same → (a : Knowledge P) → IsKnow a → (k l : List (Tidings P))
-        → AreAccepted same a k → AreAccepted same a l → ((x : Tidings P) → Contains k x ↔ Contains l x)
+    ensures { (same : P → P → Bool) → TellsApart same → (a : Knowledge P) → IsKnow a
+        → (k l : List (Tidings P))
+        → AreAccepted same a k → AreAccepted same a l
+        → ((x : Tidings P) → Contains k x ↔ Contains l x)
         → accept_all same a k ≡ accept_all same a l }
 {
     accept_laws::<P>();

@@ -20,8 +20,8 @@ pub const MAX_MESSAGES: usize = 1 << 50;
 /// How many messages a full block has.
 const BLOCK_LEN: usize = 256;
 
-/// Messages with their times of arrival, at most 2^50, in blocks of 256. Copies share the full blocks. A clause sees the
-/// list of (time, packet).
+/// Messages with their times of arrival, at most 2^50, in blocks of 256. Copies share the full
+/// blocks. A clause sees the list of (time, packet).
 #[derive(Drop)]
 pub(crate) struct Messages {
     full: Vec<Arc<Vec<(Time, Packet)>>>,
@@ -160,7 +160,8 @@ impl Messages {
 
     /// Whether the message of this number, if there is one, arrives before the clock.
     pub(crate) fn is_before(&self, number: usize, clock: Time) -> bool
-        ensures { late_past clock (nth self.now number) ≡ (if result then Some (Late clock) else None) }
+        ensures { late_past clock (nth self.now number)
+            ≡ (if result then Some (Late clock) else None) }
     {
         match self.get(number) {
             Some((time, _)) => *time < clock,

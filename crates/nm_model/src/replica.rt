@@ -78,7 +78,8 @@ pub fn what_was_done_stays<P, N>()
     ensures sent { (net : Net P N) → IsNet net → (p : ℕ) (K J : Knowledge P) → IsUnderAll net p K J
         → (k m : ℕ) → k ≤ m → IsWithin net p K k → (c : ℕ)
         → IsPrefix ((from_scratch net p K k).sent c) ((from_scratch net p J m).sent c) }
-    ensures records { (net : Net P N) → IsNet net → (p : ℕ) (K J : Knowledge P) → IsUnderAll net p K J
+    ensures records { (net : Net P N) → IsNet net → (p : ℕ) (K J : Knowledge P)
+        → IsUnderAll net p K J
         → (k m : ℕ) → k ≤ m → IsWithin net p K k
         → IsPrefix (from_scratch net p K k).records (from_scratch net p J m).records }
 {}

@@ -71,7 +71,8 @@ pub fn sending_puts_frames<P, N>()
         ≡ (record { replica = w.replica; bag = w.bag ++ fs }, Frames (length l - n)))
         × (length fs ≡ length l - n)
         × ((i : ℕ) (b : ℕ × P) → nth l (n + i) ≡ Some b → nth fs i ≡ Some (DataFrame c (n + i) b)) }
-    ensures null { (net : Net P N) (same : P → P → Bool) (w : World P) (kind : Promising) (p r c : ℕ)
+    ensures null { (net : Net P N) (same : P → P → Bool)
+        (w : World P) (kind : Promising) (p r c : ℕ)
         → is_replica net p r ≡ true → goes_out net p c ≡ true
         → let x = w.replica p r in happens net same w (Null kind p r c)
         ≡ (
@@ -140,7 +141,8 @@ pub fn a_restart_begins_anew<P, N>()
 /// A step that names a partition, replica, channel, frame or message that isn't there changes
 /// nothing and says so.
 pub fn a_step_may_name_nothing<P, N>()
-    ensures replica { (net : Net P N) (same : P → P → Bool) (w : World P) (p r c n : ℕ) (kind : Promising)
+    ensures replica { (net : Net P N) (same : P → P → Bool)
+        (w : World P) (p r c n : ℕ) (kind : Promising)
         → is_replica net p r ≡ false
         → (happens net same w (Run p r n) ≡ (w, NoSuch))
         × (happens net same w (Data p r c n) ≡ (w, NoSuch))
@@ -148,7 +150,8 @@ pub fn a_step_may_name_nothing<P, N>()
         × (happens net same w (Null kind p r c) ≡ (w, NoSuch))
         × (happens net same w (Merge p r) ≡ (w, NoSuch))
         × (happens net same w (Restart p r) ≡ (w, NoSuch)) }
-    ensures channel { (net : Net P N) (same : P → P → Bool) (w : World P) (p r c n : ℕ) (kind : Promising)
+    ensures channel { (net : Net P N) (same : P → P → Bool)
+        (w : World P) (p r c n : ℕ) (kind : Promising)
         → goes_out net p c ≡ false
         → (happens net same w (Data p r c n) ≡ (w, NoSuch))
         × (happens net same w (Resend p r c n) ≡ (w, NoSuch))
@@ -161,7 +164,8 @@ pub fn a_step_may_name_nothing<P, N>()
         → happens net same w (Resend p r c n) ≡ (w, NoSuch) }
     ensures frame { (net : Net P N) (same : P → P → Bool) (w : World P) (i r : ℕ) → length w.bag ≤ i
         → happens net same w (Deliver i r) ≡ (w, NoSuch) }
-    ensures receiver { (net : Net P N) (same : P → P → Bool) (w : World P) (i r c n t : ℕ) (b : ℕ × P)
+    ensures receiver { (net : Net P N) (same : P → P → Bool)
+        (w : World P) (i r c n t : ℕ) (b : ℕ × P)
         → (nth w.bag i ≡ Some (DataFrame c n b)) ⊎ (nth w.bag i ≡ Some (NullFrame c n t))
         → is_replica net (receiver_of net c) r ≡ false
         → happens net same w (Deliver i r) ≡ (w, NoSuch) }

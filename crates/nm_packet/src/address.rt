@@ -54,9 +54,9 @@ impl Address {
         self.bits.to_be_bytes()
     }
 
-    /// Whether the address is a martian (RFC 1812, section 5.3.7), neither the source nor the destination of a packet
-    /// between hosts: this network (0.0.0.0/8), loopback (127.0.0.0/8), multicast (224.0.0.0/4) or reserved
-    /// (240.0.0.0/4).
+    /// Whether the address is a martian (RFC 1812, section 5.3.7), neither the source nor the
+    /// destination of a packet between hosts: this network (0.0.0.0/8), loopback (127.0.0.0/8),
+    /// multicast (224.0.0.0/4) or reserved (240.0.0.0/4).
     pub fn is_martian(self) -> bool
         ensures { result ≡ is_martian self }
     {
@@ -64,7 +64,8 @@ impl Address {
         matches!(first, 0 | 127 | 224..)
     }
 
-    /// The address that this text writes: four numbers 0 to 255 in decimal with no leading zeros, joined by dots.
+    /// The address that this text writes: four numbers 0 to 255 in decimal with no leading zeros,
+    /// joined by dots.
     pub fn parse(text: &[u8]) -> Option<Self>
         ensures found { IfSome result (λ a. text.now ≡ address_text a) }
         ensures only { (a : ℕ) → a < 2 ^ 32 → text.now ≡ address_text a → result ≡ Some a }

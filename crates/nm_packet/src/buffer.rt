@@ -7,14 +7,15 @@ use bytes::BytesMut;
 use nm_base::Packet;
 use std::alloc::{AllocError, Global};
 
-/// The octets of a block. Blocks are small, so that what a node writes next is still near the processor.
+/// The octets of a block. Blocks are small, so that what a node writes next is still near the
+/// processor.
 const BLOCK_OCTETS: usize = 2_048;
 
 /// The greatest packet that is cut from a block. So less than a quarter of a block is left over.
 pub(crate) const MAX_CUT_OCTETS: usize = 512;
 
-/// A block of memory that packets are cut from, and then the next. So small packets take no memory of their own. A block
-/// stays until the last of its packets is gone.
+/// A block of memory that packets are cut from, and then the next. So small packets take no memory
+/// of their own. A block stays until the last of its packets is gone.
 #[derive(Drop)]
 pub struct PacketBuffer {
     pub(crate) block: BytesMut,
@@ -28,7 +29,8 @@ impl PacketBuffer {
         }
     }
 
-    /// Takes a copy of these octets, which may then be changed in the block and cut off as a packet.
+    /// Takes a copy of these octets, which may then be changed in the block and cut off as a
+    /// packet.
     ///
     /// # Errors
     ///

@@ -13,8 +13,8 @@ fn add_words(a: u16, b: u16) -> u16
     sum + u16::from(carry)
 }
 
-/// The same of two words each, side by side. What is carried from one to the other comes in at the low end when the sum is
-/// folded.
+/// The same of two words each, side by side. What is carried from one to the other comes in at the
+/// low end when the sum is folded.
 fn add_two_words(a: u32, b: u32) -> u32
     ensures { folded result ≡ folded (a + b) }
 {
@@ -38,8 +38,10 @@ fn fold(four: u64) -> u16
     add_words((two >> 16) as u16, (two % 0x1_0000) as u16)
 }
 
-/// The one's complement sum of `start` and of the octets as 16-bit words, an odd last octet being padded with a zero.
-// Not inlined, so that reading a header without options, which does not come here, keeps its numbers in registers.
+/// The one's complement sum of `start` and of the octets as 16-bit words, an odd last octet being
+/// padded with a zero.
+// Not inlined, so that reading a header without options, which does not come here, keeps its
+// numbers in registers.
 #[inline(never)]
 pub(crate) fn sum_words(start: u16, octets: &[u8]) -> u16
     ensures { result ≡ folded (start + word_sum octets.now) }
@@ -70,7 +72,8 @@ fn sum_last_words(start: u16, octets: &[u8]) -> u16
     }
 }
 
-/// The one's complement sum of a header's words. Each header has five times two words, and few have more.
+/// The one's complement sum of a header's words. Each header has five times two words, and few have
+/// more.
 pub(crate) fn sum_header(header: &[u8]) -> u16
     requires { 20 ≤ length header.now }
     ensures { result ≡ folded (word_sum header.now) }

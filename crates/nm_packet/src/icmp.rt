@@ -157,7 +157,8 @@ impl Icmp {
         Ok(octets)
     }
 
-    /// A packet with such a message as its payload, in one buffer. The header's protocol should be [`PROTOCOL`].
+    /// A packet with such a message as its payload, in one buffer. The header's protocol should be
+    /// [`PROTOCOL`].
     pub fn write_packet(
         alloc: Global,
         packet_header: &Ipv4Header,

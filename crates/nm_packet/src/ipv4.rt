@@ -53,7 +53,8 @@ const QUOTED_PAYLOAD_OCTETS: usize = 8;
 #[derive(Clone, Copy)]
 pub struct Ipv4;
 
-/// A packet whose header passed the tests, over the octets up to its total length. A clause sees these octets.
+/// A packet whose header passed the tests, over the octets up to its total length. A clause sees
+/// these octets.
 #[derive(Drop)]
 pub struct Ipv4View<'a> {
     octets: &'a [u8],
@@ -105,8 +106,8 @@ fn tested(octets: &[u8]) -> Result<Ipv4View<'_>, HeaderFault>
 }
 
 impl Ipv4 {
-    /// The packet at the front of these octets, which are lent and not copied. What follows its total length is left
-    /// out.
+    /// The packet at the front of these octets, which are lent and not copied. What follows its
+    /// total length is left out.
     pub fn read(octets: &[u8]) -> Result<Ipv4View<'_>, HeaderFault>
         // What is read is a packet, spelled by its fields and its payload.
         ensures found { IfOk result (λ v. IsIpv4 (fields_of v) (payload_of v) v) }
@@ -235,7 +236,8 @@ impl<'a> Ipv4View<'a> {
     }
 }
 
-/// The fields that a writer of packets chooses. The rest is plain: no options, no flags, no fragment.
+/// The fields that a writer of packets chooses. The rest is plain: no options, no flags, no
+/// fragment.
 #[derive(Clone, Copy)]
 pub struct Ipv4Header {
     pub type_of_service: u8,
@@ -322,8 +324,8 @@ fn packet_from(octets: Vec<u8>) -> Result<Packet, AllocError>
     Ok(Packet::new(octets).unwrap())
 }
 
-/// What an error message quotes of a packet (RFC 792): its header as it came, with its options, and the first eight
-/// octets of its payload, or all of them where there are fewer. At most 68 octets.
+/// What an error message quotes of a packet (RFC 792): its header as it came, with its options, and
+/// the first eight octets of its payload, or all of them where there are fewer. At most 68 octets.
 pub fn quote(alloc: Global, packet: &Ipv4View<'_>) -> Result<Vec<u8>, AllocError>
     ensures value { IfOk result (λ v. v.items ≡ quote_of packet.now) }
     ensures greatest { IfOk result (λ v. length v.items ≤ 68) }
@@ -333,8 +335,9 @@ pub fn quote(alloc: Global, packet: &Ipv4View<'_>) -> Result<Vec<u8>, AllocError
     Vec::from_slice(alloc, &octets[..end.min(octets.len())])
 }
 
-/// The packet one hop on: its time to live is one less and its header checksum is that of the new header, and nothing else
-/// changes, options and payload included. Asks for a time to live of at least 1; the octets are copied once.
+/// The packet one hop on: its time to live is one less and its header checksum is that of the new
+/// header, and nothing else changes, options and payload included. Asks for a time to live of at
+/// least 1; the octets are copied once.
 ///
 /// # Errors
 ///
@@ -408,8 +411,8 @@ fn lowered_checksum(packet: &Ipv4View<'_>) -> u16
     updated_checksum(packet.header_checksum(), live, live - 256)
 }
 
-/// Writes the time to live and the header checksum of the packet one hop on. It reads nothing of what was just copied, which
-/// a processor would have to wait for.
+/// Writes the time to live and the header checksum of the packet one hop on. It reads nothing of
+/// what was just copied, which a processor would have to wait for.
 fn lower(octets: &mut [u8], time_to_live: u8, checksum: u16)
     requires packet { IsPacket octets.old }
     requires small { IsOctets octets.old }

@@ -9,31 +9,32 @@ ghost use Rattle.nm_packet.specs.Ipv4.{Header, HeaderFits, IsIpv4, checked, cut_
 ghost use Rattle.nm_packet.specs.Udp.{IsUdp, UdpFits, UdpHeader, datagram_octets, udp_checked, udp_cut_of, udp_data_of, udp_fault, udp_fields_of};
 ghost use Rattle.nm_packet.specs.Icmp.{IcmpFits, IcmpHeader, IsIcmp, icmp_checked, icmp_data_of, icmp_fault, icmp_fields_of, message_octets};
 
-/// A packet is read with the fields and the payload that it was made of, whatever follows it. So octets are a packet
-/// with one header and one payload at most.
+/// A packet is read with the fields and the payload that it was made of, whatever follows it. So
+/// octets are a packet with one header and one payload at most.
 pub fn ipv4_is_read_as_made()
     ensures { (h : Header) (payload octets rest : List ℕ) → IsIpv4 h payload octets
         → (header_fault (octets ++ rest) ≡ None) × (cut_of (octets ++ rest) ≡ octets)
         × (fields_of octets ≡ h) × (payload_of octets ≡ payload) }
 {}
 
-/// What is written of fields that fit is a packet with these fields and the checksum over all other words.
+/// What is written of fields that fit is a packet with these fields and the checksum over all other
+/// words.
 pub fn ipv4_is_written_well()
     ensures { (h : Header) (payload : List ℕ) → HeaderFits (record h { header_checksum = 0 })
         → h.total_length ≡ 4 * h.ihl + length payload
         → IsIpv4 (checked h) payload (packet_octets h payload) }
 {}
 
-/// The octets of a packet are what is written of its fields and its payload. The one exception is a checksum of ffff in
-/// place of 0000, which passes the test and is never written.
+/// The octets of a packet are what is written of its fields and its payload. The one exception is a
+/// checksum of ffff in place of 0000, which passes the test and is never written.
 pub fn ipv4_is_what_is_written()
     ensures { (h : Header) (payload octets : List ℕ) → IsIpv4 h payload octets
         → (octets ≡ packet_octets h payload)
         ⊎ ((h.header_checksum ≡ 65535) × ((checked h).header_checksum ≡ 0)) }
 {}
 
-/// The checksum of the header one hop on, over all its other words, is also the one that RFC 1624 makes of the checksum
-/// that came and the one word that changed.
+/// The checksum of the header one hop on, over all its other words, is also the one that RFC 1624
+/// makes of the checksum that came and the one word that changed.
 pub fn lowered_checksum_by_difference()
     ensures { (h : Header) (payload octets : List ℕ) → IsIpv4 h payload octets → 1 ≤ h.time_to_live
         → (checked (lowered h)).header_checksum ≡ updated_checksum h.header_checksum
@@ -65,7 +66,8 @@ pub fn icmp_is_read_as_made()
         × (icmp_data_of octets ≡ payload) }
 {}
 
-/// What is written of fields that fit is a message with these fields and the checksum over all other words.
+/// What is written of fields that fit is a message with these fields and the checksum over all
+/// other words.
 pub fn icmp_is_written_well()
     ensures { (h : IcmpHeader) (payload : List ℕ) → IcmpFits (record h { checksum = 0 })
         → IsIcmp (icmp_checked h payload) payload (message_octets h payload) }

@@ -59,7 +59,8 @@ impl<'a> Model for UdpView<'a> {
     ghost invariant = { λ v. IsDatagram v.octets.now };
 }
 
-/// The one's complement sum of the pseudo header and then of these octets, where the datagram has so many octets.
+/// The one's complement sum of the pseudo header and then of these octets, where the datagram has
+/// so many octets.
 fn sum_from_pseudo_header(source: Address, destination: Address, size: u16, octets: &[u8]) -> u16
     ensures { result ≡ folded (word_sum (pseudo_header source destination size ++ octets.now)) }
 {
@@ -108,8 +109,8 @@ fn header_with(ports: Ports, size: u16, checksum: u16) -> [u8; HEADER_OCTETS]
 }
 
 impl Udp {
-    /// The datagram at the front of the payload of a packet between these addresses, lent and not copied. What follows
-    /// its length is left out.
+    /// The datagram at the front of the payload of a packet between these addresses, lent and not
+    /// copied. What follows its length is left out.
     pub fn read(
         source: Address,
         destination: Address,
@@ -130,9 +131,9 @@ impl Udp {
         tested(source, destination, octets)
     }
 
-    /// The datagram with these ports and data, with a checksum, for a packet between these addresses. Up to
-    /// [`MAX_DATAGRAM_DATA`](crate::limits::MAX_DATAGRAM_DATA) octets of data fit a datagram, and up to
-    /// [`MAX_PACKET_DATA`](crate::limits::MAX_PACKET_DATA) of them a packet.
+    /// The datagram with these ports and data, with a checksum, for a packet between these
+    /// addresses. Up to [`MAX_DATAGRAM_DATA`](crate::limits::MAX_DATAGRAM_DATA) octets of data fit
+    /// a datagram, and up to [`MAX_PACKET_DATA`](crate::limits::MAX_PACKET_DATA) of them a packet.
     pub fn write(
         alloc: Global,
         source: Address,
@@ -153,7 +154,8 @@ impl Udp {
         Ok(octets)
     }
 
-    /// A packet with such a datagram as its payload, in one buffer. The header's protocol should be [`PROTOCOL`].
+    /// A packet with such a datagram as its payload, in one buffer. The header's protocol should be
+    /// [`PROTOCOL`].
     pub fn write_packet(
         alloc: Global,
         packet_header: &Ipv4Header,

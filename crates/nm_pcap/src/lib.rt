@@ -1,5 +1,5 @@
-//! Trace files in the pcap savefile format 2.4, with nanosecond times, as they are or in hexadecimal:
-//! an exact prefix, whatever the sink does.
+//! Trace files in the pcap savefile format 2.4, with nanosecond times, as they are or in
+//! hexadecimal: an exact prefix, whatever the sink does.
 #![tactic(auto)]
 
 pub mod form;

@@ -50,8 +50,8 @@ impl Tracer {
     ///
     /// # Errors
     ///
-    /// `AllocError` where memory was refused, or after 2^62 events: no record was handed on, and the
-    /// call may be made again.
+    /// `AllocError` where memory was refused, or after 2^62 events: no record was handed on, and
+    /// the call may be made again.
     pub fn next(&mut self, alloc: Global, topology: &Topology) -> Result<Option<Record>, AllocError>
         requires { IsTracing pending_of topology.now self.old }
         ensures tracing { IsTracing pending_of topology.now self.new }

@@ -1,7 +1,7 @@
 use Rattle.std.proofs.Common.{ap, ◌∙◌, arith}
 use Rattle.std.specs.FinMap.{get, get-empty}
 use Rattle.nm_base.specs.Key.{key_cmp}
-use Rattle.nm_bench.proofs.Fresh.{not_yet}
+use Rattle.nm_events.proofs.Fresh.{not_yet}
 use Rattle.nm_bench.proofs.turns.fill.Goals as goal
 
 pub loop-number-init : goal.loop-number-init

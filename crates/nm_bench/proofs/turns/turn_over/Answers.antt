@@ -1,6 +1,6 @@
 use Rattle.std.proofs.Common.{ap, ◌∙◌, arith}
 use Rattle.std.specs.FinMap.{get}
-use Rattle.nm_bench.proofs.Fresh.{not_yet, still_not}
+use Rattle.nm_events.proofs.Fresh.{not_yet, still_not}
 use Rattle.nm_bench.proofs.turns.turn_over.Goals as goal
 
 pub put-requires-clause-fresh : goal.put-requires-clause-fresh
