@@ -6,8 +6,8 @@
 //!
 //! With a second word, the name of a file with a topology: `topology` reads it, and prints how many
 //! nodes there are; `parts` starts two parts for each partition, and prints how many; `kept` and
-//! `flat` run the whole network to its stop, and print how many records there are: `flat` hands out
-//! each at once, and `kept` none.
+//! `flat` run the whole network to its stop, and print how many records there are: `flat` lets each go
+//! as it is made, and `kept` none.
 #![tactic(auto)]
 
 mod network;

@@ -1,13 +1,8 @@
 //! Work over the topology of a file: its parts at their start, and runs of the whole network.
 
-ghost use Rattle.std.specs.Prelude.{ℕ, List, None};
-ghost use Rattle.nm_forward.specs.State.{NodeStateValue};
-ghost use Rattle.nm_model.specs.Run.{State};
-ghost use Rattle.nm_sim.specs.Part.{Represents};
-
 use nm_base::PartNo;
-use nm_events::{EventList, SortedList};
-use nm_sim::Part;
+use nm_events::SortedList;
+use nm_sim::{Part, Tracer, one_list};
 use nm_topology::{TopoFault, Topology};
 use std::alloc::{AllocError, Global};
 use std::fs;
@@ -23,7 +18,7 @@ pub enum Task {
     Parts,
     /// The whole network is run to its stop; its records are counted, and kept to the end.
     Kept,
-    /// The same, but all records are handed out after each event.
+    /// The same, but each record is let go as it is made.
     Flat,
 }
 
@@ -49,41 +44,15 @@ fn start_twice(alloc: Global, topology: &Topology) -> Result<Vec<Part<SortedList
     Ok(parts)
 }
 
-/// Does the first event of the whole network, if it is before the network's stop: whether there was
-/// one.
-fn step<L: EventList>(
-    alloc: Global,
-    topology: &Topology,
-    part: &mut Part<L>,
-) -> Result<bool, AllocError>
-    requires { (s : State (List ℕ) NodeStateValue)
-        × Represents L.pending topology.now None part.old s }
-    ensures { (s : State (List ℕ) NodeStateValue)
-        × Represents L.pending topology.now None part.new s }
-{
-    let done = part.step(alloc, topology, topology.stop())?;
-    Ok(done.is_some())
-}
-
-/// Runs the whole network to its stop, and hands out its records as they come, or keeps them: how
-/// many there are.
-fn run<L: EventList + Drop>(
-    alloc: Global,
-    topology: &Topology,
-    is_flat: bool,
-) -> Result<u64, AllocError> {
-    let mut part = Part::<L>::start(alloc, topology, None)?;
-    for _ in 0..u64::MAX {
-        if !step(alloc, topology, &mut part)? {
-            break;
-        }
-        if is_flat {
-            for _ in 0..part.trace().len() {
-                let _record = part.hand_out();
-            }
+/// Runs the whole network to its stop, and lets each record go as it is made: how many there are.
+fn let_go(alloc: Global, topology: &Topology) -> Result<u64, AllocError> {
+    let mut tracer = Tracer::start(alloc, topology)?;
+    for count in 0..u64::MAX {
+        if tracer.next(alloc, topology)?.is_none() {
+            return Ok(count);
         }
     }
-    Ok(part.records())
+    Ok(u64::MAX)
 }
 
 /// Does a task with the topology of a file, and gives what it counts.
@@ -92,8 +61,8 @@ pub fn work_over<R: Files + AllocGlobal>(rt: &R, task: Task, path: &str) -> Resu
     let count = match task {
         Task::Read => topology.nodes().len() as u64,
         Task::Parts => start_twice(rt.alloc(), &topology)?.len() as u64,
-        Task::Kept => run::<SortedList>(rt.alloc(), &topology, false)?,
-        Task::Flat => run::<SortedList>(rt.alloc(), &topology, true)?,
+        Task::Kept => one_list(rt.alloc(), &topology, topology.stop())?.len() as u64,
+        Task::Flat => let_go(rt.alloc(), &topology)?,
     };
     Ok(count)
 }

@@ -10,6 +10,10 @@ use Rattle.nm_pcap.specs.declared.writer.PcapFault.{PcapFault}
 use Rattle.nm_pcap.specs.declared.writer.PcapFault.TheVariants.{File, Failed}
 use Rattle.nm_pcap.specs.Format.{file_header, record_octets, pcap}
 use Rattle.nm_pcap.specs.Writer.{Writer}
+use Rattle.nm_pcap.specs.Writing.{written}
+use Rattle.nm_pcap.specs.declared.form.Form.{Form}
+use Rattle.nm_pcap.proofs.Forms.{written-append, written-nil}
+use Rattle.nm_pcap.proofs.Outcomes.{Adds-form}
 use Rattle.nm_pcap.specs.Outcome.{Adds, HoldsPrefix, Puts}
 
 -- one more element adds its list at the end
@@ -55,12 +59,18 @@ module _ {W : Type 0} (taken : W → Option (List ℕ)) (failures : W → ℕ) w
   }
 
   -- any calls
-  HoldsPrefix-puts : (fresh old new : Writer W) (ps : List (Record (List ℕ) × Result Unit PcapFault)) (a : List ℕ) → HoldsPrefix taken failures fresh old a → Puts taken failures old ps new → HoldsPrefix taken failures fresh new (a ++ flat_map record_octets (map (λ p. p.0) ps))
-  HoldsPrefix-puts fresh old new [] a h same = subst (λ (x : Writer W). HoldsPrefix taken failures fresh x (a ++ [])) (sym same) (subst (λ l. HoldsPrefix taken failures fresh old l) (sym (append-nil a)) h)
-  HoldsPrefix-puts fresh old new (p ∷ ps) a h put =
-      subst (λ l. HoldsPrefix taken failures fresh new l) (append_assoc a (record_octets p.0) (flat_map record_octets (map (λ q. q.0) ps)))
-      (HoldsPrefix-puts fresh put.0 new ps (a ++ record_octets p.0) (HoldsPrefix-write fresh old put.0 p.1 a (record_octets p.0) h put.1) put.2)
+  HoldsPrefix-puts : (form : Form) (fresh old new : Writer W) (ps : List (Record (List ℕ) × Result Unit PcapFault)) (a : List ℕ) → old.form ≡ form → HoldsPrefix taken failures fresh old a → Puts taken failures old ps new → HoldsPrefix taken failures fresh new (a ++ written form (flat_map record_octets (map (λ p. p.0) ps)))
+  HoldsPrefix-puts form fresh old new [] a same h put =
+      subst (λ (x : Writer W). HoldsPrefix taken failures fresh x (a ++ written form [])) (sym put)
+      (subst (λ l. HoldsPrefix taken failures fresh old l) (sym (ap (λ l. a ++ l) (written-nil form) ∙ append-nil a)) h)
+  HoldsPrefix-puts form fresh old new (p ∷ ps) a same h put =
+      let rest = flat_map record_octets (map (λ q. q.0) ps) in
+      subst (λ l. HoldsPrefix taken failures fresh new l)
+      (append_assoc a (written form (record_octets p.0)) (written form rest) ∙ ap (λ l. a ++ l) (sym (written-append form (record_octets p.0) rest)))
+      (HoldsPrefix-puts form fresh put.0 new ps (a ++ written form (record_octets p.0)) (Adds-form taken failures old put.0 p.1 _ put.1 ∙ same)
+      (HoldsPrefix-write fresh old put.0 p.1 a (written form (record_octets p.0)) h (subst (λ f. Adds taken failures old put.0 p.1 (written f (record_octets p.0))) same put.1)) put.2)
 
-  pub file_front : (fresh started new : Writer W) (first : Result Unit PcapFault) (ps : List (Record (List ℕ) × Result Unit PcapFault)) → Adds taken failures fresh started first file_header → Puts taken failures started ps new → HoldsPrefix taken failures fresh new (pcap (map (λ p. p.0) ps))
+  pub file_front : (fresh started new : Writer W) (first : Result Unit PcapFault) (ps : List (Record (List ℕ) × Result Unit PcapFault)) → Adds taken failures fresh started first (written fresh.form file_header) → Puts taken failures started ps new → HoldsPrefix taken failures fresh new (written fresh.form (pcap (map (λ p. p.0) ps)))
   file_front fresh started new first ps begun put =
-      HoldsPrefix-puts fresh started new ps file_header (HoldsPrefix-write fresh fresh started first [] file_header (HoldsPrefix-none fresh) begun) put
+      subst (λ l. HoldsPrefix taken failures fresh new l) (sym (written-append fresh.form file_header (flat_map record_octets (map (λ q. q.0) ps))))
+      (HoldsPrefix-puts fresh.form fresh started new ps (written fresh.form file_header) (Adds-form taken failures fresh started first _ begun) (HoldsPrefix-write fresh fresh started first [] (written fresh.form file_header) (HoldsPrefix-none fresh) begun) put)

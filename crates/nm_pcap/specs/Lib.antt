@@ -1,3 +1,4 @@
 pub mod Format
+pub mod Writing
 pub mod Writer
 pub mod Outcome

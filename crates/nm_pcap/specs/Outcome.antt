@@ -7,6 +7,7 @@ use Rattle.nm_pcap.specs.declared.writer.PcapFault.{PcapFault}
 use Rattle.nm_pcap.specs.declared.writer.PcapFault.TheVariants.{File, Failed}
 use Rattle.nm_pcap.specs.Format.{record_octets}
 use Rattle.nm_pcap.specs.Writer.{Writer}
+use Rattle.nm_pcap.specs.Writing.{written}
 
 module _ {W : Type 0} (taken : W → Option (List ℕ)) (failures : W → ℕ) (old new : Writer W) where
   -- all the octets were written
@@ -16,6 +17,7 @@ module _ {W : Type 0} (taken : W → Option (List ℕ)) (failures : W → ℕ) (
     pub no_fault : failures new.sink ≡ failures old.sink
     pub count : new.written ≡ saturated (old.written + length octets)
     pub still_sound : new.failed ≡ false
+    pub same_form : new.form ≡ old.form
 
   -- the sink failed in this call, when it had taken a part of the octets, from the front
   pub record AddedPart (octets : List ℕ) (written : ℕ) : Type 0 where
@@ -27,6 +29,7 @@ module _ {W : Type 0} (taken : W → Option (List ℕ)) (failures : W → ℕ) (
     pub count : new.written ≡ saturated (old.written + part)
     pub told : written ≡ new.written
     pub over : new.failed ≡ true
+    pub same_form : new.form ≡ old.form
 
   -- the sink had failed before, and nothing was written
   pub record AddedNothing : Type 0 where
@@ -50,4 +53,4 @@ module _ {W : Type 0} (taken : W → Option (List ℕ)) (failures : W → ℕ) (
 abbrev pub Puts : {W : Type 0} → (W → Option (List ℕ)) → (W → ℕ) → Writer W → List (Record (List ℕ) × Result Unit PcapFault) → Writer W → Type 0
 Puts taken failures old [] new = new ≡ old
 Puts {W = W} taken failures old (p ∷ ps) new =
-    (mid : Writer W) × Adds taken failures old mid p.1 (record_octets p.0) × Puts taken failures mid ps new
+    (mid : Writer W) × Adds taken failures old mid p.1 (written old.form (record_octets p.0)) × Puts taken failures mid ps new

@@ -6,6 +6,7 @@ ghost use Rattle.nm_pcap.specs.declared.writer.PcapFault.{PcapFault};
 ghost use Rattle.nm_pcap.specs.Format.{file_header, record_octets, pcap};
 ghost use Rattle.nm_pcap.specs.Outcome.{HoldsPrefix, Puts, Adds};
 ghost use Rattle.nm_pcap.specs.Writer.{Writer};
+ghost use Rattle.nm_pcap.specs.Writing.{written};
 
 /// A file begins with its header, and one more record adds that record's octets at its end.
 pub fn file_grows()
@@ -14,11 +15,13 @@ pub fn file_grows()
         → pcap (records ++ r ∷ []) ≡ pcap records ++ record_octets r }
 {}
 
-/// After `start` and any `put`s, whatever they answered, the octets that the sink took are a prefix of the file of the
-/// records put, and all of it as long as the sink has not failed.
+/// After `start` and any `put`s, whatever they answered, the octets that the sink took are a prefix
+/// of the file of the records put, in its form, and all of it as long as the sink has not failed.
 pub fn file_is_a_prefix<W>()
-    ensures { (taken : W → Option (List ℕ)) (failures : W → ℕ) (fresh started new : Writer W) (first : Result Unit PcapFault)
-        (puts : List (Record (List ℕ) × Result Unit PcapFault))
-        → Adds taken failures fresh started first file_header → Puts taken failures started puts new
-        → HoldsPrefix taken failures fresh new (pcap (map (λ p. p.0) puts)) }
+    ensures { (taken : W → Option (List ℕ)) (failures : W → ℕ) (fresh started new : Writer W)
+        (first : Result Unit PcapFault) (puts : List (Record (List ℕ) × Result Unit PcapFault))
+        → Adds taken failures fresh started first (written fresh.form file_header)
+        → Puts taken failures started puts new
+        → HoldsPrefix taken failures fresh new
+        (written fresh.form (pcap (map (λ p. p.0) puts))) }
 {}

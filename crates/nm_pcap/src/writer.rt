@@ -1,21 +1,31 @@
 //! A trace file as it is written.
 
-ghost use Rattle.std.specs.Prelude.{◌≡◌, ◌≤◌, ◌++◌, false};
+ghost use Rattle.std.specs.Prelude.{◌≡◌, ◌≤◌, ◌<◌, ◌^◌, ◌++◌, false, length, if◌then◌else◌, Err, Ok};
+ghost use Rattle.hex.specs.Hex.{encode_lower};
 ghost use Rattle.nm_base.specs.declared.limits.TheConstants.{MAX_TIME};
+ghost use Rattle.nm_pcap.specs.declared.form.Form.TheVariants.{Octets};
+ghost use Rattle.nm_pcap.specs.declared.writer.PcapFault.TheVariants.{Failed};
 ghost use Rattle.nm_pcap.specs.Format.{file_header, record_octets};
 ghost use Rattle.nm_pcap.specs.Outcome.{Adds};
+ghost use Rattle.nm_pcap.specs.Writing.{ending, written};
 
+use crate::form::Form;
 use crate::format::{file_header_octets, record_header_octets};
 use nm_base::sink::{CutShort, write_all};
 use nm_base::{Record, Sink};
 use std::marker::Model;
 use thiserror::Error;
 
+/// Octets that are turned into hexadecimal at a time.
+const CHUNK_OCTETS: usize = 1_024;
+
+const CHUNK_DIGITS: usize = 2_048;
+
 /// Why a trace file was not written on.
 #[derive(Clone, Copy, Debug, PartialEq, Eq, Error)]
 pub enum PcapFault {
-    /// The sink failed in this call. It has taken so many octets of the file in all, which stops at 2^64 - 1, and no later
-    /// call writes.
+    /// The sink failed in this call. It has taken so many octets in all, which stops at 2^64 - 1,
+    /// and no later call writes.
     #[error("the trace file failed after {written} octets")]
     File { written: u64 },
     /// The sink failed in an earlier call. Nothing was written.
@@ -23,30 +33,49 @@ pub enum PcapFault {
     Failed,
 }
 
-/// Writes one trace file to a sink: `start`, and then `put` for each record. No call takes memory. A clause sees the sink,
-/// the number of octets written, and whether the sink has failed.
+/// Writes one trace file to a sink: `start`, then `put` for each record, and `end`. No call takes
+/// memory. A clause sees the sink, the form of the file, the number of octets that the sink took,
+/// and whether it has failed.
 #[derive(Drop)]
 pub struct PcapOut<W> {
     sink: W,
+    form: Form,
     written: u64,
     failed: bool,
 }
 
 impl<W> Model for PcapOut<W> {
+    ghost use Rattle.std.specs.Prelude.{◌<◌, ◌^◌};
     ghost use Rattle.nm_pcap.specs.Writer.{Writer};
 
     ghost Value = { Writer W };
 
-    ghost view = { λ p. record { sink = p.sink; written = p.written; failed = p.failed } };
+    ghost view = { λ p. record {
+      sink = p.sink;
+      form = p.form;
+      written = p.written;
+      failed = p.failed;
+    } };
+
+    ghost invariant = { λ p. p.written < 2 ^ 64 };
 }
 
-impl<W: Sink> PcapOut<W> {
-    /// Takes the sink, and writes nothing.
+impl<W> PcapOut<W> {
+    /// Takes the sink of a file whose octets are written as they are, and writes nothing.
     pub fn new(sink: W) -> Self
-        ensures { result ≡ record { sink = sink; written = 0; failed = false } }
+        ensures { result
+            ≡ record { sink = sink; form = Octets; written = 0; failed = false } }
+    {
+        PcapOut::in_form(sink, Form::Octets)
+    }
+
+    /// Takes the sink of a file that is written in a form, and writes nothing.
+    pub fn in_form(sink: W, form: Form) -> Self
+        ensures { result ≡ record { sink = sink; form = form; written = 0; failed = false } }
     {
         PcapOut {
             sink,
+            form,
             written: 0,
             failed: false,
         }
@@ -59,6 +88,13 @@ impl<W: Sink> PcapOut<W> {
         &self.sink
     }
 
+    /// Gives the sink back.
+    pub fn into_sink(self) -> W
+        ensures { result ≡ self.sink }
+    {
+        self.sink
+    }
+
     /// Whether the sink has failed.
     pub fn has_failed(&self) -> bool
         ensures { result ≡ self.now.failed }
@@ -66,13 +102,28 @@ impl<W: Sink> PcapOut<W> {
         self.failed
     }
 
+    /// Whether the file may be written on.
+    fn check(&self) -> Result<(), PcapFault>
+        ensures value { result ≡ if self.now.failed then Err Failed else Ok tt }
+        ensures few { self.now.written < 2 ^ 64 }
+    {
+        if self.failed {
+            return Err(PcapFault::Failed);
+        }
+        Ok(())
+    }
+}
+
+impl<W: Sink> PcapOut<W> {
     /// Writes the file header. It is called once, before any `put`.
     ///
     /// # Errors
     ///
-    /// `File` where the sink failed in this call: it took a prefix of the header. `Failed` where it had failed before.
+    /// `File` where the sink failed in this call: it took a prefix of the header. `Failed` where it
+    /// had failed before.
     pub fn start(&mut self) -> Result<(), PcapFault>
-        ensures { Adds W.taken W.failures self.old self.new result file_header }
+        ensures { Adds W.taken W.failures self.old self.new result
+            (written self.old.form file_header) }
     {
         self.write(&file_header_octets())
     }
@@ -81,30 +132,82 @@ impl<W: Sink> PcapOut<W> {
     ///
     /// # Errors
     ///
-    /// `File` where the sink failed in this call: it took a prefix of the record. `Failed` where it had failed before.
+    /// `File` where the sink failed in this call: it took a prefix of the record. `Failed` where it
+    /// had failed before.
     pub fn put(&mut self, record: &Record) -> Result<(), PcapFault>
         requires { «record».now.time ≤ MAX_TIME }
-        ensures { Adds W.taken W.failures self.old self.new result (record_octets «record».now) }
+        ensures { Adds W.taken W.failures self.old self.new result
+            (written self.old.form (record_octets «record».now)) }
     {
         let header = record_header_octets(record.time, record.packet.octet_count() as u32);
         self.write_two(&header, record.packet.octets())
     }
 
-    /// Writes these octets, and then those.
+    /// Writes what stands after the last record in the file's form. It is called once, after all
+    /// `put`s.
+    ///
+    /// # Errors
+    ///
+    /// `File` where the sink failed in this call. `Failed` where it had failed before.
+    pub fn end(&mut self) -> Result<(), PcapFault>
+        ensures { Adds W.taken W.failures self.old self.new result (ending self.old.form) }
+    {
+        match self.form {
+            Form::Octets => self.write_whole(b""),
+            Form::Hexadecimal => self.write_whole(b"\n"),
+        }
+    }
+
+    /// Writes these octets, and then those, in the file's form.
     fn write_two(&mut self, first: &[u8], second: &[u8]) -> Result<(), PcapFault>
-        ensures { Adds W.taken W.failures self.old self.new result (first.now ++ second.now) }
+        ensures { Adds W.taken W.failures self.old self.new result
+            (written self.old.form (first.now ++ second.now)) }
     {
         self.write(first)?;
         self.write(second)
     }
 
-    /// Writes these octets.
+    /// Writes these octets in the file's form.
     fn write(&mut self, octets: &[u8]) -> Result<(), PcapFault>
+        ensures { Adds W.taken W.failures self.old self.new result
+            (written self.old.form octets.now) }
+    {
+        match self.form {
+            Form::Octets => self.write_whole(octets),
+            Form::Hexadecimal => self.write_hexadecimal(octets),
+        }
+    }
+
+    /// Writes these octets as lower-case hexadecimal, a chunk at a time.
+    fn write_hexadecimal(&mut self, octets: &[u8]) -> Result<(), PcapFault>
+        ensures { Adds W.taken W.failures self.old self.new result (encode_lower octets.now) }
+    {
+        self.check()?;
+        let mut at = 0;
+        while at < octets.len() {
+            let count = (octets.len() - at).min(CHUNK_OCTETS);
+            self.write_chunk(&octets[at..at + count])?;
+            at += count;
+        }
+        Ok(())
+    }
+
+    /// Writes at most 1,024 octets as lower-case hexadecimal.
+    fn write_chunk(&mut self, octets: &[u8]) -> Result<(), PcapFault>
+        requires { length octets.now ≤ CHUNK_OCTETS }
+        ensures { Adds W.taken W.failures self.old self.new result (encode_lower octets.now) }
+    {
+        let mut digits = [0; CHUNK_DIGITS];
+        let digits = &mut digits[..2 * octets.len()];
+        hex::encode_to_slice(octets, digits).unwrap();
+        self.write_whole(digits)
+    }
+
+    /// Writes these octets as they are.
+    fn write_whole(&mut self, octets: &[u8]) -> Result<(), PcapFault>
         ensures { Adds W.taken W.failures self.old self.new result octets.now }
     {
-        if self.failed {
-            return Err(PcapFault::Failed);
-        }
+        self.check()?;
         match write_all(&mut self.sink, octets) {
             Ok(()) => {
                 self.written = self.written.saturating_add(octets.len() as u64);

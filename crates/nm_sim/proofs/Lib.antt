@@ -16,3 +16,4 @@ pub mod Stepping
 mod Steps
 mod Tables
 mod Takings
+mod Tracings

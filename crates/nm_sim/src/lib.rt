@@ -11,6 +11,8 @@ pub mod part;
 mod records;
 mod timeline;
 pub mod trace;
+pub mod tracer;
 
 pub use part::Part;
 pub use trace::one_list;
+pub use tracer::Tracer;

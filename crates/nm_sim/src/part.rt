@@ -224,7 +224,7 @@ impl<L: EventList> Part<L> {
     }
 
     /// Does an event as `step` does, and answers whether there was one.
-    pub(crate) fn advance(
+    pub fn advance(
         &mut self,
         alloc: Global,
         topology: &Topology,

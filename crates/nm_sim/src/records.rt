@@ -14,6 +14,9 @@ use nm_pcap::format::{FILE_HEADER_OCTETS, RECORD_HEADER_OCTETS};
 use std::alloc::{AllocError, Global};
 use std::marker::Model;
 
+/// A list of so many records at most moves up when the first is taken: those of one event.
+const FEW_RECORDS: usize = 2;
+
 /// The records of a trace, in the order of events. Those that were handed out, from the first on,
 /// are not kept.
 #[derive(Drop)]
@@ -165,7 +168,8 @@ impl Records {
         Some(first)
     }
 
-    /// Takes the first record out. A blank stands in its place.
+    /// Takes the first record out. Of a short list the others move up; else a blank stands in its
+    /// place.
     fn take_first(&mut self) -> Record
         requires there { 1 ≤ length self.old.kept }
         requires few { self.old.handed + length self.old.kept < 2 ^ 64 }
@@ -173,11 +177,14 @@ impl Records {
         ensures kept { self.new.kept ≡ drop 1 self.old.kept }
         ensures handed { self.new.handed ≡ self.old.handed + 1 }
         ensures totals { self.new.totals ≡ self.old.totals }
-        ensures spare { self.new.spare ≡ self.old.spare }
+        ensures spare { self.old.spare ≤ self.new.spare }
     {
+        self.handed += 1;
+        if self.blanks == 0 && self.list.len() <= FEW_RECORDS {
+            return self.list.remove(0);
+        }
         let first = std::mem::replace(&mut self.list[self.blanks], blank());
         self.blanks += 1;
-        self.handed += 1;
         first
     }
 
@@ -188,7 +195,7 @@ impl Records {
         ensures spare { self.old.spare ≤ self.new.spare }
     {
         let count = self.list.len() - self.blanks;
-        if self.blanks >= count {
+        if self.blanks > 0 && self.blanks >= count {
             self.list.rotate_left(self.blanks);
             self.list.truncate(count);
             self.blanks = 0;

@@ -1,6 +1,7 @@
 //! The trace of a network.
 
-ghost use Rattle.std.specs.Prelude.{◌≡◌, ℕ, ◌≤◌, None, min, IfOk, OnOk};
+ghost use Rattle.std.specs.Prelude.{◌≡◌, ℕ, ◌≤◌, None, List, min, IfOk, OnOk};
+ghost use Rattle.nm_base.specs.declared.record.Record.{Record as TraceRecord};
 ghost use Rattle.nm_events.specs.Held.{pending_of};
 ghost use Rattle.nm_model.specs.Before.{IsBefore};
 ghost use Rattle.nm_model.specs.Run.{one_list};
@@ -8,11 +9,25 @@ ghost use Rattle.nm_sim.specs.Network.{net_of};
 ghost use Rattle.nm_sim.specs.Part.{Represents};
 ghost use Rattle.nm_sim.specs.Trace.{IsTraceBefore};
 
+use crate::network::every_topology_is_a_network;
 use crate::part::{MAX_STEPS, Part};
-use nm_base::{Record, Time};
+use nm_base::{Packet, Record, Time};
 use nm_events::SortedList;
+use nm_forward::NodeState;
+use nm_model::run::times_pass;
 use nm_topology::Topology;
 use std::alloc::{AllocError, Global};
+
+/// Each network has one trace before a time.
+pub fn every_topology_has_a_trace(topology: &Topology)
+    ensures there { (until : ℕ) → (r : List (TraceRecord (List ℕ)))
+        × IsTraceBefore topology.now until r }
+    ensures one { (until : ℕ) (a b : List (TraceRecord (List ℕ)))
+        → IsTraceBefore topology.now until a → IsTraceBefore topology.now until b → a ≡ b }
+{
+    every_topology_is_a_network(topology); // law: `net_of` is a network of the model
+    times_pass::<Packet, NodeState>(); // law: each time is passed after one number of events
+}
 
 /// The earlier of two moments.
 fn earlier(a: Time, b: Time) -> Time

@@ -1,0 +1,6 @@
+use Rattle.nm_events.specs.Held.{pending_of}
+use Rattle.nm_sim.specs.Trace.{IsTracing}
+use Rattle.nm_bench.proofs.network.let_go.Given as goal
+
+abbrev pub invariant-loop-count : goal.invariant-loop-count
+invariant-loop-count l = IsTracing pending_of l.topology l.tracer
