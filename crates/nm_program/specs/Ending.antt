@@ -10,7 +10,9 @@ use Rattle.nm_command.specs.declared.status.Status.{Status}
 use Rattle.nm_command.specs.declared.status.Status.TheVariants.{Done, Usage, NoInterface, Topology, File, Memory}
 use Rattle.nm_command.specs.Command.{CommandValue}
 use Rattle.nm_program.specs.declared.input.TheConstants.{MAX_INPUT_OCTETS}
-use Rattle.nm_program.specs.Writing.{WroteAll, WrotePrefix}
+use Rattle.nm_program.specs.declared.trace_file.TraceFault.{TraceFault}
+use Rattle.nm_program.specs.declared.trace_file.TraceFault.TheVariants.{Sink, Memory as NoMemory}
+use Rattle.nm_program.specs.Writing.{WroteAll, WrotePart, WrotePrefix}
 use Rattle.nm_program.specs.TraceFile.{trace_file}
 
 -- the number of the interface that a command names, which is 0 where it names none
@@ -45,13 +47,20 @@ module _ {S : Type 0} (taken : S → Option (List ℕ)) (failures : S → ℕ) (
   EndsCommand File = ((failed ≡ failed_before + 1) × (new ≡ old))
       ⊎ (IfSome (told command.topology) (λ t. MAX_INPUT_OCTETS < length t) × (new ≡ old))
       ⊎ ((text : List ℕ) × IsInput (told command.topology) text × ((octets : List ℕ) × IsAnswer command text octets × WrotePrefix taken failures old new octets))
-  EndsCommand Memory = new ≡ old
+  EndsCommand Memory = (new ≡ old)
+      ⊎ ((text : List ℕ) × IsInput (told command.topology) text × ((octets : List ℕ) × IsAnswer command text octets × WrotePart taken failures old new octets))
 
 -- the same of words: those of no command are `Usage`, and no others are
 module _ {S : Type 0} (taken : S → Option (List ℕ)) (failures : S → ℕ) (told : List ℕ → Option (List ℕ)) (failed_before failed : ℕ) (old new : S) where
   abbrev pub Ends : Option CommandValue → Status → Type 0
   Ends None status = (status ≡ Usage) × (failed ≡ failed_before) × (new ≡ old)
   Ends (Some command) status = EndsCommand taken failures told failed_before failed old new command status
+
+-- the status of a command whose trace file was written, or was not
+abbrev pub outcome_status : Result Unit TraceFault → Status
+outcome_status (Ok _) = Done
+outcome_status (Err Sink) = File
+outcome_status (Err NoMemory) = Memory
 
 -- the status once the output was handed on, or was not: what was written is no more than held back then
 abbrev pub handed_on : Bool → Status → Status

@@ -5,7 +5,6 @@ pub mod input;
 pub mod inputs;
 pub mod program;
 pub mod trace_file;
-pub mod writing;
 
 pub use input::NamedInputs;
 pub use inputs::Inputs;

@@ -1,28 +1,25 @@
 //! The program: words and inputs in, octets and a status out.
 
-ghost use Rattle.std.specs.Prelude.{◌≡◌, ◌≤◌, ◌<◌, All, IfSome, length, map, option_map, position, string_bytes};
+ghost use Rattle.std.specs.Prelude.{◌≡◌, ◌<◌, IfSome, length, map, option_map, position, string_bytes};
 ghost use Rattle.std.specs.Io.KnownBytes.{Appends};
 ghost use Rattle.std.specs.Str.{bytes_eq};
-ghost use Rattle.nm_base.specs.declared.limits.TheConstants.{MAX_TIME};
 ghost use Rattle.nm_command.specs.Command.{command_of, command_value};
 ghost use Rattle.nm_command.specs.Status.{line_of};
-ghost use Rattle.nm_sim.specs.Trace.{IsTraceBefore};
-ghost use Rattle.nm_program.specs.Ending.{Ends, EndsCommand, ReadsTopology, handed_on, iface_named};
+ghost use Rattle.nm_program.specs.Ending.{Ends, EndsCommand, ReadsTopology, handed_on, iface_named, outcome_status};
 ghost use Rattle.nm_program.specs.Input.{text_of};
 ghost use Rattle.nm_command.specs.declared.status.Status.TheVariants.{Done, File};
 
 use crate::input::{InputFault, NamedInputs};
 use crate::inputs::Inputs;
-use crate::trace_file::write_trace_file;
+use crate::trace_file::{TraceFault, write_trace_file};
 use nm_base::sink::write_all;
-use nm_base::{IfaceNo, Record, Sink};
+use nm_base::{IfaceNo, Sink};
 use nm_command::{Command, Status};
-use nm_sim::one_list;
+use nm_sim::trace::every_topology_has_a_trace;
 use nm_topology::parts::Iface;
 use nm_topology::topology::accepted_topologies_are_in_order;
 use nm_topology::{TopoFault, Topology};
 use std::alloc::Global;
-use std::mem;
 
 /// Does what the words say, and gives the sink back. The topology is the input that the words
 /// name. The trace file goes to `out` as it is made, and a line to `errors` where the program is
@@ -44,10 +41,9 @@ pub fn run<I: Inputs, O: Sink + Drop, E: Sink>(
     ensures line { E.failures errors.new ≡ E.failures errors.old
         → Appends (E.taken errors.old) (E.taken errors.new) (line_of result.0) }
 {
-    let mut out = out;
-    let status = match Command::of(words) {
-        Some(command) => perform(alloc, command, inputs, &mut out),
-        None => Status::Usage,
+    let (status, out) = match Command::of(words) {
+        Some(command) => perform(alloc, command, inputs, out),
+        None => (Status::Usage, out),
     };
     (report(status, errors), out)
 }
@@ -76,36 +72,38 @@ pub fn conclude<E: Sink>(status: Status, handed: bool, errors: &mut E) -> Status
     }
 }
 
-/// Writes the trace file that a command asks for. The trace's memory is left to the end of the
-/// process.
-fn perform<I: Inputs, O: Sink>(
+/// Writes the trace file that a command asks for.
+fn perform<I: Inputs, O: Sink + Drop>(
     alloc: Global,
     command: Command<'_>,
     inputs: &mut NamedInputs<I>,
-    out: &mut O,
-) -> Status
+    out: O,
+) -> (Status, O)
     ensures { EndsCommand O.taken O.failures
         (text_of I.standard_text I.file_text inputs.old.inputs)
         inputs.old.failures inputs.new.failures
-        out.old out.new (command_value command.entry) result }
+        out result.1 (command_value command.entry) result.0 }
 {
     let topology = match read_topology(alloc, inputs, command.topology) {
         Ok(topology) => topology,
-        Err(status) => return status,
+        Err(status) => return (status, out),
     };
     let Some(iface) = find_iface(&topology, command.iface) else {
-        return Status::NoInterface;
+        return (Status::NoInterface, out);
     };
-    let Some(records) = trace(alloc, &topology) else {
-        return Status::Memory;
-    };
-    let written = write_trace_file(command.form, iface, records.as_slice(), out);
-    // The process ends next, and its memory goes back as a whole: packet by packet that takes a
-    // twentieth of a run's time.
-    mem::forget(records);
-    match written {
+    every_topology_has_a_trace(&topology); // law: there is an answer, also where it is not written
+    let (outcome, out) = write_trace_file(alloc, &topology, command.form, iface, out);
+    (status_of(outcome), out)
+}
+
+/// The status of a command whose trace file was written, or was not.
+fn status_of(outcome: Result<(), TraceFault>) -> Status
+    ensures { result ≡ outcome_status outcome }
+{
+    match outcome {
         Ok(()) => Status::Done,
-        Err(_) => Status::File,
+        Err(TraceFault::Sink) => Status::File,
+        Err(TraceFault::Memory) => Status::Memory,
     }
 }
 
@@ -156,13 +154,4 @@ fn index_of(ifaces: &[Iface], name: &str) -> Option<usize>
     ensures within { IfSome result (λ n. n < length ifaces.now) }
 {
     ifaces.iter().position(|iface| iface.name() == name)
-}
-
-/// The whole trace, or `None` where memory was refused.
-fn trace(alloc: Global, topology: &Topology) -> Option<Vec<Record>>
-    ensures trace { IfSome result (λ r. IsTraceBefore topology.now topology.now.stop r.items) }
-    ensures times { IfSome result (λ r. All (λ x. x.time ≤ MAX_TIME) r.items) }
-{
-    accepted_topologies_are_in_order(topology); // law: `stop` is within its limit
-    one_list(alloc, topology, topology.stop()).ok()
 }
