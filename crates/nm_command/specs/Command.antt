@@ -2,8 +2,8 @@
 use Rattle.std.specs.Prelude.{ℕ, if◌then◌else◌, List, [], ◌∷◌, codes, Option, Some, None, option_map}
 use Rattle.std.specs.Str.{bytes_eq}
 use Rattle.nm_command.specs.declared.command.Command.{Command}
-use Rattle.nm_command.specs.declared.command.Form.{Form}
-use Rattle.nm_command.specs.declared.command.Form.TheVariants.{Octets, Hexadecimal}
+use Rattle.nm_pcap.specs.declared.form.Form.{Form}
+use Rattle.nm_pcap.specs.declared.form.Form.TheVariants.{Octets, Hexadecimal}
 
 -- how a trace file is written, the name of the topology, and the name of the interface, if it has one
 pub record CommandValue : Type 0 where

@@ -4,28 +4,19 @@ ghost use Rattle.std.specs.Prelude.{◌≡◌, map, option_map, string_bytes};
 ghost use Rattle.std.specs.Str.{bytes_eq};
 ghost use Rattle.nm_command.specs.Command.{command_of, command_value, form_of};
 
-/// How the octets of a trace file are written.
-#[derive(Clone, Copy, Debug, PartialEq, Eq)]
-pub enum Form {
-    /// As they are.
-    Octets,
-    /// As lower-case hexadecimal, and a line feed at the end.
-    Hexadecimal,
-}
+use nm_pcap::Form;
 
-impl Form {
-    /// The form that a command's first word asks for.
-    fn of(word: &str) -> Option<Form>
-        ensures { result ≡ form_of word.now }
-    {
-        if word == "one" {
-            return Some(Form::Octets);
-        }
-        if word == "onehex" {
-            return Some(Form::Hexadecimal);
-        }
-        None
+/// The form that a command's first word asks for.
+fn form_of(word: &str) -> Option<Form>
+    ensures { result ≡ form_of word.now }
+{
+    if word == "one" {
+        return Some(Form::Octets);
     }
+    if word == "onehex" {
+        return Some(Form::Hexadecimal);
+    }
+    None
 }
 
 /// What the program is to do: to write the trace file of one interface. A clause sees the names as
@@ -53,12 +44,12 @@ impl<'a> Command<'a> {
                 iface: None,
             }),
             [word, topology] => Some(Command {
-                form: Form::of(word.as_str())?,
+                form: form_of(word.as_str())?,
                 topology: topology.as_str(),
                 iface: None,
             }),
             [word, topology, iface] => Some(Command {
-                form: Form::of(word.as_str())?,
+                form: form_of(word.as_str())?,
                 topology: topology.as_str(),
                 iface: Some(iface.as_str()),
             }),

@@ -4,5 +4,6 @@
 pub mod command;
 pub mod status;
 
-pub use command::{Command, Form};
+pub use command::Command;
+pub use nm_pcap::Form;
 pub use status::Status;

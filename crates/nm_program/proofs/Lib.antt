@@ -2,3 +2,4 @@ pub mod Pieces
 pub mod Records
 pub mod Texts
 pub mod Times
+pub mod Endings

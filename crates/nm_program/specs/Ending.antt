@@ -10,7 +10,9 @@ use Rattle.nm_command.specs.declared.status.Status.{Status}
 use Rattle.nm_command.specs.declared.status.Status.TheVariants.{Done, Usage, NoInterface, Topology, File, Memory}
 use Rattle.nm_command.specs.Command.{CommandValue}
 use Rattle.nm_program.specs.declared.input.TheConstants.{MAX_INPUT_OCTETS}
-use Rattle.nm_program.specs.Writing.{WroteAll, WrotePrefix}
+use Rattle.nm_program.specs.declared.trace_file.TraceFault.{TraceFault}
+use Rattle.nm_program.specs.declared.trace_file.TraceFault.TheVariants.{Sink, Memory as NoMemory}
+use Rattle.nm_program.specs.Writing.{WroteAll, WrotePart, WrotePrefix}
 use Rattle.nm_program.specs.TraceFile.{trace_file}
 
 -- the number of the interface that a command names, which is 0 where it names none
@@ -33,32 +35,39 @@ pub record IsAnswer (command : CommandValue) (text octets : List ℕ) : Type 0 w
   pub trace : IsTraceBefore network network.stop records
   pub file : octets ≡ trace_file command.form iface records
 
--- What each status says of a command. The input tells this text, if it does, and failed so often before and after; the sink was old and
--- is new.
-module _ {S : Type 0} (taken : S → Option (List ℕ)) (failures : S → ℕ) (told : Option (List ℕ)) (failed_before failed : ℕ) (old new : S) (command : CommandValue) where
+-- What each status says of a command. The inputs tell what the input of a name has, if they do, and failed so often before and after;
+-- the sink was old and is new.
+module _ {S : Type 0} (taken : S → Option (List ℕ)) (failures : S → ℕ) (told : List ℕ → Option (List ℕ)) (failed_before failed : ℕ) (old new : S) (command : CommandValue) where
   abbrev pub EndsCommand : Status → Type 0
-  EndsCommand Done = (text : List ℕ) × IsInput told text × ((octets : List ℕ) × IsAnswer command text octets × WroteAll taken failures old new octets)
+  EndsCommand Done = (text : List ℕ) × IsInput (told command.topology) text × ((octets : List ℕ) × IsAnswer command text octets × WroteAll taken failures old new octets)
   EndsCommand Usage = ⊥
-  EndsCommand NoInterface = (text : List ℕ) × IsInput told text × ((network : TopologyValue) × (topology_of text ≡ Ok network)
+  EndsCommand NoInterface = (text : List ℕ) × IsInput (told command.topology) text × ((network : TopologyValue) × (topology_of text ≡ Ok network)
       × (iface_named network.ifaces command.iface ≡ None) × (new ≡ old))
-  EndsCommand (Topology refusal) = (text : List ℕ) × IsInput told text × (topology_of text ≡ Err refusal) × (new ≡ old)
+  EndsCommand (Topology refusal) = (text : List ℕ) × IsInput (told command.topology) text × (topology_of text ≡ Err refusal) × (new ≡ old)
   EndsCommand File = ((failed ≡ failed_before + 1) × (new ≡ old))
-      ⊎ (IfSome told (λ t. MAX_INPUT_OCTETS < length t) × (new ≡ old))
-      ⊎ ((text : List ℕ) × IsInput told text × ((octets : List ℕ) × IsAnswer command text octets × WrotePrefix taken failures old new octets))
-  EndsCommand Memory = new ≡ old
+      ⊎ (IfSome (told command.topology) (λ t. MAX_INPUT_OCTETS < length t) × (new ≡ old))
+      ⊎ ((text : List ℕ) × IsInput (told command.topology) text × ((octets : List ℕ) × IsAnswer command text octets × WrotePrefix taken failures old new octets))
+  EndsCommand Memory = (new ≡ old)
+      ⊎ ((text : List ℕ) × IsInput (told command.topology) text × ((octets : List ℕ) × IsAnswer command text octets × WrotePart taken failures old new octets))
 
 -- the same of words: those of no command are `Usage`, and no others are
-module _ {S : Type 0} (taken : S → Option (List ℕ)) (failures : S → ℕ) (told : Option (List ℕ)) (failed_before failed : ℕ) (old new : S) where
+module _ {S : Type 0} (taken : S → Option (List ℕ)) (failures : S → ℕ) (told : List ℕ → Option (List ℕ)) (failed_before failed : ℕ) (old new : S) where
   abbrev pub Ends : Option CommandValue → Status → Type 0
-  Ends None status = (status ≡ Usage) × (new ≡ old)
+  Ends None status = (status ≡ Usage) × (failed ≡ failed_before) × (new ≡ old)
   Ends (Some command) status = EndsCommand taken failures told failed_before failed old new command status
+
+-- the status of a command whose trace file was written, or was not
+abbrev pub outcome_status : Result Unit TraceFault → Status
+outcome_status (Ok _) = Done
+outcome_status (Err Sink) = File
+outcome_status (Err NoMemory) = Memory
 
 -- the status once the output was handed on, or was not: what was written is no more than held back then
 abbrev pub handed_on : Bool → Status → Status
 handed_on false Done = File
 handed_on handed status = status
 
--- what the reading of a topology answers
+-- what the reading of a topology answers, of an input that may tell what it has
 module _ (told : Option (List ℕ)) (failed_before failed : ℕ) where
   abbrev pub ReadsTopology : Result TopologyValue Status → Type 0
   ReadsTopology (Ok network) = (text : List ℕ) × IsInput told text × (topology_of text ≡ Ok network)

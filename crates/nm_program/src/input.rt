@@ -1,11 +1,12 @@
-//! Inputs, which are read to their end.
+//! Inputs, which are opened by their names and read to their end.
 
 ghost use Rattle.std.specs.Prelude.{◌≡◌, ◌+◌, ◌<◌, ◌≤◌, Err, IfOk, IfSome, length};
 ghost use Rattle.std.specs.IoError.{error_kind};
-ghost use Rattle.nm_program.specs.Input.{IsFaultOf};
+ghost use Rattle.nm_program.specs.Input.{IsFaultOf, text_of};
 ghost use Rattle.nm_program.specs.declared.input.InputFault.TheVariants.{Failed, TooLong};
 ghost use Rattle.nm_program.specs.declared.input.TheConstants.{MAX_INPUT_OCTETS};
 
+use crate::inputs::Inputs;
 use nm_base::failures::FailureCount;
 use std::alloc::Global;
 use std::io::{ErrorKind, Read};
@@ -19,7 +20,7 @@ pub const MAX_INPUT_OCTETS: u64 = 67_108_864;
 /// Why an input was not read.
 #[derive(Clone, Copy, Debug, PartialEq, Eq, Error)]
 pub enum InputFault {
-    /// A read failed.
+    /// It could not be opened, or a read failed.
     Failed,
     /// There are more than 67,108,864 octets.
     TooLong,
@@ -44,55 +45,79 @@ impl fmt::Display for InputFault {
     }
 }
 
-/// An input over a reader of the standard library. A clause sees the reader and how often reading
-/// it has failed.
+/// Inputs that are read by their names. A clause sees where they come from, and how often one of
+/// them could not be opened or read.
 #[derive(Drop)]
-pub struct Input<R> {
-    reader: R,
+pub struct NamedInputs<I> {
+    inputs: I,
     failed: FailureCount,
 }
 
-impl<R> Model for Input<R> {
-    ghost use Rattle.nm_program.specs.Input.{ReaderInput};
+impl<I> Model for NamedInputs<I> {
+    ghost use Rattle.nm_program.specs.Input.{CountedInputs};
 
-    ghost Value = { ReaderInput R };
+    ghost Value = { CountedInputs I };
 
-    ghost view = { λ i. record { reader = i.reader; failures = i.failed.count } };
+    ghost view = { λ i. record { inputs = i.inputs; failures = i.failed.count } };
 }
 
-impl<R> Input<R> {
-    /// An input of which nothing was read so far.
-    pub fn new(reader: R) -> Self
-        ensures { result ≡ record { reader = reader; failures = 0 } }
+impl<I> NamedInputs<I> {
+    /// Inputs of which none was opened so far.
+    pub fn new(inputs: I) -> Self
+        ensures { result ≡ record { inputs = inputs; failures = 0 } }
     {
-        Input {
-            reader,
+        NamedInputs {
+            inputs,
             failed: FailureCount::new(),
         }
     }
 }
 
-impl<R: Read> Input<R> {
-    /// Reads all that is left, which may be as many as 67,108,864 octets.
+impl<I: Inputs> NamedInputs<I> {
+    /// Opens the input of a name, and reads all that it has, which may be as many as 67,108,864
+    /// octets. The input `-` is standard input, and each other is a file.
     ///
     /// # Errors
     ///
-    /// `Failed` where a read failed: the count of failures is one more, and else as it was.
-    /// `TooLong` where more octets are left. `Memory` where memory was refused.
-    pub fn read(&mut self, alloc: Global) -> Result<Vec<u8>, InputFault>
+    /// `Failed` where it could not be opened or a read failed: the count of failures is one more,
+    /// and else as it was. `TooLong` where it has more octets. `Memory` where memory was refused.
+    pub fn read(&mut self, alloc: Global, name: &str) -> Result<Vec<u8>, InputFault>
         ensures text { IfOk result
-            (λ octets. IfSome (R.remaining self.old.reader) (λ text. octets.items ≡ text)) }
+            (λ octets. IfSome (text_of I.standard_text I.file_text self.old.inputs name.now)
+            (λ text. octets.items ≡ text)) }
         ensures most { IfOk result (λ octets. length octets.items ≤ MAX_INPUT_OCTETS) }
         ensures failed { result ≡ Err Failed → self.new.failures ≡ self.old.failures + 1 }
         ensures kept { (result ≡ Err Failed → ⊥) → self.new.failures ≡ self.old.failures }
         ensures too_long { result ≡ Err TooLong
-            → IfSome (R.remaining self.old.reader) (λ text. MAX_INPUT_OCTETS < length text) }
+            → IfSome (text_of I.standard_text I.file_text self.old.inputs name.now)
+            (λ text. MAX_INPUT_OCTETS < length text) }
+        ensures same { self.new.inputs ≡ self.old.inputs }
     {
-        let octets = read_to_end(alloc, &mut self.reader);
+        let octets = read_named(alloc, &self.inputs, name);
         if let Err(InputFault::Failed) = octets {
             self.failed.rise();
         }
         octets
+    }
+}
+
+/// Opens the input of a name, and reads all that it has, which may be as many as 67,108,864 octets.
+fn read_named<I: Inputs>(alloc: Global, inputs: &I, name: &str) -> Result<Vec<u8>, InputFault>
+    ensures text { IfOk result
+        (λ octets. IfSome (text_of I.standard_text I.file_text inputs.now name.now)
+        (λ text. octets.items ≡ text)) }
+    ensures most { IfOk result (λ octets. length octets.items ≤ MAX_INPUT_OCTETS) }
+    ensures too_long { result ≡ Err TooLong
+        → IfSome (text_of I.standard_text I.file_text inputs.now name.now)
+        (λ text. MAX_INPUT_OCTETS < length text) }
+{
+    if name == "-" {
+        let mut standard = inputs.standard();
+        return read_to_end(alloc, &mut standard);
+    }
+    match inputs.open(name) {
+        Ok(mut file) => read_to_end(alloc, &mut file),
+        Err(error) => Err(fault_of(&error)),
     }
 }
 
@@ -111,7 +136,7 @@ fn read_to_end<R: Read>(alloc: Global, reader: &mut R) -> Result<Vec<u8>, InputF
     }
 }
 
-/// What the error of a read tells: that memory was refused, or that the read failed.
+/// What the error of an opening or a read tells: that memory was refused, or that it failed.
 fn fault_of(error: &io::Error) -> InputFault
     ensures { IsFaultOf (error_kind error.now) result }
 {

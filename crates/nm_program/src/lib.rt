@@ -1,10 +1,11 @@
-//! The program of nullsim as one function over words, an input and sinks.
+//! The program of nullsim as one function over words, inputs and sinks.
 #![tactic(auto)]
 
 pub mod input;
+pub mod inputs;
 pub mod program;
 pub mod trace_file;
-pub mod writing;
 
-pub use input::Input;
+pub use input::NamedInputs;
+pub use inputs::Inputs;
 pub use program::{conclude, report, run};

@@ -1,52 +1,51 @@
-//! The program: words and an input in, octets and a status out.
+//! The program: words and inputs in, octets and a status out.
 
-ghost use Rattle.std.specs.Prelude.{◌≡◌, ◌≤◌, ◌<◌, All, IfSome, length, map, option_map, position, string_bytes};
+ghost use Rattle.std.specs.Prelude.{◌≡◌, ◌<◌, IfSome, length, map, option_map, position, string_bytes};
 ghost use Rattle.std.specs.Io.KnownBytes.{Appends};
 ghost use Rattle.std.specs.Str.{bytes_eq};
-ghost use Rattle.nm_base.specs.declared.limits.TheConstants.{MAX_TIME};
 ghost use Rattle.nm_command.specs.Command.{command_of, command_value};
 ghost use Rattle.nm_command.specs.Status.{line_of};
-ghost use Rattle.nm_sim.specs.Trace.{IsTraceBefore};
-ghost use Rattle.nm_program.specs.Ending.{Ends, EndsCommand, ReadsTopology, handed_on, iface_named};
+ghost use Rattle.nm_program.specs.Ending.{Ends, EndsCommand, ReadsTopology, handed_on, iface_named, outcome_status};
+ghost use Rattle.nm_program.specs.Input.{text_of};
 ghost use Rattle.nm_command.specs.declared.status.Status.TheVariants.{Done, File};
 
-use crate::input::{Input, InputFault};
-use crate::trace_file::write_trace_file;
+use crate::input::{InputFault, NamedInputs};
+use crate::inputs::Inputs;
+use crate::trace_file::{TraceFault, write_trace_file};
 use nm_base::sink::write_all;
-use nm_base::{IfaceNo, Record, Sink};
+use nm_base::{IfaceNo, Sink};
 use nm_command::{Command, Status};
-use nm_sim::one_list;
+use nm_sim::trace::every_topology_has_a_trace;
 use nm_topology::parts::Iface;
 use nm_topology::topology::accepted_topologies_are_in_order;
 use nm_topology::{TopoFault, Topology};
 use std::alloc::Global;
-use std::io::Read;
-use std::mem;
 
-/// Does what the words say. The trace file goes to `out` as it is made, and a line to `errors`
-/// where the program is not done; where `errors` fails there is nobody to tell, and the status
-/// stays.
+/// Does what the words say, and gives the sink back. The topology is the input that the words
+/// name. The trace file goes to `out` as it is made, and a line to `errors` where the program is
+/// not done; where `errors` fails there is nobody to tell, and the status stays.
 ///
 /// The first of these decides: the words, the input, the topology, all else. Memory may be refused
-/// at any place.
-pub fn run<I: Read, O: Sink, E: Sink>(
+/// at any place. Words that are no command open no input.
+pub fn run<I: Inputs, O: Sink + Drop, E: Sink>(
     alloc: Global,
     words: &[String],
-    input: &mut Input<I>,
-    out: &mut O,
+    inputs: &mut NamedInputs<I>,
+    out: O,
     errors: &mut E,
-) -> Status
+) -> (Status, O)
     ensures ending { Ends O.taken O.failures
-        (I.remaining input.old.reader) input.old.failures input.new.failures
-        out.old out.new (command_of (map (λ w. string_bytes w) words.now)) result }
+        (text_of I.standard_text I.file_text inputs.old.inputs)
+        inputs.old.failures inputs.new.failures
+        out result.1 (command_of (map (λ w. string_bytes w) words.now)) result.0 }
     ensures line { E.failures errors.new ≡ E.failures errors.old
-        → Appends (E.taken errors.old) (E.taken errors.new) (line_of result) }
+        → Appends (E.taken errors.old) (E.taken errors.new) (line_of result.0) }
 {
-    let status = match Command::of(words) {
-        Some(command) => perform(alloc, command, input, out),
-        None => Status::Usage,
+    let (status, out) = match Command::of(words) {
+        Some(command) => perform(alloc, command, inputs, out),
+        None => (Status::Usage, out),
     };
-    report(status, errors)
+    (report(status, errors), out)
 }
 
 /// Ends with this status: says its line on `errors`.
@@ -73,44 +72,51 @@ pub fn conclude<E: Sink>(status: Status, handed: bool, errors: &mut E) -> Status
     }
 }
 
-/// Writes the trace file that a command asks for. The trace's memory is left to the end of the
-/// process.
-fn perform<I: Read, O: Sink>(
+/// Writes the trace file that a command asks for.
+fn perform<I: Inputs, O: Sink + Drop>(
     alloc: Global,
     command: Command<'_>,
-    input: &mut Input<I>,
-    out: &mut O,
-) -> Status
+    inputs: &mut NamedInputs<I>,
+    out: O,
+) -> (Status, O)
     ensures { EndsCommand O.taken O.failures
-        (I.remaining input.old.reader) input.old.failures input.new.failures
-        out.old out.new (command_value command.entry) result }
+        (text_of I.standard_text I.file_text inputs.old.inputs)
+        inputs.old.failures inputs.new.failures
+        out result.1 (command_value command.entry) result.0 }
 {
-    let topology = match read_topology(alloc, input) {
+    let topology = match read_topology(alloc, inputs, command.topology) {
         Ok(topology) => topology,
-        Err(status) => return status,
+        Err(status) => return (status, out),
     };
     let Some(iface) = find_iface(&topology, command.iface) else {
-        return Status::NoInterface;
+        return (Status::NoInterface, out);
     };
-    let Some(records) = trace(alloc, &topology) else {
-        return Status::Memory;
-    };
-    let written = write_trace_file(command.form, iface, records.as_slice(), out);
-    // The process ends next, and its memory goes back as a whole: packet by packet that takes a
-    // twentieth of a run's time.
-    mem::forget(records);
-    match written {
+    every_topology_has_a_trace(&topology); // law: there is an answer, also where it is not written
+    let (outcome, out) = write_trace_file(alloc, &topology, command.form, iface, out);
+    (status_of(outcome), out)
+}
+
+/// The status of a command whose trace file was written, or was not.
+fn status_of(outcome: Result<(), TraceFault>) -> Status
+    ensures { result ≡ outcome_status outcome }
+{
+    match outcome {
         Ok(()) => Status::Done,
-        Err(_) => Status::File,
+        Err(TraceFault::Sink) => Status::File,
+        Err(TraceFault::Memory) => Status::Memory,
     }
 }
 
-/// The topology whose text an input has. The text is let go.
-fn read_topology<I: Read>(alloc: Global, input: &mut Input<I>) -> Result<Topology, Status>
-    ensures { ReadsTopology
-        (I.remaining input.old.reader) input.old.failures input.new.failures result }
+/// The topology whose text the input of a name has. The text is let go.
+fn read_topology<I: Inputs>(
+    alloc: Global,
+    inputs: &mut NamedInputs<I>,
+    name: &str,
+) -> Result<Topology, Status>
+    ensures { ReadsTopology (text_of I.standard_text I.file_text inputs.old.inputs name.now)
+        inputs.old.failures inputs.new.failures result }
 {
-    let text = match input.read(alloc) {
+    let text = match inputs.read(alloc, name) {
         Ok(text) => text,
         Err(InputFault::Failed | InputFault::TooLong) => return Err(Status::File),
         Err(InputFault::Memory) => return Err(Status::Memory),
@@ -148,13 +154,4 @@ fn index_of(ifaces: &[Iface], name: &str) -> Option<usize>
     ensures within { IfSome result (λ n. n < length ifaces.now) }
 {
     ifaces.iter().position(|iface| iface.name() == name)
-}
-
-/// The whole trace, or `None` where memory was refused.
-fn trace(alloc: Global, topology: &Topology) -> Option<Vec<Record>>
-    ensures trace { IfSome result (λ r. IsTraceBefore topology.now topology.now.stop r.items) }
-    ensures times { IfSome result (λ r. All (λ x. x.time ≤ MAX_TIME) r.items) }
-{
-    accepted_topologies_are_in_order(topology); // law: `stop` is within its limit
-    one_list(alloc, topology, topology.stop()).ok()
 }

@@ -1,91 +1,162 @@
-//! The trace file of one interface, as it is written.
+//! The trace file of one interface, written as the network makes its records.
 
-ghost use Rattle.std.specs.Prelude.{◌≡◌, ◌≤◌, All, [], ◌∷◌, ◌++◌, flat_map};
+ghost use Rattle.std.specs.Prelude.{◌≡◌, ◌≤◌, ℕ, List, [], ◌∷◌, false, IfOk, IfSome};
 ghost use Rattle.nm_base.specs.declared.limits.TheConstants.{MAX_TIME};
-ghost use Rattle.nm_pcap.specs.Format.{record_octets};
-ghost use Rattle.nm_program.specs.Writing.{Writes, written};
-ghost use Rattle.nm_program.specs.TraceFile.{records_at, trace_file};
+ghost use Rattle.nm_base.specs.declared.record.Record.{Record as TraceRecord};
+ghost use Rattle.nm_events.specs.Held.{pending_of};
+ghost use Rattle.nm_pcap.specs.Format.{file_header};
+ghost use Rattle.nm_pcap.specs.Writing.{ending, written};
+ghost use Rattle.nm_sim.specs.Trace.{Hands, IsTraceBefore, IsTracing};
+ghost use Rattle.nm_program.specs.Writing.{Writes, WritesOn, sink_outcome};
+ghost use Rattle.nm_program.specs.TraceFile.{trace_file, written_at};
 
-use crate::writing::{WriteFault, write, write_ending};
 use nm_base::{IfaceNo, Record, Sink};
-use nm_command::Form;
-use nm_pcap::format::{file_header_octets, record_header_octets};
+use nm_pcap::{Form, PcapFault, PcapOut};
+use nm_sim::Tracer;
+use nm_sim::trace::every_topology_has_a_trace;
+use nm_topology::Topology;
+use nm_topology::topology::accepted_topologies_are_in_order;
+use std::alloc::{AllocError, Global};
+use thiserror::Error;
 
-/// Writes the trace file of an interface, record by record: those of these records that are at the
-/// interface.
+/// Why a trace file was not written to its end.
+#[derive(Clone, Copy, Debug, PartialEq, Eq, Error)]
+pub enum TraceFault {
+    /// The sink failed. It took a prefix of the file.
+    #[error("the sink failed")]
+    Sink,
+    /// Memory was refused. The sink took a prefix of the file, and did not fail.
+    #[error("out of memory")]
+    Memory,
+}
+
+/// Writes the trace file of an interface, and gives the sink back. The network runs as the file is
+/// written: each record is let go before the next is made.
 ///
 /// # Errors
 ///
-/// `WriteFault` where the sink failed: it took a prefix of the file.
-pub fn write_trace_file<S: Sink>(
+/// `Sink` where the sink failed: it took a prefix of the file. `Memory` where memory was refused:
+/// it took a prefix of the file then too.
+pub fn write_trace_file<S: Sink + Drop>(
+    alloc: Global,
+    topology: &Topology,
     form: Form,
     iface: IfaceNo,
-    records: &[Record],
-    sink: &mut S,
-) -> Result<(), WriteFault>
-    requires { All (λ r. r.time ≤ MAX_TIME) records.now }
-    ensures { Writes S.taken S.failures sink.old sink.new result
-        (trace_file form iface records.now) }
+    sink: S,
+) -> (Result<(), TraceFault>, S)
+    ensures { (records : List (TraceRecord (List ℕ)))
+        → IsTraceBefore topology.now topology.now.stop records
+        → Writes S.taken S.failures sink result.1 result.0 (trace_file form iface records) }
 {
-    write(form, &file_header_octets(), sink)?;
-    write_records(form, iface, records, sink)?;
-    write_ending(form, sink)
+    let mut file = PcapOut::in_form(sink, form);
+    let outcome = write_file(alloc, topology, iface, &mut file);
+    (outcome, file.into_sink())
 }
 
-/// Writes those of the records that are at the interface.
-fn write_records<S: Sink>(
-    form: Form,
+/// Writes a trace file of which nothing was written.
+fn write_file<S: Sink>(
+    alloc: Global,
+    topology: &Topology,
     iface: IfaceNo,
-    records: &[Record],
-    sink: &mut S,
-) -> Result<(), WriteFault>
-    requires { All (λ r. r.time ≤ MAX_TIME) records.now }
-    ensures { Writes S.taken S.failures sink.old sink.new result
-        (written form (flat_map record_octets (records_at iface records.now))) }
+    file: &mut PcapOut<S>,
+) -> Result<(), TraceFault>
+    requires { file.old.failed ≡ false }
+    ensures { (records : List (TraceRecord (List ℕ)))
+        → IsTraceBefore topology.now topology.now.stop records
+        → WritesOn S.taken S.failures file.old file.new result
+        (trace_file file.old.form iface records) }
 {
-    for record in records {
-        write_if_at(form, iface, record, sink)?;
+    sink_outcome(file.start())?;
+    write_records(alloc, topology, iface, file)?;
+    sink_outcome(file.end())
+}
+
+/// Runs the network, and writes those of its records that are at the interface.
+fn write_records<S: Sink>(
+    alloc: Global,
+    topology: &Topology,
+    iface: IfaceNo,
+    file: &mut PcapOut<S>,
+) -> Result<(), TraceFault>
+    requires { file.old.failed ≡ false }
+    ensures { (records : List (TraceRecord (List ℕ)))
+        → IsTraceBefore topology.now topology.now.stop records
+        → WritesOn S.taken S.failures file.old file.new result
+        (written_at file.old.form iface records) }
+{
+    let Ok(mut tracer) = Tracer::start(alloc, topology) else {
+        return Err(TraceFault::Memory);
+    };
+    write_all_of(alloc, topology, &mut tracer, iface, file)
+}
+
+/// Runs a network from its start, and writes those of its records that are at the interface.
+fn write_all_of<S: Sink>(
+    alloc: Global,
+    topology: &Topology,
+    tracer: &mut Tracer,
+    iface: IfaceNo,
+    file: &mut PcapOut<S>,
+) -> Result<(), TraceFault>
+    requires tracing { IsTracing pending_of topology.now tracer.old }
+    requires none { tracer.old.records.handed ≡ 0 }
+    requires sound { file.old.failed ≡ false }
+    ensures { (records : List (TraceRecord (List ℕ)))
+        → IsTraceBefore topology.now topology.now.stop records
+        → WritesOn S.taken S.failures file.old file.new result
+        (written_at file.old.form iface records) }
+{
+    for _ in 0..u64::MAX {
+        match next_record(alloc, topology, tracer) {
+            Ok(Some(record)) => write_at(iface, &record, file)?,
+            Ok(None) => return Ok(()),
+            Err(AllocError) => return Err(TraceFault::Memory),
+        }
     }
-    Ok(())
+    Err(TraceFault::Memory)
+}
+
+/// The next record of the trace, whose time a trace file can say.
+fn next_record(
+    alloc: Global,
+    topology: &Topology,
+    tracer: &mut Tracer,
+) -> Result<Option<Record>, AllocError>
+    requires { IsTracing pending_of topology.now tracer.old }
+    ensures tracing { IsTracing pending_of topology.now tracer.new }
+    ensures next { (records : List (TraceRecord (List ℕ)))
+        → IsTraceBefore topology.now topology.now.stop records
+        → Hands records tracer.old.records.handed result tracer.new.records.handed }
+    ensures time { IfOk result (λ o. IfSome o (λ r. r.time ≤ MAX_TIME)) }
+{
+    accepted_topologies_are_in_order(topology); // law: `stop` is within its limit
+    every_topology_has_a_trace(topology); // law: the record is one of a trace
+    tracer.next(alloc, topology)
 }
 
 /// Writes a record if it is at the interface.
-fn write_if_at<S: Sink>(
-    form: Form,
+fn write_at<S: Sink>(
     iface: IfaceNo,
     record: &Record,
-    sink: &mut S,
-) -> Result<(), WriteFault>
-    requires { «record».now.time ≤ MAX_TIME }
-    ensures { Writes S.taken S.failures sink.old sink.new result
-        (written form (flat_map record_octets (records_at iface («record».now ∷ [])))) }
+    file: &mut PcapOut<S>,
+) -> Result<(), TraceFault>
+    requires time { «record».now.time ≤ MAX_TIME }
+    requires sound { file.old.failed ≡ false }
+    ensures { WritesOn S.taken S.failures file.old file.new result
+        (written_at file.old.form iface («record».now ∷ [])) }
 {
     if record.iface != iface {
         return Ok(());
     }
-    write_record(form, record, sink)
+    sink_outcome(file.put(record))
 }
 
-/// Writes one record.
-fn write_record<S: Sink>(form: Form, record: &Record, sink: &mut S) -> Result<(), WriteFault>
-    requires { «record».now.time ≤ MAX_TIME }
-    ensures { Writes S.taken S.failures sink.old sink.new result
-        (written form (record_octets «record».now)) }
+/// What a fault of a trace file is to the program.
+fn sink_outcome(outcome: Result<(), PcapFault>) -> Result<(), TraceFault>
+    ensures { result ≡ sink_outcome outcome }
 {
-    let header = record_header_octets(record.time, record.packet.octet_count() as u32);
-    write_two(form, &header, record.packet.octets(), sink)
-}
-
-/// Writes these octets, and then those.
-fn write_two<S: Sink>(
-    form: Form,
-    first: &[u8],
-    second: &[u8],
-    sink: &mut S,
-) -> Result<(), WriteFault>
-    ensures { Writes S.taken S.failures sink.old sink.new result
-        (written form (first.now ++ second.now)) }
-{
-    write(form, first, sink)?;
-    write(form, second, sink)
+    match outcome {
+        Ok(()) => Ok(()),
+        Err(_) => Err(TraceFault::Sink),
+    }
 }

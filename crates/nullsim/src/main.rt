@@ -3,16 +3,16 @@
 //! This is its edge: the words, the files and the exit status. All else is `nm_program::run`.
 #![tactic(auto)]
 
-mod source;
+mod host;
 
+use host::HostInputs;
 use nm_base::StdSink;
-use nm_command::{Command, Status};
-use nm_program::{Input, conclude, report, run};
-use source::Source;
+use nm_command::Status;
+use nm_program::{NamedInputs, conclude, report, run};
 use std::env::Env;
 use std::io::{BufWriter, ErrorKind};
 use std::process::ExitCode;
-use std::{env, fs, io};
+use std::{env, io};
 
 /// The words after the program's name.
 fn words<R: Env + Alloc>(rt: &R) -> io::Result<Vec<String<R::A>, R::A>> {
@@ -21,21 +21,6 @@ fn words<R: Env + Alloc>(rt: &R) -> io::Result<Vec<String<R::A>, R::A>> {
         words.push(word)?;
     }
     Ok(words)
-}
-
-/// The input that the words name: standard input for `-`, and else a file. Words of no command name
-/// none.
-fn open(rt: &HostRuntime, words: &[String]) -> Source {
-    let Some(command) = Command::of(words) else {
-        return Source::Missing;
-    };
-    if command.topology == "-" {
-        return Source::Standard(rt.reader());
-    }
-    match fs::open(rt, command.topology) {
-        Ok(file) => Source::File(file),
-        Err(_) => Source::Missing,
-    }
 }
 
 /// The program, up to its exit status.
@@ -52,13 +37,12 @@ fn status(rt: &HostRuntime) -> Status {
     let Ok(writer) = BufWriter::new(rt.alloc(), rt.stdout()) else {
         return report(Status::Memory, &mut errors);
     };
-    let mut input = Input::new(open(rt, words.as_slice()));
-    let mut out = StdSink::new(writer);
-    let status = run(
+    let mut inputs = NamedInputs::new(HostInputs { runtime: rt });
+    let (status, mut out) = run(
         rt.alloc(),
         words.as_slice(),
-        &mut input,
-        &mut out,
+        &mut inputs,
+        StdSink::new(writer),
         &mut errors,
     );
     conclude(status, out.flush().is_ok(), &mut errors)

@@ -99,7 +99,7 @@ impl View {
             }
             View::Counts => Words::of_tables(),
             View::Files => {
-                push_files(&mut text, alloc, topology, part.trace())?;
+                push_files(&mut text, alloc, topology)?;
                 Words::of_pairs()
             }
         };

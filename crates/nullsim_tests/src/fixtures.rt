@@ -1,9 +1,10 @@
 //! Topologies of two hosts, their trace files as they stand on disk, and a run of the program in
 //! memory.
 
+use crate::memory::MemoryInputs;
 use nm_base::MemSink;
 use nm_command::Status;
-use nm_program::{Input, run};
+use nm_program::{Inputs, NamedInputs, run};
 use std::alloc::{AllocError, Global};
 use std::io::Read;
 use std::process::Abort;
@@ -74,18 +75,18 @@ struct Outcome {
     errors: MemSink,
 }
 
-/// Runs the program on the words of a line and an input, with room for so many octets of output.
-fn run_line<I: Read + Drop>(
+/// Runs the program on the words of a line and inputs, with room for so many octets of output.
+fn run_line<I: Inputs + Drop>(
     alloc: Global,
     line: &str,
-    input: I,
+    inputs: I,
     room: usize,
 ) -> Result<Outcome, AllocError> {
     let words = words_of(alloc, line)?;
-    let mut input = Input::new(input);
-    let mut out = MemSink::new(alloc, room)?;
+    let mut inputs = NamedInputs::new(inputs);
+    let out = MemSink::new(alloc, room)?;
     let mut errors = MemSink::new(alloc, 64)?;
-    let status = run(alloc, words.as_slice(), &mut input, &mut out, &mut errors);
+    let (status, out) = run(alloc, words.as_slice(), &mut inputs, out, &mut errors);
     Ok(Outcome {
         status,
         out,
@@ -93,30 +94,45 @@ fn run_line<I: Read + Drop>(
     })
 }
 
-/// The program ends with this status and its line, and writes nothing.
-pub fn ends<I: Read + Drop>(
+/// The program with so much room writes these octets of inputs, and ends with this status and its
+/// line.
+pub fn writes_of<I: Inputs + Drop>(
     rt: &(impl Abort + AllocGlobal),
     line: &str,
-    input: I,
-    status: Status,
-) -> Result<(), Fail> {
-    let ended = run_line(rt.alloc(), line, input, 8)?;
-    assert!(rt; ended.status == status, "{line}");
-    assert!(rt; ended.errors.octets() == status.line(), "{line}");
-    assert!(rt; ended.out.octets().is_empty(), "{line}");
-    Ok(())
-}
-
-/// The program with so much room writes these octets, and ends with this status and its line.
-pub fn writes(
-    rt: &(impl Abort + AllocGlobal),
-    (line, text): (&str, &str),
+    inputs: I,
     room: usize,
     (octets, status): (&[u8], Status),
 ) -> Result<(), Fail> {
-    let ended = run_line(rt.alloc(), line, text.as_bytes(), room)?;
+    let ended = run_line(rt.alloc(), line, inputs, room)?;
     assert!(rt; ended.status == status, "{line}");
     assert!(rt; ended.errors.octets() == status.line(), "{line}");
     assert!(rt; ended.out.octets() == octets, "{line}");
     Ok(())
+}
+
+/// The program ends with this status and its line, and writes nothing. There is no file beside
+/// standard input.
+pub fn ends<S: Read + Drop + Copy>(
+    rt: &(impl Abort + AllocGlobal),
+    line: &str,
+    standard: S,
+    status: Status,
+) -> Result<(), Fail> {
+    let files = &[];
+    let inputs = MemoryInputs { standard, files };
+    writes_of(rt, line, inputs, 8, (b"", status))
+}
+
+/// The program with so much room writes these octets, and ends with this status and its line. The
+/// text is that of standard input and of `duo.toml`.
+pub fn writes(
+    rt: &(impl Abort + AllocGlobal),
+    (line, text): (&str, &str),
+    room: usize,
+    ended: (&[u8], Status),
+) -> Result<(), Fail> {
+    let standard = text.as_bytes();
+    let files = &[("duo.toml", text)];
+    let inputs = MemoryInputs { standard, files };
+    writes_of(rt, line, inputs, room, ended)
 }

@@ -1,4 +1,4 @@
-//! Tests of the program: its words, its ways to end, and its one function over words, an input and
+//! Tests of the program: its words, its ways to end, and its one function over words, inputs and
 //! sinks.
 #![tactic(auto)]
 
@@ -6,6 +6,10 @@
 mod commands;
 #[cfg(test)]
 mod fixtures;
+#[cfg(test)]
+mod memory;
+#[cfg(test)]
+mod names;
 #[cfg(test)]
 mod statuses;
 #[cfg(test)]

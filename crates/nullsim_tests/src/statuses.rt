@@ -39,7 +39,7 @@ fn a_topology_that_is_refused(rt: HostRuntime) -> Result<(), Fail> {
 }
 
 /// Gives one octet a call for a while, and then fails.
-#[derive(Drop)]
+#[derive(Clone, Copy)]
 struct Broken {
     left: u8,
 }
@@ -63,15 +63,25 @@ fn an_input_that_cannot_be_read(rt: HostRuntime) -> Result<(), Fail> {
     Ok(())
 }
 
+/// Gives so many spaces.
+#[derive(Clone, Copy)]
+struct Spaces {
+    left: u64,
+}
+
+impl Read for Spaces {
+    fn read(&mut self, buffer: &mut [u8]) -> io::Result<usize> {
+        let count = self.left.min(buffer.len() as u64);
+        buffer[..count as usize].fill(b' ');
+        self.left -= count;
+        Ok(count as usize)
+    }
+}
+
 /// 67,108,864 octets are read, and are then too many for a topology; one more is not read.
 #[test]
 fn an_input_at_its_limit(rt: HostRuntime) -> Result<(), Fail> {
     let range = Status::Topology(Refusal::Range);
-    ends(&rt, "one -", io::repeat(b' ').take(67_108_864), range)?;
-    ends(
-        &rt,
-        "one -",
-        io::repeat(b' ').take(67_108_865),
-        Status::File,
-    )
+    ends(&rt, "one -", Spaces { left: 67_108_864 }, range)?;
+    ends(&rt, "one -", Spaces { left: 67_108_865 }, Status::File)
 }

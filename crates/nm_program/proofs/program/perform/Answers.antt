@@ -1,25 +1,25 @@
-use Rattle.std.proofs.Common.{ap, inr, sym, ◌∙◌}
-use Rattle.nm_program.specs.TraceFile.{trace_file}
+use Rattle.std.proofs.Common.{sym, subst, refl, ◌∙◌}
+use Rattle.nm_command.specs.Command.{command_value}
+use Rattle.nm_program.specs.Ending.{EndsCommand}
+use Rattle.nm_program.specs.Input.{text_of}
+use Rattle.nm_program.proofs.Endings.{ends_written}
 use Rattle.nm_program.proofs.program.perform.Goals as goal
 
--- the sink failed: it has a prefix of the answer
+-- the trace of the topology is there, also where it was not written to its end
 pub returns : goal.returns
 returns g c =
     let read = c.in-Ok.ensures in
-    inr (inr (
-      read.0,
-      read.1,
-      (
-        _,
-        record {
-          network = c.in-Ok.topology;
-          read = read.2;
-          iface = c.in-Some.iface;
-          named = sym c.find_iface.ensures ∙ c.in-Some.is;
-          records = c.in-Some-trace.records.items;
-          trace = c.in-Some-trace.ensures.trace;
-          file = ap (trace_file c.args.command.form c.in-Some.iface) c.as_slice.ensures.value;
-        },
-        c.in-Err-written.ensures,
-      ),
-    ))
+    let there = c.every_topology_has_a_trace.ensures.there c.in-Ok.topology.stop in
+    let told = text_of g.I.Inputs.standard_text g.I.Inputs.file_text c.args.inputs.now.inputs in
+    subst (EndsCommand g.O.Sink.taken g.O.Sink.failures told _ _ _ _ (command_value c.args.command)) (sym c.status_of.ensures)
+    (ends_written g.O.Sink.taken g.O.Sink.failures told _ _ _ _ (command_value c.args.command) read.0 _ _ read.1
+    (record {
+      network = c.in-Ok.topology;
+      read = read.2;
+      iface = c.in-Some.iface;
+      named = sym c.find_iface.ensures ∙ c.in-Some.is;
+      records = there.0;
+      trace = there.1;
+      file = refl;
+    })
+    (c.write_trace_file-outcome.ensures there.0 there.1))
