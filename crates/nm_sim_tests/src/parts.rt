@@ -5,7 +5,7 @@ ghost use Rattle.nm_sim_tests.specs.Fed.{IsFed};
 
 use crate::fed::{Fed, alone, partition_of, run_all};
 use crate::run::{Step, count_events, run_steps};
-use crate::same::{eq_count, eq_number, eq_numbers, holds};
+use crate::same::{eq_count, eq_number, eq_numbers, holds, holds_at};
 use crate::sim::{do_and_leave, nth};
 use crate::texts::{CROSS, RING, SPLIT, STAR};
 use nm_base::{ChanNo, IfaceNo, Key, NodeNo, PartNo, Place, Record, Time};
@@ -23,7 +23,7 @@ fn has_its_records(rt: &impl Abort, topology: &Topology, whole: &[Record], fed: 
     for (number, record) in whole.iter().enumerate() {
         if partition_of(rt, topology, record.iface) == fed.of {
             let found = own.next();
-            assert!(rt; found == Some(record), "record {number}");
+            holds_at(rt, "record", number, found == Some(record));
         }
     }
     holds(rt, "no more records", own.next().is_none());

@@ -7,6 +7,11 @@ pub fn holds(rt: &impl Abort, what: &str, fact: bool) {
     assert!(rt; fact, "{what}");
 }
 
+/// A fact holds of the step or the record with this number.
+pub fn holds_at(rt: &impl Abort, what: &str, number: usize, fact: bool) {
+    assert!(rt; fact, "{what} {number}");
+}
+
 /// Two numbers are the same.
 pub fn eq_number(rt: &impl Abort, what: &str, found: u64, want: u64) {
     assert!(rt; found == want, "{what}: {found} and not {want}");

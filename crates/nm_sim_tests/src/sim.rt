@@ -1,7 +1,7 @@
 //! `nm_sim`: the whole network a step at a time, and what a part has not.
 
 use crate::run::{Step, steps_before};
-use crate::same::eq_count;
+use crate::same::{eq_count, holds_at};
 use crate::texts::SPLIT;
 use nm_base::{IfaceNo, Key, NodeNo, Place, SourceNo, Time};
 use nm_events::SortedList;
@@ -29,9 +29,9 @@ pub fn do_and_leave(rt: &impl Abort, steps: &[Step], rows: &[StepRow]) {
     assert!(rt; steps.len() == rows.len());
     for (number, (step, (done, least, records))) in steps.iter().zip(rows).enumerate() {
         let least = least.map(Time::from_nanoseconds);
-        assert!(rt; step.done == *done, "done by step {number}");
-        assert!(rt; step.least == least, "left by step {number}");
-        assert!(rt; step.records == *records, "records after step {number}");
+        holds_at(rt, "done by step", number, step.done == *done);
+        holds_at(rt, "left by step", number, step.least == least);
+        holds_at(rt, "records after step", number, step.records == *records);
     }
 }
 
