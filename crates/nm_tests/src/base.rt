@@ -1,4 +1,5 @@
-//! `nm_base`: keys stand in their order, packets have a range of sizes, sinks take up to their budget.
+//! `nm_base`: keys stand in their order, packets have a range of sizes, sinks take up to their
+//! budget.
 
 use crate::same::{eq_number, eq_octets, holds};
 use bytes::Bytes;

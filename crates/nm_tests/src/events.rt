@@ -12,8 +12,8 @@ use std::test::Fail;
 /// How many events the tests put.
 const COUNT: u64 = 100_000;
 
-/// Times are below this many nanoseconds, and no two of them are the same: they are those of a linear congruential
-/// generator of full period.
+/// Times are below this many nanoseconds, and no two of them are the same: they are those of a
+/// linear congruential generator of full period.
 const PERIOD: u64 = 1 << 20;
 
 /// Puts so many events, at random times.

@@ -1,4 +1,5 @@
-//! `nm_forward`: the names of counters, look-ups of routes beside a plain scan, and whose sources a node takes from.
+//! `nm_forward`: the names of counters, look-ups of routes beside a plain scan, and whose sources a
+//! node takes from.
 
 ghost use Rattle.std.specs.Prelude.{◌≡◌};
 ghost use Rattle.nm_forward.specs.State.{table_of};

@@ -1,4 +1,5 @@
-//! `nm_knowledge`: messages and null messages in turn, knowledge of one channel joined with another's, and faults.
+//! `nm_knowledge`: messages and null messages in turn, knowledge of one channel joined with
+//! another's, and faults.
 
 use crate::same::{eq_number, eq_shown, holds};
 use bytes::Bytes;
@@ -281,7 +282,8 @@ fn is_same(left: &Know, right: &Know) -> bool {
     left.len() == right.len() && left.clock() == right.clock()
 }
 
-/// A copy of knowledge of so many messages is equal, stays as it was when the original grows, and is merged back.
+/// A copy of knowledge of so many messages is equal, stays as it was when the original grows, and is
+/// merged back.
 fn copy_and_merge(rt: &(impl Abort + AllocGlobal), count: u64) -> Result<(), Fail> {
     let mut know = know_of_length(rt.alloc(), count)?;
     let mut copy = know.copy(rt.alloc())?;

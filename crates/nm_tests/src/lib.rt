@@ -1,4 +1,5 @@
-//! Tests of the layers from `nm_base` to `nm_sim`: what no contract says, and no case of `nullsim_cases` can show.
+//! Tests of the layers below `nm_sim`: what no contract says, and no case of `nullsim_cases` can
+//! show.
 //!
 //! Values come from outside. Those in `memory` are to be run with each allocation failing in turn
 //! (`rt try --test --fail-alloc N`).
@@ -9,11 +10,9 @@ mod base;
 #[cfg(test)]
 mod events;
 #[cfg(test)]
-mod fed;
-#[cfg(test)]
 mod forward;
 #[cfg(test)]
-mod handed;
+mod iface;
 #[cfg(test)]
 mod knowledge;
 #[cfg(test)]
@@ -21,15 +20,9 @@ mod memory;
 #[cfg(test)]
 mod packet;
 #[cfg(test)]
-mod parts;
-#[cfg(test)]
 mod pcap;
 #[cfg(test)]
-mod run;
-#[cfg(test)]
 mod same;
-#[cfg(test)]
-mod sim;
 #[cfg(test)]
 mod texts;
 #[cfg(test)]

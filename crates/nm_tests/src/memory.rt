@@ -1,26 +1,18 @@
-//! A refused growth is an error after which nothing has changed, and the same call then answers as if nothing had been
-//! refused: what these tests show where an allocation is made to fail (`rt try --test --fail-alloc N`).
+//! A refused growth is an error after which nothing has changed, and the same call then answers as
+//! if nothing had been refused: what these tests show where an allocation is made to fail (`rt try
+//! --test --fail-alloc N`).
 //!
 //! What a test only needs is asked for twice, so that it is there even where memory was refused.
 
-ghost use Rattle.std.specs.Prelude.{◌≡◌, IfOk};
-ghost use Rattle.nm_events.specs.Held.{pending_of};
-ghost use Rattle.nm_tests.specs.Fed.{IsFed};
-
-use crate::fed::Fed;
 use crate::forward::Bench;
 use crate::knowledge::is_known;
-use crate::run::run_steps;
 use crate::same::{eq_number, eq_numbers, eq_octets, holds};
-use crate::texts::{DUO, RING, TRIO};
+use crate::texts::{DUO, TRIO};
 use bytes::Bytes;
-use nm_base::{ChanNo, IfaceNo, Key, NodeNo, Packet, PartNo, Record, SourceNo, Time};
-use nm_events::SortedList;
+use nm_base::{IfaceNo, Packet, SourceNo, Time};
 use nm_forward::{Counter, Origin, Reaction};
 use nm_knowledge::{Accepted, Know, KnowFault};
 use nm_packet::{Icmp, MessageKind};
-use nm_sim::{Part, one_list};
-use nm_topology::topology::accepted_topologies_are_in_order;
 use nm_topology::{Refusal, TopoFault, Topology};
 use nm_traffic::{Source, SourcePacket};
 use std::alloc::{AllocError, Global};
@@ -53,12 +45,14 @@ const CUT: &str = r#"format = 1
 stop = 1
 mtu = 1500
 node = [ {name = "a", kind = "host", partition = 0}, {name = "b", kind = "host", partition = 1} ]
-iface = [ {name = "a0", node = "a", address = "10.0.0.1", queue = 0}, {name = "b0", node = "b", address = "10.0.0.2", queue = 0} ]
+iface = [ {name = "a0", node = "a", address = "10.0.0.1", queue = 0},
+  {name = "b0", node = "b", address = "10.0.0.2", queue = 0} ]
 link = [ {a = "a0", b = "b0", rate = 1000, delay = 0} ]
 source = [ {kind = "raw", node = "a", via = "a0", packet = [ {at = 0, data = "45"} ]} ]
 "#;
 
-/// A text is refused for this at each of two calls, but at one of them for memory where that is refused once.
+/// A text is refused for this at each of two calls, but at one of them for memory where that is
+/// refused once.
 fn is_refused(rt: &(impl Abort + AllocGlobal), text: &str, refusal: Refusal) {
     let want = Some(TopoFault::Refused(refusal));
     let memory = Some(TopoFault::Memory);
@@ -114,11 +108,14 @@ fn icmp_write(rt: HostRuntime) -> Result<(), Fail> {
 
 /// A datagram whose time to live is over.
 const LATE: &[u8] =
-    b"\x45\x00\x00\x1e\x00\x00\x00\x00\x00\x11\xa5\xcd\x0a\x00\x00\x01\x0a\x00\x01\x02\x03\xe8\x00\x09\x00\x0a\xfe\xff\xe7\xe6";
+    b"\x45\x00\x00\x1e\x00\x00\x00\x00\x00\x11\xa5\xcd\x0a\x00\x00\x01\x0a\x00\x01\x02\
+\x03\xe8\x00\x09\x00\x0a\xfe\xff\xe7\xe6";
 
 /// The error about it.
 const TIME_EXCEEDED: &[u8] =
-    b"\x45\x00\x00\x38\x00\x00\x00\x00\x40\x01\x66\xc3\x0a\x00\x00\x02\x0a\x00\x00\x01\x0b\x00\xf2\x04\x00\x00\x00\x00\x45\x00\x00\x1e\x00\x00\x00\x00\x00\x11\xa5\xcd\x0a\x00\x00\x01\x0a\x00\x01\x02\x03\xe8\x00\x09\x00\x0a\xfe\xff";
+    b"\x45\x00\x00\x38\x00\x00\x00\x00\x40\x01\x66\xc3\x0a\x00\x00\x02\x0a\x00\x00\x01\
+\x0b\x00\xf2\x04\x00\x00\x00\x00\x45\x00\x00\x1e\x00\x00\x00\x00\x00\x11\xa5\xcd\x0a\x00\x00\x01\
+\x0a\x00\x01\x02\x03\xe8\x00\x09\x00\x0a\xfe\xff";
 
 /// The router of the trio.
 fn router(rt: &(impl Abort + AllocGlobal)) -> Result<Bench, Fail> {
@@ -160,236 +157,6 @@ fn react(rt: HostRuntime) -> Result<(), Fail> {
     is_time_exceeded(&rt, &reaction);
     eq_number(&rt, "ttl", bench.count(Counter::Ttl), 1);
     eq_number(&rt, "originated", bench.count(Counter::Originated), 1);
-    Ok(())
-}
-
-/// The ring's part after so many steps, of which a refused one counts too.
-fn part_after(alloc: Global, topology: &Topology, steps: usize) -> Result<Part<SortedList>, Fail> {
-    let first = run_steps(alloc, topology, steps);
-    Ok(either(first, run_steps(alloc, topology, steps))?)
-}
-
-/// Records have these times.
-fn times_are(rt: &impl Abort, records: &[Record], times: &[u64]) {
-    eq_number(rt, "records", records.len() as u64, times.len() as u64);
-    for (found, want) in records.iter().zip(times) {
-        eq_number(rt, "a record", found.time.nanoseconds(), *want);
-    }
-}
-
-/// A node counted this twice.
-fn counts_two(rt: &impl Abort, part: &Part<SortedList>, node: u32, counter: Counter) {
-    let value = part.counter(NodeNo::new(node), counter);
-    assert!(rt; value == Some(2), "node {node}");
-}
-
-/// The ring's ten events, with one step more.
-#[test]
-fn part_step(rt: HostRuntime) -> Result<(), Fail> {
-    let topology = network(rt.alloc(), RING)?;
-    let part = part_after(rt.alloc(), &topology, 11)?;
-    times_are(
-        &rt,
-        part.trace(),
-        &[
-            0, 1_100_000, 1_100_000, 2_000_000, 2_200_000, 3_100_000, 3_100_000, 4_200_000,
-        ],
-    );
-    counts_two(&rt, &part, 0, Counter::Originated);
-    counts_two(&rt, &part, 1, Counter::Forwarded);
-    counts_two(&rt, &part, 2, Counter::Udp);
-    Ok(())
-}
-
-#[test]
-fn part_whole(rt: HostRuntime) -> Result<(), Fail> {
-    let topology = network(rt.alloc(), RING)?;
-    let first = one_list(rt.alloc(), &topology, topology.stop());
-    let second = one_list(rt.alloc(), &topology, topology.stop());
-    eq_number(&rt, "records", either(first, second)?.len() as u64, 8);
-    Ok(())
-}
-
-/// What a refused call leaves as it was: the least time, the counts of records and of messages, and
-/// the sums of what is counted and dropped.
-#[derive(Clone, Copy, PartialEq, Eq)]
-struct Shown {
-    least: Option<Time>,
-    records: usize,
-    sent: usize,
-    counted: u64,
-    dropped: u64,
-}
-
-/// What is seen of a part.
-fn seen(topology: &Topology, part: &Part<SortedList>) -> Shown {
-    accepted_topologies_are_in_order(topology); // law: what is numbered has numbers of 32 bits
-    let mut seen = Shown {
-        least: part.least(),
-        records: part.trace().len(),
-        sent: 0,
-        counted: 0,
-        dropped: 0,
-    };
-    for number in 0..topology.receivers().len() {
-        let out = part.out(ChanNo::new(number as u32));
-        seen.sent = seen.sent.saturating_add(out.len());
-    }
-    for number in 0..topology.nodes().len() {
-        for counter in Counter::ALL {
-            let count = part.counter(NodeNo::new(number as u32), counter);
-            seen.counted = seen.counted.saturating_add(count.unwrap_or(0));
-        }
-    }
-    for number in 0..topology.ifaces().len() {
-        let count = part.dropped(IfaceNo::new(number as u32));
-        seen.dropped = seen.dropped.saturating_add(count.unwrap_or(0));
-    }
-    seen
-}
-
-/// A partition of the ring at its start, asked for again where memory was refused.
-fn fed_at_last(
-    alloc: Global,
-    topology: &Topology,
-    number: u32,
-) -> Result<Fed<SortedList>, AllocError>
-    ensures { IfOk result (λ f. IsFed pending_of topology.now f.of f.part f.told.items) }
-{
-    let first = Fed::start(alloc, topology, PartNo::new(number));
-    if first.is_ok() {
-        return first;
-    }
-    Fed::start(alloc, topology, PartNo::new(number))
-}
-
-/// A message is told, again where memory was refused.
-fn tell_at_last(
-    rt: &impl Abort,
-    topology: &Topology,
-    fed: &mut Fed<SortedList>,
-    channel: ChanNo,
-    message: &(Time, Packet),
-) -> Result<(), AllocError>
-    requires { IsFed pending_of topology.now fed.old.of fed.old.part fed.old.told.items }
-    ensures { IsFed pending_of topology.now fed.new.of fed.new.part fed.new.told.items }
-{
-    let before = seen(topology, &fed.part);
-    if fed.tell(rt, topology, channel, message).is_ok() {
-        return Ok(());
-    }
-    holds(rt, "as it was", seen(topology, &fed.part) == before);
-    fed.tell(rt, topology, channel, message)
-}
-
-/// A step, done again where memory was refused.
-fn step_at_last(
-    rt: &(impl Abort + AllocGlobal),
-    topology: &Topology,
-    fed: &mut Fed<SortedList>,
-) -> Result<Option<Key>, AllocError>
-    requires { IsFed pending_of topology.now fed.old.of fed.old.part fed.old.told.items }
-    ensures { IsFed pending_of topology.now fed.new.of fed.new.part fed.new.told.items }
-{
-    let before = seen(topology, &fed.part);
-    if let Ok(done) = fed.step(rt.alloc(), topology, topology.stop()) {
-        return Ok(done);
-    }
-    holds(rt, "as it was", seen(topology, &fed.part) == before);
-    fed.step(rt.alloc(), topology, topology.stop())
-}
-
-/// A copy of a message that a part put on a channel, asked for again where memory was refused.
-fn message_at_last(
-    sender: &Fed<SortedList>,
-    channel: ChanNo,
-    number: usize,
-) -> Result<Option<(Time, Packet)>, AllocError> {
-    let first = sender.message(channel, number);
-    either(first, sender.message(channel, number))
-}
-
-/// A partition is told what another put on a channel.
-fn tell_all(
-    rt: &(impl Abort + AllocGlobal),
-    topology: &Topology,
-    fed: &mut Fed<SortedList>,
-    sender: &Fed<SortedList>,
-    channel: ChanNo,
-) -> Result<(), AllocError>
-    requires { IsFed pending_of topology.now fed.old.of fed.old.part fed.old.told.items }
-    ensures { IsFed pending_of topology.now fed.new.of fed.new.part fed.new.told.items }
-{
-    for number in 0..sender.part.out(channel).len() {
-        let Some(message) = message_at_last(sender, channel, number)? else {
-            return Ok(());
-        };
-        tell_at_last(rt, topology, fed, channel, &message)?;
-    }
-    Ok(())
-}
-
-/// It does all its events, of which it has fewer than 20.
-fn run_at_last(
-    rt: &(impl Abort + AllocGlobal),
-    topology: &Topology,
-    fed: &mut Fed<SortedList>,
-) -> Result<(), Fail>
-    requires { IsFed pending_of topology.now fed.old.of fed.old.part fed.old.told.items }
-{
-    for _ in 0..20 {
-        if step_at_last(rt, topology, fed)?.is_none() {
-            return Ok(());
-        }
-    }
-    Err("it has fewer events".into())
-}
-
-/// A partition of the ring that is told nothing, after its run.
-fn ring_alone(
-    rt: &(impl Abort + AllocGlobal),
-    topology: &Topology,
-    number: u32,
-) -> Result<Fed<SortedList>, Fail> {
-    let mut fed = fed_at_last(rt.alloc(), topology, number)?;
-    run_at_last(rt, topology, &mut fed)?;
-    Ok(fed)
-}
-
-/// A partition of the ring, told what another put on a channel and then run.
-fn ring_after(
-    rt: &(impl Abort + AllocGlobal),
-    topology: &Topology,
-    number: u32,
-    sender: &Fed<SortedList>,
-    channel: u32,
-) -> Result<Fed<SortedList>, Fail> {
-    let mut fed = fed_at_last(rt.alloc(), topology, number)?;
-    tell_all(rt, topology, &mut fed, sender, ChanNo::new(channel))?;
-    run_at_last(rt, topology, &mut fed)?;
-    Ok(fed)
-}
-
-/// A partition's start, its messages and its steps: a refused one changes nothing.
-#[test]
-fn part_refused(rt: HostRuntime) -> Result<(), Fail> {
-    let topology = network(rt.alloc(), RING)?;
-    let n0 = ring_alone(&rt, &topology, 0)?;
-    let n1 = ring_after(&rt, &topology, 1, &n0, 1)?;
-    let n2 = ring_after(&rt, &topology, 2, &n1, 3)?;
-    times_are(&rt, n0.part.trace(), &[0, 2_000_000]);
-    let passed = [1_100_000, 1_100_000, 3_100_000, 3_100_000];
-    times_are(&rt, n1.part.trace(), &passed);
-    times_are(&rt, n2.part.trace(), &[2_200_000, 4_200_000]);
-    counts_two(&rt, &n0.part, 0, Counter::Originated);
-    counts_two(&rt, &n1.part, 1, Counter::Forwarded);
-    counts_two(&rt, &n2.part, 2, Counter::Udp);
-    eq_numbers(
-        &rt,
-        "events",
-        &[n0.events, n1.events, n2.events],
-        &[4, 4, 2],
-    );
     Ok(())
 }
 
@@ -438,7 +205,8 @@ fn source_next(rt: HostRuntime) -> Result<(), Fail> {
 /// The messages that a channel is told.
 const MESSAGES: &[(u64, u8)] = &[(10, 0), (11, 1), (12, 2), (13, 3), (14, 4)];
 
-/// A channel that knows nothing yet is told a message for each of its numbers. A refused one changes nothing.
+/// A channel that knows nothing yet is told a message for each of its numbers. A refused one
+/// changes nothing.
 fn tell(
     rt: &(impl Abort + AllocGlobal),
     know: &mut Know,

@@ -1,5 +1,5 @@
-//! `nm_packet`: packets, datagrams and messages at worked values, the text of addresses and faults, and that each writer
-//! succeeds where there is memory.
+//! `nm_packet`: packets, datagrams and messages at worked values, the text of addresses and faults,
+//! and that each writer succeeds where there is memory.
 
 use crate::same::{eq_number, eq_numbers, eq_octets, eq_shown, holds};
 use nm_packet::{
@@ -405,8 +405,8 @@ fn packets_are_written_with_a_datagram(rt: HostRuntime) -> Result<(), Fail> {
 /// A router's answer to a packet that may live no longer.
 #[test]
 fn packets_are_written_with_a_message(rt: HostRuntime) -> Result<(), Fail> {
-    let quoted =
-        b"\x45\x00\x00\x64\x00\x00\x00\x00\x01\x11\xa4\x87\x0a\x00\x00\x01\x0a\x00\x01\x02\x03\xe8\x00\x09\x00\x50\xe6\x5a";
+    let quoted = b"\x45\x00\x00\x64\x00\x00\x00\x00\x01\x11\xa4\x87\x0a\x00\x00\x01\
+\x0a\x00\x01\x02\x03\xe8\x00\x09\x00\x50\xe6\x5a";
     let header = header(64, 1, [10, 0, 0, 2], [10, 0, 0, 1]);
     let kind = MessageKind {
         message_type: 11,
@@ -415,7 +415,8 @@ fn packets_are_written_with_a_message(rt: HostRuntime) -> Result<(), Fail> {
     let error = Icmp::write_packet(rt.alloc(), &header, kind, [0; 4], quoted)?;
     let want = padded(
         rt.alloc(),
-        "4500003800000000400166c30a0000020a0000010b000a640000000045000064000000000111a4870a0000010a00010203e800090050e65a",
+        "4500003800000000400166c30a0000020a0000010b000a6400000000\
+45000064000000000111a4870a0000010a00010203e800090050e65a",
         0,
     )?;
     eq_octets(&rt, "an error", error.octets(), want.as_slice());

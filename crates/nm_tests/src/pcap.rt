@@ -1,5 +1,5 @@
-//! `nm_pcap`: a sink that fails after so many octets holds exactly these, and the octets of headers at the ends of their
-//! ranges.
+//! `nm_pcap`: a sink that fails after so many octets holds exactly these, and the octets of headers
+//! at the ends of their ranges.
 
 ghost use Rattle.std.specs.Prelude.{◌≡◌, ◌≤◌, IfOk};
 

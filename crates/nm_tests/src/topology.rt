@@ -1,4 +1,5 @@
-//! `nm_topology`: as many members as the limits allow and one more, parts by their numbers, and messages.
+//! `nm_topology`: as many members as the limits allow and one more, parts by their numbers, and
+//! messages.
 
 use crate::same::{eq_number, eq_shown, eq_text};
 use crate::texts::{DUO, PARTITIONS};
@@ -276,7 +277,8 @@ fn links_of(alloc: Global, links: u32, delay: u32) -> Result<String, Fail> {
     Ok(between)
 }
 
-/// What is read of DUO with `b` in partition 1 and so many links more between its two nodes, of this delay.
+/// What is read of DUO with `b` in partition 1 and so many links more between its two nodes, of
+/// this delay.
 fn answer_with_cuts(alloc: Global, links: u32, delay: u32) -> Result<u64, Fail> {
     let ends = ends_of(alloc, links)?;
     let mut text = DUO.replacen(alloc, "iface = [", ends.as_str(), 1)?;
@@ -290,7 +292,8 @@ fn answer_with_cuts(alloc: Global, links: u32, delay: u32) -> Result<u64, Fail> 
     Ok(answer(alloc, text.as_str().as_bytes()))
 }
 
-/// A link between two partitions is two channels, and there is one already. Their number comes before their delays.
+/// A link between two partitions is two channels, and there is one already. Their number comes
+/// before their delays.
 #[test]
 fn sizes_of_cuts(rt: HostRuntime) -> Result<(), Fail> {
     for (links, delay, want) in [(255, 1, 0), (255, 0, 12), (256, 1, 6), (256, 0, 6)] {

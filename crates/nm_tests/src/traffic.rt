@@ -8,7 +8,8 @@ use std::alloc::Global;
 use std::process::Abort;
 use std::test::Fail;
 
-/// Two hosts and one link; the run stops at this time. What follows in a text are tables of sources.
+/// Two hosts and one link; the run stops at this time. What follows in a text are tables of
+/// sources.
 fn network(alloc: Global, stop: u64, sources: &str) -> Result<String, Fail> {
     Ok(format!(in alloc;
         r#"format = 1
@@ -176,8 +177,9 @@ fn datagrams_without_data(rt: HostRuntime) -> Result<(), Fail> {
     come_at(&rt, &source, &[(1, None)])
 }
 
-/// The longest interval and the most packets. Packet 18,446,745 would be at 18,446,745,000,000,000,000
-/// nanoseconds, which is 926,290,448,384 more than 2^64, a time at which packets still come.
+/// The longest interval and the most packets. Packet 18,446,745 would be at
+/// 18,446,745,000,000,000,000 nanoseconds, which is 926,290,448,384 more than 2^64, a time at which
+/// packets still come.
 const FAR: &str = r#"
 [[source]]
 kind = "cbr"

@@ -1,0 +1,22 @@
+//! Tests of `nm_sim`: what no contract says, and no case of `nullsim_cases` can show.
+//!
+//! Values come from outside. Those in `memory` are to be run with each allocation failing in turn
+//! (`rt try --test --fail-alloc N`).
+#![tactic(auto)]
+
+#[cfg(test)]
+mod fed;
+#[cfg(test)]
+mod handed;
+#[cfg(test)]
+mod memory;
+#[cfg(test)]
+mod parts;
+#[cfg(test)]
+mod run;
+#[cfg(test)]
+mod same;
+#[cfg(test)]
+mod sim;
+#[cfg(test)]
+mod texts;
