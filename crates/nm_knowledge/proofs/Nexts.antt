@@ -6,7 +6,7 @@ use Rattle.std.specs.Option.{option_map}
 use Rattle.nm_model.specs.Lists.{nth}
 use Rattle.nm_model.specs.Knowledge.{Know}
 use Rattle.nm_model.proofs.ListLemmas.{nth_below, not_some}
-use Rattle.nm_model.specs.Accept.{New, Raised, Known, Gap, Late, NotRising, Accepted, last_from, data_at, accept_data, null_at, accept_null}
+use Rattle.nm_model.specs.Accept.{New, Raised, Known, Gap, Late, NotRising, Differs, Accepted, same_message, last_from, data_at, accept_data, null_at, accept_null}
 
 pub nth_past : {A : Type 0} (l : List A) (n : ℕ) → length l ≤ n → nth l n ≡ None
 nth_past [] n h = refl
@@ -64,3 +64,48 @@ module _ {P : Type 0} where
         ∙ ap (λ z. cond z (cond (ltb b.0 a.clock) late (cond (last_from b.0 a.list) last new)) (record { answer = Gap (length a.list); after = a })) counted
         ∙ ap (λ z. cond z late (cond (last_from b.0 a.list) last new)) in_time
         ∙ ap (λ z. cond z last new) rises
+
+  module _ (same : P → P → Bool) (a : Know P) (n : ℕ) (b : ℕ × P) where
+    abbrev late : Accepted P
+    late = record { answer = Late a.clock; after = a }
+
+    abbrev last : Accepted P
+    last = record { answer = NotRising; after = a }
+
+    abbrev new : Accepted P
+    new = record { answer = New; after = record { list = a.list ++ b ∷ []; clock = b.0 } }
+
+    abbrev gap : Accepted P
+    gap = record { answer = Gap (length a.list); after = a }
+
+    -- a message that is not new changes nothing
+    pub same_unless_new : ((accept_data same a n b).answer ≡ New → ⊥) → (accept_data same a n b).after ≡ a
+    same_unless_new = at_once (nth a.list n)
+      where
+        in_turn : (p q r : Bool) → ((cond p (cond q late (cond r last new)) gap).answer ≡ New → ⊥) → (cond p (cond q late (cond r last new)) gap).after ≡ a
+        in_turn false q r h = refl
+        in_turn true true r h = refl
+        in_turn true false true h = refl
+        in_turn true false false h = absurd (h refl)
+
+        at_once : (o : Option (ℕ × P)) → ((data_at same o a n b).answer ≡ New → ⊥) → (data_at same o a n b).after ≡ a
+        at_once (Some m) h = refl
+        at_once None h = in_turn (n == length a.list) (ltb b.0 a.clock) (last_from b.0 a.list) h
+
+    -- a new message is the next one, at the clock or later, and later than the last
+    pub new_is_next : (accept_data same a n b).answer ≡ New → ((n == length a.list) ≡ true) × (ltb b.0 a.clock ≡ false) × (last_from b.0 a.list ≡ false)
+    new_is_next = at_once (nth a.list n)
+      where
+        in_turn : (p q r : Bool) → (cond p (cond q late (cond r last new)) gap).answer ≡ New → (p ≡ true) × (q ≡ false) × (r ≡ false)
+        in_turn false q r h = absurd cc
+        in_turn true true r h = absurd cc
+        in_turn true false true h = absurd cc
+        in_turn true false false h = (refl, refl, refl)
+
+        not_new : (z : Bool) → cond z Known (Differs n) ≡ New → ⊥
+        not_new true h = cc
+        not_new false h = cc
+
+        at_once : (o : Option (ℕ × P)) → (data_at same o a n b).answer ≡ New → ((n == length a.list) ≡ true) × (ltb b.0 a.clock ≡ false) × (last_from b.0 a.list ≡ false)
+        at_once (Some m) h = absurd (not_new (same_message same m b) h)
+        at_once None h = in_turn (n == length a.list) (ltb b.0 a.clock) (last_from b.0 a.list) h

@@ -4,7 +4,7 @@ ghost use Rattle.std.specs.Prelude.{◌≡◌, ℕ, ◌≤◌, ◌<◌, length, 
 ghost use Rattle.std.specs.Option.{option_map};
 ghost use Rattle.nm_model.specs.Lists.{nth};
 ghost use Rattle.nm_model.specs.Knowledge.{nothing_known, IsKnow};
-ghost use Rattle.nm_model.specs.Accept.{accept_data, accept_null};
+ghost use Rattle.nm_model.specs.Accept.{New, accept_data, accept_null};
 ghost use Rattle.nm_knowledge.specs.declared.messages.TheConstants.{MAX_MESSAGES};
 ghost use Rattle.nm_knowledge.specs.Answers.{answer};
 ghost use Rattle.nm_knowledge.specs.Octets.{same_octets};
@@ -101,22 +101,20 @@ impl Know {
         })
     }
 
-    /// Message `number` of the channel is this packet, which arrives at this time.
+    /// What `accept_data` answers where there is memory: `New` where the message is the next one. It
+    /// takes no memory, and changes nothing.
     ///
     /// # Errors
     ///
-    /// `Gap` where messages before it have not come. `Differs` where another message of this number
-    /// is known. For the next message: `Late` where it is before the clock, `NotRising` where it is
-    /// not after the last message, and `Memory` where the memory for it was refused or 2^50
-    /// messages are known. A refusal changes nothing.
-    pub fn accept_data(
-        &mut self,
+    /// Those of `accept_data`, but for `Memory`.
+    pub fn check_data(
+        &self,
         number: u64,
         time: Time,
         packet: &Packet,
     ) -> Result<Accepted, KnowFault>
-        ensures { Accepts self.old self.new result
-            (accept_data same_octets self.old number (time, packet.now)) }
+        ensures { answer result
+            ≡ Some (accept_data same_octets self.now number (time, packet.now)).answer }
     {
         let have = self.messages.len() as u64;
         if number > have {
@@ -138,6 +136,39 @@ impl Know {
         if self.messages.is_at_last(time) {
             return Err(KnowFault::NotRising);
         }
+        Ok(Accepted::New)
+    }
+
+    /// Message `number` of the channel is this packet, which arrives at this time.
+    ///
+    /// # Errors
+    ///
+    /// `Gap` where messages before it have not come. `Differs` where another message of this number
+    /// is known. For the next message: `Late` where it is before the clock, `NotRising` where it is
+    /// not after the last message, and `Memory` where the memory for it was refused or 2^50 messages
+    /// are known. A refusal changes nothing.
+    pub fn accept_data(
+        &mut self,
+        number: u64,
+        time: Time,
+        packet: &Packet,
+    ) -> Result<Accepted, KnowFault>
+        ensures { Accepts self.old self.new result
+            (accept_data same_octets self.old number (time, packet.now)) }
+    {
+        let accepted = self.check_data(number, time, packet)?;
+        if accepted != Accepted::New {
+            return Ok(accepted);
+        }
+        self.add(number, time, packet)
+    }
+
+    /// The message, which is a new one, is known from now on.
+    fn add(&mut self, number: u64, time: Time, packet: &Packet) -> Result<Accepted, KnowFault>
+        requires { (accept_data same_octets self.old number (time, packet.now)).answer ≡ New }
+        ensures { Accepts self.old self.new result
+            (accept_data same_octets self.old number (time, packet.now)) }
+    {
         if self.messages.len() >= MAX_MESSAGES {
             return Err(KnowFault::Memory);
         }
