@@ -36,7 +36,7 @@ pub record IsAnswer (command : CommandValue) (text octets : List ℕ) : Type 0 w
   pub file : octets ≡ trace_file command.form iface records
 
 -- What each status says of a command. The inputs tell what the input of a name has, if they do, and failed so often before and after;
--- the sink was old and is new.
+-- the sink was old and is new. Where memory was refused, it was before the sink took anything, or the sink took a part of the answer.
 module _ {S : Type 0} (taken : S → Option (List ℕ)) (failures : S → ℕ) (told : List ℕ → Option (List ℕ)) (failed_before failed : ℕ) (old new : S) (command : CommandValue) where
   abbrev pub EndsCommand : Status → Type 0
   EndsCommand Done = (text : List ℕ) × IsInput (told command.topology) text × ((octets : List ℕ) × IsAnswer command text octets × WroteAll taken failures old new octets)

@@ -117,7 +117,7 @@ fn read_named<I: Inputs>(alloc: Global, inputs: &I, name: &str) -> Result<Vec<u8
     }
     match inputs.open(name) {
         Ok(mut file) => read_to_end(alloc, &mut file),
-        Err(error) => Err(fault_of(&error)),
+        Err(refused) => Err(fault_of(&refused)),
     }
 }
 

@@ -25,8 +25,10 @@ use std::alloc::Global;
 /// name. The trace file goes to `out` as it is made, and a line to `errors` where the program is
 /// not done; where `errors` fails there is nobody to tell, and the status stays.
 ///
-/// The first of these decides: the words, the input, the topology, all else. Memory may be refused
-/// at any place. Words that are no command open no input.
+/// The first of these decides: the words, the input, the topology, all else. Words that are no
+/// command open no input. Memory may be refused at any place: the sink has a prefix of the trace
+/// file then, which may be empty. Where the sink fails it has a prefix of the file too; with every
+/// other status but `Done` it took nothing.
 pub fn run<I: Inputs, O: Sink + Drop, E: Sink>(
     alloc: Global,
     words: &[String],
