@@ -1,4 +1,4 @@
-mod Nexts
+pub mod Nexts
 mod Differences
 mod Blocks
 mod Turns

@@ -1,0 +1,3 @@
+mod Beginnings
+mod Incoming
+mod Tellings

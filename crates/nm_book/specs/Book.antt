@@ -1,0 +1,96 @@
+-- What contracts see of a book, and what it takes in.
+use Rattle.std.specs.Prelude.{◌≡◌, ℕ, ◌-◌, Bool, ltb, ◌&&◌, true, false, List, length, slice_index_or, slice_set, Option, Some, None, Result, Ok, Err}
+use Rattle.std.specs.FinMap.{FinMap, from_entries}
+use Rattle.nm_base.specs.declared.event.Event.{Event}
+use Rattle.nm_base.specs.Key.{key_cmp}
+use Rattle.nm_topology.specs.Topology.{channel_from, receiving_iface}
+use Rattle.nm_topology.specs.TopologyValue.{TopologyValue}
+use Rattle.nm_model.specs.Accept as model
+use Rattle.nm_model.specs.Knowledge.{Know, Knowledge, nothing_known}
+use Rattle.nm_model.specs.Partition.{comes_in}
+use Rattle.nm_model.specs.Replica.{IsWithin, from_scratch}
+use Rattle.nm_events.specs.declared.heap_list.HeapList.{HeapList}
+use Rattle.nm_knowledge.specs.Answers.{answer, know_fault_number, reason}
+use Rattle.nm_knowledge.specs.Octets.{same_octets}
+use Rattle.nm_knowledge.specs.declared.answer.Accepted.{Accepted}
+use Rattle.nm_knowledge.specs.declared.answer.KnowFault.TheVariants.{Memory}
+use Rattle.nm_sim.specs.Network.{net_of}
+use Rattle.nm_sim.specs.Part.{PartValue, Represents}
+use Rattle.nm_book.specs.declared.message.ChannelMessage.{ChannelMessage}
+use Rattle.nm_book.specs.declared.message.ChannelMessage.TheVariants.{Data, Null}
+use Rattle.nm_book.specs.declared.fault.AcceptFault.{AcceptFault}
+use Rattle.nm_book.specs.declared.fault.AcceptFault.TheVariants.{Known, Stranger}
+
+-- a replica: its topology, partition and number, what it knows of each channel by the channel's number, how many events it did, and how
+-- many of its records were handed out
+pub record BookValue : Type 0 where
+  pub topology : TopologyValue
+  pub partition : ℕ
+  pub replica : ℕ
+  pub knows : List (Know (List ℕ))
+  pub events : ℕ
+  pub handed : ℕ
+
+-- what a list by channel numbers knows of a channel
+abbrev pub known_at : List (Know (List ℕ)) → Option ℕ → Know (List ℕ)
+known_at knows None = nothing_known
+known_at knows (Some c) = slice_index_or knows c nothing_known
+
+abbrev pub knowledge_of : TopologyValue → List (Know (List ℕ)) → Knowledge (List ℕ)
+knowledge_of t knows i = known_at knows (channel_from 0 t.receivers i)
+
+-- the pending events of a heap
+abbrev pub pending_in : HeapList → FinMap key_cmp (Event (List ℕ))
+pending_in s = from_entries s.heap.entries
+
+-- for how many more events a heap has room
+abbrev pub room_in : HeapList → ℕ
+room_in s = s.heap.capacity - length s.heap.entries
+
+-- the part is that of a replica from scratch that knows this much, and did events before its safe time alone
+pub record IsBook (t : TopologyValue) (p : ℕ) (knows : List (Know (List ℕ))) (part : PartValue HeapList) : Type 0 where
+  pub count : length knows ≡ length t.receivers
+  pub represents : Represents pending_in t (Some p) part (from_scratch (net_of t) p (knowledge_of t knows) part.steps)
+  pub within : IsWithin (net_of t) p (knowledge_of t knows) part.steps
+
+-- of channel c is learned what the model's function says of what was told; or a message that is new found no memory
+abbrev pub Learns : List (Know (List ℕ)) → List (Know (List ℕ)) → ℕ → model.Accepted (List ℕ) → Result Accepted AcceptFault → Type 0
+Learns old new c taken (Ok a) = (Some taken.answer ≡ answer (Ok a)) × (new ≡ slice_set old c taken.after)
+Learns old new c taken (Err Stranger) = ⊥
+Learns old new c taken (Err (Known Memory)) = (taken.answer ≡ model.New) × (new ≡ old)
+Learns old new c taken (Err (Known f)) = (Some taken.answer ≡ reason f) × (new ≡ old)
+
+-- the same where the channel may not come in here: then nothing is
+abbrev pub LearnsIf : Bool → List (Know (List ℕ)) → List (Know (List ℕ)) → ℕ → model.Accepted (List ℕ) → Result Accepted AcceptFault → Type 0
+LearnsIf true old new c taken result = Learns old new c taken result
+LearnsIf false old new c taken result = (result ≡ Err Stranger) × (new ≡ old)
+
+-- what the model's function says of message n of channel c
+abbrev pub data_taken : List (Know (List ℕ)) → ℕ → ℕ → ℕ → List ℕ → model.Accepted (List ℕ)
+data_taken knows c n time packet = model.accept_data same_octets (slice_index_or knows c nothing_known) n (time, packet)
+
+-- and of a null message
+abbrev pub null_taken : List (Know (List ℕ)) → ℕ → ℕ → ℕ → model.Accepted (List ℕ)
+null_taken knows c n time = model.accept_null (slice_index_or knows c nothing_known) n time
+
+-- A book takes in what was told of channel c, if that comes in here: nothing but what it knows of it changes.
+pub record Takes (old new : BookValue) (c : ℕ) (taken : model.Accepted (List ℕ)) (result : Result Accepted AcceptFault) : Type 0 where
+  pub learns : LearnsIf (comes_in (net_of old.topology) old.partition (receiving_iface old.topology c)) old.knows new.knows c taken result
+  pub same : new ≡ record old { knows = new.knows }
+
+-- what the model's function says of a message or a null message
+abbrev pub message_channel : ChannelMessage → ℕ
+message_channel (Data d) = d.channel
+message_channel (Null n) = n.channel
+
+abbrev pub message_taken : List (Know (List ℕ)) → ChannelMessage → model.Accepted (List ℕ)
+message_taken knows (Data d) = data_taken knows d.channel d.number d.time d.packet
+message_taken knows (Null n) = null_taken knows n.channel n.count n.clock
+
+abbrev pub accept_fault_number : AcceptFault → ℕ
+accept_fault_number Stranger = 7
+accept_fault_number (Known f) = know_fault_number f
+
+-- whether the topology has this partition, and it this replica
+abbrev pub is_replica : TopologyValue → ℕ → ℕ → Bool
+is_replica t p r = ltb p t.partitions && ltb r 2

@@ -1,0 +1,36 @@
+//! The channels that come into a partition.
+
+ghost use Rattle.std.specs.Prelude.{◌≡◌, ◌<◌, true, length};
+ghost use Rattle.nm_model.specs.Partition.{comes_in};
+ghost use Rattle.nm_sim.specs.Network.{net_of};
+ghost use Rattle.nm_topology.specs.Topology.{receiving_iface};
+
+use nm_base::{ChanNo, IfaceNo, PartNo};
+use nm_sim::network::channels_are_those_of_the_network;
+use nm_topology::Topology;
+use nm_topology::topology::{
+    accepted_topologies_are_in_order, channels_are_numbered_by_their_receivers,
+};
+
+/// The partition of an interface.
+fn partition_of(topology: &Topology, iface: IfaceNo) -> PartNo
+    requires { iface < length topology.now.ifaces }
+    ensures { result ≡ (net_of topology.now).part ((net_of topology.now).owner iface) }
+{
+    accepted_topologies_are_in_order(topology); // law: an interface's node is there
+    topology.node(topology.iface(iface).node()).partition()
+}
+
+/// Whether a channel comes into a partition.
+pub(crate) fn comes_in(topology: &Topology, partition: PartNo, channel: ChanNo) -> bool
+    ensures value { result ≡ comes_in (net_of topology.now) partition
+        (receiving_iface topology.now channel) }
+    ensures there { result ≡ true → channel < length topology.now.receivers }
+{
+    channels_are_those_of_the_network(topology); // law: a channel comes in at its receiver
+    channels_are_numbered_by_their_receivers(topology); // law: its interface is there
+    if channel.index() >= topology.receivers().len() {
+        return false;
+    }
+    partition_of(topology, topology.receiver(channel)) == partition
+}

@@ -1,0 +1,75 @@
+//! Why a book refuses.
+
+ghost use Rattle.std.specs.Prelude.{◌≡◌};
+ghost use Rattle.nm_book.specs.Book.{accept_fault_number};
+ghost use Rattle.nm_book.specs.declared.fault.AcceptFault.TheVariants.{Known};
+ghost use Rattle.nm_book.specs.declared.fault.BookFault.TheVariants.{Memory};
+
+use nm_knowledge::KnowFault;
+use std::alloc::AllocError;
+use std::fmt;
+use thiserror::Error;
+
+/// Why there is no book.
+#[derive(Clone, Copy, Debug, PartialEq, Eq, Error)]
+pub enum BookFault {
+    /// The topology has no such partition, or there is no such replica of it.
+    NoSuch,
+    /// Memory was refused.
+    Memory,
+}
+
+impl BookFault {
+    /// The fault in words.
+    fn message(self) -> &'static str {
+        match self {
+            BookFault::NoSuch => "there is no such partition or replica",
+            BookFault::Memory => "out of memory",
+        }
+    }
+}
+
+impl fmt::Display for BookFault {
+    fn fmt<W: fmt::Write>(&self, f: &mut fmt::Formatter<W>) -> fmt::Result {
+        f.write_str(self.message())
+    }
+}
+
+impl From<AllocError> for BookFault {
+    ghost from_gives = { λ _ f. f ≡ Memory };
+
+    fn from(_: AllocError) -> Self {
+        BookFault::Memory
+    }
+}
+
+/// Why a book refused a message or a null message. It is unchanged then.
+#[derive(Clone, Copy, Debug, PartialEq, Eq, Error)]
+pub enum AcceptFault {
+    /// The channel does not come in here.
+    #[error("the channel does not come in here")]
+    Stranger,
+    /// What is known of the channel refused it.
+    #[error("{0}")]
+    Known(KnowFault),
+}
+
+impl AcceptFault {
+    /// The number by which reports name the fault, from 1 to 7.
+    pub fn number(&self) -> u8
+        ensures { result ≡ accept_fault_number self.now }
+    {
+        match self {
+            AcceptFault::Stranger => 7,
+            AcceptFault::Known(fault) => fault.number(),
+        }
+    }
+}
+
+impl From<KnowFault> for AcceptFault {
+    ghost from_gives = { λ k f. f ≡ Known k };
+
+    fn from(fault: KnowFault) -> Self {
+        AcceptFault::Known(fault)
+    }
+}

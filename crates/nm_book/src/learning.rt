@@ -1,0 +1,138 @@
+//! What a replica learns of a channel.
+
+ghost use Rattle.std.specs.Prelude.{◌≡◌, ◌<◌, ◌≤◌, true, IfErr, OnErr, OnOk, length, slice_set};
+ghost use Rattle.nm_model.specs.Accept.{New as IsNew};
+ghost use Rattle.nm_model.specs.Partition.{comes_in};
+ghost use Rattle.nm_knowledge.specs.declared.answer.KnowFault.TheVariants.{Memory};
+ghost use Rattle.nm_sim.specs.Network.{net_of};
+ghost use Rattle.nm_topology.specs.Topology.{receiving_iface};
+ghost use Rattle.nm_book.specs.Book.{IsBook, Learns, data_taken, null_taken, room_in};
+ghost use Rattle.nm_book.specs.declared.fault.AcceptFault.TheVariants.{Known};
+
+use crate::fault::AcceptFault;
+use crate::message::{Data, Null};
+use nm_base::{Packet, PartNo};
+use nm_events::HeapList;
+use nm_forward::NodeState;
+use nm_knowledge::{Accepted, Know, KnowFault};
+use nm_model::knowledge::accept_laws;
+use nm_model::replica::{law_of_books, more_of_one_channel_is_more, told_one_more};
+use nm_sim::Part;
+use nm_sim::network::every_topology_is_a_network;
+use nm_topology::Topology;
+use nm_topology::topology::channels_are_numbered_by_their_receivers;
+
+/// A new message of a channel is known from now on.
+fn add_data(knows: &mut Vec<Know>, data: &Data) -> Result<(), AcceptFault>
+    requires there { data.now.channel < length knows.old.items }
+    requires next { (data_taken knows.old.items data.now.channel data.now.number data.now.time
+        data.now.packet).answer ≡ IsNew }
+    ensures ok { OnOk result (knows.new.items ≡ slice_set knows.old.items data.now.channel
+        (data_taken knows.old.items data.now.channel data.now.number data.now.time
+        data.now.packet).after) }
+    ensures err { OnErr result (knows.new.items ≡ knows.old.items) }
+    ensures memory { IfErr result (λ e. e ≡ Known Memory) }
+{
+    knows[data.channel.index()].accept_data(data.number, data.time, &data.packet)?;
+    Ok(())
+}
+
+/// A message of a channel that comes in: what is known of the channel grows, and its arrival is to
+/// come. Room for the arrival is made, and the packet is shared, before anything changes, and only
+/// where the message is new.
+pub(crate) fn take_data(
+    topology: &Topology,
+    partition: PartNo,
+    knows: &mut Vec<Know>,
+    part: &mut Part<HeapList>,
+    data: &Data,
+) -> Result<Accepted, AcceptFault>
+    requires book { IsBook topology.now partition knows.old.items part.old }
+    requires there { data.now.channel < length topology.now.receivers }
+    requires comes { comes_in (net_of topology.now) partition
+        (receiving_iface topology.now data.now.channel) ≡ true }
+    ensures book { IsBook topology.now partition knows.new.items part.new }
+    ensures learns { Learns knows.old.items knows.new.items data.now.channel
+        (data_taken knows.old.items data.now.channel data.now.number data.now.time data.now.packet)
+        result }
+    ensures steps { part.new.steps ≡ part.old.steps }
+    ensures handed { part.new.records.handed ≡ part.old.records.handed }
+{
+    let know = &knows[data.channel.index()];
+    let accepted = know.check_data(data.number, data.time, &data.packet)?;
+    if accepted != Accepted::New {
+        return Ok(accepted);
+    }
+    let Ok(packet) = data.packet.clone() else {
+        return Err(AcceptFault::Known(KnowFault::Memory));
+    };
+    let Ok(()) = part.reserve(1) else {
+        return Err(AcceptFault::Known(KnowFault::Memory));
+    };
+    put_data(topology, partition, knows, part, data, packet)?;
+    Ok(Accepted::New)
+}
+
+/// A new message is known from now on, and its arrival, for which there is room, is to come.
+fn put_data(
+    topology: &Topology,
+    partition: PartNo,
+    knows: &mut Vec<Know>,
+    part: &mut Part<HeapList>,
+    data: &Data,
+    packet: Packet,
+) -> Result<(), AcceptFault>
+    requires same { packet ≡ data.now.packet }
+    requires book { IsBook topology.now partition knows.old.items part.old }
+    requires there { data.now.channel < length topology.now.receivers }
+    requires comes { comes_in (net_of topology.now) partition
+        (receiving_iface topology.now data.now.channel) ≡ true }
+    requires next { (data_taken knows.old.items data.now.channel data.now.number data.now.time
+        data.now.packet).answer ≡ IsNew }
+    requires room { 1 ≤ room_in part.old.timeline.events }
+    ensures book { IsBook topology.now partition knows.new.items part.new }
+    ensures ok { OnOk result (knows.new.items ≡ slice_set knows.old.items data.now.channel
+        (data_taken knows.old.items data.now.channel data.now.number data.now.time
+        data.now.packet).after) }
+    ensures err { OnErr result (knows.new.items ≡ knows.old.items) }
+    ensures memory { IfErr result (λ e. e ≡ Known Memory) }
+    ensures steps { part.new.steps ≡ part.old.steps }
+    ensures handed { part.new.records.handed ≡ part.old.records.handed }
+{
+    every_topology_is_a_network(topology); // law: `net_of` is a network of the model
+    channels_are_numbered_by_their_receivers(topology); // law: a channel has its own interface
+    told_one_more::<Packet, NodeState>(); // law: one more message is one more arrival
+    law_of_books::<Packet, NodeState>(); // law: what was safe to do stays so
+    more_of_one_channel_is_more::<Packet, NodeState>(); // law: and this is more
+    accept_laws::<Packet>(); // law: a message that is taken is more
+    add_data(knows, data)?;
+    part.put_arrival(topology, data.channel, data.number, data.time, packet);
+    Ok(())
+}
+
+/// A null message of a channel that comes in: the clock of what is known may rise. It takes no
+/// memory.
+pub(crate) fn take_null(
+    topology: &Topology,
+    partition: PartNo,
+    knows: &mut Vec<Know>,
+    part: &Part<HeapList>,
+    null: &Null,
+) -> Result<Accepted, AcceptFault>
+    requires book { IsBook topology.now partition knows.old.items part.now }
+    requires there { null.now.channel < length topology.now.receivers }
+    requires comes { comes_in (net_of topology.now) partition
+        (receiving_iface topology.now null.now.channel) ≡ true }
+    ensures book { IsBook topology.now partition knows.new.items part.now }
+    ensures learns { Learns knows.old.items knows.new.items null.now.channel
+        (null_taken knows.old.items null.now.channel null.now.count null.now.clock) result }
+{
+    every_topology_is_a_network(topology); // law: `net_of` is a network of the model
+    channels_are_numbered_by_their_receivers(topology); // law: a channel has its own interface
+    told_one_more::<Packet, NodeState>(); // law: a clock that rises changes no state
+    law_of_books::<Packet, NodeState>(); // law: what was safe to do stays so
+    more_of_one_channel_is_more::<Packet, NodeState>(); // law: and this is more
+    accept_laws::<Packet>(); // law: a null message that is taken is more
+    let accepted = knows[null.channel.index()].accept_null(null.count, null.clock)?;
+    Ok(accepted)
+}

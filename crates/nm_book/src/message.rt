@@ -1,0 +1,31 @@
+//! What partitions tell each other.
+
+use nm_base::{ChanNo, Packet, Time};
+
+/// A message of a channel (J. Misra, 1986, section 2): a packet, and when it arrives.
+#[derive(Drop)]
+pub struct Data {
+    pub channel: ChanNo,
+    /// How many messages the channel had before it.
+    pub number: u64,
+    /// When the packet arrives, in nanoseconds.
+    pub time: Time,
+    pub packet: Packet,
+}
+
+/// A null message (J. Misra, 1986, section 3): all messages of the channel from number `count` on
+/// arrive at `clock` or later.
+#[derive(Clone, Copy)]
+pub struct Null {
+    pub channel: ChanNo,
+    pub count: u64,
+    /// In nanoseconds.
+    pub clock: Time,
+}
+
+/// A message of a channel, or a null message.
+#[derive(Drop)]
+pub enum ChannelMessage {
+    Data(Data),
+    Null(Null),
+}
