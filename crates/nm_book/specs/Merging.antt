@@ -1,16 +1,18 @@
 -- What a merge with another replica's knowledge does.
-use Rattle.std.specs.Prelude.{◌≡◌, ◌≢◌, ℕ, ◌<◌, ◌==◌, ◌&&◌, Bool, true, false, if◌then◌else◌, List, length, slice_index_or, Option, Some, None, Result, Ok, Err}
-use Rattle.std.specs.Cmp.Lexicographic.{pointwise}
+use Rattle.std.specs.Prelude.{◌≡◌, ℕ, ◌<◌, ◌≤◌, ◌==◌, ◌&&◌, Bool, true, false, if◌then◌else◌, List, length, slice_get, slice_index_or, Option, Some, None, Result, Ok, Err}
 use Rattle.nm_topology.specs.Topology.{receiving_iface}
 use Rattle.nm_topology.specs.TopologyValue.{TopologyValue}
 use Rattle.nm_model.specs.Join.{join, join_fault}
 use Rattle.nm_model.specs.Knowledge.{Know, nothing_known}
 use Rattle.nm_model.specs.Partition.{comes_in}
 use Rattle.nm_knowledge.specs.Answers.{reason}
+use Rattle.nm_knowledge.specs.Gain.{Gain, IsGain, gained}
 use Rattle.nm_knowledge.specs.Octets.{same_octets}
 use Rattle.nm_knowledge.specs.declared.answer.KnowFault.{KnowFault}
 use Rattle.nm_sim.specs.Network.{net_of}
 use Rattle.nm_book.specs.Book.{BookValue}
+use Rattle.nm_book.specs.Telling.{Follow, told}
+use Rattle.nm_book.specs.declared.message.Data.{Data}
 use Rattle.nm_book.specs.declared.fault.MergeFault.{MergeFault}
 use Rattle.nm_book.specs.declared.fault.MergeFault.TheVariants.{Stranger, Channel, Memory}
 
@@ -22,7 +24,7 @@ pub record KnowledgeValue : Type 0 where
 
 -- whether it is that of a replica of this partition: of a topology with this digest and as many channels
 abbrev pub is_of : TopologyValue → ℕ → KnowledgeValue → Bool
-is_of t p other = pointwise nat_eq other.digest t.digest && (other.partition == p) && (length other.knows == length t.receivers)
+is_of t p other = same_octets other.digest t.digest && (other.partition == p) && (length other.knows == length t.receivers)
 
 module _ (t : TopologyValue) (p : ℕ) (knows others : List (Know (List ℕ))) where
   -- what both know of channel c
@@ -62,6 +64,46 @@ module _ (t : TopologyValue) (p : ℕ) (knows others : List (Know (List ℕ))) w
   Merges is_ours after (Err Stranger) = (is_ours ≡ false) × (after ≡ knows)
   Merges is_ours after (Err (Channel c fault)) = (is_ours ≡ true) × IsFirstFault c fault × (after ≡ knows)
   Merges is_ours after (Err Memory) = (is_ours ≡ true) × AreJoinable (length knows) × (after ≡ knows)
+
+-- How a merge goes.
+module _ (t : TopologyValue) (p : ℕ) (knows others : List (Know (List ℕ))) where
+  -- all channels that come in can be joined, or this is the first that can't
+  abbrev pub Checks : Result Unit MergeFault → Type 0
+  Checks (Ok u) = AreJoinable t p knows others (length knows)
+  Checks (Err Stranger) = ⊥
+  Checks (Err (Channel c fault)) = IsFirstFault t p knows others c fault
+  Checks (Err Memory) = ⊥
+
+  -- channel c gains this, if it comes in
+  abbrev pub GainsAt : ℕ → Option Gain → Type 0
+  GainsAt c None = is_incoming t p knows others c ≡ false
+  GainsAt c (Some g) = (is_incoming t p knows others c ≡ true) × IsGain (known t p knows others c) g
+      × (gained (known t p knows others c) g ≡ join (known t p knows others c) (other t p knows others c))
+
+  pub record AreGains (gains : List (Option Gain)) : Type 0 where
+    pub count : length gains ≡ length knows
+    pub each : (c : ℕ) (g : Option Gain) → slice_get gains c ≡ Some g → GainsAt c g
+
+  -- of the channels below number n that come in all messages of both are known, and the clocks are not past those of the joins; nothing else changed
+  pub record AreTold (n : ℕ) (after : List (Know (List ℕ))) : Type 0 where
+    pub count : length after ≡ length knows
+    pub list : (c : ℕ) → c < n → is_incoming t p knows others c ≡ true
+        → (slice_index_or after c nothing_known).list ≡ (join (known t p knows others c) (other t p knows others c)).list
+    pub clock : (c : ℕ) → c < n → is_incoming t p knows others c ≡ true
+        → (slice_index_or after c nothing_known).clock ≤ (join (known t p knows others c) (other t p knows others c)).clock
+    pub under : (c : ℕ) → c < n → is_incoming t p knows others c ≡ true
+        → (known t p knows others c).clock ≤ (slice_index_or after c nothing_known).clock
+    pub outside : (c : ℕ) → is_incoming t p knows others c ≡ false → slice_index_or after c nothing_known ≡ known t p knows others c
+    pub above : (c : ℕ) → n ≤ c → slice_index_or after c nothing_known ≡ known t p knows others c
+
+-- it is the turn of channel c, which comes in: both know this of it, and the messages of those below it are told
+pub record IsTurnOf (t : TopologyValue) (p : ℕ) (knows others : List (Know (List ℕ))) (c : ℕ) (a b : Know (List ℕ)) (messages : List Data) : Type 0 where
+  pub there : c < length knows
+  pub incoming : comes_in (net_of t) p (receiving_iface t c) ≡ true
+  pub ours : slice_index_or knows c nothing_known ≡ a
+  pub theirs : slice_index_or others c nothing_known ≡ b
+  pub follow : Follow t p knows messages
+  pub below : AreTold t p knows others c (told knows messages)
 
 -- a book merges another's knowledge: nothing but what it knows changes
 pub record BookMerges (old new : BookValue) (other : KnowledgeValue) (result : Result Unit MergeFault) : Type 0 where

@@ -1,12 +1,13 @@
 //! Merges of what another replica knows.
 
-ghost use Rattle.std.specs.Prelude.{◌≡◌, ℕ, ◌<◌, true, IfOk, None, Some, [], length, slice_index_or, slice_set};
-ghost use Rattle.nm_model.specs.Join.{join, join_fault};
-ghost use Rattle.nm_model.specs.Knowledge.{nothing_known};
+ghost use Rattle.std.specs.Prelude.{◌≡◌, ℕ, ◌+◌, true, IfOk, List, None, length};
+ghost use Rattle.nm_model.specs.Join.{join_fault};
+ghost use Rattle.nm_model.specs.Knowledge.{Know as Knowledge};
 ghost use Rattle.nm_knowledge.specs.Octets.{same_octets};
+ghost use Rattle.nm_topology.specs.TopologyValue.{TopologyValue};
 ghost use Rattle.nm_book.specs.Book.{IsBook};
-ghost use Rattle.nm_book.specs.Merging.{AreGains, AreJoinable, AreJoined, Checks, Merges, is_incoming};
-ghost use Rattle.nm_book.specs.Telling.{Brings, Follow, known_of, told};
+ghost use Rattle.nm_book.specs.Merging.{AreGains, AreJoinable, AreJoined, AreTold, Checks, IsTurnOf, Merges};
+ghost use Rattle.nm_book.specs.Telling.{Follow, told};
 
 use crate::channels::comes_in;
 use crate::fault::MergeFault;
@@ -14,10 +15,12 @@ use crate::learning::put_messages;
 use crate::message::Data;
 use nm_base::{ChanNo, Packet, PartNo};
 use nm_events::HeapList;
-use nm_forward::NodeState;
+use nm_knowledge::laws::{packets_are_told_apart, what_is_known};
 use nm_knowledge::{Gain, Know};
+use nm_model::knowledge::{join_faults_are_right, join_laws};
 use nm_sim::Part;
 use nm_topology::Topology;
+use nm_topology::topology::accepted_topologies_are_in_order;
 use std::alloc::{AllocError, Global};
 
 /// Looks whether all channels that come in can be joined.
@@ -31,6 +34,7 @@ fn check_all(
     requires others { length others.now ≡ length topology.now.receivers }
     ensures { Checks topology.now partition knows.now others.now result }
 {
+    accepted_topologies_are_in_order(topology); // law: channels have numbers of 32 bits
     for number in 0..knows.len() {
         let channel = ChanNo::new(number as u32);
         if !comes_in(topology, partition, channel) {
@@ -56,6 +60,7 @@ fn gains(
     requires joinable { AreJoinable topology.now partition knows.now others.now (length knows.now) }
     ensures { IfOk result (λ v. AreGains topology.now partition knows.now others.now v.items) }
 {
+    accepted_topologies_are_in_order(topology); // law: channels have numbers of 32 bits
     let mut gains = Vec::with_capacity(alloc, knows.len())?;
     for number in 0..knows.len() {
         let gain = if comes_in(topology, partition, ChanNo::new(number as u32)) {
@@ -75,7 +80,16 @@ fn add_messages(
     know: &Know,
     other: &Know,
 ) -> Result<(), AllocError>
+    requires { join_fault same_octets know.now other.now ≡ None }
+    ensures { IfOk result (λ _. (t : TopologyValue) (p : ℕ) (knows others : List (Knowledge (List ℕ)))
+        → IsTurnOf t p knows others channel know.now other.now messages.old.items
+        → Follow t p knows messages.new.items
+        × AreTold t p knows others (channel + 1) (told knows messages.new.items)) }
 {
+    join_faults_are_right::<Packet>(); // law: the longer list goes on after the clock
+    what_is_known(know);
+    what_is_known(other);
+    packets_are_told_apart();
     for number in know.len()..other.len() {
         let number = number as u64;
         let Some((time, packet)) = other.message(number) else {
@@ -104,8 +118,10 @@ fn new_messages(
     requires others { length others.now ≡ length topology.now.receivers }
     requires joinable { AreJoinable topology.now partition knows.now others.now (length knows.now) }
     ensures follow { IfOk result (λ v. Follow topology.now partition knows.now v.items) }
-    ensures told { IfOk result (λ v. AreTold topology.now partition knows.now others.now (told knows.now v.items)) }
+    ensures told { IfOk result (λ v. AreTold topology.now partition knows.now others.now
+        (length knows.now) (told knows.now v.items)) }
 {
+    accepted_topologies_are_in_order(topology); // law: channels have numbers of 32 bits
     let mut messages = Vec::new(alloc);
     for number in 0..knows.len() {
         let channel = ChanNo::new(number as u32);
@@ -117,7 +133,15 @@ fn new_messages(
 }
 
 /// Takes what was gained, which takes no memory.
-fn take_all(knows: &mut Vec<Know>, gains: Vec<Option<Gain>>)
+fn take_all(
+    topology: &Topology,
+    partition: PartNo,
+    knows: &mut Vec<Know>,
+    others: &[Know],
+    gains: Vec<Option<Gain>>,
+)
+    requires { AreGains topology.now partition knows.old.items others.now gains.items }
+    ensures { AreJoined topology.now partition knows.old.items others.now knows.new.items }
 {
     let mut number = 0;
     for gain in gains {
@@ -150,6 +174,6 @@ pub(crate) fn merge_all(
     let messages = new_messages(alloc, topology, partition, knows, others)?;
     part.reserve(messages.len())?;
     put_messages(topology, partition, part, messages);
-    take_all(knows, gains);
+    take_all(topology, partition, knows, others, gains);
     Ok(())
 }
