@@ -1,0 +1,5 @@
+pub mod Fault
+pub mod Frame
+pub mod Stream
+pub mod Reader
+pub mod Pieces
