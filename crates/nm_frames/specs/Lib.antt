@@ -3,3 +3,8 @@ pub mod Frame
 pub mod Stream
 pub mod Reader
 pub mod Pieces
+pub mod Channels
+pub mod Version
+pub mod Session
+pub mod Owed
+pub mod Lives

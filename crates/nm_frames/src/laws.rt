@@ -7,6 +7,9 @@ ghost use Rattle.nm_frames.specs.Frame.{IsFrame, frame_octets};
 ghost use Rattle.nm_frames.specs.Stream.{Splits, deciding_octets, fault_shown};
 ghost use Rattle.nm_frames.specs.Reader.{ReaderValue};
 ghost use Rattle.nm_frames.specs.Pieces.{FeedsAll, HasRead, new_reader, stream_of};
+ghost use Rattle.nm_topology.specs.TopologyValue.{TopologyValue};
+ghost use Rattle.nm_frames.specs.Session.{SessionValue, new_session};
+ghost use Rattle.nm_frames.specs.Lives.{AreConsecutive, Lives, SessionStep};
 
 /// No frame's octets begin another's.
 pub fn no_frame_begins_another()
@@ -44,4 +47,12 @@ pub fn cuts_do_not_matter()
         (fs gs : List Frame) → FeedsAll new_reader [] ps one fs
         → FeedsAll new_reader [] qs other gs → stream_of ps ≡ stream_of qs
         → (fs ≡ gs) × (one ≡ other) }
+{}
+
+/// Over any frames taken and given, and breaks, each message that a session gives on a channel has
+/// the number that the peer's last Have stated, or the one after that of the message given before.
+pub fn messages_are_consecutive()
+    ensures { (t : TopologyValue) (me replica peer : ℕ) (steps : List SessionStep)
+        (last : SessionValue) (channel : ℕ)
+        → Lives (new_session t me replica peer) steps last → AreConsecutive channel None steps }
 {}
