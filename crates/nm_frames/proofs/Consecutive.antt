@@ -23,7 +23,7 @@ use Rattle.nm_frames.specs.Frame.{have_frame}
 use Rattle.nm_frames.specs.Owed.{bye_owed, given, have_owed, held_on, hello_of, is_last, is_told, message_owed, moved_to, null_owed, or_else, owed, owed_at, promising_of, with_null}
 use Rattle.nm_frames.specs.Session.{SessionValue, at_channel, broken, comes_in, goes_out, greeted, is_there, new_outgoing, new_session, restarted, taken, taken_first, taken_later}
 use Rattle.nm_frames.specs.Version.{version_of}
-use Rattle.nm_frames.specs.Lives.{SessionStep, Took, Gave, Broke, Lives, due_taken, due_given, IsDue, AreConsecutive}
+use Rattle.nm_frames.specs.Lives.{SessionStep, Took, Gave, Broke, Lives, due_taken, due_given, IsDue, AreConsecutive, HasCursor, due_after}
 
 -- the cursor of the channel is what is due
 abbrev pub At : ℕ → Option ℕ → Outgoing → Type 0
@@ -169,6 +169,15 @@ lives_due [] s t c due all lives = tt
 lives_due (Took f ∷ r) s t c due all lives = lives_due r lives.0 t c (due_taken c due f) (taken_due s lives.0 c due f all lives.1) lives.2
 lives_due (Gave f ∷ r) s t c due all lives = (owed_due c due s lives.0 f all lives.1, lives_due r (given s f) t c (due_given c due f) (given_due s c due f all) lives.2)
 lives_due (Broke ∷ r) s t c due all lives = lives_due r (broken s) t c None (forgets c s.outgoing) lives
+
+lives_cursor : (steps : List SessionStep) (s t : SessionValue) (c : ℕ) (due : Option ℕ) → AllAt c due s.outgoing → Lives s steps t → AllAt c (due_after c due steps) t.outgoing
+lives_cursor [] s t c due all lives = subst (λ (x : SessionValue). AllAt c due x.outgoing) (sym lives) all
+lives_cursor (Took f ∷ r) s t c due all lives = lives_cursor r lives.0 t c (due_taken c due f) (taken_due s lives.0 c due f all lives.1) lives.2
+lives_cursor (Gave f ∷ r) s t c due all lives = lives_cursor r (given s f) t c (due_given c due f) (given_due s c due f all) lives.2
+lives_cursor (Broke ∷ r) s t c due all lives = lives_cursor r (broken s) t c None (forgets c s.outgoing) lives
+
+pub from_cursor : (s t : SessionValue) (steps : List SessionStep) (c : ℕ) (due : Option ℕ) → HasCursor c due s.outgoing → Lives s steps t → AreConsecutive c due steps × HasCursor c (due_after c due steps) t.outgoing
+from_cursor s t steps c due all lives = (lives_due steps s t c due all lives, lives_cursor steps s t c due all lives)
 
 pub consecutive : (n : TopologyValue) (me replica peer : ℕ) (steps : List SessionStep) (t : SessionValue) (c : ℕ) → Lives (new_session n me replica peer) steps t → AreConsecutive c None steps
 consecutive n me replica peer steps t c lives = lives_due steps (new_session n me replica peer) t c None (none_yet c (channels_between n me peer)) lives

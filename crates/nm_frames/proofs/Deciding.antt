@@ -63,7 +63,7 @@ module _ (p q o : List ℕ) (whole : p ++ q ≡ o) where
   same_hello n true e h = ap (λ x. (n == 44) && x) (same_word (omega (arith, is_eq n 44 e, h)))
   same_hello n false e h = rw e refl
 
-  same_fit : (k n : ℕ) → 4 + n ≤ length p → fits_kind k n (drop 5 o) ≡ fits_kind k n (drop 5 p)
+  pub same_fit : (k n : ℕ) → 4 + n ≤ length p → fits_kind k n (drop 5 o) ≡ fits_kind k n (drop 5 p)
   same_fit k n h = ap (λ x. if k == 1 then x else if k == 2 then n == 13 else if k == 3 then nat_lt 21 n else if k == 4 then n == 21 else n == 1) (same_hello n (n == 44) refl h)
 
   longer : length p ≤ length o
@@ -165,3 +165,23 @@ module _ (p q o : List ℕ) (whole : p ++ q ≡ o) (n : ℕ) (size : length p �
 
 pub decided : (o : List ℕ) (x : FrameFault) → fault_shown o ≡ Some x → (n : ℕ) → fault_shown (take n o) ≡ (if nat_lt n (deciding_octets x o) then None else Some x)
 decided o x h n = decided_by (take n o) (drop n o) o (take-append-drop n o) n (length-take n o) (nat_lt (length o) 4) (is_bad_length (stated_length o)) (length o == 4) (is_bad_kind (slice_index o 4)) (nat_lt (length o) (4 + stated_length o)) (fits_kind (slice_index o 4) (stated_length o) (drop 5 o)) refl refl refl refl refl refl x h
+
+some_none : (e : FrameFault) → Some e ≡ None → ⊥
+some_none e h = cc
+
+-- octets that show no fault and are not short
+module _ (o : List ℕ) (least : 4 ≤ length o) (long : 4 + stated_length o ≤ length o) where
+  abbrev Whole : Type 0
+  Whole = (is_bad_length (stated_length o) ≡ false) × (is_bad_kind (slice_index o 4) ≡ false) × (fits_kind (slice_index o 4) (stated_length o) (drop 5 o) ≡ true)
+
+  whole_if : (a l e k s f : Bool) → nat_lt (length o) 4 ≡ a → is_bad_length (stated_length o) ≡ l → (length o == 4) ≡ e → is_bad_kind (slice_index o 4) ≡ k → nat_lt (length o) (4 + stated_length o) ≡ s → fits_kind (slice_index o 4) (stated_length o) (drop 5 o) ≡ f → fault_by a l e k s f ≡ None → Whole
+  whole_if true l e k s f ea el ee ek es ef h = absurd (omega (arith, is_lt (length o) 4 ea))
+  whole_if false true e k s f ea el ee ek es ef h = absurd (some_none BadLength h)
+  whole_if false false true k s f ea el ee ek es ef h = absurd (omega (arith, is_eq (length o) 4 ee, some_length (stated_length o) el))
+  whole_if false false false true s f ea el ee ek es ef h = absurd (some_none BadKind h)
+  whole_if false false false false true f ea el ee ek es ef h = absurd (omega (arith, is_lt (length o) (4 + stated_length o) es))
+  whole_if false false false false false true ea el ee ek es ef h = (el, ek, ef)
+  whole_if false false false false false false ea el ee ek es ef h = absurd (some_none BadBody h)
+
+pub whole_by : (o : List ℕ) → fault_shown o ≡ None → 4 ≤ length o → 4 + stated_length o ≤ length o → (is_bad_length (stated_length o) ≡ false) × (is_bad_kind (slice_index o 4) ≡ false) × (fits_kind (slice_index o 4) (stated_length o) (drop 5 o) ≡ true)
+whole_by o none least long = whole_if o least long (nat_lt (length o) 4) (is_bad_length (stated_length o)) (length o == 4) (is_bad_kind (slice_index o 4)) (nat_lt (length o) (4 + stated_length o)) (fits_kind (slice_index o 4) (stated_length o) (drop 5 o)) refl refl refl refl refl refl none

@@ -14,7 +14,7 @@ use Rattle.nm_frames.specs.Stream.{has_first_word, fits_kind}
 abbrev pub Octets : List ℕ → Type 0
 Octets xs = (i : ℕ) → get_or xs i 0 < 256
 
-octets_between : (xs : List ℕ) (i k : ℕ) → Octets xs → Octets (take k (drop i xs))
+pub octets_between : (xs : List ℕ) (i k : ℕ) → Octets xs → Octets (take k (drop i xs))
 octets_between xs i k small j = ⊎_elim
     (λ h. omega (arith, get_or-take k (drop i xs) j 0 h, get_or-drop i xs j 0, small (i + j)))
     (λ h. omega (arith, get_or_past (take k (drop i xs)) j 0 (omega (arith, length-take k (drop i xs)))))
@@ -43,7 +43,7 @@ field_8 xs i n small h e = parts xs i 8 (to_be_bytes w64 n) (be_bytes_8 (take 8 
 pub tail_is : (xs : List ℕ) (i : ℕ) → take (length xs - i) (drop i xs) ≡ drop i xs
 tail_is xs i = ap (λ n. take n (drop i xs)) (sym (length-drop i xs)) ∙ take-length (drop i xs)
 
-head_of : (xs : List ℕ) (k : ℕ) → 1 ≤ length xs → get_or xs 0 0 ≡ k → xs ≡ k ∷ drop 1 xs
+pub head_of : (xs : List ℕ) (k : ℕ) → 1 ≤ length xs → get_or xs 0 0 ≡ k → xs ≡ k ∷ drop 1 xs
 head_of xs k h e = drop_more xs 0 0 (omega arith) ∙ ap (λ x. x ∷ drop 1 xs) e
 
 module _ (xs : List ℕ) (small : Octets xs) where

@@ -1,8 +1,10 @@
 -- A session over any frames taken and given, and breaks.
 use Rattle.std.specs.Prelude.{◌≡◌, ℕ, ◌+◌, ◌==◌, List, [], ◌∷◌, Option, Some, None, Ok, if◌then◌else◌}
+use Rattle.std.specs.List.{AllByRecursion}
 use Rattle.nm_book.specs.Book.{BookValue}
 use Rattle.nm_frames.specs.declared.frame.Frame.{Frame}
 use Rattle.nm_frames.specs.declared.frame.Frame.TheVariants.{Hello, Have, Data, Null, Bye}
+use Rattle.nm_frames.specs.declared.side.Outgoing.{Outgoing}
 use Rattle.nm_frames.specs.Owed.{given, owed}
 use Rattle.nm_frames.specs.Session.{SessionValue, broken, taken}
 
@@ -49,3 +51,14 @@ AreConsecutive c due [] = Unit {0}
 AreConsecutive c due (Took f ∷ r) = AreConsecutive c (due_taken c due f) r
 AreConsecutive c due (Gave f ∷ r) = IsDue c due f × AreConsecutive c (due_given c due f) r
 AreConsecutive c due (Broke ∷ r) = AreConsecutive c None r
+
+-- the number that is due after these steps
+abbrev pub due_after : ℕ → Option ℕ → List SessionStep → Option ℕ
+due_after c due [] = due
+due_after c due (Took f ∷ r) = due_after c (due_taken c due f) r
+due_after c due (Gave f ∷ r) = due_after c (due_given c due f) r
+due_after c due (Broke ∷ r) = due_after c None r
+
+-- the cursor of channel c, where that is one of these
+abbrev pub HasCursor : ℕ → Option ℕ → List Outgoing → Type 0
+HasCursor c due os = AllByRecursion (λ o. o.channel ≡ c → o.cursor ≡ due) os

@@ -1,6 +1,7 @@
 //! Laws of the definitions: each function's contract is a law, and its body is empty.
 
-ghost use Rattle.std.specs.Prelude.{◌≡◌, ℕ, ◌++◌, List, [], None, Some, Result, nat_lt, take, if◌then◌else◌};
+ghost use Rattle.std.specs.Prelude.{◌≡◌, ℕ, ◌<◌, ◌++◌, List, [], All};
+ghost use Rattle.std.specs.Prelude.{None, Some, Option, Result, if◌then◌else◌, nat_lt, take};
 ghost use Rattle.nm_frames.specs.declared.frame.Frame.{Frame};
 ghost use Rattle.nm_frames.specs.declared.fault.FrameFault.{FrameFault};
 ghost use Rattle.nm_frames.specs.Frame.{IsFrame, frame_octets};
@@ -9,7 +10,7 @@ ghost use Rattle.nm_frames.specs.Reader.{ReaderValue};
 ghost use Rattle.nm_frames.specs.Pieces.{FeedsAll, HasRead, new_reader, stream_of};
 ghost use Rattle.nm_topology.specs.TopologyValue.{TopologyValue};
 ghost use Rattle.nm_frames.specs.Session.{SessionValue, new_session};
-ghost use Rattle.nm_frames.specs.Lives.{AreConsecutive, Lives, SessionStep};
+ghost use Rattle.nm_frames.specs.Lives.{AreConsecutive, HasCursor, Lives, SessionStep, due_after};
 
 /// No frame's octets begin another's.
 pub fn no_frame_begins_another()
@@ -17,9 +18,11 @@ pub fn no_frame_begins_another()
         → frame_octets f ++ x ≡ frame_octets g ++ y → (f ≡ g) × (x ≡ y) }
 {}
 
-/// A stream is frames and a rest in one way only.
+/// Octets are frames and a rest in one way, and in no other.
 pub fn one_stream()
-    ensures { (stream : List ℕ) (fs gs : List Frame) (r q : List ℕ)
+    ensures splits { (stream : List ℕ) → All (λ octet. octet < 256) stream
+        → (frames : List Frame) × (rest : List ℕ) × Splits stream frames rest }
+    ensures once { (stream : List ℕ) (fs gs : List Frame) (r q : List ℕ)
         → Splits stream fs r → Splits stream gs q → (fs ≡ gs) × (r ≡ q) }
 {}
 
@@ -51,8 +54,13 @@ pub fn cuts_do_not_matter()
 
 /// Over any frames taken and given, and breaks, each message that a session gives on a channel has
 /// the number that the peer's last Have stated, or the one after that of the message given before.
+/// A session that has lived already goes on from its cursor.
 pub fn messages_are_consecutive()
-    ensures { (t : TopologyValue) (me replica peer : ℕ) (steps : List SessionStep)
+    ensures first { (t : TopologyValue) (me replica peer : ℕ) (steps : List SessionStep)
         (last : SessionValue) (channel : ℕ)
         → Lives (new_session t me replica peer) steps last → AreConsecutive channel None steps }
+    ensures later { (s last : SessionValue) (steps : List SessionStep) (channel : ℕ)
+        (cursor : Option ℕ) → HasCursor channel cursor s.outgoing → Lives s steps last
+        → AreConsecutive channel cursor steps
+        × HasCursor channel (due_after channel cursor steps) last.outgoing }
 {}

@@ -3,7 +3,8 @@
 ghost use Rattle.std.specs.Prelude.{◌≡◌, None, IfOk, if◌then◌else◌};
 ghost use Rattle.std.specs.List.{list_all};
 ghost use Rattle.nm_book.specs.Book.{is_outgoing, null_on, only_if};
-ghost use Rattle.nm_frames.specs.Owed.{MayHaveNext, have_owed, is_last, is_told, message_owed, null_owed, owed_at};
+ghost use Rattle.nm_frames.specs.Owed.{MayHaveNext, have_owed, is_last, is_told, message_owed};
+ghost use Rattle.nm_frames.specs.Owed.{null_owed, owed_at};
 ghost use Rattle.nm_frames.specs.Version.{promising};
 
 use crate::frame::{Frame, Have};

@@ -1,6 +1,7 @@
 //! A stream that comes in pieces.
 
-ghost use Rattle.std.specs.Prelude.{◌≡◌, ◌<◌, ◌≤◌, ◌-◌, drop, length, [], None, true, false, IfOk, IfErr};
+ghost use Rattle.std.specs.Prelude.{◌≡◌, ◌<◌, ◌≤◌, ◌-◌, drop, length, [], None, true, false, IfOk};
+ghost use Rattle.std.specs.Prelude.{IfErr};
 ghost use Rattle.nm_frames.specs.Reader.{ReaderValue, Cuts, CutsTo, CutsOne, Feeds};
 ghost use Rattle.nm_frames.specs.Stream.{fault_shown, IsShort};
 

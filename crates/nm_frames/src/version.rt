@@ -1,7 +1,8 @@
 //! Versions of a session.
 
 ghost use Rattle.std.specs.Prelude.{◌≡◌};
-ghost use Rattle.nm_frames.specs.Version.{lesser_version, other_version, version_number, version_of};
+ghost use Rattle.nm_frames.specs.Version.{lesser_version, other_version, version_number};
+ghost use Rattle.nm_frames.specs.Version.{version_of};
 
 /// The version of a session, or of a Hello. In a session of version 1 null messages carry the
 /// promise of `Book::old_null`, in one of version 2 that of `Book::null`.

@@ -1,9 +1,11 @@
 //! How frames are written.
 
-ghost use Rattle.std.specs.Prelude.{◌≡◌, ◌+◌, ◌≤◌, ◌++◌, length, vec_len, vec_capacity, OnOk, OnErr};
+ghost use Rattle.std.specs.Prelude.{◌≡◌, ◌+◌, ◌≤◌, ◌++◌, length, vec_len, vec_capacity, OnOk};
+ghost use Rattle.std.specs.Prelude.{OnErr};
 ghost use Rattle.std.specs.Prelude.{◌∷◌, []};
 ghost use Rattle.std.specs.Int.{w16, w32, w64, to_be_bytes};
-ghost use Rattle.nm_frames.specs.Frame.{IsFrame, data_frame, first_word, frame_octets, hello_frame, have_frame, null_frame};
+ghost use Rattle.nm_frames.specs.Frame.{IsFrame, data_frame, first_word, frame_octets, hello_frame};
+ghost use Rattle.nm_frames.specs.Frame.{have_frame, null_frame};
 
 use crate::frame::Frame;
 use nm_base::{ChanNo, Packet, PartNo, Time};

@@ -36,12 +36,8 @@ pub fn read_in_pieces(
     let mut reader = Reader::new(alloc);
     let mut frames = Vec::new(alloc);
     let mut answer = Ok(());
-    let mut rest = octets;
-    while !rest.is_empty() {
-        let count = size.max(1).min(rest.len());
-        let (piece, more) = rest.split_at(count);
+    for piece in octets.chunks(size.max(1)) {
         answer = reader.feed(alloc, piece, &mut frames);
-        rest = more;
     }
     Ok((frames, answer))
 }
