@@ -69,7 +69,9 @@ fn keep_last(octets: &mut Vec<u8>, count: usize)
     ensures { octets.new.items ≡ drop (length octets.old.items - count) octets.old.items }
 {
     let gone = octets.len() - count;
-    octets.drain(..gone);
+    if gone > 0 {
+        octets.drain(..gone);
+    }
 }
 
 impl Reader {

@@ -24,11 +24,7 @@ const STREAMS: &[&str] = &[
 ];
 
 /// A stream in pieces of so many octets is read, and written again as it was.
-fn is_read_again(
-    rt: &(impl Abort + AllocGlobal),
-    text: &str,
-    size: usize,
-) -> Result<(), Fail> {
+fn is_read_again(rt: &(impl Abort + AllocGlobal), text: &str, size: usize) -> Result<(), Fail> {
     let octets = hex::decode(rt.alloc(), text)?;
     let (frames, answer) = read_in_pieces(rt.alloc(), &octets, size)?;
     let again = hex::encode(rt.alloc(), octets_of(rt.alloc(), &frames)?)?;
@@ -52,8 +48,16 @@ fn is_read_cut(rt: &(impl Abort + AllocGlobal), octets: &[u8], cut: usize) -> Re
     let (first, second) = octets.split_at(cut.min(octets.len()));
     let mut reader = Reader::new(rt.alloc());
     let mut frames = Vec::new(rt.alloc());
-    holds(rt, "the first", reader.feed(rt.alloc(), first, &mut frames) == Ok(()));
-    holds(rt, "the second", reader.feed(rt.alloc(), second, &mut frames) == Ok(()));
+    holds(
+        rt,
+        "the first",
+        reader.feed(rt.alloc(), first, &mut frames) == Ok(()),
+    );
+    holds(
+        rt,
+        "the second",
+        reader.feed(rt.alloc(), second, &mut frames) == Ok(()),
+    );
     let again = octets_of(rt.alloc(), &frames)?;
     assert!(rt; again.as_slice() == octets, "cut at {cut}");
     Ok(())
@@ -84,9 +88,21 @@ const FAULTS: &[(&str, usize, FrameFault)] = &[
     ("000000020500", 0, FrameFault::BadBody),
     ("0000000101", 0, FrameFault::BadBody),
     ("0000000102", 0, FrameFault::BadBody),
-    ("0000000e0200000002000000000000000400", 0, FrameFault::BadBody),
-    ("000000150300000000000000000000000100000000001000e0", 0, FrameFault::BadBody),
-    ("0000000105 0000000105 0000000c020000000200000000000000", 2, FrameFault::BadBody),
+    (
+        "0000000e0200000002000000000000000400",
+        0,
+        FrameFault::BadBody,
+    ),
+    (
+        "000000150300000000000000000000000100000000001000e0",
+        0,
+        FrameFault::BadBody,
+    ),
+    (
+        "0000000105 0000000105 0000000c020000000200000000000000",
+        2,
+        FrameFault::BadBody,
+    ),
     (
         "0000002c014e4d533200020000000100000102030405060708090a0b0c0d0e0f101112131415161718191a1b1c1d1e1f",
         0,
@@ -107,7 +123,11 @@ fn fails_at_the_end(
     };
     let mut reader = Reader::new(rt.alloc());
     let mut frames = Vec::new(rt.alloc());
-    holds(rt, "before it", reader.feed(rt.alloc(), front, &mut frames) == Ok(()));
+    holds(
+        rt,
+        "before it",
+        reader.feed(rt.alloc(), front, &mut frames) == Ok(()),
+    );
     assert!(rt; frames.len() == before, "{text}");
     let answer = reader.feed(rt.alloc(), &[*last], &mut frames);
     assert!(rt; answer == Err(fault), "{text}");
@@ -130,9 +150,12 @@ fn faults_at_their_octet(rt: HostRuntime) -> Result<(), Fail> {
 
 #[test]
 fn the_greatest_message(rt: HostRuntime) -> Result<(), Fail> {
-    let mut octets = hex::decode(rt.alloc(), "0001001403000000010000000000000002000000000000000300")?;
+    let mut octets = hex::decode(
+        rt.alloc(),
+        "0001001403000000010000000000000002000000000000000300",
+    )?;
     octets.resize(65_560, 7)?;
-    for size in [1000, 65_559, 65_560] {
+    for size in [1, 1000, 65_559, 65_560] {
         let (frames, answer) = read_in_pieces(rt.alloc(), &octets, size)?;
         holds(&rt, "no fault", answer == Ok(()));
         let again = octets_of(rt.alloc(), &frames)?;

@@ -42,7 +42,11 @@ fn reader_feed(rt: HostRuntime) {
     }
     eq_number(&rt, "frames", frames.len() as u64, 2);
     let answer = reader.feed(rt.alloc(), &[0], &mut frames);
-    holds(&rt, "what was held is still there", answer == Err(FrameFault::BadLength));
+    holds(
+        &rt,
+        "what was held is still there",
+        answer == Err(FrameFault::BadLength),
+    );
 }
 
 /// SPLIT, which has to be accepted.

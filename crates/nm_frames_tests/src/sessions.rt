@@ -39,11 +39,7 @@ fn word_of(answer: &Result<Taken, SessionFault>) -> &'static str {
 }
 
 /// The answer to a frame.
-fn answer_to(
-    alloc: Global,
-    session: &mut Session,
-    text: &str,
-) -> Result<&'static str, Fail> {
+fn answer_to(alloc: Global, session: &mut Session, text: &str) -> Result<&'static str, Fail> {
     let octets = hex::decode(alloc, text)?;
     let (mut frames, answer) = read_in_pieces(alloc, &octets, 7)?;
     answer?;
@@ -138,10 +134,19 @@ const VERSION_2: &[Step] = &[
     // Channels that do not run so
     Take("0000000d02 00000000 0000000000000000", "5"),
     Take("0000000d02 00000002 0000000000000000", "5"),
-    Take("0000001603 00000001 0000000000000000 0000000000000001 45", "5"),
+    Take(
+        "0000001603 00000001 0000000000000000 0000000000000001 45",
+        "5",
+    ),
     Take("0000001504 00000001 0000000000000000 0000000000000001", "5"),
-    Take("0000001603 00000000 0000000000000000 0000000000000001 45", "book"),
-    Take("0000001504 00000000 0000000000000000 0000000000000001", "book"),
+    Take(
+        "0000001603 00000000 0000000000000000 0000000000000001 45",
+        "book",
+    ),
+    Take(
+        "0000001504 00000000 0000000000000000 0000000000000001",
+        "book",
+    ),
     Take("0000000105", "ended"),
     Take("0000000105", "1"),
     Take("0000000d02 00000001 0000000000000001", "1"),
@@ -252,7 +257,10 @@ const PEER: &[Step] = &[
         "0000007903 00000001 0000000000000000 000000000010c8e0 45000064000000004011 6687 0a0000010a000002 03e800090050e75a ZEROS",
         "book",
     ),
-    Take("0000001504 00000001 0000000000000001 00000000001e8868", "book"),
+    Take(
+        "0000001504 00000001 0000000000000001 00000000001e8868",
+        "book",
+    ),
     Take("0000000d02 00000001 0000000000000000", "5"),
 ];
 
@@ -270,7 +278,10 @@ const SHIFTED: &[Step] = &[
     Take("0000000d02 00000003 0000000000000000", "5"),
     Take("0000000d02 00000002 0000000000000000", "5"),
     Take("0000001504 00000002 0000000000000000 0000000000000001", "5"),
-    Take("0000001504 00000000 0000000000000000 0000000000000001", "book"),
+    Take(
+        "0000001504 00000000 0000000000000000 0000000000000001",
+        "book",
+    ),
     Take("0000000d02 00000001 0000000000000000", "cursor"),
     Give(
         "0000007903 00000001 0000000000000000 0000000000124f80 4500006400000000 3f11 6687 0a0000010a000102 03e800090050e65a ZEROS
@@ -299,7 +310,11 @@ fn another_book(rt: HostRuntime) -> Result<(), Fail> {
     let book = book_of(rt.alloc(), &topology, 1)?;
     let digest = topology.digest();
     let mut session = session_of(rt.alloc(), &topology, 0)?;
-    let want = filled(rt.alloc(), "0000002c01 4e4d5331 0002 00000000 00 DIGEST", &digest)?;
+    let want = filled(
+        rt.alloc(),
+        "0000002c01 4e4d5331 0002 00000000 00 DIGEST",
+        &digest,
+    )?;
     let found = given(rt.alloc(), &mut session, &book)?;
     eq_text(&rt, "Hello alone", found.as_str(), want.as_str());
     Ok(())

@@ -19,6 +19,8 @@ struct End {
     session: Session,
     reader: Reader,
     ended: bool,
+    /// How many octets it gave.
+    octets: usize,
 }
 
 impl End {
@@ -29,6 +31,7 @@ impl End {
             session: Session::new(alloc, topology, me_no, 0, peer_no)?,
             reader: Reader::new(alloc),
             ended: false,
+            octets: 0,
         })
     }
 
@@ -75,71 +78,60 @@ impl End {
     }
 }
 
-/// How a connection ended: how many octets each end took in all, and how many events each did.
-#[derive(Clone, Copy, PartialEq, Eq)]
-struct Ended {
-    octets: [usize; 2],
-    events: [u64; 2],
+/// One end gives all that it owes, and the other takes at most so many octets of it. Whether some
+/// were left: the connection breaks there.
+fn pass(alloc: Global, from: &mut End, to: &mut End, left: &mut usize) -> Result<bool, Fail> {
+    let sent = from.give(alloc)?;
+    let count = sent.len().min(*left);
+    let (came, lost) = sent.split_at(count);
+    from.octets = from.octets.saturating_add(count);
+    *left -= count;
+    to.take(alloc, came)?;
+    Ok(!lost.is_empty())
 }
 
-/// Two ends talk until both took Bye. Where `limit` says so, the connection breaks once, when an end
-/// has taken so many octets.
+/// Both ends, which have taken Bye. The connection breaks once, where one of them has given so many
+/// octets.
 fn talk(
     rt: &(impl Abort + AllocGlobal),
     topology: &Arc<Topology>,
-    limit: Option<(usize, usize)>,
-) -> Result<Ended, Fail> {
+    mut left_of_zero: usize,
+    mut left_of_one: usize,
+) -> Result<(End, End), Fail> {
     let alloc = rt.alloc();
     let mut zero = End::new(alloc, topology, 0, 1)?;
     let mut one = End::new(alloc, topology, 1, 0)?;
-    let mut octets = [0usize, 0];
-    let mut limit = limit;
     for _ in 0..1000 {
         if zero.ended && one.ended {
             break;
         }
-        for turn in [0, 1] {
-            let sent = if turn == 0 { zero.give(alloc)? } else { one.give(alloc)? };
-            let mut came = sent.as_slice();
-            let mut breaks = false;
-            if let Some((side, at)) = limit {
-                if side == turn && octets[turn].saturating_add(came.len()) >= at {
-                    came = &came[..at.saturating_sub(octets[turn]).min(came.len())];
-                    breaks = true;
-                    limit = None;
-                }
-            }
-            octets[turn] = octets[turn].saturating_add(came.len());
-            if turn == 0 {
-                one.take(alloc, came)?;
-            } else {
-                zero.take(alloc, came)?;
-            }
-            if breaks {
-                zero.broke(alloc);
-                one.broke(alloc);
-                break;
-            }
+        if pass(alloc, &mut zero, &mut one, &mut left_of_zero)?
+            || pass(alloc, &mut one, &mut zero, &mut left_of_one)?
+        {
+            zero.broke(alloc);
+            one.broke(alloc);
+            left_of_zero = usize::MAX;
+            left_of_one = usize::MAX;
         }
     }
     holds(rt, "both took Bye", zero.ended && one.ended);
     holds(rt, "both are done", zero.book.done() && one.book.done());
-    Ok(Ended {
-        octets,
-        events: [zero.book.events(), one.book.events()],
-    })
+    Ok((zero, one))
 }
 
 /// The connection breaks at every octet of either direction, and ends as an unbroken one.
 fn breaks_anywhere(rt: &(impl Abort + AllocGlobal), text: &str) -> Result<(), Fail> {
     let topology = network(rt.alloc(), text)?;
-    let whole = talk(rt, &topology, None)?;
-    for side in [0, 1] {
-        let count = if side == 0 { whole.octets[0] } else { whole.octets[1] };
-        for at in 0..count {
-            let found = talk(rt, &topology, Some((side, at)))?;
-            assert!(rt; found.events == whole.events, "broken at octet {at} of side {side}");
-        }
+    let (whole_zero, whole_one) = talk(rt, &topology, usize::MAX, usize::MAX)?;
+    for at in 0..whole_zero.octets {
+        let (zero, one) = talk(rt, &topology, at, usize::MAX)?;
+        eq_number(rt, "events", zero.book.events(), whole_zero.book.events());
+        eq_number(rt, "events", one.book.events(), whole_one.book.events());
+    }
+    for at in 0..whole_one.octets {
+        let (zero, one) = talk(rt, &topology, usize::MAX, at)?;
+        eq_number(rt, "events", zero.book.events(), whole_zero.book.events());
+        eq_number(rt, "events", one.book.events(), whole_one.book.events());
     }
     Ok(())
 }
@@ -158,8 +150,8 @@ fn shift_breaks_anywhere(rt: HostRuntime) -> Result<(), Fail> {
 #[test]
 fn split_unbroken(rt: HostRuntime) -> Result<(), Fail> {
     let topology = network(rt.alloc(), SPLIT)?;
-    let ended = talk(&rt, &topology, None)?;
-    eq_number(&rt, "events of partition 0", ended.events[0], 2);
-    eq_number(&rt, "events of partition 1", ended.events[1], 1);
+    let (zero, one) = talk(&rt, &topology, usize::MAX, usize::MAX)?;
+    eq_number(&rt, "events of partition 0", zero.book.events(), 2);
+    eq_number(&rt, "events of partition 1", one.book.events(), 1);
     Ok(())
 }
