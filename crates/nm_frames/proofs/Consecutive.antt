@@ -5,6 +5,7 @@ use Rattle.std.specs.List.{AllByRecursion, list_all}
 use Rattle.std.specs.Option.{option_map}
 use Rattle.std.specs.Cmp.Lexicographic.{pointwise}
 use Rattle.nm_model.specs.Certificate.{is_done}
+use Rattle.nm_model.specs.Join.{or_else}
 use Rattle.nm_model.specs.Lists.{nth}
 use Rattle.nm_model.specs.Promise.{Promising}
 use Rattle.nm_sim.specs.Network.{net_of}
@@ -20,7 +21,7 @@ use Rattle.nm_frames.specs.declared.side.Outgoing.{Outgoing}
 use Rattle.nm_frames.specs.declared.version.Version.{Version}
 use Rattle.nm_frames.specs.Channels.{channels_between}
 use Rattle.nm_frames.specs.Frame.{have_frame}
-use Rattle.nm_frames.specs.Owed.{bye_owed, given, have_owed, held_on, hello_of, is_last, is_told, message_owed, moved_to, null_owed, or_else, owed, owed_at, promising_of, with_null}
+use Rattle.nm_frames.specs.Owed.{bye_owed, given, have_owed, held_on, hello_of, is_last, is_told, message_owed, moved_to, null_owed, owed, owed_at, promising_of, with_null}
 use Rattle.nm_frames.specs.Session.{SessionValue, at_channel, broken, comes_in, goes_out, greeted, is_there, new_outgoing, new_session, restarted, taken, taken_first, taken_later}
 use Rattle.nm_frames.specs.Version.{version_of}
 use Rattle.nm_frames.specs.Lives.{SessionStep, Took, Gave, Broke, Lives, due_taken, due_given, IsDue, AreConsecutive, HasCursor, due_after}

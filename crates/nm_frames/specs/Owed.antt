@@ -3,6 +3,7 @@ use Rattle.std.specs.Prelude.{ℕ, ◌+◌, ◌<◌, ◌^◌, Bool, true, false,
 use Rattle.std.specs.List.{list_all}
 use Rattle.std.specs.Option.{option_map}
 use Rattle.nm_model.specs.Certificate.{is_done}
+use Rattle.nm_model.specs.Join.{or_else}
 use Rattle.nm_model.specs.Knowledge.{nothing_known}
 use Rattle.nm_model.specs.Lists.{nth}
 use Rattle.nm_model.specs.Promise.{Promising}
@@ -17,10 +18,6 @@ use Rattle.nm_frames.specs.declared.version.Version.TheVariants.{Two}
 use Rattle.nm_frames.specs.Frame.{hello_frame, have_frame}
 use Rattle.nm_frames.specs.Session.{SessionValue, at_channel, is_there, next_version, session_version}
 use Rattle.nm_frames.specs.Version.{promising, version_number}
-
-abbrev pub or_else : Option Frame → Option Frame → Option Frame
-or_else None g = g
-or_else (Some f) g = Some f
 
 -- Hello
 abbrev pub hello_of : SessionValue → Frame
