@@ -90,14 +90,23 @@ fn pass(alloc: Global, from: &mut End, to: &mut End, left: &mut usize) -> Result
     Ok(!lost.is_empty())
 }
 
-/// Both ends, which have taken Bye. The connection breaks once, where one of them has given so many
-/// octets.
+/// How many octets each end gave, and how many events it did.
+#[derive(Clone, Copy)]
+struct Outcome {
+    octets_of_zero: usize,
+    octets_of_one: usize,
+    events_of_zero: u64,
+    events_of_one: u64,
+}
+
+/// Both ends talk until they have taken Bye. The connection breaks once, where one of them has given
+/// so many octets.
 fn talk(
     rt: &(impl Abort + AllocGlobal),
     topology: &Arc<Topology>,
     mut left_of_zero: usize,
     mut left_of_one: usize,
-) -> Result<(End, End), Fail> {
+) -> Result<Outcome, Fail> {
     let alloc = rt.alloc();
     let mut zero = End::new(alloc, topology, 0, 1)?;
     let mut one = End::new(alloc, topology, 1, 0)?;
@@ -116,22 +125,30 @@ fn talk(
     }
     holds(rt, "both took Bye", zero.ended && one.ended);
     holds(rt, "both are done", zero.book.done() && one.book.done());
-    Ok((zero, one))
+    Ok(Outcome {
+        octets_of_zero: zero.octets,
+        octets_of_one: one.octets,
+        events_of_zero: zero.book.events(),
+        events_of_one: one.book.events(),
+    })
+}
+
+/// Two talks did the same events.
+fn are_alike(rt: &impl Abort, found: Outcome, want: Outcome) {
+    let what = "events";
+    eq_number(rt, what, found.events_of_zero, want.events_of_zero);
+    eq_number(rt, what, found.events_of_one, want.events_of_one);
 }
 
 /// The connection breaks at every octet of either direction, and ends as an unbroken one.
 fn breaks_anywhere(rt: &(impl Abort + AllocGlobal), text: &str) -> Result<(), Fail> {
     let topology = network(rt.alloc(), text)?;
-    let (whole_zero, whole_one) = talk(rt, &topology, usize::MAX, usize::MAX)?;
-    for at in 0..whole_zero.octets {
-        let (zero, one) = talk(rt, &topology, at, usize::MAX)?;
-        eq_number(rt, "events", zero.book.events(), whole_zero.book.events());
-        eq_number(rt, "events", one.book.events(), whole_one.book.events());
+    let whole = talk(rt, &topology, usize::MAX, usize::MAX)?;
+    for at in 0..whole.octets_of_zero {
+        are_alike(rt, talk(rt, &topology, at, usize::MAX)?, whole);
     }
-    for at in 0..whole_one.octets {
-        let (zero, one) = talk(rt, &topology, usize::MAX, at)?;
-        eq_number(rt, "events", zero.book.events(), whole_zero.book.events());
-        eq_number(rt, "events", one.book.events(), whole_one.book.events());
+    for at in 0..whole.octets_of_one {
+        are_alike(rt, talk(rt, &topology, usize::MAX, at)?, whole);
     }
     Ok(())
 }
@@ -150,8 +167,8 @@ fn shift_breaks_anywhere(rt: HostRuntime) -> Result<(), Fail> {
 #[test]
 fn split_unbroken(rt: HostRuntime) -> Result<(), Fail> {
     let topology = network(rt.alloc(), SPLIT)?;
-    let (zero, one) = talk(&rt, &topology, usize::MAX, usize::MAX)?;
-    eq_number(&rt, "events of partition 0", zero.book.events(), 2);
-    eq_number(&rt, "events of partition 1", one.book.events(), 1);
+    let ended = talk(&rt, &topology, usize::MAX, usize::MAX)?;
+    eq_number(&rt, "events of partition 0", ended.events_of_zero, 2);
+    eq_number(&rt, "events of partition 1", ended.events_of_one, 1);
     Ok(())
 }
