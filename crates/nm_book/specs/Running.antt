@@ -1,5 +1,5 @@
 -- What a run of a replica does.
-use Rattle.std.specs.Prelude.{◌≡◌, ℕ, ◌+◌, ◌<◌, true}
+use Rattle.std.specs.Prelude.{◌≡◌, ℕ, ◌+◌, ◌<◌, true, List}
 use Rattle.nm_topology.specs.TopologyValue.{TopologyValue}
 use Rattle.nm_model.specs.Before.{IsCount}
 use Rattle.nm_model.specs.Knowledge.{Knowledge}

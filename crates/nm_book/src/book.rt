@@ -22,8 +22,8 @@ use crate::learning::{take_data, take_null};
 use crate::merging::merge_all;
 use crate::message::{ChannelMessage, Data, Null};
 use crate::promise::{plain_promise, tight_promise};
-use crate::running::{Ran, run_part};
-use crate::safe::safe_time;
+use crate::running::{Ran, is_finished, run_part};
+use crate::safe::{safe_time, safe_time_after};
 use nm_base::{ChanNo, IfaceNo, Packet, PartNo, Record, Time};
 use nm_events::HeapList;
 use nm_forward::NodeState;
@@ -191,13 +191,23 @@ impl Book {
         if !comes_in(&self.topology, self.partition, message.channel) {
             return Err(AcceptFault::Stranger);
         }
-        take_data(
+        let clock = self.knows[message.channel.index()].clock();
+        let accepted = take_data(
             &self.topology,
             self.partition,
             &mut self.knows,
             &mut self.part,
             message,
-        )
+        )?;
+        self.safe = safe_time_after(
+            &self.topology,
+            self.partition,
+            &self.knows,
+            self.safe,
+            message.channel,
+            clock,
+        );
+        Ok(accepted)
     }
 
     /// Takes in a null message. It takes no memory.
@@ -208,13 +218,23 @@ impl Book {
         if !comes_in(&self.topology, self.partition, null.channel) {
             return Err(AcceptFault::Stranger);
         }
-        take_null(
+        let clock = self.knows[null.channel.index()].clock();
+        let accepted = take_null(
             &self.topology,
             self.partition,
             &mut self.knows,
             &self.part,
             null,
-        )
+        )?;
+        self.safe = safe_time_after(
+            &self.topology,
+            self.partition,
+            &self.knows,
+            self.safe,
+            null.channel,
+            clock,
+        );
+        Ok(accepted)
     }
 
     /// Copies what it knows. Packets are shared with the copy.
@@ -285,12 +305,7 @@ impl Book {
         if !goes_out(&self.topology, self.partition, channel) {
             return None;
         }
-        Some(tight_promise(
-            &self.topology,
-            &self.part,
-            self.safe,
-            channel,
-        ))
+        Some(tight_promise(&self.topology, &self.part, self.safe, channel))
     }
 
     /// As `promise`, but that of transmissions neither the one under way nor the least time is
@@ -303,12 +318,7 @@ impl Book {
         if !goes_out(&self.topology, self.partition, channel) {
             return None;
         }
-        Some(plain_promise(
-            &self.topology,
-            &self.part,
-            self.safe,
-            channel,
-        ))
+        Some(plain_promise(&self.topology, &self.part, self.safe, channel))
     }
 
     /// The null message of a channel: how many messages were sent, and the promise. `None` where
@@ -316,11 +326,13 @@ impl Book {
     pub fn null(&self, channel: ChanNo) -> Option<Null>
         ensures { result ≡ only_if (is_outgoing self.now channel) (null_on Tight self.now channel) }
     {
-        let clock = self.promise(channel)?;
+        if !goes_out(&self.topology, self.partition, channel) {
+            return None;
+        }
         Some(Null {
             channel,
             count: self.part.out(channel).len() as u64,
-            clock,
+            clock: tight_promise(&self.topology, &self.part, self.safe, channel),
         })
     }
 
@@ -329,11 +341,13 @@ impl Book {
     pub fn old_null(&self, channel: ChanNo) -> Option<Null>
         ensures { result ≡ only_if (is_outgoing self.now channel) (null_on Plain self.now channel) }
     {
-        let clock = self.old_promise(channel)?;
+        if !goes_out(&self.topology, self.partition, channel) {
+            return None;
+        }
         Some(Null {
             channel,
             count: self.part.out(channel).len() as u64,
-            clock,
+            clock: plain_promise(&self.topology, &self.part, self.safe, channel),
         })
     }
 
@@ -399,7 +413,7 @@ impl Book {
         ensures { result ≡ is_done (net_of self.now.topology) self.now.partition
             (replica_of self.now) }
     {
-        self.safe == self.topology.stop() && !is_left(&self.part, self.topology.stop())
+        is_finished(&self.topology, &self.part, self.safe)
     }
 
     /// The trace, in the order of events, without the records that were handed out. It takes no

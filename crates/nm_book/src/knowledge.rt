@@ -1,6 +1,7 @@
 //! What a replica knows, as it is told to another.
 
-ghost use Rattle.std.specs.Prelude.{◌≡◌, IfOk, length, take};
+ghost use Rattle.std.specs.Prelude.{◌≡◌, IfOk, slice_get};
+ghost use Rattle.std.specs.Option.{option_map};
 ghost use Rattle.nm_book.specs.Merging.{is_of};
 
 use nm_base::{ChanNo, PartNo};

@@ -76,12 +76,7 @@ pub(crate) fn take_data(
 }
 
 /// The next message of a channel that comes in: its arrival, for which there is room, is to come.
-fn put_message(
-    topology: &Topology,
-    partition: PartNo,
-    part: &mut Part<HeapList>,
-    message: Data,
-)
+fn put_message(topology: &Topology, partition: PartNo, part: &mut Part<HeapList>, message: Data)
     requires next { (knows : List (Knowledge (List ℕ))) × IsBook topology.now partition knows part.old
         × IsNext topology.now partition knows message }
     requires room { 1 ≤ room_in part.old.timeline.events }
@@ -163,7 +158,17 @@ fn put_data(
         time,
         packet: _,
     } = message;
-    put_message(topology, partition, part, Data { channel: *channel, number: *number, time: *time, packet });
+    put_message(
+        topology,
+        partition,
+        part,
+        Data {
+            channel: *channel,
+            number: *number,
+            time: *time,
+            packet,
+        },
+    );
     Ok(())
 }
 

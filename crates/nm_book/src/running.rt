@@ -1,15 +1,23 @@
 //! Runs of a replica.
 
 ghost use Rattle.std.specs.Prelude.{◌≡◌, ℕ, ◌≤◌, List};
+ghost use Rattle.nm_forward.specs.State.{NodeStateValue};
+ghost use Rattle.nm_model.specs.Certificate.{is_done};
 ghost use Rattle.nm_model.specs.Knowledge.{Know as Known};
 ghost use Rattle.nm_model.specs.Replica.{safe_time};
+ghost use Rattle.nm_model.specs.Run.{State, pends_before};
 ghost use Rattle.nm_sim.specs.Network.{net_of};
-ghost use Rattle.nm_book.specs.Book.{IsBook, knowledge_of};
+ghost use Rattle.nm_sim.specs.Part.{Represents};
+ghost use Rattle.nm_topology.specs.TopologyValue.{TopologyValue};
+ghost use Rattle.nm_book.specs.Book.{IsBook, knowledge_of, pending_in};
 ghost use Rattle.nm_book.specs.Running.{HasRun};
 
-use nm_base::{Packet, PartNo, Time};
+use nm_base::{Packet, Time};
 use nm_events::HeapList;
 use nm_forward::NodeState;
+use nm_model::replica::safe_time_is_the_least;
+use nm_model::run::times_pass;
+use nm_model::world::prefix_theorem;
 use nm_sim::Part;
 use nm_sim::network::every_topology_is_a_network;
 use nm_topology::Topology;
@@ -46,6 +54,10 @@ pub(crate) fn run_part(
         result }
     ensures handed { part.new.records.handed ≡ part.old.records.handed }
 {
+    every_topology_is_a_network(topology); // law: `net_of` is a network of the model
+    safe_time_is_the_least::<Packet, NodeState>(); // law: the safe time is at most `stop`
+    times_pass::<Packet, NodeState>(); // law: some number of events is all
+    prefix_theorem::<Packet, NodeState>(); // law: where a run ends
     let mut done = 0;
     while done < limit {
         match part.advance(alloc, topology, safe) {
@@ -70,4 +82,14 @@ pub(crate) fn is_left(part: &Part<HeapList>, before: Time) -> bool
         Some(first) => first < before,
         None => false,
     }
+}
+
+/// Whether nothing is left to do: the safe time is `stop`, and no event before it is to come.
+pub(crate) fn is_finished(topology: &Topology, part: &Part<HeapList>, safe: Time) -> bool
+    ensures { (p : ℕ) (knows : List (Known (List ℕ))) → IsBook topology.now p knows part.now
+        → safe ≡ safe_time (net_of topology.now) p (knowledge_of topology.now knows)
+        → result ≡ is_done (net_of topology.now) p
+        (record { knowledge = knowledge_of topology.now knows; ran = part.now.steps }) }
+{
+    safe == topology.stop() && !is_left(part, topology.stop())
 }
