@@ -1,3 +1,7 @@
 mod Beginnings
+mod Gatherings
 mod Incoming
+mod Runnings
+mod Safety
+mod Sendings
 mod Tellings

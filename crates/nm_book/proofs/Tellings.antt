@@ -38,12 +38,12 @@ comes_at t j d h =
     let same : d ≡ found.0 = let g = found.1 in omega (arith, g) in
     get_or_from_slice_get t.receivers d j (length t.ifaces) (ap (slice_get t.receivers) same ∙ found.2)
 
-set_here : (l : List (Know (List ℕ))) (c : ℕ) (a : Know (List ℕ)) → c < length l → slice_index_or (slice_set l c a) c nothing_known ≡ a
+pub set_here : (l : List (Know (List ℕ))) (c : ℕ) (a : Know (List ℕ)) → c < length l → slice_index_or (slice_set l c a) c nothing_known ≡ a
 set_here [] c a h = absurd (omega (arith, h))
 set_here (x ∷ l) zero a h = refl
 set_here (x ∷ l) (suc c) a h = set_here l c a (omega (arith, h))
 
-set_elsewhere : (l : List (Know (List ℕ))) (c d : ℕ) (a : Know (List ℕ)) → (c ≡ d → ⊥) → slice_index_or (slice_set l c a) d nothing_known ≡ slice_index_or l d nothing_known
+pub set_elsewhere : (l : List (Know (List ℕ))) (c d : ℕ) (a : Know (List ℕ)) → (c ≡ d → ⊥) → slice_index_or (slice_set l c a) d nothing_known ≡ slice_index_or l d nothing_known
 set_elsewhere [] c d a h = refl
 set_elsewhere (x ∷ l) zero zero a h = absurd (h refl)
 set_elsewhere (x ∷ l) zero (suc d) a h = refl
@@ -72,6 +72,20 @@ module _ (t : TopologyValue) (l : List (Know (List ℕ))) (c : ℕ) (here : chan
 
       each : (j : ℕ) → knowledge_of t (slice_set l c a) j ≡ set_at (knowledge_of t l) (receiving_iface t c) a j
       each j = at j (channel_from 0 t.receivers j) refl (j == receiving_iface t c) refl
+
+-- a message that is not before the clock makes it more
+pub more_is_over : (a : Know (List ℕ)) (time : ℕ) (x : List ℕ) → a.clock ≤ time → IsUnder a (record { list = a.list ++ (time, x) ∷ []; clock = time })
+more_is_over a time x h = record {
+  begins = ((time, x) ∷ [], refl);
+  later = λ n b past e. last a.list n b past e;
+  clock = h;
+}
+  where
+    last : (l : List (ℕ × List ℕ)) (n : ℕ) (b : ℕ × List ℕ) → length l ≤ n → nth (l ++ (time, x) ∷ []) n ≡ Some b → a.clock ≤ b.0
+    last [] zero b past e = let g : (time, x) ≡ b = cc in subst (λ z. a.clock ≤ z.0) g h
+    last [] (suc n) b past e = let g : None ≡ Some b = e in absurd cc
+    last (y ∷ l) zero b past e = absurd (omega (arith, past))
+    last (y ∷ l) (suc n) b past e = last l n b (omega (arith, past)) e
 
 -- A replica over what it knows, and over one message more of a channel.
 module _ (t : TopologyValue) (p : ℕ) (l : List (Know (List ℕ))) (part new : PartValue HeapList) (c time : ℕ) (x : List ℕ) where

@@ -7,8 +7,12 @@ use Rattle.nm_topology.specs.Topology.{channel_from, receiving_iface}
 use Rattle.nm_topology.specs.TopologyValue.{TopologyValue}
 use Rattle.nm_model.specs.Accept as model
 use Rattle.nm_model.specs.Knowledge.{Know, Knowledge, nothing_known}
-use Rattle.nm_model.specs.Partition.{comes_in}
-use Rattle.nm_model.specs.Replica.{IsWithin, from_scratch}
+use Rattle.nm_model.specs.Partition.{comes_in, goes_out}
+use Rattle.nm_model.specs.Promise.{Promising, promise}
+use Rattle.nm_model.specs.Replica.{IsWithin, from_scratch, safe_time}
+use Rattle.nm_model.specs.Run.{State}
+use Rattle.nm_model.specs.World.{Replica}
+use Rattle.nm_forward.specs.State.{NodeStateValue}
 use Rattle.nm_events.specs.declared.heap_list.HeapList.{HeapList}
 use Rattle.nm_knowledge.specs.Answers.{answer, know_fault_number, reason}
 use Rattle.nm_knowledge.specs.Octets.{same_octets}
@@ -17,7 +21,9 @@ use Rattle.nm_knowledge.specs.declared.answer.KnowFault.TheVariants.{Memory}
 use Rattle.nm_sim.specs.Network.{net_of}
 use Rattle.nm_sim.specs.Part.{PartValue, Represents}
 use Rattle.nm_book.specs.declared.message.ChannelMessage.{ChannelMessage}
-use Rattle.nm_book.specs.declared.message.ChannelMessage.TheVariants.{Data, Null}
+use Rattle.nm_book.specs.declared.message.ChannelMessage.TheVariants.{Data as DataMessage, Null as NullMessage}
+use Rattle.nm_book.specs.declared.message.Data.{Data}
+use Rattle.nm_book.specs.declared.message.Null.{Null}
 use Rattle.nm_book.specs.declared.fault.AcceptFault.{AcceptFault}
 use Rattle.nm_book.specs.declared.fault.AcceptFault.TheVariants.{Known, Stranger}
 
@@ -38,6 +44,50 @@ known_at knows (Some c) = slice_index_or knows c nothing_known
 
 abbrev pub knowledge_of : TopologyValue → List (Know (List ℕ)) → Knowledge (List ℕ)
 knowledge_of t knows i = known_at knows (channel_from 0 t.receivers i)
+
+abbrev pub knowledge : BookValue → Knowledge (List ℕ)
+knowledge b = knowledge_of b.topology b.knows
+
+-- the state of its part: that of a replica from scratch
+abbrev pub state_of : BookValue → State (List ℕ) NodeStateValue
+state_of b = from_scratch (net_of b.topology) b.partition (knowledge b) b.events
+
+-- whether channel c comes in here, and whether it goes out
+abbrev pub is_incoming : BookValue → ℕ → Bool
+is_incoming b c = comes_in (net_of b.topology) b.partition (receiving_iface b.topology c)
+
+abbrev pub is_outgoing : BookValue → ℕ → Bool
+is_outgoing b c = goes_out (net_of b.topology) b.partition (receiving_iface b.topology c)
+
+-- what it put on channel c so far, each packet with its time of arrival
+abbrev pub sent_on : BookValue → ℕ → List (ℕ × List ℕ)
+sent_on b c = (state_of b).sent (receiving_iface b.topology c)
+
+-- its promise of channel c
+abbrev pub promise_on : Promising → BookValue → ℕ → ℕ
+promise_on kind b c = promise (net_of b.topology) kind b.partition (knowledge b) b.events (receiving_iface b.topology c)
+
+-- its safe time
+abbrev pub safe_of : BookValue → ℕ
+safe_of b = safe_time (net_of b.topology) b.partition (knowledge b)
+
+-- the null message of channel c with this promise
+abbrev pub null_on : Promising → BookValue → ℕ → Null
+null_on kind b c = record { channel = c; count = length (sent_on b c); clock = promise_on kind b c }
+
+-- message n of channel c, if it was sent
+abbrev pub data_from : ℕ → ℕ → Option (ℕ × List ℕ) → Option Data
+data_from c n None = None
+data_from c n (Some m) = Some (record { channel = c; number = n; time = m.0; packet = m.1 })
+
+-- this, where it is so
+abbrev pub only_if : {A : Type 0} → Bool → A → Option A
+only_if true x = Some x
+only_if false x = None
+
+-- the book as the model's replica
+abbrev pub replica_of : BookValue → Replica (List ℕ)
+replica_of b = record { knowledge = knowledge b; ran = b.events }
 
 -- the pending events of a heap
 abbrev pub pending_in : HeapList → FinMap key_cmp (Event (List ℕ))
@@ -80,12 +130,12 @@ pub record Takes (old new : BookValue) (c : ℕ) (taken : model.Accepted (List �
 
 -- what the model's function says of a message or a null message
 abbrev pub message_channel : ChannelMessage → ℕ
-message_channel (Data d) = d.channel
-message_channel (Null n) = n.channel
+message_channel (DataMessage d) = d.channel
+message_channel (NullMessage n) = n.channel
 
 abbrev pub message_taken : List (Know (List ℕ)) → ChannelMessage → model.Accepted (List ℕ)
-message_taken knows (Data d) = data_taken knows d.channel d.number d.time d.packet
-message_taken knows (Null n) = null_taken knows n.channel n.count n.clock
+message_taken knows (DataMessage d) = data_taken knows d.channel d.number d.time d.packet
+message_taken knows (NullMessage n) = null_taken knows n.channel n.count n.clock
 
 abbrev pub accept_fault_number : AcceptFault → ℕ
 accept_fault_number Stranger = 7

@@ -1,1 +1,4 @@
 pub mod Book
+pub mod Merging
+pub mod Running
+pub mod Telling

@@ -1,16 +1,30 @@
 //! A replica of a partition.
 
-ghost use Rattle.std.specs.Prelude.{◌≡◌, true, false, Err, IfOk, length, replicate};
+ghost use Rattle.std.specs.Prelude.{◌≡◌, ◌+◌, true, false, Err, IfOk, drop, if◌then◌else◌, is_some, length, replicate, slice_get, slice_index_or};
 ghost use Rattle.std.specs.Arc.{arc_value};
+ghost use Rattle.std.specs.Option.{option_and_then, option_map};
+ghost use Rattle.nm_model.specs.Certificate.{is_done};
 ghost use Rattle.nm_model.specs.Knowledge.{nothing_known};
+ghost use Rattle.nm_model.specs.Lists.{nth};
+ghost use Rattle.nm_model.specs.Promise.{Plain, Tight};
+ghost use Rattle.nm_sim.specs.Network.{net_of};
+ghost use Rattle.nm_sim.specs.Records.{totals_at};
 ghost use Rattle.nm_book.specs.Book.{IsBook, Takes, data_taken, is_replica, message_channel, message_taken, null_taken};
+ghost use Rattle.nm_book.specs.Book.{data_from, is_incoming, is_outgoing, null_on, only_if, promise_on, replica_of, safe_of, sent_on, state_of};
+ghost use Rattle.nm_book.specs.Merging.{BookMerges};
+ghost use Rattle.nm_book.specs.Running.{Runs};
 ghost use Rattle.nm_book.specs.declared.fault.BookFault.TheVariants.{NoSuch};
 
-use crate::channels::comes_in;
-use crate::fault::{AcceptFault, BookFault};
+use crate::channels::{comes_in, goes_out};
+use crate::fault::{AcceptFault, BookFault, MergeFault};
+use crate::knowledge::{Knowledge, copy_all};
 use crate::learning::{take_data, take_null};
+use crate::merging::merge_all;
 use crate::message::{ChannelMessage, Data, Null};
-use nm_base::{Packet, PartNo};
+use crate::promise::{plain_promise, tight_promise};
+use crate::running::{Ran, is_finished, run_part};
+use crate::safe::{safe_time, safe_time_after};
+use nm_base::{ChanNo, IfaceNo, Packet, PartNo, Record, Time};
 use nm_events::HeapList;
 use nm_forward::NodeState;
 use nm_knowledge::{Accepted, Know};
@@ -34,12 +48,17 @@ pub struct Book {
     replica: u8,
     /// By channel number. Of channels that do not come in here nothing is known.
     knows: Vec<Know>,
+    /// The safe time.
+    safe: Time,
     part: Part<HeapList>,
 }
 
 impl Model for Book {
+    ghost use Rattle.std.specs.Prelude.{◌≡◌};
     ghost use Rattle.std.specs.Arc.{arc_value};
-    ghost use Rattle.nm_book.specs.Book.{BookValue, IsBook};
+    ghost use Rattle.nm_model.specs.Replica.{safe_time as safe_time_of};
+    ghost use Rattle.nm_sim.specs.Network.{net_of};
+    ghost use Rattle.nm_book.specs.Book.{BookValue, IsBook, knowledge_of};
 
     ghost Value = { BookValue };
 
@@ -52,7 +71,9 @@ impl Model for Book {
       handed = b.part.records.handed;
     } };
 
-    ghost invariant = { λ b. IsBook (arc_value b.topology) b.partition b.knows.items b.part };
+    ghost invariant = { λ b. IsBook (arc_value b.topology) b.partition b.knows.items b.part
+        × (b.safe ≡ safe_time_of (net_of (arc_value b.topology)) b.partition
+        (knowledge_of (arc_value b.topology) b.knows.items)) };
 }
 
 /// That nothing is known of so many channels.
@@ -112,12 +133,14 @@ impl Book {
             return Err(BookFault::NoSuch);
         }
         let knows = nothing_known(alloc, topology.receivers().len())?;
+        let safe = safe_time(&topology, partition, &knows);
         let part = first_part(alloc, &topology, partition)?;
         Ok(Book {
             topology,
             partition,
             replica,
             knows,
+            safe,
             part,
         })
     }
@@ -161,20 +184,30 @@ impl Book {
     }
 
     /// Takes in a message.
-    fn accept_data(&mut self, data: &Data) -> Result<Accepted, AcceptFault>
-        ensures { Takes self.old self.new «data».now.channel (data_taken self.old.knows
-            «data».now.channel «data».now.number «data».now.time «data».now.packet) result }
+    fn accept_data(&mut self, message: &Data) -> Result<Accepted, AcceptFault>
+        ensures { Takes self.old self.new message.now.channel (data_taken self.old.knows
+            message.now.channel message.now.number message.now.time message.now.packet) result }
     {
-        if !comes_in(&self.topology, self.partition, data.channel) {
+        if !comes_in(&self.topology, self.partition, message.channel) {
             return Err(AcceptFault::Stranger);
         }
-        take_data(
+        let clock = self.knows[message.channel.index()].clock();
+        let accepted = take_data(
             &self.topology,
             self.partition,
             &mut self.knows,
             &mut self.part,
-            data,
-        )
+            message,
+        )?;
+        self.safe = safe_time_after(
+            &self.topology,
+            self.partition,
+            &self.knows,
+            self.safe,
+            message.channel,
+            clock,
+        );
+        Ok(accepted)
     }
 
     /// Takes in a null message. It takes no memory.
@@ -185,12 +218,241 @@ impl Book {
         if !comes_in(&self.topology, self.partition, null.channel) {
             return Err(AcceptFault::Stranger);
         }
-        take_null(
+        let clock = self.knows[null.channel.index()].clock();
+        let accepted = take_null(
             &self.topology,
             self.partition,
             &mut self.knows,
             &self.part,
             null,
-        )
+        )?;
+        self.safe = safe_time_after(
+            &self.topology,
+            self.partition,
+            &self.knows,
+            self.safe,
+            null.channel,
+            clock,
+        );
+        Ok(accepted)
+    }
+
+    /// Copies what it knows. Packets are shared with the copy.
+    ///
+    /// # Errors
+    ///
+    /// Where memory was refused.
+    pub fn copy_knowledge(&self, alloc: Global) -> Result<Knowledge, AllocError>
+        ensures { IfOk result (λ k. k ≡ record {
+          digest = self.now.topology.digest;
+          partition = self.now.partition;
+          knows = self.now.knows;
+        }) }
+    {
+        let knows = copy_all(alloc, &self.knows)?;
+        Ok(Knowledge::new(&self.topology, self.partition, knows))
+    }
+
+    /// Takes in what another replica of the partition knows: of each channel that comes in the
+    /// longer list of messages and the greater clock. The arrivals of the new messages are to come.
+    ///
+    /// # Errors
+    ///
+    /// `Stranger` where it is the knowledge of another partition or topology. `Channel` names the
+    /// first channel that cannot be joined, and why (`Know::check_merge`). `Memory` where memory
+    /// was refused. A refusal changes nothing.
+    pub fn merge(&mut self, alloc: Global, other: &Knowledge) -> Result<(), MergeFault>
+        ensures { BookMerges self.old self.new other.now result }
+    {
+        if !other.is_of(&self.topology, self.partition) {
+            return Err(MergeFault::Stranger);
+        }
+        merge_all(
+            alloc,
+            &self.topology,
+            self.partition,
+            &mut self.knows,
+            &mut self.part,
+            other.knows(),
+        )?;
+        self.safe = safe_time(&self.topology, self.partition, &self.knows);
+        Ok(())
+    }
+
+    /// Does at most so many events before the safe time.
+    pub fn run_safe(&mut self, alloc: Global, limit: u64) -> Ran
+        ensures { Runs self.old self.new limit result }
+    {
+        run_part(alloc, &self.topology, &mut self.part, self.safe, limit)
+    }
+
+    /// The safe time (J. Misra, 1986, section 2), in nanoseconds: the least of `stop` and of the
+    /// clocks of the channels that come in. Events before it may be done. It takes no memory.
+    pub fn safe(&self) -> Time
+        ensures { result ≡ safe_of self.now }
+    {
+        self.safe
+    }
+
+    /// No further message goes out on the channel that arrives before this time, in nanoseconds
+    /// (J. Misra, 1986, section 3): it counts the next event that may cause one, the transmission
+    /// under way, the least time of a transmission and the link's delay. `None` where the channel
+    /// does not go out from here. It takes no memory.
+    pub fn promise(&self, channel: ChanNo) -> Option<Time>
+        ensures { result ≡ only_if (is_outgoing self.now channel)
+            (promise_on Tight self.now channel) }
+    {
+        if !goes_out(&self.topology, self.partition, channel) {
+            return None;
+        }
+        Some(tight_promise(&self.topology, &self.part, self.safe, channel))
+    }
+
+    /// As `promise`, but that of transmissions neither the one under way nor the least time is
+    /// counted: it is earlier by that time at least. Sessions of version 1 give it. It takes no
+    /// memory.
+    pub fn old_promise(&self, channel: ChanNo) -> Option<Time>
+        ensures { result ≡ only_if (is_outgoing self.now channel)
+            (promise_on Plain self.now channel) }
+    {
+        if !goes_out(&self.topology, self.partition, channel) {
+            return None;
+        }
+        Some(plain_promise(&self.topology, &self.part, self.safe, channel))
+    }
+
+    /// The null message of a channel: how many messages were sent, and the promise. `None` where
+    /// the channel does not go out from here. It takes no memory.
+    pub fn null(&self, channel: ChanNo) -> Option<Null>
+        ensures { result ≡ only_if (is_outgoing self.now channel) (null_on Tight self.now channel) }
+    {
+        if !goes_out(&self.topology, self.partition, channel) {
+            return None;
+        }
+        Some(Null {
+            channel,
+            count: self.part.out(channel).len() as u64,
+            clock: tight_promise(&self.topology, &self.part, self.safe, channel),
+        })
+    }
+
+    /// The null message of a channel with the old promise. `None` where the channel does not go out
+    /// from here. It takes no memory.
+    pub fn old_null(&self, channel: ChanNo) -> Option<Null>
+        ensures { result ≡ only_if (is_outgoing self.now channel) (null_on Plain self.now channel) }
+    {
+        if !goes_out(&self.topology, self.partition, channel) {
+            return None;
+        }
+        Some(Null {
+            channel,
+            count: self.part.out(channel).len() as u64,
+            clock: plain_promise(&self.topology, &self.part, self.safe, channel),
+        })
+    }
+
+    /// How many messages were sent on a channel, or `None` where the channel does not go out from
+    /// here. It takes no memory.
+    pub fn out_len(&self, channel: ChanNo) -> Option<u64>
+        ensures { result ≡ only_if (is_outgoing self.now channel)
+            (length (sent_on self.now channel)) }
+    {
+        if !goes_out(&self.topology, self.partition, channel) {
+            return None;
+        }
+        Some(self.part.out(channel).len() as u64)
+    }
+
+    /// Message `number` of a channel, or `None` where the channel does not go out from here, or the
+    /// message was not sent yet. The packet's octets are shared.
+    ///
+    /// # Errors
+    ///
+    /// Where memory was refused.
+    pub fn data(&self, channel: ChanNo, number: u64) -> Result<Option<Data>, AllocError>
+        ensures { IfOk result (λ message. message ≡ option_and_then
+            (λ sent. data_from channel number (nth sent number))
+            (only_if (is_outgoing self.now channel) (sent_on self.now channel))) }
+    {
+        if !goes_out(&self.topology, self.partition, channel) {
+            return Ok(None);
+        }
+        let Some((time, packet)) = self.part.out(channel).get(number as usize) else {
+            return Ok(None);
+        };
+        let packet = packet.clone()?;
+        Ok(Some(Data {
+            channel,
+            number,
+            time: *time,
+            packet,
+        }))
+    }
+
+    /// What is known of a channel, or `None` where it does not come in here. It takes no memory.
+    pub fn know(&self, channel: ChanNo) -> Option<&Know>
+        ensures { option_map (λ k. k.now) result ≡ only_if (is_incoming self.now channel)
+            (slice_index_or self.now.knows channel nothing_known) }
+    {
+        if !comes_in(&self.topology, self.partition, channel) {
+            return None;
+        }
+        Some(&self.knows[channel.index()])
+    }
+
+    /// How many events were done, at most 2^62. It takes no memory.
+    pub fn events(&self) -> u64
+        ensures { result ≡ self.now.events }
+    {
+        self.part.steps()
+    }
+
+    /// Whether nothing is left to do: the safe time is `stop`, and no event before it is to come.
+    /// It takes no memory.
+    pub fn done(&self) -> bool
+        ensures { result ≡ is_done (net_of self.now.topology) self.now.partition
+            (replica_of self.now) }
+    {
+        is_finished(&self.topology, &self.part, self.safe)
+    }
+
+    /// The trace, in the order of events, without the records that were handed out. It takes no
+    /// memory.
+    pub fn trace(&self) -> &[Record]
+        ensures { result.now ≡ drop self.now.handed (state_of self.now).records }
+    {
+        self.part.trace()
+    }
+
+    /// Takes the first record of the trace out that is kept, if there is one. It takes no memory.
+    pub fn hand_out(&mut self) -> Option<Record>
+        ensures value { result ≡ slice_get (state_of self.old).records self.old.handed }
+        ensures same { self.new ≡ record self.old {
+          handed = self.old.handed + (if is_some result then 1 else 0);
+        } }
+    {
+        self.part.hand_out()
+    }
+
+    /// How many records were handed out. It takes no memory.
+    pub fn handed(&self) -> u64
+        ensures { result ≡ self.now.handed }
+    {
+        self.part.handed()
+    }
+
+    /// How many records the trace has, with those that were handed out. It takes no memory.
+    pub fn records(&self) -> u64
+        ensures { result ≡ length (state_of self.now).records }
+    {
+        self.part.records()
+    }
+
+    /// How many records an interface has, with those that were handed out, and the octets of their
+    /// trace file with its header. Both stop at the greatest `u64`. It takes no memory.
+    pub fn totals(&self, iface: IfaceNo) -> (u64, u64)
+        ensures { result ≡ totals_at self.now.topology (state_of self.now).records iface }
+    {
+        self.part.totals(iface)
     }
 }

@@ -1,12 +1,12 @@
 //! The channels that come into a partition.
 
 ghost use Rattle.std.specs.Prelude.{◌≡◌, ◌<◌, true, length};
-ghost use Rattle.nm_model.specs.Partition.{comes_in};
+ghost use Rattle.nm_model.specs.Partition.{comes_in, goes_out};
 ghost use Rattle.nm_sim.specs.Network.{net_of};
 ghost use Rattle.nm_topology.specs.Topology.{receiving_iface};
 
 use nm_base::{ChanNo, IfaceNo, PartNo};
-use nm_sim::network::channels_are_those_of_the_network;
+use nm_sim::network::{channels_are_those_of_the_network, every_topology_is_a_network};
 use nm_topology::Topology;
 use nm_topology::topology::{
     accepted_topologies_are_in_order, channels_are_numbered_by_their_receivers,
@@ -33,4 +33,20 @@ pub(crate) fn comes_in(topology: &Topology, partition: PartNo, channel: ChanNo) 
         return false;
     }
     partition_of(topology, topology.receiver(channel)) == partition
+}
+
+/// Whether a channel goes out of a partition.
+pub(crate) fn goes_out(topology: &Topology, partition: PartNo, channel: ChanNo) -> bool
+    ensures value { result ≡ goes_out (net_of topology.now) partition
+        (receiving_iface topology.now channel) }
+    ensures there { result ≡ true → channel < length topology.now.receivers }
+{
+    every_topology_is_a_network(topology); // law: a link has two ends
+    channels_are_those_of_the_network(topology); // law: a channel comes in at its receiver
+    channels_are_numbered_by_their_receivers(topology); // law: its interface is there
+    if channel.index() >= topology.receivers().len() {
+        return false;
+    }
+    let receiver = topology.iface(topology.receiver(channel));
+    partition_of(topology, receiver.far().peer) == partition
 }

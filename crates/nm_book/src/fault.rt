@@ -4,7 +4,9 @@ ghost use Rattle.std.specs.Prelude.{◌≡◌};
 ghost use Rattle.nm_book.specs.Book.{accept_fault_number};
 ghost use Rattle.nm_book.specs.declared.fault.AcceptFault.TheVariants.{Known};
 ghost use Rattle.nm_book.specs.declared.fault.BookFault.TheVariants.{Memory};
+ghost use Rattle.nm_book.specs.declared.fault.MergeFault.TheVariants.{Memory as NoMemory};
 
+use nm_base::ChanNo;
 use nm_knowledge::KnowFault;
 use std::alloc::AllocError;
 use std::fmt;
@@ -71,5 +73,27 @@ impl From<KnowFault> for AcceptFault {
 
     fn from(fault: KnowFault) -> Self {
         AcceptFault::Known(fault)
+    }
+}
+
+/// Why a book refused to merge what another replica knows. It is unchanged then.
+#[derive(Clone, Copy, Debug, PartialEq, Eq, Error)]
+pub enum MergeFault {
+    /// It is what a replica of another partition or topology knows.
+    #[error("the knowledge of another partition or topology")]
+    Stranger,
+    /// What is known of this channel cannot be joined; it is the first such channel.
+    #[error("channel {channel:?}: {fault}")]
+    Channel { channel: ChanNo, fault: KnowFault },
+    /// Memory was refused.
+    #[error("out of memory")]
+    Memory,
+}
+
+impl From<AllocError> for MergeFault {
+    ghost from_gives = { λ _ f. f ≡ NoMemory };
+
+    fn from(_: AllocError) -> Self {
+        MergeFault::Memory
     }
 }

@@ -1,12 +1,14 @@
 //! What a replica learns of a channel.
 
-ghost use Rattle.std.specs.Prelude.{◌≡◌, ◌<◌, ◌≤◌, true, IfErr, OnErr, OnOk, length, slice_set};
+ghost use Rattle.std.specs.Prelude.{◌≡◌, ℕ, ◌+◌, ◌<◌, ◌≤◌, true, List, IfErr, OnErr, OnOk, length, slice_set};
+ghost use Rattle.nm_model.specs.Knowledge.{Know as Knowledge};
 ghost use Rattle.nm_model.specs.Accept.{New as IsNew};
 ghost use Rattle.nm_model.specs.Partition.{comes_in};
 ghost use Rattle.nm_knowledge.specs.declared.answer.KnowFault.TheVariants.{Memory};
 ghost use Rattle.nm_sim.specs.Network.{net_of};
 ghost use Rattle.nm_topology.specs.Topology.{receiving_iface};
 ghost use Rattle.nm_book.specs.Book.{IsBook, Learns, data_taken, null_taken, room_in};
+ghost use Rattle.nm_book.specs.Telling.{Follow, IsNext, told, told_one};
 ghost use Rattle.nm_book.specs.declared.fault.AcceptFault.TheVariants.{Known};
 
 use crate::fault::AcceptFault;
@@ -23,17 +25,17 @@ use nm_topology::Topology;
 use nm_topology::topology::channels_are_numbered_by_their_receivers;
 
 /// A new message of a channel is known from now on.
-fn add_data(knows: &mut Vec<Know>, data: &Data) -> Result<(), AcceptFault>
-    requires there { data.now.channel < length knows.old.items }
-    requires next { (data_taken knows.old.items data.now.channel data.now.number data.now.time
-        data.now.packet).answer ≡ IsNew }
-    ensures ok { OnOk result (knows.new.items ≡ slice_set knows.old.items data.now.channel
-        (data_taken knows.old.items data.now.channel data.now.number data.now.time
-        data.now.packet).after) }
+fn add_data(knows: &mut Vec<Know>, message: &Data) -> Result<(), AcceptFault>
+    requires there { message.now.channel < length knows.old.items }
+    requires next { (data_taken knows.old.items message.now.channel message.now.number message.now.time
+        message.now.packet).answer ≡ IsNew }
+    ensures ok { OnOk result (knows.new.items ≡ slice_set knows.old.items message.now.channel
+        (data_taken knows.old.items message.now.channel message.now.number message.now.time
+        message.now.packet).after) }
     ensures err { OnErr result (knows.new.items ≡ knows.old.items) }
     ensures memory { IfErr result (λ e. e ≡ Known Memory) }
 {
-    knows[data.channel.index()].accept_data(data.number, data.time, &data.packet)?;
+    knows[message.channel.index()].accept_data(message.number, message.time, &message.packet)?;
     Ok(())
 }
 
@@ -45,57 +47,44 @@ pub(crate) fn take_data(
     partition: PartNo,
     knows: &mut Vec<Know>,
     part: &mut Part<HeapList>,
-    data: &Data,
+    message: &Data,
 ) -> Result<Accepted, AcceptFault>
     requires book { IsBook topology.now partition knows.old.items part.old }
-    requires there { data.now.channel < length topology.now.receivers }
+    requires there { message.now.channel < length topology.now.receivers }
     requires comes { comes_in (net_of topology.now) partition
-        (receiving_iface topology.now data.now.channel) ≡ true }
+        (receiving_iface topology.now message.now.channel) ≡ true }
     ensures book { IsBook topology.now partition knows.new.items part.new }
-    ensures learns { Learns knows.old.items knows.new.items data.now.channel
-        (data_taken knows.old.items data.now.channel data.now.number data.now.time data.now.packet)
+    ensures learns { Learns knows.old.items knows.new.items message.now.channel
+        (data_taken knows.old.items message.now.channel message.now.number message.now.time message.now.packet)
         result }
     ensures steps { part.new.steps ≡ part.old.steps }
     ensures handed { part.new.records.handed ≡ part.old.records.handed }
 {
-    let know = &knows[data.channel.index()];
-    let accepted = know.check_data(data.number, data.time, &data.packet)?;
+    let know = &knows[message.channel.index()];
+    let accepted = know.check_data(message.number, message.time, &message.packet)?;
     if accepted != Accepted::New {
         return Ok(accepted);
     }
-    let Ok(packet) = data.packet.clone() else {
+    let Ok(packet) = message.packet.clone() else {
         return Err(AcceptFault::Known(KnowFault::Memory));
     };
     let Ok(()) = part.reserve(1) else {
         return Err(AcceptFault::Known(KnowFault::Memory));
     };
-    put_data(topology, partition, knows, part, data, packet)?;
+    put_data(topology, partition, knows, part, message, packet)?;
     Ok(Accepted::New)
 }
 
-/// A new message is known from now on, and its arrival, for which there is room, is to come.
-fn put_data(
-    topology: &Topology,
-    partition: PartNo,
-    knows: &mut Vec<Know>,
-    part: &mut Part<HeapList>,
-    data: &Data,
-    packet: Packet,
-) -> Result<(), AcceptFault>
-    requires same { packet ≡ data.now.packet }
-    requires book { IsBook topology.now partition knows.old.items part.old }
-    requires there { data.now.channel < length topology.now.receivers }
-    requires comes { comes_in (net_of topology.now) partition
-        (receiving_iface topology.now data.now.channel) ≡ true }
-    requires next { (data_taken knows.old.items data.now.channel data.now.number data.now.time
-        data.now.packet).answer ≡ IsNew }
+/// The next message of a channel that comes in: its arrival, for which there is room, is to come.
+fn put_message(topology: &Topology, partition: PartNo, part: &mut Part<HeapList>, message: Data)
+    requires next { (knows : List (Knowledge (List ℕ))) × IsBook topology.now partition knows part.old
+        × IsNext topology.now partition knows message }
     requires room { 1 ≤ room_in part.old.timeline.events }
-    ensures book { IsBook topology.now partition knows.new.items part.new }
-    ensures ok { OnOk result (knows.new.items ≡ slice_set knows.old.items data.now.channel
-        (data_taken knows.old.items data.now.channel data.now.number data.now.time
-        data.now.packet).after) }
-    ensures err { OnErr result (knows.new.items ≡ knows.old.items) }
-    ensures memory { IfErr result (λ e. e ≡ Known Memory) }
+    ensures book { (knows : List (Knowledge (List ℕ)))
+        → IsBook topology.now partition knows part.old
+        → IsNext topology.now partition knows message
+        → IsBook topology.now partition (told_one knows message) part.new }
+    ensures room { room_in part.old.timeline.events ≤ room_in part.new.timeline.events + 1 }
     ensures steps { part.new.steps ≡ part.old.steps }
     ensures handed { part.new.records.handed ≡ part.old.records.handed }
 {
@@ -104,9 +93,82 @@ fn put_data(
     told_one_more::<Packet, NodeState>(); // law: one more message is one more arrival
     law_of_books::<Packet, NodeState>(); // law: what was safe to do stays so
     more_of_one_channel_is_more::<Packet, NodeState>(); // law: and this is more
-    accept_laws::<Packet>(); // law: a message that is taken is more
-    add_data(knows, data)?;
-    part.put_arrival(topology, data.channel, data.number, data.time, packet);
+    let Data {
+        channel,
+        number,
+        time,
+        packet,
+    } = message;
+    part.put_arrival(topology, channel, number, time, packet);
+}
+
+/// Messages of channels that come in, each the next of its channel: their arrivals, for which there
+/// is room, are to come.
+pub(crate) fn put_messages(
+    topology: &Topology,
+    partition: PartNo,
+    part: &mut Part<HeapList>,
+    messages: Vec<Data>,
+)
+    requires next { (knows : List (Knowledge (List ℕ))) × IsBook topology.now partition knows part.old
+        × Follow topology.now partition knows messages.items }
+    requires room { length messages.items ≤ room_in part.old.timeline.events }
+    ensures book { (knows : List (Knowledge (List ℕ)))
+        → IsBook topology.now partition knows part.old
+        → Follow topology.now partition knows messages.items
+        → IsBook topology.now partition (told knows messages.items) part.new }
+    ensures steps { part.new.steps ≡ part.old.steps }
+    ensures handed { part.new.records.handed ≡ part.old.records.handed }
+{
+    for message in messages {
+        put_message(topology, partition, part, message);
+    }
+}
+
+/// A new message is known from now on, and its arrival, for which there is room, is to come.
+fn put_data(
+    topology: &Topology,
+    partition: PartNo,
+    knows: &mut Vec<Know>,
+    part: &mut Part<HeapList>,
+    message: &Data,
+    packet: Packet,
+) -> Result<(), AcceptFault>
+    requires same { packet ≡ message.now.packet }
+    requires book { IsBook topology.now partition knows.old.items part.old }
+    requires there { message.now.channel < length topology.now.receivers }
+    requires comes { comes_in (net_of topology.now) partition
+        (receiving_iface topology.now message.now.channel) ≡ true }
+    requires next { (data_taken knows.old.items message.now.channel message.now.number message.now.time
+        message.now.packet).answer ≡ IsNew }
+    requires room { 1 ≤ room_in part.old.timeline.events }
+    ensures book { IsBook topology.now partition knows.new.items part.new }
+    ensures ok { OnOk result (knows.new.items ≡ slice_set knows.old.items message.now.channel
+        (data_taken knows.old.items message.now.channel message.now.number message.now.time
+        message.now.packet).after) }
+    ensures err { OnErr result (knows.new.items ≡ knows.old.items) }
+    ensures memory { IfErr result (λ e. e ≡ Known Memory) }
+    ensures steps { part.new.steps ≡ part.old.steps }
+    ensures handed { part.new.records.handed ≡ part.old.records.handed }
+{
+    add_data(knows, message)?;
+    let Data {
+        channel,
+        number,
+        time,
+        packet: _,
+    } = message;
+    put_message(
+        topology,
+        partition,
+        part,
+        Data {
+            channel: *channel,
+            number: *number,
+            time: *time,
+            packet,
+        },
+    );
     Ok(())
 }
 

@@ -4,9 +4,16 @@
 pub mod book;
 mod channels;
 pub mod fault;
+pub mod knowledge;
 mod learning;
+mod merging;
 pub mod message;
+mod promise;
+pub mod running;
+mod safe;
 
 pub use book::Book;
-pub use fault::{AcceptFault, BookFault};
+pub use fault::{AcceptFault, BookFault, MergeFault};
+pub use knowledge::Knowledge;
 pub use message::{ChannelMessage, Data, Null};
+pub use running::Ran;

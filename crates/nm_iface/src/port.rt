@@ -1,6 +1,6 @@
 //! Ports: drop-tail queues.
 
-ghost use Rattle.std.specs.Prelude.{◌≡◌, ℕ, ◌+◌, ◌≤◌, if◌then◌else◌, List, Option, Some, None, OnOk, IfSome, IsSome};
+ghost use Rattle.std.specs.Prelude.{◌≡◌, ℕ, ◌+◌, ◌<◌, ◌≤◌, ◌^◌, if◌then◌else◌, List, Option, Some, None, OnOk, IfSome, IsSome};
 ghost use Rattle.std.specs.Option.{option_map};
 ghost use Rattle.nm_base.specs.declared.limits.TheConstants.{MAX_DELAY, MAX_RATE, MAX_TIME};
 ghost use Rattle.nm_model.specs.Port.{offered, completed, is_refused};
@@ -64,7 +64,7 @@ pub struct Port {
 }
 
 impl Model for Port {
-    ghost use Rattle.std.specs.Prelude.{◌≡◌, ◌≤◌, ◌-◌, [], None, length, map, option_map, sum_by};
+    ghost use Rattle.std.specs.Prelude.{◌≡◌, ◌<◌, ◌≤◌, ◌-◌, ◌^◌, [], None, IfSome, length, map, option_map, sum_by};
     ghost use Rattle.std.specs.VecDeque.{deque_len, deque_capacity};
     ghost use Rattle.std.specs.Option.{IsSome};
     ghost use Rattle.nm_base.specs.declared.limits.TheConstants.{MAX_DELAY, MAX_RATE};
@@ -87,7 +87,8 @@ impl Model for Port {
 
     ghost invariant = { λ p. (1 ≤ p.rate) × (p.rate ≤ MAX_RATE) × (p.delay ≤ MAX_DELAY)
         × (p.busy_until ≡ None → p.waiting.items ≡ [])
-        × HasCounted (sum_by length (map (λ w. w.packet) p.waiting.items)) p.octets };
+        × HasCounted (sum_by length (map (λ w. w.packet) p.waiting.items)) p.octets
+        × IfSome p.busy_until (λ t. t < 2 ^ 51) };
 }
 
 impl Port {
@@ -192,9 +193,11 @@ impl Port {
         }
     }
 
-    /// When the transmission under way completes, if there is one. It takes no memory.
+    /// When the transmission under way completes, if there is one: before 2^51 ns. It takes no
+    /// memory.
     pub fn busy_until(&self) -> Option<Time>
-        ensures { result ≡ option_map (λ b. b.completes) self.now.busy }
+        ensures value { result ≡ option_map (λ b. b.completes) self.now.busy }
+        ensures soon { IfSome result (λ t. t < 2 ^ 51) }
     {
         self.busy_until
     }
@@ -213,7 +216,8 @@ fn transmission(rate: u64, delay: u64, now: Time, twin: Twin) -> Start
     requires greatest { rate ≤ MAX_RATE }
     requires delay { delay ≤ MAX_DELAY }
     requires now { now ≤ MAX_TIME }
-    ensures { IsTransmission rate delay now twin.packet result }
+    ensures transmission { IsTransmission rate delay now twin.packet result }
+    ensures completes { result.completes < 2 ^ 51 }
 {
     let completes = now.nanoseconds() + transmission_time(rate, twin.packet.octet_count());
     Start {

@@ -1,17 +1,17 @@
 -- Partitions that know the same of their channels.
-use Rattle.std.proofs.Common.{◌≡◌, ℕ, zero, suc, ◌+◌, min, max, Bool, true, false, cond, refl, sym, ap, ap₂, ◌∙◌, subst, arith}
+use Rattle.std.proofs.Common.{◌≡◌, ℕ, zero, suc, ◌+◌, min, max, Bool, true, false, cond, List, [], ◌++◌, refl, sym, ap, ap₂, ◌∙◌, subst, arith}
 use Rattle.std.specs.FinMap.{FinMap, get}
 use Rattle.nm_base.specs.declared.key.Key.{Key}
 use Rattle.nm_base.specs.declared.event.Event.{Event}
 use Rattle.nm_base.specs.Key.{key_cmp}
 use Rattle.nm_model.specs.Lists.{nth}
 use Rattle.nm_model.specs.Network.{Net, IsNet}
-use Rattle.nm_model.specs.Run.{State}
+use Rattle.nm_model.specs.Run.{State, run, start}
 use Rattle.nm_model.specs.EventList.{least, next_time}
 use Rattle.nm_model.specs.Port.{busy_until}
 use Rattle.nm_model.specs.Knowledge.{Knowledge, IsUnder}
-use Rattle.nm_model.specs.Partition.{comes_in}
-use Rattle.nm_model.specs.Replica.{from_scratch, safe_time, safe_among, IsWithin, IsUnderAll}
+use Rattle.nm_model.specs.Partition.{comes_in, in_part}
+use Rattle.nm_model.specs.Replica.{from_scratch, inbox_below, message_events, safe_time, safe_among, IsWithin, IsUnderAll}
 use Rattle.nm_model.specs.Promise.{Promising, Plain, Tight, promise, lookahead}
 use Rattle.nm_model.specs.Before.{IsCount}
 use Rattle.nm_model.proofs.Keys.{same_events}
@@ -30,6 +30,18 @@ module _ {P N : Type 0} (net : Net P N) (p : ℕ) where
       go : (b : Bool) → comes_in net p n ≡ b → safe_among net p K n ≡ safe_among net p J n → cond b (min (K n).clock (safe_among net p K n)) (safe_among net p K n) ≡ cond b (min (J n).clock (safe_among net p J n)) (safe_among net p J n)
       go true f r = ap₂ (λ a s. min a.clock s) (e n f) r
       go false f r = r
+
+  same_inbox : (K J : Knowledge P) → ((c : ℕ) → comes_in net p c ≡ true → (K c).list ≡ (J c).list) → (n : ℕ) → inbox_below net p K n ≡ inbox_below net p J n
+  same_inbox K J e zero = refl
+  same_inbox K J e (suc n) = go (comes_in net p n) refl (same_inbox K J e n)
+    where
+      go : (b : Bool) → comes_in net p n ≡ b → inbox_below net p K n ≡ inbox_below net p J n → cond b (message_events n 0 (K n).list) [] ++ inbox_below net p K n ≡ cond b (message_events n 0 (J n).list) [] ++ inbox_below net p J n
+      go true f rest = ap₂ (λ l r. message_events n 0 l ++ r) (e n f) rest
+      go false f rest = rest
+
+  -- the same messages give the same states
+  pub same_messages : (K J : Knowledge P) → ((c : ℕ) → comes_in net p c ≡ true → (K c).list ≡ (J c).list) → (k : ℕ) → from_scratch net p K k ≡ from_scratch net p J k
+  same_messages K J e k = ap (λ events. run net (in_part net p) k (start net (in_part net p) events)) (same_inbox K J e net.ifaces)
 
   module _ (ok : IsNet net) (K J : Knowledge P) (e : (c : ℕ) → comes_in net p c ≡ true → K c ≡ J c) where
     under : IsUnderAll net p K J

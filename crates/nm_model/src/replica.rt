@@ -1,6 +1,6 @@
 //! Laws of the replica from scratch: what a partition computes from its knowledge alone.
 
-ghost use Rattle.std.specs.Prelude.{◌≡◌, ℕ, ◌≤◌, true, length, List, [], ◌∷◌, ◌++◌, None};
+ghost use Rattle.std.specs.Prelude.{◌≡◌, ℕ, ◌<◌, ◌≤◌, true, length, List, [], ◌∷◌, ◌++◌, None};
 ghost use Rattle.std.specs.FinMap.{get, insert};
 ghost use Rattle.nm_base.specs.declared.key.Place.TheVariants.{Arrive};
 ghost use Rattle.nm_base.specs.declared.event.Event.TheVariants.{Delivery};
@@ -102,4 +102,21 @@ pub fn equal_knowledge_gives_equal_states<P, N>()
         → ((c : ℕ) → comes_in net p c ≡ true → K c ≡ J c)
         → (kind : Promising) (k c : ℕ) → IsWithin net p K k
         → promise net kind p J k c ≡ promise net kind p K k c }
+{}
+
+/// The safe time is at most `stop` and the clock of each channel that comes in, and it is the
+/// greatest such time.
+pub fn safe_time_is_the_least<P, N>()
+    ensures stop { (net : Net P N) (p : ℕ) (K : Knowledge P) → safe_time net p K ≤ net.stop }
+    ensures clocks { (net : Net P N) (p : ℕ) (K : Knowledge P) (c : ℕ) → c < net.ifaces
+        → comes_in net p c ≡ true → safe_time net p K ≤ (K c).clock }
+    ensures greatest { (net : Net P N) (p : ℕ) (K : Knowledge P) (t : ℕ) → t ≤ net.stop
+        → ((c : ℕ) → comes_in net p c ≡ true → t ≤ (K c).clock) → t ≤ safe_time net p K }
+{}
+
+/// Clocks change no state: over the same messages a partition's states are the same.
+pub fn clocks_change_no_state<P, N>()
+    ensures { (net : Net P N) (p : ℕ) (K J : Knowledge P)
+        → ((c : ℕ) → comes_in net p c ≡ true → (K c).list ≡ (J c).list)
+        → (k : ℕ) → from_scratch net p K k ≡ from_scratch net p J k }
 {}

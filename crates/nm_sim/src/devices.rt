@@ -280,8 +280,9 @@ impl Devices {
 
     /// When the transmission under way at the interface completes; 0 where it is idle, or not here.
     pub fn busy(&self, iface: IfaceNo) -> Time
-        ensures { result ≡ completes_at
+        ensures value { result ≡ completes_at
             (option_and_then (option_and_then (λ w. w.busy)) (slice_get self.now.ports iface)) }
+        ensures soon { result < 2 ^ 51 }
     {
         let idle = Time::from_nanoseconds(0);
         match self.ports.get(iface.index()) {

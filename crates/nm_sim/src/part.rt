@@ -265,6 +265,14 @@ impl<L: EventList> Part<L> {
         self.records.reserve()
     }
 
+    /// How many events were done, at most 2^62.
+    pub fn steps(&self) -> u64
+        ensures value { result ≡ self.now.steps }
+        ensures most { result ≤ 2 ^ 62 }
+    {
+        self.steps
+    }
+
     /// What the node counted, if it is here.
     pub fn counter(&self, node: NodeNo, counter: Counter) -> Option<u64>
         ensures { (t : TopologyValue) (part : Option ℕ) (s : State (List ℕ) NodeStateValue)
@@ -301,12 +309,13 @@ impl<L: EventList> Part<L> {
         self.outgoing.messages(channel)
     }
 
-    /// When the transmission of the interface that sends on a channel completes; 0 where it is
-    /// idle, or not here. It takes no memory.
+    /// When the transmission of the interface that sends on a channel completes, before 2^51 ns; 0
+    /// where it is idle, or not here. It takes no memory.
     pub fn busy(&self, topology: &Topology, channel: ChanNo) -> Time
-        ensures { (part : Option ℕ) (s : State (List ℕ) NodeStateValue)
+        ensures value { (part : Option ℕ) (s : State (List ℕ) NodeStateValue)
             → Represents L.pending topology.now part self.now s
             → result ≡ busy_at topology.now part s channel }
+        ensures soon { result < 2 ^ 51 }
     {
         let receiver = topology.receiver(channel);
         if receiver.index() >= topology.ifaces().len() {

@@ -15,4 +15,4 @@ invariant_of-self c =
     ap octets c.in-Some.ensures.items ∙ one_goes (λ w. w.packet) c.in-Some.twin rest
     ∙ ap (λ n. n + octets rest) (sym c.octet_count.ensures.count) in
     let counted = c.with_fewer-self-inside.ensures.counted (octets rest) in
-    (I.0, I.1, I.2, λ e. cc, counted (subst (λ n. HasCounted n c.self.inside.octets) all I.4))
+    (I.0, I.1, I.2, λ e. cc, counted (subst (λ n. HasCounted n c.self.inside.octets) all I.4), c.transmission-start.ensures.completes)

@@ -24,4 +24,5 @@ invariant_of-self-then-may_wait c =
       I.2,
       λ e. grind (arith, c.if-is_none.ensures, c.if-is_none.false),
       subst (λ n. HasCounted n c.with_more-self-inside.result) (sym all) counted,
+      I.5,
     )

@@ -7,18 +7,18 @@ use Rattle.nm_sim.proofs.Beginnings.{peer_is}
 use Rattle.nm_sim.proofs.Parts.{busy_is, busy_past}
 use Rattle.nm_sim.proofs.part.Part.busy.Goals as goal
 
-pub returns-then-index-ifaces : goal.returns-then-index-ifaces
-returns-then-index-ifaces g c = λ part s h.
+pub returns-then-index-ifaces-clause-value : goal.returns-then-index-ifaces-clause-value
+returns-then-index-ifaces-clause-value g c = λ part s h.
     let t = c.args.topology.now in
     let past : length t.ifaces ≤ receiving_iface t c.args.channel = search rules in
     c.from_nanoseconds.ensures ∙ sym (busy_past t part s c.args.channel past)
 
-pub returns : goal.returns
-returns g c = λ part s h.
+pub returns-clause-value : goal.returns-clause-value
+returns-clause-value g c = λ part s h.
     let t = c.args.topology.now in
     let represents = subst (λ (p : PartValue g.row.L.Denot). Represents g.L.EventList.pending t part p s) (sym c.self.view_is) h in
     let receiver = c.receiver-receiver.ensures in
     let far : c.far-sender.result.peer ≡ (net_of t).peer (receiving_iface t c.args.channel)
     = ap (λ f. f.peer) c.far-sender.ensures ∙ sym (peer_is t c.receiver-receiver.result c.iface.result.now c.iface.ensures) ∙ ap (λ j. (net_of t).peer j) receiver in
-    c.busy.ensures ∙ ap (λ j. completes_at (option_and_then (option_and_then (λ w. w.busy)) (slice_get c.self.inside.devices.ports j))) far
+    c.busy.ensures.value ∙ ap (λ j. completes_at (option_and_then (option_and_then (λ w. w.busy)) (slice_get c.self.inside.devices.ports j))) far
     ∙ busy_is t part c.self.inside.devices s represents.devices ((net_of t).peer (receiving_iface t c.args.channel))

@@ -1,0 +1,86 @@
+use Rattle.std.proofs.Common.{◌≡◌, ◌+◌, Ok, Some, true, arith, sym, ◌∙◌, ap, subst}
+use Rattle.nm_model.specs.Replica.{IsWithin, from_scratch}
+use Rattle.nm_model.specs.Run.{pends_before}
+use Rattle.nm_sim.specs.Network.{net_of}
+use Rattle.nm_sim.specs.Part.{Advanced, events_counted}
+use Rattle.nm_book.specs.Book.{knowledge_of, pending_in}
+use Rattle.nm_book.proofs.Incoming.{stop_is}
+use Rattle.nm_book.proofs.Runnings.{one_more, ran_whole, still_book}
+use Rattle.nm_book.proofs.running.run_part.Goals as goal
+
+pub advance-requires-clause-before : goal.advance-requires-clause-before
+advance-requires-clause-before c =
+    let t = c.args.topology.now in
+    let p = c.requires.0 in
+    let safe = c.requires.3 in
+    let most = c.safe_time_is_the_least.ensures.stop (net_of t) p (knowledge_of t c.requires.1) in
+    let e = stop_is t in
+    omega (arith, safe, most, e)
+
+pub advance-requires-clause-represents : goal.advance-requires-clause-represents
+advance-requires-clause-represents c =
+    let t = c.args.topology.now in
+    let book = c.loop-done.invariant.book c.requires.0 c.requires.1 c.requires.2 c.requires.3 in
+    (Some c.requires.0, from_scratch (net_of t) c.requires.0 (knowledge_of t c.requires.1) c.loop-done.part.steps, book.represents)
+
+pub returns-in-Err-clause-book : goal.returns-in-Err-clause-book
+returns-in-Err-clause-book c = λ p knows book safe.
+    let t = c.args.topology.now in
+    let now = c.loop-done.invariant.book p knows book safe in
+    let steps = c.in-Err.ensures.steps in
+    still_book t p knows c.loop-done.part c.advance.new.self now (λ s h. c.in-Err.ensures.advance (Some p) s h) (omega (arith, steps))
+
+pub returns-in-Err-clause-run : goal.returns-in-Err-clause-run
+returns-in-Err-clause-run c = λ p knows book safe.
+    let t = c.args.topology.now in
+    let net = net_of t in
+    let K = knowledge_of t knows in
+    let ok = c.every_topology_is_a_network.ensures.network in
+    let now = c.loop-done.invariant.book p knows book safe in
+    let steps = c.in-Err.ensures.steps in
+    let before = c.loop-done.invariant.steps in
+    let total : c.advance.new.self.steps ≡ c.args.part.now.steps + c.loop-done.done = omega (arith, steps, before) in
+    let same : c.loop-done.part.steps ≡ c.advance.new.self.steps = omega (arith, steps) in (
+      total,
+      ran_whole t p K (c.times_pass.ensures.count net ok p K) (λ j k. c.times_pass.ensures.within_only net ok p K j k) (λ n m k. c.prefix_theorem.ensures.runs net ok p K n m k)
+          c.args.part.now.steps c.advance.new.self.steps c.loop-done.done total (subst (IsWithin net p K) same now.within),
+      c.loop-done-test.true,
+    )
+
+pub loop-done-preserved : goal.loop-done-preserved
+loop-done-preserved c =
+    let t = c.args.topology.now in
+    let net = net_of t in
+    let steps = c.in-Ok-true.ensures.steps in
+    let before = c.loop-done.invariant.steps in
+    let low = c.loop-done-test.true in
+    let one : c.advance.new.self.steps ≡ c.loop-done.part.steps + 1 = c.in-Ok-true.ensures.steps ∙ ap (λ b. c.loop-done.part.steps + events_counted (Ok b)) c.in-Ok-true.field-0-test in
+    record {
+      steps = omega (arith, one, before);
+      handed = c.in-Ok-true.ensures.handed ∙ c.loop-done.invariant.handed;
+      most = omega (arith, low);
+      book = λ p knows book safe.
+          let now = c.loop-done.invariant.book p knows book safe in
+          let s = from_scratch net p (knowledge_of t knows) c.loop-done.part.steps in
+          let done = subst (λ b. Advanced pending_in t (Some p) c.args.safe s c.loop-done.part c.advance.new.self (Ok b)) c.in-Ok-true.field-0-test (c.in-Ok-true.ensures.advance (Some p) s now.represents) in
+          one_more t p knows c.loop-done.part c.advance.new.self now (subst (λ b. pends_before b s ≡ true) safe done.1) done.0 one;
+    }
+
+pub returns-then-is_left-clause-run : goal.returns-then-is_left-clause-run
+returns-then-is_left-clause-run c = λ p knows book safe.
+    let t = c.args.topology.now in
+    let net = net_of t in
+    let K = knowledge_of t knows in
+    let ok = c.every_topology_is_a_network.ensures.network in
+    let now = c.loop-done.invariant.book p knows book safe in
+    let most = c.loop-done.invariant.most in
+    let high = c.loop-done-test.false in
+    let all : c.loop-done.done ≡ c.args.limit = omega (arith, most, high) in
+    let s = from_scratch net p K c.loop-done.part.steps in
+    let left : pends_before c.args.safe s ≡ true = sym (c.is_left.ensures t p s now.represents) ∙ c.if-is_left.true in (
+      c.loop-done.invariant.steps,
+      ran_whole t p K (c.times_pass.ensures.count net ok p K) (λ j k. c.times_pass.ensures.within_only net ok p K j k) (λ n m k. c.prefix_theorem.ensures.runs net ok p K n m k)
+          c.args.part.now.steps c.loop-done.part.steps c.args.limit (c.loop-done.invariant.steps ∙ ap (λ n. c.args.part.now.steps + n) all) now.within,
+      all,
+      subst (λ b. pends_before b s ≡ true) safe left,
+    )
