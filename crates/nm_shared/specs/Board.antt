@@ -1,5 +1,5 @@
 -- A clock board: its words, the seats that callers have, and what is told in the end.
-use Rattle.std.specs.Prelude.{◌≡◌, ℕ, ◌≤◌, List, length, map, slice_index, Option, IfSome}
+use Rattle.std.specs.Prelude.{◌≡◌, ℕ, ◌≤◌, List, map, slice_index, vec_len}
 use mathlib.Core.Option.{some}
 use lib.ListN.{get_elem?}
 use Rattle.atomic_table.specs.Seated.{TableId}
@@ -10,6 +10,13 @@ use Rattle.nm_shared.specs.declared.word.View.{View}
 use Rattle.nm_shared.specs.declared.word.Place.{Place}
 use Rattle.nm_shared.specs.declared.word.Word.{Word}
 use Rattle.nm_shared.specs.Clock.{Fits, looked, owner}
+
+-- how many words there are, and which an owner owns
+abbrev pub word_count : ClockBoard → ℕ
+word_count board = vec_len board.words
+
+abbrev pub owned_word : OwnerSeat → ℕ
+owned_word o = o.word
 
 -- which table a word or a seat is of, and what a seat knows
 abbrev pub word_id : Word → TableId
@@ -53,6 +60,9 @@ raised_to o = slice_index (view_of o.place).owned 0
 -- the k-th seat owns the k-th word, and raised nothing
 abbrev pub AreOwners : List Word → List OwnerSeat → Type 0
 AreOwners ws os = Each (λ k o. (o.word ≡ k) × SitsAt ws k o.place × (view_of o.place ≡ owner)) os
+
+abbrev pub AreFirstOwners : ClockBoard → List OwnerSeat → Type 0
+AreFirstOwners board os = AreOwners board.words.items os
 
 -- the word is what the seat owns, if it owns the word, and the seat found no more
 abbrev pub FitsAt : List ℕ → ℕ → Place → Type 0

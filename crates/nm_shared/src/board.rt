@@ -1,7 +1,7 @@
 //! A board of clocks: for each channel and replica the greatest clock that was told of. Raising and
 //! looking wait for nobody and take no memory.
 
-ghost use Rattle.std.specs.Prelude.{◌≡◌, ◌+◌, ◌*◌, ◌/◌, ◌<◌, ◌≤◌, [], length, max, vec_capacity, vec_len};
+ghost use Rattle.std.specs.Prelude.{◌≡◌, ◌+◌, ◌*◌, ◌/◌, ◌%◌, ◌<◌, ◌≤◌, [], length, max, vec_capacity, vec_len};
 
 mod closing;
 mod opening;
@@ -24,11 +24,13 @@ pub fn word_of(channel: ChanNo, replica: u8) -> usize
     2 * channel.index() + replica as usize
 }
 
-/// The right to raise one word of a board.
+/// The right to raise one word of a board. Contracts see the number of the word, and the greatest
+/// clock to which this seat raised it.
 #[derive(Drop)]
 pub struct OwnerSeat {
     word: usize,
     place: Place,
+    ghost few: { word < 1024 },
     ghost one: { length place.seat.me.0.owned ≡ 1 },
 }
 
@@ -60,20 +62,36 @@ pub struct ClockBoard {
 }
 
 impl OwnerSeat {
+    ghost use Rattle.nm_shared.specs.Board.{owned_word};
+
     /// The number of its word.
     pub fn word(&self) -> usize
-        ensures { result ≡ self.now.word }
+        ensures { result ≡ owned_word self.now }
     {
         self.word
+    }
+
+    /// The channel of its word.
+    pub fn channel(&self) -> ChanNo
+        ensures { result ≡ owned_word self.now / 2 }
+    {
+        ChanNo::new((self.word / 2) as u32)
+    }
+
+    /// The replica of its word: 0 or 1.
+    pub fn replica(&self) -> u8
+        ensures { result ≡ owned_word self.now % 2 }
+    {
+        (self.word % 2) as u8
     }
 }
 
 impl ClockBoard {
-    ghost use Rattle.nm_shared.specs.Board.{IsOwnerOf, IsSeatOf, LooksAt, raised_to};
+    ghost use Rattle.nm_shared.specs.Board.{IsOwnerOf, IsSeatOf, LooksAt, owned_word, raised_to, word_count};
 
     /// How many words there are.
     pub fn len(&self) -> usize
-        ensures { result ≡ vec_len self.now.words }
+        ensures { result ≡ word_count self.now }
     {
         self.words.len()
     }
@@ -83,9 +101,9 @@ impl ClockBoard {
     #[tactic(auto, using(crate::proofs::Boards::raises_clock, crate::proofs::Boards::owns_some))]
     pub fn raise(&self, owner: &mut OwnerSeat, null: &Null)
         requires owner { IsOwnerOf self.now owner.old }
-        requires channel { null.now.channel ≡ owner.old.word / 2 }
+        requires channel { null.now.channel ≡ owned_word owner.old / 2 }
         ensures owner { IsOwnerOf self.now owner.new }
-        ensures word { owner.new.word ≡ owner.old.word }
+        ensures word { owned_word owner.new ≡ owned_word owner.old }
         ensures clock { raised_to owner.new ≡ max (raised_to owner.old) null.now.clock }
     {
         self.words[owner.word].raise(&mut owner.place, null.clock.nanoseconds());
@@ -94,7 +112,7 @@ impl ClockBoard {
     /// Looks at a word, by one step. What it finds, in nanoseconds, is no less than this seat found
     /// there before.
     pub fn look(&self, seat: &mut Seat, word: usize) -> u64
-        requires word { word < vec_len self.now.words }
+        requires word { word < word_count self.now }
         requires seat { IsSeatOf self.now seat.old }
         ensures seat { IsSeatOf self.now seat.new }
         ensures found { LooksAt seat.old word result seat.new }

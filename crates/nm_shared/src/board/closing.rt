@@ -1,7 +1,7 @@
 //! What a board tells in the end.
 
 ghost use Rattle.std.specs.Prelude.{◌≡◌, ◌+◌, ◌<◌, ◌≤◌, ℕ, List, IfSome, length, slice_index, vec_capacity, vec_len};
-ghost use Rattle.nm_shared.specs.Board.{AreOwnersOf, AreSeatsOf, ClocksAre, FitAll, FitsAt, NoneFoundMore, Sit, SitsAt, id_of, raised_to, view_of, word_id};
+ghost use Rattle.nm_shared.specs.Board.{AreOwnersOf, AreSeatsOf, ClocksAre, FitAll, FitsAt, NoneFoundMore, Sit, SitsAt, id_of, raised_to, view_of, word_count, word_id};
 ghost use Rattle.nm_shared.specs.Clock.{Fits};
 ghost use Rattle.nm_shared.specs.Closing.{FitIf, OwnersSit, SeatsSit, SitIf};
 
@@ -133,12 +133,12 @@ fn close_words(words: Vec<Word>, closers: Vec<Option<Place>>, clocks: Vec<u64>) 
 }
 
 impl ClockBoard {
-    /// The words in the end. Each given owner's is the greatest clock to which it was raised, and no
-    /// given seat ever found more than a word. It takes no memory, and waits for nobody.
+    /// The words in the end. Each given owner's is the greatest clock to which it was raised, and
+    /// no given seat ever found more than a word. It takes no memory, and waits for nobody.
     pub fn close(self, owners: Vec<OwnerSeat>, seats: Vec<Seat>) -> Vec<u64>
         requires owners { AreOwnersOf self owners.items }
         requires seats { AreSeatsOf self seats.items }
-        ensures len { vec_len result ≡ vec_len self.words }
+        ensures len { vec_len result ≡ word_count self }
         ensures owners { ClocksAre result.items owners.items }
         ensures seats { NoneFoundMore result.items seats.items }
     {

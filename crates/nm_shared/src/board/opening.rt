@@ -1,7 +1,7 @@
 //! How a board is made.
 
-ghost use Rattle.std.specs.Prelude.{◌≡◌, ◌+◌, ◌*◌, ◌≤◌, IfOk, [], length, vec_capacity, vec_len};
-ghost use Rattle.nm_shared.specs.Board.{AreOwners, AreOwnersOf, AreSeatsOf, Sit, view_of};
+ghost use Rattle.std.specs.Prelude.{◌≡◌, ◌+◌, ◌*◌, ◌<◌, ◌≤◌, IfOk, [], length, vec_capacity, vec_len};
+ghost use Rattle.nm_shared.specs.Board.{AreFirstOwners, AreOwners, AreSeatsOf, Sit, view_of, word_count};
 ghost use Rattle.nm_shared.specs.Clock.{owner};
 ghost use Rattle.nm_shared.specs.Closing.{SeatsSit};
 
@@ -13,7 +13,8 @@ use std::alloc::{AllocError, Global};
 use std::sync::Mutex;
 
 fn owner_seat(word: usize, place: Place) -> OwnerSeat
-    requires { view_of place ≡ owner }
+    requires few { word < 1024 }
+    requires view { view_of place ≡ owner }
     ensures { (result.word ≡ word) × (result.place ≡ place) }
 {
     OwnerSeat { word, place }
@@ -24,6 +25,7 @@ fn words_of(
     alloc: Global,
     count: usize,
 ) -> Result<(Vec<Word>, Vec<OwnerSeat>, Vec<Place>), AllocError>
+    requires { count ≤ 1024 }
     ensures len { IfOk result (λ r. (vec_len r.0 ≡ count) × (vec_len r.1 ≡ count)) }
     ensures owners { IfOk result (λ r. AreOwners r.0.items r.1.items) }
     ensures sit { IfOk result (λ r. Sit r.0.items r.2.items) }
@@ -42,7 +44,11 @@ fn words_of(
 }
 
 /// One more seat at each word, split off from these.
-fn seat_of(alloc: Global, words: &Vec<Word>, places: &mut Vec<Place>) -> Result<Seat, AllocError>
+fn seat_of(
+    alloc: Global,
+    words: &Vec<Word>,
+    places: &mut Vec<Place>,
+) -> Result<Seat, AllocError>
     requires { Sit words.now.items places.old.items }
     ensures places { IfOk result (λ _. Sit words.now.items places.new.items) }
     ensures seat { IfOk result (λ s. Sit words.now.items s.places.items) }
@@ -93,9 +99,9 @@ impl ClockBoard {
         alloc: Global,
         topology: &Topology,
     ) -> Result<(ClockBoard, Vec<OwnerSeat>, Vec<Seat>), AllocError>
-        ensures len { IfOk result (λ r. (vec_len r.0.words ≡ 2 * length topology.now.receivers)
+        ensures len { IfOk result (λ r. (word_count r.0 ≡ 2 * length topology.now.receivers)
             × (vec_len r.1 ≡ 2 * length topology.now.receivers) × (vec_len r.2 ≡ 64)) }
-        ensures owners { IfOk result (λ r. AreOwners r.0.words.items r.1.items) }
+        ensures owners { IfOk result (λ r. AreFirstOwners r.0 r.1.items) }
         ensures seats { IfOk result (λ r. AreSeatsOf r.0 r.2.items) }
     {
         accepted_topologies_are_in_order(topology); // law: there are at most 512 channels
@@ -108,9 +114,9 @@ impl ClockBoard {
         count: usize,
     ) -> Result<(ClockBoard, Vec<OwnerSeat>, Vec<Seat>), AllocError>
         requires { count ≤ 1024 }
-        ensures len { IfOk result (λ r. (vec_len r.0.words ≡ count) × (vec_len r.1 ≡ count)
+        ensures len { IfOk result (λ r. (word_count r.0 ≡ count) × (vec_len r.1 ≡ count)
             × (vec_len r.2 ≡ 64)) }
-        ensures owners { IfOk result (λ r. AreOwners r.0.words.items r.1.items) }
+        ensures owners { IfOk result (λ r. AreFirstOwners r.0 r.1.items) }
         ensures seats { IfOk result (λ r. AreSeatsOf r.0 r.2.items) }
     {
         let (words, owners, places) = words_of(alloc, count)?;

@@ -12,4 +12,4 @@ pub raise-requires-clause-word : goal.raise-requires-clause-word
 raise-requires-clause-word c = sits_here c.args.self.now.words.items c.args.owner.now.word c.args.owner.now.place c.index.result.now c.requires.owner c.index.ensures
 
 pub invariant_of-owner : goal.invariant_of-owner
-invariant_of-owner c = record { one = still_one c.nanoseconds.result _ _ c.raise.ensures.view c.args.owner.now.one }
+invariant_of-owner c = record { few = c.args.owner.now.few; one = still_one c.nanoseconds.result _ _ c.raise.ensures.view c.args.owner.now.one }
