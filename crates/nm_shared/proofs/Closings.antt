@@ -7,7 +7,6 @@ use mathlib.Core.Logic.{dite}
 use native.Mathlib.Decide.{ℕ_discrete}
 use lib.ListN.{get_elem?}
 use Rattle.atomic_table.proofs.Lists.{at_index, at_map, at_set, at_longer, at_last, set_here, set_else}
-use Rattle.nm_shared.specs.declared.word.View.{View}
 use Rattle.nm_shared.specs.declared.word.Place.{Place}
 use Rattle.nm_shared.specs.Clock.{owner, AllAre, Fits, joined}
 use Rattle.nm_shared.specs.declared.word.Word.{Word}

@@ -1,5 +1,5 @@
 -- How many messages an act adds.
-use Rattle.std.proofs.Common.{◌≡◌, ◌≢◌, ◌⊎◌, ⊎_elim, ℕ, zero, suc, ◌+◌, ◌-◌, ◌<◌, ◌≤◌, Bool, true, false, not, ◌&&◌, cond, if◌then◌else◌, List, [], ◌∷◌, ◌++◌, length, get_or, Option, Some, None, Result, Ok, Err, refl, sym, ap, ◌∙◌, subst, length-append, get_or-set_same, get_or-set_other, arith}
+use Rattle.std.proofs.Common.{◌≡◌, ◌≢◌, ⊎_elim, ℕ, zero, suc, ◌+◌, ◌-◌, ◌<◌, ◌≤◌, Bool, true, false, not, ◌&&◌, cond, if◌then◌else◌, List, [], ◌∷◌, ◌++◌, length, Option, Some, None, Result, Ok, Err, refl, sym, ap, ◌∙◌, subst, length-append, get_or-set_same, get_or-set_other, arith}
 use Rattle.std.specs.Prelude.{slice_get, slice_index_or, slice_set}
 use Rattle.std.proofs.lemmas.Bool.{cases_lt}
 use mathlib.Core.Logic.{dite}
@@ -15,16 +15,15 @@ use Rattle.nm_knowledge.specs.Answers.{answer}
 use Rattle.nm_knowledge.specs.Octets.{same_octets}
 use Rattle.nm_knowledge.specs.declared.answer.Accepted.{Accepted}
 use Rattle.nm_knowledge.specs.declared.answer.Accepted.TheVariants.{New, Known as IsKnown, Raised}
-use Rattle.nm_knowledge.specs.declared.answer.KnowFault.{KnowFault}
 use Rattle.nm_knowledge.specs.declared.answer.KnowFault.TheVariants.{Gap, Differs, Late, NotRising, Memory as NoSpace, Contrary}
-use Rattle.nm_sim.specs.Network.{far_from, far_of, net_of}
+use Rattle.nm_sim.specs.Network.{far_from, net_of}
 use Rattle.nm_book.specs.Book.{BookValue, Learns, LearnsIf, Takes, message_channel, message_taken}
 use Rattle.nm_book.specs.declared.fault.AcceptFault.{AcceptFault}
 use Rattle.nm_book.specs.declared.fault.AcceptFault.TheVariants.{Known, Stranger}
 use Rattle.nm_book.specs.declared.message.ChannelMessage.{ChannelMessage}
 use Rattle.nm_book.specs.declared.message.ChannelMessage.TheVariants.{Data, Null}
 use Rattle.nm_shared.specs.Counted.{Meets, Rises}
-use Rattle.nm_shared.specs.Known.{HasAllChannels, Home, messages_below, messages_known, messages_of, news}
+use Rattle.nm_shared.specs.Known.{HasAllChannels, Home, messages_below, messages_known, news}
 
 abbrev count_at : List (Know (List ℕ)) → ℕ → ℕ
 count_at knows c = length (slice_index_or knows c nothing_known).list

@@ -1,5 +1,5 @@
 -- A clock board: its words, the seats that callers have, and what is told in the end.
-use Rattle.std.specs.Prelude.{◌≡◌, ℕ, ◌≤◌, List, map, slice_index, vec_len}
+use Rattle.std.specs.Prelude.{◌≡◌, ℕ, List, map, slice_index, vec_len}
 use mathlib.Core.Option.{some}
 use lib.ListN.{get_elem?}
 use Rattle.atomic_table.specs.Seated.{TableId}

@@ -1,6 +1,6 @@
 -- Why a book only grows, whatever a call of it answers.
 use Rattle.std.specs.Prelude.{◌≡◌, ℕ, zero, suc, ◌+◌, ◌≤◌, Bool, true, false, cond, if◌then◌else◌, List, [], ◌∷◌, ◌++◌, length, slice_index_or, slice_set, Option, Some, None, Result, Ok, Err, refl}
-use Rattle.std.proofs.Common.{◌⊎◌, ⊎_elim, ◌<◌, leb, sym, subst, ap, arith, length-append}
+use Rattle.std.proofs.Common.{⊎_elim, ◌<◌, leb, sym, subst, ap, arith, length-append}
 use Rattle.std.proofs.lemmas.Bool.{cases_lt, leb-true}
 
 use Rattle.nm_topology.specs.Topology.{receiving_iface}
@@ -14,8 +14,8 @@ use Rattle.nm_knowledge.specs.declared.answer.Accepted.{Accepted}
 use Rattle.nm_knowledge.specs.declared.answer.KnowFault.TheVariants.{Gap, Differs, Late, NotRising, Memory as NoSpace, Contrary}
 use Rattle.nm_sim.specs.Network.{net_of}
 use Rattle.nm_book.specs.Book.{BookValue, Learns, LearnsIf, Takes, message_channel, message_taken}
-use Rattle.nm_book.specs.Merging.{AreJoined, BookMerges, KnowledgeValue, Merges, is_of, joined}
-use Rattle.nm_book.specs.Running.{Runs, HasRun}
+use Rattle.nm_book.specs.Merging.{AreJoined, BookMerges, KnowledgeValue, Merges, joined}
+use Rattle.nm_book.specs.Running.{Runs}
 use Rattle.nm_book.specs.declared.fault.AcceptFault.{AcceptFault}
 use Rattle.nm_book.specs.declared.fault.AcceptFault.TheVariants.{Known, Stranger}
 use Rattle.nm_book.specs.declared.fault.MergeFault.{MergeFault}

@@ -167,7 +167,7 @@ impl Act for HandOut {
     type Out = Option<Record>;
 
     ghost does = { λ a b r c. (r ≡ slice_get (state_of b).records b.handed)
-        × (c ≡ record b { handed = b.handed + (if is_some r then 1 else 0); }) };
+        × (c ≡ record b { handed = b.handed + (if is_some r then 1 else 0) }) };
 
     fn act(self, book: &mut Book) -> Option<Record> {
         book.hand_out()

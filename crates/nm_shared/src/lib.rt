@@ -10,7 +10,6 @@ pub mod counts;
 pub mod known;
 pub mod ledgers;
 pub mod plain;
-
 pub mod shared_book;
 mod word;
 pub mod workers;
@@ -20,5 +19,5 @@ pub use board::{ClockBoard, OwnerSeat, Seat};
 pub use counts::Counts;
 pub use ledgers::{Ledgers, Naming};
 pub use plain::Plain;
-pub use workers::{Gate, Job, PoolReport, pool};
 pub use shared_book::{Closed, Pass, PassesOut, SharedBook};
+pub use workers::{Gate, Job, PoolReport, pool};

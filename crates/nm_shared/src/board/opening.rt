@@ -44,11 +44,7 @@ fn words_of(
 }
 
 /// One more seat at each word, split off from these.
-fn seat_of(
-    alloc: Global,
-    words: &Vec<Word>,
-    places: &mut Vec<Place>,
-) -> Result<Seat, AllocError>
+fn seat_of(alloc: Global, words: &Vec<Word>, places: &mut Vec<Place>) -> Result<Seat, AllocError>
     requires { Sit words.now.items places.old.items }
     ensures places { IfOk result (λ _. Sit words.now.items places.new.items) }
     ensures seat { IfOk result (λ s. Sit words.now.items s.places.items) }

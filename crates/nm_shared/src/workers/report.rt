@@ -25,10 +25,7 @@ pub(super) fn slots_for<C: Counts, J: Jobs>(
 }
 
 /// Puts what was done into its places.
-pub(super) fn put_all<C: Counts, J: Jobs>(
-    slots: &mut Vec<Option<Done<C, J>>>,
-    all: Vec<Done<C, J>>,
-)
+pub(super) fn put_all<C: Counts, J: Jobs>(slots: &mut Vec<Option<Done<C, J>>>, all: Vec<Done<C, J>>)
     ensures { vec_len slots.new ≡ vec_len slots.old }
 {
     for done in all {

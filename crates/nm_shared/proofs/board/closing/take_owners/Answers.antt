@@ -1,7 +1,7 @@
 use Rattle.std.proofs.Common.{[], ◌≡◌, ◌++◌, length, sym, ap, ◌∙◌}
 use Rattle.std.specs.Prelude.{slice_index}
 use Rattle.std.proofs.lemmas.List.{append-nil}
-use Rattle.nm_shared.specs.Board.{FitAll, raised_to}
+use Rattle.nm_shared.specs.Board.{raised_to}
 use Rattle.nm_shared.proofs.Closings.{from_end, from_more, from_start, popped, rest_more, snoc_length}
 use Rattle.nm_shared.proofs.board.closing.take_owners.Goals as goal
 

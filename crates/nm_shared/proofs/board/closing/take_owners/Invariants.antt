@@ -1,7 +1,7 @@
-use Rattle.std.proofs.Common.{◌≡◌, ℕ, List, ◌++◌, length, vec_len}
-use Rattle.std.specs.Prelude.{IfSome, slice_index}
+use Rattle.std.proofs.Common.{◌≡◌, ℕ, List, ◌++◌, length}
+use Rattle.std.specs.Prelude.{slice_index}
 use Rattle.nm_shared.specs.declared.board.OwnerSeat.{OwnerSeat}
-use Rattle.nm_shared.specs.Board.{FitAll, FitsAt, raised_to}
+use Rattle.nm_shared.specs.Board.{raised_to}
 use Rattle.nm_shared.specs.Closing.{FitIf, From, SitIf}
 use Rattle.nm_shared.proofs.board.closing.take_owners.Given as goal
 

@@ -1,5 +1,4 @@
-use Rattle.std.proofs.Common.{rules, ◌≡◌, ◌<◌, length, get_or, ◌∙◌, sym, ap, Option, arith}
-use Rattle.nm_shared.specs.declared.word.Place.{Place}
+use Rattle.std.proofs.Common.{rules, ◌≡◌, get_or, arith}
 use Rattle.nm_shared.proofs.Boards.{sits_below, sits_here}
 use Rattle.nm_shared.proofs.Closings.{fit_taken, sit_here, sit_taken, sits_same}
 use Rattle.nm_shared.proofs.board.closing.take_place.Goals as goal

@@ -1,7 +1,6 @@
-use Rattle.std.proofs.Common.{◌≡◌, ℕ, List, ◌++◌, length, vec_len}
-use Rattle.std.specs.Prelude.{IfSome, slice_index}
+use Rattle.std.proofs.Common.{◌≡◌, ℕ, List, ◌++◌, length}
 use Rattle.nm_shared.specs.declared.board.Seat.{Seat}
-use Rattle.nm_shared.specs.Board.{FitAll, FitsAt, raised_to}
+use Rattle.nm_shared.specs.Board.{FitAll}
 use Rattle.nm_shared.specs.Closing.{FitIf, From, SitIf}
 use Rattle.nm_shared.proofs.board.closing.take_seats.Given as goal
 
