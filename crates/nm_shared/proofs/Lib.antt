@@ -1,0 +1,6 @@
+pub mod Clocks
+pub mod Boards
+pub mod Closings
+pub mod Fresh
+pub mod News
+pub mod Pools

@@ -1,0 +1,6 @@
+pub mod Clock
+pub mod Board
+pub mod Closing
+pub mod Known
+pub mod Counted
+pub mod Growing

@@ -1,0 +1,240 @@
+//! A book that threads share.
+
+ghost use Rattle.std.specs.Prelude.{◌≡◌, ◌+◌, ◌-◌, ◌^◌, ◌<◌, ◌≤◌, true, false, Err, length, vec_len, IfOk, IfErr};
+ghost use Rattle.std.specs.Arc.{arc_value};
+ghost use Rattle.std.specs.List.{sum_by};
+ghost use Rattle.nm_book.specs.Book.{BookValue, is_replica};
+ghost use Rattle.nm_book.specs.declared.fault.BookFault.TheVariants.{NoSuch};
+ghost use Rattle.nm_shared.specs.Counted.{Meets, Rises};
+ghost use Rattle.nm_shared.specs.Known.{Grows, HasAllChannels, home_of, messages_known};
+
+use crate::act::Act;
+use crate::counts::{Counts, PARTS};
+use crate::known::messages;
+use nm_base::PartNo;
+use nm_book::{Book, BookFault};
+use nm_topology::Topology;
+use std::alloc::{AllocError, Global};
+use std::sync::{Arc, Mutex, Wait};
+
+/// The right to act on one shared book. It counts what its acts added.
+#[derive(Drop)]
+pub struct Pass<C: Counts> {
+    /// What it counted.
+    pub share: C::Share,
+    ghost part: { C.parts share ≡ 1 },
+}
+
+/// What lies under the lock: a book, its totals, and the parts that no pass has.
+#[derive(Drop)]
+pub struct Held<C: Counts> {
+    book: Book,
+    counts: C,
+    rest: C::Share,
+    /// How many passes were made.
+    made: u64,
+    ghost home: { C.exact ≡ true → home_of book ≡ C.home },
+    ghost channels: { HasAllChannels book },
+    ghost messages: { C.messages counts ≡ messages_known book },
+    ghost events: { C.events counts ≡ book.events },
+    ghost parts: { C.parts rest + made ≡ 2 ^ 32 },
+    ghost idle: { (C.messages_of rest ≡ 0) × (C.events_of rest ≡ 0) },
+}
+
+/// A book under a lock, with the totals of messages known and events done. All that a caller does
+/// with it is one act, in one go.
+#[derive(Drop)]
+pub struct SharedBook<C: Counts> {
+    lock: Mutex<Held<C>>,
+}
+
+/// A book that no thread shares any more, with its totals.
+#[derive(Drop)]
+pub struct Closed {
+    pub book: Book,
+    pub messages: u64,
+    pub events: u64,
+    pub ghost messages_are: { messages ≡ messages_known book },
+    pub ghost events_are: { events ≡ book.events },
+}
+
+/// Some pass is missing. All comes back: the book opens again by `SharedBook::again`.
+#[derive(Drop)]
+pub struct PassesOut<C: Counts> {
+    pub held: Held<C>,
+    pub passes: Vec<Pass<C>>,
+}
+
+impl<C: Counts> Held<C> {
+    /// One more pass.
+    fn pass(&mut self) -> Result<Pass<C>, AllocError>
+        ensures { IfOk result (λ p. (C.messages_of p.share ≡ 0) × (C.events_of p.share ≡ 0)) }
+    {
+        if self.made == PARTS {
+            return Err(AllocError);
+        }
+        let share = C::split(&mut self.rest);
+        self.made += 1;
+        Ok(Pass { share })
+    }
+
+    /// Acts once, and counts what was added.
+    fn act<A: Act>(&mut self, pass: &mut Pass<C>, act: A) -> A::Out
+        ensures does { A.does act self.old.book result self.new.book }
+        ensures meets { Meets C.exact C.home (C.messages_of pass.old.share)
+            (C.events_of pass.old.share) (C.messages_of pass.new.share)
+            (C.events_of pass.new.share) self.old.book self.new.book }
+    {
+        let old_messages = messages(&self.book);
+        let old_events = self.book.events();
+        self.counts.audit(&mut pass.share);
+        let out = act.act(&mut self.book);
+        let new_messages = messages(&self.book) - old_messages;
+        let new_events = self.book.events() - old_events;
+        self.counts.add(&mut pass.share, new_messages, new_events);
+        out
+    }
+
+    /// The book and its totals, where no pass is missing.
+    fn close(self, passes: Vec<Pass<C>>) -> Result<Closed, PassesOut<C>>
+        requires { C.cut true }
+        ensures home { C.exact ≡ true → IfOk result (λ r. home_of r.book ≡ C.home) }
+        ensures sums { C.exact ≡ true → IfOk result (λ r.
+            (r.messages ≡ sum_by (λ p. C.messages_of p.share) passes.items)
+            × (r.events ≡ sum_by (λ p. C.events_of p.share) passes.items)) }
+        ensures missing { IfErr result (λ e. (e.passes.items ≡ passes.items)
+            × (vec_len passes < e.held.made) × (C.parts e.held.rest + e.held.made ≡ 2 ^ 32)) }
+    {
+        if (passes.len() as u64) < self.made {
+            return Err(PassesOut { held: self, passes });
+        }
+        let Held {
+            book,
+            mut counts,
+            rest,
+            made: _,
+        } = self;
+        let mut whole = gather::<C>(rest, passes);
+        counts.audit(&mut whole);
+        Ok(unshared(book))
+    }
+}
+
+/// A book with its totals.
+fn unshared(book: Book) -> Closed
+    ensures { result.book ≡ book }
+{
+    let messages = messages(&book);
+    let events = book.events();
+    Closed {
+        book,
+        messages,
+        events,
+    }
+}
+
+/// All shares in one.
+#[tactic(auto, using(std::proofs::lemmas::List::Sums::sum_by_push))]
+fn gather<C: Counts>(rest: C::Share, passes: Vec<Pass<C>>) -> C::Share
+    requires { C.parts rest ≤ 2 ^ 32 }
+    ensures parts { C.exact ≡ true → C.parts result ≡ C.parts rest + vec_len passes }
+    ensures apart { C.exact ≡ true → C.cut true → C.parts result ≤ 2 ^ 32 }
+    ensures messages { C.exact ≡ true → C.messages_of result
+        ≡ C.messages_of rest + sum_by (λ p. C.messages_of p.share) passes.items }
+    ensures events { C.exact ≡ true → C.events_of result
+        ≡ C.events_of rest + sum_by (λ p. C.events_of p.share) passes.items }
+{
+    let mut whole = rest;
+    for pass in passes {
+        let Pass { share } = pass;
+        C::merge(&mut whole, share);
+    }
+    whole
+}
+
+impl<C: Counts> SharedBook<C> {
+    /// Shares a new replica that knows nothing, with fresh totals and their whole share.
+    ///
+    /// # Errors
+    ///
+    /// Those of `Book::new`. Totals and share are dropped then.
+    pub fn new(
+        alloc: Global,
+        topology: Arc<Topology>,
+        partition: PartNo,
+        replica: u8,
+        counts: C,
+        whole: C::Share,
+    ) -> Result<SharedBook<C>, BookFault>
+        requires home { C.exact ≡ true → C.home ≡ record {
+          topology = arc_value topology;
+          partition = partition;
+          replica = replica;
+        } }
+        requires counts { (C.messages counts ≡ 0) × (C.events counts ≡ 0) }
+        requires whole { (C.parts whole ≡ 2 ^ 32) × (C.messages_of whole ≡ 0)
+            × (C.events_of whole ≡ 0) }
+        ensures there { IfOk result
+            (λ _. is_replica (arc_value topology) partition replica ≡ true) }
+        ensures no_such { result ≡ Err NoSuch
+            → is_replica (arc_value topology) partition replica ≡ false }
+    {
+        let book = Book::new(alloc, topology, partition, replica)?;
+        Ok(SharedBook {
+            lock: Mutex::new(Held {
+                book,
+                counts,
+                rest: whole,
+                made: 0,
+            }),
+        })
+    }
+
+    /// Shares again what came back.
+    pub fn again(held: Held<C>) -> SharedBook<C> {
+        SharedBook {
+            lock: Mutex::new(held),
+        }
+    }
+
+    /// A pass, which has counted nothing.
+    ///
+    /// # Errors
+    ///
+    /// Where 2^32 passes were made already.
+    pub fn pass<R: Wait>(&self, rt: &R) -> Result<Pass<C>, AllocError>
+        ensures { IfOk result (λ p. (C.messages_of p.share ≡ 0) × (C.events_of p.share ≡ 0)) }
+    {
+        let mut held = self.lock.lock(rt);
+        held.pass()
+    }
+
+    /// Acts once on the locked book, which has at least what the pass counted. The pass then counts
+    /// what was added.
+    pub fn act<A: Act, R: Wait>(&self, rt: &R, pass: &mut Pass<C>, act: A) -> A::Out
+        ensures { (b : BookValue) × (c : BookValue) × A.does act b result c
+            × Meets C.exact C.home (C.messages_of pass.old.share) (C.events_of pass.old.share)
+            (C.messages_of pass.new.share) (C.events_of pass.new.share) b c }
+    {
+        let mut held = self.lock.lock(rt);
+        held.act(pass, act)
+    }
+
+    /// The book and its totals, which are the sums over all passes. It waits for nobody.
+    ///
+    /// # Errors
+    ///
+    /// Where a pass is missing: fewer are given than were made.
+    pub fn close(self, passes: Vec<Pass<C>>) -> Result<Closed, PassesOut<C>>
+        requires { C.cut true }
+        ensures home { C.exact ≡ true → IfOk result (λ r. home_of r.book ≡ C.home) }
+        ensures sums { C.exact ≡ true → IfOk result (λ r.
+            (r.messages ≡ sum_by (λ p. C.messages_of p.share) passes.items)
+            × (r.events ≡ sum_by (λ p. C.events_of p.share) passes.items)) }
+        ensures missing { IfErr result (λ e. (e.passes.items ≡ passes.items)
+            × (vec_len passes < e.held.made) × (C.parts e.held.rest + e.held.made ≡ 2 ^ 32)) }
+    {
+        let held = self.lock.into_inner();
+        held.close(passes)
+    }
+}

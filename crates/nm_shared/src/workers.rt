@@ -1,0 +1,137 @@
+//! Jobs over a list of shared books, done by a few threads.
+
+ghost use Rattle.std.specs.Prelude.{◌≡◌, ℕ, ◌<◌, ◌≤◌, length, map, slice_index, vec_len, IfOk, All};
+ghost use Rattle.nm_shared.specs.Known.{ran};
+
+mod report;
+mod work;
+
+use crate::counts::Counts;
+use crate::shared_book::{Pass, SharedBook};
+use nm_book::Ran;
+use report::{put_all, report_of, slots_for};
+use std::alloc::{AllocError, Global};
+use std::marker::Brand;
+use std::sync::Wait;
+use std::thread;
+use std::thread::Threads;
+use work::{Done, Jobs, feed, work};
+
+/// How many jobs wait at most.
+const QUEUE: usize = 64;
+
+/// A run of one of the books, of at most so many events.
+#[derive(Drop)]
+pub struct Job {
+    /// The place of the book in the list.
+    pub book: usize,
+    pub limit: u64,
+}
+
+/// What is told, and asked, while threads run.
+pub trait Gate {
+    /// A worker begins the job at this place of the list.
+    fn enter(&self, job: usize);
+
+    /// It has ended it.
+    fn leave(&self, job: usize);
+
+    /// Whether a thread of input and output goes on, whose wires took and gave so many octets so
+    /// far. A pool never asks.
+    fn poll(&self, moved: u64) -> bool;
+}
+
+/// A pass that a pool made, with its book's place.
+#[derive(Drop)]
+pub struct BookPass<C: Counts> {
+    pub book: usize,
+    pub pass: Pass<C>,
+}
+
+/// The answer of each job, in order, and the pass that it was run with.
+#[derive(Drop)]
+pub struct PoolReport<C: Counts> {
+    pub answers: Vec<Ran>,
+    pub passes: Vec<BookPass<C>>,
+}
+
+/// A pool for jobs that types name.
+fn pool_of<C: Counts, J: Jobs + Send + Sync, G: Gate + Sync, R: Threads + Wait + Sync>(
+    rt: &R,
+    alloc: Global,
+    books: &[SharedBook<C>],
+    jobs: &[Job],
+    workers: usize,
+    gate: &G,
+) -> Result<PoolReport<C>, AllocError>
+    requires workers { (1 ≤ workers) × (workers ≤ 64) }
+    requires named { All (λ j. j.book < length books.now) jobs.now }
+    requires length { length jobs.now ≡ length J.books }
+    requires books { J.books ≡ map (λ j. j.book) jobs.now }
+    requires limits { J.limits ≡ map (λ j. j.limit) jobs.now }
+    ensures books { IfOk result
+        (λ r. map (λ p. p.book) r.passes.items ≡ map (λ j. j.book) jobs.now) }
+    ensures counted { IfOk result (λ r. map (λ p. C.events_of p.pass.share) r.passes.items
+        ≡ map ran r.answers.items) }
+    ensures within { IfOk result (λ r. (vec_len r.answers ≡ length jobs.now)
+        × ((k : ℕ) → k < length jobs.now
+        → slice_index (map ran r.answers.items) k ≤ slice_index J.limits k)) }
+{
+    let mut slots = slots_for(alloc, jobs.len())?;
+    let (to, from) = crossbeam_channel::bounded(alloc, QUEUE)?;
+    let queue = &from;
+    let count = jobs.len();
+    let (_, results) = thread::join(
+        rt,
+        move ||
+            requires { count ≡ length J.books }
+        { feed::<J, R>(rt, to, count) },
+        move ||
+            requires named { All (λ j. j.book < length books.now) jobs.now }
+            requires books { J.books ≡ map (λ j. j.book) jobs.now }
+            requires limits { J.limits ≡ map (λ j. j.limit) jobs.now }
+        {
+            thread::map_indices(
+                rt,
+                alloc,
+                workers,
+                &|_worker: usize| -> Result<Vec<Done<C, J>>, AllocError>
+                    requires named { All (λ j. j.book < length books.now) jobs.now }
+                    requires books { J.books ≡ map (λ j. j.book) jobs.now }
+                    requires limits { J.limits ≡ map (λ j. j.limit) jobs.now }
+                { work::<C, J, G, R>(rt, alloc, books, jobs, queue, gate) },
+            )
+        },
+    );
+    for result in results? {
+        put_all(&mut slots, result?);
+    }
+    report_of::<C, J, G, R>(rt, alloc, books, jobs, slots, gate)
+}
+
+/// Does the jobs, by so many threads: one answer for each job, in their order, and a pass for each,
+/// of the job's book, which has counted what the answer says.
+///
+/// # Errors
+///
+/// Where memory was refused. A pass may be lost then, and its book does not close.
+pub fn pool<C: Counts, G: Gate + Sync, R: Threads + Wait + Sync>(
+    rt: &R,
+    alloc: Global,
+    books: &[SharedBook<C>],
+    jobs: &[Job],
+    workers: usize,
+    gate: &G,
+) -> Result<PoolReport<C>, AllocError>
+    requires workers { (1 ≤ workers) × (workers ≤ 64) }
+    requires named { All (λ j. j.book < length books.now) jobs.now }
+    ensures books { IfOk result
+        (λ r. map (λ p. p.book) r.passes.items ≡ map (λ j. j.book) jobs.now) }
+    ensures counted { IfOk result (λ r. map (λ p. C.events_of p.pass.share) r.passes.items
+        ≡ map ran r.answers.items) }
+    ensures within { IfOk result (λ r. (vec_len r.answers ≡ length jobs.now)
+        × ((k : ℕ) → k < length jobs.now → slice_index (map ran r.answers.items) k
+        ≤ slice_index (map (λ j. j.limit) jobs.now) k)) }
+{
+    pool_of::<C, Brand, G, R>(rt, alloc, books, jobs, workers, gate)
+}

@@ -1,0 +1,148 @@
+//! What the threads of a pool do.
+
+ghost use Rattle.std.specs.Prelude.{◌≡◌, ℕ, ◌<◌, ◌≤◌, List, [], length, map, slice_index, IfOk, All};
+ghost use Rattle.nm_shared.specs.Known.{ran};
+
+use super::{Gate, Job};
+use crate::acts::Run;
+use crate::counts::Counts;
+use crate::shared_book::{Pass, SharedBook};
+use crossbeam_channel::{Receiver, Sender};
+use nm_book::Ran;
+use std::alloc::{AllocError, Global};
+use std::marker::{Brand, PhantomData};
+use std::sync::Wait;
+
+/// The jobs of one call: the book and the limit of each.
+pub(super) trait Jobs {
+    ghost books: { List ℕ };
+
+    ghost limits: { List ℕ };
+}
+
+impl Jobs for Brand {
+    ghost books = { [] };
+
+    ghost limits = { [] };
+}
+
+/// What the queue carries: the place of a job.
+#[derive(Drop)]
+pub(super) struct Queued<J: Jobs> {
+    place: usize,
+    of: PhantomData<J>,
+    ghost there: { place < length J.books },
+}
+
+/// A job that was done.
+#[derive(Drop)]
+pub(super) struct Done<C: Counts, J: Jobs> {
+    pub(super) place: usize,
+    pub(super) book: usize,
+    pub(super) answer: Ran,
+    pub(super) pass: Pass<C>,
+    pub(super) of: PhantomData<J>,
+    ghost book_is: { book ≡ slice_index J.books place },
+    ghost within: { ran answer ≤ slice_index J.limits place },
+    ghost counted: { C.events_of pass.share ≡ ran answer },
+}
+
+/// How many events a run did.
+fn count_of(answer: &Ran) -> u64
+    ensures { result ≡ ran answer.now }
+{
+    match answer {
+        Ran::All(n) => *n,
+        Ran::Limit(n) => *n,
+        Ran::Memory(n) => *n,
+    }
+}
+
+fn to_queue<J: Jobs>(place: usize) -> Queued<J>
+    requires { place < length J.books }
+{
+    Queued {
+        place,
+        of: PhantomData,
+    }
+}
+
+/// Does one job, with a pass of its own.
+pub(super) fn run_one<C: Counts, J: Jobs, G: Gate, R: Wait>(
+    rt: &R,
+    alloc: Global,
+    books: &[SharedBook<C>],
+    jobs: &[Job],
+    place: usize,
+    gate: &G,
+) -> Result<Done<C, J>, AllocError>
+    requires place { place < length jobs.now }
+    requires named { All (λ j. j.book < length books.now) jobs.now }
+    requires books { J.books ≡ map (λ j. j.book) jobs.now }
+    requires limits { J.limits ≡ map (λ j. j.limit) jobs.now }
+    ensures { IfOk result (λ d. d.place ≡ place) }
+{
+    let job = &jobs[place];
+    let book = job.book;
+    let mut pass = books[book].pass(rt)?;
+    gate.enter(place);
+    let run = Run {
+        alloc,
+        limit: job.limit,
+    };
+    let answer = books[book].act(rt, &mut pass, run);
+    gate.leave(place);
+    let _count = count_of(&answer);
+    Ok(Done {
+        place,
+        book,
+        answer,
+        pass,
+        of: PhantomData,
+    })
+}
+
+/// Queues each job. The queue ends with its sender.
+pub(super) fn feed<J: Jobs, R: Wait>(rt: &R, to: Sender<Queued<J>>, count: usize)
+    requires { count ≡ length J.books }
+{
+    for place in 0..count {
+        if to.send(rt, to_queue(place)).is_err() {
+            break;
+        }
+    }
+}
+
+/// Does jobs until the queue ends. Once memory was refused, it only empties the queue.
+pub(super) fn work<C: Counts, J: Jobs, G: Gate, R: Wait>(
+    rt: &R,
+    alloc: Global,
+    books: &[SharedBook<C>],
+    jobs: &[Job],
+    queue: &Receiver<Queued<J>>,
+    gate: &G,
+) -> Result<Vec<Done<C, J>>, AllocError>
+    requires named { All (λ j. j.book < length books.now) jobs.now }
+    requires books { J.books ≡ map (λ j. j.book) jobs.now }
+    requires limits { J.limits ≡ map (λ j. j.limit) jobs.now }
+{
+    let mut all = Vec::new(alloc);
+    let mut refused = false;
+    for _ in rt.forever() {
+        let Ok(queued) = queue.recv(rt) else {
+            break;
+        };
+        if refused {
+            continue;
+        }
+        if let Err(_) = all.reserve(1) {
+            refused = true;
+            continue;
+        }
+        match run_one::<C, J, G, R>(rt, alloc, books, jobs, queued.place, gate) {
+            Ok(done) => all.push_reserved(done),
+            Err(_) => refused = true,
+        }
+    }
+    if refused { Err(AllocError) } else { Ok(all) }
+}
