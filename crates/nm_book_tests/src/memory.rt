@@ -71,9 +71,13 @@ fn runs(rt: &(impl Abort + AllocGlobal), book: &mut Book) -> u64 {
     match book.run_safe(rt.alloc(), 10) {
         Ran::All(done) | Ran::Limit(done) => done,
         Ran::Memory(done) => {
-            holds(rt, "whole events", book.events() == before + done);
+            holds(
+                rt,
+                "whole events",
+                book.events() == before.saturating_add(done),
+            );
             let (_word, more) = ran(book.run_safe(rt.alloc(), 10));
-            done + more
+            done.saturating_add(more)
         }
     }
 }
@@ -107,31 +111,49 @@ fn merges(rt: &(impl Abort + AllocGlobal), book: &mut Book, known: &Knowledge) {
     holds(rt, "merged", answer == Ok(()));
 }
 
+/// The sender's events, and its message.
+fn sends(rt: &(impl Abort + AllocGlobal), sender: &mut Book) -> Result<ChannelMessage, Fail> {
+    eq_answer(rt, 0, told(sender, &null(0, 0, 1_000_000)), ("raised", 0));
+    eq_number(rt, "events", 1, runs(rt, sender), 2);
+    message(sender)
+}
+
+/// The receiver is told the message, and a null message.
+fn hears(rt: &impl Abort, receiver: &mut Book, data: &ChannelMessage) {
+    eq_answer(rt, 2, told(receiver, data), ("new", 0));
+    eq_answer(rt, 3, told(receiver, &null(1, 1, 2_000_000)), ("raised", 0));
+}
+
+/// A late replica merges what the receiver knows, and runs.
+fn catches_up(
+    rt: &(impl Abort + AllocGlobal),
+    late: &mut Book,
+    receiver: &Book,
+) -> Result<(), Fail> {
+    let known = knowledge(rt.alloc(), receiver)?;
+    merges(rt, late, &known);
+    eq_number(rt, "events", 4, runs(rt, late), 1);
+    eq_number(rt, "safe time", 5, late.safe().nanoseconds(), 2_000_000);
+    holds(rt, "one record", late.trace().len() == 1);
+    Ok(())
+}
+
+/// Two replicas of the receiver, of which one comes late.
+fn receivers(
+    rt: &(impl Abort + AllocGlobal),
+    topology: &Arc<Topology>,
+    data: &ChannelMessage,
+) -> Result<(), Fail> {
+    let mut receiver = book_of(rt, topology, 1)?;
+    hears(rt, &mut receiver, data);
+    let mut late = book_of(rt, topology, 1)?;
+    catches_up(rt, &mut late, &receiver)
+}
+
 #[test]
 fn book_calls(rt: HostRuntime) -> Result<(), Fail> {
     let topology = network(rt.alloc())?;
     let mut sender = book_of(&rt, &topology, 0)?;
-    eq_answer(
-        &rt,
-        0,
-        told(&mut sender, &null(0, 0, 1_000_000)),
-        ("raised", 0),
-    );
-    eq_number(&rt, "events", 1, runs(&rt, &mut sender), 2);
-    let data = message(&sender)?;
-    let mut receiver = book_of(&rt, &topology, 1)?;
-    eq_answer(&rt, 2, told(&mut receiver, &data), ("new", 0));
-    eq_answer(
-        &rt,
-        3,
-        told(&mut receiver, &null(1, 1, 2_000_000)),
-        ("raised", 0),
-    );
-    let known = knowledge(rt.alloc(), &receiver)?;
-    let mut late = book_of(&rt, &topology, 1)?;
-    merges(&rt, &mut late, &known);
-    eq_number(&rt, "events", 4, runs(&rt, &mut late), 1);
-    eq_number(&rt, "safe time", 5, late.safe().nanoseconds(), 2_000_000);
-    holds(&rt, "one record", late.trace().len() == 1);
-    Ok(())
+    let data = sends(&rt, &mut sender)?;
+    receivers(&rt, &topology, &data)
 }

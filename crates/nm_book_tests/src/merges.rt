@@ -4,7 +4,7 @@ use crate::books::{accepted, book_of, network, null, ran, refused, tell};
 use crate::same::{eq_answer, eq_number, holds};
 use crate::texts::{SHIFT, SPLIT, THREE};
 use nm_base::{ChanNo, Dir, IfaceNo, Record};
-use nm_book::{Book, BookFault, MergeFault};
+use nm_book::{Book, BookFault, ChannelMessage, MergeFault};
 use nm_topology::Topology;
 use std::process::Abort;
 use std::sync::Arc;
@@ -53,84 +53,148 @@ fn are_equal(rt: &impl Abort, first: &Book, second: &Book, channel: u32) {
     holds(rt, "done", first.done() == second.done());
 }
 
-/// The sender of partition 0, done up to this time of its incoming channel 0, and the receiver that
-/// was told all of it.
-fn sender_and_receiver(
+/// The sender of partition 0, which did all before this time of its incoming channel 0.
+fn sender_of(
     rt: &(impl Abort + AllocGlobal),
     topology: &Arc<Topology>,
     clock: u64,
-    messages: u64,
-) -> Result<(Book, Book), Fail> {
+) -> Result<Book, Fail> {
     let mut sender = book_of(rt.alloc(), topology, 0, 0)?;
     let answer = sender.accept(&null(0, 0, clock));
     eq_answer(rt, 0, accepted(&answer), ("raised", 0));
     let _all = sender.run_safe(rt.alloc(), 1000);
-    let mut receiver = book_of(rt.alloc(), topology, 1, 0)?;
+    Ok(sender)
+}
+
+/// A receiver is told so many messages, which are all.
+fn hears_all(rt: &impl Abort, book: &mut Book, sender: &Book, messages: u64) -> Result<(), Fail> {
     for number in 0..messages {
-        let answer = tell(&mut receiver, &sender, 1, number)?;
-        eq_answer(rt, 1, answer, ("new", 0));
+        eq_answer(rt, 1, tell(book, sender, 1, number)?, ("new", 0));
     }
     let count = sender.out_len(ChanNo::new(1));
     holds(rt, "all messages", count == Some(messages));
-    Ok((sender, receiver))
+    Ok(())
 }
 
-/// A replica that comes late merges what the other knows, and is as it is once it has run.
+/// A receiver takes the sender's null message.
+fn hears_null(rt: &impl Abort, book: &mut Book, sender: &Book) {
+    match sender.null(ChanNo::new(1)) {
+        None => holds(rt, "it goes out", false),
+        Some(promise) => {
+            let answer = book.accept(&ChannelMessage::Null(promise));
+            eq_answer(rt, 2, accepted(&answer), ("raised", 0));
+        }
+    }
+}
+
+/// A replica that comes late merges what the other knows, who merges back.
+fn merge_both(
+    rt: &(impl Abort + AllocGlobal),
+    first: &mut Book,
+    second: &mut Book,
+) -> Result<(), Fail> {
+    merge(rt, 4, second, first, ("merged", 0))?;
+    merge(rt, 5, second, first, ("merged", 0))?;
+    merge(rt, 6, first, second, ("merged", 0))
+}
+
+/// It is as the other once it has run.
+fn catches_up(
+    rt: &(impl Abort + AllocGlobal),
+    sender: &Book,
+    first: &mut Book,
+    second: &mut Book,
+    messages: u64,
+) -> Result<(), Fail> {
+    hears_all(rt, first, sender, messages)?;
+    hears_null(rt, first, sender);
+    let _some = first.run_safe(rt.alloc(), 1);
+    eq_answer(rt, 3, tell(second, sender, 1, 0)?, ("new", 0));
+    merge_both(rt, first, second)?;
+    let _rest = first.run_safe(rt.alloc(), 1000);
+    let _all = second.run_safe(rt.alloc(), 1000);
+    are_equal(rt, first, second, 0);
+    eq_answer(rt, 7, tell(second, sender, 1, 0)?, ("known", 0));
+    Ok(())
+}
+
+/// Two replicas of partition 1, of which the second comes late.
 fn comes_late(
+    rt: &(impl Abort + AllocGlobal),
+    topology: &Arc<Topology>,
+    sender: &Book,
+    messages: u64,
+) -> Result<(), Fail> {
+    let mut first = book_of(rt.alloc(), topology, 1, 0)?;
+    let mut second = book_of(rt.alloc(), topology, 1, 1)?;
+    catches_up(rt, sender, &mut first, &mut second, messages)
+}
+
+/// The same of a network whose sender did all before this time.
+fn late_in(
     rt: &(impl Abort + AllocGlobal),
     text: &str,
     clock: u64,
     messages: u64,
 ) -> Result<(), Fail> {
     let topology = network(rt.alloc(), text)?;
-    let (sender, mut first) = sender_and_receiver(rt, &topology, clock, messages)?;
-    if let Some(promise) = sender.null(ChanNo::new(1)) {
-        let answer = first.accept(&nm_book::ChannelMessage::Null(promise));
-        eq_answer(rt, 2, accepted(&answer), ("raised", 0));
-    }
-    let _some = first.run_safe(rt.alloc(), 1);
-    let mut second = book_of(rt.alloc(), &topology, 1, 1)?;
-    let answer = tell(&mut second, &sender, 1, 0)?;
-    eq_answer(rt, 3, answer, ("new", 0));
-    merge(rt, 4, &mut second, &first, ("merged", 0))?;
-    merge(rt, 5, &mut second, &first, ("merged", 0))?;
-    merge(rt, 6, &mut first, &second, ("merged", 0))?;
-    let _rest = first.run_safe(rt.alloc(), 1000);
-    let _all = second.run_safe(rt.alloc(), 1000);
-    are_equal(rt, &first, &second, 0);
-    eq_answer(rt, 7, tell(&mut second, &sender, 1, 0)?, ("known", 0));
-    Ok(())
+    let sender = sender_of(rt, &topology, clock)?;
+    comes_late(rt, &topology, &sender, messages)
 }
 
 #[test]
 fn a_late_replica_is_as_her_sister(rt: HostRuntime) -> Result<(), Fail> {
-    comes_late(&rt, SPLIT, 1_000_000, 1)?;
-    comes_late(&rt, SHIFT, 20_000_000, 3)
+    late_in(&rt, SPLIT, 1_000_000, 1)?;
+    late_in(&rt, SHIFT, 20_000_000, 3)
+}
+
+/// What contradicts is refused, by either.
+fn contradict(
+    rt: &(impl Abort + AllocGlobal),
+    sender: &Book,
+    receiver: &mut Book,
+    ahead: &mut Book,
+) -> Result<(), Fail> {
+    hears_all(rt, receiver, sender, 1)?;
+    let answer = ahead.accept(&null(1, 0, 1_100_001));
+    eq_answer(rt, 4, accepted(&answer), ("raised", 0));
+    merge(rt, 5, receiver, ahead, ("late", 1_100_001))?;
+    merge(rt, 6, ahead, receiver, ("late", 1_100_001))?;
+    eq_number(rt, "safe time", 7, receiver.safe().nanoseconds(), 1_100_000);
+    eq_number(rt, "safe time", 8, ahead.safe().nanoseconds(), 1_100_001);
+    Ok(())
+}
+
+/// The knowledge of another partition or topology is refused.
+fn is_stranger(
+    rt: &(impl Abort + AllocGlobal),
+    book: &mut Book,
+    sender: &Book,
+    text: &str,
+) -> Result<(), Fail> {
+    merge(rt, 2, book, sender, ("stranger", 0))?;
+    let other = network(rt.alloc(), text)?;
+    let stranger = book_of(rt.alloc(), &other, 1, 0)?;
+    merge(rt, 3, book, &stranger, ("stranger", 0))
 }
 
 /// What cannot be merged is refused, and changes nothing.
+fn are_refused(
+    rt: &(impl Abort + AllocGlobal),
+    topology: &Arc<Topology>,
+    sender: &Book,
+) -> Result<(), Fail> {
+    let mut receiver = book_of(rt.alloc(), topology, 1, 0)?;
+    is_stranger(rt, &mut receiver, sender, SHIFT)?;
+    let mut ahead = book_of(rt.alloc(), topology, 1, 1)?;
+    contradict(rt, sender, &mut receiver, &mut ahead)
+}
+
 #[test]
 fn merges_are_refused(rt: HostRuntime) -> Result<(), Fail> {
     let topology = network(rt.alloc(), SPLIT)?;
-    let other = network(rt.alloc(), SHIFT)?;
-    let (sender, mut receiver) = sender_and_receiver(&rt, &topology, 1_000_000, 1)?;
-    let stranger = book_of(rt.alloc(), &other, 1, 0)?;
-    merge(&rt, 2, &mut receiver, &sender, ("stranger", 0))?;
-    merge(&rt, 3, &mut receiver, &stranger, ("stranger", 0))?;
-    let mut ahead = book_of(rt.alloc(), &topology, 1, 1)?;
-    let answer = ahead.accept(&null(1, 0, 1_100_001));
-    eq_answer(&rt, 4, accepted(&answer), ("raised", 0));
-    merge(&rt, 5, &mut receiver, &ahead, ("late", 1_100_001))?;
-    merge(&rt, 6, &mut ahead, &receiver, ("late", 1_100_001))?;
-    eq_number(
-        &rt,
-        "safe time",
-        7,
-        receiver.safe().nanoseconds(),
-        1_100_000,
-    );
-    eq_number(&rt, "safe time", 8, ahead.safe().nanoseconds(), 1_100_001);
-    Ok(())
+    let sender = sender_of(&rt, &topology, 1_000_000)?;
+    are_refused(&rt, &topology, &sender)
 }
 
 /// There is no such partition, or no such replica.
@@ -181,23 +245,43 @@ fn request_of(
     Ok(book)
 }
 
+/// The centre is told the requests, the second neighbour's first, and answers them in the order of
+/// interfaces.
+fn answers_in_order(
+    rt: &(impl Abort + AllocGlobal),
+    centre: &mut Book,
+    first: &Book,
+    second: &Book,
+) -> Result<(), Fail> {
+    eq_answer(rt, 2, tell(centre, second, 1, 0)?, ("new", 0));
+    eq_answer(rt, 3, tell(centre, first, 0, 0)?, ("new", 0));
+    for channel in [0u32, 1] {
+        let answer = centre.accept(&null(channel, 1, 1_100_000));
+        eq_answer(rt, 4, accepted(&answer), ("raised", 0));
+    }
+    let _all = centre.run_safe(rt.alloc(), 100);
+    for (iface, want) in [(0u32, 0u64), (1, 1), (2, 2)] {
+        is_reply(rt, centre, iface, want);
+    }
+    Ok(())
+}
+
+/// The same of a network.
+fn in_order(
+    rt: &(impl Abort + AllocGlobal),
+    topology: &Arc<Topology>,
+    first: &Book,
+) -> Result<(), Fail> {
+    let second = request_of(rt, topology, 2, 3)?;
+    let mut centre = book_of(rt.alloc(), topology, 0, 0)?;
+    answers_in_order(rt, &mut centre, first, &second)
+}
+
 /// Requests that come at one time are answered in the order of interfaces, in whatever order they
 /// were told.
 #[test]
 fn the_order_of_being_told_does_not_matter(rt: HostRuntime) -> Result<(), Fail> {
     let topology = network(rt.alloc(), THREE)?;
     let first = request_of(&rt, &topology, 1, 2)?;
-    let second = request_of(&rt, &topology, 2, 3)?;
-    let mut centre = book_of(rt.alloc(), &topology, 0, 0)?;
-    eq_answer(&rt, 2, tell(&mut centre, &second, 1, 0)?, ("new", 0));
-    eq_answer(&rt, 3, tell(&mut centre, &first, 0, 0)?, ("new", 0));
-    for channel in [0u32, 1] {
-        let answer = centre.accept(&null(channel, 1, 1_100_000));
-        eq_answer(&rt, 4, accepted(&answer), ("raised", 0));
-    }
-    let _all = centre.run_safe(rt.alloc(), 100);
-    for (iface, want) in [(0u32, 0u64), (1, 1), (2, 2)] {
-        is_reply(&rt, &centre, iface, want);
-    }
-    Ok(())
+    in_order(&rt, &topology, &first)
 }

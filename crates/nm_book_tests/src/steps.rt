@@ -189,6 +189,15 @@ fn says(rt: &impl Abort, step: usize, book: &Book, what: &Step) -> Result<(), Fa
     Ok(())
 }
 
+/// A replica goes through these steps.
+fn does(rt: &(impl Abort + AllocGlobal), book: &mut Book, steps: &[Step]) -> Result<(), Fail> {
+    for (number, step) in steps.iter().enumerate() {
+        changes(rt, number, book, step)?;
+        says(rt, number, book, step)?;
+    }
+    Ok(())
+}
+
 /// A new replica of a partition goes through these steps.
 fn goes(
     rt: &(impl Abort + AllocGlobal),
@@ -198,11 +207,7 @@ fn goes(
 ) -> Result<(), Fail> {
     let topology = network(rt.alloc(), text)?;
     let mut book = book_of(rt.alloc(), &topology, partition, 0)?;
-    for (number, step) in steps.iter().enumerate() {
-        changes(rt, number, &mut book, step)?;
-        says(rt, number, &book, step)?;
-    }
-    Ok(())
+    does(rt, &mut book, steps)
 }
 
 /// The sender of SPLIT: its source's event at 0 holds its promise back until it is done; then the
@@ -315,29 +320,36 @@ const SHIFTED: &[Step] = &[
     Events(4, false),
 ];
 
-/// The receiver of SPLIT, which its sender tells all.
+/// A receiver of SPLIT is told the message twice, and then that nothing else comes before a time.
+fn is_told(
+    rt: &(impl Abort + AllocGlobal),
+    sender: &Book,
+    receiver: &mut Book,
+) -> Result<(), Fail> {
+    eq_answer(rt, 2, tell(receiver, sender, 1, 0)?, ("new", 0));
+    eq_answer(rt, 3, tell(receiver, sender, 1, 0)?, ("known", 0));
+    eq_number(rt, "safe time", 4, receiver.safe().nanoseconds(), 1_100_000);
+    let raised = receiver.accept(&null(1, 1, 2_001_000));
+    eq_answer(rt, 5, accepted(&raised), ("raised", 0));
+    eq_answer(rt, 6, ran(receiver.run_safe(rt.alloc(), 10)), ("all", 1));
+    holds(rt, "one record", receiver.trace().len() == 1);
+    Ok(())
+}
+
+/// A sender of SPLIT sends its message.
+fn sends(rt: &(impl Abort + AllocGlobal), sender: &mut Book) {
+    let raised = sender.accept(&null(0, 0, 1_000_000));
+    eq_answer(rt, 0, accepted(&raised), ("raised", 0));
+    eq_answer(rt, 1, ran(sender.run_safe(rt.alloc(), 10)), ("all", 2));
+}
+
 #[test]
 fn a_message_is_told_once(rt: HostRuntime) -> Result<(), Fail> {
     let topology = network(rt.alloc(), SPLIT)?;
     let mut sender = book_of(rt.alloc(), &topology, 0, 0)?;
+    sends(&rt, &mut sender);
     let mut receiver = book_of(rt.alloc(), &topology, 1, 0)?;
-    let raised = sender.accept(&null(0, 0, 1_000_000));
-    eq_answer(&rt, 0, accepted(&raised), ("raised", 0));
-    eq_answer(&rt, 1, ran(sender.run_safe(rt.alloc(), 10)), ("all", 2));
-    eq_answer(&rt, 2, tell(&mut receiver, &sender, 1, 0)?, ("new", 0));
-    eq_answer(&rt, 3, tell(&mut receiver, &sender, 1, 0)?, ("known", 0));
-    eq_number(
-        &rt,
-        "safe time",
-        4,
-        receiver.safe().nanoseconds(),
-        1_100_000,
-    );
-    let raised = receiver.accept(&null(1, 1, 2_001_000));
-    eq_answer(&rt, 5, accepted(&raised), ("raised", 0));
-    eq_answer(&rt, 6, ran(receiver.run_safe(rt.alloc(), 10)), ("all", 1));
-    holds(&rt, "one record", receiver.trace().len() == 1);
-    Ok(())
+    is_told(&rt, &sender, &mut receiver)
 }
 
 #[test]
