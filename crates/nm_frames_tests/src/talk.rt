@@ -99,38 +99,69 @@ struct Outcome {
     events_of_one: u64,
 }
 
+/// How many octets each end may give before the connection breaks.
+#[derive(Clone, Copy)]
+struct Left {
+    of_zero: usize,
+    of_one: usize,
+}
+
+/// Each end gives all that it owes, until the connection breaks. It breaks once.
+fn turn(alloc: Global, zero: &mut End, one: &mut End, left: &mut Left) -> Result<(), Fail> {
+    let mut breaks = pass(alloc, zero, one, &mut left.of_zero)?;
+    if !breaks {
+        breaks = pass(alloc, one, zero, &mut left.of_one)?;
+    }
+    if breaks {
+        zero.broke(alloc);
+        one.broke(alloc);
+        left.of_zero = usize::MAX;
+        left.of_one = usize::MAX;
+    }
+    Ok(())
+}
+
+/// Both ends talk until they have taken Bye.
+fn until_bye(
+    rt: &(impl Abort + AllocGlobal),
+    zero: &mut End,
+    one: &mut End,
+    left: &mut Left,
+) -> Result<(), Fail> {
+    for _ in 0..1000 {
+        if zero.ended && one.ended {
+            break;
+        }
+        turn(rt.alloc(), zero, one, left)?;
+    }
+    holds(rt, "both took Bye", zero.ended && one.ended);
+    holds(rt, "both are done", zero.book.done() && one.book.done());
+    Ok(())
+}
+
+/// What they did.
+fn what_they_did(zero: &End, one: &End) -> Outcome {
+    Outcome {
+        octets_of_zero: zero.octets,
+        octets_of_one: one.octets,
+        events_of_zero: zero.book.events(),
+        events_of_one: one.book.events(),
+    }
+}
+
 /// Both ends talk until they have taken Bye. The connection breaks once, where one of them has given
 /// so many octets.
 fn talk(
     rt: &(impl Abort + AllocGlobal),
     topology: &Arc<Topology>,
-    mut left_of_zero: usize,
-    mut left_of_one: usize,
+    of_zero: usize,
+    of_one: usize,
 ) -> Result<Outcome, Fail> {
-    let alloc = rt.alloc();
-    let mut zero = End::new(alloc, topology, 0, 1)?;
-    let mut one = End::new(alloc, topology, 1, 0)?;
-    for _ in 0..1000 {
-        if zero.ended && one.ended {
-            break;
-        }
-        if pass(alloc, &mut zero, &mut one, &mut left_of_zero)?
-            || pass(alloc, &mut one, &mut zero, &mut left_of_one)?
-        {
-            zero.broke(alloc);
-            one.broke(alloc);
-            left_of_zero = usize::MAX;
-            left_of_one = usize::MAX;
-        }
-    }
-    holds(rt, "both took Bye", zero.ended && one.ended);
-    holds(rt, "both are done", zero.book.done() && one.book.done());
-    Ok(Outcome {
-        octets_of_zero: zero.octets,
-        octets_of_one: one.octets,
-        events_of_zero: zero.book.events(),
-        events_of_one: one.book.events(),
-    })
+    let mut left = Left { of_zero, of_one };
+    let mut zero = End::new(rt.alloc(), topology, 0, 1)?;
+    let mut one = End::new(rt.alloc(), topology, 1, 0)?;
+    until_bye(rt, &mut zero, &mut one, &mut left)?;
+    Ok(what_they_did(&zero, &one))
 }
 
 /// Two talks did the same events.
@@ -141,16 +172,24 @@ fn are_alike(rt: &impl Abort, found: Outcome, want: Outcome) {
 }
 
 /// The connection breaks at every octet of either direction, and ends as an unbroken one.
-fn breaks_anywhere(rt: &(impl Abort + AllocGlobal), text: &str) -> Result<(), Fail> {
-    let topology = network(rt.alloc(), text)?;
-    let whole = talk(rt, &topology, usize::MAX, usize::MAX)?;
+fn breaks_everywhere(
+    rt: &(impl Abort + AllocGlobal),
+    topology: &Arc<Topology>,
+) -> Result<(), Fail> {
+    let whole = talk(rt, topology, usize::MAX, usize::MAX)?;
     for at in 0..whole.octets_of_zero {
-        are_alike(rt, talk(rt, &topology, at, usize::MAX)?, whole);
+        are_alike(rt, talk(rt, topology, at, usize::MAX)?, whole);
     }
     for at in 0..whole.octets_of_one {
-        are_alike(rt, talk(rt, &topology, usize::MAX, at)?, whole);
+        are_alike(rt, talk(rt, topology, usize::MAX, at)?, whole);
     }
     Ok(())
+}
+
+/// The same of a network.
+fn breaks_anywhere(rt: &(impl Abort + AllocGlobal), text: &str) -> Result<(), Fail> {
+    let topology = network(rt.alloc(), text)?;
+    breaks_everywhere(rt, &topology)
 }
 
 #[test]
