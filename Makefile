@@ -1,6 +1,6 @@
 # `make help` lists the targets.
 
-.PHONY: all help try run bench cases check-pcap test gate-times clean toolchain
+.PHONY: all help try run bench cases check-frames check-pcap test gate-times clean toolchain
 
 # The topology and the interface of `make try` and `make run`; the folder of `make cases`; how many crates `make` proves at a time.
 TOPO = examples/duo.toml
@@ -16,6 +16,7 @@ help:
 	@echo 'make run         builds it and shows a trace in hexadecimal; TOPO and IFACE as for make try'
 	@echo 'make bench       times it on generated topologies, and event lists and knowledge alone (docs/BENCH.md)'
 	@echo 'make cases       compares it with cases of an independent model; CASES=FOLDER: with those of a folder'
+	@echo 'make check-frames compares the reader of frames with a model of its own over generated streams'
 	@echo 'make check-pcap  reads the traces of the examples with tshark, or else tcpdump, one of which it needs'
 	@echo 'make test        the gate: proves everything from nothing and runs every test; the last line is N passed, M failed'
 	@echo 'make gate-times  the gate, with the processor minutes of each crate (docs/GATE.md)'
@@ -44,8 +45,12 @@ bin/nm_bench: $(SOURCES) | toolchain
 bench: bin/nullsim bin/nm_bench
 	@python3 bench/one.py bin/nullsim bin/nm_bench line grid star line-1000 grid-1000 star-1000 ring-1000 mixed routes large many line=79365
 	@python3 bench/one.py bin/nullsim bin/nm_bench $(foreach packets,64000 128000 256000 512000 1024000,hub=$(packets) spread=$(packets))
-	@for work in heap-random sorted-random heap-nearly sorted-nearly know copy; do \
+	@for work in heap-random sorted-random heap-nearly sorted-nearly know copy write read-1 read-100 read-65536; do \
 	  python3 bench/time.py $$work bin/nm_bench $$work || exit 1; \
+	done
+	@for channels in 1 100; do \
+	  python3 bench/topology.py channels $$channels > bin/channels-$$channels.toml && \
+	  python3 bench/time.py "$$channels channels, told" bin/nm_bench told bin/channels-$$channels.toml || exit 1; \
 	done
 	@python3 bench/topology.py limits > bin/limits.toml
 	@for work in topology parts; do \
@@ -60,6 +65,9 @@ bench: bin/nullsim bin/nm_bench
 
 cases: bin/nullsim
 	@tools/cases.sh bin/nullsim $(if $(CASES),'$(CASES)',crates/nullsim_cases/data/cases/networks crates/nullsim_cases/data/cases/readings)
+
+check-frames: bin/nm_bench
+	@tools/check-frames
 
 check-pcap: bin/nullsim
 	@tools/check-pcap bin/nullsim examples/*.toml

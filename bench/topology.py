@@ -196,6 +196,16 @@ def equal(packets):
     hub(packets, lambda part: 1_000_000)
 
 
+def channels(count=1):
+    """A router in partition 0, with links to so many hosts in partition 1: no packet is sent."""
+    net = Net()
+    net.node("c")
+    for i in range(count):
+        net.node(f"h{i}", "host", 1)
+        net.link("c", f"h{i}", 1_000_000_000, 1_000)
+    write(10 ** 15, net.nodes, net.ifaces, net.links, [], [])
+
+
 def spread(packets):
     """Delays from a microsecond to a second, in equal ratios: arrivals come in no order."""
     hub(packets, lambda part: round(1_000 * 1_000_000 ** part))
@@ -241,6 +251,7 @@ KINDS = {
     "limits": limits,
     "hub": equal,
     "spread": spread,
+    "channels": channels,
 }
 
 if __name__ == "__main__":

@@ -2,25 +2,33 @@
 //! timed from outside (`make bench`). One word says which: `heap-random`, `heap-nearly`,
 //! `sorted-random` and `sorted-nearly` take a million keys through a list of 4,096, and print the
 //! last one's time; `know` makes knowledge of a million messages, and `copy` copies it a hundred
-//! times.
+//! times; `write` writes 200,000 messages of 100 octets as frames, and `read-1`, `read-100` and
+//! `read-65536` read them too, in pieces of so many octets.
 //!
 //! With a second word, the name of a file with a topology: `topology` reads it, and prints how many
 //! nodes there are; `parts` starts two parts for each partition, and prints how many; `kept` and
 //! `flat` run the whole network to its stop, and print how many records there are: `flat` lets each
-//! go as it is made, and `kept` none.
+//! go as it is made, and `kept` none; `told` tells replica 0 of partition 0 a million messages of its
+//! channels, and lets it run after each. `streams` reads a file of streams of frames, and shows the
+//! frames (`tools/check-frames`).
 #![tactic(auto)]
 
+mod frames;
 mod network;
+mod replica;
+mod streams;
 mod turns;
 
 use bytes::Bytes;
+use frames::frames_read;
 use network::{Task, work_over};
 use nm_base::{Packet, Time};
 use nm_events::{EventList, HeapList, SortedList};
 use nm_knowledge::{Accepted, Know};
 use std::alloc::{AllocError, Global};
-use std::env;
 use std::io::{Error, ErrorKind};
+use std::{env, fs};
+use streams::read_streams;
 use turns::{Order, turn_over};
 
 /// A million keys through a list of 4,096.
@@ -57,6 +65,10 @@ fn work_alone(alloc: Global, word: &str) -> Result<u64, Error> {
         "sorted-nearly" => work::<SortedList>(alloc, Order::Nearly)?,
         "know" => copy(alloc, 0)?,
         "copy" => copy(alloc, 100)?,
+        "write" => frames_read(alloc, 0)?,
+        "read-1" => frames_read(alloc, 1)?,
+        "read-100" => frames_read(alloc, 100)?,
+        "read-65536" => frames_read(alloc, 65_536)?,
         _ => return Err(ErrorKind::InvalidInput.into()),
     };
     Ok(done)
@@ -69,6 +81,7 @@ fn task(word: &str) -> Option<Task> {
         "parts" => Some(Task::Parts),
         "kept" => Some(Task::Kept),
         "flat" => Some(Task::Flat),
+        "told" => Some(Task::Told),
         _ => None,
     }
 }
@@ -78,6 +91,10 @@ fn main(rt: HostRuntime) -> Result<(), Error> {
     let word = words.next().ok_or(ErrorKind::InvalidInput)?;
     let done = match words.next() {
         None => work_alone(rt.alloc(), word.as_str())?,
+        Some(path) if word.as_str() == "streams" => {
+            let octets = fs::read(&rt, path.as_str())?;
+            read_streams(&rt, octets.as_slice())?
+        }
         Some(path) => {
             let task = task(word.as_str()).ok_or(ErrorKind::InvalidInput)?;
             work_over(&rt, task, path.as_str())?

@@ -1,5 +1,6 @@
 //! Work over the topology of a file: its parts at their start, and runs of the whole network.
 
+use crate::replica::replica_told;
 use nm_base::PartNo;
 use nm_events::SortedList;
 use nm_sim::{Part, Tracer, one_list};
@@ -20,6 +21,8 @@ pub enum Task {
     Kept,
     /// The same, but each record is let go as it is made.
     Flat,
+    /// A replica is told messages, which it takes and which are counted.
+    Told,
 }
 
 /// The topology of a file.
@@ -63,6 +66,7 @@ pub fn work_over<R: Files + AllocGlobal>(rt: &R, task: Task, path: &str) -> Resu
         Task::Parts => start_twice(rt.alloc(), &topology)?.len() as u64,
         Task::Kept => one_list(rt.alloc(), &topology, topology.stop())?.len() as u64,
         Task::Flat => let_go(rt.alloc(), &topology)?,
+        Task::Told => return replica_told(rt.alloc(), topology),
     };
     Ok(count)
 }
