@@ -4,4 +4,5 @@ mod Incoming
 mod Runnings
 mod Safety
 mod Sendings
+mod Sisters
 mod Tellings

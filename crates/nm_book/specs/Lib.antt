@@ -1,4 +1,5 @@
 pub mod Book
+pub mod Laws
 pub mod Merging
 pub mod Running
 pub mod Telling

@@ -7,10 +7,11 @@ ghost use Rattle.nm_model.specs.Certificate.{is_done};
 ghost use Rattle.nm_model.specs.Knowledge.{nothing_known};
 ghost use Rattle.nm_model.specs.Lists.{nth};
 ghost use Rattle.nm_model.specs.Promise.{Plain, Tight};
+ghost use Rattle.nm_model.specs.Replica.{IsWithin};
 ghost use Rattle.nm_sim.specs.Network.{net_of};
 ghost use Rattle.nm_sim.specs.Records.{totals_at};
 ghost use Rattle.nm_book.specs.Book.{IsBook, Takes, data_taken, is_replica, message_channel, message_taken, null_taken};
-ghost use Rattle.nm_book.specs.Book.{data_from, is_incoming, is_outgoing, null_on, only_if, promise_on, replica_of, safe_of, sent_on, state_of};
+ghost use Rattle.nm_book.specs.Book.{data_from, knowledge, is_incoming, is_outgoing, null_on, only_if, promise_on, replica_of, safe_of, sent_on, state_of};
 ghost use Rattle.nm_book.specs.Merging.{BookMerges};
 ghost use Rattle.nm_book.specs.Running.{Runs};
 ghost use Rattle.nm_book.specs.declared.fault.BookFault.TheVariants.{NoSuch};
@@ -400,9 +401,11 @@ impl Book {
         Some(&self.knows[channel.index()])
     }
 
-    /// How many events were done, at most 2^62. It takes no memory.
+    /// How many events were done, at most 2^62, each before the safe time. It takes no memory.
     pub fn events(&self) -> u64
-        ensures { result ≡ self.now.events }
+        ensures value { result ≡ self.now.events }
+        ensures within { IsWithin (net_of self.now.topology) self.now.partition
+            (knowledge self.now) self.now.events }
     {
         self.part.steps()
     }

@@ -5,6 +5,7 @@ pub mod book;
 mod channels;
 pub mod fault;
 pub mod knowledge;
+pub mod laws;
 mod learning;
 mod merging;
 pub mod message;

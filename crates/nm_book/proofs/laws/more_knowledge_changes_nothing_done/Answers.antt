@@ -1,0 +1,70 @@
+use Rattle.std.proofs.Common.{◌≡◌, ◌≤◌, subst}
+use Rattle.nm_topology.specs.Topology.{receiving_iface}
+use Rattle.nm_model.specs.Lists.{IsPrefix}
+use Rattle.nm_model.specs.Promise.{promise}
+use Rattle.nm_model.specs.Replica.{IsUnderAll, IsWithin, from_scratch, safe_time, with_new}
+use Rattle.nm_sim.specs.Network.{net_of}
+use Rattle.nm_book.specs.Book.{knowledge, knowledge_of, promise_on, safe_of, sent_on, state_of}
+use Rattle.nm_book.proofs.Sisters.{back, over, under_at}
+use Rattle.nm_book.proofs.laws.more_knowledge_changes_nothing_done.Goals as goal
+
+pub returns-clause-same : goal.returns-clause-same
+returns-clause-same c = λ h e.
+    let a = c.args.less.now in
+    let b = c.args.more.now in
+    let net = net_of a.topology in
+    let ok = c.replica_of.ensures.network in
+    let K = knowledge a in
+    let J = knowledge_of a.topology b.knows in
+    let under : IsUnderAll net a.partition K J = under_at a b c.replica_of.ensures.here (c.replica_of.ensures.numbered a.partition) h in
+    let law = c.law_of_books.ensures.same net ok a.partition K J under a.events c.replica_of.ensures.within in
+    over a b (λ t p. from_scratch (net_of t) p (knowledge_of t b.knows) b.events ≡ with_new net a.partition K (knowledge_of t b.knows) (state_of a)) h.sisters
+    (subst (λ k. from_scratch net a.partition J k ≡ with_new net a.partition K J (state_of a)) e law)
+
+pub returns-clause-sent : goal.returns-clause-sent
+returns-clause-sent c = λ h le d.
+    let a = c.args.less.now in
+    let b = c.args.more.now in
+    let net = net_of a.topology in
+    let ok = c.replica_of.ensures.network in
+    let K = knowledge a in
+    let J = knowledge_of a.topology b.knows in
+    let under : IsUnderAll net a.partition K J = under_at a b c.replica_of.ensures.here (c.replica_of.ensures.numbered a.partition) h in
+    let law = c.what_was_done_stays.ensures.sent net ok a.partition K J under a.events b.events le c.replica_of.ensures.within (receiving_iface a.topology d) in
+    over a b (λ t p. IsPrefix (sent_on a d) ((from_scratch (net_of t) p (knowledge_of t b.knows) b.events).sent (receiving_iface t d))) h.sisters law
+
+pub returns-clause-records : goal.returns-clause-records
+returns-clause-records c = λ h le.
+    let a = c.args.less.now in
+    let b = c.args.more.now in
+    let net = net_of a.topology in
+    let ok = c.replica_of.ensures.network in
+    let K = knowledge a in
+    let J = knowledge_of a.topology b.knows in
+    let under : IsUnderAll net a.partition K J = under_at a b c.replica_of.ensures.here (c.replica_of.ensures.numbered a.partition) h in
+    let law = c.what_was_done_stays.ensures.records net ok a.partition K J under a.events b.events le c.replica_of.ensures.within in
+    over a b (λ t p. IsPrefix (state_of a).records (from_scratch (net_of t) p (knowledge_of t b.knows) b.events).records) h.sisters law
+
+pub returns-clause-safe : goal.returns-clause-safe
+returns-clause-safe c = λ h.
+    let a = c.args.less.now in
+    let b = c.args.more.now in
+    let net = net_of a.topology in
+    let ok = c.replica_of.ensures.network in
+    let K = knowledge a in
+    let J = knowledge_of a.topology b.knows in
+    let under : IsUnderAll net a.partition K J = under_at a b c.replica_of.ensures.here (c.replica_of.ensures.numbered a.partition) h in
+    over a b (λ t p. safe_of a ≤ safe_time (net_of t) p (knowledge_of t b.knows)) h.sisters (c.promises_never_fall.ensures.safe net ok a.partition K J under)
+
+pub returns-clause-promises : goal.returns-clause-promises
+returns-clause-promises c = λ h le kind d.
+    let a = c.args.less.now in
+    let b = c.args.more.now in
+    let net = net_of a.topology in
+    let ok = c.replica_of.ensures.network in
+    let K = knowledge a in
+    let J = knowledge_of a.topology b.knows in
+    let under : IsUnderAll net a.partition K J = under_at a b c.replica_of.ensures.here (c.replica_of.ensures.numbered a.partition) h in
+    let within : IsWithin net a.partition J b.events = back a b (λ t p. IsWithin (net_of t) p (knowledge_of t b.knows) b.events) h.sisters c.replica_of-2.ensures.within in
+    let law = c.promises_never_fall.ensures.promised net ok a.partition K J under a.events b.events le c.replica_of.ensures.within within kind (receiving_iface a.topology d) in
+    over a b (λ t p. promise_on kind a d ≤ promise (net_of t) kind p (knowledge_of t b.knows) b.events (receiving_iface t d)) h.sisters law

@@ -1,0 +1,10 @@
+pub mod Writing
+pub mod Streams
+pub mod Parsing
+pub mod Cutting
+pub mod Deciding
+pub mod Feeding
+pub mod Partitions
+pub mod Taking
+pub mod Consecutive
+pub mod Splitting

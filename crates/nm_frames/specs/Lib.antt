@@ -1,0 +1,10 @@
+pub mod Fault
+pub mod Frame
+pub mod Stream
+pub mod Reader
+pub mod Pieces
+pub mod Channels
+pub mod Version
+pub mod Session
+pub mod Owed
+pub mod Lives

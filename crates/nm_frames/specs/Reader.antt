@@ -1,0 +1,81 @@
+-- What a reader holds, and what it makes of a piece.
+use Rattle.std.specs.Prelude.{◌≡◌, ◌<◌, length, ℕ, Bool, true, false, List, [], ◌++◌, Option, Some, None, Result, Ok, Err}
+use Rattle.std.specs.List.{AllByRecursion}
+use Rattle.nm_frames.specs.declared.frame.Frame.{Frame}
+use Rattle.nm_frames.specs.declared.fault.FrameFault.{FrameFault}
+use Rattle.nm_frames.specs.declared.fault.FrameFault.TheVariants.{BadLength, BadKind, BadBody, Failed, Memory}
+use Rattle.nm_frames.specs.Frame.{IsFrame, frame_octets, stream_octets}
+use Rattle.nm_frames.specs.Stream.{fault_shown, IsShort}
+
+-- the octets of a frame that has not come whole, none once the stream has shown a fault, and whether it has
+pub record ReaderValue : Type 0 where
+  pub rest : List ℕ
+  pub failed : Bool
+
+-- what octets at the place of a frame came to
+abbrev pub Finds : List ℕ → Result (Option (Frame × List ℕ)) FrameFault → Type 0
+Finds octets (Ok None) = (fault_shown octets ≡ None) × IsShort octets
+Finds octets (Ok (Some found)) = IsFrame found.0 × (octets ≡ frame_octets found.0 ++ found.1)
+Finds octets (Err BadLength) = fault_shown octets ≡ Some BadLength
+Finds octets (Err BadKind) = fault_shown octets ≡ Some BadKind
+Finds octets (Err BadBody) = fault_shown octets ≡ Some BadBody
+Finds octets (Err Failed) = ⊥
+Finds octets (Err Memory) = Unit {0}
+
+-- The same of a call's answer, whose rest is lent.
+abbrev pub Found : {B : Type 0} → (B → List ℕ) → List ℕ → Result (Option (Frame × B)) FrameFault → Type 0
+Found now octets (Ok None) = Finds octets (Ok None)
+Found now octets (Ok (Some found)) = Finds octets (Ok (Some (found.0, now found.1)))
+Found now octets (Err e) = Finds octets (Err e)
+
+-- these frames stand before the rest and were added to a list
+pub record Cuts (octets rest : List ℕ) (before after : List Frame) : Type 0 where
+  pub frames : List Frame
+  pub added : after ≡ before ++ frames
+  pub each : AllByRecursion IsFrame frames
+  pub parts : octets ≡ stream_octets frames ++ rest
+
+-- up to the octets that show the fault
+abbrev pub CutsTo : FrameFault → List ℕ → List Frame → List Frame → Type 0
+CutsTo BadLength octets before after = (rest : List ℕ) × Cuts octets rest before after × (fault_shown rest ≡ Some BadLength)
+CutsTo BadKind octets before after = (rest : List ℕ) × Cuts octets rest before after × (fault_shown rest ≡ Some BadKind)
+CutsTo BadBody octets before after = (rest : List ℕ) × Cuts octets rest before after × (fault_shown rest ≡ Some BadBody)
+CutsTo Failed octets before after = ⊥
+CutsTo Memory octets before after = (frames : List Frame) × (after ≡ before ++ frames)
+
+-- one frame was cut off the front, or the octets are short, or show a fault
+abbrev pub CutsOne : {B : Type 0} → (B → List ℕ) → List ℕ → List Frame → List Frame → Result (Option B) FrameFault → Type 0
+CutsOne now octets before after (Ok None) = (after ≡ before) × (fault_shown octets ≡ None) × IsShort octets
+CutsOne now octets before after (Ok (Some rest)) = Cuts octets (now rest) before after × (length (now rest) < length octets)
+CutsOne now octets before after (Err e) = CutsTo e octets before after
+
+module _ (old new : ReaderValue) (piece : List ℕ) (before after : List Frame) where
+  -- the piece was taken, and no fault shows
+  pub record FedWhole : Type 0 where
+    pub sound : old.failed ≡ false
+    pub cut : Cuts (old.rest ++ piece) new.rest before after
+    pub none : fault_shown new.rest ≡ None
+    pub short : IsShort new.rest
+    pub still_sound : new.failed ≡ false
+
+  -- the piece was taken up to a fault that it shows
+  pub record FedFault (fault : FrameFault) : Type 0 where
+    pub rest : List ℕ
+    pub sound : old.failed ≡ false
+    pub cut : Cuts (old.rest ++ piece) rest before after
+    pub shown : fault_shown rest ≡ Some fault
+    pub over : new ≡ record { rest = []; failed = true }
+
+  -- nothing was taken
+  pub record FedNothing (failed : Bool) : Type 0 where
+    pub was : old.failed ≡ failed
+    pub same : new ≡ old
+    pub none : after ≡ before
+
+  abbrev pub Feeds : Result Unit FrameFault → Type 0
+  Feeds (Ok _) = FedWhole
+  Feeds (Err BadLength) = FedFault BadLength
+  Feeds (Err BadKind) = FedFault BadKind
+  Feeds (Err BadBody) = FedFault BadBody
+  Feeds (Err Failed) = FedNothing true
+  Feeds (Err Memory) = FedNothing false

@@ -1,0 +1,145 @@
+-- What a session is, and what it takes and forgets.
+use Rattle.std.specs.Prelude.{ℕ, Bool, true, false, not, ◌==◌, ◌||◌, nat_lt, nat_eq, List, map, Option, Some, None, Result, Ok, Err, if◌then◌else◌}
+use Rattle.std.specs.List.{list_any}
+use Rattle.std.specs.Cmp.Lexicographic.{pointwise}
+use Rattle.nm_topology.specs.TopologyValue.{TopologyValue}
+use Rattle.nm_book.specs.declared.message.ChannelMessage.TheVariants.{Data as DataMessage, Null as NullMessage}
+use Rattle.nm_frames.specs.declared.frame.Frame.{Frame}
+use Rattle.nm_frames.specs.declared.frame.Frame.TheVariants.{Hello, Have, Data, Null, Bye}
+use Rattle.nm_frames.specs.declared.session_fault.SessionFault.{SessionFault}
+use Rattle.nm_frames.specs.declared.session_fault.SessionFault.TheVariants.{Order, Version as BadVersion, Topology, Peer, Channel}
+use Rattle.nm_frames.specs.declared.side.Incoming.{Incoming}
+use Rattle.nm_frames.specs.declared.side.Outgoing.{Outgoing}
+use Rattle.nm_frames.specs.declared.taken.Taken.{Taken}
+use Rattle.nm_frames.specs.declared.taken.Taken.TheVariants.{Greeted, Cursor, ForBook, Ended}
+use Rattle.nm_frames.specs.declared.version.Version.{Version}
+use Rattle.nm_frames.specs.declared.version.Version.TheVariants.{Two}
+use Rattle.nm_frames.specs.Channels.{channels_between}
+use Rattle.nm_frames.specs.Version.{lesser_version, other_version, version_of}
+
+-- Who speaks to whom of which topology; the channels that come from the peer, and those that go to it, by number; the versions of
+-- the Hellos given and taken since the last break, and of the next Hello, if the peer's does not lower it; whether Bye was given and taken.
+pub record SessionValue : Type 0 where
+  pub me : ℕ
+  pub replica : ℕ
+  pub peer : ℕ
+  pub digest : List ℕ
+  pub incoming : List Incoming
+  pub outgoing : List Outgoing
+  pub hello_given : Option Version
+  pub hello_taken : Option Version
+  pub offered : Version
+  pub bye_given : Bool
+  pub bye_taken : Bool
+
+-- a channel of which nothing was given or taken
+abbrev pub new_incoming : ℕ → Incoming
+new_incoming c = record { channel = c; have_given = false }
+
+abbrev pub new_outgoing : ℕ → Outgoing
+new_outgoing c = record { channel = c; cursor = None; last_null = None }
+
+abbrev pub new_session : TopologyValue → ℕ → ℕ → ℕ → SessionValue
+new_session t me replica peer = record {
+  me = me;
+  replica = replica;
+  peer = peer;
+  digest = t.digest;
+  incoming = map new_incoming (channels_between t peer me);
+  outgoing = map new_outgoing (channels_between t me peer);
+  hello_given = None;
+  hello_taken = None;
+  offered = Two;
+  bye_given = false;
+  bye_taken = false;
+}
+
+abbrev pub is_there : Option Version → Bool
+is_there None = false
+is_there (Some v) = true
+
+-- the version of the Hello that is given: no greater than that of one that was taken
+abbrev pub next_version : Option Version → Version → Version
+next_version None v = v
+next_version (Some w) v = lesser_version w v
+
+-- the version of the session: the lesser of both Hellos'
+abbrev pub session_version : Option Version → Option Version → Version
+session_version None taken = next_version taken Two
+session_version (Some v) taken = next_version taken v
+
+-- ---- what is taken
+
+-- a change of one channel
+abbrev pub at_channel : ℕ → (Outgoing → Outgoing) → Outgoing → Outgoing
+at_channel c change o = if o.channel == c then change o else o
+
+-- the peer holds n messages: message n is next, and no null message was given
+abbrev pub restarted : ℕ → Outgoing → Outgoing
+restarted n o = record { channel = o.channel; cursor = Some n; last_null = None }
+
+abbrev pub comes_in : SessionValue → ℕ → Bool
+comes_in s c = list_any (λ i. i.channel == c) s.incoming
+
+abbrev pub goes_out : SessionValue → ℕ → Bool
+goes_out s c = list_any (λ o. o.channel == c) s.outgoing
+
+-- a Hello of this version, partition, replica and digest
+abbrev pub greeted : SessionValue → Option Version → ℕ → ℕ → List ℕ → Result SessionValue SessionFault
+greeted s None partition replica digest = Err BadVersion
+greeted s (Some v) partition replica digest =
+    if not (pointwise nat_eq digest s.digest) then Err Topology
+    else if not (partition == s.peer) || nat_lt 1 replica then Err Peer
+    else Ok (record s { hello_taken = Some v })
+
+-- the first frame
+abbrev pub taken_first : SessionValue → Frame → Result SessionValue SessionFault
+taken_first s (Hello h) = greeted s (version_of h.version) h.partition h.replica h.digest
+taken_first s (Have h) = Err Order
+taken_first s (Data d) = Err Order
+taken_first s (Null n) = Err Order
+taken_first s Bye = Err Order
+
+-- a later one
+abbrev pub taken_later : SessionValue → Frame → Result SessionValue SessionFault
+taken_later s (Hello h) = Err Order
+taken_later s (Have h) =
+    if goes_out s h.channel then Ok (record s { outgoing = map (at_channel h.channel (restarted h.count)) s.outgoing })
+    else Err Channel
+taken_later s (Data d) = if comes_in s d.channel then Ok s else Err Channel
+taken_later s (Null n) = if comes_in s n.channel then Ok s else Err Channel
+taken_later s Bye = Ok (record s { bye_taken = true })
+
+-- the session after a frame, or why it is refused
+abbrev pub taken : SessionValue → Frame → Result SessionValue SessionFault
+taken s f =
+    if s.bye_taken then Err Order
+    else if is_there s.hello_taken then taken_later s f
+    else taken_first s f
+
+-- what a frame was for
+abbrev pub purpose : Frame → Taken
+purpose (Hello h) = Greeted
+purpose (Have h) = Cursor
+purpose (Data d) = ForBook (DataMessage d)
+purpose (Null n) = ForBook (NullMessage n)
+purpose Bye = Ended
+
+-- ---- what a break forgets
+
+-- the version that is offered then: the other one where a Hello was given and none taken
+abbrev pub offered_after : Option Version → Option Version → Version → Version
+offered_after None taken v = v
+offered_after (Some w) None v = other_version w
+offered_after (Some w) (Some x) v = v
+
+abbrev pub broken : SessionValue → SessionValue
+broken s = record s {
+  incoming = map (λ i. new_incoming i.channel) s.incoming;
+  outgoing = map (λ o. new_outgoing o.channel) s.outgoing;
+  hello_given = None;
+  hello_taken = None;
+  offered = offered_after s.hello_given s.hello_taken s.offered;
+  bye_given = false;
+  bye_taken = false;
+}

@@ -1,0 +1,200 @@
+//! The channels of a session, and what was given and taken of each.
+
+ghost use Rattle.std.specs.Prelude.{◌≡◌, ◌==◌, map, IfOk};
+ghost use Rattle.std.specs.List.{list_any};
+ghost use Rattle.nm_frames.specs.Owed.{marked, moved_to, with_null};
+ghost use Rattle.nm_frames.specs.Session.{at_channel, new_incoming, new_outgoing, restarted};
+
+use nm_base::ChanNo;
+use nm_book::message::Null;
+use std::alloc::{AllocError, Global};
+
+/// A channel that comes from the peer, and whether Have was given for it.
+#[derive(Clone, Copy)]
+pub struct Incoming {
+    pub channel: ChanNo,
+    pub have_given: bool,
+}
+
+/// A channel that goes to the peer, the number of its next message, which is unknown until the
+/// peer's Have, and the last null message since.
+#[derive(Clone, Copy)]
+pub struct Outgoing {
+    pub channel: ChanNo,
+    pub cursor: Option<u64>,
+    pub last_null: Option<Null>,
+}
+
+impl Incoming {
+    /// Nothing was given.
+    fn new(channel: ChanNo) -> Self
+        ensures { result ≡ new_incoming channel }
+    {
+        Incoming {
+            channel,
+            have_given: false,
+        }
+    }
+
+    /// The same, with Have given if it is this channel.
+    fn marked(self, channel: ChanNo) -> Self
+        ensures { result ≡ marked channel self }
+    {
+        if self.channel != channel {
+            return self;
+        }
+        Incoming {
+            channel: self.channel,
+            have_given: true,
+        }
+    }
+}
+
+impl Outgoing {
+    /// Nothing was given or taken.
+    fn new(channel: ChanNo) -> Self
+        ensures { result ≡ new_outgoing channel }
+    {
+        Outgoing {
+            channel,
+            cursor: None,
+            last_null: None,
+        }
+    }
+
+    /// The same, with this number next if it is this channel.
+    fn moved_to(self, channel: ChanNo, number: u64) -> Self
+        ensures { result ≡ at_channel channel (moved_to number) self }
+    {
+        if self.channel != channel {
+            return self;
+        }
+        Outgoing {
+            channel: self.channel,
+            cursor: Some(number),
+            last_null: self.last_null,
+        }
+    }
+
+    /// The same, with this last null message if it is of this channel.
+    fn with_null(self, null: &Null) -> Self
+        ensures { result ≡ at_channel null.now.channel (with_null null.now) self }
+    {
+        if self.channel != null.channel {
+            return self;
+        }
+        Outgoing {
+            channel: self.channel,
+            cursor: self.cursor,
+            last_null: Some(*null),
+        }
+    }
+
+    /// The same from this number on if it is this channel.
+    fn restarted(self, channel: ChanNo, count: u64) -> Self
+        ensures { result ≡ at_channel channel (restarted count) self }
+    {
+        if self.channel != channel {
+            return self;
+        }
+        Outgoing {
+            channel: self.channel,
+            cursor: Some(count),
+            last_null: None,
+        }
+    }
+}
+
+/// Channels from the peer, of which nothing was given.
+pub(crate) fn new_incoming(alloc: Global, channels: &[ChanNo]) -> Result<Vec<Incoming>, AllocError>
+    ensures { IfOk result (λ v. v.items ≡ map new_incoming channels.now) }
+{
+    let mut incoming = Vec::new(alloc);
+    for channel in channels {
+        incoming.push(Incoming::new(*channel))?;
+    }
+    Ok(incoming)
+}
+
+/// Channels to the peer, of which nothing was given or taken.
+pub(crate) fn new_outgoing(alloc: Global, channels: &[ChanNo]) -> Result<Vec<Outgoing>, AllocError>
+    ensures { IfOk result (λ v. v.items ≡ map new_outgoing channels.now) }
+{
+    let mut outgoing = Vec::new(alloc);
+    for channel in channels {
+        outgoing.push(Outgoing {
+            channel: *channel,
+            cursor: None,
+            last_null: None,
+        })?;
+    }
+    Ok(outgoing)
+}
+
+/// Whether the channel is one of these.
+pub(crate) fn comes_in(incoming: &[Incoming], channel: ChanNo) -> bool
+    ensures { result ≡ list_any (λ i. i.channel == channel) incoming.now }
+{
+    incoming.iter().any(|side| side.channel == channel)
+}
+
+/// Whether the channel is one of these.
+pub(crate) fn goes_out(outgoing: &[Outgoing], channel: ChanNo) -> bool
+    ensures { result ≡ list_any (λ o. o.channel == channel) outgoing.now }
+{
+    outgoing.iter().any(|side| side.channel == channel)
+}
+
+/// Have was given for this channel.
+pub(crate) fn mark_given(incoming: &mut [Incoming], channel: ChanNo)
+    ensures { incoming.new ≡ map (marked channel) incoming.old }
+{
+    for side in incoming.iter_mut() {
+        *side = side.marked(channel);
+    }
+}
+
+/// Have was given for none.
+pub(crate) fn forget_given(incoming: &mut [Incoming])
+    ensures { incoming.new ≡ map (λ i. new_incoming i.channel) incoming.old }
+{
+    for side in incoming.iter_mut() {
+        *side = Incoming::new(side.channel);
+    }
+}
+
+/// Message `number` of this channel is the next.
+pub(crate) fn move_cursor(outgoing: &mut [Outgoing], channel: ChanNo, number: u64)
+    ensures { outgoing.new ≡ map (at_channel channel (moved_to number)) outgoing.old }
+{
+    for side in outgoing.iter_mut() {
+        *side = side.moved_to(channel, number);
+    }
+}
+
+/// This was the last null message of its channel.
+pub(crate) fn set_last_null(outgoing: &mut [Outgoing], null: &Null)
+    ensures { outgoing.new ≡ map (at_channel null.now.channel (with_null null.now)) outgoing.old }
+{
+    for side in outgoing.iter_mut() {
+        *side = side.with_null(null);
+    }
+}
+
+/// The peer holds so many messages of this channel.
+pub(crate) fn restart(outgoing: &mut [Outgoing], channel: ChanNo, count: u64)
+    ensures { outgoing.new ≡ map (at_channel channel (restarted count)) outgoing.old }
+{
+    for side in outgoing.iter_mut() {
+        *side = side.restarted(channel, count);
+    }
+}
+
+/// No cursor is known, and no null message was given.
+pub(crate) fn forget_cursors(outgoing: &mut [Outgoing])
+    ensures { outgoing.new ≡ map (λ o. new_outgoing o.channel) outgoing.old }
+{
+    for side in outgoing.iter_mut() {
+        *side = Outgoing::new(side.channel);
+    }
+}

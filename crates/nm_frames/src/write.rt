@@ -1,0 +1,167 @@
+//! How frames are written.
+
+ghost use Rattle.std.specs.Prelude.{◌≡◌, ◌+◌, ◌≤◌, ◌++◌, length, vec_len, vec_capacity, OnOk};
+ghost use Rattle.std.specs.Prelude.{OnErr};
+ghost use Rattle.std.specs.Prelude.{◌∷◌, []};
+ghost use Rattle.std.specs.Int.{w16, w32, w64, to_be_bytes};
+ghost use Rattle.nm_frames.specs.Frame.{IsFrame, data_frame, first_word, frame_octets, hello_frame};
+ghost use Rattle.nm_frames.specs.Frame.{have_frame, null_frame};
+
+use crate::frame::Frame;
+use nm_base::{ChanNo, Packet, PartNo, Time};
+use std::alloc::AllocError;
+
+/// The first word of a Hello, "NMS1".
+const FIRST_WORD: [u8; 4] = *b"NMS1";
+
+/// Puts octets at the end of a list that has room for them.
+fn put(octets: &[u8], out: &mut Vec<u8>)
+    requires { vec_len out.old + length octets.now ≤ vec_capacity out.old }
+    ensures octets { out.new.items ≡ out.old.items ++ octets.now }
+    ensures room { vec_capacity out.old ≤ vec_capacity out.new }
+{
+    out.extend_from_slice(octets).unwrap();
+}
+
+/// Puts a length and a kind there.
+fn put_head(size: u32, kind: u8, out: &mut Vec<u8>)
+    requires { vec_len out.old + 5 ≤ vec_capacity out.old }
+    ensures octets { out.new.items ≡ out.old.items ++ (to_be_bytes w32 size ++ kind ∷ []) }
+    ensures room { vec_capacity out.old ≤ vec_capacity out.new }
+{
+    put(&size.to_be_bytes(), out);
+    put(&[kind], out);
+}
+
+/// Puts a channel and a number of messages there.
+fn put_count(channel: ChanNo, count: u64, out: &mut Vec<u8>)
+    requires { vec_len out.old + 12 ≤ vec_capacity out.old }
+    ensures octets { out.new.items
+        ≡ out.old.items ++ (to_be_bytes w32 channel ++ to_be_bytes w64 count) }
+    ensures room { vec_capacity out.old ≤ vec_capacity out.new }
+{
+    put(&channel.number().to_be_bytes(), out);
+    put(&count.to_be_bytes(), out);
+}
+
+/// Puts a time there.
+fn put_time(time: Time, out: &mut Vec<u8>)
+    requires { vec_len out.old + 8 ≤ vec_capacity out.old }
+    ensures octets { out.new.items ≡ out.old.items ++ to_be_bytes w64 time }
+    ensures room { vec_capacity out.old ≤ vec_capacity out.new }
+{
+    put(&time.nanoseconds().to_be_bytes(), out);
+}
+
+/// Puts the first word of a Hello there, and its numbers.
+fn put_speaker(version: u16, partition: PartNo, replica: u8, out: &mut Vec<u8>)
+    requires { vec_len out.old + 11 ≤ vec_capacity out.old }
+    ensures octets { out.new.items ≡ out.old.items
+        ++ (first_word ++ to_be_bytes w16 version ++ to_be_bytes w32 partition ++ replica ∷ []) }
+    ensures room { vec_capacity out.old ≤ vec_capacity out.new }
+{
+    put(&FIRST_WORD, out);
+    put(&version.to_be_bytes(), out);
+    put(&partition.number().to_be_bytes(), out);
+    put(&[replica], out);
+}
+
+fn write_hello(
+    version: u16,
+    partition: PartNo,
+    replica: u8,
+    digest: &[u8; 32],
+    out: &mut Vec<u8>,
+) -> Result<(), AllocError>
+    ensures ok { OnOk result (out.new.items ≡ out.old.items
+        ++ frame_octets (hello_frame version partition replica digest.now)) }
+    ensures fits { IsFrame (hello_frame version partition replica digest.now) }
+    ensures err { OnErr result (out.new.items ≡ out.old.items) }
+{
+    out.reserve(48)?;
+    put_head(44, 1, out);
+    put_speaker(version, partition, replica, out);
+    put(digest, out);
+    Ok(())
+}
+
+fn write_have(channel: ChanNo, count: u64, out: &mut Vec<u8>) -> Result<(), AllocError>
+    ensures ok { OnOk result (out.new.items
+        ≡ out.old.items ++ frame_octets (have_frame channel count)) }
+    ensures fits { IsFrame (have_frame channel count) }
+    ensures err { OnErr result (out.new.items ≡ out.old.items) }
+{
+    out.reserve(17)?;
+    put_head(13, 2, out);
+    put_count(channel, count, out);
+    Ok(())
+}
+
+fn write_data(
+    channel: ChanNo,
+    number: u64,
+    time: Time,
+    packet: &Packet,
+    out: &mut Vec<u8>,
+) -> Result<(), AllocError>
+    ensures ok { OnOk result (out.new.items ≡ out.old.items
+        ++ frame_octets (data_frame channel number time packet.now)) }
+    ensures fits { IsFrame (data_frame channel number time packet.now) }
+    ensures err { OnErr result (out.new.items ≡ out.old.items) }
+{
+    let size = packet.octet_count();
+    out.reserve(25 + size)?;
+    put_head(21 + size as u32, 3, out);
+    put_count(channel, number, out);
+    put_time(time, out);
+    put(packet.octets(), out);
+    Ok(())
+}
+
+fn write_null(channel: ChanNo, count: u64, clock: Time, out: &mut Vec<u8>) -> Result<(), AllocError>
+    ensures ok { OnOk result (out.new.items
+        ≡ out.old.items ++ frame_octets (null_frame channel count clock)) }
+    ensures fits { IsFrame (null_frame channel count clock) }
+    ensures err { OnErr result (out.new.items ≡ out.old.items) }
+{
+    out.reserve(25)?;
+    put_head(21, 4, out);
+    put_count(channel, count, out);
+    put_time(clock, out);
+    Ok(())
+}
+
+/// Writes a frame at the end of a list.
+///
+/// # Errors
+///
+/// Where memory was refused. The list is unchanged then.
+pub fn write_frame(frame: &Frame, out: &mut Vec<u8>) -> Result<(), AllocError>
+    ensures ok { OnOk result (out.new.items ≡ out.old.items ++ frame_octets frame.now) }
+    ensures fits { IsFrame frame.now }
+    ensures err { OnErr result (out.new.items ≡ out.old.items) }
+{
+    match frame {
+        Frame::Hello(hello) => write_hello(
+            hello.version,
+            hello.partition,
+            hello.replica,
+            &hello.digest,
+            out,
+        ),
+        Frame::Have(have) => write_have(have.channel, have.count, out),
+        Frame::Data(message) => write_data(
+            message.channel,
+            message.number,
+            message.time,
+            &message.packet,
+            out,
+        ),
+        Frame::Null(null) => write_null(null.channel, null.count, null.clock, out),
+        Frame::Bye => {
+            out.reserve(5)?;
+            put_head(1, 5, out);
+            Ok(())
+        }
+    }
+}
