@@ -50,14 +50,7 @@ fn plain(
 ) -> Result<SharedBook<Plain>, Fail> {
     let (counts, whole) = Plain::open();
     let topology = Arc::try_clone(topology)?;
-    Ok(SharedBook::new(
-        alloc,
-        topology,
-        PartNo::new(partition),
-        0,
-        counts,
-        whole,
-    )?)
+    Ok(SharedBook::new(alloc, topology, PartNo::new(partition), 0, counts, whole)?)
 }
 
 /// Whether a run did all that was safe, of so many events.

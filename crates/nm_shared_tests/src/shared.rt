@@ -3,69 +3,134 @@
 use crate::messages::{message, network, null};
 use crate::texts::SPLIT;
 use nm_base::PartNo;
-use nm_book::{ChannelMessage, Ran};
+use nm_book::{ChannelMessage, Null, Ran};
 use nm_shared::acts::{CopyKnowledge, MakeNull, Merge};
 use nm_shared::{Pass, Plain, SharedBook};
 use nm_topology::Topology;
 use std::alloc::Global;
+use std::process::Abort;
 use std::sync::{Arc, Wait};
 use std::test::Fail;
 
-/// A replica of a network's partition 1, and a pass of it.
-fn replica<R: Wait>(
+/// A locked replica of SPLIT's partition 1, and its one pass.
+#[derive(Drop)]
+struct Replica {
+    shared: SharedBook<Plain>,
+    pass: Pass<Plain>,
+}
+
+/// A replica that knows nothing.
+fn new_replica<R: Wait>(
     rt: &R,
     alloc: Global,
     topology: &Arc<Topology>,
     number: u8,
-) -> Result<(SharedBook<Plain>, Pass<Plain>), Fail> {
+) -> Result<Replica, Fail> {
     let (counts, whole) = Plain::open();
     let topology = Arc::try_clone(topology)?;
     let shared = SharedBook::new(alloc, topology, PartNo::new(1), number, counts, whole)?;
     let pass = shared.pass(rt)?;
-    Ok((shared, pass))
+    Ok(Replica { shared, pass })
 }
 
-/// Closes a book with its one pass.
-fn closed(
+/// It is told something that is taken.
+fn hears<R: Wait + Abort>(rt: &R, replica: &mut Replica, told: &ChannelMessage) {
+    let answer = replica.shared.accept(rt, &mut replica.pass, told);
+    assert!(rt; answer.is_ok(), "it is taken");
+}
+
+/// It does its one event.
+fn runs<R: Wait + Abort>(rt: &R, alloc: Global, replica: &mut Replica) {
+    let ran = replica.shared.run(rt, &mut replica.pass, alloc, 10);
+    assert!(rt; matches!(ran, Ran::All(1)), "it does its event");
+}
+
+/// It merges what the other knows.
+fn merges<R: Wait + Abort>(
+    rt: &R,
     alloc: Global,
-    shared: SharedBook<Plain>,
-    pass: Pass<Plain>,
-) -> Result<(u64, u64), Fail> {
+    late: &mut Replica,
+    other: &mut Replica,
+) -> Result<(), Fail> {
+    let knowledge = other
+        .shared
+        .act(rt, &mut other.pass, CopyKnowledge { alloc })?;
+    let merge = Merge {
+        alloc,
+        knowledge: &knowledge,
+    };
+    let answer = late.shared.act(rt, &mut late.pass, merge);
+    assert!(rt; answer.is_ok(), "it is merged");
+    Ok(())
+}
+
+/// Its null message of channel 0, which goes out.
+fn promise<R: Wait + Abort>(rt: &R, replica: &mut Replica) -> Option<Null> {
+    let make = MakeNull {
+        channel: null(0, 0, 0).channel,
+    };
+    replica.shared.act(rt, &mut replica.pass, make)
+}
+
+/// Both promise the same.
+fn promise_alike<R: Wait + Abort>(rt: &R, first: &mut Replica, second: &mut Replica) {
+    match (promise(rt, first), promise(rt, second)) {
+        (Some(one), Some(other)) => {
+            assert!(rt;
+                one.count == other.count && one.clock == other.clock,
+                "they promise alike"
+            );
+        }
+        _ => assert!(rt; false, "channel 0 goes out"),
+    }
+}
+
+/// It closes with one message and one event.
+fn closes<R: Wait + Abort>(rt: &R, alloc: Global, replica: Replica) -> Result<(), Fail> {
     let mut passes = Vec::with_capacity(alloc, 1)?;
-    passes.push_reserved(pass);
-    match shared.close(passes) {
-        Ok(closed) => Ok((closed.messages, closed.events)),
+    passes.push_reserved(replica.pass);
+    match replica.shared.close(passes) {
+        Ok(closed) => {
+            assert!(rt;
+                closed.messages == 1 && closed.events == 1,
+                "what it knows and did"
+            );
+            Ok(())
+        }
         Err(_) => Err("no pass is missing".into()),
     }
+}
+
+/// A replica comes late, and does what her sister did.
+fn comes_late<R: Wait + Abort>(
+    rt: &R,
+    alloc: Global,
+    topology: &Arc<Topology>,
+    first: &mut Replica,
+) -> Result<(), Fail> {
+    let mut second = new_replica(rt, alloc, topology, 1)?;
+    merges(rt, alloc, &mut second, first)?;
+    runs(rt, alloc, &mut second);
+    promise_alike(rt, first, &mut second);
+    closes(rt, alloc, second)
+}
+
+/// The first is told all, and does its event.
+fn comes_first<R: Wait + Abort>(rt: &R, alloc: Global, first: &mut Replica) -> Result<(), Fail> {
+    let data = message(alloc, 1, 0, 1_100_000)?;
+    hears(rt, first, &data);
+    hears(rt, first, &ChannelMessage::Null(null(1, 1, 2_000_000)));
+    runs(rt, alloc, first);
+    Ok(())
 }
 
 /// A replica that comes late merges what its sister knows and runs: then it knows and did as much,
 /// and promises the same.
 #[test]
 fn a_late_replica_does_what_its_sister_did(rt: HostRuntime) -> Result<(), Fail> {
-    let alloc = rt.alloc();
-    let topology = network(alloc, SPLIT)?;
-    let (first, mut one) = replica(&rt, alloc, &topology, 0)?;
-    let data = message(alloc, 1, 0, 1_100_000)?;
-    let later = ChannelMessage::Null(null(1, 1, 2_000_000));
-    assert!(rt; first.accept(&rt, &mut one, &data).is_ok());
-    assert!(rt; first.accept(&rt, &mut one, &later).is_ok());
-    assert!(rt; matches!(first.run(&rt, &mut one, alloc, 10), Ran::All(1)));
-    let (second, mut two) = replica(&rt, alloc, &topology, 1)?;
-    let knowledge = first.act(&rt, &mut one, CopyKnowledge { alloc })?;
-    let merge = Merge {
-        alloc,
-        knowledge: &knowledge,
-    };
-    assert!(rt; second.act(&rt, &mut two, merge).is_ok());
-    assert!(rt; matches!(second.run(&rt, &mut two, alloc, 10), Ran::All(1)));
-    let make = || MakeNull {
-        channel: null(0, 0, 0).channel,
-    };
-    let promised = first.act(&rt, &mut one, make()).ok_or("channel 0 goes out")?;
-    let same = second.act(&rt, &mut two, make()).ok_or("channel 0 goes out")?;
-    assert_eq!(rt; (same.count, same.clock), (promised.count, promised.clock));
-    assert_eq!(rt; closed(alloc, first, one)?, (1, 1));
-    assert_eq!(rt; closed(alloc, second, two)?, (1, 1));
-    Ok(())
+    let topology = network(rt.alloc(), SPLIT)?;
+    let mut first = new_replica(&rt, rt.alloc(), &topology, 0)?;
+    comes_first(&rt, rt.alloc(), &mut first)?;
+    comes_late(&rt, rt.alloc(), &topology, &mut first)?;
+    closes(&rt, rt.alloc(), first)
 }
