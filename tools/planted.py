@@ -51,11 +51,12 @@ def copy_of(crate):
     if os.path.exists(os.path.join(ROOT, "HANDLES")):
         shutil.copy(os.path.join(ROOT, "HANDLES"), root)
     listed = [line.split("#")[0].partition(":") for line in open(os.path.join(ROOT, "crates.txt"), encoding="utf-8")]
-    lines = {name.strip(): after.split() for name, _, after in listed if name.strip()}
+    heads = {name.split()[0]: name.strip() for name, _, after in listed if name.strip()}
+    lines = {name.split()[0]: after.split() for name, _, after in listed if name.strip()}
     with open(os.path.join(root, "crates.txt"), "w", encoding="utf-8") as listing:
         for name in lines:
             if name in below(crate, lines):
-                listing.write(f"{name}: {' '.join(lines[name])}\n")
+                listing.write(f"{heads[name]}: {' '.join(lines[name])}\n")
                 shutil.copytree(os.path.join(ROOT, "crates", name), os.path.join(root, "crates", name))
     return root
 
