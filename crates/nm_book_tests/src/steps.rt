@@ -352,6 +352,29 @@ fn a_message_is_told_once(rt: HostRuntime) -> Result<(), Fail> {
     is_told(&rt, &sender, &mut receiver)
 }
 
+/// The greatest packet, 65,535 octets, is taken in whatever the mtu.
+fn takes_the_greatest(rt: &(impl Abort + AllocGlobal), book: &mut Book) -> Result<(), Fail> {
+    let octets = Bytes::copy_from_slice(rt.alloc(), &[0; 65_535])?;
+    let Some(packet) = Packet::new(octets) else {
+        return Err("it is a packet".into());
+    };
+    let answer = book.accept(&ChannelMessage::Data(Data {
+        channel: ChanNo::new(0),
+        number: 0,
+        time: Time::from_nanoseconds(10),
+        packet,
+    }));
+    eq_answer(rt, 0, accepted(&answer), ("new", 0));
+    Ok(())
+}
+
+#[test]
+fn the_greatest_packet_is_taken(rt: HostRuntime) -> Result<(), Fail> {
+    let topology = network(rt.alloc(), SPLIT)?;
+    let mut book = book_of(rt.alloc(), &topology, 0, 0)?;
+    takes_the_greatest(&rt, &mut book)
+}
+
 #[test]
 fn replicas_answer_as_they_should(rt: HostRuntime) -> Result<(), Fail> {
     goes(&rt, SPLIT, 0, SENDER)?;

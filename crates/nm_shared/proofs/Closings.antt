@@ -63,12 +63,13 @@ pub sit_taken : (ws : List Word) (cs : List (Option Place)) (k : ℕ) (e : Optio
 sit_taken ws cs k e q sit here = (
   length-set (set cs k e) k (Some q) ∙ length-set cs k e ∙ sit.0,
   λ w c at. ⊎_elim
-  (λ (t : (w ≡ k) × (Some q ≡ c)). subst (λ j. IfSome c (SitsAt ws j)) (sym t.0) (subst (λ (x : Option Place). IfSome x (SitsAt ws k)) t.1 here))
-  (λ (t : (w ≢ k) × (get_elem? (set cs k e) w ≡ some c)). ⊎_elim
-  (λ (u : (w ≡ k) × (e ≡ c)). absurd (t.0 u.0))
-  (λ (u : (w ≢ k) × (get_elem? cs w ≡ some c)). sit.1 w c u.1)
-  (at_set cs k w e c t.1))
-  (at_set (set cs k e) k w (Some q) c at))
+      (λ (t : (w ≡ k) × (Some q ≡ c)). subst (λ j. IfSome c (SitsAt ws j)) (sym t.0) (subst (λ (x : Option Place). IfSome x (SitsAt ws k)) t.1 here))
+      (λ (t : (w ≢ k) × (get_elem? (set cs k e) w ≡ some c)). ⊎_elim
+      (λ (u : (w ≡ k) × (e ≡ c)). absurd (t.0 u.0))
+      (λ (u : (w ≢ k) × (get_elem? cs w ≡ some c)). sit.1 w c u.1)
+      (at_set cs k w e c t.1))
+      (at_set (set cs k e) k w (Some q) c at),
+)
 
 -- the seat at a word, if there is one, is of that word
 pub sit_here : (ws : List Word) (cs : List (Option Place)) (k : ℕ) (o : Option Place) (w : Word) → SitIf ws cs → k < length cs → o ≡ get_or cs k o → w ≡ get_or ws k w → IfSome o (λ p. id_of p ≡ word_id w)

@@ -2,7 +2,6 @@
 use Rattle.std.specs.Prelude.{◌≡◌, ℕ, zero, suc, ◌+◌, ◌≤◌, Bool, true, false, cond, if◌then◌else◌, List, [], ◌∷◌, ◌++◌, length, slice_index_or, slice_set, Option, Some, None, Result, Ok, Err, refl}
 use Rattle.std.proofs.Common.{⊎_elim, ◌<◌, leb, sym, subst, ap, arith, length-append}
 use Rattle.std.proofs.lemmas.Bool.{cases_lt, leb-true}
-
 use Rattle.nm_topology.specs.Topology.{receiving_iface}
 use Rattle.nm_topology.specs.TopologyValue.{TopologyValue}
 use Rattle.nm_model.specs.Accept as model
@@ -45,11 +44,11 @@ same_grows b c e = subst (Grows b) (sym e) (record { home = refl; channels = ref
 
 told_grows : (b c : BookValue) → c ≡ record b { knows = c.knows } → length c.knows ≡ length b.knows → ((n : ℕ) → count_at b.knows n ≤ count_at c.knows n) → Grows b c
 told_grows b c e channels h = subst (Grows b) (sym e) (record {
-      home = refl;
-      channels = channels;
-      messages = below_rises b.topology b.partition b.knows c.knows (length b.topology.receivers) h;
-      events = omega arith;
-    })
+  home = refl;
+  channels = channels;
+  messages = below_rises b.topology b.partition b.knows c.knows (length b.topology.receivers) h;
+  events = omega arith;
+})
 
 length_set : (ks : List (Know (List ℕ))) (c : ℕ) (y : Know (List ℕ)) → length (slice_set ks c y) ≡ length ks
 length_set [] c y = refl
