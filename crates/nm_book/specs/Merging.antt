@@ -1,5 +1,5 @@
 -- What a merge with another replica's knowledge does.
-use Rattle.std.specs.Prelude.{◌≡◌, ℕ, ◌<◌, ◌≤◌, ◌==◌, ◌&&◌, Bool, true, false, if◌then◌else◌, List, length, max, slice_get, slice_index_or, slice_set, take, Option, Some, None, Result, Ok, Err}
+use Rattle.std.specs.Prelude.{◌≡◌, ◌≢◌, ℕ, ◌<◌, ◌≤◌, ◌==◌, ◌&&◌, Bool, true, false, if◌then◌else◌, List, length, max, slice_get, slice_index_or, slice_set, take, Option, Some, None, Result, Ok, Err}
 use Rattle.nm_topology.specs.Topology.{receiving_iface}
 use Rattle.nm_topology.specs.TopologyValue.{TopologyValue}
 use Rattle.nm_model.specs.Join.{join, join_fault}
@@ -56,6 +56,7 @@ module _ (t : TopologyValue) (p : ℕ) (knows others : List (Know (List ℕ))) w
     pub there : c < length knows
     pub incoming : is_incoming c ≡ true
     pub shown : join_fault same_octets (known c) (other c) ≡ reason fault
+    pub refused : join_fault same_octets (known c) (other c) ≢ None
     pub before : AreJoinable c
 
   -- The answer of a merge. A refusal changes nothing: the knowledge of another partition or topology; else the first channel by number that can't be
