@@ -12,7 +12,7 @@ use Rattle.nm_sim.specs.Network.{here_of, net_of}
 use Rattle.nm_sim.specs.Part.{PartValue, Represents}
 use Rattle.nm_book.specs.Book.{IsBook, known_at, knowledge_of, pending_in}
 
-nothing_at : (n c : ℕ) → slice_index_or (replicate n (nothing_known {P = List ℕ})) c nothing_known ≡ nothing_known
+pub nothing_at : (n c : ℕ) → slice_index_or (replicate n (nothing_known {P = List ℕ})) c nothing_known ≡ nothing_known
 nothing_at zero c = refl
 nothing_at (suc n) zero = refl
 nothing_at (suc n) (suc c) = nothing_at n c
@@ -26,7 +26,7 @@ nothing_of : (n : ℕ) (o : Option ℕ) → known_at (replicate n nothing_known)
 nothing_of n None = refl
 nothing_of n (Some c) = nothing_at n c
 
-is_nothing : (t : TopologyValue) (n : ℕ) → knowledge_of t (replicate n nothing_known) ≡ no_knowledge
+pub is_nothing : (t : TopologyValue) (n : ℕ) → knowledge_of t (replicate n nothing_known) ≡ no_knowledge
 is_nothing t n = fun_ext (λ i. nothing_of n (channel_from 0 t.receivers i))
 
 pub first_book : (t : TopologyValue) (p : ℕ) (part : PartValue HeapList) → inbox_events (net_of t) p no_knowledge ≡ []

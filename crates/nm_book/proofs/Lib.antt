@@ -1,8 +1,8 @@
-mod Beginnings
+pub mod Beginnings
 mod Gatherings
 mod Incoming
 mod Runnings
 mod Safety
 mod Sendings
 mod Sisters
-mod Tellings
+pub mod Tellings

@@ -1,7 +1,7 @@
-//! The channels that come into a partition.
+//! The channels of a topology: which partitions they join.
 
 ghost use Rattle.std.specs.Prelude.{◌≡◌, ◌<◌, true, length};
-ghost use Rattle.nm_model.specs.Partition.{comes_in, goes_out};
+ghost use Rattle.nm_model.specs.Partition.{comes_in, goes_out, receiver_of, sender_of};
 ghost use Rattle.nm_sim.specs.Network.{net_of};
 ghost use Rattle.nm_topology.specs.Topology.{receiving_iface};
 
@@ -49,4 +49,24 @@ pub(crate) fn goes_out(topology: &Topology, partition: PartNo, channel: ChanNo) 
     }
     let receiver = topology.iface(topology.receiver(channel));
     partition_of(topology, receiver.far().peer) == partition
+}
+
+/// The partition that sends on a channel.
+pub fn sender_of(topology: &Topology, channel: ChanNo) -> PartNo
+    requires { channel < length topology.now.receivers }
+    ensures { result ≡ sender_of (net_of topology.now) (receiving_iface topology.now channel) }
+{
+    every_topology_is_a_network(topology); // law: a link has two ends
+    channels_are_numbered_by_their_receivers(topology); // law: its interface is there
+    let receiver = topology.iface(topology.receiver(channel));
+    partition_of(topology, receiver.far().peer)
+}
+
+/// The partition into which a channel comes.
+pub fn receiver_of(topology: &Topology, channel: ChanNo) -> PartNo
+    requires { channel < length topology.now.receivers }
+    ensures { result ≡ receiver_of (net_of topology.now) (receiving_iface topology.now channel) }
+{
+    channels_are_numbered_by_their_receivers(topology); // law: its interface is there
+    partition_of(topology, topology.receiver(channel))
 }

@@ -2,7 +2,7 @@
 #![tactic(auto)]
 
 pub mod book;
-mod channels;
+pub mod channels;
 pub mod fault;
 pub mod knowledge;
 pub mod laws;

@@ -1,5 +1,8 @@
 //! What partitions tell each other.
 
+ghost use Rattle.std.specs.Prelude.{◌≡◌};
+ghost use Rattle.nm_book.specs.Book.{message_channel};
+
 use nm_base::{ChanNo, Packet, Time};
 
 /// A message of a channel (J. Misra, 1986, section 2): a packet, and when it arrives.
@@ -28,4 +31,16 @@ pub struct Null {
 pub enum ChannelMessage {
     Data(Data),
     Null(Null),
+}
+
+impl ChannelMessage {
+    /// The channel of which it tells.
+    pub fn channel(&self) -> ChanNo
+        ensures { result ≡ message_channel self.now }
+    {
+        match self {
+            ChannelMessage::Data(data) => data.channel,
+            ChannelMessage::Null(null) => null.channel,
+        }
+    }
 }
