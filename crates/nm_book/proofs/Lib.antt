@@ -1,6 +1,6 @@
 pub mod Beginnings
 mod Gatherings
-mod Incoming
+pub mod Incoming
 mod Runnings
 mod Safety
 mod Sendings

@@ -22,7 +22,7 @@ fn partition_of(topology: &Topology, iface: IfaceNo) -> PartNo
 }
 
 /// Whether a channel comes into a partition.
-pub(crate) fn comes_in(topology: &Topology, partition: PartNo, channel: ChanNo) -> bool
+pub fn comes_in(topology: &Topology, partition: PartNo, channel: ChanNo) -> bool
     ensures value { result ≡ comes_in (net_of topology.now) partition
         (receiving_iface topology.now channel) }
     ensures there { result ≡ true → channel < length topology.now.receivers }
@@ -36,7 +36,7 @@ pub(crate) fn comes_in(topology: &Topology, partition: PartNo, channel: ChanNo) 
 }
 
 /// Whether a channel goes out of a partition.
-pub(crate) fn goes_out(topology: &Topology, partition: PartNo, channel: ChanNo) -> bool
+pub fn goes_out(topology: &Topology, partition: PartNo, channel: ChanNo) -> bool
     ensures value { result ≡ goes_out (net_of topology.now) partition
         (receiving_iface topology.now channel) }
     ensures there { result ≡ true → channel < length topology.now.receivers }

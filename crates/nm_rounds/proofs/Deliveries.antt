@@ -1,0 +1,222 @@
+-- A frame reaches a replica of its receiver.
+use Rattle.std.proofs.Common.{◌≡◌, ◌≢◌, ◌==◌, ◌++◌, ◌⊎◌, inl, inr, ℕ, zero, suc, ◌+◌, ◌*◌, ◌<◌, ◌≤◌, ltb, Bool, true, false, cond, List, [], ◌∷◌, length, map, slice_get, slice_set, slice_index_or, get_or, Option, Some, None, Result, Ok, Err, refl, sym, ◌∙◌, ap, ap₂, subst, arith, ⊎_elim}
+use Rattle.std.proofs.Math.Path.{fun_ext}
+use Rattle.std.proofs.lemmas.List.{length-set, set-get_or}
+use Rattle.std.proofs.lemmas.Option.{slice_get_past, slice_get_read}
+use Rattle.std.proofs.lemmas.Bool.Decides.{nat_tests}
+use Rattle.std.specs.Option.{option_map}
+use Rattle.nm_topology.specs.TopologyValue.{TopologyValue}
+use Rattle.nm_topology.specs.Topology.{channel_from, receiving_iface}
+use Rattle.nm_knowledge.specs.Answers.{answer, reason}
+use Rattle.nm_knowledge.specs.Octets.{same_octets}
+use Rattle.nm_knowledge.specs.declared.answer.Accepted.{Accepted}
+use Rattle.nm_knowledge.specs.declared.answer.KnowFault.{KnowFault}
+use Rattle.nm_knowledge.specs.declared.answer.KnowFault.TheVariants as fault
+use Rattle.nm_model.specs.Accept as accept
+use Rattle.nm_model.specs.Knowledge.{Know, Knowledge, nothing_known}
+use Rattle.nm_model.specs.Lists.{nth, set_at}
+use Rattle.nm_model.specs.Partition.{comes_in, receiver_of}
+use Rattle.nm_model.specs.World as model
+use Rattle.nm_sim.specs.Network.{net_of}
+use Rattle.nm_book.specs.Book.{BookValue, LearnsIf, Learns, Takes, data_taken, is_incoming, is_replica, knowledge, knowledge_of, message_channel, message_taken, null_taken, replica_of}
+use Rattle.nm_book.specs.declared.message.ChannelMessage.{ChannelMessage}
+use Rattle.nm_book.specs.declared.message.ChannelMessage.TheVariants.{Data as DataMessage, Null as NullMessage}
+use Rattle.nm_book.specs.declared.fault.AcceptFault.{AcceptFault}
+use Rattle.nm_book.specs.declared.fault.AcceptFault.TheVariants.{Known, Stranger}
+use Rattle.nm_book.proofs.Tellings.{known_here, known_set, set_elsewhere, set_here}
+use Rattle.nm_rounds.specs.World.{IsReplicaOf, IsWorld, Steps, frame_of, happens, refusal_of}
+use Rattle.nm_rounds.specs.declared.step.StepAnswer.{StepAnswer}
+use Rattle.nm_rounds.specs.declared.step.StepAnswer.TheVariants as told
+use Rattle.nm_rounds.specs.declared.step.WorldStep.TheVariants as step
+use Rattle.nm_rounds.specs.declared.world.Stop.TheVariants as stop
+use Rattle.nm_rounds.proofs.Standing.{is_replica_is, put_book, there_is}
+use Rattle.nm_rounds.proofs.Acts.{book_read, step_done, step_names_nothing, with_book}
+
+pub past_the_bag : {X : Type 0} (l : List X) (i : ℕ) → ltb i (length l) ≡ false → slice_get l i ≡ None
+past_the_bag l i e = slice_get_past l i (grind (arith, nat_tests, e))
+
+pub in_bag : {X : Type 0} (l : List X) (i : ℕ) (x : X) → ltb i (length l) ≡ true → x ≡ get_or l i x → slice_get l i ≡ Some x
+in_bag l i x e f = slice_get_read l (length l) i x refl (grind (arith, nat_tests, e)) f
+
+-- a frame of the bag
+pub nth_map : {X Y : Type 0} (f : X → Y) (l : List X) (i : ℕ) → nth (map f l) i ≡ option_map f (slice_get l i)
+nth_map f [] i = refl
+nth_map f (x ∷ l) zero = refl
+nth_map f (x ∷ l) (suc i) = nth_map f l i
+
+-- to set what is there changes nothing
+pub set_same : {X : Type 0} (l : List X) (i : ℕ) (x : X) → slice_get l i ≡ Some x → slice_set l i x ≡ l
+set_same [] i x e = refl
+set_same (y ∷ l) zero x e = let f : y ≡ x = cc in ap (λ z. z ∷ l) (sym f)
+set_same (y ∷ l) (suc i) x e = ap (λ z. y ∷ z) (set_same l i x e)
+
+-- what the model's function says of a message over some knowledge of its channel
+abbrev pub said_of : Know (List ℕ) → ChannelMessage → accept.Accepted (List ℕ)
+said_of a (DataMessage d) = accept.accept_data same_octets a d.number (d.time, d.packet)
+said_of a (NullMessage n) = accept.accept_null a n.count n.clock
+
+taken_is : (knows : List (Know (List ℕ))) (m : ChannelMessage) → message_taken knows m ≡ said_of (slice_index_or knows (message_channel m) nothing_known) m
+taken_is knows (DataMessage d) = refl
+taken_is knows (NullMessage n) = refl
+
+-- only what is new, or a greater clock, changes what is known
+data_keeps : (o : Option (ℕ × List ℕ)) (a : Know (List ℕ)) (n : ℕ) (b : ℕ × List ℕ) → (accept.data_at same_octets o a n b).answer ≢ accept.New → (accept.data_at same_octets o a n b).after ≡ a
+data_keeps (Some m) a n b h = refl
+data_keeps None a n b h = pick (n == length a.list) (ltb b.0 a.clock) (accept.last_from b.0 a.list) h
+  where
+    chosen : Bool → Bool → Bool → accept.Accepted (List ℕ)
+    chosen x y z =
+        cond x
+        (cond y (record { answer = accept.Late a.clock; after = a }) (cond {A = accept.Accepted (List ℕ)} z (record { answer = accept.NotRising; after = a }) (record { answer = accept.New; after = record { list = a.list ++ b ∷ []; clock = b.0 } })))
+        (record { answer = accept.Gap (length a.list); after = a })
+
+    pick : (x y z : Bool) → (chosen x y z).answer ≢ accept.New → (chosen x y z).after ≡ a
+    pick false y z h = refl
+    pick true true z h = refl
+    pick true false true h = refl
+    pick true false false h = absurd (h refl)
+
+null_keeps : (o : Option (ℕ × List ℕ)) (a : Know (List ℕ)) (n k : ℕ) → (accept.null_at o a n k).answer ≢ accept.Raised → (accept.null_at o a n k).after ≡ a
+null_keeps (Some m) a n k h = refl
+null_keeps None a n k h = pick (n == length a.list) (ltb a.clock k) h
+  where
+    chosen : Bool → Bool → accept.Accepted (List ℕ)
+    chosen x y = cond x (cond {A = accept.Accepted (List ℕ)} y (record { answer = accept.Raised; after = record a { clock = k } }) (record { answer = accept.Known; after = a })) (record { answer = accept.Gap (length a.list); after = a })
+
+    pick : (x y : Bool) → (chosen x y).answer ≢ accept.Raised → (chosen x y).after ≡ a
+    pick false y h = refl
+    pick true false h = refl
+    pick true true h = absurd (h refl)
+
+no_reason : (f : KnowFault) (a : accept.Answer) → Some a ≡ reason f → (a ≢ accept.New) × (a ≢ accept.Raised)
+no_reason (fault.Gap n) a e = let g : a ≡ accept.Gap n = cc in ((λ h. let k : accept.Gap n ≡ accept.New = sym g ∙ h in cc), (λ h. let k : accept.Gap n ≡ accept.Raised = sym g ∙ h in cc))
+no_reason (fault.Differs n) a e = let g : a ≡ accept.Differs n = cc in ((λ h. let k : accept.Differs n ≡ accept.New = sym g ∙ h in cc), (λ h. let k : accept.Differs n ≡ accept.Raised = sym g ∙ h in cc))
+no_reason (fault.Late n) a e = let g : a ≡ accept.Late n = cc in ((λ h. let k : accept.Late n ≡ accept.New = sym g ∙ h in cc), (λ h. let k : accept.Late n ≡ accept.Raised = sym g ∙ h in cc))
+no_reason fault.NotRising a e = let g : a ≡ accept.NotRising = cc in ((λ h. let k : accept.NotRising ≡ accept.New = sym g ∙ h in cc), (λ h. let k : accept.NotRising ≡ accept.Raised = sym g ∙ h in cc))
+no_reason fault.Memory a e = absurd cc
+no_reason (fault.Contrary n) a e = let g : a ≡ accept.Contrary n = cc in ((λ h. let k : accept.Contrary n ≡ accept.New = sym g ∙ h in cc), (λ h. let k : accept.Contrary n ≡ accept.Raised = sym g ∙ h in cc))
+
+refused_keeps : (m : ChannelMessage) (a : Know (List ℕ)) (f : KnowFault) → Some (said_of a m).answer ≡ reason f → (said_of a m).after ≡ a
+refused_keeps (DataMessage d) a f e = data_keeps (nth a.list d.number) a d.number (d.time, d.packet) (no_reason f _ e).0
+refused_keeps (NullMessage n) a f e = null_keeps (nth a.list n.count) a n.count n.clock (no_reason f _ e).1
+
+-- the delivery in the model's world
+abbrev pub told_world : TopologyValue → model.World (List ℕ) → ℕ → ℕ → ChannelMessage → model.World (List ℕ) × model.Outcome
+told_world t w p r m = model.told w p r (receiving_iface t (message_channel m)) (said_of ((w.replica p r).knowledge (receiving_iface t (message_channel m))) m)
+
+module _ (t : TopologyValue) (books : List BookValue) (bag : List ChannelMessage) (w : model.World (List ℕ)) (stands : IsWorld t books bag w) (i r : ℕ) where
+  -- there is no such frame
+  pub no_frame : slice_get bag i ≡ None → Steps t w (step.Deliver i r) (Err stop.NoSuch) books bag
+  no_frame e =
+      step_names_nothing t w (step.Deliver i r) books bag
+      (ap (model.delivers (net_of t) same_octets w r) (ap (λ l. nth l i) (sym stands.sent.frames) ∙ nth_map (frame_of t) bag i ∙ ap (option_map (frame_of t)) e)) stands
+
+  module _ (m : ChannelMessage) (here : slice_get bag i ≡ Some m) where
+    abbrev pub p : ℕ
+    p = receiver_of (net_of t) (receiving_iface t (message_channel m))
+
+    frame : nth w.bag i ≡ Some (frame_of t m)
+    frame = ap (λ l. nth l i) (sym stands.sent.frames) ∙ nth_map (frame_of t) bag i ∙ ap (option_map (frame_of t)) here
+
+    delivers_is : (m : ChannelMessage) (v : Bool) → model.is_replica (net_of t) (receiver_of (net_of t) (receiving_iface t (message_channel m))) r ≡ v
+        → model.delivers (net_of t) same_octets w r (Some (frame_of t m)) ≡ cond v (told_world t w (receiver_of (net_of t) (receiving_iface t (message_channel m))) r m) (w, model.NoSuch)
+    delivers_is (DataMessage d) v e = ap (λ z. cond z (told_world t w (receiver_of (net_of t) (receiving_iface t d.channel)) r (DataMessage d)) (w, model.NoSuch)) e
+    delivers_is (NullMessage n) v e = ap (λ z. cond z (told_world t w (receiver_of (net_of t) (receiving_iface t n.channel)) r (NullMessage n)) (w, model.NoSuch)) e
+
+    deliver_is : (v : Bool) → is_replica t p r ≡ v → happens t w (step.Deliver i r) ≡ cond v (told_world t w p r m) (w, model.NoSuch)
+    deliver_is v e = ap (model.delivers (net_of t) same_octets w r) frame ∙ delivers_is m v (sym (is_replica_is t p r) ∙ e)
+
+    -- its receiver has no such replica
+    pub no_receiver : is_replica t p r ≡ false → Steps t w (step.Deliver i r) (Err stop.NoSuch) books bag
+    no_receiver e = step_names_nothing t w (step.Deliver i r) books bag (deliver_is false e) stands
+
+    module _ (there : is_replica t p r ≡ true) (place : ℕ) (at : place ≡ 2 * p + r) (b c : BookValue) (read : b ≡ get_or books place b)
+        (comes : comes_in (net_of t) p (receiving_iface t (message_channel m)) ≡ true) (number : channel_from 0 t.receivers (receiving_iface t (message_channel m)) ≡ Some (message_channel m)) where
+      abbrev x : model.Replica (List ℕ)
+      x = w.replica p r
+
+      abbrev is : IsReplicaOf t p r b x
+      is = book_read t books bag w stands p r there place at b read
+
+      abbrev ch : ℕ
+      ch = message_channel m
+
+      abbrev iface : ℕ
+      iface = receiving_iface t ch
+
+      known : Know (List ℕ)
+      known = slice_index_or b.knows ch nothing_known
+
+      incoming : is_incoming b ch ≡ true
+      incoming = subst (λ z. comes_in (net_of z) b.partition (receiving_iface z ch) ≡ true) (sym is.topology) (subst (λ z. comes_in (net_of t) z iface ≡ true) (sym is.partition) comes)
+
+      within : ch < length b.knows
+      within = let n = is.count in let h = stands.sent.named i m here in omega (arith, n, h)
+
+      -- what the world's replica knows of the channel
+      knows_it : x.knowledge iface ≡ slice_index_or b.knows ch nothing_known
+      knows_it = ap (λ z. z.knowledge iface) (sym is.replica) ∙ ap (λ z. knowledge_of z b.knows iface) is.topology ∙ known_here t b.knows ch number
+
+      -- the book that learned
+      learned : (after : Know (List ℕ)) → c ≡ record b { knows = slice_set b.knows ch after } → IsReplicaOf t p r c (record { knowledge = set_at x.knowledge iface after; ran = x.ran })
+      learned after e = subst (λ z. IsReplicaOf t p r z (record { knowledge = set_at x.knowledge iface after; ran = x.ran })) (sym e) (record {
+        topology = is.topology;
+        partition = is.partition;
+        number = is.number;
+        replica =
+            ap₂ (λ K k. record { knowledge = K; ran = k })
+            (ap (λ z. knowledge_of z (slice_set b.knows ch after)) is.topology ∙ known_set t b.knows ch number after within
+            ∙ ap (λ K. set_at K iface after) (ap (λ z. knowledge_of z b.knows) (sym is.topology) ∙ ap (λ z. z.knowledge) is.replica))
+            (ap (λ z. z.ran) is.replica);
+        handed = is.handed;
+        count = length-set b.knows ch after ∙ is.count;
+        quiet = λ d out. set_elsewhere b.knows ch d after (λ same. absurd (let f : true ≡ false = sym incoming ∙ ap (is_incoming b) same ∙ out in cc)) ∙ is.quiet d out;
+      })
+
+      -- the world stays as it is where the book does
+      unchanged : c ≡ b → IsWorld t (slice_set books place c) bag w
+      unchanged e = subst (λ z. IsWorld t z bag w) (sym (set_same books place b read_here) ∙ ap (slice_set books place) (sym e)) stands
+        where
+          read_here : slice_get books place ≡ Some b
+          read_here = slice_get_read books (length books) place b refl (let n = stands.replicas.count in let h = (there_is t p r there).2 in omega (arith, n, h, at)) read
+
+      taken : message_taken b.knows m ≡ said_of (x.knowledge iface) m
+      taken = taken_is b.knows m ∙ ap (λ a. said_of a m) (sym knows_it)
+
+      -- it took it in
+      pub accepted : (a : Accepted) → Takes b c ch (message_taken b.knows m) (Ok a) → Steps t w (step.Deliver i r) (Ok (told.Accepted a)) (slice_set books place c) bag
+      accepted a h =
+          let learns : Learns b.knows c.knows ch (message_taken b.knows m) (Ok a) = subst (λ z. LearnsIf z b.knows c.knows ch (message_taken b.knows m) (Ok a)) incoming h.learns in
+          let says : option_map model.Answered (answer (Ok a)) ≡ Some (model.Answered (said_of (x.knowledge iface) m).answer) =
+              ap (option_map model.Answered) (sym learns.0 ∙ ap (λ z. Some z.answer) taken) in
+          step_done t w (step.Deliver i r) (slice_set books place c) bag
+          (model.put_replica w p r (record { knowledge = set_at x.knowledge iface (said_of (x.knowledge iface) m).after; ran = x.ran }))
+          (model.Answered (said_of (x.knowledge iface) m).answer) (told.Accepted a) (deliver_is true there) says
+          (with_book t books bag w stands p r there place at b c read _
+          (learned (said_of (x.knowledge iface) m).after (h.same ∙ ap (λ z. record b { knows = z }) (learns.1 ∙ ap (λ z. slice_set b.knows ch z.after) taken))))
+
+      -- it comes in here
+      pub no_stranger : Takes b c ch (message_taken b.knows m) (Err Stranger) → ⊥
+      no_stranger h = subst (λ z. LearnsIf z b.knows c.knows ch (message_taken b.knows m) (Err Stranger)) incoming h.learns
+
+      -- it refused it, for another reason
+      pub refused : (f : KnowFault) → Takes b c ch (message_taken b.knows m) (Err (Known f)) → Steps t w (step.Deliver i r) (refusal_of f) (slice_set books place c) bag
+      refused f h = by_fault f (subst (λ z. LearnsIf z b.knows c.knows ch (message_taken b.knows m) (Err (Known f))) incoming h.learns)
+        where
+          for_reason : (f : KnowFault) → Some (message_taken b.knows m).answer ≡ reason f → c.knows ≡ b.knows → Steps t w (step.Deliver i r) (Ok (told.Refused f)) (slice_set books place c) bag
+          for_reason f why same =
+              let shown : Some (said_of (x.knowledge iface) m).answer ≡ reason f = ap (λ z. Some z.answer) (sym taken) ∙ why in
+              let keeps : (said_of (x.knowledge iface) m).after ≡ slice_index_or b.knows ch nothing_known = refused_keeps m (x.knowledge iface) f shown ∙ knows_it in
+              step_done t w (step.Deliver i r) (slice_set books place c) bag
+              (model.put_replica w p r (record { knowledge = set_at x.knowledge iface (said_of (x.knowledge iface) m).after; ran = x.ran }))
+              (model.Answered (said_of (x.knowledge iface) m).answer) (told.Refused f) (deliver_is true there) (ap (option_map model.Answered) (sym shown))
+              (with_book t books bag w stands p r there place at b c read _
+              (learned (said_of (x.knowledge iface) m).after (h.same ∙ ap (λ z. record b { knows = z }) (same ∙ sym (set-get_or b.knows ch nothing_known) ∙ ap (slice_set b.knows ch) (sym keeps)))))
+
+          by_fault : (f : KnowFault) → Learns b.knows c.knows ch (message_taken b.knows m) (Err (Known f)) → Steps t w (step.Deliver i r) (refusal_of f) (slice_set books place c) bag
+          by_fault fault.Memory l = unchanged (h.same ∙ ap (λ z. record b { knows = z }) l.1)
+          by_fault (fault.Gap n) l = for_reason (fault.Gap n) l.0 l.1
+          by_fault (fault.Differs n) l = for_reason (fault.Differs n) l.0 l.1
+          by_fault (fault.Late n) l = for_reason (fault.Late n) l.0 l.1
+          by_fault fault.NotRising l = for_reason fault.NotRising l.0 l.1
+          by_fault (fault.Contrary n) l = for_reason (fault.Contrary n) l.0 l.1

@@ -1,0 +1,5 @@
+mod Standing
+mod Acts
+mod Sends
+mod Deliveries
+mod Mergings

@@ -1,0 +1,239 @@
+-- What a replica sends is put behind the frames that were sent before.
+use Rattle.std.proofs.Common.{◌≡◌, ◌⊎◌, inl, inr, ℕ, zero, suc, ◌+◌, ◌*◌, ◌-◌, ◌<◌, ◌≤◌, ◌&&◌, leb, Bool, true, false, cond, List, [], ◌∷◌, ◌++◌, length, drop, map, slice_get, get_or, Option, Some, None, Ok, Err, refl, sym, ◌∙◌, ap, ap₂, subst, arith, ⊎_elim, append_assoc, append-nil}
+use Rattle.std.proofs.lemmas.Bool.Decides.{nat_tests}
+use Rattle.std.proofs.lemmas.List.{map-append}
+use Rattle.std.specs.Option.{option_and_then}
+use Rattle.nm_topology.specs.TopologyValue.{TopologyValue}
+use Rattle.nm_topology.specs.Topology.{receiving_iface}
+use Rattle.nm_model.specs.Lists.{nth}
+use Rattle.nm_model.specs.Partition.{goes_out}
+use Rattle.nm_model.specs.Promise.{Promising, Plain, Tight, promise}
+use Rattle.nm_model.specs.World as model
+use Rattle.nm_knowledge.specs.Octets.{same_octets}
+use Rattle.nm_sim.specs.Network.{net_of}
+use Rattle.nm_book.specs.Book.{BookValue, data_from, is_outgoing, is_replica, message_channel, null_on, only_if, promise_on, sent_on}
+use Rattle.nm_book.specs.declared.message.ChannelMessage.{ChannelMessage}
+use Rattle.nm_book.specs.declared.message.ChannelMessage.TheVariants.{Data as DataMessage, Null as NullMessage}
+use Rattle.nm_book.specs.declared.message.Data.{Data}
+use Rattle.nm_book.specs.declared.message.Null.{Null}
+use Rattle.nm_rounds.specs.World.{AreMessages, IsPushed, IsReplicaOf, IsWorld, Steps, frame_of, happens}
+use Rattle.nm_rounds.specs.declared.step.StepAnswer.TheVariants as answer
+use Rattle.nm_rounds.specs.declared.step.WorldStep.TheVariants as step
+use Rattle.nm_rounds.specs.declared.world.Stop.TheVariants as stop
+use Rattle.nm_rounds.proofs.Standing.{get_append, is_replica_is, is_there, not_and_right, put_frames}
+use Rattle.nm_rounds.proofs.Acts.{book_read, moved, step_done, step_names_nothing}
+
+-- the end of a channel at which a replica sends
+abbrev pub sends_on : TopologyValue → ℕ → ℕ → ℕ → Bool
+sends_on t p r c = is_replica t p r && goes_out (net_of t) p (receiving_iface t c)
+
+both : (a b : Bool) → (a && b) ≡ true → (a ≡ true) × (b ≡ true)
+both true b h = (refl, h)
+both false b h = absurd (let e : false ≡ true = h in cc)
+
+and_false : (a b : Bool) → a ≡ false → (a && b) ≡ false
+and_false a b e = ap (λ z. z && b) e
+
+-- the same for the model
+model_sends : (t : TopologyValue) (p r c : ℕ) (v : Bool) → sends_on t p r c ≡ v → (model.is_replica (net_of t) p r && goes_out (net_of t) p (receiving_iface t c)) ≡ v
+model_sends t p r c v e = ap (λ z. z && goes_out (net_of t) p (receiving_iface t c)) (sym (is_replica_is t p r)) ∙ e
+
+-- a message that was sent
+pub was_sent : (out : Bool) (sent : List (ℕ × List ℕ)) (c n : ℕ) (d : Data) → option_and_then (λ l. data_from c n (nth l n)) (only_if out sent) ≡ Some d
+    → (out ≡ true) × (nth sent n ≡ Some (d.time, d.packet)) × (d.channel ≡ c) × (d.number ≡ n)
+was_sent true sent c n d e = go (nth sent n) refl e
+  where
+    go : (o : Option (ℕ × List ℕ)) → nth sent n ≡ o → data_from c n o ≡ Some d → (true ≡ true) × (nth sent n ≡ Some (d.time, d.packet)) × (d.channel ≡ c) × (d.number ≡ n)
+    go None f g = absurd cc
+    go (Some m) f g = let is : record { channel = c; number = n; time = m.0; packet = m.1 } ≡ d = cc in
+        (refl, f ∙ ap (λ (z : Data). Some (z.time, z.packet)) is, ap (λ (z : Data). z.channel) (sym is), ap (λ (z : Data). z.number) (sym is))
+was_sent false sent c n d e = absurd cc
+
+pub was_not_sent : (sent : List (ℕ × List ℕ)) (c n : ℕ) (out : Bool) → out ≡ true → None ≡ option_and_then (λ l. data_from c n (nth l n)) (only_if out sent) → nth sent n ≡ None
+was_not_sent sent c n true h e = go (nth sent n) refl e
+  where
+    go : (o : Option (ℕ × List ℕ)) → nth sent n ≡ o → None ≡ data_from c n o → nth sent n ≡ None
+    go None f g = f
+    go (Some m) f g = absurd cc
+was_not_sent sent c n false h e = absurd (let f : false ≡ true = h in cc)
+
+module _ (t : TopologyValue) (books : List BookValue) (bag : List ChannelMessage) (w : model.World (List ℕ)) (stands : IsWorld t books bag w) (p r c : ℕ) where
+  abbrev i : ℕ
+  i = receiving_iface t c
+
+  abbrev x : model.Replica (List ℕ)
+  x = w.replica p r
+
+  abbrev lines : List (ℕ × List ℕ)
+  lines = model.outgoing (net_of t) p x i
+
+  -- the channel does not go out from such a replica
+  module _ (no : sends_on t p r c ≡ false) where
+    pub nothing_to_send : (n : ℕ) → Steps t w (step.Data p r c n) (Err stop.NoSuch) books bag
+    nothing_to_send n = step_names_nothing t w (step.Data p r c n) books bag (ap (λ z. cond z (model.sends w i n (nth lines n)) (w, model.NoSuch)) (model_sends t p r c false no)) stands
+
+    pub nothing_to_resend : (n : ℕ) → Steps t w (step.Resend p r c n) (Err stop.NoSuch) books bag
+    nothing_to_resend n =
+        step_names_nothing t w (step.Resend p r c n) books bag
+        (ap (λ z. cond z (model.put_frames w (model.data_frames i n (drop n lines)), model.Frames (length lines - n)) (w, model.NoSuch)) (and_false _ _ (model_sends t p r c false no))) stands
+
+    pub no_null : Steps t w (step.Null p r c) (Err stop.NoSuch) books bag
+    no_null =
+        step_names_nothing t w (step.Null p r c) books bag
+        (ap (λ z. cond z (model.put_frames w (model.NullFrame i (length lines) (promise (net_of t) Tight p x.knowledge x.ran i) ∷ []), model.Frames 1) (w, model.NoSuch)) (model_sends t p r c false no)) stands
+
+    pub no_old_null : Steps t w (step.OldNull p r c) (Err stop.NoSuch) books bag
+    no_old_null =
+        step_names_nothing t w (step.OldNull p r c) books bag
+        (ap (λ z. cond z (model.put_frames w (model.NullFrame i (length lines) (promise (net_of t) Plain p x.knowledge x.ran i) ∷ []), model.Frames 1) (w, model.NoSuch)) (model_sends t p r c false no)) stands
+
+  -- it goes out from the replica that stands here
+  module _ (yes : sends_on t p r c ≡ true) (within : c < length t.receivers) (place : ℕ) (at : place ≡ 2 * p + r) (b : BookValue) (read : b ≡ get_or books place b) (ch : ℕ) (same : ch ≡ c) where
+    abbrev is : IsReplicaOf t p r b x
+    is = book_read t books bag w stands p r (both _ _ yes).0 place at b read
+
+    pub goes : is_outgoing b c ≡ true
+    goes = let q = sym is.partition in let s = sym is.topology in
+        subst (λ z. goes_out (net_of z) b.partition (receiving_iface z c) ≡ true) s (subst (λ z. goes_out (net_of t) z (receiving_iface t c) ≡ true) q (both _ _ yes).1)
+
+    pub lines_are : sent_on b c ≡ lines
+    lines_are = sym (moved (λ t p x. model.outgoing (net_of t) p x (receiving_iface t c) ≡ sent_on b c) t p r b x is refl)
+
+    -- what the book says of the channel's number
+    abbrev given : ℕ → Option Data → ℕ → Type 0
+    given n o z = o ≡ option_and_then (λ l. data_from z n (nth l n)) (only_if (is_outgoing b z) (sent_on b z))
+
+    pub data_sent : (n : ℕ) (d : Data) → Some d ≡ option_and_then (λ l. data_from ch n (nth l n)) (only_if (is_outgoing b ch) (sent_on b ch))
+        → Steps t w (step.Data p r c n) (Ok (answer.Frames 1)) books (bag ++ DataMessage d ∷ [])
+    data_sent n d e =
+        let sent = was_sent (is_outgoing b c) (sent_on b c) c n d (sym (subst (given n (Some d)) same e)) in
+        let frame : frame_of t (DataMessage d) ≡ model.DataFrame i n (d.time, d.packet) = ap₂ (λ a z. model.DataFrame (receiving_iface t a) z (d.time, d.packet)) sent.2 sent.3 in
+        step_done t w (step.Data p r c n) books (bag ++ DataMessage d ∷ []) (model.put_frames w (model.DataFrame i n (d.time, d.packet) ∷ [])) (model.Frames 1) (answer.Frames 1)
+        (ap (λ z. cond z (model.sends w i n (nth lines n)) (w, model.NoSuch)) (model_sends t p r c true yes)
+        ∙ ap (model.sends w i n) (ap (λ l. nth l n) (sym lines_are) ∙ sent.1)) refl
+        (put_frames t books bag (DataMessage d ∷ []) w (model.DataFrame i n (d.time, d.packet) ∷ []) stands (ap (λ z. z ∷ []) frame) (one_there sent.2))
+      where
+        one_there : d.channel ≡ c → (j : ℕ) (m : ChannelMessage) → slice_get (DataMessage d ∷ []) j ≡ Some m → message_channel m < length t.receivers
+        one_there same zero m f = let g : DataMessage d ≡ m = cc in subst (λ z. message_channel z < length t.receivers) g (omega (arith, same, within))
+        one_there same (suc j) m f = absurd (let g : None ≡ Some m = f in cc)
+
+    -- no such message was sent
+    pub data_missing : (n : ℕ) → None ≡ option_and_then (λ l. data_from ch n (nth l n)) (only_if (is_outgoing b ch) (sent_on b ch)) → Steps t w (step.Data p r c n) (Err stop.NoSuch) books bag
+    data_missing n e =
+        step_names_nothing t w (step.Data p r c n) books bag
+        (ap (λ z. cond z (model.sends w i n (nth lines n)) (w, model.NoSuch)) (model_sends t p r c true yes)
+        ∙ ap (model.sends w i n) (ap (λ l. nth l n) (sym lines_are) ∙ was_not_sent (sent_on b c) c n (is_outgoing b c) goes (subst (given n None) same e))) stands
+
+    -- a null message with its promise
+    null_frame : (kind : Promising) → frame_of t (NullMessage (null_on kind b c)) ≡ model.NullFrame i (length lines) (promise (net_of t) kind p x.knowledge x.ran i)
+    null_frame kind = sym (moved (λ t p x. ◌≡◌ {A = model.Frame (List ℕ)} (model.NullFrame (receiving_iface t c) (length (model.outgoing (net_of t) p x (receiving_iface t c))) (promise (net_of t) kind p x.knowledge x.ran (receiving_iface t c)))
+        (model.NullFrame (receiving_iface t c) (length (sent_on b c)) (promise_on kind b c))) t p r b x is refl)
+
+    null_there : (kind : Promising) (j : ℕ) (m : ChannelMessage) → slice_get (NullMessage (null_on kind b c) ∷ []) j ≡ Some m → message_channel m < length t.receivers
+    null_there kind zero m f = let g : NullMessage (null_on kind b c) ≡ m = cc in subst (λ z. message_channel z < length t.receivers) g within
+    null_there kind (suc j) m f = absurd (let g : None ≡ Some m = f in cc)
+
+    with_null : (kind : Promising) → IsWorld t books (bag ++ NullMessage (null_on kind b c) ∷ []) (model.put_frames w (model.NullFrame i (length lines) (promise (net_of t) kind p x.knowledge x.ran i) ∷ []))
+    with_null kind = put_frames t books bag (NullMessage (null_on kind b c) ∷ []) w _ stands (ap (λ z. z ∷ []) (null_frame kind)) (null_there kind)
+
+    null_is : (kind : Promising) (null : Null) → Some null ≡ only_if (is_outgoing b ch) (null_on kind b ch) → null ≡ null_on kind b c
+    null_is kind null e = (is_there (is_outgoing b c) (null_on kind b c) null (sym (subst (λ z. Some null ≡ only_if (is_outgoing b z) (null_on kind b z)) same e))).1
+
+    pub null_sent : (null : Null) → Some null ≡ only_if (is_outgoing b ch) (null_on Tight b ch) → Steps t w (step.Null p r c) (Ok (answer.Frames 1)) books (bag ++ NullMessage null ∷ [])
+    null_sent null e =
+        subst (λ z. Steps t w (step.Null p r c) (Ok (answer.Frames 1)) books (bag ++ NullMessage z ∷ [])) (sym (null_is Tight null e))
+        (step_done t w (step.Null p r c) books (bag ++ NullMessage (null_on Tight b c) ∷ []) _ (model.Frames 1) (answer.Frames 1)
+        (ap (λ z. cond z (model.put_frames w (model.NullFrame i (length lines) (promise (net_of t) Tight p x.knowledge x.ran i) ∷ []), model.Frames 1) (w, model.NoSuch)) (model_sends t p r c true yes)) refl
+        (with_null Tight))
+
+    pub old_null_sent : (null : Null) → Some null ≡ only_if (is_outgoing b ch) (null_on Plain b ch) → Steps t w (step.OldNull p r c) (Ok (answer.Frames 1)) books (bag ++ NullMessage null ∷ [])
+    old_null_sent null e =
+        subst (λ z. Steps t w (step.OldNull p r c) (Ok (answer.Frames 1)) books (bag ++ NullMessage z ∷ [])) (sym (null_is Plain null e))
+        (step_done t w (step.OldNull p r c) books (bag ++ NullMessage (null_on Plain b c) ∷ []) _ (model.Frames 1) (answer.Frames 1)
+        (ap (λ z. cond z (model.put_frames w (model.NullFrame i (length lines) (promise (net_of t) Plain p x.knowledge x.ran i) ∷ []), model.Frames 1) (w, model.NoSuch)) (model_sends t p r c true yes)) refl
+        (with_null Plain))
+
+    -- where the channel goes out there is an answer
+    pub no_answer : {X : Type 0} (v : X) → None ≡ only_if (is_outgoing b ch) v → ⊥
+    no_answer v e = let f : None ≡ only_if true v = e ∙ ap (λ z. only_if z v) (ap (is_outgoing b) same ∙ goes) in absurd (let g : None ≡ Some v = f in cc)
+
+    -- all messages from number n on
+    both_hold : (a d : Bool) → a ≡ true → d ≡ true → (a && d) ≡ true
+    both_hold a d e f = ap₂ (λ y z. y && z) e f
+
+    again : (n : ℕ) (more : List ChannelMessage) → n ≤ length (sent_on b c) → AreMessages b c n more
+        → Steps t w (step.Resend p r c n) (Ok (answer.Frames (length (sent_on b c) - n))) books (bag ++ more)
+    again n more le are =
+        let few : leb n (length lines) ≡ true = let e = ap length lines_are in grind (arith, nat_tests, le, e) in
+        let frames : map (frame_of t) more ≡ model.data_frames i n (drop n lines) =
+            ap (λ z. map (frame_of z) more) (sym is.topology) ∙ are.frames ∙ ap (λ z. model.data_frames (receiving_iface z c) n (drop n (sent_on b c))) is.topology ∙ ap (λ z. model.data_frames i n (drop n z)) lines_are in
+        step_done t w (step.Resend p r c n) books (bag ++ more) (model.put_frames w (model.data_frames i n (drop n lines))) (model.Frames (length lines - n)) (answer.Frames (length (sent_on b c) - n))
+        (ap (λ z. cond z (model.put_frames w (model.data_frames i n (drop n lines)), model.Frames (length lines - n)) (w, model.NoSuch)) (both_hold _ _ (model_sends t p r c true yes) few))
+        (ap (λ z. Some (model.Frames (length z - n))) lines_are)
+        (put_frames t books bag more w (model.data_frames i n (drop n lines)) stands frames (λ j m e. let s = are.named j m e in omega (arith, s, within)))
+
+    pub again_sent : (n : ℕ) (more : List ChannelMessage) → n ≤ length (sent_on b ch) → AreMessages b ch n more
+        → Steps t w (step.Resend p r c n) (Ok (answer.Frames (length (sent_on b ch) - n))) books (bag ++ more)
+    again_sent n more few are = subst (λ z. n ≤ length (sent_on b z) → AreMessages b z n more → Steps t w (step.Resend p r c n) (Ok (answer.Frames (length (sent_on b z) - n))) books (bag ++ more)) (sym same) (again n more) few are
+
+    pub none_so_far : (n : ℕ) → length (sent_on b ch) < n → Steps t w (step.Resend p r c n) (Err stop.NoSuch) books bag
+    none_so_far n lt =
+        let past : leb n (length lines) ≡ false = let e = ap length lines_are in let f = ap (λ z. length (sent_on b z)) same in grind (arith, nat_tests, lt, e, f) in
+        step_names_nothing t w (step.Resend p r c n) books bag
+        (ap (λ z. cond z (model.put_frames w (model.data_frames i n (drop n lines)), model.Frames (length lines - n)) (w, model.NoSuch)) (not_and_right _ _ past)) stands
+
+-- What is gathered of a channel's messages.
+module _ (b : BookValue) (c : ℕ) where
+  abbrev pub to_come : ℕ → List (model.Frame (List ℕ))
+  to_come n = model.data_frames (receiving_iface b.topology c) n (drop n (sent_on b c))
+
+  -- those gathered from number first on, and those to come from number n on
+  pub record AreGathered (first n : ℕ) (messages : List ChannelMessage) : Type 0 where
+    pub frames : map (frame_of b.topology) messages ++ to_come n ≡ to_come first
+    pub named : (i : ℕ) (m : ChannelMessage) → slice_get messages i ≡ Some m → message_channel m ≡ c
+
+  pub gathered_none : (first : ℕ) → AreGathered first first []
+  gathered_none first = record { frames = refl; named = λ i m e. absurd (let g : None ≡ Some m = e in cc) }
+
+  next_frame : (i n : ℕ) (l : List (ℕ × List ℕ)) (m : ℕ × List ℕ) → nth l n ≡ Some m → (k : ℕ) → model.data_frames i k (drop n l) ≡ model.DataFrame i k m ∷ model.data_frames i (suc k) (drop (suc n) l)
+  next_frame i n [] m e k = absurd (let g : None ≡ Some m = e in cc)
+  next_frame i zero (y ∷ l) m e k = let g : y ≡ m = cc in ap (λ z. model.DataFrame i k z ∷ model.data_frames i (suc k) l) g
+  next_frame i (suc n) (y ∷ l) m e k = next_frame i n l m e k
+
+  pub gathered_more : (first n : ℕ) (before after : List ChannelMessage) → AreGathered first n before → IsPushed b c n before after → AreGathered first (suc n) after
+  gathered_more first n before after are p =
+      let one : frame_of b.topology (DataMessage p.message) ≡ model.DataFrame (receiving_iface b.topology c) n (p.message.time, p.message.packet) =
+          ap₂ (λ a z. model.DataFrame (receiving_iface b.topology a) z (p.message.time, p.message.packet)) p.channel p.number in
+      record {
+        frames =
+            ap (λ z. map (frame_of b.topology) z ++ to_come (suc n)) p.pushed ∙ ap (λ z. z ++ to_come (suc n)) (map-append (frame_of b.topology) before (DataMessage p.message ∷ []))
+            ∙ append_assoc (map (frame_of b.topology) before) (frame_of b.topology (DataMessage p.message) ∷ []) (to_come (suc n))
+            ∙ ap (λ z. map (frame_of b.topology) before ++ z ∷ to_come (suc n)) one
+            ∙ ap (λ z. map (frame_of b.topology) before ++ z) (sym (next_frame (receiving_iface b.topology c) n (sent_on b c) (p.message.time, p.message.packet) p.sent n)) ∙ are.frames;
+        named = λ i m e. ⊎_elim (λ f. are.named i m f) (λ f. last f.0 m f.1) (get_append before (DataMessage p.message ∷ []) i m (ap (λ z. slice_get z i) (sym p.pushed) ∙ e));
+      }
+    where
+      last : (j : ℕ) (m : ChannelMessage) → slice_get (DataMessage p.message ∷ []) j ≡ Some m → message_channel m ≡ c
+      last zero m e = let g : DataMessage p.message ≡ m = cc in ap message_channel (sym g) ∙ p.channel
+      last (suc j) m e = absurd (let g : None ≡ Some m = e in cc)
+
+  pub gathered_all : (first n : ℕ) (messages : List ChannelMessage) → AreGathered first n messages → length (sent_on b c) ≤ n → AreMessages b c first messages
+  gathered_all first n messages are le = record {
+    frames = sym (append-nil (map (frame_of b.topology) messages)) ∙ ap (λ z. map (frame_of b.topology) messages ++ z) (sym (none_left n (sent_on b c) le n)) ∙ are.frames;
+    named = are.named;
+  }
+    where
+      none_left : (n : ℕ) (l : List (ℕ × List ℕ)) → length l ≤ n → (k : ℕ) → model.data_frames (receiving_iface b.topology c) k (drop n l) ≡ []
+      none_left zero [] h k = refl
+      none_left (suc n) [] h k = refl
+      none_left zero (y ∷ l) h k = absurd (omega (arith, h))
+      none_left (suc n) (y ∷ l) h k = none_left n l (omega (arith, h)) k
+
+-- where there is a message of this number, it is given
+pub is_given : (sent : List (ℕ × List ℕ)) (c n : ℕ) (out : Bool) → out ≡ true → n < length sent → None ≡ option_and_then (λ l. data_from c n (nth l n)) (only_if out sent) → ⊥
+is_given sent c n out h lt e = past sent n lt (was_not_sent sent c n out h e)
+  where
+    past : (l : List (ℕ × List ℕ)) (n : ℕ) → n < length l → nth l n ≡ None → ⊥
+    past [] n lt e = omega (arith, lt)
+    past (y ∷ l) zero lt e = absurd (let g : Some y ≡ None = e in cc)
+    past (y ∷ l) (suc n) lt e = past l n (omega (arith, lt)) e

@@ -1,0 +1,120 @@
+-- Where the world's replicas stand, and what changes where one does, or where frames are sent.
+use Rattle.std.proofs.Common.{◌≡◌, ◌≢◌, ◌⊎◌, inl, inr, ℕ, zero, suc, ◌+◌, ◌*◌, ◌<◌, ◌≤◌, ◌&&◌, ltb, Bool, true, false, List, [], ◌∷◌, ◌++◌, length, map, slice_get, slice_set, Option, Some, None, refl, sym, ◌∙◌, ap, ap₂, subst, arith, ⊎_elim}
+use Rattle.std.proofs.lemmas.Bool.{cases_lt}
+use Rattle.std.proofs.lemmas.Bool.Decides.{nat_tests}
+use Rattle.std.proofs.lemmas.List.{length-set, length-append, map-append}
+use Rattle.nm_topology.specs.TopologyValue.{TopologyValue}
+use Rattle.nm_model.specs.Lists.{set_at}
+use Rattle.nm_model.specs.World as model
+use Rattle.nm_model.proofs.ListLemmas.{same_number, set_here, set_there}
+use Rattle.nm_sim.specs.Network.{net_of}
+use Rattle.nm_book.specs.Book.{BookValue, is_replica, message_channel, only_if, replica_of}
+use Rattle.nm_book.specs.declared.message.ChannelMessage.{ChannelMessage}
+use Rattle.nm_rounds.specs.World.{AreFrames, AreReplicas, IsReplicaOf, IsWorld, frame_of}
+
+-- what is read where something was set, and elsewhere
+pub get_set_here : {X : Type 0} (l : List X) (i : ℕ) (x : X) → i < length l → slice_get (slice_set l i x) i ≡ Some x
+get_set_here [] i x h = absurd (omega (arith, h))
+get_set_here (y ∷ l) zero x h = refl
+get_set_here (y ∷ l) (suc i) x h = get_set_here l i x (omega (arith, h))
+
+pub get_set_there : {X : Type 0} (l : List X) (i j : ℕ) (x : X) → j ≢ i → slice_get (slice_set l i x) j ≡ slice_get l j
+get_set_there [] i j x h = refl
+get_set_there (y ∷ l) zero zero x h = absurd (h refl)
+get_set_there (y ∷ l) zero (suc j) x h = refl
+get_set_there (y ∷ l) (suc i) zero x h = refl
+get_set_there (y ∷ l) (suc i) (suc j) x h = get_set_there l i j x (λ e. h (omega (arith, e)))
+
+pub get_append : {X : Type 0} (l m : List X) (i : ℕ) (x : X) → slice_get (l ++ m) i ≡ Some x → (slice_get l i ≡ Some x) ⊎ ((j : ℕ) × (slice_get m j ≡ Some x))
+get_append [] m i x e = inr (i, e)
+get_append (y ∷ l) m zero x e = inl e
+get_append (y ∷ l) m (suc i) x e = get_append l m i x e
+
+-- what is there only if a test holds
+pub is_there : {X : Type 0} (b : Bool) (x y : X) → only_if b x ≡ Some y → (b ≡ true) × (y ≡ x)
+is_there true x y e = (refl, let f : x ≡ y = cc in sym f)
+is_there false x y e = absurd cc
+
+pub is_absent : {X : Type 0} (b : Bool) (x : X) → only_if b x ≡ None → b ≡ false
+is_absent true x e = absurd cc
+is_absent false x e = refl
+
+pub only_if_not : {X : Type 0} (b : Bool) (x : X) → b ≡ false → None ≡ only_if b x
+only_if_not b x e = ap (λ z. only_if z x) (sym e)
+
+pub not_and_right : (a b : Bool) → b ≡ false → (a && b) ≡ false
+not_and_right true b e = e
+not_and_right false b e = refl
+
+-- the program's test of a replica is the model's
+pub is_replica_is : (t : TopologyValue) (p r : ℕ) → is_replica t p r ≡ model.is_replica (net_of t) p r
+unfolding net_of
+is_replica_is t p r = refl
+
+-- a replica that is there has its place among all
+pub there_is : (t : TopologyValue) (p r : ℕ) → is_replica t p r ≡ true → (p < t.partitions) × (r < 2) × (2 * p + r < 2 * t.partitions)
+there_is t p r h =
+    let both = parts (ltb p t.partitions) (ltb r 2) h in
+    let a : p < t.partitions = let e = both.0 in grind (arith, nat_tests, e) in
+    let b : r < 2 = let e = both.1 in grind (arith, nat_tests, e) in
+    (a, b, omega (arith, a, b))
+  where
+    parts : (a b : Bool) → (a && b) ≡ true → (a ≡ true) × (b ≡ true)
+    parts true b h = (refl, h)
+    parts false b h = absurd (let e : false ≡ true = h in cc)
+
+-- two places are one only for one replica
+places_apart : (p r q s : ℕ) → r < 2 → s < 2 → 2 * q + s ≡ 2 * p + r → (q ≡ p) × (s ≡ r)
+places_apart p r q s h k e = (omega (arith, h, k, e), omega (arith, h, k, e))
+
+module _ (t : TopologyValue) (books : List BookValue) (w : model.World (List ℕ)) (stands : AreReplicas t books w) (p r : ℕ) (two : r < 2) (x : model.Replica (List ℕ)) where
+  elsewhere : (q s : ℕ) (b : BookValue) → s < 2 → 2 * q + s ≢ 2 * p + r → slice_get books (2 * q + s) ≡ Some b
+      → IsReplicaOf t q s b ((model.put_replica w p r x).replica q s)
+  elsewhere q s b h apart e = subst (IsReplicaOf t q s b) (sym (other (same_number q p))) (stands.each q s b h e)
+    where
+      other : (q ≡ p) ⊎ (q ≢ p) → (model.put_replica w p r x).replica q s ≡ w.replica q s
+      other (inl same) =
+          ap (λ z. (model.put_replica w p r x).replica z s) same ∙ ap (λ f. f s) (set_here w.replica p (set_at (w.replica p) r x))
+          ∙ set_there (w.replica p) r x s (λ f. apart (ap₂ (λ a b. 2 * a + b) same f)) ∙ ap (λ z. w.replica z s) (sym same)
+      other (inr far) = ap (λ f. f s) (set_there w.replica p (set_at (w.replica p) r x) q far)
+
+  -- one replica changes
+  pub put : (b : BookValue) → 2 * p + r < length books → IsReplicaOf t p r b x → AreReplicas t (slice_set books (2 * p + r) b) (model.put_replica w p r x)
+  put b within is = record {
+    count = length-set books (2 * p + r) b ∙ stands.count;
+    each = λ q s c h e. ⊎_elim (λ same. at q s c h same e) (λ apart. elsewhere q s c h apart (sym (get_set_there books (2 * p + r) (2 * q + s) b apart) ∙ e)) (same_number (2 * q + s) (2 * p + r));
+  }
+    where
+      here : (model.put_replica w p r x).replica p r ≡ x
+      here = ap (λ f. f r) (set_here w.replica p (set_at (w.replica p) r x)) ∙ set_here (w.replica p) r x
+
+      at : (q s : ℕ) (c : BookValue) → s < 2 → 2 * q + s ≡ 2 * p + r → slice_get (slice_set books (2 * p + r) b) (2 * q + s) ≡ Some c → IsReplicaOf t q s c ((model.put_replica w p r x).replica q s)
+      at q s c h same e =
+          let one = places_apart p r q s two h same in
+          let is_b : b ≡ c = let f : Some b ≡ Some c = sym (get_set_here books (2 * p + r) b within) ∙ ap (slice_get (slice_set books (2 * p + r) b)) (sym same) ∙ e in cc in
+          subst (λ z. IsReplicaOf t z s c ((model.put_replica w p r x).replica z s)) (sym one.0)
+          (subst (λ z. IsReplicaOf t p z c ((model.put_replica w p r x).replica p z)) (sym one.1)
+          (subst (IsReplicaOf t p r c) (sym here) (subst (λ z. IsReplicaOf t p r z x) is_b is)))
+
+-- one book changes, and the frames stay
+pub put_book : (t : TopologyValue) (books : List BookValue) (bag : List ChannelMessage) (w : model.World (List ℕ)) → IsWorld t books bag w
+    → (p r : ℕ) → is_replica t p r ≡ true → (b : BookValue) (x : model.Replica (List ℕ)) → IsReplicaOf t p r b x
+    → IsWorld t (slice_set books (2 * p + r) b) bag (model.put_replica w p r x)
+put_book t books bag w stands p r there b x is =
+    let at = there_is t p r there in
+    record {
+      replicas = put t books w stands.replicas p r at.1 x b (let n = stands.replicas.count in let h = at.2 in omega (arith, n, h)) is;
+      sent = record { frames = stands.sent.frames; named = stands.sent.named };
+    }
+
+-- frames are sent, and the books stay
+pub put_frames : (t : TopologyValue) (books : List BookValue) (bag more : List ChannelMessage) (w : model.World (List ℕ)) (frames : List (model.Frame (List ℕ))) → IsWorld t books bag w
+    → map (frame_of t) more ≡ frames → ((i : ℕ) (m : ChannelMessage) → slice_get more i ≡ Some m → message_channel m < length t.receivers)
+    → IsWorld t books (bag ++ more) (model.put_frames w frames)
+put_frames t books bag more w frames stands are named = record {
+  replicas = record { count = stands.replicas.count; each = stands.replicas.each };
+  sent = record {
+    frames = map-append (frame_of t) bag more ∙ ap₂ (λ a b. a ++ b) stands.sent.frames are;
+    named = λ i m e. ⊎_elim (λ f. stands.sent.named i m f) (λ f. named f.0 m f.1) (get_append bag more i m e);
+  };
+}

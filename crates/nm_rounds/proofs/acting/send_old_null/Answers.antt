@@ -1,0 +1,23 @@
+use Rattle.std.proofs.Common.{Ok, sym, ◌∙◌, ap, refl, subst}
+use Rattle.nm_rounds.specs.World.{Steps}
+use Rattle.nm_rounds.specs.declared.step.StepAnswer.TheVariants.{Frames}
+use Rattle.nm_rounds.specs.declared.step.WorldStep.TheVariants.{OldNull}
+use Rattle.nm_rounds.proofs.Standing.{is_absent, is_there}
+use Rattle.nm_rounds.proofs.Sends.{no_old_null, no_answer, old_null_sent}
+use Rattle.nm_rounds.proofs.acting.send_old_null.Goals as goal
+
+pub returns-in_default : goal.returns-in_default
+returns-in_default c w stands = no_old_null c.args.topology.now c.args.books.now c.args.bag.now.items w stands c.args.partition c.args.replica c.args.channel (is_absent _ _ (sym c.in_default.ensures.value))
+
+pub returns-in_default-old_null : goal.returns-in_default-old_null
+returns-in_default-old_null c w stands =
+    let yes = is_there _ _ _ (sym c.in-Some.ensures.value) in
+    absurd (no_answer c.args.topology.now c.args.books.now c.args.bag.now.items w stands c.args.partition c.args.replica c.args.channel yes.0 (c.in-Some.ensures.there refl) c.in-Some.place yes.1
+    c.index-books-place.result c.index-books-place.is c.args.channel refl _ c.in_default-old_null.ensures)
+
+pub returns : goal.returns
+returns c w stands =
+    let yes = is_there _ _ _ (sym c.in-Some.ensures.value) in
+    subst (λ z. Steps c.args.topology.now w (OldNull c.args.partition c.args.replica c.args.channel) (Ok (Frames 1)) c.args.books.now z) (sym c.in_ok-push.ensures.items)
+    (old_null_sent c.args.topology.now c.args.books.now c.args.bag.now.items w stands c.args.partition c.args.replica c.args.channel yes.0 (c.in-Some.ensures.there refl) c.in-Some.place yes.1
+    c.index-books-place.result c.index-books-place.is c.args.channel refl c.in-Some-old_null.null c.in-Some-old_null.ensures)

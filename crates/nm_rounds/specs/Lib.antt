@@ -1,0 +1,3 @@
+pub mod World
+pub mod Replay
+pub mod Headline

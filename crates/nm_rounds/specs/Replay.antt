@@ -1,0 +1,58 @@
+-- What a replay of a list of steps reports.
+use Rattle.std.specs.Prelude.{◌≡◌, ℕ, ◌<◌, List, [], ◌∷◌, ◌++◌, length, map, take, slice_get, Option, Some, None, Result, Ok, Err}
+use Rattle.nm_topology.specs.Topology.{topology_of}
+use Rattle.nm_topology.specs.TopologyValue.{TopologyValue}
+use Rattle.nm_topology.specs.Fault.{Fails}
+use Rattle.nm_topology.specs.declared.fault.TopoFault.{TopoFault}
+use Rattle.nm_topology.specs.declared.fault.TopoFault.TheVariants.{Refused}
+use Rattle.nm_knowledge.specs.Octets.{same_octets}
+use Rattle.nm_model.specs.World as model
+use Rattle.nm_sim.specs.Network.{net_of}
+use Rattle.nm_book.specs.Book.{BookValue}
+use Rattle.nm_rounds.specs.World.{AreReplicas, happens, outcome_of, step_of}
+use Rattle.nm_rounds.specs.declared.step.StepAnswer.{StepAnswer}
+use Rattle.nm_rounds.specs.declared.step.WorldStep.{WorldStep}
+use Rattle.nm_rounds.specs.declared.step.WorldStep.TheVariants as step
+use Rattle.nm_rounds.specs.declared.replay.Ending.{Ending}
+use Rattle.nm_rounds.specs.declared.replay.Ending.TheVariants.{Ended, NoSuch, Memory}
+
+-- the model's steps of the first n steps
+abbrev pub first_steps : TopologyValue → List WorldStep → ℕ → List model.Step
+first_steps t steps n = map (step_of t) (take n steps)
+
+-- the world after these steps, and what they answer
+abbrev pub world_after : TopologyValue → List model.Step → model.World (List ℕ)
+world_after t did = model.world (net_of t) same_octets did model.opening
+
+abbrev pub answers_of : TopologyValue → List model.Step → List model.Outcome
+answers_of t did = model.answers (net_of t) same_octets did model.opening
+
+-- Memory was refused at a step, before which these were done: nothing more was, but of a run so many whole events.
+abbrev pub IsInterrupted : Option WorldStep → List model.Step → List model.Step → Type 0
+IsInterrupted None before did = ⊥
+IsInterrupted (Some (step.Run p r limit)) before did = (n : ℕ) × (n < limit) × (did ≡ before ++ model.Run p r n ∷ [])
+IsInterrupted (Some (step.Data p r c n)) before did = did ≡ before
+IsInterrupted (Some (step.Resend p r c n)) before did = did ≡ before
+IsInterrupted (Some (step.Null p r c)) before did = did ≡ before
+IsInterrupted (Some (step.OldNull p r c)) before did = did ≡ before
+IsInterrupted (Some (step.Deliver i r)) before did = did ≡ before
+IsInterrupted (Some (step.Merge p r)) before did = did ≡ before
+IsInterrupted (Some (step.Restart p r)) before did = did ≡ before
+
+-- the step names what is not there
+abbrev pub NamesNothing : TopologyValue → model.World (List ℕ) → Option WorldStep → Type 0
+NamesNothing t w None = ⊥
+NamesNothing t w (Some s) = (happens t w s).1 ≡ model.NoSuch
+
+-- which steps were done by the ending, of which so many were answered
+abbrev pub Ends : TopologyValue → List WorldStep → ℕ → Ending → List model.Step → Type 0
+Ends t steps answered Ended did = (answered ≡ length steps) × (did ≡ first_steps t steps answered)
+Ends t steps answered (NoSuch k) did = (answered ≡ k) × (did ≡ first_steps t steps k) × NamesNothing t (world_after t did) (slice_get steps k)
+Ends t steps answered (Memory k) did = (answered ≡ k) × IsInterrupted (slice_get steps k) (first_steps t steps k) did
+
+-- The steps that were done are answered, and the books left, as the model says of these steps.
+pub record IsReplay (t : TopologyValue) (steps : List WorldStep) (answers : List StepAnswer) (books : List BookValue) (ending : Ending) : Type 0 where
+  pub did : List model.Step
+  pub ends : Ends t steps (length answers) ending did
+  pub answered : map (outcome_of t) answers ≡ map Some (answers_of t (first_steps t steps (length answers)))
+  pub replicas : AreReplicas t books (world_after t did)

@@ -1,0 +1,284 @@
+//! What each step does.
+
+ghost use Rattle.std.specs.Prelude.{◌≡◌, ℕ, ◌<◌, ◌≤◌, true, List, IfOk, OnOk, length};
+ghost use Rattle.std.specs.Arc.{arc_value};
+ghost use Rattle.nm_book.specs.Book.{is_outgoing, sent_on};
+ghost use Rattle.nm_book.specs.declared.message.ChannelMessage.{ChannelMessage as Message};
+ghost use Rattle.nm_model.specs.World.{World};
+ghost use Rattle.nm_rounds.specs.World.{AreMessages, IsPushed, IsWorld, Steps, refusal_of};
+ghost use Rattle.nm_rounds.specs.declared.step.WorldStep.TheVariants as step;
+
+use crate::places::{place_of, sending_place};
+use crate::step::StepAnswer;
+use crate::world::Stop;
+use nm_base::{ChanNo, PartNo};
+use nm_book::channels::receiver_of;
+use nm_book::{AcceptFault, Book, BookFault, ChannelMessage, MergeFault, Ran};
+use nm_knowledge::KnowFault;
+use nm_sim::network::channels_are_those_of_the_network;
+use nm_topology::Topology;
+use nm_topology::topology::channels_are_numbered_by_their_receivers;
+use std::alloc::{AllocError, Global};
+use std::sync::Arc;
+
+/// A replica runs.
+pub(crate) fn run(
+    alloc: Global,
+    topology: &Topology,
+    books: &mut Vec<Book>,
+    partition: PartNo,
+    replica: u8,
+    limit: u64,
+) -> Result<StepAnswer, Stop>
+    requires { (bag : List Message) × (w : World (List ℕ))
+        × IsWorld topology.now books.old.items bag w }
+    ensures { (bag : List Message) (w : World (List ℕ))
+        → IsWorld topology.now books.old.items bag w
+        → Steps topology.now w (step.Run partition replica limit) result books.new.items bag }
+{
+    let Some(place) = place_of(topology, partition, replica) else {
+        return Err(Stop::NoSuch);
+    };
+    match books[place].run_safe(alloc, limit) {
+        Ran::All(done) => Ok(StepAnswer::All(done)),
+        Ran::Limit(done) => Ok(StepAnswer::Limit(done)),
+        Ran::Memory(_) => Err(Stop::Memory),
+    }
+}
+
+/// A replica sends one message.
+pub(crate) fn send(
+    topology: &Topology,
+    books: &[Book],
+    bag: &mut Vec<ChannelMessage>,
+    partition: PartNo,
+    replica: u8,
+    channel: ChanNo,
+    number: u64,
+) -> Result<StepAnswer, Stop>
+    requires { (w : World (List ℕ)) × IsWorld topology.now books.now bag.old.items w }
+    ensures { (w : World (List ℕ)) → IsWorld topology.now books.now bag.old.items w
+        → Steps topology.now w (step.Data partition replica channel number) result books.now
+        bag.new.items }
+{
+    let Some(place) = sending_place(topology, partition, replica, channel) else {
+        return Err(Stop::NoSuch);
+    };
+    let Some(message) = books[place].data(channel, number)? else {
+        return Err(Stop::NoSuch);
+    };
+    bag.push(ChannelMessage::Data(message))?;
+    Ok(StepAnswer::Frames(1))
+}
+
+/// Message `number` of a channel, which was sent, behind others.
+fn push_message(
+    messages: &mut Vec<ChannelMessage>,
+    book: &Book,
+    channel: ChanNo,
+    number: u64,
+) -> Result<(), AllocError>
+    requires goes { is_outgoing book.now channel ≡ true }
+    requires sent { number < length (sent_on book.now channel) }
+    ensures { OnOk result (IsPushed book.now channel number messages.old.items messages.new.items) }
+{
+    if let Some(message) = book.data(channel, number)? {
+        messages.push(ChannelMessage::Data(message))?;
+    }
+    Ok(())
+}
+
+/// The messages of a channel from number `first` on, of which `count` were sent.
+fn messages_from(
+    alloc: Global,
+    book: &Book,
+    channel: ChanNo,
+    first: u64,
+    count: u64,
+) -> Result<Vec<ChannelMessage>, AllocError>
+    requires goes { is_outgoing book.now channel ≡ true }
+    requires sent { length (sent_on book.now channel) ≡ count }
+    requires there { first ≤ count }
+    ensures { IfOk result (λ v. AreMessages book.now channel first v.items) }
+{
+    let mut messages = Vec::new(alloc);
+    for number in first..count {
+        push_message(&mut messages, book, channel, number)?;
+    }
+    Ok(messages)
+}
+
+/// A replica sends all messages from a number on.
+pub(crate) fn send_again(
+    alloc: Global,
+    topology: &Topology,
+    books: &[Book],
+    bag: &mut Vec<ChannelMessage>,
+    partition: PartNo,
+    replica: u8,
+    channel: ChanNo,
+    number: u64,
+) -> Result<StepAnswer, Stop>
+    requires { (w : World (List ℕ)) × IsWorld topology.now books.now bag.old.items w }
+    ensures { (w : World (List ℕ)) → IsWorld topology.now books.now bag.old.items w
+        → Steps topology.now w (step.Resend partition replica channel number) result books.now
+        bag.new.items }
+{
+    let Some(place) = sending_place(topology, partition, replica, channel) else {
+        return Err(Stop::NoSuch);
+    };
+    let book = &books[place];
+    let Some(count) = book.out_len(channel) else {
+        return Err(Stop::NoSuch);
+    };
+    if number > count {
+        return Err(Stop::NoSuch);
+    }
+    let mut messages = messages_from(alloc, book, channel, number, count)?;
+    bag.append(&mut messages)?;
+    Ok(StepAnswer::Frames(count - number))
+}
+
+/// A replica sends a null message with its promise.
+pub(crate) fn send_null(
+    topology: &Topology,
+    books: &[Book],
+    bag: &mut Vec<ChannelMessage>,
+    partition: PartNo,
+    replica: u8,
+    channel: ChanNo,
+) -> Result<StepAnswer, Stop>
+    requires { (w : World (List ℕ)) × IsWorld topology.now books.now bag.old.items w }
+    ensures { (w : World (List ℕ)) → IsWorld topology.now books.now bag.old.items w
+        → Steps topology.now w (step.Null partition replica channel) result books.now
+        bag.new.items }
+{
+    let Some(place) = sending_place(topology, partition, replica, channel) else {
+        return Err(Stop::NoSuch);
+    };
+    let Some(null) = books[place].null(channel) else {
+        return Err(Stop::NoSuch);
+    };
+    bag.push(ChannelMessage::Null(null))?;
+    Ok(StepAnswer::Frames(1))
+}
+
+/// A replica sends a null message with its old promise.
+pub(crate) fn send_old_null(
+    topology: &Topology,
+    books: &[Book],
+    bag: &mut Vec<ChannelMessage>,
+    partition: PartNo,
+    replica: u8,
+    channel: ChanNo,
+) -> Result<StepAnswer, Stop>
+    requires { (w : World (List ℕ)) × IsWorld topology.now books.now bag.old.items w }
+    ensures { (w : World (List ℕ)) → IsWorld topology.now books.now bag.old.items w
+        → Steps topology.now w (step.OldNull partition replica channel) result books.now
+        bag.new.items }
+{
+    let Some(place) = sending_place(topology, partition, replica, channel) else {
+        return Err(Stop::NoSuch);
+    };
+    let Some(null) = books[place].old_null(channel) else {
+        return Err(Stop::NoSuch);
+    };
+    bag.push(ChannelMessage::Null(null))?;
+    Ok(StepAnswer::Frames(1))
+}
+
+/// A replica refused a frame.
+fn refused(fault: KnowFault) -> Result<StepAnswer, Stop>
+    ensures { result ≡ refusal_of fault }
+{
+    match fault {
+        KnowFault::Memory => Err(Stop::Memory),
+        _ => Ok(StepAnswer::Refused(fault)),
+    }
+}
+
+/// A frame reaches a replica of its receiver.
+pub(crate) fn deliver(
+    topology: &Topology,
+    books: &mut Vec<Book>,
+    bag: &[ChannelMessage],
+    frame: u64,
+    replica: u8,
+) -> Result<StepAnswer, Stop>
+    requires { (w : World (List ℕ)) × IsWorld topology.now books.old.items bag.now w }
+    ensures { (w : World (List ℕ)) → IsWorld topology.now books.old.items bag.now w
+        → Steps topology.now w (step.Deliver frame replica) result books.new.items bag.now }
+{
+    let Some(message) = bag.get(frame as usize) else {
+        return Err(Stop::NoSuch);
+    };
+    channels_are_numbered_by_their_receivers(topology); // law: an interface has its channel
+    channels_are_those_of_the_network(topology); // law: a channel comes in at its receiver
+    let partition = receiver_of(topology, message.channel());
+    let Some(place) = place_of(topology, partition, replica) else {
+        return Err(Stop::NoSuch);
+    };
+    match books[place].accept(message) {
+        Ok(accepted) => Ok(StepAnswer::Accepted(accepted)),
+        Err(AcceptFault::Known(fault)) => refused(fault),
+        Err(AcceptFault::Stranger) => Err(Stop::NoSuch),
+    }
+}
+
+/// A replica merges what her sister, the other replica of her partition, knows.
+pub(crate) fn merge(
+    alloc: Global,
+    topology: &Topology,
+    books: &mut Vec<Book>,
+    partition: PartNo,
+    replica: u8,
+) -> Result<StepAnswer, Stop>
+    requires { (bag : List Message) × (w : World (List ℕ))
+        × IsWorld topology.now books.old.items bag w }
+    ensures { (bag : List Message) (w : World (List ℕ))
+        → IsWorld topology.now books.old.items bag w
+        → Steps topology.now w (step.Merge partition replica) result books.new.items bag }
+{
+    let Some(place) = place_of(topology, partition, replica) else {
+        return Err(Stop::NoSuch);
+    };
+    let sister = if replica == 0 { place + 1 } else { place - 1 };
+    let knowledge = books[sister].copy_knowledge(alloc)?;
+    match books[place].merge(alloc, &knowledge) {
+        Ok(()) => Ok(StepAnswer::Merged),
+        Err(MergeFault::Memory) => Err(Stop::Memory),
+        Err(MergeFault::Channel { channel, fault }) => {
+            Ok(StepAnswer::MergeRefused { channel, fault })
+        }
+        Err(MergeFault::Stranger) => Err(Stop::NoSuch),
+    }
+}
+
+/// A replica is made anew.
+pub(crate) fn restart(
+    alloc: Global,
+    topology: &Arc<Topology>,
+    books: &mut Vec<Book>,
+    partition: PartNo,
+    replica: u8,
+) -> Result<StepAnswer, Stop>
+    requires { (bag : List Message) × (w : World (List ℕ))
+        × IsWorld (arc_value topology.now) books.old.items bag w }
+    ensures { (bag : List Message) (w : World (List ℕ))
+        → IsWorld (arc_value topology.now) books.old.items bag w
+        → Steps (arc_value topology.now) w (step.Restart partition replica) result books.new.items
+        bag }
+{
+    let Some(place) = place_of(topology, partition, replica) else {
+        return Err(Stop::NoSuch);
+    };
+    let shared = topology.clone()?;
+    match Book::new(alloc, shared, partition, replica) {
+        Ok(book) => {
+            books[place] = book;
+            Ok(StepAnswer::Emptied)
+        }
+        Err(BookFault::NoSuch) => Err(Stop::NoSuch),
+        Err(BookFault::Memory) => Err(Stop::Memory),
+    }
+}

@@ -1,0 +1,2 @@
+//! What only a call of `nm_rounds` shows.
+#![tactic(auto)]
