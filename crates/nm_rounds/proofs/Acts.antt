@@ -24,7 +24,7 @@ use Rattle.nm_rounds.specs.declared.step.StepAnswer.TheVariants as answer
 use Rattle.nm_rounds.specs.declared.step.WorldStep.{WorldStep}
 use Rattle.nm_rounds.specs.declared.step.WorldStep.TheVariants as step
 use Rattle.nm_rounds.specs.declared.world.Stop.TheVariants as stop
-use Rattle.nm_rounds.proofs.Standing.{is_replica_is, there_is, put_book, put_frames}
+use Rattle.nm_rounds.proofs.Standing.{set_same, is_replica_is, there_is, put_book, put_frames}
 
 -- what is said of a book's own topology, partition and replica
 pub moved : (Q : TopologyValue → ℕ → model.Replica (List ℕ) → Type 0) (t : TopologyValue) (p r : ℕ) (b : BookValue) (x : model.Replica (List ℕ)) → IsReplicaOf t p r b x
@@ -124,6 +124,13 @@ module _ (t : TopologyValue) (books : List BookValue) (bag : List ChannelMessage
   -- the world with another book there
   pub with_book : (y : model.Replica (List ℕ)) → IsReplicaOf t p r c y → IsWorld t (slice_set books place c) bag (model.put_replica w p r y)
   with_book y now = subst (λ z. IsWorld t (slice_set books z c) bag (model.put_replica w p r y)) (sym at) (put_book t books bag w stands p r there c y now)
+
+  -- where the book is the same, so is the world
+  pub unchanged_at : c ≡ b → IsWorld t (slice_set books place c) bag w
+  unchanged_at e = subst (λ z. IsWorld t z bag w) (sym (set_same books place b read_here) ∙ ap (slice_set books place) (sym e)) stands
+    where
+      read_here : slice_get books place ≡ Some b
+      read_here = slice_get_read books (length books) place b refl (let n = stands.replicas.count in let h = (there_is t p r there).2 in omega (arith, n, h, at)) read
 
   module _ (limit : ℕ) where
     pub all_steps : (n : ℕ) → Runs b c limit (ran.All n) → Steps t w (step.Run p r limit) (Ok (answer.All n)) (slice_set books place c) bag

@@ -30,7 +30,7 @@ use Rattle.nm_rounds.specs.declared.step.StepAnswer.TheVariants as told
 use Rattle.nm_rounds.specs.declared.step.WorldStep.TheVariants as step
 use Rattle.nm_rounds.specs.declared.world.Stop.TheVariants as stop
 use Rattle.nm_rounds.proofs.Standing.{is_replica_is, put_book, there_is}
-use Rattle.nm_rounds.proofs.Acts.{book_read, step_done, step_names_nothing, with_book}
+use Rattle.nm_rounds.proofs.Acts.{unchanged_at, book_read, step_done, step_names_nothing, with_book}
 
 pub past_the_bag : {X : Type 0} (l : List X) (i : ℕ) → ltb i (length l) ≡ false → slice_get l i ≡ None
 past_the_bag l i e = slice_get_past l i (grind (arith, nat_tests, e))
@@ -43,12 +43,6 @@ pub nth_map : {X Y : Type 0} (f : X → Y) (l : List X) (i : ℕ) → nth (map f
 nth_map f [] i = refl
 nth_map f (x ∷ l) zero = refl
 nth_map f (x ∷ l) (suc i) = nth_map f l i
-
--- to set what is there changes nothing
-pub set_same : {X : Type 0} (l : List X) (i : ℕ) (x : X) → slice_get l i ≡ Some x → slice_set l i x ≡ l
-set_same [] i x e = refl
-set_same (y ∷ l) zero x e = let f : y ≡ x = cc in ap (λ z. z ∷ l) (sym f)
-set_same (y ∷ l) (suc i) x e = ap (λ z. y ∷ z) (set_same l i x e)
 
 -- what the model's function says of a message over some knowledge of its channel
 abbrev pub said_of : Know (List ℕ) → ChannelMessage → accept.Accepted (List ℕ)
@@ -173,13 +167,6 @@ module _ (t : TopologyValue) (books : List BookValue) (bag : List ChannelMessage
         quiet = λ d out. set_elsewhere b.knows ch d after (λ same. absurd (let f : true ≡ false = sym incoming ∙ ap (is_incoming b) same ∙ out in cc)) ∙ is.quiet d out;
       })
 
-      -- the world stays as it is where the book does
-      unchanged : c ≡ b → IsWorld t (slice_set books place c) bag w
-      unchanged e = subst (λ z. IsWorld t z bag w) (sym (set_same books place b read_here) ∙ ap (slice_set books place) (sym e)) stands
-        where
-          read_here : slice_get books place ≡ Some b
-          read_here = slice_get_read books (length books) place b refl (let n = stands.replicas.count in let h = (there_is t p r there).2 in omega (arith, n, h, at)) read
-
       taken : message_taken b.knows m ≡ said_of (x.knowledge iface) m
       taken = taken_is b.knows m ∙ ap (λ a. said_of a m) (sym knows_it)
 
@@ -214,7 +201,7 @@ module _ (t : TopologyValue) (books : List BookValue) (bag : List ChannelMessage
               (learned (said_of (x.knowledge iface) m).after (h.same ∙ ap (λ z. record b { knows = z }) (same ∙ sym (set-get_or b.knows ch nothing_known) ∙ ap (slice_set b.knows ch) (sym keeps)))))
 
           by_fault : (f : KnowFault) → Learns b.knows c.knows ch (message_taken b.knows m) (Err (Known f)) → Steps t w (step.Deliver i r) (refusal_of f) (slice_set books place c) bag
-          by_fault fault.Memory l = unchanged (h.same ∙ ap (λ z. record b { knows = z }) l.1)
+          by_fault fault.Memory l = unchanged_at t books bag w stands p r there place at b c read (h.same ∙ ap (λ z. record b { knows = z }) l.1)
           by_fault (fault.Gap n) l = for_reason (fault.Gap n) l.0 l.1
           by_fault (fault.Differs n) l = for_reason (fault.Differs n) l.0 l.1
           by_fault (fault.Late n) l = for_reason (fault.Late n) l.0 l.1

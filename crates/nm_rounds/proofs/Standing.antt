@@ -30,6 +30,12 @@ get_append [] m i x e = inr (i, e)
 get_append (y ∷ l) m zero x e = inl e
 get_append (y ∷ l) m (suc i) x e = get_append l m i x e
 
+-- to set what is there changes nothing
+pub set_same : {X : Type 0} (l : List X) (i : ℕ) (x : X) → slice_get l i ≡ Some x → slice_set l i x ≡ l
+set_same [] i x e = refl
+set_same (y ∷ l) zero x e = let f : y ≡ x = cc in ap (λ z. z ∷ l) (sym f)
+set_same (y ∷ l) (suc i) x e = ap (λ z. y ∷ z) (set_same l i x e)
+
 -- what is there only if a test holds
 pub is_there : {X : Type 0} (b : Bool) (x y : X) → only_if b x ≡ Some y → (b ≡ true) × (y ≡ x)
 is_there true x y e = (refl, let f : x ≡ y = cc in sym f)

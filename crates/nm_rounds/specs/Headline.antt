@@ -48,7 +48,7 @@ IsNoRefusal (Frames n) = Unit {0}
 IsNoRefusal (Accepted a) = Unit {0}
 IsNoRefusal (Refused f) = IsGap f
 IsNoRefusal Merged = Unit {0}
-IsNoRefusal (MergeRefused c f) = ⊥
+IsNoRefusal (MergeRefused f) = ⊥
 IsNoRefusal Emptied = Unit {0}
 
 module _ (t : TopologyValue) where

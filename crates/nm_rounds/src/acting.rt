@@ -5,7 +5,7 @@ ghost use Rattle.std.specs.Arc.{arc_value};
 ghost use Rattle.nm_book.specs.Book.{is_outgoing, sent_on};
 ghost use Rattle.nm_book.specs.declared.message.ChannelMessage.{ChannelMessage as Message};
 ghost use Rattle.nm_model.specs.World.{World};
-ghost use Rattle.nm_rounds.specs.World.{AreMessages, IsPushed, IsWorld, Steps, refusal_of};
+ghost use Rattle.nm_rounds.specs.World.{AreMessages, IsPushed, IsWorld, Steps, merge_answer_of, refusal_of};
 ghost use Rattle.nm_rounds.specs.declared.step.WorldStep.TheVariants as step;
 
 use crate::places::{place_of, sending_place};
@@ -17,7 +17,9 @@ use nm_book::{AcceptFault, Book, BookFault, ChannelMessage, MergeFault, Ran};
 use nm_knowledge::KnowFault;
 use nm_sim::network::channels_are_those_of_the_network;
 use nm_topology::Topology;
-use nm_topology::topology::channels_are_numbered_by_their_receivers;
+use nm_topology::topology::{
+    accepted_topologies_are_in_order, channels_are_numbered_by_their_receivers,
+};
 use std::alloc::{AllocError, Global};
 use std::sync::Arc;
 
@@ -225,6 +227,18 @@ pub(crate) fn deliver(
     }
 }
 
+/// What a merge answers. That the knowledge is a stranger's does not happen between sisters.
+fn merge_answer(merged: Result<(), MergeFault>) -> Result<StepAnswer, Stop>
+    ensures { result ≡ merge_answer_of merged }
+{
+    match merged {
+        Ok(()) => Ok(StepAnswer::Merged),
+        Err(MergeFault::Memory) => Err(Stop::Memory),
+        Err(MergeFault::Stranger) => Err(Stop::NoSuch),
+        Err(fault) => Ok(StepAnswer::MergeRefused(fault)),
+    }
+}
+
 /// A replica merges what her sister, the other replica of her partition, knows.
 pub(crate) fn merge(
     alloc: Global,
@@ -242,16 +256,12 @@ pub(crate) fn merge(
     let Some(place) = place_of(topology, partition, replica) else {
         return Err(Stop::NoSuch);
     };
+    accepted_topologies_are_in_order(topology); // law: the receivers of channels rise
+    channels_are_numbered_by_their_receivers(topology); // law: an interface has its channel
     let sister = if replica == 0 { place + 1 } else { place - 1 };
     let knowledge = books[sister].copy_knowledge(alloc)?;
-    match books[place].merge(alloc, &knowledge) {
-        Ok(()) => Ok(StepAnswer::Merged),
-        Err(MergeFault::Memory) => Err(Stop::Memory),
-        Err(MergeFault::Channel { channel, fault }) => {
-            Ok(StepAnswer::MergeRefused { channel, fault })
-        }
-        Err(MergeFault::Stranger) => Err(Stop::NoSuch),
-    }
+    let result = books[place].merge(alloc, &knowledge);
+    merge_answer(result)
 }
 
 /// A replica is made anew.
