@@ -3,3 +3,4 @@ mod Acts
 mod Sends
 mod Deliveries
 mod Mergings
+mod Replays

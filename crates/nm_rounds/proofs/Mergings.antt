@@ -252,3 +252,47 @@ module _ (t : TopologyValue) (books : List BookValue) (bag : List ChannelMessage
       step_done t w (step.Merge p r) (slice_set books place c) bag w (model.MergeRefused i some.0) (told.MergeRefused (refusal.Channel d f)) (merge_is (Some (i, some.0)) fault_is)
       (ap (option_map (model.MergeRefused i)) some.1)
       (as_before (h.same ∙ ap (λ z. record b { knows = z }) h.merges.2))
+
+-- where her sister stands
+pub beside_zero : (p r place n : ℕ) → place ≡ 2 * p + r → r ≡ 0 → n ≡ place + 1 → n ≡ 2 * p + model.sister r
+beside_zero p zero place n at e f = omega (arith, at, f)
+beside_zero p (suc r) place n at e f = absurd (omega (arith, e))
+
+pub beside_one : (p r place n : ℕ) → place ≡ 2 * p + r → r < 2 → (r ≡ 0 → ⊥) → n ≡ place - 1 → n ≡ 2 * p + model.sister r
+beside_one p zero place n at two e f = absurd (e refl)
+beside_one p (suc zero) place n at two e f = omega (arith, at, f)
+beside_one p (suc (suc r)) place n at two e f = absurd (omega (arith, two))
+
+-- there is no such replica
+pub no_merge : (t : TopologyValue) (books : List BookValue) (bag : List ChannelMessage) (w : model.World (List ℕ)) → IsWorld t books bag w → (p r : ℕ) → is_replica t p r ≡ false
+    → Steps t w (step.Merge p r) (Err stop.NoSuch) books bag
+no_merge t books bag w stands p r lacks =
+    step_names_nothing t w (step.Merge p r) books bag
+    (ap (λ z. cond z (model.merges w p r (w.replica p (model.sister r)).knowledge (join_faults same_octets (w.replica p r).knowledge (w.replica p (model.sister r)).knowledge (net_of t).ifaces)) (w, model.NoSuch)) (there_too t w p r false lacks)) stands
+
+pub no_restart : (t : TopologyValue) (books : List BookValue) (bag : List ChannelMessage) (w : model.World (List ℕ)) → IsWorld t books bag w → (p r : ℕ) → is_replica t p r ≡ false
+    → Steps t w (step.Restart p r) (Err stop.NoSuch) books bag
+no_restart t books bag w stands p r lacks =
+    step_names_nothing t w (step.Restart p r) books bag (ap (λ z. cond z (model.put_replica w p r model.fresh, model.Emptied) (w, model.NoSuch)) (there_too t w p r false lacks)) stands
+
+-- a replica made anew
+pub fresh_book : (t : TopologyValue) (p r : ℕ) (b : BookValue)
+    → b ≡ record { topology = t; partition = p; replica = r; knows = replicate (length t.receivers) nothing_known; events = 0; handed = 0 } → IsReplicaOf t p r b model.fresh
+fresh_book t p r b e = subst (λ z. IsReplicaOf t p r z model.fresh) (sym e) (record {
+  topology = refl;
+  partition = refl;
+  number = refl;
+  replica = ap (λ K. record { knowledge = K; ran = 0 }) (is_nothing t (length t.receivers));
+  handed = refl;
+  count = length-replicate (length t.receivers) nothing_known;
+  quiet = λ c out. nothing_at (length t.receivers) c;
+})
+
+pub restart_steps : (t : TopologyValue) (books : List BookValue) (bag : List ChannelMessage) (w : model.World (List ℕ)) → IsWorld t books bag w → (p r : ℕ) → is_replica t p r ≡ true
+    → (place : ℕ) → place ≡ 2 * p + r → (b : BookValue)
+    → b ≡ record { topology = t; partition = p; replica = r; knows = replicate (length t.receivers) nothing_known; events = 0; handed = 0 }
+    → Steps t w (step.Restart p r) (Ok told.Emptied) (slice_set books place b) bag
+restart_steps t books bag w stands p r there place at b e =
+    step_done t w (step.Restart p r) (slice_set books place b) bag (model.put_replica w p r model.fresh) model.Emptied told.Emptied
+    (ap (λ z. cond z (model.put_replica w p r model.fresh, model.Emptied) (w, model.NoSuch)) (there_too t w p r true there)) refl
+    (subst (λ z. IsWorld t (slice_set books z b) bag (model.put_replica w p r model.fresh)) (sym at) (put_book t books bag w stands p r there b model.fresh (fresh_book t p r b e)))

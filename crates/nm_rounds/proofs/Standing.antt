@@ -70,7 +70,7 @@ there_is t p r h =
     parts false b h = absurd (let e : false ≡ true = h in cc)
 
 -- two places are one only for one replica
-places_apart : (p r q s : ℕ) → r < 2 → s < 2 → 2 * q + s ≡ 2 * p + r → (q ≡ p) × (s ≡ r)
+pub places_apart : (p r q s : ℕ) → r < 2 → s < 2 → 2 * q + s ≡ 2 * p + r → (q ≡ p) × (s ≡ r)
 places_apart p r q s h k e = (omega (arith, h, k, e), omega (arith, h, k, e))
 
 module _ (t : TopologyValue) (books : List BookValue) (w : model.World (List ℕ)) (stands : AreReplicas t books w) (p r : ℕ) (two : r < 2) (x : model.Replica (List ℕ)) where

@@ -2,9 +2,10 @@
 use Rattle.std.specs.Prelude.{◌≡◌, ℕ, ◌<◌, List, [], ◌∷◌, ◌++◌, length, map, take, slice_get, Option, Some, None, Result, Ok, Err}
 use Rattle.nm_topology.specs.Topology.{topology_of}
 use Rattle.nm_topology.specs.TopologyValue.{TopologyValue}
-use Rattle.nm_topology.specs.Fault.{Fails}
+use Rattle.std.specs.Arc.{arc_value}
+use Rattle.nm_topology.specs.declared.fault.Refusal.{Refusal}
 use Rattle.nm_topology.specs.declared.fault.TopoFault.{TopoFault}
-use Rattle.nm_topology.specs.declared.fault.TopoFault.TheVariants.{Refused}
+use Rattle.nm_topology.specs.declared.fault.TopoFault.TheVariants.{Refused, Memory as NoMemory}
 use Rattle.nm_knowledge.specs.Octets.{same_octets}
 use Rattle.nm_model.specs.World as model
 use Rattle.nm_sim.specs.Network.{net_of}
@@ -13,6 +14,9 @@ use Rattle.nm_rounds.specs.World.{AreReplicas, happens, outcome_of, step_of}
 use Rattle.nm_rounds.specs.declared.step.StepAnswer.{StepAnswer}
 use Rattle.nm_rounds.specs.declared.step.WorldStep.{WorldStep}
 use Rattle.nm_rounds.specs.declared.step.WorldStep.TheVariants as step
+use Rattle.nm_rounds.specs.declared.fault.ReplayFault.{ReplayFault}
+use Rattle.nm_rounds.specs.declared.fault.ReplayFault.TheVariants.{Topo, Memory as OutOfMemory}
+use Rattle.nm_rounds.specs.declared.replay.WorldReport.{WorldReport}
 use Rattle.nm_rounds.specs.declared.replay.Ending.{Ending}
 use Rattle.nm_rounds.specs.declared.replay.Ending.TheVariants.{Ended, NoSuch, Memory}
 
@@ -56,3 +60,16 @@ pub record IsReplay (t : TopologyValue) (steps : List WorldStep) (answers : List
   pub ends : Ends t steps (length answers) ending did
   pub answered : map (outcome_of t) answers ≡ map Some (answers_of t (first_steps t steps (length answers)))
   pub replicas : AreReplicas t books (world_after t did)
+
+-- why a text is read to no topology
+abbrev pub Refuses : Result TopologyValue Refusal → TopoFault → Type 0
+Refuses read (Refused r) = read ≡ Err r
+Refuses read NoMemory = ⊥
+
+-- A text is read to the report's topology, of which it is a replay; or the text is refused; or memory was refused before the first step.
+abbrev pub Reports : List ℕ → List WorldStep → Result WorldReport ReplayFault → Type 0
+Reports text steps (Ok report) =
+    (topology_of text ≡ Ok (arc_value report.topology))
+    × IsReplay (arc_value report.topology) steps report.answers.items report.books.items report.ending
+Reports text steps (Err (Topo f)) = Refuses (topology_of text) f
+Reports text steps (Err OutOfMemory) = Unit {0}

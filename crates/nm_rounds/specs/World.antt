@@ -81,6 +81,11 @@ pub record AreReplicas (t : TopologyValue) (books : List BookValue) (w : model.W
   pub count : length books ≡ 2 * t.partitions
   pub each : (p r : ℕ) (b : BookValue) → r < 2 → slice_get books (2 * p + r) ≡ Some b → IsReplicaOf t p r b (w.replica p r)
 
+-- the first n of the replicas, by partition and number, which know nothing
+pub record AreFirst (t : TopologyValue) (n : ℕ) (books : List BookValue) : Type 0 where
+  pub count : length books ≡ n
+  pub each : (p r : ℕ) (b : BookValue) → r < 2 → slice_get books (2 * p + r) ≡ Some b → IsReplicaOf t p r b model.fresh
+
 -- the messages are the world's frames, of channels that are there
 pub record AreFrames (t : TopologyValue) (bag : List ChannelMessage) (w : model.World (List ℕ)) : Type 0 where
   pub frames : map (frame_of t) bag ≡ w.bag

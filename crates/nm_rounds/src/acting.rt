@@ -15,6 +15,7 @@ use nm_base::{ChanNo, PartNo};
 use nm_book::channels::receiver_of;
 use nm_book::{AcceptFault, Book, BookFault, ChannelMessage, MergeFault, Ran};
 use nm_knowledge::KnowFault;
+use nm_knowledge::laws::packets_are_told_apart;
 use nm_sim::network::channels_are_those_of_the_network;
 use nm_topology::Topology;
 use nm_topology::topology::{
@@ -258,6 +259,7 @@ pub(crate) fn merge(
     };
     accepted_topologies_are_in_order(topology); // law: the receivers of channels rise
     channels_are_numbered_by_their_receivers(topology); // law: an interface has its channel
+    packets_are_told_apart(); // law: a digest is that of itself
     let sister = if replica == 0 { place + 1 } else { place - 1 };
     let knowledge = books[sister].copy_knowledge(alloc)?;
     let result = books[place].merge(alloc, &knowledge);

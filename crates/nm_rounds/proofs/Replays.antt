@@ -1,0 +1,147 @@
+-- Steps done one after another, and what is reported of them.
+use Rattle.std.proofs.Common.{◌≡◌, ◌≢◌, ◌⊎◌, inl, inr, ℕ, zero, suc, ◌+◌, ◌*◌, ◌<◌, ◌≤◌, Bool, List, [], ◌∷◌, ◌++◌, length, map, take, slice_get, replicate, Option, Some, None, Result, Ok, Err, refl, sym, ◌∙◌, ap, ap₂, subst, arith, ⊎_elim, length-append}
+use Rattle.std.proofs.lemmas.List.{map-append}
+use Rattle.nm_topology.specs.TopologyValue.{TopologyValue}
+use Rattle.nm_knowledge.specs.Octets.{same_octets}
+use Rattle.nm_model.specs.Knowledge.{nothing_known}
+use Rattle.nm_model.specs.World as model
+use Rattle.nm_sim.specs.Network.{net_of}
+use Rattle.nm_book.specs.Book.{BookValue}
+use Rattle.nm_book.specs.declared.message.ChannelMessage.{ChannelMessage}
+use Rattle.nm_rounds.specs.World.{AreFirst, AreReplicas, IsReplicaOf, IsWorld, Steps, happens, outcome_of, step_of}
+use Rattle.nm_rounds.specs.Replay.{Ends, IsInterrupted, IsReplay, NamesNothing, answers_of, first_steps, world_after}
+use Rattle.nm_rounds.specs.declared.replay.Ending.TheVariants as ending
+use Rattle.nm_rounds.specs.declared.step.StepAnswer.{StepAnswer}
+use Rattle.nm_rounds.specs.declared.step.WorldStep.{WorldStep}
+use Rattle.nm_rounds.specs.declared.step.WorldStep.TheVariants as step
+use Rattle.nm_rounds.specs.declared.world.Stop.TheVariants as stop
+use Rattle.nm_rounds.proofs.Mergings.{fresh_book}
+use Rattle.nm_rounds.proofs.Standing.{get_append, places_apart}
+
+take_next : {X : Type 0} (l : List X) (n : ℕ) (x : X) → slice_get l n ≡ Some x → take (suc n) l ≡ take n l ++ x ∷ []
+take_next [] n x e = absurd (let g : None ≡ Some x = e in cc)
+take_next (y ∷ l) zero x e = let g : y ≡ x = cc in ap (λ z. z ∷ []) g
+take_next (y ∷ l) (suc n) x e = ap (λ z. y ∷ z) (take_next l n x e)
+
+take_all : {X : Type 0} (l : List X) (n : ℕ) → length l ≤ n → take n l ≡ l
+take_all [] zero h = refl
+take_all [] (suc n) h = refl
+take_all (y ∷ l) zero h = absurd (omega (arith, h))
+take_all (y ∷ l) (suc n) h = ap (λ z. y ∷ z) (take_all l n (omega (arith, h)))
+
+module _ (t : TopologyValue) where
+  world_more : (xs ys : List model.Step) (w : model.World (List ℕ)) → model.world (net_of t) same_octets (xs ++ ys) w ≡ model.world (net_of t) same_octets ys (model.world (net_of t) same_octets xs w)
+  world_more [] ys w = refl
+  world_more (x ∷ xs) ys w = world_more xs ys (model.happens (net_of t) same_octets w x).0
+
+  answers_more : (xs ys : List model.Step) (w : model.World (List ℕ))
+      → model.answers (net_of t) same_octets (xs ++ ys) w ≡ model.answers (net_of t) same_octets xs w ++ model.answers (net_of t) same_octets ys (model.world (net_of t) same_octets xs w)
+  answers_more [] ys w = refl
+  answers_more (x ∷ xs) ys w = ap (λ z. (model.happens (net_of t) same_octets w x).1 ∷ z) (answers_more xs ys (model.happens (net_of t) same_octets w x).0)
+
+  module _ (steps : List WorldStep) where
+    steps_more : (n : ℕ) (s : WorldStep) → slice_get steps n ≡ Some s → first_steps t steps (suc n) ≡ first_steps t steps n ++ step_of t s ∷ []
+    steps_more n s e = ap (map (step_of t)) (take_next steps n s e) ∙ map-append (step_of t) (take n steps) (s ∷ [])
+
+    -- so many steps were done
+    pub record IsReplaying (n : ℕ) (answers : List StepAnswer) (books : List BookValue) (bag : List ChannelMessage) : Type 0 where
+      pub count : length answers ≡ n
+      pub stands : IsWorld t books bag (world_after t (first_steps t steps n))
+      pub answered : map (outcome_of t) answers ≡ map Some (answers_of t (first_steps t steps n))
+
+    pub begins : (books : List BookValue) → IsWorld t books [] model.opening → IsReplaying 0 [] books []
+    begins books stands = record { count = refl; stands = stands; answered = refl }
+
+    -- one more was
+    pub goes_on : (n : ℕ) (answers : List StepAnswer) (old new : List BookValue) (bag more : List ChannelMessage) (s : WorldStep) (a : StepAnswer) → IsReplaying n answers old bag → slice_get steps n ≡ Some s
+        → Steps t (world_after t (first_steps t steps n)) s (Ok a) new more → IsReplaying (suc n) (answers ++ a ∷ []) new more
+    goes_on n answers old new bag more s a h e did =
+        let did_more = steps_more n s e in
+        record {
+          count = let l = length-append answers (a ∷ []) in let c = h.count in omega (arith, l, c);
+          stands = subst (IsWorld t new more) (sym (ap (world_after t) did_more ∙ world_more (first_steps t steps n) (step_of t s ∷ []) model.opening)) did.1;
+          answered =
+              map-append (outcome_of t) answers (a ∷ [])
+              ∙ ap₂ (λ k l. k ++ l ∷ []) h.answered did.0
+              ∙ sym (map-append Some (answers_of t (first_steps t steps n)) ((happens t (world_after t (first_steps t steps n)) s).1 ∷ []))
+              ∙ ap (map Some) (sym (ap (answers_of t) did_more ∙ answers_more (first_steps t steps n) (step_of t s ∷ []) model.opening));
+        }
+
+    -- all were
+    pub ended : (n : ℕ) (answers : List StepAnswer) (books : List BookValue) (bag : List ChannelMessage) → IsReplaying n answers books bag → n ≡ length steps → IsReplay t steps answers books ending.Ended
+    ended n answers books bag h all = record {
+      did = first_steps t steps (length answers);
+      ends = (h.count ∙ all, refl);
+      answered = subst (λ k. map (outcome_of t) answers ≡ map Some (answers_of t (first_steps t steps k))) (sym h.count) h.answered;
+      replicas = subst (λ k. AreReplicas t books (world_after t (first_steps t steps k))) (sym h.count) h.stands.replicas;
+    }
+
+    -- the next one names what is not there
+    pub named_nothing : (n : ℕ) (answers : List StepAnswer) (old new : List BookValue) (bag more : List ChannelMessage) (s : WorldStep) → IsReplaying n answers old bag → slice_get steps n ≡ Some s
+        → Steps t (world_after t (first_steps t steps n)) s (Err stop.NoSuch) new more → IsReplay t steps answers new (ending.NoSuch n)
+    named_nothing n answers old new bag more s h e did = record {
+      did = first_steps t steps n;
+      ends = (h.count, refl, subst (NamesNothing t (world_after t (first_steps t steps n))) (sym e) did.0);
+      answered = subst (λ k. map (outcome_of t) answers ≡ map Some (answers_of t (first_steps t steps k))) (sym h.count) h.answered;
+      replicas = did.1.replicas;
+    }
+
+    -- at the next one memory was refused
+    pub was_interrupted : (n : ℕ) (answers : List StepAnswer) (old new : List BookValue) (bag more : List ChannelMessage) (s : WorldStep) → IsReplaying n answers old bag → slice_get steps n ≡ Some s
+        → Steps t (world_after t (first_steps t steps n)) s (Err stop.Memory) new more → IsReplay t steps answers new (ending.Memory n)
+    was_interrupted n answers old new bag more s h e did = go s e did
+      where
+        answered : map (outcome_of t) answers ≡ map Some (answers_of t (first_steps t steps (length answers)))
+        answered = subst (λ k. map (outcome_of t) answers ≡ map Some (answers_of t (first_steps t steps k))) (sym h.count) h.answered
+
+        as_was : (s : WorldStep) → slice_get steps n ≡ Some s → IsInterrupted (Some s) (first_steps t steps n) (first_steps t steps n) → IsWorld t new more (world_after t (first_steps t steps n)) → IsReplay t steps answers new (ending.Memory n)
+        as_was s e was stands = record {
+          did = first_steps t steps n;
+          ends = (h.count, subst (λ o. IsInterrupted o (first_steps t steps n) (first_steps t steps n)) (sym e) was);
+          answered = answered;
+          replicas = stands.replicas;
+        }
+
+        go : (s : WorldStep) → slice_get steps n ≡ Some s → Steps t (world_after t (first_steps t steps n)) s (Err stop.Memory) new more → IsReplay t steps answers new (ending.Memory n)
+        go (step.Run p r limit) e cut = record {
+          did = first_steps t steps n ++ model.Run p r cut.0 ∷ [];
+          ends = (h.count, subst (λ o. IsInterrupted o (first_steps t steps n) (first_steps t steps n ++ model.Run p r cut.0 ∷ [])) (sym e) (cut.0, cut.1, refl));
+          answered = answered;
+          replicas = (subst (IsWorld t new more) (sym (world_more (first_steps t steps n) (model.Run p r cut.0 ∷ []) model.opening)) cut.2).replicas;
+        }
+        go (step.Data p r c m) e stands = as_was (step.Data p r c m) e refl stands
+        go (step.Resend p r c m) e stands = as_was (step.Resend p r c m) e refl stands
+        go (step.Null p r c) e stands = as_was (step.Null p r c) e refl stands
+        go (step.OldNull p r c) e stands = as_was (step.OldNull p r c) e refl stands
+        go (step.Deliver i r) e stands = as_was (step.Deliver i r) e refl stands
+        go (step.Merge p r) e stands = as_was (step.Merge p r) e refl stands
+        go (step.Restart p r) e stands = as_was (step.Restart p r) e refl stands
+
+  -- the replicas at the start, one after another
+  pub first_none : AreFirst t 0 []
+  first_none = record { count = refl; each = λ p r b h e. absurd (let g : None ≡ Some b = e in cc) }
+
+  pub first_more : (p r : ℕ) (books : List BookValue) (b : BookValue) → r < 2 → AreFirst t (2 * p + r) books
+      → b ≡ record { topology = t; partition = p; replica = r; knows = replicate (length t.receivers) nothing_known; events = 0; handed = 0 } → AreFirst t (2 * p + r + 1) (books ++ b ∷ [])
+  first_more p r books b two h e = record {
+    count = let l = length-append books (b ∷ []) in let c = h.count in omega (arith, l, c);
+    each = λ q s d low f. at q s d low f (get_last books b (2 * q + s) d f);
+  }
+    where
+      get_last : (l : List BookValue) (x : BookValue) (i : ℕ) (y : BookValue) → slice_get (l ++ x ∷ []) i ≡ Some y → (slice_get l i ≡ Some y) ⊎ ((i ≡ length l) × (x ≡ y))
+      get_last [] x zero y e = inr (refl, let g : x ≡ y = cc in g)
+      get_last [] x (suc i) y e = absurd (let g : None ≡ Some y = e in cc)
+      get_last (z ∷ l) x zero y e = inl e
+      get_last (z ∷ l) x (suc i) y e = ⊎_elim (λ f. inl f) (λ f. inr (ap suc f.0, f.1)) (get_last l x i y e)
+
+      at : (q s : ℕ) (d : BookValue) → s < 2 → slice_get (books ++ b ∷ []) (2 * q + s) ≡ Some d → (slice_get books (2 * q + s) ≡ Some d) ⊎ ((2 * q + s ≡ length books) × (b ≡ d)) → IsReplicaOf t q s d model.fresh
+      at q s d low f (inl g) = h.each q s d low g
+      at q s d low f (inr g) =
+          let one = places_apart p r q s two low (g.0 ∙ h.count) in
+          subst (λ z. IsReplicaOf t z s d model.fresh) (sym one.0) (subst (λ z. IsReplicaOf t p z d model.fresh) (sym one.1) (subst (λ z. IsReplicaOf t p r z model.fresh) g.1 (fresh_book t p r b e)))
+
+  pub all_first : (books : List BookValue) → AreFirst t (2 * t.partitions) books → IsWorld t books [] model.opening
+  all_first books h = record {
+    replicas = record { count = h.count; each = h.each };
+    sent = record { frames = refl; named = λ i m e. absurd (let g : None ≡ Some m = e in cc) };
+  }
