@@ -1,0 +1,4 @@
+//! Many replicas: whether what they did is what the whole network does.
+#![tactic(auto)]
+
+pub mod same_topology;
