@@ -1,5 +1,5 @@
 -- What steps of a certificate find, put together.
-use Rattle.std.proofs.Common.{◌≡◌, ℕ, zero, suc, ◌<◌, ◌&&◌, not, ltb, All, Bool, true, false, cond, List, [], ◌∷◌, length, get_or, Option, Some, None, Result, Ok, Err, refl, sym, ap, ap₂, ◌∙◌, subst, arith, ⊎_elim}
+use Rattle.std.proofs.Common.{◌≡◌, ◌↔◌, IsOk, ℕ, zero, suc, ◌<◌, ◌&&◌, not, ltb, All, Bool, true, false, cond, List, [], ◌∷◌, length, get_or, Option, Some, None, Result, Ok, Err, refl, sym, ap, ap₂, ◌∙◌, subst, arith, ⊎_elim}
 use Rattle.std.proofs.lemmas.Bool.{cases_lt}
 use Rattle.nm_topology.specs.Topology.{receiving_iface}
 use Rattle.nm_topology.specs.TopologyValue.{TopologyValue}
@@ -10,6 +10,7 @@ use Rattle.nm_model.specs.Join.{or_else}
 use Rattle.nm_model.specs.Knowledge.{Know}
 use Rattle.nm_model.specs.Lists.{nth}
 use Rattle.nm_model.specs.Promise.{Tight}
+use Rattle.nm_model.proofs.ListLemmas.{not_some}
 use Rattle.nm_model.specs.Replica.{IsWithin, from_scratch}
 use Rattle.nm_knowledge.specs.Octets.{same_octets}
 use Rattle.nm_sim.specs.Network.{net_of}
@@ -131,3 +132,16 @@ module _ (t : TopologyValue) (books : List BookValue) (ours : AreOf t books) whe
           let r = was_book books i b e in
           subst (λ (z : Book (List ℕ)). IsWithin (net_of t) z.part z.replica.knowledge z.replica.ran) r.3
           (subst (IsWithinSafe t) r.2 (within i r.0 r.1))
+
+  -- the answer is Ok exactly where the books are certified
+  module _ (complete : IsCertified (net_of t) Tight (books_of books) → certify (net_of t) same_octets Tight (books_of books) ≡ None) where
+    pub not_certified : (e : CertFault) → Finds t (certify (net_of t) same_octets Tight (books_of books)) (Err e)
+        → IsOk {T = Unit} (Err e) ↔ (AreOf t books × IsCertified (net_of t) Tight (books_of books))
+    not_certified e h =
+        let f = found t (certify (net_of t) same_octets Tight (books_of books)) e h in
+        ((λ ok. absurd (cc)), (λ both. absurd (not_some f.0 (sym (complete both.1) ∙ f.1))))
+
+    pub exactly : (r : Result Unit CertFault) → Finds t (certify (net_of t) same_octets Tight (books_of books)) r → Certifies t books r
+        → IsOk r ↔ (AreOf t books × IsCertified (net_of t) Tight (books_of books))
+    exactly (Ok u) h shown = ((λ ok. (ours, shown.certified)), (λ both. refl))
+    exactly (Err e) h shown = not_certified e h

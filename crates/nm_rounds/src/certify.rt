@@ -1,12 +1,12 @@
 //! The certificate: whether books, however they came to know what they know, have the traces of
 //! the whole network.
 
-ghost use Rattle.std.specs.Prelude.{◌≡◌, ℕ, ◌<◌, true, false, if◌then◌else◌, All, Contains, List, length, map, Some, None, OnOk};
+ghost use Rattle.std.specs.Prelude.{◌≡◌, ◌↔◌, ℕ, ◌<◌, true, false, if◌then◌else◌, All, Contains, List, length, map, Some, None, IsOk, OnOk};
 ghost use Rattle.std.specs.Option.{option_map};
 ghost use Rattle.nm_topology.specs.Topology.{receiving_iface};
 ghost use Rattle.nm_topology.specs.TopologyValue.{TopologyValue};
 ghost use Rattle.nm_model.specs.Accept.{last_from};
-ghost use Rattle.nm_model.specs.Certificate.{Book as ModelBook, PrefixFault, ClockFault};
+ghost use Rattle.nm_model.specs.Certificate.{Book as ModelBook, IsCertified, PrefixFault, ClockFault};
 ghost use Rattle.nm_model.specs.Certificate.{book_fault, clock_fault, first_below, first_of, has_part, is_done, prefix_fault};
 ghost use Rattle.nm_model.specs.Lists.{nth};
 ghost use Rattle.nm_model.specs.Partition.{comes_in};
@@ -329,7 +329,9 @@ fn check_channels(topology: &Topology, books: &[&Book]) -> Result<(), CertFault>
 /// the partition of the first book that is not done. Then by receiving book in the order given, by
 /// incoming channel and by sending book in the order given: `Prefix`, `Clock` or `Promise`.
 pub fn certify(topology: &Topology, books: &[&Book]) -> Result<(), CertFault>
-    ensures { Certifies topology.now (map (λ b. b.now) books.now) result }
+    ensures answer { Certifies topology.now (map (λ b. b.now) books.now) result }
+    ensures exact { IsOk result ↔ (AreOf topology.now (map (λ b. b.now) books.now)
+        × IsCertified (net_of topology.now) Tight (books_of (map (λ b. b.now) books.now))) }
 {
     every_topology_is_a_network(topology); // law: `net_of` is a network of the model
     the_digest_is_no_part_of_the_network(); // law: all books have its network
