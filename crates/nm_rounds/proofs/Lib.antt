@@ -1,3 +1,3 @@
-mod Listing
-mod Checks
-mod Channels
+mod CertifyChannels
+mod CertifyLists
+mod CertifySteps

@@ -2,7 +2,7 @@ use Rattle.std.proofs.Common.{◌<◌, ◌≤◌, IsTrue, false, All, length, sy
 use Rattle.std.proofs.lemmas.List.Elements.{All-map, All-more}
 use Rattle.std.proofs.lemmas.List.{take_all}
 use Rattle.nm_rounds.specs.SameTopology.{SaysSame}
-use Rattle.nm_rounds.proofs.Listing.{is_contained}
+use Rattle.nm_rounds.proofs.CertifyLists.{is_contained}
 use Rattle.nm_rounds.proofs.certify.are_of.Goals as goal
 
 pub returns-then-not-same_topology-clause-other : goal.returns-then-not-same_topology-clause-other

@@ -7,7 +7,7 @@ use Rattle.nm_knowledge.specs.Octets.{same_octets}
 use Rattle.nm_sim.specs.Network.{net_of}
 use Rattle.nm_rounds.specs.Certify.{AreOf, Certifies, Finds, books_of, missing, unfinished}
 use Rattle.nm_rounds.specs.SameTopology.{SaysSame}
-use Rattle.nm_rounds.proofs.Checks.{all_certified, answered, exactly, first_step, next_step, not_certified, parts_are, refused}
+use Rattle.nm_rounds.proofs.CertifySteps.{all_certified, answered, exactly, first_step, next_step, not_certified, parts_are, refused}
 use Rattle.nm_rounds.proofs.certify.certify.Goals as goal
 
 pub returns-then-not-are_of-clause-exact : goal.returns-then-not-are_of-clause-exact

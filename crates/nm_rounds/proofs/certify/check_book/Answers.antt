@@ -6,8 +6,8 @@ use Rattle.nm_model.specs.Promise.{Tight}
 use Rattle.nm_knowledge.specs.Octets.{same_octets}
 use Rattle.nm_sim.specs.Network.{net_of}
 use Rattle.nm_rounds.specs.Certify.{Finds, book_of, books_of, incoming_fault, sender_fault}
-use Rattle.nm_rounds.proofs.Channels.{no_channel, receivers_rise, this_channel}
-use Rattle.nm_rounds.proofs.Checks.{found, ifaces_are}
+use Rattle.nm_rounds.proofs.CertifyChannels.{no_channel, receivers_rise, this_channel}
+use Rattle.nm_rounds.proofs.CertifySteps.{found, ifaces_are}
 use Rattle.nm_rounds.proofs.certify.check_book.Goals as goal
 
 pub returns-in_err-check_senders : goal.returns-in_err-check_senders

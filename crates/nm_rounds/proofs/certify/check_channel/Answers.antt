@@ -1,7 +1,7 @@
 use Rattle.std.proofs.Common.{◌≡◌, ◌&&◌, not, ltb, true, false, ap, ap₂, ◌∙◌, rules}
 use Rattle.nm_topology.specs.Topology.{receiving_iface}
 use Rattle.nm_model.specs.Accept.{last_from}
-use Rattle.nm_rounds.proofs.Checks.{and_no, clock_shown, promise_tested}
+use Rattle.nm_rounds.proofs.CertifySteps.{and_no, clock_shown, promise_tested}
 use Rattle.nm_rounds.proofs.certify.check_channel.Goals.{else-lt-via-then-lt+else-not-is_clock_of_last, else-lt-via-else-lt}
 use Rattle.nm_rounds.proofs.certify.check_channel.Goals as goal
 

@@ -5,8 +5,8 @@ use Rattle.nm_knowledge.specs.Octets.{same_octets}
 use Rattle.nm_sim.specs.Network.{net_of}
 use Rattle.nm_rounds.specs.Certify.{Finds, book_of, books_of}
 use Rattle.nm_rounds.specs.SameTopology.{SaysSame}
-use Rattle.nm_rounds.proofs.Checks.{found}
-use Rattle.nm_rounds.proofs.Listing.{all_at, first_here}
+use Rattle.nm_rounds.proofs.CertifySteps.{found}
+use Rattle.nm_rounds.proofs.CertifyLists.{all_at, first_here}
 use Rattle.nm_rounds.proofs.certify.check_channels.Goals as goal
 
 pub check_book-requires-clause-here : goal.check_book-requires-clause-here

@@ -6,7 +6,7 @@ use Rattle.nm_sim.specs.Network.{net_of}
 use Rattle.nm_book.specs.Book.{replica_of}
 use Rattle.nm_rounds.specs.Certify.{IsWithinSafe, unfinished}
 use Rattle.nm_rounds.specs.SameTopology.{SaysSame}
-use Rattle.nm_rounds.proofs.Listing.{all_at, first_behind}
+use Rattle.nm_rounds.proofs.CertifyLists.{all_at, first_behind}
 use Rattle.nm_rounds.proofs.certify.check_done.Goals as goal
 
 pub within_safe_time-requires : goal.within_safe_time-requires

@@ -1,7 +1,7 @@
 use Rattle.std.proofs.Common.{◌≡◌, ◌<◌, ◌∙◌, false, map, cond, Some, None, sym, ap, rules}
 use Rattle.nm_model.specs.Certificate.{MissingPart, has_part}
 use Rattle.nm_rounds.specs.Certify.{books_of, missing}
-use Rattle.nm_rounds.proofs.Checks.{first_is}
+use Rattle.nm_rounds.proofs.CertifySteps.{first_is}
 use Rattle.nm_rounds.proofs.certify.check_partitions.Goals as goal
 
 pub returns-then-not-has_book : goal.returns-then-not-has_book

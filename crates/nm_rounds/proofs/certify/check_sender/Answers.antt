@@ -8,8 +8,8 @@ use Rattle.nm_knowledge.specs.Octets.{same_octets}
 use Rattle.nm_sim.specs.Network.{net_of}
 use Rattle.nm_book.specs.Book.{is_outgoing, knowledge, promise_on, sent_on}
 use Rattle.nm_rounds.specs.Certify.{Finds, book_of, list_fault, sender_fault}
-use Rattle.nm_rounds.proofs.Channels.{sends}
-use Rattle.nm_rounds.proofs.Checks.{same_net, same_receiver}
+use Rattle.nm_rounds.proofs.CertifyChannels.{sends}
+use Rattle.nm_rounds.proofs.CertifySteps.{same_net, same_receiver}
 use Rattle.nm_rounds.proofs.certify.check_sender.Goals as goal
 
 pub returns-in_default : goal.returns-in_default

@@ -8,9 +8,9 @@ use Rattle.nm_book.specs.Book.{is_incoming, knowledge}
 use Rattle.std.specs.Prelude.{slice_index_or}
 use Rattle.nm_rounds.specs.Certify.{Finds, book_of, books_of, incoming_fault, sender_fault}
 use Rattle.nm_rounds.specs.SameTopology.{SaysSame}
-use Rattle.nm_rounds.proofs.Channels.{comes_here, knows_of}
-use Rattle.nm_rounds.proofs.Checks.{found}
-use Rattle.nm_rounds.proofs.Listing.{all_at, first_behind, first_here, first_past}
+use Rattle.nm_rounds.proofs.CertifyChannels.{comes_here, knows_of}
+use Rattle.nm_rounds.proofs.CertifySteps.{found}
+use Rattle.nm_rounds.proofs.CertifyLists.{all_at, first_behind, first_here, first_past}
 use Rattle.nm_rounds.proofs.certify.check_senders.Goals as goal
 
 pub check_sender-requires : goal.check_sender-requires

@@ -1,7 +1,7 @@
 use Rattle.std.proofs.Common.{◌≡◌, ◌<◌, false, true, length, sym, ◌∙◌, rules}
 use Rattle.nm_model.specs.Lists.{nth}
 use Rattle.nm_rounds.specs.Certify.{is_at}
-use Rattle.nm_rounds.proofs.Listing.{prefix_ends, prefix_goes_on}
+use Rattle.nm_rounds.proofs.CertifyLists.{prefix_ends, prefix_goes_on}
 use Rattle.nm_rounds.proofs.certify.first_difference.Goals as goal
 
 pub returns-then-not-is_sent : goal.returns-then-not-is_sent

@@ -14,7 +14,7 @@ use Rattle.nm_model.proofs.ListLemmas.{bool_cases}
 use Rattle.nm_sim.specs.Network.{net_of}
 use Rattle.nm_book.specs.Book.{BookValue, is_incoming, knowledge, known_at}
 use Rattle.nm_rounds.specs.SameTopology.{SaysSame}
-use Rattle.nm_rounds.proofs.Checks.{first_is, none_below, same_net, same_receiver}
+use Rattle.nm_rounds.proofs.CertifySteps.{first_is, none_below, same_net, same_receiver}
 
 -- of a channel that comes in somewhere: who sends on it is whom it goes out of
 pub sends : {P N : Type 0} (net : Net P N) (p q i : ℕ) → comes_in net q i ≡ true → goes_out net p i ≡ (p == sender_of net i)

@@ -1,0 +1,7 @@
+//! Tests of `nm_rounds`: what no contract says.
+//!
+//! Values come from outside.
+#![tactic(auto)]
+
+#[cfg(test)]
+mod certificates;
