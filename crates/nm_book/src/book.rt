@@ -364,6 +364,19 @@ impl Book {
         Some(self.part.out(channel).len() as u64)
     }
 
+    /// What was sent on a channel, in the order of the messages' numbers, each packet with the time
+    /// at which it arrives, or `None` where the channel does not go out from here. It takes no
+    /// memory.
+    pub fn sent(&self, channel: ChanNo) -> Option<&[(Time, Packet)]>
+        ensures { option_map (λ messages. messages.now) result
+            ≡ only_if (is_outgoing self.now channel) (sent_on self.now channel) }
+    {
+        if !goes_out(&self.topology, self.partition, channel) {
+            return None;
+        }
+        Some(self.part.out(channel))
+    }
+
     /// Message `number` of a channel, or `None` where the channel does not go out from here, or the
     /// message was not sent yet. The packet's octets are shared.
     ///

@@ -4,3 +4,6 @@ mod Sends
 mod Deliveries
 mod Mergings
 mod Replays
+mod CertifyChannels
+mod CertifyLists
+mod CertifySteps

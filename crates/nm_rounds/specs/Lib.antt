@@ -1,3 +1,5 @@
 pub mod World
 pub mod Replay
 pub mod Headline
+pub mod Certify
+pub mod SameTopology

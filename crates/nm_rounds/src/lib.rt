@@ -1,14 +1,18 @@
 //! The world: all replicas of a network's partitions, the frames that they ever sent, and every way
-//! in which these may come.
+//! in which these may come. And the certificate: whether what replicas did is what the whole network
+//! does.
 #![tactic(auto)]
 
 mod acting;
+pub mod certify;
 pub mod fault;
 mod places;
 pub mod replay;
+pub mod same_topology;
 pub mod step;
 mod world;
 
+pub use certify::CertFault;
 pub use fault::ReplayFault;
 pub use replay::{Ending, WorldReport};
 pub use step::{StepAnswer, WorldStep};

@@ -1,2 +1,7 @@
-//! What only a call of `nm_rounds` shows.
+//! Tests of `nm_rounds`: what no contract says.
+//!
+//! Values come from outside.
 #![tactic(auto)]
+
+#[cfg(test)]
+mod certificates;

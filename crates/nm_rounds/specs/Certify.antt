@@ -1,0 +1,102 @@
+-- What a certificate says of books, and what each of its faults shows.
+use Rattle.std.specs.Prelude.{◌≡◌, ℕ, ◌==◌, ◌&&◌, Bool, false, cond, ltb, not, All, Contains, List, length, map, Option, Some, None, Result, Ok, Err}
+use Rattle.nm_topology.specs.Topology.{receiving_iface}
+use Rattle.nm_topology.specs.TopologyValue.{TopologyValue}
+use Rattle.nm_model.specs.Before.{IsBefore, trace}
+use Rattle.nm_model.specs.Accept.{last_from, same_message}
+use Rattle.nm_model.specs.Certificate.{Book, Fault, MissingPart, UnfinishedPart, PrefixFault, ClockFault, PromiseFault, FaultShows, IsCertified}
+use Rattle.nm_model.specs.Certificate.{channel_fault, clock_fault, first_of, has_part, is_done, prefix_fault}
+use Rattle.nm_model.specs.Join.{or_else}
+use Rattle.nm_model.specs.Knowledge.{Know}
+use Rattle.nm_model.specs.Lists.{nth}
+use Rattle.nm_model.specs.Partition.{comes_in, sender_of}
+use Rattle.nm_model.specs.Promise.{Tight}
+use Rattle.nm_model.specs.Replica.{IsWithin}
+use Rattle.nm_knowledge.specs.Octets.{same_octets}
+use Rattle.nm_sim.specs.Network.{net_of}
+use Rattle.nm_book.specs.Book.{BookValue, knowledge, replica_of, state_of}
+use Rattle.nm_rounds.specs.SameTopology.{SaysSame}
+use Rattle.nm_rounds.specs.declared.certify.CertFault.{CertFault}
+use Rattle.nm_rounds.specs.declared.certify.CertFault.TheVariants.{Topology, Missing, Unfinished, Prefix, Clock, Promise}
+
+-- the model's books
+abbrev pub book_of : BookValue → Book (List ℕ)
+book_of b = record { part = b.partition; replica = replica_of b }
+
+abbrev pub books_of : List BookValue → List (Book (List ℕ))
+books_of books = map book_of books
+
+abbrev pub AreOf : TopologyValue → List BookValue → Type 0
+AreOf t books = All (λ b. SaysSame b.topology t) books
+
+-- All are books of this topology, each partition has one, each is done, and on each channel what the receiver knows is what the sender says. Then each
+-- one's trace is the network's, whole.
+pub record AreCertified (t : TopologyValue) (books : List BookValue) : Type 0 where
+  pub ours : AreOf t books
+  pub certified : IsCertified (net_of t) Tight (books_of books)
+  pub traces : (last : ℕ) → IsBefore (net_of t) (net_of t).stop last
+      → All (λ b. (state_of b).records ≡ trace (net_of t) b.partition last) books
+
+-- all are books of this topology, and the model's certificate has this fault
+abbrev pub Shows : TopologyValue → List BookValue → Fault → Type 0
+Shows t books f = AreOf t books × FaultShows (net_of t) Tight (books_of books) f
+
+-- The answer of a certificate. The model names a channel by its receiving interface.
+abbrev pub Certifies : TopologyValue → List BookValue → Result Unit CertFault → Type 0
+Certifies t books (Ok u) = AreCertified t books
+Certifies t books (Err Topology) = (b : BookValue) × Contains books b × (SaysSame b.topology t → ⊥)
+Certifies t books (Err (Missing p)) = Shows t books (MissingPart p)
+Certifies t books (Err (Unfinished p)) = Shows t books (UnfinishedPart p)
+Certifies t books (Err (Prefix c n)) = Shows t books (PrefixFault (receiving_iface t c) n)
+Certifies t books (Err (Clock c)) = Shows t books (ClockFault (receiving_iface t c))
+Certifies t books (Err (Promise c)) = Shows t books (PromiseFault (receiving_iface t c))
+
+-- How it goes: a step's answer is what the model's certificate finds there.
+abbrev pub Finds : TopologyValue → Option Fault → Result Unit CertFault → Type 0
+Finds t found (Ok u) = found ≡ None
+Finds t found (Err Topology) = ⊥
+Finds t found (Err (Missing p)) = found ≡ Some (MissingPart p)
+Finds t found (Err (Unfinished p)) = found ≡ Some (UnfinishedPart p)
+Finds t found (Err (Prefix c n)) = found ≡ Some (PrefixFault (receiving_iface t c) n)
+Finds t found (Err (Clock c)) = found ≡ Some (ClockFault (receiving_iface t c))
+Finds t found (Err (Promise c)) = found ≡ Some (PromiseFault (receiving_iface t c))
+
+-- a partition has no book; a book is not done
+abbrev pub missing : List BookValue → ℕ → Option Fault
+missing books p = cond (has_part p (books_of books)) None (Some (MissingPart p))
+
+abbrev pub unfinished : TopologyValue → Book (List ℕ) → Option Fault
+unfinished t b = cond (is_done (net_of t) b.part b.replica) None (Some (UnfinishedPart b.part))
+
+-- each event that the book did was before the safe time
+abbrev pub IsWithinSafe : TopologyValue → BookValue → Type 0
+IsWithinSafe t b = IsWithin (net_of t) b.partition (knowledge b) b.events
+
+-- both are there, and the same
+abbrev pub is_at : Option (ℕ × List ℕ) → Option (ℕ × List ℕ) → Bool
+is_at None o = false
+is_at (Some x) None = false
+is_at (Some x) (Some y) = same_message same_octets x y
+
+-- the fault of channel c, of which a is known and on which this was sent and promised
+abbrev pub list_fault : ℕ → Know (List ℕ) → List (ℕ × List ℕ) → ℕ → Option Fault
+list_fault c a sent promised =
+    or_else (prefix_fault same_octets c 0 a.list sent)
+    (or_else (clock_fault c a.clock (nth sent (length a.list)))
+    (cond (ltb promised a.clock && not (last_from a.clock a.list)) (Some (PromiseFault c)) None))
+
+-- the fault of channel c between the receiving book r and book s, if that sends on it; and beside each of the books, if it comes into r
+abbrev pub sender_fault : TopologyValue → ℕ → Book (List ℕ) → Book (List ℕ) → Option Fault
+sender_fault t c r s = cond (s.part == sender_of (net_of t) c) (channel_fault (net_of t) same_octets Tight c r s) None
+
+abbrev pub incoming_fault : TopologyValue → List BookValue → Book (List ℕ) → ℕ → Option Fault
+incoming_fault t books r c = cond (comes_in (net_of t) r.part c) (first_of (sender_fault t c r) (books_of books)) None
+
+-- the number by which reports name the fault
+abbrev pub cert_fault_number : CertFault → ℕ
+cert_fault_number (Prefix c n) = 1
+cert_fault_number (Clock c) = 2
+cert_fault_number (Promise c) = 3
+cert_fault_number (Missing p) = 4
+cert_fault_number (Unfinished p) = 5
+cert_fault_number Topology = 6
