@@ -1,0 +1,8 @@
+use Rattle.std.proofs.Common.{◌≡◌, ◌*◌, ◌+◌, sym, ◌∙◌, ap, subst, arith}
+use Rattle.std.specs.Arc.{arc_value}
+use Rattle.nm_rounds.specs.World.{AreFirst}
+use Rattle.nm_rounds.proofs.Replays.{all_first, first_none}
+use Rattle.nm_rounds.proofs.world.all_replicas.Goals as goal
+
+pub loop-partition-init : goal.loop-partition-init
+loop-partition-init c = subst (AreFirst (arc_value c.args.topology.now) 0) (sym c.new-books.ensures.items) (first_none (arc_value c.args.topology.now))
