@@ -4,5 +4,5 @@ pub mod Incoming
 mod Runnings
 mod Safety
 mod Sendings
-mod Sisters
+pub mod Sisters
 pub mod Tellings

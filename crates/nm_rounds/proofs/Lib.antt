@@ -7,3 +7,4 @@ mod Replays
 mod CertifyChannels
 mod CertifyLists
 mod CertifySteps
+mod Headlines

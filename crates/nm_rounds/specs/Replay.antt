@@ -3,6 +3,8 @@ use Rattle.std.specs.Prelude.{◌≡◌, ℕ, ◌<◌, List, [], ◌∷◌, ◌+
 use Rattle.nm_topology.specs.Topology.{topology_of}
 use Rattle.nm_topology.specs.TopologyValue.{TopologyValue}
 use Rattle.std.specs.Arc.{arc_value}
+use Rattle.std.specs.declared.sync.Arc.{Arc}
+use Rattle.std.specs.declared.alloc.Global.{Global}
 use Rattle.nm_topology.specs.declared.fault.Refusal.{Refusal}
 use Rattle.nm_topology.specs.declared.fault.TopoFault.{TopoFault}
 use Rattle.nm_topology.specs.declared.fault.TopoFault.TheVariants.{Refused, Memory as NoMemory}
@@ -65,6 +67,12 @@ pub record IsReplay (t : TopologyValue) (steps : List WorldStep) (answers : List
 abbrev pub Refuses : Result TopologyValue Refusal → TopoFault → Type 0
 Refuses read (Refused r) = read ≡ Err r
 Refuses read NoMemory = ⊥
+
+-- a text is read to a topology, or refused; or memory was
+abbrev pub Reads : List ℕ → Result (Arc TopologyValue Global) ReplayFault → Type 0
+Reads text (Ok shared) = topology_of text ≡ Ok (arc_value shared)
+Reads text (Err (Topo f)) = Refuses (topology_of text) f
+Reads text (Err OutOfMemory) = Unit {0}
 
 -- A text is read to the report's topology, of which it is a replay; or the text is refused; or memory was refused before the first step.
 abbrev pub Reports : List ℕ → List WorldStep → Result WorldReport ReplayFault → Type 0

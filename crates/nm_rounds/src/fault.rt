@@ -1,9 +1,10 @@
 //! Why there is no report.
 
 ghost use Rattle.std.specs.Prelude.{◌≡◌};
+ghost use Rattle.nm_rounds.specs.declared.fault.ReplayFault.TheVariants.{Memory};
 
 use nm_topology::TopoFault;
-use std::alloc::AllocError;
+use std::alloc::{AllocError, AllocFailed};
 use std::fmt;
 use thiserror::Error;
 
@@ -16,4 +17,20 @@ pub enum ReplayFault {
     /// Memory was refused before the first step, in the reading of the text too.
     #[error("out of memory")]
     Memory,
+}
+
+impl From<AllocError> for ReplayFault {
+    ghost from_gives = { λ _ f. f ≡ Memory };
+
+    fn from(_: AllocError) -> Self {
+        ReplayFault::Memory
+    }
+}
+
+impl<T: Drop> From<AllocFailed<T>> for ReplayFault {
+    ghost from_gives = { λ _ f. f ≡ Memory };
+
+    fn from(_: AllocFailed<T>) -> Self {
+        ReplayFault::Memory
+    }
 }

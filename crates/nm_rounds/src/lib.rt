@@ -6,6 +6,7 @@
 mod acting;
 pub mod certify;
 pub mod fault;
+pub mod laws;
 mod places;
 pub mod replay;
 pub mod same_topology;

@@ -4,21 +4,15 @@ ghost use Rattle.std.specs.Prelude.{◌≡◌, ◌≤◌, [], IfOk, length};
 ghost use Rattle.std.specs.Arc.{arc_value};
 ghost use Rattle.std.specs.Vec.{vec_capacity, vec_len};
 ghost use Rattle.nm_model.specs.World.{opening};
-ghost use Rattle.nm_topology.specs.Topology.{topology_of};
 ghost use Rattle.nm_rounds.specs.Headline.{Headline};
-ghost use Rattle.nm_rounds.specs.Replay.{IsReplay, Reports};
+ghost use Rattle.nm_rounds.specs.Replay.{IsReplay, Reads, Reports};
 ghost use Rattle.nm_rounds.specs.World.{IsWorld};
 
 use crate::fault::ReplayFault;
 use crate::step::{StepAnswer, WorldStep};
 use crate::world::{Stop, all_replicas, do_step};
-use nm_base::Packet;
-use nm_book::{Book, ChannelMessage};
-use nm_forward::NodeState;
-use nm_knowledge::laws::packets_are_told_apart;
-use nm_model::replica::equal_knowledge_gives_equal_states;
-use nm_model::world::prefix_theorem;
-use nm_sim::network::every_topology_is_a_network;
+use crate::laws::the_headline_holds_of_every_replay;
+use nm_book::Book;
 use nm_topology::{TopoFault, Topology};
 use std::alloc::Global;
 use std::sync::Arc;
@@ -78,4 +72,49 @@ fn do_steps(
         answers.push_reserved(answer);
     }
     Ending::Ended
+}
+
+/// Reads a topology text.
+fn read(alloc: Global, text: &[u8]) -> Result<Arc<Topology>, ReplayFault>
+    ensures { Reads text.now result }
+{
+    match Topology::read(alloc, text) {
+        Ok(topology) => Ok(Arc::new(alloc, topology)?),
+        Err(TopoFault::Memory) => Err(ReplayFault::Memory),
+        Err(fault) => Err(ReplayFault::Topo(fault)),
+    }
+}
+
+/// Lets replicas 0 and 1 of each partition of the network do these steps, one after another, from
+/// where none knows anything and no frame was sent.
+///
+/// The report's answers and books are those of the model's world over these steps, up to the ending
+/// (`IsReplay`). So the headline holds of them (`Headline`): what each replica knows, did, sent and
+/// promises is what one event list does in its partition, whatever was lost, repeated, late, out of
+/// order, merged or begun anew.
+///
+/// # Errors
+///
+/// `Topo` where the text is refused, with its first fault. `Memory` where memory was refused before
+/// the first step.
+pub fn replay(
+    alloc: Global,
+    text: &[u8],
+    steps: &[WorldStep],
+) -> Result<WorldReport, ReplayFault>
+    ensures report { Reports text.now steps.now result }
+    ensures headline { IfOk result (λ report. Headline (arc_value report.topology)
+        report.answers.items report.books.items) }
+{
+    let topology = read(alloc, text)?;
+    the_headline_holds_of_every_replay(&topology);
+    let mut books = all_replicas(alloc, &topology)?;
+    let mut answers = Vec::with_capacity(alloc, steps.len())?;
+    let ending = do_steps(alloc, &topology, &mut books, steps, &mut answers);
+    Ok(WorldReport {
+        topology,
+        answers,
+        books,
+        ending,
+    })
 }

@@ -1,0 +1,36 @@
+//! The headline.
+
+ghost use Rattle.std.specs.Prelude.{List};
+ghost use Rattle.nm_book.specs.Book.{BookValue};
+ghost use Rattle.nm_rounds.specs.Headline.{Headline};
+ghost use Rattle.nm_rounds.specs.Replay.{IsReplay};
+ghost use Rattle.nm_rounds.specs.declared.replay.Ending.{Ending as AnEnding};
+ghost use Rattle.nm_rounds.specs.declared.step.StepAnswer.{StepAnswer as AnAnswer};
+ghost use Rattle.nm_rounds.specs.declared.step.WorldStep.{WorldStep as AStep};
+
+use nm_base::Packet;
+use nm_forward::NodeState;
+use nm_knowledge::laws::packets_are_told_apart;
+use nm_model::replica::{equal_knowledge_gives_equal_states, safe_time_is_the_least};
+use nm_model::world::{equal_knowledge_gives_equal_replicas, prefix_theorem};
+use nm_sim::network::{channels_are_those_of_the_network, every_topology_is_a_network};
+use nm_topology::Topology;
+use nm_topology::topology::channels_are_numbered_by_their_receivers;
+
+/// Whatever a replay reports, the headline holds of it: for every list of runs, messages sent and
+/// sent again, null messages, deliveries, merges and restarts, what each replica knows, did, sent
+/// and promises is what the network's one event list does.
+pub fn the_headline_holds_of_every_replay(topology: &Topology)
+    ensures { (steps : List AStep) (answers : List AnAnswer) (books : List BookValue)
+        (ending : AnEnding) → IsReplay topology.now steps answers books ending
+        → Headline topology.now answers books }
+{
+    every_topology_is_a_network(topology); // law: `net_of` is a network of the model
+    channels_are_those_of_the_network(topology); // law: what comes in is a channel
+    channels_are_numbered_by_their_receivers(topology); // law: with a number of its own
+    packets_are_told_apart(); // law: equal packets are the same
+    prefix_theorem::<Packet, NodeState>(); // law: the prefix theorem of the model's world
+    safe_time_is_the_least::<Packet, NodeState>(); // law: the safe time is at most `stop`
+    equal_knowledge_gives_equal_states::<Packet, NodeState>();
+    equal_knowledge_gives_equal_replicas::<Packet, NodeState>();
+}
