@@ -5,3 +5,7 @@
 
 #[cfg(test)]
 mod certificates;
+#[cfg(test)]
+mod replays;
+#[cfg(test)]
+mod texts;
