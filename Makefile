@@ -52,6 +52,9 @@ bench: bin/nullsim bin/nm_bench
 	  python3 bench/topology.py channels $$channels > bin/channels-$$channels.toml && \
 	  python3 bench/time.py "$$channels channels, told" bin/nm_bench told bin/channels-$$channels.toml || exit 1; \
 	done
+	@for work in acts-1 acts-2 acts-4 apart-2 apart-4 jobs; do \
+	  python3 bench/time.py "1 channel, $$work" bin/nm_bench $$work bin/channels-1.toml || exit 1; \
+	done
 	@python3 bench/topology.py limits > bin/limits.toml
 	@for work in topology parts; do \
 	  python3 bench/time.py "limits, $$work" bin/nm_bench $$work bin/limits.toml || exit 1; \

@@ -9,10 +9,13 @@
 //! nodes there are; `parts` starts two parts for each partition, and prints how many; `kept` and
 //! `flat` run the whole network to its stop, and print how many records there are: `flat` lets each
 //! go as it is made, and `kept` none; `told` tells replica 0 of partition 0 a million messages of its
-//! channels, and lets it run after each. `streams` reads a file of streams of frames, and shows the
-//! frames (`tools/check-frames`).
+//! channels, and lets it run after each; `acts-1`, `acts-2` and `acts-4` tell one shared replica a
+//! million null messages by so many threads, `apart-2` and `apart-4` as many replicas as threads, and
+//! `jobs` gives a pool of four threads 100,000 jobs. `streams` reads a file of streams of frames, and
+//! shows the frames (`tools/check-frames`).
 #![tactic(auto)]
 
+mod callers;
 mod frames;
 mod network;
 mod replica;
@@ -21,7 +24,7 @@ mod turns;
 
 use bytes::Bytes;
 use frames::frames_read;
-use network::{Task, work_over};
+use network::{Task, Threading, work_over};
 use nm_base::{Packet, Time};
 use nm_events::{EventList, HeapList, SortedList};
 use nm_knowledge::{Accepted, Know};
@@ -82,6 +85,12 @@ fn task(word: &str) -> Option<Task> {
         "kept" => Some(Task::Kept),
         "flat" => Some(Task::Flat),
         "told" => Some(Task::Told),
+        "acts-1" => Some(Task::Acts(Threading::One)),
+        "acts-2" => Some(Task::Acts(Threading::Two)),
+        "acts-4" => Some(Task::Acts(Threading::Four)),
+        "apart-2" => Some(Task::Acts(Threading::TwoApart)),
+        "apart-4" => Some(Task::Acts(Threading::FourApart)),
+        "jobs" => Some(Task::Jobs),
         _ => None,
     }
 }
