@@ -7,6 +7,7 @@ use nm_base::{ChanNo, PartNo, Time};
 use nm_book::{Book, ChannelMessage, Null};
 use nm_shared::{Gate, Job, Plain, SharedBook, pool};
 use nm_topology::Topology;
+use nm_topology::topology::accepted_topologies_are_in_order;
 use std::alloc::{AllocError, Global};
 use std::io::{Error, ErrorKind};
 use std::sync::{Arc, Wait};
@@ -53,6 +54,7 @@ fn books_of(
 
 /// A channel that comes into partition 0.
 fn channel_in(alloc: Global, topology: &Arc<Topology>) -> Result<ChanNo, Error> {
+    accepted_topologies_are_in_order(topology); // law: there are at most 512 channels
     let channels = topology.receivers().len() as u32;
     let Ok(book) = Book::new(alloc, Arc::try_clone(topology)?, PartNo::new(0), 0) else {
         return Err(ErrorKind::InvalidInput.into());

@@ -3,7 +3,7 @@
 use nm_base::mem_wire::Ending;
 use nm_base::{ChanNo, MemWire, PartNo, Time};
 use nm_book::{ChannelMessage, Null};
-use nm_engine::{Link, ReadBuffer, Turn};
+use nm_engine::{Host, Link, ReadBuffer, Turn};
 use nm_frames::Session;
 use nm_shared::{Pass, Plain, SharedBook};
 use nm_topology::Topology;
@@ -63,6 +63,20 @@ pub fn session_of(alloc: Global, topology: &Topology, me: u32) -> Result<Session
     Ok(Session::new(alloc, topology, PartNo::new(me), 0, PartNo::new(peer))?)
 }
 
+/// How many messages a replica knows of a channel, and its clock there, in nanoseconds.
+pub fn known(alloc: Global, end: End, channel: u32) -> Result<(u64, u64), Fail> {
+    let End { book, pass } = end;
+    let mut passes = Vec::new(alloc);
+    passes.push(pass)?;
+    let Ok(closed) = book.close(passes) else {
+        return Err("no pass is missing".into());
+    };
+    match closed.book.know(ChanNo::new(channel)) {
+        Some(know) => Ok((know.len() as u64, know.clock().nanoseconds())),
+        None => Err("the channel comes in".into()),
+    }
+}
+
 /// What a wire in memory does: what it gives, how it ends, and how many octets it takes.
 #[derive(Clone, Copy)]
 pub struct Script<'a> {
@@ -106,6 +120,16 @@ pub fn wire_of(alloc: Global, script: Script) -> Result<MemWire, Fail> {
     Ok(MemWire::new(alloc, source, script.ending, script.room, piece)?)
 }
 
+/// A wire that gives these octets and then nothing, and takes all.
+pub fn open(source: &[u8]) -> Script<'_> {
+    Script {
+        source,
+        ending: Ending::Later,
+        room: 1_000,
+        piece: 1_000,
+    }
+}
+
 /// A link with this session over such a wire.
 pub fn drive<R: Wait>(
     rt: &R,
@@ -114,7 +138,30 @@ pub fn drive<R: Wait>(
     session: Session,
     script: Script,
 ) -> Result<Came, Fail> {
-    let mut link = Link::connected(alloc, wire_of(alloc, script)?, session);
+    let link = Link::connected(alloc, wire_of(alloc, script)?, session);
+    outcome(rt, alloc, end, link)
+}
+
+/// A link that the peer connected, over such a wire.
+pub fn drive_accepted<R: Wait>(
+    rt: &R,
+    alloc: Global,
+    end: &mut End,
+    host: Host,
+    script: Script,
+) -> Result<Came, Fail> {
+    let link = Link::accepted(alloc, wire_of(alloc, script)?, host);
+    outcome(rt, alloc, end, link)
+}
+
+/// What a link comes to.
+fn outcome<R: Wait>(
+    rt: &R,
+    alloc: Global,
+    end: &mut End,
+    link: Link<MemWire>,
+) -> Result<Came, Fail> {
+    let mut link = link;
     let turn = turns(rt, alloc, end, &mut link)?;
     let (wire, session) = link.back();
     Ok(Came {
