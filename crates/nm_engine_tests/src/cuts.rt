@@ -22,7 +22,12 @@ const WHOLE: usize = 215;
 
 /// The session that a link gave back.
 fn session_in(came: Came) -> Result<Session, Fail> {
-    match came.session {
+    let Came {
+        turn: _,
+        octets: _,
+        session,
+    } = came;
+    match session {
         Some(session) => Ok(session),
         None => Err("there is a session".into()),
     }
@@ -81,12 +86,12 @@ fn cut_session<R: Abort + Wait>(
 fn second_session<R: Abort + Wait>(
     rt: &R,
     alloc: Global,
-    zero: (&mut End, Session),
-    one: (&mut End, Session),
+    zero: &mut End,
+    zero_session: Session,
+    one: &mut End,
+    one_session: Session,
     cut: usize,
 ) -> Result<(), Fail> {
-    let (zero, zero_session) = zero;
-    let (one, one_session) = one;
     let greeted = drive(rt, alloc, one, one_session, open(&[]))?;
     let holds_message = cut >= WITH_MESSAGE;
     eq_number(
@@ -150,8 +155,10 @@ fn cut_at<R: Abort + Wait>(
     second_session(
         rt,
         alloc,
-        (&mut zero, zero_session),
-        (&mut one, one_session),
+        &mut zero,
+        zero_session,
+        &mut one,
+        one_session,
         cut,
     )?;
     Ok(one)
