@@ -45,7 +45,8 @@ bin/nm_bench: $(SOURCES) | toolchain
 bench: bin/nullsim bin/nm_bench
 	@python3 bench/one.py bin/nullsim bin/nm_bench line grid star line-1000 grid-1000 star-1000 ring-1000 mixed routes large many line=79365
 	@python3 bench/one.py bin/nullsim bin/nm_bench $(foreach packets,64000 128000 256000 512000 1024000,hub=$(packets) spread=$(packets))
-	@for work in heap-random sorted-random heap-nearly sorted-nearly know copy write read-1 read-100 read-65536; do \
+	@for work in heap-random sorted-random heap-nearly sorted-nearly know copy write read-1 read-100 read-65536 \
+    sends-100 links-100 sends-1500 links-1500; do \
 	  python3 bench/time.py $$work bin/nm_bench $$work || exit 1; \
 	done
 	@for channels in 1 100; do \
