@@ -45,12 +45,16 @@ bin/nm_bench: $(SOURCES) | toolchain
 bench: bin/nullsim bin/nm_bench
 	@python3 bench/one.py bin/nullsim bin/nm_bench line grid star line-1000 grid-1000 star-1000 ring-1000 mixed routes large many line=79365
 	@python3 bench/one.py bin/nullsim bin/nm_bench $(foreach packets,64000 128000 256000 512000 1024000,hub=$(packets) spread=$(packets))
-	@for work in heap-random sorted-random heap-nearly sorted-nearly know copy write read-1 read-100 read-65536; do \
+	@for work in heap-random sorted-random heap-nearly sorted-nearly know copy write read-1 read-100 read-65536 \
+    sends-100 links-100 sends-1500 links-1500; do \
 	  python3 bench/time.py $$work bin/nm_bench $$work || exit 1; \
 	done
 	@for channels in 1 100; do \
 	  python3 bench/topology.py channels $$channels > bin/channels-$$channels.toml && \
 	  python3 bench/time.py "$$channels channels, told" bin/nm_bench told bin/channels-$$channels.toml || exit 1; \
+	done
+	@for work in acts-1 acts-2 acts-4 apart-2 apart-4 jobs; do \
+	  python3 bench/time.py "1 channel, $$work" bin/nm_bench $$work bin/channels-1.toml || exit 1; \
 	done
 	@python3 bench/topology.py limits > bin/limits.toml
 	@for work in topology parts; do \

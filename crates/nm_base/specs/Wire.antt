@@ -21,18 +21,19 @@ module _ {W : Type 0} (way : W → List ℕ) (failures : W → ℕ) (old new : W
   Goes n octets =
       (1 ≤ n) × (n ≤ length octets) × (way new ≡ way old ++ take n octets) × (failures new ≡ failures old)
 
-  -- a read into this buffer, as it is afterwards
-  abbrev pub ReadDoes : Read → List ℕ → Type 0
-  ReadDoes (read.Got n) buffer = Goes n buffer
-  ReadDoes read.End buffer = IsStill
-  ReadDoes read.Later buffer = IsStill
-  ReadDoes read.Fault buffer = HasFailed
-
   -- a write of these octets
   abbrev pub WriteDoes : Written → List ℕ → Type 0
   WriteDoes (written.Took n) octets = Goes n octets
   WriteDoes written.Later octets = IsStill
   WriteDoes written.Fault octets = HasFailed
+
+module _ {W : Type 0} (way : W → List ℕ) (ends failures : W → ℕ) (old new : W) where
+  -- a read into this buffer, as it is afterwards, and whether the other side had ended
+  abbrev pub ReadDoes : Read → List ℕ → Type 0
+  ReadDoes (read.Got n) buffer = Goes way failures old new n buffer × (ends new ≡ ends old)
+  ReadDoes read.End buffer = IsStill way failures old new × (ends new ≡ ends old + 1)
+  ReadDoes read.Later buffer = IsStill way failures old new × (ends new ≡ ends old)
+  ReadDoes read.Fault buffer = HasFailed way failures old new × (ends new ≡ ends old)
 
 -- what contracts see of a wire in memory
 pub record MemoryWire : Type 0 where
@@ -46,7 +47,8 @@ pub record MemoryWire : Type 0 where
   pub room : ℕ
   -- the most octets that one call moves
   pub piece : ℕ
-  -- how often it has failed
+  -- how often a read found the end, and how often it has failed
+  pub ends : ℕ
   pub failures : ℕ
 
 -- the octets that it gave so far
@@ -70,6 +72,12 @@ ending_answer ending.End = read.End
 ending_answer ending.Later = read.Later
 ending_answer ending.Fault = read.Fault
 
+-- the ends and the failures that a read adds once all is given
+abbrev pub ending_ends : Ending → ℕ
+ending_ends ending.End = 1
+ending_ends ending.Later = 0
+ending_ends ending.Fault = 0
+
 abbrev pub ending_failures : Ending → ℕ
 ending_failures ending.End = 0
 ending_failures ending.Later = 0
@@ -85,7 +93,8 @@ write_answer n = if nat_lt 0 n then written.Took n else written.Fault
 -- the wire after a read that moves n octets
 abbrev pub after_read : MemoryWire → ℕ → MemoryWire
 after_read w n =
-    if nat_lt 0 n then record w { at = w.at + n } else record w { failures = w.failures + ending_failures w.ending }
+    if nat_lt 0 n then record w { at = w.at + n }
+    else record w { ends = w.ends + ending_ends w.ending; failures = w.failures + ending_failures w.ending }
 
 -- the wire after a write of these octets that moves n of them
 abbrev pub after_write : MemoryWire → List ℕ → ℕ → MemoryWire

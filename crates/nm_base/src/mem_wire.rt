@@ -25,6 +25,8 @@ pub struct MemWire {
     held: Vec<u8>,
     room: usize,
     piece: usize,
+    /// How often a read found the end, which is counted as failures are.
+    ended: FailureCount,
     failed: FailureCount,
 }
 
@@ -41,6 +43,7 @@ impl Model for MemWire {
       taken = w.held.items;
       room = w.room;
       piece = w.piece;
+      ends = w.ended.count;
       failures = w.failed.count;
     } };
 
@@ -68,6 +71,7 @@ impl MemWire {
           taken = [];
           room = room;
           piece = piece;
+          ends = 0;
           failures = 0;
         }) }
     {
@@ -78,6 +82,7 @@ impl MemWire {
             held: Vec::with_capacity(alloc, room)?,
             room,
             piece,
+            ended: FailureCount::new(),
             failed: FailureCount::new(),
         })
     }
@@ -98,6 +103,8 @@ impl Wire for MemWire {
 
     ghost taken = { λ w. w.taken };
 
+    ghost ends = { λ w. w.ends };
+
     ghost failures = { λ w. w.failures };
 
     /// Gives as many octets as are left, as the buffer takes and as a call moves; where none is
@@ -105,7 +112,7 @@ impl Wire for MemWire {
     fn read_some(&mut self, buffer: &mut [u8]) -> Read
         requires { 0 < length buffer.old }
         ensures reads { ReadDoes
-            given_octets (λ w. w.failures) self.old self.new result buffer.new }
+            given_octets (λ w. w.ends) (λ w. w.failures) self.old self.new result buffer.new }
         ensures answer { result
             ≡ read_answer self.old.ending (read_count self.old (length buffer.old)) }
         ensures wire { self.new ≡ after_read self.old (read_count self.old (length buffer.old)) }
@@ -117,7 +124,10 @@ impl Wire for MemWire {
         let count = left.min(self.piece).min(buffer.len());
         if count == 0 {
             return match self.ending {
-                Ending::End => Read::End,
+                Ending::End => {
+                    self.ended.rise();
+                    Read::End
+                }
                 Ending::Later => Read::Later,
                 Ending::Fault => {
                     self.failed.rise();

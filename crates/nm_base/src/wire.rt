@@ -26,8 +26,8 @@ pub enum Written {
     Fault,
 }
 
-/// One connection. A clause sees the octets that it gave and took so far, and how often it has
-/// failed.
+/// One connection. A clause sees the octets that it gave and took so far, how often a read found
+/// that the other side sends no more, and how often the connection has failed.
 pub trait Wire {
     ghost use Rattle.nm_base.specs.Wire.{ReadDoes, WriteDoes};
 
@@ -36,18 +36,20 @@ pub trait Wire {
 
     ghost taken: { Self → List ℕ };
 
-    // How often the wire has failed.
+    // How often a read found the end, and how often the wire has failed.
+    ghost ends: { Self → ℕ };
+
     ghost failures: { Self → ℕ };
 
     /// Reads what came next into the front of a buffer that is not empty.
     fn read_some(&mut self, buffer: &mut [u8]) -> Read
         requires { 0 < length buffer.old }
-        ensures reads { ReadDoes given failures self.old self.new result buffer.new }
+        ensures reads { ReadDoes given ends failures self.old self.new result buffer.new }
         ensures keeps { taken self.new ≡ taken self.old };
 
     /// Writes the first octets of a list that is not empty.
     fn write_some(&mut self, octets: &[u8]) -> Written
         requires { 0 < length octets.now }
         ensures writes { WriteDoes taken failures self.old self.new result octets.now }
-        ensures keeps { given self.new ≡ given self.old };
+        ensures keeps { (given self.new ≡ given self.old) × (ends self.new ≡ ends self.old) };
 }

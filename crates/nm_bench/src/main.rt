@@ -3,30 +3,39 @@
 //! `sorted-random` and `sorted-nearly` take a million keys through a list of 4,096, and print the
 //! last one's time; `know` makes knowledge of a million messages, and `copy` copies it a hundred
 //! times; `write` writes 200,000 messages of 100 octets as frames, and `read-1`, `read-100` and
-//! `read-65536` read them too, in pieces of so many octets.
+//! `read-65536` read them too, in pieces of so many octets; `links-100` and `links-1500` let a replica
+//! tell another 50,000 messages of so many octets over two links, and `sends-100` and `sends-1500` only
+//! make them.
 //!
 //! With a second word, the name of a file with a topology: `topology` reads it, and prints how many
 //! nodes there are; `parts` starts two parts for each partition, and prints how many; `kept` and
 //! `flat` run the whole network to its stop, and print how many records there are: `flat` lets each
 //! go as it is made, and `kept` none; `told` tells replica 0 of partition 0 a million messages of its
-//! channels, and lets it run after each. `streams` reads a file of streams of frames, and shows the
-//! frames (`tools/check-frames`).
+//! channels, and lets it run after each; `acts-1`, `acts-2` and `acts-4` tell one shared replica a
+//! million null messages by so many threads, `apart-2` and `apart-4` as many replicas as threads, and
+//! `jobs` gives a pool of four threads 100,000 jobs. `streams` reads a file of streams of frames, and
+//! shows the frames (`tools/check-frames`).
 #![tactic(auto)]
 
+mod callers;
 mod frames;
+mod links;
 mod network;
+mod pipes;
 mod replica;
 mod streams;
 mod turns;
 
 use bytes::Bytes;
 use frames::frames_read;
-use network::{Task, work_over};
+use links::messages_told;
+use network::{Task, Threading, work_over};
 use nm_base::{Packet, Time};
 use nm_events::{EventList, HeapList, SortedList};
 use nm_knowledge::{Accepted, Know};
 use std::alloc::{AllocError, Global};
 use std::io::{Error, ErrorKind};
+use std::sync::Wait;
 use std::{env, fs};
 use streams::read_streams;
 use turns::{Order, turn_over};
@@ -57,7 +66,8 @@ fn copy(alloc: Global, copies: u64) -> Result<u64, Error> {
 }
 
 /// Does the work that one word names.
-fn work_alone(alloc: Global, word: &str) -> Result<u64, Error> {
+fn work_alone<R: Wait + AllocGlobal>(rt: &R, word: &str) -> Result<u64, Error> {
+    let alloc = rt.alloc();
     let done = match word {
         "heap-random" => work::<HeapList>(alloc, Order::Random)?,
         "heap-nearly" => work::<HeapList>(alloc, Order::Nearly)?,
@@ -69,6 +79,10 @@ fn work_alone(alloc: Global, word: &str) -> Result<u64, Error> {
         "read-1" => frames_read(alloc, 1)?,
         "read-100" => frames_read(alloc, 100)?,
         "read-65536" => frames_read(alloc, 65_536)?,
+        "links-100" => messages_told(rt, alloc, "72", true)?,
+        "links-1500" => messages_told(rt, alloc, "1472", true)?,
+        "sends-100" => messages_told(rt, alloc, "72", false)?,
+        "sends-1500" => messages_told(rt, alloc, "1472", false)?,
         _ => return Err(ErrorKind::InvalidInput.into()),
     };
     Ok(done)
@@ -82,6 +96,12 @@ fn task(word: &str) -> Option<Task> {
         "kept" => Some(Task::Kept),
         "flat" => Some(Task::Flat),
         "told" => Some(Task::Told),
+        "acts-1" => Some(Task::Acts(Threading::One)),
+        "acts-2" => Some(Task::Acts(Threading::Two)),
+        "acts-4" => Some(Task::Acts(Threading::Four)),
+        "apart-2" => Some(Task::Acts(Threading::TwoApart)),
+        "apart-4" => Some(Task::Acts(Threading::FourApart)),
+        "jobs" => Some(Task::Jobs),
         _ => None,
     }
 }
@@ -90,7 +110,7 @@ fn main(rt: HostRuntime) -> Result<(), Error> {
     let mut words = env::args(&rt)?.skip(1);
     let word = words.next().ok_or(ErrorKind::InvalidInput)?;
     let done = match words.next() {
-        None => work_alone(rt.alloc(), word.as_str())?,
+        None => work_alone(&rt, word.as_str())?,
         Some(path) if word.as_str() == "streams" => {
             let octets = fs::read(&rt, path.as_str())?;
             read_streams(&rt, octets.as_slice())?

@@ -1,5 +1,8 @@
 //! Work over the topology of a file: its parts at their start, and runs of the whole network.
 
+ghost use Rattle.std.specs.Prelude.{◌≤◌};
+
+use crate::callers::{acts, pool_jobs};
 use crate::replica::replica_told;
 use nm_base::PartNo;
 use nm_events::SortedList;
@@ -9,6 +12,8 @@ use std::alloc::{AllocError, Global};
 use std::fs;
 use std::io::{Error, ErrorKind};
 use std::rt::Files;
+use std::sync::Wait;
+use std::thread::Threads;
 
 /// What is done with the topology.
 #[derive(Clone, Copy)]
@@ -23,6 +28,39 @@ pub enum Task {
     Flat,
     /// A replica is told messages, which it takes and which are counted.
     Told,
+    /// So many threads act on one shared book, or each on a book of its own; what was taken is
+    /// counted.
+    Acts(Threading),
+    /// A pool does many jobs that find nothing to do, which are counted.
+    Jobs,
+}
+
+/// How many threads act, and whether each has a book of its own.
+#[derive(Clone, Copy)]
+pub enum Threading {
+    One,
+    Two,
+    Four,
+    TwoApart,
+    FourApart,
+}
+
+impl Threading {
+    /// How many threads.
+    fn threads(self) -> usize
+        ensures { 1 ≤ result }
+    {
+        match self {
+            Threading::One => 1,
+            Threading::Two | Threading::TwoApart => 2,
+            Threading::Four | Threading::FourApart => 4,
+        }
+    }
+
+    /// Whether each has a book of its own.
+    fn apart(self) -> bool {
+        matches!(self, Threading::TwoApart | Threading::FourApart)
+    }
 }
 
 /// The topology of a file.
@@ -59,7 +97,11 @@ fn let_go(alloc: Global, topology: &Topology) -> Result<u64, AllocError> {
 }
 
 /// Does a task with the topology of a file, and gives what it counts.
-pub fn work_over<R: Files + AllocGlobal>(rt: &R, task: Task, path: &str) -> Result<u64, Error> {
+pub fn work_over<R: Files + AllocGlobal + Threads + Wait + Sync>(
+    rt: &R,
+    task: Task,
+    path: &str,
+) -> Result<u64, Error> {
     let topology = topology_at(rt, path)?;
     let count = match task {
         Task::Read => topology.nodes().len() as u64,
@@ -67,6 +109,11 @@ pub fn work_over<R: Files + AllocGlobal>(rt: &R, task: Task, path: &str) -> Resu
         Task::Kept => one_list(rt.alloc(), &topology, topology.stop())?.len() as u64,
         Task::Flat => let_go(rt.alloc(), &topology)?,
         Task::Told => return replica_told(rt.alloc(), topology),
+        Task::Acts(threading) => {
+            let (threads, apart) = (threading.threads(), threading.apart());
+            return acts(rt, rt.alloc(), topology, threads, apart);
+        }
+        Task::Jobs => return pool_jobs(rt, rt.alloc(), topology),
     };
     Ok(count)
 }

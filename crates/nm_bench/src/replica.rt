@@ -12,7 +12,7 @@ use std::sync::Arc;
 const MESSAGES: u64 = 1_000_000;
 
 /// The channels that come in.
-fn incoming(alloc: Global, book: &Book, channels: u32) -> Result<Vec<ChanNo>, AllocError> {
+pub fn incoming(alloc: Global, book: &Book, channels: u32) -> Result<Vec<ChanNo>, AllocError> {
     let mut found = Vec::new(alloc);
     for number in 0..channels {
         let channel = ChanNo::new(number);

@@ -1,6 +1,6 @@
 //! One connection between replicas of two partitions that share a channel.
 
-ghost use Rattle.std.specs.Prelude.{◌≡◌, Ok, Err, MatchResult, IfOk, OnErr};
+ghost use Rattle.std.specs.Prelude.{◌≡◌, Ok, Err, MatchResult, IfOk, OnErr, length, nat_lt};
 ghost use Rattle.nm_frames.specs.Owed.{HasNext, MayHaveNext, given, given_maybe, hello_of, owed};
 ghost use Rattle.nm_frames.specs.Session.{broken, new_session, next_version, purpose};
 ghost use Rattle.nm_frames.specs.Session.{session_version, taken, taken_first, taken_later};
@@ -102,6 +102,28 @@ impl Session {
             bye_given: false,
             bye_taken: false,
         })
+    }
+
+    /// Whether a channel comes from the peer. Then one goes to it too, since a link has both
+    /// directions.
+    pub fn has_channels(&self) -> bool
+        ensures { result ≡ nat_lt 0 (length self.now.incoming) }
+    {
+        !self.incoming.is_empty()
+    }
+
+    /// Whether the peer will say no more.
+    pub fn bye_taken(&self) -> bool
+        ensures { result ≡ self.now.bye_taken }
+    {
+        self.bye_taken
+    }
+
+    /// Whether nothing more is given.
+    pub fn bye_given(&self) -> bool
+        ensures { result ≡ self.now.bye_given }
+    {
+        self.bye_given
     }
 
     /// The version of the session: the lesser of both Hellos'.

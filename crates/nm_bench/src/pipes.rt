@@ -1,0 +1,98 @@
+//! Wires between two links of one thread.
+
+ghost use Rattle.std.specs.Prelude.{◌≡◌, ℕ, ◌≤◌, List, length};
+
+use nm_base::failures::FailureCount;
+use nm_base::wire::{Read, Written};
+use nm_base::{Octets, Wire};
+use std::alloc::{AllocError, Global};
+use std::cell::RefCell;
+use std::rc::Rc;
+
+/// The octets that are on their way in one direction.
+type Way = Rc<RefCell<Vec<u8>>>;
+
+/// One end of a connection in memory.
+#[derive(Drop)]
+pub struct PipeWire {
+    from: Way,
+    to: Way,
+    got: Octets,
+    sent: Octets,
+    failed: FailureCount,
+}
+
+/// Moves octets out of one direction, to the front of a buffer: how many.
+fn move_out(way: &Way, buffer: &mut [u8]) -> usize
+    ensures { result ≤ length buffer.new }
+{
+    let Ok(mut octets) = way.try_borrow_mut() else {
+        return 0;
+    };
+    let count = octets.len().min(buffer.len());
+    buffer[..count].copy_from_slice(&octets[..count]);
+    octets.drain(..count);
+    count
+}
+
+/// Moves octets into one direction. Whether there was memory.
+fn move_in(way: &Way, octets: &[u8]) -> bool {
+    match way.try_borrow_mut() {
+        Ok(mut held) => held.extend_from_slice(octets).is_ok(),
+        Err(_) => false,
+    }
+}
+
+impl PipeWire {
+    /// An end that reads from one direction and writes into the other.
+    fn new(from: Way, to: Way) -> Self {
+        PipeWire {
+            from,
+            to,
+            got: Octets::new(),
+            sent: Octets::new(),
+            failed: FailureCount::new(),
+        }
+    }
+}
+
+/// Both ends of a connection.
+pub fn pipe(alloc: Global) -> Result<(PipeWire, PipeWire), AllocError> {
+    let Ok(there) = Rc::new(alloc, RefCell::new(Vec::new(alloc))) else {
+        return Err(AllocError);
+    };
+    let Ok(back) = Rc::new(alloc, RefCell::new(Vec::new(alloc))) else {
+        return Err(AllocError);
+    };
+    let zero = PipeWire::new(back.clone()?, there.clone()?);
+    Ok((zero, PipeWire::new(there, back)))
+}
+
+impl Wire for PipeWire {
+    ghost given = { λ w. w.got.list };
+
+    ghost taken = { λ w. w.sent.list };
+
+    ghost ends = { λ _. 0 };
+
+    ghost failures = { λ w. w.failed.count };
+
+    fn read_some(&mut self, buffer: &mut [u8]) -> Read {
+        let count = move_out(&self.from, buffer);
+        if count == 0 {
+            return Read::Later;
+        }
+        self.got.add(&buffer[..count]);
+        Read::Got(count)
+    }
+
+    fn write_some(&mut self, octets: &[u8]) -> Written {
+        let count = octets.len();
+        if !move_in(&self.to, octets) {
+            self.failed.rise();
+            return Written::Fault;
+        }
+        self.sent.add(&octets[..count]);
+        Written::Took(count)
+    }
+}

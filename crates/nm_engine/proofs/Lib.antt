@@ -1,0 +1,6 @@
+pub mod Readings
+pub mod Steps
+pub mod Givings
+pub mod Writings
+pub mod Turns
+pub mod Many

@@ -1,0 +1,218 @@
+-- One turn after another.
+use Rattle.std.proofs.Common.{◌≡◌, ℕ, ◌&&◌, nat_lt, Bool, true, false, List, [], ◌∷◌, ◌++◌, length, map, Option, Some, None, Result, Ok, Err, if◌then◌else◌, refl, sym, ◌∙◌, ap, ◌⊎◌, inl, inr, subst, append_assoc, append-nil}
+use Rattle.std.proofs.lemmas.Grind.{flat_map-append}
+use Rattle.nm_frames.specs.declared.frame.Frame.{Frame}
+use Rattle.nm_frames.specs.declared.frame.Frame.TheVariants.{Hello, Have, Data, Null, Bye}
+use Rattle.nm_frames.specs.declared.session_fault.SessionFault.TheVariants.{Peer}
+use Rattle.nm_frames.specs.Channels.{channels_between}
+use Rattle.nm_frames.specs.Frame.{frame_octets, stream_octets}
+use Rattle.nm_frames.specs.Lives.{SessionStep, Took, Gave, Broke, AreConsecutive, HasCursor, due_after, Lives as SessionLives}
+use Rattle.nm_frames.specs.Owed.{given, owed}
+use Rattle.nm_frames.specs.Session.{SessionValue, new_outgoing, taken}
+use Rattle.nm_frames.proofs.Consecutive.{from_cursor}
+use Rattle.nm_book.specs.Book.{BookValue}
+use Rattle.nm_engine.specs.declared.answer.Cause.{Cause}
+use Rattle.nm_engine.specs.declared.answer.Turn.{Turn}
+use Rattle.nm_engine.specs.declared.answer.Turn.TheVariants.{Progress, Idle, Ended, Broken, Failed}
+use Rattle.nm_engine.specs.Host.{HostValue, session_with, taken_at}
+use Rattle.nm_engine.specs.Link.{LinkValue}
+use Rattle.nm_engine.specs.Lives.{Lives, frames_in, frames_out}
+use Rattle.nm_engine.specs.Many.{Accounts, GoesOn, HasDue}
+use Rattle.nm_engine.specs.Turn.{Breaks, Moves, Turns, Went}
+use Rattle.nm_engine.proofs.Steps.{lives_append}
+
+-- octets in two parts, and the frames of both
+join_in : (a x y b c : List ℕ) (f g : List Frame) → a ++ x ≡ stream_octets f ++ b → b ++ y ≡ stream_octets g ++ c → a ++ (x ++ y) ≡ stream_octets (f ++ g) ++ c
+join_in a x y b c f g one two =
+    sym (append_assoc a x y) ∙ ap (λ l. l ++ y) one ∙ append_assoc (stream_octets f) b y ∙ ap (λ l. stream_octets f ++ l) two
+    ∙ sym (append_assoc (stream_octets f) (stream_octets g) c) ∙ ap (λ l. l ++ c) (sym (flat_map-append frame_octets f g))
+
+join_out : (x y a b c : List ℕ) (f g : List Frame) → x ++ b ≡ a ++ stream_octets f → y ++ c ≡ b ++ stream_octets g → (x ++ y) ++ c ≡ a ++ stream_octets (f ++ g)
+join_out x y a b c f g one two =
+    append_assoc x y c ∙ ap (λ l. x ++ l) two ∙ sym (append_assoc x b (stream_octets g)) ∙ ap (λ l. l ++ stream_octets g) one
+    ∙ append_assoc a (stream_octets f) (stream_octets g) ∙ ap (λ l. a ++ l) (sym (flat_map-append frame_octets f g))
+
+-- the frames of steps, one after another
+in-append : (a b : List SessionStep) → frames_in (a ++ b) ≡ frames_in a ++ frames_in b
+in-append [] b = refl
+in-append (Took f ∷ a) b = ap (λ l. f ∷ l) (in-append a b)
+in-append (Gave f ∷ a) b = in-append a b
+in-append (Broke ∷ a) b = in-append a b
+
+out-append : (a b : List SessionStep) → frames_out (a ++ b) ≡ frames_out a ++ frames_out b
+out-append [] b = refl
+out-append (Took f ∷ a) b = out-append a b
+out-append (Gave f ∷ a) b = ap (λ l. f ∷ l) (out-append a b)
+out-append (Broke ∷ a) b = out-append a b
+
+in-took : (fs : List Frame) → frames_in (map Took fs) ≡ fs
+in-took [] = refl
+in-took (f ∷ fs) = ap (λ l. f ∷ l) (in-took fs)
+
+in-gave : (fs : List Frame) → frames_in (map Gave fs) ≡ []
+in-gave [] = refl
+in-gave (f ∷ fs) = in-gave fs
+
+out-took : (fs : List Frame) → frames_out (map Took fs) ≡ []
+out-took [] = refl
+out-took (f ∷ fs) = out-took fs
+
+out-gave : (fs : List Frame) → frames_out (map Gave fs) ≡ fs
+out-gave [] = refl
+out-gave (f ∷ fs) = ap (λ l. f ∷ l) (out-gave fs)
+
+never : true ≡ false → ⊥
+never e = cc
+
+some_same : (s m : SessionValue) → Some s ≡ Some m → s ≡ m
+some_same s m e = cc
+
+none_some : (m : SessionValue) → None ≡ Some m → ⊥
+none_some m e = cc
+
+-- the steps of a turn
+abbrev turn_steps : List Frame → List Frame → List SessionStep
+turn_steps ins outs = map Took ins ++ map Gave outs
+
+turn_in : (ins outs : List Frame) → frames_in (turn_steps ins outs) ≡ ins
+turn_in ins outs = in-append (map Took ins) (map Gave outs) ∙ ap (λ l. frames_in (map Took ins) ++ l) (in-gave outs) ∙ append-nil (frames_in (map Took ins)) ∙ in-took ins
+
+turn_out : (ins outs : List Frame) → frames_out (turn_steps ins outs) ≡ outs
+turn_out ins outs = out-append (map Took ins) (map Gave outs) ∙ ap (λ l. l ++ frames_out (map Gave outs)) (out-took ins) ∙ out-gave outs
+
+module _ {W : Type 0} (given taken : W → List ℕ) (ends failures : W → ℕ) where
+  -- one turn's account
+  of_moves : (old new : LinkValue W) (rest left : List ℕ) → Moves given taken ends failures old new rest left → (new.failed ≡ false → (rest ≡ new.rest) × (left ≡ new.out)) → Accounts given taken old new
+  of_moves old new rest left m whole = record {
+    steps = turn_steps m.ins m.outs;
+    came = m.came;
+    went = m.went;
+    rest = rest;
+    left = left;
+    came_in = m.came_in;
+    framed = m.framed ∙ ap (λ fs. stream_octets fs ++ rest) (sym (turn_in m.ins m.outs));
+    lived = lives_append old.host old.session m.mid new.session (map Took m.ins) (map Gave m.outs) m.took m.gave;
+    went_out = m.went_out;
+    sent = m.sent ∙ ap (λ fs. old.out ++ stream_octets fs) (sym (turn_out m.ins m.outs));
+    host = m.host;
+    whole = whole;
+  }
+
+  of_none : (old : LinkValue W) → Accounts given taken old old
+  of_none old = record {
+    steps = [];
+    came = [];
+    went = [];
+    rest = old.rest;
+    left = old.out;
+    came_in = sym (append-nil (given old.wire));
+    framed = append-nil old.rest;
+    lived = refl;
+    went_out = sym (append-nil (taken old.wire));
+    sent = sym (append-nil old.out);
+    host = refl;
+    whole = λ e. (refl, refl);
+  }
+
+  -- a turn after which the link has not failed, and then others
+  of_both : (first mid last : LinkValue W) → mid.failed ≡ false → Accounts given taken first mid → Accounts given taken mid last → Accounts given taken first last
+  of_both first mid last fine a b =
+      let held = a.whole fine in
+      record {
+        steps = a.steps ++ b.steps;
+        came = a.came ++ b.came;
+        went = a.went ++ b.went;
+        rest = b.rest;
+        left = b.left;
+        came_in = b.came_in ∙ ap (λ l. l ++ b.came) a.came_in ∙ append_assoc (given first.wire) a.came b.came;
+        framed =
+            join_in first.rest a.came b.came mid.rest b.rest (frames_in a.steps) (frames_in b.steps) (a.framed ∙ ap (λ l. stream_octets (frames_in a.steps) ++ l) held.0) b.framed
+            ∙ ap (λ fs. stream_octets fs ++ b.rest) (sym (in-append a.steps b.steps));
+        lived =
+            lives_append first.host first.session mid.session last.session a.steps b.steps a.lived
+            (subst (λ (h : Option HostValue). Lives h mid.session b.steps last.session) a.host b.lived);
+        went_out = b.went_out ∙ ap (λ l. l ++ b.went) a.went_out ∙ append_assoc (taken first.wire) a.went b.went;
+        sent =
+            join_out a.went b.went first.out mid.out b.left (frames_out a.steps) (frames_out b.steps) (ap (λ l. a.went ++ l) (sym held.1) ∙ a.sent) b.sent
+            ∙ ap (λ fs. first.out ++ stream_octets fs) (sym (out-append a.steps b.steps));
+        host = b.host ∙ a.host;
+        whole = b.whole;
+      }
+
+  -- a link that has failed stays as it is
+  stays_turn : (turn : Turn) (old new : LinkValue W) → old.failed ≡ true → Turns given taken ends failures old new turn → new ≡ old
+  stays_turn Progress old new over t = absurd (never (sym over ∙ t.0.moves.was_whole))
+  stays_turn Idle old new over t = absurd (never (sym over ∙ t.0.moves.was_whole))
+  stays_turn Ended old new over t = absurd (never (sym over ∙ t.0.moves.was_whole))
+  stays_turn (Broken cause) old new over t = absurd (never (sym over ∙ t.moves.was_whole))
+  stays_turn Failed old new over t = t.1
+
+  stays_failed : (path : List (Turn × LinkValue W)) (old new : LinkValue W) → old.failed ≡ true → GoesOn given taken ends failures old path new → new ≡ old
+  stays_failed [] old new over g = g
+  stays_failed (p ∷ path) old new over g =
+      let same = stays_turn p.0 old p.1 over g.0 in
+      stays_failed path p.1 new (ap (λ (l : LinkValue W). l.failed) same ∙ over) g.1 ∙ same
+
+  well_turn : (old new : LinkValue W) → Went given taken ends failures old new → Accounts given taken old new × ((new.failed ≡ false) ⊎ (new.failed ≡ true))
+  well_turn old new w = (of_moves old new new.rest new.out w.moves (λ e. (refl, refl)), inl w.whole)
+
+  of_turn : (turn : Turn) (old new : LinkValue W) → Turns given taken ends failures old new turn → Accounts given taken old new × ((new.failed ≡ false) ⊎ (new.failed ≡ true))
+  of_turn Progress old new t = well_turn old new t.0
+  of_turn Idle old new t = well_turn old new t.0
+  of_turn Ended old new t = well_turn old new t.0
+  of_turn (Broken cause) old new t = (of_moves old new t.rest t.left t.moves (λ e. absurd (never (sym t.over ∙ e))), inr t.over)
+  of_turn Failed old new t = (subst (λ (x : LinkValue W). Accounts given taken old x) (sym t.1) (of_none old), inr (ap (λ (l : LinkValue W). l.failed) t.1 ∙ t.0))
+
+  go_on : (path : List (Turn × LinkValue W)) (first mid last : LinkValue W) → Accounts given taken first mid × ((mid.failed ≡ false) ⊎ (mid.failed ≡ true)) → GoesOn given taken ends failures mid path last → Accounts given taken mid last → Accounts given taken first last
+  go_on path first mid last (a, inl fine) g rest = of_both first mid last fine a rest
+  go_on path first mid last (a, inr over) g rest = subst (λ (x : LinkValue W). Accounts given taken first x) (sym (stays_failed path mid last over g)) a
+
+  pub accounts : (path : List (Turn × LinkValue W)) (first last : LinkValue W) → GoesOn given taken ends failures first path last → Accounts given taken first last
+  accounts [] first last e = subst (λ (x : LinkValue W). Accounts given taken first x) (sym e) (of_none first)
+  accounts (p ∷ path) first last g = go_on path first p.1 last (of_turn p.0 first p.1 g.0) g.1 (accounts path p.1 last g.1)
+
+-- ---- the numbers of messages
+session_lives : (h : Option HostValue) (steps : List SessionStep) (s : SessionValue) (t : Option SessionValue) → Lives h (Some s) steps t → (u : SessionValue) × (t ≡ Some u) × SessionLives s steps u
+session_lives h [] s t lives = (s, lives, refl)
+session_lives h (Took f ∷ r) s t lives = let more = session_lives h r lives.0 t lives.4 in (more.0, more.1, (lives.0, lives.1, more.2))
+session_lives h (Gave f ∷ r) s t lives =
+    let same : s ≡ lives.0 = some_same s lives.0 lives.2 in
+    let owes : owed s lives.1 ≡ Some f = ap (λ (x : SessionValue). owed x lives.1) same ∙ lives.3 in
+    let after = subst (λ (x : SessionValue). Lives h (Some (given x f)) r t) (sym same) lives.5 in
+    let more = session_lives h r (given s f) t after in (more.0, more.1, (lives.1, owes, more.2))
+session_lives h (Broke ∷ r) s t lives = absurd lives
+
+none_yet : (c : ℕ) (ds : List ℕ) → HasCursor c None (map new_outgoing ds)
+none_yet c [] = tt
+none_yet c (d ∷ ds) = (λ e. refl, none_yet c ds)
+
+of_session : (h : Option HostValue) (s : SessionValue) (t : Option SessionValue) (steps : List SessionStep) (c : ℕ) (due : Option ℕ) → HasCursor c due s.outgoing → Lives h (Some s) steps t → AreConsecutive c due steps × HasDue c (due_after c due steps) t
+of_session h s t steps c due cursor lives =
+    let l = session_lives h steps s t lives in
+    let n = from_cursor s l.0 steps c due cursor l.2 in
+    (n.0, subst (λ (x : Option SessionValue). HasDue c (due_after c due steps) x) (sym l.1) n.1)
+
+-- the first frame makes the session: it is a new one that takes this frame
+made_by : (b : Bool) (h : HostValue) (p : ℕ) (f : Frame) (m : SessionValue) → (if b then taken (session_with h p) f else Err Peer) ≡ Ok m → taken (session_with h p) f ≡ Ok m
+made_by true h p f m e = e
+made_by false h p f m e = cc
+
+first_made : (h : Option HostValue) (f : Frame) (m : SessionValue) → taken_at h None f ≡ Ok m → (n : HostValue) × (p : ℕ) × (taken (session_with n p) f ≡ Ok m)
+first_made None f m e = cc
+first_made (Some h) (Hello x) m e = (h, x.partition, made_by (nat_lt x.partition h.me && nat_lt 0 (length (channels_between h.topology x.partition h.me))) h x.partition (Hello x) m e)
+first_made (Some h) (Have x) m e = cc
+first_made (Some h) (Data x) m e = cc
+first_made (Some h) (Null x) m e = cc
+first_made (Some h) Bye m e = cc
+
+pub numbers : (h : Option HostValue) (s t : Option SessionValue) (steps : List SessionStep) (c : ℕ) (due : Option ℕ) → HasDue c due s → Lives h s steps t → AreConsecutive c due steps × HasDue c (due_after c due steps) t
+numbers h (Some s) t steps c due cursor lives = of_session h s t steps c due cursor lives
+numbers h None t [] c due none lives = (tt, subst (λ (x : Option SessionValue). HasDue c due x) (sym lives) none)
+numbers h None t (Took f ∷ r) c due none lives =
+    let made = first_made h f lives.0 lives.1 in
+    let more = session_lives h r lives.0 t lives.4 in
+    let n = from_cursor (session_with made.0 made.1) more.0 (Took f ∷ r) c None (none_yet c (channels_between made.0.topology made.0.me made.1)) (lives.0, made.2, more.2) in
+    subst (λ (x : Option ℕ). AreConsecutive c x (Took f ∷ r) × HasDue c (due_after c x (Took f ∷ r)) t) (sym none)
+    (n.0, subst (λ (x : Option SessionValue). HasDue c (due_after c None (Took f ∷ r)) x) (sym more.1) n.1)
+numbers h None t (Gave f ∷ r) c due none lives = absurd (none_some lives.0 lives.2)
+numbers h None t (Broke ∷ r) c due none lives = absurd lives

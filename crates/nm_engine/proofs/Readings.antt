@@ -1,0 +1,63 @@
+-- A read from what the wire answered and what the reader made of it.
+use Rattle.std.proofs.Common.{◌≡◌, ℕ, ◌+◌, ◌<◌, ◌≤◌, false, List, [], ◌++◌, length, take, Option, Some, Result, Ok, Err, refl, sym, ◌∙◌, ap, subst, append-nil, arith}
+use Rattle.std.specs.List.{AllByRecursion}
+use Rattle.std.proofs.lemmas.Grind.{common_steps}
+use Rattle.nm_base.specs.Wire.{Goes}
+use Rattle.nm_frames.specs.declared.frame.Frame.{Frame}
+use Rattle.nm_frames.specs.declared.fault.FrameFault.{FrameFault}
+use Rattle.nm_frames.specs.Frame.{IsFrame, stream_octets}
+use Rattle.nm_frames.specs.Reader.{FedFault, ReaderValue}
+use Rattle.nm_frames.specs.Stream.{fault_shown}
+use Rattle.nm_engine.specs.declared.answer.Cause.{Cause}
+use Rattle.nm_engine.specs.declared.answer.Cause.TheVariants.{End, Fault, Frame as BadFrame, Session as BadSession, Book, Memory}
+use Rattle.nm_engine.specs.declared.limits.TheConstants.{MAX_FRAME_OCTETS, MAX_READ_OCTETS}
+use Rattle.nm_engine.specs.Reading.{Came, Feeds, IsFramed, Reads}
+
+-- no octets, no frames
+none_framed : (held : List ℕ) → IsFramed (held ++ []) [] held
+none_framed held = record { parts = append-nil held; each = tt }
+
+module _ {W : Type 0} (given : W → List ℕ) (ends failures : W → ℕ) (old new : W) where
+  -- nothing came
+  pub came_none : (held : List ℕ) (frames : List Frame) → frames ≡ [] → given new ≡ given old → Came given ends failures old new held frames held
+  came_none held frames none same = record {
+    came = [];
+    most = omega arith;
+    came_in = same ∙ sym (append-nil (given old));
+    framed = subst (λ (fs : List Frame). IsFramed (held ++ []) fs held) (sym none) (none_framed held);
+  }
+
+  pub read_none : (r : ReaderValue) (frames : List Frame) → frames ≡ [] → given new ≡ given old → failures new ≡ failures old → r.failed ≡ false → Reads given ends failures old new r frames r (Ok 0)
+  unfolding came_none
+  read_none r frames none same sound whole = (came_none r.rest frames none same, refl, sound, whole)
+
+  taken_within : (n : ℕ) (octets : List ℕ) → length octets ≡ MAX_READ_OCTETS → length (take n octets) ≤ MAX_READ_OCTETS
+  taken_within n octets e = grind (arith, common_steps, e)
+
+  -- octets came and were fed
+  pub read_some : (n : ℕ) (octets : List ℕ) (r q : ReaderValue) (frames : List Frame) (result : Result ℕ Cause) → length octets ≡ MAX_READ_OCTETS → Goes given failures old new n octets → Feeds r (take n octets) frames q result → Reads given ends failures old new r frames q result
+  read_some n octets r q frames (Ok m) size goes fed = (record { came = take n octets; most = taken_within n octets size; came_in = goes.2; framed = fed.1 }, sym fed.0, goes.3, fed.2)
+  read_some n octets r q frames (Err End) size goes fed = absurd fed
+  read_some n octets r q frames (Err Fault) size goes fed = absurd fed
+  read_some n octets r q frames (Err BadFrame) size goes fed = (fed.0, record { came = take n octets; most = taken_within n octets size; came_in = goes.2; framed = fed.1 }, (fed.2, goes.3))
+  read_some n octets r q frames (Err BadSession) size goes fed = absurd fed
+  read_some n octets r q frames (Err Book) size goes fed = absurd fed
+  read_some n octets r q frames (Err Memory) size goes fed = (
+    r.rest ++ take n octets,
+    record {
+      came = take n octets;
+      most = taken_within n octets size;
+      came_in = goes.2;
+      framed = subst (λ (fs : List Frame). IsFramed (r.rest ++ take n octets) fs (r.rest ++ take n octets)) (sym fed) (record { parts = refl; each = tt });
+    },
+    goes.3,
+  )
+
+-- a reader's answer to a piece, from what it cut
+pub fed_fault : (old new : ReaderValue) (piece : List ℕ) (before after : List Frame) (e : FrameFault) → before ≡ [] → FedFault old new piece before after e → (rest : List ℕ) × IsFramed (old.rest ++ piece) after rest × ((x : FrameFault) × (fault_shown rest ≡ Some x))
+fed_fault old new piece before after e none fed =
+    let same : after ≡ fed.cut.frames = fed.cut.added ∙ ap (λ (l : List Frame). l ++ fed.cut.frames) none in
+    (fed.rest, record { parts = fed.cut.parts ∙ ap (λ fs. stream_octets fs ++ fed.rest) (sym same); each = subst (λ (fs : List Frame). AllByRecursion IsFrame fs) (sym same) fed.cut.each }, (e, fed.shown))
+
+pub rest_fault : (old new : ReaderValue) (piece : List ℕ) (before after : List Frame) (e : FrameFault) → FedFault old new piece before after e → length new.rest < MAX_FRAME_OCTETS
+rest_fault old new piece before after e fed = let none : length new.rest ≡ 0 = ap (λ (r : ReaderValue). length r.rest) fed.over in omega (arith, none)

@@ -1,0 +1,14 @@
+use Rattle.std.proofs.Common.{◌≡◌, ◌-◌, ◌≤◌, List, [], vec_len, Option}
+use Rattle.nm_engine.specs.Giving.{Gives}
+use Rattle.nm_engine.specs.Host.{HostValue}
+use Rattle.nm_engine.specs.declared.limits.TheConstants.{FULL_OUT_OCTETS, MAX_OUT_OCTETS}
+use Rattle.nm_engine.proofs.giving.give_all.Given as goal
+
+abbrev pub invariant-loop-session : goal.invariant-loop-session
+invariant-loop-session g l = record {
+  gives : (h : Option HostValue) → Gives h l.initial.session l.session l.initial.out.items l.out.items [];
+  most : vec_len l.out ≤ MAX_OUT_OCTETS;
+}
+
+abbrev pub decreases-loop-session : goal.decreases-loop-session
+decreases-loop-session g l = FULL_OUT_OCTETS - vec_len l.out

@@ -1,0 +1,8 @@
+use Rattle.std.proofs.Common.{sym, subst, Option, Some}
+use Rattle.nm_frames.specs.Session.{SessionValue}
+use Rattle.nm_engine.specs.Taking.{TakesOne}
+use Rattle.nm_engine.proofs.taking.take_one.Goals as goal
+
+pub returns-in-Some : goal.returns-in-Some
+returns-in-Some g c =
+    subst (λ (x : Option SessionValue). TakesOne c.args.host.now x c.args.frame (Some c.take_later.new.session) c.take_later.result) (sym c.in-Some.is) (c.take_later.ensures c.args.host.now)

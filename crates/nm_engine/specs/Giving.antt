@@ -1,0 +1,29 @@
+-- What a session gave, and what of it stands in the buffer.
+use Rattle.std.specs.Prelude.{◌≡◌, ℕ, Bool, List, [], ◌++◌, map, Option, Some, Result, Ok, Err}
+use Rattle.std.specs.Prelude.{IfOk, OnErr}
+use Rattle.nm_book.specs.Book.{BookValue}
+use Rattle.nm_frames.specs.declared.frame.Frame.{Frame}
+use Rattle.nm_frames.specs.Frame.{stream_octets}
+use Rattle.nm_frames.specs.Lives.{Gave}
+use Rattle.nm_frames.specs.Owed.{given_maybe, owed}
+use Rattle.nm_frames.specs.Session.{SessionValue}
+use Rattle.nm_engine.specs.declared.answer.Cause.{Cause}
+use Rattle.nm_engine.specs.declared.answer.Cause.TheVariants.{End, Fault, Frame as BadFrame, Session as BadSession, Book, Memory}
+use Rattle.nm_engine.specs.Host.{HostValue}
+use Rattle.nm_engine.specs.Lives.{Lives}
+
+-- frames were given, and stand at the end of the buffer but for the lost octets
+pub record Gives (h : Option HostValue) (s t : Option SessionValue) (before after lost : List ℕ) : Type 0 where
+  pub outs : List Frame
+  pub gave : Lives h s (map Gave outs) t
+  pub put : after ++ lost ≡ before ++ stream_octets outs
+
+-- the same of a call that is refused for memory alone
+abbrev pub GivesOr : {A : Type 0} → Option HostValue → Option SessionValue → Option SessionValue → List ℕ → List ℕ → Result A Cause → Type 0
+GivesOr h s t before after (Ok x) = Gives h s t before after []
+GivesOr h s t before after (Err End) = ⊥
+GivesOr h s t before after (Err Fault) = ⊥
+GivesOr h s t before after (Err BadFrame) = ⊥
+GivesOr h s t before after (Err BadSession) = ⊥
+GivesOr h s t before after (Err Book) = ⊥
+GivesOr h s t before after (Err Memory) = (lost : List ℕ) × Gives h s t before after lost

@@ -1,0 +1,9 @@
+pub mod Host
+pub mod Lives
+pub mod Link
+pub mod Reading
+pub mod Taking
+pub mod Giving
+pub mod Writing
+pub mod Turn
+pub mod Many

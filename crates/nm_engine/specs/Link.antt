@@ -1,0 +1,22 @@
+-- What contracts see of a link.
+use Rattle.std.specs.Prelude.{ℕ, ◌+◌, ◌<◌, ◌≤◌, Bool, List, length, Option}
+use Rattle.nm_frames.specs.Session.{SessionValue}
+use Rattle.nm_engine.specs.Host.{HostValue}
+use Rattle.nm_engine.specs.declared.limits.TheConstants.{MAX_FRAME_OCTETS, MAX_OUT_OCTETS}
+
+pub record LinkValue (W : Type 0) : Type 0 where
+  pub wire : W
+  -- who awaits a session, where the peer connected
+  pub host : Option HostValue
+  -- None up to the peer's first frame, where the peer connected
+  pub session : Option SessionValue
+  -- the octets of a frame that has not come whole
+  pub rest : List ℕ
+  -- the octets that the wire has not taken
+  pub out : List ℕ
+  pub failed : Bool
+
+-- what a link keeps of octets has limits, whatever the peer sends and takes
+pub record IsBounded (rest out : List ℕ) : Type 0 where
+  pub rest_most : length rest < MAX_FRAME_OCTETS
+  pub out_most : length out ≤ MAX_OUT_OCTETS

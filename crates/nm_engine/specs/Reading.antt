@@ -1,0 +1,50 @@
+-- What one read of a link came to.
+use Rattle.std.specs.Prelude.{◌≡◌, ℕ, ◌+◌, ◌≤◌, true, false, List, [], ◌++◌, length, Result, Ok, Err, Some}
+use Rattle.std.specs.List.{AllByRecursion}
+use Rattle.nm_frames.specs.declared.frame.Frame.{Frame}
+use Rattle.nm_frames.specs.declared.fault.FrameFault.{FrameFault}
+use Rattle.nm_frames.specs.Frame.{IsFrame, stream_octets}
+use Rattle.nm_frames.specs.Reader.{ReaderValue}
+use Rattle.nm_frames.specs.Stream.{fault_shown}
+use Rattle.nm_engine.specs.declared.answer.Cause.{Cause}
+use Rattle.nm_engine.specs.declared.answer.Cause.TheVariants.{End, Fault, Frame as BadFrame, Session as BadSession, Book, Memory}
+use Rattle.nm_engine.specs.declared.limits.TheConstants.{MAX_READ_OCTETS}
+
+-- octets are those of these frames, and then a rest
+pub record IsFramed (octets : List ℕ) (frames : List Frame) (rest : List ℕ) : Type 0 where
+  pub parts : octets ≡ stream_octets frames ++ rest
+  pub each : AllByRecursion IsFrame frames
+
+-- the reader took a piece of so many octets, which completed these frames; or it took none of it, or found a fault
+abbrev pub Feeds : ReaderValue → List ℕ → List Frame → ReaderValue → Result ℕ Cause → Type 0
+Feeds r piece frames q (Ok n) = (n ≡ length piece) × IsFramed (r.rest ++ piece) frames q.rest × (q.failed ≡ false)
+Feeds r piece frames q (Err End) = ⊥
+Feeds r piece frames q (Err Fault) = ⊥
+Feeds r piece frames q (Err BadFrame) =
+    (rest : List ℕ) × IsFramed (r.rest ++ piece) frames rest × ((e : FrameFault) × (fault_shown rest ≡ Some e))
+Feeds r piece frames q (Err BadSession) = ⊥
+Feeds r piece frames q (Err Book) = ⊥
+Feeds r piece frames q (Err Memory) = frames ≡ []
+
+module _ {W : Type 0} (given : W → List ℕ) (ends failures : W → ℕ) (old new : W) where
+  -- these octets came; with those that were held before they are the frames, and then the rest
+  pub record Came (held : List ℕ) (frames : List Frame) (rest : List ℕ) : Type 0 where
+    pub came : List ℕ
+    pub most : length came ≤ MAX_READ_OCTETS
+    pub came_in : given new ≡ given old ++ came
+    pub framed : IsFramed (held ++ came) frames rest
+
+  -- why nothing more is read
+  abbrev pub ReadEnds : Cause → List Frame → List ℕ → Type 0
+  ReadEnds End frames rest = (ends new ≡ ends old + 1) × (failures new ≡ failures old)
+  ReadEnds Fault frames rest = (frames ≡ []) × (failures new ≡ failures old + 1)
+  ReadEnds BadFrame frames rest = ((e : FrameFault) × (fault_shown rest ≡ Some e)) × (failures new ≡ failures old)
+  ReadEnds BadSession frames rest = ⊥
+  ReadEnds Book frames rest = ⊥
+  ReadEnds Memory frames rest = failures new ≡ failures old
+
+  -- so many octets came and the reader goes on, or it ends there
+  abbrev pub Reads : ReaderValue → List Frame → ReaderValue → Result ℕ Cause → Type 0
+  Reads r frames q (Ok n) =
+      (c : Came r.rest frames q.rest) × (length c.came ≡ n) × (failures new ≡ failures old) × (q.failed ≡ false)
+  Reads r frames q (Err cause) = (rest : List ℕ) × Came r.rest frames rest × ReadEnds cause frames rest

@@ -1,0 +1,104 @@
+-- What one turn of a link did.
+use Rattle.std.specs.Prelude.{◌≡◌, ℕ, ◌+◌, ◌<◌, ◌≤◌, nat_lt, if◌then◌else◌, Bool, true, false, List, [], ◌++◌, length, map, Option, Some, Result, Ok, Err}
+use Rattle.nm_frames.specs.declared.frame.Frame.{Frame}
+use Rattle.nm_frames.specs.declared.fault.FrameFault.{FrameFault}
+use Rattle.nm_frames.specs.Frame.{IsFrame, frame_octets, stream_octets}
+use Rattle.nm_frames.specs.Lives.{Took, Gave}
+use Rattle.nm_frames.specs.Session.{SessionValue}
+use Rattle.nm_frames.specs.Stream.{fault_shown}
+use Rattle.nm_engine.specs.declared.answer.Cause.{Cause}
+use Rattle.nm_engine.specs.declared.answer.Cause.TheVariants.{End, Fault, Frame as BadFrame, Session as BadSession, Book, Memory}
+use Rattle.nm_engine.specs.declared.answer.Turn.{Turn}
+use Rattle.nm_engine.specs.declared.answer.Turn.TheVariants.{Progress, Idle, Ended, Broken, Failed}
+use Rattle.nm_engine.specs.declared.limits.TheConstants.{MAX_READ_OCTETS}
+use Rattle.nm_engine.specs.Host.{HostValue}
+use Rattle.nm_engine.specs.Link.{LinkValue}
+use Rattle.nm_engine.specs.Lives.{Lives}
+use Rattle.nm_engine.specs.Taking.{Stops}
+
+-- the faults of a wire that a cause tells of
+abbrev pub faults_of : Cause → ℕ
+faults_of End = 0
+faults_of Fault = 1
+faults_of BadFrame = 0
+faults_of BadSession = 0
+faults_of Book = 0
+faults_of Memory = 0
+
+-- both sides have said Bye, and nothing waits
+pub record HasEnded (session : Option SessionValue) (out : List ℕ) : Type 0 where
+  pub last : SessionValue
+  pub there : session ≡ Some last
+  pub bye_taken : last.bye_taken ≡ true
+  pub bye_given : last.bye_given ≡ true
+  pub empty : out ≡ []
+
+-- the answer of a turn that went well, in which so many octets moved
+abbrev pub answer_of : Bool → ℕ → Turn
+answer_of ended moved = if ended then Ended else if nat_lt 0 moved then Progress else Idle
+
+module _ {W : Type 0} (given taken : W → List ℕ) (ends failures : W → ℕ) (old new : LinkValue W) where
+  -- What came, with the octets held before, are the octets of the frames that the session took, and then the rest. What went, and then
+  -- what is left, is what waited before and the octets of the frames that the session gave once it had taken those.
+  pub record Moves (rest left : List ℕ) : Type 0 where
+    pub was_whole : old.failed ≡ false
+    pub came : List ℕ
+    pub went : List ℕ
+    pub ins : List Frame
+    pub outs : List Frame
+    pub mid : Option SessionValue
+    pub most : length came ≤ MAX_READ_OCTETS
+    pub came_in : given new.wire ≡ given old.wire ++ came
+    pub framed : old.rest ++ came ≡ stream_octets ins ++ rest
+    pub took : Lives old.host old.session (map Took ins) mid
+    pub gave : Lives old.host mid (map Gave outs) new.session
+    pub went_out : taken new.wire ≡ taken old.wire ++ went
+    pub sent : went ++ left ≡ old.out ++ stream_octets outs
+    pub host : new.host ≡ old.host
+
+  -- a turn that went well: the link holds the rest and what is left
+  pub record Went : Type 0 where
+    pub moves : Moves new.rest new.out
+    pub sound : failures new.wire ≡ failures old.wire
+    pub whole : new.failed ≡ false
+
+  -- the rest begins with a frame that was not taken, for this cause
+  abbrev pub StopsAt : Cause → List ℕ → Option SessionValue → Type 0
+  StopsAt cause rest mid =
+      (f : Frame) × (more : List ℕ) × IsFrame f × (rest ≡ frame_octets f ++ more) × Stops cause old.host mid f
+
+  -- the reason of a cause
+  abbrev pub IsReason : Cause → List ℕ → Option SessionValue → Type 0
+  IsReason End rest mid = ends new.wire ≡ ends old.wire + 1
+  IsReason Fault rest mid = Unit {0}
+  IsReason BadFrame rest mid = (e : FrameFault) × (fault_shown rest ≡ Some e)
+  IsReason BadSession rest mid = StopsAt BadSession rest mid
+  IsReason Book rest mid = StopsAt Book rest mid
+  IsReason Memory rest mid = Unit {0}
+
+  -- a turn at which the link broke: the rest was not taken, and what is left has not gone
+  pub record Breaks (cause : Cause) : Type 0 where
+    pub rest : List ℕ
+    pub left : List ℕ
+    pub moves : Moves rest left
+    pub reason : IsReason cause rest moves.mid
+    pub faults : failures new.wire ≡ failures old.wire + faults_of cause
+    pub over : new.failed ≡ true
+
+  abbrev pub Turns : Turn → Type 0
+  Turns Progress = (w : Went) × (0 < length w.moves.came + length w.moves.went)
+  Turns Idle = (w : Went) × (length w.moves.came + length w.moves.went ≡ 0)
+  Turns Ended = Went × HasEnded new.session new.out
+  Turns (Broken cause) = Breaks cause
+  Turns Failed = (old.failed ≡ true) × (new ≡ old)
+
+-- the link of these parts
+abbrev pub link_of : {W : Type 0} → W → Option HostValue → Option SessionValue → List ℕ → List ℕ → Bool → LinkValue W
+link_of wire host session rest out failed = record { wire = wire; host = host; session = session; rest = rest; out = out; failed = failed }
+
+-- the same of a turn's work on the parts of a link that has not failed
+abbrev pub Works : {W : Type 0} → (W → List ℕ) → (W → List ℕ) → (W → ℕ) → (W → ℕ) → W → W → Option HostValue → Option SessionValue → Option SessionValue → List ℕ → List ℕ → List ℕ → List ℕ → Result Turn Cause → Type 0
+Works given taken ends failures v w h s t r q o p (Ok turn) =
+    Turns given taken ends failures (link_of v h s r o false) (link_of w h t q p false) turn
+Works given taken ends failures v w h s t r q o p (Err cause) =
+    Breaks given taken ends failures (link_of v h s r o false) (link_of w h t q p true) cause

@@ -1,0 +1,64 @@
+//! What a link puts into its buffer.
+
+ghost use Rattle.std.specs.Prelude.{◌≡◌, ◌+◌, ◌<◌, ◌≤◌, true, Ok, vec_len};
+ghost use Rattle.nm_engine.specs.Giving.{GivesOr};
+ghost use Rattle.nm_engine.specs.Host.{HostValue};
+ghost use Rattle.std.specs.Prelude.{Option};
+
+use crate::acts::NextOut;
+use crate::answer::Cause;
+use crate::limits::{FULL_OUT_OCTETS, MAX_FRAME_OCTETS, MAX_OUT_OCTETS};
+use nm_frames::{Session, write_frame};
+use nm_shared::{Counts, Pass, SharedBook};
+use std::sync::Wait;
+
+/// Puts the frame that the session owes next at the end of the buffer. Whether there was one.
+fn give_one<C: Counts, R: Wait>(
+    rt: &R,
+    session: &mut Option<Session>,
+    book: &SharedBook<C>,
+    pass: &mut Pass<C>,
+    out: &mut Vec<u8>,
+) -> Result<bool, Cause>
+    ensures gives { (h : Option HostValue) → GivesOr h session.old session.new out.old.items
+        out.new.items result }
+    ensures more { result ≡ Ok true → vec_len out.old < vec_len out.new }
+    ensures most { vec_len out.new ≤ vec_len out.old + MAX_FRAME_OCTETS }
+{
+    let Some(asked) = session.take() else {
+        return Ok(false);
+    };
+    let (back, owed) = book.act(rt, pass, NextOut { session: asked });
+    *session = Some(back);
+    match owed {
+        Err(_) => Err(Cause::Memory),
+        Ok(None) => Ok(false),
+        Ok(Some(frame)) => match write_frame(&frame, out) {
+            Ok(()) => Ok(true),
+            Err(_) => Err(Cause::Memory),
+        },
+    }
+}
+
+/// Puts frames at the end of the buffer until the session owes none, or the buffer is full.
+pub(crate) fn give_all<C: Counts, R: Wait>(
+    rt: &R,
+    session: &mut Option<Session>,
+    book: &SharedBook<C>,
+    pass: &mut Pass<C>,
+    out: &mut Vec<u8>,
+) -> Result<(), Cause>
+    requires { vec_len out.old ≤ MAX_OUT_OCTETS }
+    ensures gives { (h : Option HostValue) → GivesOr h session.old session.new out.old.items
+        out.new.items result }
+    ensures most { vec_len out.new ≤ MAX_OUT_OCTETS }
+{
+    while out.len() < FULL_OUT_OCTETS {
+        match give_one(rt, session, book, pass, out) {
+            Ok(true) => {}
+            Ok(false) => return Ok(()),
+            Err(cause) => return Err(cause),
+        }
+    }
+    Ok(())
+}

@@ -1,0 +1,28 @@
+//! Laws of the definitions: each function's contract is a law, and its body is empty.
+
+ghost use Rattle.std.specs.Prelude.{ℕ, List, Option};
+ghost use Rattle.nm_engine.specs.declared.answer.Turn.{Turn};
+ghost use Rattle.nm_engine.specs.Host.{HostValue};
+ghost use Rattle.nm_engine.specs.Link.{LinkValue};
+ghost use Rattle.nm_engine.specs.Lives.{Lives};
+ghost use Rattle.nm_engine.specs.Many.{Accounts, GoesOn, HasDue};
+ghost use Rattle.nm_frames.specs.Lives.{AreConsecutive, SessionStep, due_after};
+ghost use Rattle.nm_frames.specs.Session.{SessionValue};
+
+/// Over any number of turns, whatever they answered, nothing that was taken over is lost and nothing
+/// is made up: the octets that came are those of the frames that were taken and a rest, and those
+/// that went begin the octets of the frames that were given.
+pub fn nothing_is_lost<W>()
+    ensures { (given taken : W → List ℕ) (ends failures : W → ℕ) (first last : LinkValue W)
+        (path : List (Turn × LinkValue W)) → GoesOn given taken ends failures first path last
+        → Accounts given taken first last }
+{}
+
+/// Over any steps of a link's session, each message that is given on a channel has the number that
+/// is due there: that of the session's cursor or of the peer's last Have, and then one more each
+/// time.
+pub fn messages_are_consecutive()
+    ensures { (h : Option HostValue) (s t : Option SessionValue) (steps : List SessionStep) (c : ℕ)
+        (due : Option ℕ) → HasDue c due s → Lives h s steps t
+        → AreConsecutive c due steps × HasDue c (due_after c due steps) t }
+{}

@@ -1,0 +1,19 @@
+//! Links: a session over a wire that may break at any octet.
+#![tactic(auto)]
+
+pub mod acts;
+pub mod answer;
+mod giving;
+pub mod host;
+pub mod laws;
+pub mod limits;
+pub mod link;
+pub mod reading;
+mod taking;
+mod turning;
+mod writing;
+
+pub use answer::{Cause, Turn};
+pub use host::Host;
+pub use link::Link;
+pub use reading::ReadBuffer;

@@ -1,0 +1,101 @@
+//! One read of a link.
+
+ghost use Rattle.std.specs.Prelude.{◌≡◌, ◌+◌, ◌<◌, [], true, false, length, IfOk};
+ghost use Rattle.nm_engine.specs.declared.limits.TheConstants.{MAX_READ_OCTETS};
+ghost use Rattle.nm_engine.specs.Reading.{Feeds, Reads};
+
+use crate::answer::Cause;
+use crate::limits::{MAX_FRAME_OCTETS, MAX_READ_OCTETS};
+use nm_base::Wire;
+use nm_base::wire::Read;
+use nm_frames::{Frame, FrameFault, Reader};
+use std::alloc::{AllocError, Global};
+
+/// Where octets stand between a wire and a reader. One serves all links of a thread.
+#[derive(Drop)]
+pub struct ReadBuffer {
+    octets: Vec<u8>,
+    ghost size: { length octets.items ≡ MAX_READ_OCTETS },
+}
+
+impl ReadBuffer {
+    /// A buffer of 65,536 octets.
+    ///
+    /// # Errors
+    ///
+    /// Where memory was refused.
+    pub fn new(alloc: Global) -> Result<Self, AllocError> {
+        Ok(ReadBuffer {
+            octets: vec![in alloc; 0u8; MAX_READ_OCTETS]?,
+        })
+    }
+}
+
+/// Hands octets that came to the reader, and puts the frames that are whole now into a list.
+fn feed(
+    alloc: Global,
+    reader: &mut Reader,
+    octets: &[u8],
+    frames: &mut Vec<Frame>,
+) -> Result<usize, Cause>
+    requires sound { reader.old.failed ≡ false }
+    requires none { frames.old.items ≡ [] }
+    requires rest { length reader.old.rest < MAX_FRAME_OCTETS }
+    ensures feeds { Feeds reader.old octets.now frames.new.items reader.new result }
+    ensures rest { length reader.new.rest < MAX_FRAME_OCTETS }
+{
+    match reader.feed(alloc, octets, frames) {
+        Ok(()) => Ok(octets.len()),
+        Err(FrameFault::BadLength) => Err(Cause::Frame),
+        Err(FrameFault::BadKind) => Err(Cause::Frame),
+        Err(FrameFault::BadBody) => Err(Cause::Frame),
+        Err(FrameFault::Memory) => Err(Cause::Memory),
+        Err(FrameFault::Failed) => unreachable!(),
+    }
+}
+
+/// Reads once into the front of a list of octets, and hands on what came. How many octets came.
+fn read_into<W: Wire>(
+    alloc: Global,
+    wire: &mut W,
+    reader: &mut Reader,
+    may_end: bool,
+    octets: &mut [u8],
+    frames: &mut Vec<Frame>,
+) -> Result<usize, Cause>
+    requires size { length octets.old ≡ MAX_READ_OCTETS }
+    requires sound { reader.old.failed ≡ false }
+    requires none { frames.old.items ≡ [] }
+    requires rest { length reader.old.rest < MAX_FRAME_OCTETS }
+    ensures reads { Reads W.given W.ends W.failures wire.old wire.new reader.old frames.new.items
+        reader.new result }
+    ensures rest { length reader.new.rest < MAX_FRAME_OCTETS }
+    ensures keeps { W.taken wire.new ≡ W.taken wire.old }
+{
+    match wire.read_some(octets) {
+        Read::Got(count) => feed(alloc, reader, &octets[..count], frames),
+        Read::End => { if may_end { Ok(0) } else { Err(Cause::End) } }
+        Read::Later => Ok(0),
+        Read::Fault => Err(Cause::Fault),
+    }
+}
+
+/// Reads once, and puts the frames that came whole into a list. How many octets came.
+pub(crate) fn read_in<W: Wire>(
+    alloc: Global,
+    wire: &mut W,
+    reader: &mut Reader,
+    may_end: bool,
+    buffer: &mut ReadBuffer,
+    frames: &mut Vec<Frame>,
+) -> Result<usize, Cause>
+    requires sound { reader.old.failed ≡ false }
+    requires none { frames.old.items ≡ [] }
+    requires rest { length reader.old.rest < MAX_FRAME_OCTETS }
+    ensures reads { Reads W.given W.ends W.failures wire.old wire.new reader.old frames.new.items
+        reader.new result }
+    ensures rest { length reader.new.rest < MAX_FRAME_OCTETS }
+    ensures keeps { W.taken wire.new ≡ W.taken wire.old }
+{
+    read_into(alloc, wire, reader, may_end, &mut buffer.octets, frames)
+}

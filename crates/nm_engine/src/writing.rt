@@ -1,0 +1,35 @@
+//! One write of a link.
+
+ghost use Rattle.std.specs.Prelude.{◌≡◌, ◌≤◌, drop, vec_len};
+ghost use Rattle.nm_engine.specs.Writing.{Writes};
+
+use crate::answer::Cause;
+use nm_base::Wire;
+use nm_base::wire::Written;
+
+/// Drops so many octets at the front.
+fn drop_front(out: &mut Vec<u8>, count: usize)
+    requires { count ≤ vec_len out.old }
+    ensures { out.new.items ≡ drop count out.old.items }
+{
+    out.drain(..count);
+}
+
+/// Writes once from the front of the buffer. How many octets went.
+pub(crate) fn write_out<W: Wire>(wire: &mut W, out: &mut Vec<u8>) -> Result<usize, Cause>
+    ensures writes { Writes W.taken W.failures wire.old wire.new out.old.items out.new.items
+        result }
+    ensures keeps { (W.given wire.new ≡ W.given wire.old) × (W.ends wire.new ≡ W.ends wire.old) }
+{
+    if out.is_empty() {
+        return Ok(0);
+    }
+    match wire.write_some(out.as_slice()) {
+        Written::Took(count) => {
+            drop_front(out, count);
+            Ok(count)
+        }
+        Written::Later => Ok(0),
+        Written::Fault => Err(Cause::Fault),
+    }
+}

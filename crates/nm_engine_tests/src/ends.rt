@@ -1,0 +1,172 @@
+//! Replicas, and links of theirs over wires in memory.
+
+use nm_base::mem_wire::Ending;
+use nm_base::{ChanNo, MemWire, PartNo, Time};
+use nm_book::{ChannelMessage, Null};
+use nm_engine::{Host, Link, ReadBuffer, Turn};
+use nm_frames::Session;
+use nm_shared::{Pass, Plain, SharedBook};
+use nm_topology::Topology;
+use std::alloc::Global;
+use std::sync::{Arc, Wait};
+use std::test::Fail;
+
+/// A replica that is shared, with a pass.
+#[derive(Drop)]
+pub struct End {
+    pub book: SharedBook<Plain>,
+    pub pass: Pass<Plain>,
+}
+
+/// A network, which has to be accepted.
+pub fn network(alloc: Global, text: &str) -> Result<Arc<Topology>, Fail> {
+    let topology = Topology::read(alloc, text.as_bytes())?;
+    Ok(Arc::new(alloc, topology)?)
+}
+
+/// Replica 0 of a partition, which knows nothing yet.
+pub fn end_of<R: Wait>(
+    rt: &R,
+    alloc: Global,
+    topology: &Arc<Topology>,
+    partition: u32,
+) -> Result<End, Fail> {
+    let (counts, whole) = Plain::open();
+    let shared = Arc::try_clone(topology)?;
+    let book = SharedBook::new(alloc, shared, PartNo::new(partition), 0, counts, whole)?;
+    let pass = book.pass(rt)?;
+    Ok(End { book, pass })
+}
+
+/// Replica 0 of partition 0 once it knows that nothing comes on channel 0 before this time, in
+/// nanoseconds, and did what is safe then.
+pub fn end_at<R: Wait>(
+    rt: &R,
+    alloc: Global,
+    topology: &Arc<Topology>,
+    clock: u64,
+) -> Result<End, Fail> {
+    let mut end = end_of(rt, alloc, topology, 0)?;
+    let null = ChannelMessage::Null(Null {
+        channel: ChanNo::new(0),
+        count: 0,
+        clock: Time::from_nanoseconds(clock),
+    });
+    end.book.accept(rt, &mut end.pass, &null)?;
+    let _ran = end.book.run(rt, &mut end.pass, alloc, 1000);
+    Ok(end)
+}
+
+/// A session of replica 0 of one of two partitions with the other one.
+pub fn session_of(alloc: Global, topology: &Topology, me: u32) -> Result<Session, Fail> {
+    let peer = if me == 0 { 1 } else { 0 };
+    Ok(Session::new(alloc, topology, PartNo::new(me), 0, PartNo::new(peer))?)
+}
+
+/// How many messages a replica knows of a channel, and its clock there, in nanoseconds.
+pub fn known(alloc: Global, end: End, channel: u32) -> Result<(u64, u64), Fail> {
+    let End { book, pass } = end;
+    let mut passes = Vec::new(alloc);
+    passes.push(pass)?;
+    let Ok(closed) = book.close(passes) else {
+        return Err("no pass is missing".into());
+    };
+    match closed.book.know(ChanNo::new(channel)) {
+        Some(know) => Ok((know.len() as u64, know.clock().nanoseconds())),
+        None => Err("the channel comes in".into()),
+    }
+}
+
+/// What a wire in memory does: what it gives, how it ends, and how many octets it takes.
+#[derive(Clone, Copy)]
+pub struct Script<'a> {
+    pub source: &'a [u8],
+    pub ending: Ending,
+    pub room: usize,
+    /// The most octets that one call moves, at least 1.
+    pub piece: usize,
+}
+
+/// What a link came to: its last turn that was no progress, the octets that its wire took, and its
+/// session.
+#[derive(Drop)]
+pub struct Came {
+    pub turn: Turn,
+    pub octets: Vec<u8>,
+    pub session: Option<Session>,
+}
+
+/// Turns of a link until one that is no progress, at most 2,000.
+pub fn turns<R: Wait>(
+    rt: &R,
+    alloc: Global,
+    end: &mut End,
+    link: &mut Link<MemWire>,
+) -> Result<Turn, Fail> {
+    let mut buffer = ReadBuffer::new(alloc)?;
+    for _ in 0..2_000 {
+        let turn = link.turn(rt, alloc, &end.book, &mut end.pass, &mut buffer);
+        if turn != Turn::Progress {
+            return Ok(turn);
+        }
+    }
+    Ok(Turn::Progress)
+}
+
+/// A wire that does what a script says.
+pub fn wire_of(alloc: Global, script: Script) -> Result<MemWire, Fail> {
+    let source = script.source.to_vec(alloc)?;
+    let piece = script.piece.max(1);
+    Ok(MemWire::new(alloc, source, script.ending, script.room, piece)?)
+}
+
+/// A wire that gives these octets and then nothing, and takes all.
+pub fn open(source: &[u8]) -> Script<'_> {
+    Script {
+        source,
+        ending: Ending::Later,
+        room: 1_000,
+        piece: 1_000,
+    }
+}
+
+/// A link with this session over such a wire.
+pub fn drive<R: Wait>(
+    rt: &R,
+    alloc: Global,
+    end: &mut End,
+    session: Session,
+    script: Script,
+) -> Result<Came, Fail> {
+    let link = Link::connected(alloc, wire_of(alloc, script)?, session);
+    outcome(rt, alloc, end, link)
+}
+
+/// A link that the peer connected, over such a wire.
+pub fn drive_accepted<R: Wait>(
+    rt: &R,
+    alloc: Global,
+    end: &mut End,
+    host: Host,
+    script: Script,
+) -> Result<Came, Fail> {
+    let link = Link::accepted(alloc, wire_of(alloc, script)?, host);
+    outcome(rt, alloc, end, link)
+}
+
+/// What a link comes to.
+fn outcome<R: Wait>(
+    rt: &R,
+    alloc: Global,
+    end: &mut End,
+    link: Link<MemWire>,
+) -> Result<Came, Fail> {
+    let mut link = link;
+    let turn = turns(rt, alloc, end, &mut link)?;
+    let (wire, session) = link.back();
+    Ok(Came {
+        turn,
+        octets: wire.octets().to_vec(alloc)?,
+        session,
+    })
+}
