@@ -1,30 +1,22 @@
 -- What a replica's act is in the model's world.
-use Rattle.std.proofs.Common.{◌≡◌, ◌≢◌, ◌⊎◌, inl, inr, ℕ, zero, suc, ◌+◌, ◌*◌, ◌-◌, ◌<◌, ◌≤◌, ◌&&◌, ltb, leb, Bool, true, false, cond, List, [], ◌∷◌, ◌++◌, length, drop, map, slice_get, slice_set, slice_index_or, get_or, Option, Some, None, Result, Ok, Err, refl, sym, ◌∙◌, ap, ap₂, subst, arith, ⊎_elim}
-use Rattle.std.proofs.lemmas.Bool.Decides.{nat_tests}
+use Rattle.std.proofs.Common.{◌≡◌, ℕ, ◌+◌, ◌*◌, ◌-◌, ◌<◌, Bool, true, false, cond, List, length, slice_get, slice_set, get_or, Some, Ok, Err, refl, sym, ◌∙◌, ap, subst, arith}
 use Rattle.std.proofs.lemmas.Option.{slice_get_read}
 use Rattle.nm_topology.specs.TopologyValue.{TopologyValue}
-use Rattle.nm_topology.specs.Topology.{receiving_iface}
-use Rattle.nm_model.specs.Before.{IsCount}
-use Rattle.nm_model.specs.Lists.{nth}
-use Rattle.nm_model.specs.Partition.{goes_out}
-use Rattle.nm_model.specs.Promise.{Promising, promise}
 use Rattle.nm_model.specs.Replica.{from_scratch, safe_time}
 use Rattle.nm_model.specs.Run.{pends_before}
 use Rattle.nm_model.specs.World as model
-use Rattle.nm_knowledge.specs.Octets.{same_octets}
 use Rattle.nm_sim.specs.Network.{net_of}
 use Rattle.nm_book.specs.Book.{BookValue, is_replica, replica_of}
 use Rattle.nm_book.specs.Running.{Runs}
 use Rattle.nm_book.specs.declared.message.ChannelMessage.{ChannelMessage}
-use Rattle.nm_book.specs.declared.running.Ran.{Ran}
 use Rattle.nm_book.specs.declared.running.Ran.TheVariants as ran
-use Rattle.nm_rounds.specs.World.{AreFrames, AreReplicas, IsReplicaOf, IsWorld, Steps, frame_of, happens, outcome_of}
+use Rattle.nm_rounds.specs.World.{IsReplicaOf, IsWorld, Steps, happens, outcome_of}
 use Rattle.nm_rounds.specs.declared.step.StepAnswer.{StepAnswer}
 use Rattle.nm_rounds.specs.declared.step.StepAnswer.TheVariants as answer
 use Rattle.nm_rounds.specs.declared.step.WorldStep.{WorldStep}
 use Rattle.nm_rounds.specs.declared.step.WorldStep.TheVariants as step
 use Rattle.nm_rounds.specs.declared.world.Stop.TheVariants as stop
-use Rattle.nm_rounds.proofs.Standing.{set_same, is_replica_is, there_is, put_book, put_frames}
+use Rattle.nm_rounds.proofs.Standing.{set_same, is_replica_is, there_is, put_book}
 
 -- what is said of a book's own topology, partition and replica
 pub moved : (Q : TopologyValue → ℕ → model.Replica (List ℕ) → Type 0) (t : TopologyValue) (p r : ℕ) (b : BookValue) (x : model.Replica (List ℕ)) → IsReplicaOf t p r b x

@@ -1,6 +1,5 @@
 -- A frame reaches a replica of its receiver.
-use Rattle.std.proofs.Common.{◌≡◌, ◌≢◌, ◌==◌, ◌++◌, ◌⊎◌, inl, inr, ℕ, zero, suc, ◌+◌, ◌*◌, ◌<◌, ◌≤◌, ltb, Bool, true, false, cond, List, [], ◌∷◌, length, map, slice_get, slice_set, slice_index_or, get_or, Option, Some, None, Result, Ok, Err, refl, sym, ◌∙◌, ap, ap₂, subst, arith, ⊎_elim}
-use Rattle.std.proofs.Math.Path.{fun_ext}
+use Rattle.std.proofs.Common.{◌≡◌, ◌≢◌, ◌==◌, ◌++◌, ℕ, zero, suc, ◌+◌, ◌*◌, ◌<◌, ltb, Bool, true, false, cond, List, [], ◌∷◌, length, map, slice_get, slice_set, slice_index_or, get_or, Option, Some, None, Ok, Err, refl, sym, ◌∙◌, ap, ap₂, subst, arith}
 use Rattle.std.proofs.lemmas.List.{length-set, set-get_or}
 use Rattle.std.proofs.lemmas.Option.{slice_get_past, slice_get_read}
 use Rattle.std.proofs.lemmas.Bool.Decides.{nat_tests}
@@ -13,23 +12,21 @@ use Rattle.nm_knowledge.specs.declared.answer.Accepted.{Accepted}
 use Rattle.nm_knowledge.specs.declared.answer.KnowFault.{KnowFault}
 use Rattle.nm_knowledge.specs.declared.answer.KnowFault.TheVariants as fault
 use Rattle.nm_model.specs.Accept as accept
-use Rattle.nm_model.specs.Knowledge.{Know, Knowledge, nothing_known}
+use Rattle.nm_model.specs.Knowledge.{Know, nothing_known}
 use Rattle.nm_model.specs.Lists.{nth, set_at}
 use Rattle.nm_model.specs.Partition.{comes_in, receiver_of}
 use Rattle.nm_model.specs.World as model
 use Rattle.nm_sim.specs.Network.{net_of}
-use Rattle.nm_book.specs.Book.{BookValue, LearnsIf, Learns, Takes, data_taken, is_incoming, is_replica, knowledge, knowledge_of, message_channel, message_taken, null_taken, replica_of}
+use Rattle.nm_book.specs.Book.{BookValue, LearnsIf, Learns, Takes, is_incoming, is_replica, knowledge_of, message_channel, message_taken}
 use Rattle.nm_book.specs.declared.message.ChannelMessage.{ChannelMessage}
 use Rattle.nm_book.specs.declared.message.ChannelMessage.TheVariants.{Data as DataMessage, Null as NullMessage}
-use Rattle.nm_book.specs.declared.fault.AcceptFault.{AcceptFault}
 use Rattle.nm_book.specs.declared.fault.AcceptFault.TheVariants.{Known, Stranger}
-use Rattle.nm_book.proofs.Tellings.{known_here, known_set, set_elsewhere, set_here}
+use Rattle.nm_book.proofs.Tellings.{known_here, known_set, set_elsewhere}
 use Rattle.nm_rounds.specs.World.{IsReplicaOf, IsWorld, Steps, frame_of, happens, refusal_of}
-use Rattle.nm_rounds.specs.declared.step.StepAnswer.{StepAnswer}
 use Rattle.nm_rounds.specs.declared.step.StepAnswer.TheVariants as told
 use Rattle.nm_rounds.specs.declared.step.WorldStep.TheVariants as step
 use Rattle.nm_rounds.specs.declared.world.Stop.TheVariants as stop
-use Rattle.nm_rounds.proofs.Standing.{is_replica_is, put_book, there_is}
+use Rattle.nm_rounds.proofs.Standing.{is_replica_is}
 use Rattle.nm_rounds.proofs.Acts.{unchanged_at, book_read, step_done, step_names_nothing, with_book}
 
 pub past_the_bag : {X : Type 0} (l : List X) (i : ℕ) → ltb i (length l) ≡ false → slice_get l i ≡ None
@@ -175,7 +172,7 @@ module _ (t : TopologyValue) (books : List BookValue) (bag : List ChannelMessage
       accepted a h =
           let learns : Learns b.knows c.knows ch (message_taken b.knows m) (Ok a) = subst (λ z. LearnsIf z b.knows c.knows ch (message_taken b.knows m) (Ok a)) incoming h.learns in
           let says : option_map model.Answered (answer (Ok a)) ≡ Some (model.Answered (said_of (x.knowledge iface) m).answer) =
-              ap (option_map model.Answered) (sym learns.0 ∙ ap (λ z. Some z.answer) taken) in
+          ap (option_map model.Answered) (sym learns.0 ∙ ap (λ z. Some z.answer) taken) in
           step_done t w (step.Deliver i r) (slice_set books place c) bag
           (model.put_replica w p r (record { knowledge = set_at x.knowledge iface (said_of (x.knowledge iface) m).after; ran = x.ran }))
           (model.Answered (said_of (x.knowledge iface) m).answer) (told.Accepted a) (deliver_is true there) says

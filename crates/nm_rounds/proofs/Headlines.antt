@@ -1,16 +1,13 @@
 -- The headline, from the prefix theorem of the model's world.
-use Rattle.std.proofs.Common.{◌≡◌, ◌⊎◌, inl, inr, ℕ, zero, suc, ◌+◌, ◌*◌, ◌<◌, ◌≤◌, min, Bool, true, false, List, [], ◌∷◌, length, map, slice_get, slice_index_or, Option, Some, None, refl, sym, ◌∙◌, ap, ap₂, subst, arith, ⊎_elim, true≢false}
+use Rattle.std.proofs.Common.{◌≡◌, ℕ, zero, suc, ◌+◌, ◌*◌, ◌<◌, ◌≤◌, min, true, false, List, [], ◌∷◌, length, map, slice_get, slice_index_or, Option, Some, None, refl, sym, ◌∙◌, ap, subst, arith, ⊎_elim, true≢false}
 use Rattle.std.proofs.lemmas.Bool.{cases_lt}
 use Rattle.std.specs.Option.{option_map}
-use Rattle.nm_base.specs.declared.record.Record.{Record}
 use Rattle.nm_topology.specs.Topology.{channel_from, receiving_iface}
 use Rattle.nm_topology.specs.TopologyValue.{TopologyValue}
 use Rattle.nm_knowledge.specs.Answers.{reason}
-use Rattle.nm_knowledge.specs.Octets.{same_octets}
-use Rattle.nm_knowledge.specs.declared.answer.KnowFault.{KnowFault}
 use Rattle.nm_knowledge.specs.declared.answer.KnowFault.TheVariants as fault
 use Rattle.nm_model.specs.Before.{IsBefore, IsCount, IsKnowledge, events_at, history, trace}
-use Rattle.nm_model.specs.Knowledge.{IsValid, Know, Knowledge, nothing_known}
+use Rattle.nm_model.specs.Knowledge.{IsValid, Knowledge, nothing_known}
 use Rattle.nm_model.specs.Lists.{nth, IsPrefix}
 use Rattle.nm_model.specs.Partition.{comes_in, goes_out, in_part}
 use Rattle.nm_model.specs.Promise.{Promising, promise}
@@ -18,15 +15,14 @@ use Rattle.nm_model.specs.Replica.{Agrees, IsWithin, from_scratch, safe_time}
 use Rattle.nm_model.specs.Run.{one_list, pends_before}
 use Rattle.nm_model.specs.World as model
 use Rattle.nm_sim.specs.Network.{net_of}
-use Rattle.nm_sim.specs.Trace.{IsTraceBefore}
 use Rattle.nm_book.specs.Book.{BookValue, is_incoming, is_outgoing, knowledge, knowledge_of, promise_on, replica_of, safe_of, sent_on, state_of}
 use Rattle.nm_book.specs.Laws.{KnowTheSame}
 use Rattle.nm_book.specs.declared.fault.MergeFault.TheVariants as refusal
 use Rattle.nm_book.proofs.Incoming.{stop_is}
 use Rattle.nm_book.proofs.Sisters.{back, over, same_at}
 use Rattle.nm_book.proofs.Tellings.{known_here}
-use Rattle.nm_rounds.specs.Headline.{AreEqual, HasRunAll, Headline, IsHistory, IsNoRefusal, IsTrue, records_at}
-use Rattle.nm_rounds.specs.Replay.{IsReplay, answers_of, first_steps, world_after}
+use Rattle.nm_rounds.specs.Headline.{AreEqual, HasRunAll, IsNoRefusal, IsTrue, records_at}
+use Rattle.nm_rounds.specs.Replay.{world_after}
 use Rattle.nm_rounds.specs.World.{IsReplicaOf, outcome_of}
 use Rattle.nm_rounds.specs.declared.step.StepAnswer.{StepAnswer}
 use Rattle.nm_rounds.specs.declared.step.StepAnswer.TheVariants as told

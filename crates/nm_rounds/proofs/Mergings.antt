@@ -1,5 +1,5 @@
 -- A replica merges what her sister knows, or is made anew.
-use Rattle.std.proofs.Common.{◌≡◌, ◌≢◌, ◌⊎◌, inl, inr, ℕ, zero, suc, ◌+◌, ◌-◌, ◌*◌, ◌<◌, ◌≤◌, ◌==◌, ◌&&◌, Bool, true, false, cond, if◌then◌else◌, List, [], ◌∷◌, length, max, replicate, slice_get, slice_set, slice_index_or, get_or, Option, Some, None, Result, Ok, Err, refl, sym, ◌∙◌, ap, ap₂, subst, arith, ⊎_elim}
+use Rattle.std.proofs.Common.{◌≡◌, ◌≢◌, ℕ, zero, suc, ◌+◌, ◌-◌, ◌*◌, ◌<◌, ◌≤◌, ◌==◌, ◌&&◌, Bool, true, false, cond, if◌then◌else◌, List, [], ◌∷◌, length, replicate, slice_set, slice_index_or, get_or, Option, Some, None, Result, Ok, Err, refl, sym, ◌∙◌, ap, ap₂, subst, arith, ⊎_elim}
 use Rattle.std.proofs.Math.Path.{fun_ext}
 use Rattle.std.proofs.lemmas.Bool.{cases_lt}
 use Rattle.std.proofs.lemmas.Bool.Decides.{nat_tests}
@@ -16,12 +16,12 @@ use Rattle.nm_knowledge.specs.declared.answer.KnowFault.TheVariants as fault
 use Rattle.nm_model.specs.Accept as accept
 use Rattle.nm_model.specs.Accept.{IsReflexive}
 use Rattle.nm_model.specs.Join.{at_channel, join, join_all, join_fault, join_faults, or_else}
-use Rattle.nm_model.specs.Knowledge.{Know, Knowledge, no_knowledge, nothing_known}
+use Rattle.nm_model.specs.Knowledge.{Know, Knowledge, nothing_known}
 use Rattle.nm_model.specs.Partition.{comes_in}
 use Rattle.nm_model.specs.World as model
 use Rattle.nm_sim.specs.Network.{net_of}
-use Rattle.nm_book.specs.Book.{BookValue, is_incoming, is_replica, knowledge, knowledge_of, known_at, replica_of}
-use Rattle.nm_book.specs.Merging.{AreJoinable, AreJoined, BookMerges, IsFirstFault, KnowledgeValue, Merges, is_of}
+use Rattle.nm_book.specs.Book.{BookValue, is_incoming, is_replica, knowledge_of, known_at}
+use Rattle.nm_book.specs.Merging.{AreJoined, BookMerges, KnowledgeValue, is_of}
 use Rattle.nm_book.specs.declared.fault.MergeFault.{MergeFault}
 use Rattle.nm_book.specs.declared.fault.MergeFault.TheVariants as refusal
 use Rattle.nm_book.proofs.Beginnings.{is_nothing, nothing_at}
@@ -31,7 +31,7 @@ use Rattle.nm_rounds.specs.World.{IsReplicaOf, IsWorld, Steps, happens, merge_an
 use Rattle.nm_rounds.specs.declared.step.StepAnswer.TheVariants as told
 use Rattle.nm_rounds.specs.declared.step.WorldStep.TheVariants as step
 use Rattle.nm_rounds.specs.declared.world.Stop.TheVariants as stop
-use Rattle.nm_rounds.proofs.Standing.{get_set_here, put_book, there_is}
+use Rattle.nm_rounds.proofs.Standing.{put_book, there_is}
 use Rattle.nm_rounds.proofs.Acts.{unchanged_at, book_read, step_done, step_names_nothing, there_too, with_book}
 
 -- What two lists by channel numbers say of each channel, as knowledge by interfaces.
@@ -149,8 +149,11 @@ module _ (t : TopologyValue) (books : List BookValue) (bag : List ChannelMessage
 
   -- of channels that do not come in both know nothing
   both_quiet : (d : ℕ) → is_incoming b d ≡ false → (slice_index_or b.knows d nothing_known ≡ nothing_known) × (slice_index_or e.knows d nothing_known ≡ nothing_known)
-  both_quiet d out = (is.quiet d out, her.quiet d (subst (λ z. comes_in (net_of z) e.partition (receiving_iface z d) ≡ false) (is.topology ∙ sym her.topology)
-      (subst (λ z. comes_in (net_of b.topology) z (receiving_iface b.topology d) ≡ false) (is.partition ∙ sym her.partition) out)))
+  both_quiet d out = (
+    is.quiet d out,
+    her.quiet d (subst (λ z. comes_in (net_of z) e.partition (receiving_iface z d) ≡ false) (is.topology ∙ sym her.topology)
+        (subst (λ z. comes_in (net_of b.topology) z (receiving_iface b.topology d) ≡ false) (is.partition ∙ sym her.partition) out)),
+  )
 
   abbrev fault_at : ℕ → Option accept.Answer
   fault_at d = join_fault same_octets (slice_index_or b.knows d nothing_known) (slice_index_or e.knows d nothing_known)
@@ -233,7 +236,7 @@ module _ (t : TopologyValue) (books : List BookValue) (bag : List ChannelMessage
   pub merge_steps : (result : Result Unit MergeFault) → BookMerges b c told_her result → Steps t w (step.Merge p r) (merge_answer_of result) (slice_set books place c) bag
   merge_steps (Ok u) h =
       let none : join_faults same_octets (knowledge_of t b.knows) (knowledge_of t e.knows) (net_of t).ifaces ≡ None =
-          no_faults t b.knows e.knows here (net_of t).ifaces (λ i low. no_fault_at i (λ d at_i comes below. h.merges.1 d below comes)) in
+      no_faults t b.knows e.knows here (net_of t).ifaces (λ i low. no_fault_at i (λ d at_i comes below. h.merges.1 d below comes)) in
       step_done t w (step.Merge p r) (slice_set books place c) bag _ model.Merged told.Merged (merge_is None none) refl
       (with_book t books bag w stands p r there place at b c read _ (merged_book c.knows h.merges.2 h.same))
   merge_steps (Err refusal.Stranger) h = absurd (let z : true ≡ false = sym ours ∙ h.merges.0 in cc)
@@ -248,7 +251,7 @@ module _ (t : TopologyValue) (books : List BookValue) (bag : List ChannelMessage
       let shown : join_fault same_octets (knowledge_of t b.knows i) (knowledge_of t e.knows i) ≡ Some some.0 = ap₂ (join_fault same_octets) known_i other_i ∙ first.shown ∙ some.1 in
       let low : i < (net_of t).ifaces = let n = ifaces_are t in let l = there_iface d within in omega (arith, n, l) in
       let fault_is = one_fault t b.knows e.knows here (net_of t).ifaces i some.0 low shown (λ j less. no_fault_at j (λ k at_j comes below.
-          first.before k (earlier t.receivers rising d k (length t.ifaces) within (let n = is.count in omega (arith, n, below)) (let l = at_j in omega (arith, l, less))) comes)) in
+      first.before k (earlier t.receivers rising d k (length t.ifaces) within (let n = is.count in omega (arith, n, below)) (let l = at_j in omega (arith, l, less))) comes)) in
       step_done t w (step.Merge p r) (slice_set books place c) bag w (model.MergeRefused i some.0) (told.MergeRefused (refusal.Channel d f)) (merge_is (Some (i, some.0)) fault_is)
       (ap (option_map (model.MergeRefused i)) some.1)
       (as_before (h.same ∙ ap (λ z. record b { knows = z }) h.merges.2))

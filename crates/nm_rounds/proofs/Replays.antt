@@ -1,5 +1,5 @@
 -- Steps done one after another, and what is reported of them.
-use Rattle.std.proofs.Common.{◌≡◌, ◌≢◌, ◌⊎◌, inl, inr, ℕ, zero, suc, ◌+◌, ◌*◌, ◌<◌, ◌≤◌, Bool, List, [], ◌∷◌, ◌++◌, length, map, take, slice_get, replicate, Option, Some, None, Result, Ok, Err, refl, sym, ◌∙◌, ap, ap₂, subst, arith, ⊎_elim, length-append}
+use Rattle.std.proofs.Common.{◌≡◌, ◌⊎◌, inl, inr, ℕ, zero, suc, ◌+◌, ◌*◌, ◌<◌, ◌≤◌, List, [], ◌∷◌, ◌++◌, length, map, take, slice_get, replicate, Some, None, Ok, Err, refl, sym, ◌∙◌, ap, ap₂, subst, arith, ⊎_elim, length-append}
 use Rattle.std.proofs.lemmas.List.{map-append}
 use Rattle.nm_topology.specs.TopologyValue.{TopologyValue}
 use Rattle.nm_knowledge.specs.Octets.{same_octets}
@@ -9,14 +9,14 @@ use Rattle.nm_sim.specs.Network.{net_of}
 use Rattle.nm_book.specs.Book.{BookValue}
 use Rattle.nm_book.specs.declared.message.ChannelMessage.{ChannelMessage}
 use Rattle.nm_rounds.specs.World.{AreFirst, AreReplicas, IsReplicaOf, IsWorld, Steps, happens, outcome_of, step_of}
-use Rattle.nm_rounds.specs.Replay.{Ends, IsInterrupted, IsReplay, NamesNothing, answers_of, first_steps, world_after}
+use Rattle.nm_rounds.specs.Replay.{IsInterrupted, IsReplay, NamesNothing, answers_of, first_steps, world_after}
 use Rattle.nm_rounds.specs.declared.replay.Ending.TheVariants as ending
 use Rattle.nm_rounds.specs.declared.step.StepAnswer.{StepAnswer}
 use Rattle.nm_rounds.specs.declared.step.WorldStep.{WorldStep}
 use Rattle.nm_rounds.specs.declared.step.WorldStep.TheVariants as step
 use Rattle.nm_rounds.specs.declared.world.Stop.TheVariants as stop
 use Rattle.nm_rounds.proofs.Mergings.{fresh_book}
-use Rattle.nm_rounds.proofs.Standing.{get_append, places_apart}
+use Rattle.nm_rounds.proofs.Standing.{places_apart}
 
 take_next : {X : Type 0} (l : List X) (n : ℕ) (x : X) → slice_get l n ≡ Some x → take (suc n) l ≡ take n l ++ x ∷ []
 take_next [] n x e = absurd (let g : None ≡ Some x = e in cc)

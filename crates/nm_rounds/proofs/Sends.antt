@@ -1,5 +1,5 @@
 -- What a replica sends is put behind the frames that were sent before.
-use Rattle.std.proofs.Common.{◌≡◌, ◌⊎◌, inl, inr, ℕ, zero, suc, ◌+◌, ◌*◌, ◌-◌, ◌<◌, ◌≤◌, ◌&&◌, leb, Bool, true, false, cond, List, [], ◌∷◌, ◌++◌, length, drop, map, slice_get, get_or, Option, Some, None, Ok, Err, refl, sym, ◌∙◌, ap, ap₂, subst, arith, ⊎_elim, append_assoc, append-nil}
+use Rattle.std.proofs.Common.{◌≡◌, ℕ, zero, suc, ◌+◌, ◌*◌, ◌-◌, ◌<◌, ◌≤◌, ◌&&◌, leb, Bool, true, false, cond, List, [], ◌∷◌, ◌++◌, length, drop, map, slice_get, get_or, Option, Some, None, Ok, Err, refl, sym, ◌∙◌, ap, ap₂, subst, arith, ⊎_elim, append_assoc, append-nil}
 use Rattle.std.proofs.lemmas.Bool.Decides.{nat_tests}
 use Rattle.std.proofs.lemmas.List.{map-append}
 use Rattle.std.specs.Option.{option_and_then}
@@ -9,14 +9,13 @@ use Rattle.nm_model.specs.Lists.{nth}
 use Rattle.nm_model.specs.Partition.{goes_out}
 use Rattle.nm_model.specs.Promise.{Promising, Plain, Tight, promise}
 use Rattle.nm_model.specs.World as model
-use Rattle.nm_knowledge.specs.Octets.{same_octets}
 use Rattle.nm_sim.specs.Network.{net_of}
 use Rattle.nm_book.specs.Book.{BookValue, data_from, is_outgoing, is_replica, message_channel, null_on, only_if, promise_on, sent_on}
 use Rattle.nm_book.specs.declared.message.ChannelMessage.{ChannelMessage}
 use Rattle.nm_book.specs.declared.message.ChannelMessage.TheVariants.{Data as DataMessage, Null as NullMessage}
 use Rattle.nm_book.specs.declared.message.Data.{Data}
 use Rattle.nm_book.specs.declared.message.Null.{Null}
-use Rattle.nm_rounds.specs.World.{AreMessages, IsPushed, IsReplicaOf, IsWorld, Steps, frame_of, happens}
+use Rattle.nm_rounds.specs.World.{AreMessages, IsPushed, IsReplicaOf, IsWorld, Steps, frame_of}
 use Rattle.nm_rounds.specs.declared.step.StepAnswer.TheVariants as answer
 use Rattle.nm_rounds.specs.declared.step.WorldStep.TheVariants as step
 use Rattle.nm_rounds.specs.declared.world.Stop.TheVariants as stop
@@ -166,7 +165,7 @@ module _ (t : TopologyValue) (books : List BookValue) (bag : List ChannelMessage
     again n more le are =
         let few : leb n (length lines) ≡ true = let e = ap length lines_are in grind (arith, nat_tests, le, e) in
         let frames : map (frame_of t) more ≡ model.data_frames i n (drop n lines) =
-            ap (λ z. map (frame_of z) more) (sym is.topology) ∙ are.frames ∙ ap (λ z. model.data_frames (receiving_iface z c) n (drop n (sent_on b c))) is.topology ∙ ap (λ z. model.data_frames i n (drop n z)) lines_are in
+        ap (λ z. map (frame_of z) more) (sym is.topology) ∙ are.frames ∙ ap (λ z. model.data_frames (receiving_iface z c) n (drop n (sent_on b c))) is.topology ∙ ap (λ z. model.data_frames i n (drop n z)) lines_are in
         step_done t w (step.Resend p r c n) books (bag ++ more) (model.put_frames w (model.data_frames i n (drop n lines))) (model.Frames (length lines - n)) (answer.Frames (length (sent_on b c) - n))
         (ap (λ z. cond z (model.put_frames w (model.data_frames i n (drop n lines)), model.Frames (length lines - n)) (w, model.NoSuch)) (both_hold _ _ (model_sends t p r c true yes) few))
         (ap (λ z. Some (model.Frames (length z - n))) lines_are)
@@ -203,7 +202,7 @@ module _ (b : BookValue) (c : ℕ) where
   pub gathered_more : (first n : ℕ) (before after : List ChannelMessage) → AreGathered first n before → IsPushed b c n before after → AreGathered first (suc n) after
   gathered_more first n before after are p =
       let one : frame_of b.topology (DataMessage p.message) ≡ model.DataFrame (receiving_iface b.topology c) n (p.message.time, p.message.packet) =
-          ap₂ (λ a z. model.DataFrame (receiving_iface b.topology a) z (p.message.time, p.message.packet)) p.channel p.number in
+      ap₂ (λ a z. model.DataFrame (receiving_iface b.topology a) z (p.message.time, p.message.packet)) p.channel p.number in
       record {
         frames =
             ap (λ z. map (frame_of b.topology) z ++ to_come (suc n)) p.pushed ∙ ap (λ z. z ++ to_come (suc n)) (map-append (frame_of b.topology) before (DataMessage p.message ∷ []))

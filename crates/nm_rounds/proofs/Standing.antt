@@ -1,16 +1,15 @@
 -- Where the world's replicas stand, and what changes where one does, or where frames are sent.
-use Rattle.std.proofs.Common.{◌≡◌, ◌≢◌, ◌⊎◌, inl, inr, ℕ, zero, suc, ◌+◌, ◌*◌, ◌<◌, ◌≤◌, ◌&&◌, ltb, Bool, true, false, List, [], ◌∷◌, ◌++◌, length, map, slice_get, slice_set, Option, Some, None, refl, sym, ◌∙◌, ap, ap₂, subst, arith, ⊎_elim}
-use Rattle.std.proofs.lemmas.Bool.{cases_lt}
+use Rattle.std.proofs.Common.{◌≡◌, ◌≢◌, ◌⊎◌, inl, inr, ℕ, zero, suc, ◌+◌, ◌*◌, ◌<◌, ◌&&◌, ltb, Bool, true, false, List, [], ◌∷◌, ◌++◌, length, map, slice_get, slice_set, Some, None, refl, sym, ◌∙◌, ap, ap₂, subst, arith, ⊎_elim}
 use Rattle.std.proofs.lemmas.Bool.Decides.{nat_tests}
-use Rattle.std.proofs.lemmas.List.{length-set, length-append, map-append}
+use Rattle.std.proofs.lemmas.List.{length-set, map-append}
 use Rattle.nm_topology.specs.TopologyValue.{TopologyValue}
 use Rattle.nm_model.specs.Lists.{set_at}
 use Rattle.nm_model.specs.World as model
 use Rattle.nm_model.proofs.ListLemmas.{same_number, set_here, set_there}
 use Rattle.nm_sim.specs.Network.{net_of}
-use Rattle.nm_book.specs.Book.{BookValue, is_replica, message_channel, only_if, replica_of}
+use Rattle.nm_book.specs.Book.{BookValue, is_replica, message_channel, only_if}
 use Rattle.nm_book.specs.declared.message.ChannelMessage.{ChannelMessage}
-use Rattle.nm_rounds.specs.World.{AreFrames, AreReplicas, IsReplicaOf, IsWorld, frame_of}
+use Rattle.nm_rounds.specs.World.{AreReplicas, IsReplicaOf, IsWorld, frame_of}
 
 -- what is read where something was set, and elsewhere
 pub get_set_here : {X : Type 0} (l : List X) (i : ℕ) (x : X) → i < length l → slice_get (slice_set l i x) i ≡ Some x

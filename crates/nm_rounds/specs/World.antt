@@ -1,9 +1,8 @@
 -- The program's replicas, frames and steps in the words of the model's world.
-use Rattle.std.specs.Prelude.{◌≡◌, ℕ, ◌+◌, ◌*◌, ◌<◌, ◌-◌, List, [], ◌∷◌, ◌++◌, drop, length, map, slice_get, slice_index_or, Option, Some, None, Result, Ok, Err, true, false}
+use Rattle.std.specs.Prelude.{◌≡◌, ℕ, ◌+◌, ◌*◌, ◌<◌, List, [], ◌∷◌, ◌++◌, drop, length, map, slice_get, slice_index_or, Option, Some, None, Result, Ok, Err, false}
 use Rattle.std.specs.Option.{option_map}
 use Rattle.nm_topology.specs.Topology.{receiving_iface}
 use Rattle.nm_topology.specs.TopologyValue.{TopologyValue}
-use Rattle.nm_forward.specs.State.{NodeStateValue}
 use Rattle.nm_knowledge.specs.Answers.{answer, reason}
 use Rattle.nm_knowledge.specs.Octets.{same_octets}
 use Rattle.nm_knowledge.specs.declared.answer.KnowFault.{KnowFault}

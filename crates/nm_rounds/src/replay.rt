@@ -9,9 +9,9 @@ ghost use Rattle.nm_rounds.specs.Replay.{IsReplay, Reads, Reports};
 ghost use Rattle.nm_rounds.specs.World.{IsWorld};
 
 use crate::fault::ReplayFault;
+use crate::laws::the_headline_holds_of_every_replay;
 use crate::step::{StepAnswer, WorldStep};
 use crate::world::{Stop, all_replicas, do_step};
-use crate::laws::the_headline_holds_of_every_replay;
 use nm_book::Book;
 use nm_topology::{TopoFault, Topology};
 use std::alloc::Global;
@@ -97,11 +97,7 @@ fn read(alloc: Global, text: &[u8]) -> Result<Arc<Topology>, ReplayFault>
 ///
 /// `Topo` where the text is refused, with its first fault. `Memory` where memory was refused before
 /// the first step.
-pub fn replay(
-    alloc: Global,
-    text: &[u8],
-    steps: &[WorldStep],
-) -> Result<WorldReport, ReplayFault>
+pub fn replay(alloc: Global, text: &[u8], steps: &[WorldStep]) -> Result<WorldReport, ReplayFault>
     ensures report { Reports text.now steps.now result }
     ensures headline { IfOk result (λ report. Headline (arc_value report.topology)
         report.answers.items report.books.items) }

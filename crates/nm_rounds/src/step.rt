@@ -42,11 +42,20 @@ pub enum WorldStep {
     },
     /// This frame, of all that were ever sent, reaches a replica of its receiver: late, out of
     /// order or again. A frame that is lost is one that no step delivers.
-    Deliver { frame: u64, replica: u8 },
+    Deliver {
+        frame: u64,
+        replica: u8,
+    },
     /// A replica merges what the other replica of its partition knows.
-    Merge { partition: PartNo, replica: u8 },
+    Merge {
+        partition: PartNo,
+        replica: u8,
+    },
     /// A replica is made anew, and knows nothing.
-    Restart { partition: PartNo, replica: u8 },
+    Restart {
+        partition: PartNo,
+        replica: u8,
+    },
 }
 
 /// What a step answers.

@@ -65,10 +65,7 @@ fn push_replica(
 
 /// Replicas 0 and 1 of each partition, which know nothing: replica r of partition p is the one of
 /// number 2p + r.
-pub(crate) fn all_replicas(
-    alloc: Global,
-    topology: &Arc<Topology>,
-) -> Result<Vec<Book>, AllocError>
+pub(crate) fn all_replicas(alloc: Global, topology: &Arc<Topology>) -> Result<Vec<Book>, AllocError>
     ensures { IfOk result (λ books. IsWorld (arc_value topology.now) books.items [] opening) }
 {
     accepted_topologies_are_in_order(topology); // law: there are few partitions
@@ -111,7 +108,9 @@ pub(crate) fn do_step(
             replica,
             channel,
             number,
-        } => send_again(alloc, topology, books, bag, partition, replica, channel, number),
+        } => send_again(
+            alloc, topology, books, bag, partition, replica, channel, number,
+        ),
         WorldStep::Null {
             partition,
             replica,

@@ -1,9 +1,9 @@
-use Rattle.std.proofs.Common.{◌≡◌, ◌*◌, ◌+◌, ltb, false, Ok, Err, Some, slice_set, sym, ◌∙◌, ap, refl, subst}
+use Rattle.std.proofs.Common.{◌*◌, ◌+◌, Err, slice_set, sym, ◌∙◌, ap, refl, subst}
 use Rattle.nm_topology.specs.Topology.{receiving_iface}
 use Rattle.nm_model.specs.Partition.{receiver_of}
 use Rattle.nm_sim.specs.Network.{net_of}
 use Rattle.nm_book.specs.Book.{Takes, is_replica, message_channel, message_taken}
-use Rattle.nm_rounds.specs.World.{IsWorld, Steps}
+use Rattle.nm_rounds.specs.World.{Steps}
 use Rattle.nm_rounds.specs.declared.step.WorldStep.TheVariants.{Deliver}
 use Rattle.nm_rounds.proofs.Standing.{is_absent, is_there}
 use Rattle.nm_rounds.proofs.Deliveries.{accepted, no_frame, no_receiver, no_stranger, in_bag, past_the_bag, refused}

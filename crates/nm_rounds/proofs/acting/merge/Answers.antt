@@ -1,4 +1,4 @@
-use Rattle.std.proofs.Common.{◌≡◌, ◌*◌, ◌+◌, ℕ, sym, ◌∙◌, ap, refl, slice_set, subst}
+use Rattle.std.proofs.Common.{◌≡◌, ◌*◌, ◌+◌, sym, refl, slice_set, subst}
 use Rattle.nm_topology.specs.Topology.{receiving_iface}
 use Rattle.nm_model.specs.World.{sister}
 use Rattle.nm_book.specs.Merging.{BookMerges}
@@ -20,8 +20,8 @@ returns c bag w stands =
     let found = is_there _ _ _ (sym c.in-Some.ensures) in
     let two = (there_is t p r found.0).1 in
     let beside : c.if-replica-eq0.sister ≡ 2 * p + sister r = elim c.if-replica-eq0.branch [
-      then-replica-eq0 b ↦ beside_zero p r c.in-Some.place c.if-replica-eq0.sister found.1 b.if-replica-eq0.true b.sister-is
-    | else-replica-eq0 b ↦ beside_one p r c.in-Some.place c.if-replica-eq0.sister found.1 two b.if-replica-eq0.false b.sister-is
+      | then-replica-eq0 b ↦ beside_zero p r c.in-Some.place c.if-replica-eq0.sister found.1 b.if-replica-eq0.true b.sister-is
+      | else-replica-eq0 b ↦ beside_one p r c.in-Some.place c.if-replica-eq0.sister found.1 two b.if-replica-eq0.false b.sister-is
     ] in
     subst (λ z. Steps t w (Merge p r) z (slice_set c.args.books.now.items c.in-Some.place c.merge-result.new.self) bag) (sym c.merge_answer.ensures)
     (merge_steps t c.args.books.now.items bag w stands p r found.0 c.in-Some.place found.1 c.index_mut.result.now c.index_mut.ensures.value c.if-replica-eq0.sister beside c.index.result.now c.index.ensures

@@ -1,4 +1,4 @@
-use Rattle.std.proofs.Common.{suc, ◌+◌, ◌≤◌, length, arith, sym, ap, refl, subst}
+use Rattle.std.proofs.Common.{arith, sym, subst}
 use Rattle.nm_rounds.proofs.Sends.{AreGathered, gathered_all, gathered_more, gathered_none}
 use Rattle.nm_rounds.proofs.acting.messages_from.Goals as goal
 

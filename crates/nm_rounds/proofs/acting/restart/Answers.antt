@@ -1,4 +1,4 @@
-use Rattle.std.proofs.Common.{sym, refl, ap, ◌∙◌, length, replicate}
+use Rattle.std.proofs.Common.{sym, ap, ◌∙◌, length, replicate}
 use Rattle.nm_model.specs.Knowledge.{nothing_known}
 use Rattle.nm_book.specs.Book.{is_replica}
 use Rattle.std.specs.Arc.{arc_value}

@@ -1,4 +1,4 @@
-use Rattle.std.proofs.Common.{◌++◌, ◌-◌, arith, Ok, sym, ◌∙◌, ap, refl, subst}
+use Rattle.std.proofs.Common.{◌++◌, ◌-◌, arith, Ok, sym, refl, subst}
 use Rattle.nm_rounds.specs.World.{Steps}
 use Rattle.nm_rounds.specs.declared.step.StepAnswer.TheVariants.{Frames}
 use Rattle.nm_rounds.specs.declared.step.WorldStep.TheVariants.{Resend}

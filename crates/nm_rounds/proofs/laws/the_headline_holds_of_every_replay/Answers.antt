@@ -1,7 +1,6 @@
-use Rattle.std.proofs.Common.{◌≡◌, ℕ, ◌+◌, ◌*◌, ◌<◌, ◌≤◌, true, List, Some, length, slice_get, refl, sym, ◌∙◌, ap, subst}
+use Rattle.std.proofs.Common.{◌≡◌, ℕ, ◌<◌, true, Some, length, slice_get, refl, sym, ◌∙◌, ap, subst}
 use Rattle.nm_topology.specs.Topology.{channel_from, receiving_iface}
 use Rattle.nm_knowledge.specs.Octets.{same_octets}
-use Rattle.nm_model.specs.Knowledge.{Knowledge}
 use Rattle.nm_model.specs.Network.{IsNet}
 use Rattle.nm_model.specs.Partition.{comes_in}
 use Rattle.nm_model.specs.Replica.{IsWithin}
@@ -10,7 +9,7 @@ use Rattle.nm_sim.specs.Network.{net_of}
 use Rattle.nm_book.specs.Book.{BookValue, knowledge, knowledge_of}
 use Rattle.nm_rounds.specs.World.{IsReplicaOf}
 use Rattle.nm_rounds.specs.Replay.{first_steps}
-use Rattle.nm_rounds.proofs.Headlines.{are_equal, book_within, fine_at, is_true, place_of}
+use Rattle.nm_rounds.proofs.Headlines.{are_equal, fine_at, is_true, place_of}
 use Rattle.nm_rounds.proofs.laws.the_headline_holds_of_every_replay.Goals as goal
 
 pub returns : goal.returns
@@ -22,15 +21,15 @@ returns c = λ steps answers books ending h.
     let did = h.did in
     let law = c.prefix_theorem.ensures in
     let here : (d : ℕ) → d < length t.receivers → channel_from 0 t.receivers (receiving_iface t d) ≡ Some d =
-        λ d low. (c.channels_are_numbered_by_their_receivers.ensures.inverse (receiving_iface t d) d (c.channels_are_numbered_by_their_receivers.ensures.there d low)).1 refl in
+    λ d low. (c.channels_are_numbered_by_their_receivers.ensures.inverse (receiving_iface t d) d (c.channels_are_numbered_by_their_receivers.ensures.there d low)).1 refl in
     let at : (i : ℕ) (b : BookValue) → slice_get books i ≡ Some b → IsReplicaOf t (place_of i).0 (place_of i).1 b (replica_after net same_octets did (place_of i).0 (place_of i).1) =
-        λ i b e. let q = place_of i in h.replicas.each q.0 q.1 b q.2 (ap (slice_get books) (sym q.3) ∙ e) in
+    λ i b e. let q = place_of i in h.replicas.each q.0 q.1 b q.2 (ap (slice_get books) (sym q.3) ∙ e) in
     let within : (i : ℕ) (b : BookValue) → slice_get books i ≡ Some b → IsWithin (net_of b.topology) b.partition (knowledge b) b.events =
-        λ i b e. let q = place_of i in let is = at i b e in
-        subst (λ z. IsWithin (net_of z) b.partition (knowledge_of z b.knows) b.events) (sym is.topology)
-        (subst (λ z. IsWithin net z (knowledge_of t b.knows) b.events) (sym is.partition)
-        (subst (λ z. IsWithin net q.0 z b.events) (ap (λ z. z.knowledge) (sym is.replica) ∙ ap (λ z. knowledge_of z b.knows) is.topology)
-        (subst (λ z. IsWithin net q.0 (replica_after net same_octets did q.0 q.1).knowledge z) (ap (λ z. z.ran) (sym is.replica)) (law.within net ok same_octets same did q.0 q.1)))) in
+    λ i b e. let q = place_of i in let is = at i b e in
+    subst (λ z. IsWithin (net_of z) b.partition (knowledge_of z b.knows) b.events) (sym is.topology)
+    (subst (λ z. IsWithin net z (knowledge_of t b.knows) b.events) (sym is.partition)
+    (subst (λ z. IsWithin net q.0 z b.events) (ap (λ z. z.knowledge) (sym is.replica) ∙ ap (λ z. knowledge_of z b.knows) is.topology)
+    (subst (λ z. IsWithin net q.0 (replica_after net same_octets did q.0 q.1).knowledge z) (ap (λ z. z.ran) (sym is.replica)) (law.within net ok same_octets same did q.0 q.1)))) in
     record {
       true_books = λ i b e.
           let q = place_of i in

@@ -1,10 +1,9 @@
-use Rattle.std.proofs.Common.{◌≡◌, ◌+◌, ◌≤◌, suc, List, length, Some, Ok, Err, Result, slice_get, refl, sym, ◌∙◌, ap, subst, arith}
+use Rattle.std.proofs.Common.{◌≡◌, ◌+◌, suc, length, Some, Err, slice_get, refl, sym, subst, arith}
 use Rattle.std.proofs.lemmas.Option.{slice_get_read}
 use Rattle.std.specs.Arc.{arc_value}
-use Rattle.std.specs.Vec.{vec_capacity, vec_len}
 use Rattle.nm_rounds.specs.World.{Steps}
 use Rattle.nm_rounds.specs.Replay.{first_steps, world_after}
-use Rattle.nm_rounds.proofs.Replays.{IsReplaying, begins, ended, goes_on, named_nothing, was_interrupted}
+use Rattle.nm_rounds.proofs.Replays.{IsReplaying, goes_on, named_nothing, was_interrupted}
 use Rattle.nm_rounds.proofs.replay.do_steps.Goals as goal
 
 pub returns-in-Err-NoSuch : goal.returns-in-Err-NoSuch
@@ -41,8 +40,7 @@ loop-number-preserved c =
     let s = c.index-steps-number.result in
     let e : slice_get l n ≡ Some s = slice_get_read l (length l) n s refl c.loop-number-test.true c.index-steps-number.is in
     let z : suc n ≡ n + 1 = omega arith in
-    let more = goes_on t l n c.loop-number.answers.items c.loop-number.books.items c.do_step.new.books.items c.loop-number.bag.items c.do_step.new.bag.items s c.in-Ok.answer h e (c.in-Ok.ensures w h.stands) in
-    (
+    let more = goes_on t l n c.loop-number.answers.items c.loop-number.books.items c.do_step.new.books.items c.loop-number.bag.items c.do_step.new.bag.items s c.in-Ok.answer h e (c.in-Ok.ensures w h.stands) in (
       subst (λ k. IsReplaying t l k c.push_reserved.new.self.items c.do_step.new.books.items c.do_step.new.bag.items) z
           (subst (λ k. IsReplaying t l (suc n) k c.do_step.new.books.items c.do_step.new.bag.items) (sym c.push_reserved.ensures.items) more),
       (let a = c.push_reserved.ensures.len in let b = c.loop-number.invariant.1 in omega (arith, a, b)),

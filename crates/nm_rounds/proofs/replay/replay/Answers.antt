@@ -1,5 +1,4 @@
 use Rattle.std.proofs.Common.{subst}
-use Rattle.std.specs.Arc.{arc_value}
 use Rattle.nm_rounds.specs.Headline.{Headline}
 use Rattle.nm_rounds.specs.Replay.{IsReplay}
 use Rattle.nm_rounds.proofs.replay.replay.Goals as goal

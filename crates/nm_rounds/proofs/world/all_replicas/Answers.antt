@@ -1,7 +1,7 @@
-use Rattle.std.proofs.Common.{◌≡◌, ◌*◌, ◌+◌, sym, ◌∙◌, ap, subst, arith}
+use Rattle.std.proofs.Common.{sym, subst}
 use Rattle.std.specs.Arc.{arc_value}
 use Rattle.nm_rounds.specs.World.{AreFirst}
-use Rattle.nm_rounds.proofs.Replays.{all_first, first_none}
+use Rattle.nm_rounds.proofs.Replays.{first_none}
 use Rattle.nm_rounds.proofs.world.all_replicas.Goals as goal
 
 pub loop-partition-init : goal.loop-partition-init

@@ -1,4 +1,4 @@
-use Rattle.std.proofs.Common.{◌≡◌, ◌*◌}
+use Rattle.std.proofs.Common.{◌*◌}
 use Rattle.std.specs.Arc.{arc_value}
 use Rattle.nm_rounds.specs.World.{AreFirst}
 use Rattle.nm_rounds.proofs.world.all_replicas.Given as goal

@@ -1,4 +1,4 @@
-use Rattle.std.proofs.Common.{◌≡◌, ◌*◌, ◌+◌, length, replicate, sym, ◌∙◌, ap, subst}
+use Rattle.std.proofs.Common.{◌*◌, ◌+◌, length, replicate, sym, ◌∙◌, ap, subst}
 use Rattle.std.specs.Arc.{arc_value}
 use Rattle.nm_model.specs.Knowledge.{nothing_known}
 use Rattle.nm_rounds.specs.World.{AreFirst}
