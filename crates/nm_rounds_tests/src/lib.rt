@@ -6,6 +6,8 @@
 #[cfg(test)]
 mod certificates;
 #[cfg(test)]
+mod memory;
+#[cfg(test)]
 mod replays;
 #[cfg(test)]
 mod texts;

@@ -12,9 +12,9 @@ use std::process::Abort;
 use std::test::Fail;
 
 /// A step, and what it answers.
-type Row = (WorldStep, (&'static str, u64));
+pub type Row = (WorldStep, (&'static str, u64));
 
-fn run(partition: u32, replica: u8, limit: u64) -> WorldStep {
+pub fn run(partition: u32, replica: u8, limit: u64) -> WorldStep {
     WorldStep::Run {
         partition: PartNo::new(partition),
         replica,
@@ -22,7 +22,7 @@ fn run(partition: u32, replica: u8, limit: u64) -> WorldStep {
     }
 }
 
-fn data(partition: u32, replica: u8, channel: u32, number: u64) -> WorldStep {
+pub fn data(partition: u32, replica: u8, channel: u32, number: u64) -> WorldStep {
     WorldStep::Data {
         partition: PartNo::new(partition),
         replica,
@@ -40,7 +40,7 @@ fn resend(partition: u32, replica: u8, channel: u32, number: u64) -> WorldStep {
     }
 }
 
-fn null(partition: u32, replica: u8, channel: u32) -> WorldStep {
+pub fn null(partition: u32, replica: u8, channel: u32) -> WorldStep {
     WorldStep::Null {
         partition: PartNo::new(partition),
         replica,
@@ -56,11 +56,11 @@ fn old_null(partition: u32, replica: u8, channel: u32) -> WorldStep {
     }
 }
 
-fn deliver(frame: u64, replica: u8) -> WorldStep {
+pub fn deliver(frame: u64, replica: u8) -> WorldStep {
     WorldStep::Deliver { frame, replica }
 }
 
-fn merge(partition: u32, replica: u8) -> WorldStep {
+pub fn merge(partition: u32, replica: u8) -> WorldStep {
     WorldStep::Merge {
         partition: PartNo::new(partition),
         replica,
@@ -87,7 +87,7 @@ fn refused(fault: &KnowFault) -> (&'static str, u64) {
 }
 
 /// An answer in a word and its number.
-fn answered(answer: &StepAnswer) -> (&'static str, u64) {
+pub fn answered(answer: &StepAnswer) -> (&'static str, u64) {
     match answer {
         StepAnswer::All(done) => ("all", *done),
         StepAnswer::Limit(done) => ("limit", *done),
@@ -104,7 +104,7 @@ fn answered(answer: &StepAnswer) -> (&'static str, u64) {
 }
 
 /// An ending in a word and its step.
-fn ended(ending: Ending) -> (&'static str, u64) {
+pub fn ended(ending: Ending) -> (&'static str, u64) {
     match ending {
         Ending::Ended => ("ended", 0),
         Ending::NoSuch { step } => ("nosuch", step),
@@ -113,7 +113,7 @@ fn ended(ending: Ending) -> (&'static str, u64) {
 }
 
 /// Two words with their numbers are the same.
-fn same(rt: &impl Abort, step: usize, found: (&'static str, u64), want: (&'static str, u64)) {
+pub fn same(rt: &impl Abort, step: usize, found: (&'static str, u64), want: (&'static str, u64)) {
     let (word, number) = found;
     let (other, wanted) = want;
     assert!(rt;
@@ -132,7 +132,7 @@ fn is_at(rt: &impl Abort, place: usize, book: &Book, want: (u64, u64, u64)) {
 }
 
 /// The steps of some rows.
-fn steps_of(alloc: Global, rows: &[Row]) -> Result<Vec<WorldStep>, Fail> {
+pub fn steps_of(alloc: Global, rows: &[Row]) -> Result<Vec<WorldStep>, Fail> {
     let mut steps = Vec::with_capacity(alloc, rows.len())?;
     for (step, _) in rows {
         steps.push(*step)?;
@@ -141,7 +141,12 @@ fn steps_of(alloc: Global, rows: &[Row]) -> Result<Vec<WorldStep>, Fail> {
 }
 
 /// A report has these answers and this ending.
-fn has_answers(rt: &impl Abort, report: &WorldReport, rows: &[Row], ending: (&'static str, u64)) {
+pub fn has_answers(
+    rt: &impl Abort,
+    report: &WorldReport,
+    rows: &[Row],
+    ending: (&'static str, u64),
+) {
     same(rt, rows.len(), ended(report.ending), ending);
     for number in 0..report.answers.len() {
         if number >= rows.len() {
@@ -179,10 +184,10 @@ fn goes(
     Ok(())
 }
 
-/// Channel 0 goes from b, of partition 1, to a, channel 1 from a to b.
-#[test]
-fn two_partitions_and_a_late_sister(rt: HostRuntime) -> Result<(), Fail> {
-    let rows = [
+/// Two partitions that tell each other what they sent, and a sister that hears of it later. Channel
+/// 0 goes from b, of partition 1, to a, channel 1 from a to b.
+pub fn late_sister() -> [Row; 13] {
+    [
         (run(0, 0, 10), ("all", 0)),
         (null(1, 0, 0), ("frames", 1)),
         (deliver(0, 0), ("raised", 0)),
@@ -196,7 +201,12 @@ fn two_partitions_and_a_late_sister(rt: HostRuntime) -> Result<(), Fail> {
         (merge(1, 1), ("merged", 0)),
         (run(1, 1, 10), ("all", 1)),
         (deliver(2, 1), ("known", 0)),
-    ];
+    ]
+}
+
+#[test]
+fn two_partitions_and_a_late_sister(rt: HostRuntime) -> Result<(), Fail> {
+    let rows = late_sister();
     let books = [
         (2, 1_001_000, 1),
         (0, 0, 0),
