@@ -8,6 +8,8 @@ pub mod certify;
 pub mod fault;
 mod places;
 pub mod replay;
+mod round;
+pub mod rounds;
 pub mod same_topology;
 pub mod step;
 mod world;

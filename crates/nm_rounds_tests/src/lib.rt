@@ -5,3 +5,5 @@
 
 #[cfg(test)]
 mod certificates;
+#[cfg(test)]
+mod rounds_done;
