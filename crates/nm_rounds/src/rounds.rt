@@ -82,7 +82,7 @@ fn do_rounds(
 {
     every_topology_is_a_network(topology); // law: `net_of` is a network of the model
     channels_are_those_of_the_network(topology); // law: what comes in is a channel
-    packets_are_told_apart(); // law: a packet is told from each other one alone
+    packets_are_told_apart(); // law: equal octets are found equal
     times_pass::<Packet, NodeState>(); // law: the network reaches `stop`
     rounds_bound::<Packet, NodeState>(); // law: in which round all is done
     for round in 0..max {
@@ -112,10 +112,10 @@ fn rounds_of(alloc: Global, topology: Topology, max: u64) -> Result<Rounds, Allo
 /// at most so many rounds.
 ///
 /// In a round each partition runs all that is safe. If all are done then, that is the last round.
-/// Else each channel's new messages and its null message, which makes the promise of the moment, are
-/// taken, and once all are each is told them. Where there is no channel all is done in the first
-/// round; and always after `stop` divided by the least lookahead of a channel, rounded up, and one
-/// round more.
+/// Else the new messages of each channel and its null message, which makes the promise of the
+/// moment, are first gathered of all channels, and only then told. Where there is no channel all is
+/// done in the first round; and always after `stop` divided by the least lookahead of a channel,
+/// rounded up, and one round more.
 pub fn run_rounds(alloc: Global, text: &[u8], max: u64) -> Rounds
     requires some { 1 ≤ max }
     requires few { max ≤ MAX_ROUNDS }
