@@ -4,6 +4,11 @@ mod Sends
 mod Deliveries
 mod Mergings
 mod Replays
+mod RoundTells
+mod RoundNews
+mod RoundBooks
+mod RoundHears
+mod RoundEnds
 mod CertifyChannels
 mod CertifyLists
 mod CertifySteps

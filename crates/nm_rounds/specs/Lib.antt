@@ -3,3 +3,4 @@ pub mod Replay
 pub mod Headline
 pub mod Certify
 pub mod SameTopology
+pub mod Rounds

@@ -9,6 +9,8 @@ pub mod fault;
 pub mod laws;
 mod places;
 pub mod replay;
+mod round;
+pub mod rounds;
 pub mod same_topology;
 pub mod step;
 mod world;

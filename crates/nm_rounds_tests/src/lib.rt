@@ -10,4 +10,6 @@ mod memory;
 #[cfg(test)]
 mod replays;
 #[cfg(test)]
+mod rounds_done;
+#[cfg(test)]
 mod texts;

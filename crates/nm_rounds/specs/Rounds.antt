@@ -1,0 +1,129 @@
+-- What rounds of all partitions come to: each runs all that is safe, and then hears all that the others have for it.
+use Rattle.std.specs.Prelude.{◌≡◌, ℕ, suc, ◌+◌, ◌-◌, ◌<◌, ◌≤◌, Bool, true, false, List, [], ◌∷◌, length, slice_get, Option, Some, None, Ok}
+use Rattle.nm_topology.specs.Topology.{receiving_iface, topology_of}
+use Rattle.nm_topology.specs.TopologyValue.{TopologyValue}
+use Rattle.nm_knowledge.specs.Octets.{same_octets}
+use Rattle.nm_model.specs.Accept as accept
+use Rattle.nm_model.specs.Before.{IsBefore, IsCount, trace}
+use Rattle.nm_model.specs.Certificate.{is_done}
+use Rattle.nm_model.specs.Knowledge.{Know}
+use Rattle.nm_model.specs.Partition.{comes_in, receiver_of}
+use Rattle.nm_model.specs.Promise.{Tight, lookahead}
+use Rattle.nm_model.specs.Rounds.{IsRounds, given, hear, heard_on, promised, round_count}
+use Rattle.nm_model.specs.World.{Replica}
+use Rattle.nm_sim.specs.Network.{net_of}
+use Rattle.nm_book.specs.Book.{BookValue, knowledge, message_channel, promise_on, replica_of, sent_on, state_of}
+use Rattle.nm_book.specs.declared.message.ChannelMessage.{ChannelMessage}
+use Rattle.nm_book.specs.declared.message.ChannelMessage.TheVariants.{Data, Null}
+use Rattle.nm_rounds.specs.Replay.{Refuses}
+use Rattle.nm_rounds.specs.World.{IsReplicaOf}
+use Rattle.nm_rounds.specs.declared.rounds.Rounds.{Rounds}
+use Rattle.nm_rounds.specs.declared.rounds.Rounds.TheVariants.{Done, Unfinished, Memory, Topo}
+
+-- the books are those of the first n partitions in turn, each the model's replica 0 of its partition
+pub record AreBooks (t : TopologyValue) (n : ℕ) (x : ℕ → Replica (List ℕ)) (books : List BookValue) : Type 0 where
+  pub count : length books ≡ n
+  pub each : (p : ℕ) (b : BookValue) → slice_get books p ≡ Some b → IsReplicaOf t p 0 b (x p)
+
+-- the replicas of all partitions after each round, where null messages make the tight promise
+abbrev pub AreRounds : TopologyValue → (ℕ → ℕ → Replica (List ℕ)) → Type 0
+AreRounds t by_round = IsRounds (net_of t) same_octets Tight by_round
+
+-- in the round after j of them, once all have run and before any hears
+abbrev pub after_runs : (ℕ → ℕ → Replica (List ℕ)) → ℕ → ℕ → Replica (List ℕ)
+after_runs by_round j p = record { knowledge = (by_round j p).knowledge; ran = (by_round (suc j) p).ran }
+
+-- once all have heard
+abbrev pub after_hearing : TopologyValue → (ℕ → Replica (List ℕ)) → ℕ → Replica (List ℕ)
+after_hearing t x p = record { knowledge = heard_on (net_of t) same_octets Tight x p; ran = (x p).ran }
+
+-- a book did all that is before its safe time: the number of its events alone changes
+pub record RunsAll (old new : BookValue) : Type 0 where
+  pub count : IsCount (net_of old.topology) old.partition (knowledge old) new.events
+  pub same : new ≡ record old { events = new.events }
+
+-- what is known of a channel once a message of it was told
+abbrev pub told_one : Know (List ℕ) → ChannelMessage → Know (List ℕ)
+told_one a (Data d) = (accept.accept_data same_octets a d.number (d.time, d.packet)).after
+told_one a (Null n) = (accept.accept_null a n.count n.clock).after
+
+-- once these were, one after another
+abbrev pub told_all : Know (List ℕ) → List ChannelMessage → Know (List ℕ)
+told_all a [] = a
+told_all a (m ∷ ms) = told_all (told_one a m) ms
+
+-- each of the messages is of channel c
+abbrev pub AreOfChannel : ℕ → List ChannelMessage → Type 0
+AreOfChannel c messages = (i : ℕ) (m : ChannelMessage) → slice_get messages i ≡ Some m → message_channel m ≡ c
+
+-- told to who knows a of channel c, the messages make what it hears of the sender: all new messages, and then the null message
+pub record AreNews (a : Know (List ℕ)) (sender : BookValue) (c : ℕ) (messages : List ChannelMessage) : Type 0 where
+  pub told : told_all a messages ≡ hear same_octets a (sent_on sender c) (promise_on Tight sender c)
+  pub named : AreOfChannel c messages
+
+-- the same of the model's replicas
+pub record AreNewsOf (t : TopologyValue) (x : ℕ → Replica (List ℕ)) (c : ℕ) (messages : List ChannelMessage) : Type 0 where
+  pub told :
+      let i = receiving_iface t c in
+      let a = (x (receiver_of (net_of t) i)).knowledge i in
+      told_all a messages ≡ hear same_octets a (given (net_of t) x i) (promised (net_of t) x Tight i)
+  pub named : AreOfChannel c messages
+
+-- and of the first n channels
+pub record AreAllNews (t : TopologyValue) (x : ℕ → Replica (List ℕ)) (n : ℕ) (news : List (List ChannelMessage)) : Type 0 where
+  pub count : length news ≡ n
+  pub each : (c : ℕ) (messages : List ChannelMessage) → slice_get news c ≡ Some messages → AreNewsOf t x c messages
+
+-- nothing is left for a book to do; or for one of the books something is
+abbrev pub IsFinished : BookValue → Bool → Type 0
+IsFinished b v = is_done (net_of b.topology) b.partition (replica_of b) ≡ v
+
+abbrev pub AreFinished : List BookValue → Bool → Type 0
+AreFinished books true = (p : ℕ) (b : BookValue) → slice_get books p ≡ Some b → IsFinished b true
+AreFinished books false = (p : ℕ) × (b : BookValue) × (slice_get books p ≡ Some b) × IsFinished b false
+
+-- a partition is not done in the round after j of them
+abbrev pub IsLeft : TopologyValue → (ℕ → ℕ → Replica (List ℕ)) → ℕ → Type 0
+IsLeft t by_round j = (p : ℕ) × (p < t.partitions) × (is_done (net_of t) p (after_runs by_round j p) ≡ false)
+
+-- The books in the round after j of them: all are done, and none heard anything more; or one is not done, and all have heard.
+abbrev pub EndsRound : TopologyValue → (ℕ → ℕ → Replica (List ℕ)) → ℕ → Bool → List BookValue → Type 0
+EndsRound t by_round j true books = AreBooks t t.partitions (after_runs by_round j) books × AreFinished books true
+EndsRound t by_round j false books = AreBooks t t.partitions (by_round (suc j)) books × IsLeft t by_round j
+
+-- nothing is left for the book of partition p to do, and it has the whole trace of the partition
+pub record IsWhole (t : TopologyValue) (p : ℕ) (b : BookValue) : Type 0 where
+  pub done : is_done (net_of t) p (replica_of b) ≡ true
+  pub trace : (last : ℕ) → IsBefore (net_of t) (net_of t).stop last → (state_of b).records ≡ trace (net_of t) p last
+
+-- Each book is whole in this round, one of at most so many.
+pub record AreDone (t : TopologyValue) (max rounds : ℕ) (books : List BookValue) : Type 0 where
+  pub some : 1 ≤ rounds
+  pub few : rounds ≤ max
+  pub by_round : ℕ → ℕ → Replica (List ℕ)
+  pub are : AreRounds t by_round
+  pub stand : AreBooks t t.partitions (after_runs by_round (rounds - 1)) books
+  pub whole : (p : ℕ) (b : BookValue) → slice_get books p ≡ Some b → IsWhole t p b
+
+-- A book was not done in any of the rounds, of which there were as many as were asked for. That is so only where there is a channel, and where stop divided
+-- by any lookahead that each channel has, rounded up, and one more are past the rounds.
+pub record AreUnfinished (t : TopologyValue) (max rounds : ℕ) (books : List BookValue) : Type 0 where
+  pub all : rounds ≡ max
+  pub by_round : ℕ → ℕ → Replica (List ℕ)
+  pub are : AreRounds t by_round
+  pub stand : AreBooks t t.partitions (by_round max) books
+  pub channels : length t.receivers ≡ 0 → ⊥
+  pub enough : (lead : ℕ) → 1 ≤ lead → ((p c : ℕ) → comes_in (net_of t) p c ≡ true → lead ≤ lookahead (net_of t) Tight c)
+      → round_count (net_of t).stop lead + 1 ≤ max → ⊥
+
+-- in which round all are done, or that none of so many is that
+abbrev pub AreEnded : TopologyValue → ℕ → Option ℕ → List BookValue → Type 0
+AreEnded t max (Some rounds) books = AreDone t max rounds books
+AreEnded t max None books = AreUnfinished t max max books
+
+-- What rounds over a text come to, of which at most so many are asked for: the text is read to the topology of these books; or it is refused.
+abbrev pub ComesTo : List ℕ → ℕ → Rounds → Type 0
+ComesTo text max (Done rounds books) = (t : TopologyValue) × (topology_of text ≡ Ok t) × AreDone t max rounds books.items
+ComesTo text max (Unfinished rounds books) = (t : TopologyValue) × (topology_of text ≡ Ok t) × AreUnfinished t max rounds books.items
+ComesTo text max Memory = Unit {0}
+ComesTo text max (Topo f) = Refuses (topology_of text) f

@@ -1,0 +1,260 @@
+//! One round: each partition runs all that is safe, and then hears all that the others have for it.
+
+ghost use Rattle.std.specs.Prelude.{◌≡◌, ◌<◌, ℕ, true, IfOk, OnOk, List, length, map, slice_index_or, slice_set};
+ghost use Rattle.nm_model.specs.Before.{IsCount};
+ghost use Rattle.nm_model.specs.Knowledge.{nothing_known};
+ghost use Rattle.nm_model.specs.World.{Replica};
+ghost use Rattle.nm_sim.specs.Network.{net_of};
+ghost use Rattle.nm_knowledge.specs.declared.answer.KnowFault.TheVariants.{Memory};
+ghost use Rattle.nm_topology.specs.TopologyValue.{TopologyValue};
+ghost use Rattle.nm_book.specs.Book.{is_incoming, is_outgoing, message_channel, sent_on};
+ghost use Rattle.nm_rounds.specs.World.{IsPushed};
+ghost use Rattle.nm_rounds.specs.Rounds.{AreAllNews, AreBooks, AreFinished, AreNews, AreNewsOf, AreOfChannel, AreRounds, EndsRound, RunsAll};
+ghost use Rattle.nm_rounds.specs.Rounds.{after_hearing, told_all, told_one};
+
+use nm_base::{ChanNo, Packet};
+use nm_book::channels::{receiver_of, sender_of};
+use nm_book::{AcceptFault, Book, ChannelMessage, Ran};
+use nm_forward::NodeState;
+use nm_knowledge::KnowFault;
+use nm_model::run::times_pass;
+use nm_sim::network::{channels_are_those_of_the_network, every_topology_is_a_network};
+use nm_topology::Topology;
+use nm_topology::topology::{
+    accepted_topologies_are_in_order, channels_are_numbered_by_their_receivers,
+};
+use std::alloc::{AllocError, Global};
+
+/// A book does all that is safe. `Book::run_safe` ends a run as for want of memory at 2^62 events,
+/// so the limit is not reached; it would be an error as well.
+fn run_book(alloc: Global, book: &mut Book) -> Result<(), AllocError>
+    ensures { OnOk result (RunsAll book.old book.new) }
+{
+    match book.run_safe(alloc, u64::MAX) {
+        Ran::All(_) => Ok(()),
+        Ran::Limit(_) => Err(AllocError),
+        Ran::Memory(_) => Err(AllocError),
+    }
+}
+
+/// All books do all that is safe.
+fn run_all(alloc: Global, books: &mut Vec<Book>) -> Result<(), AllocError>
+    ensures { OnOk result ((t : TopologyValue) (x y : ℕ → Replica (List ℕ))
+        → AreBooks t t.partitions x books.old.items
+        → ((p j k : ℕ) → IsCount (net_of t) p (x p).knowledge j
+        → IsCount (net_of t) p (x p).knowledge k → j ≡ k)
+        → ((p : ℕ) → IsCount (net_of t) p (x p).knowledge (y p).ran)
+        → ((p : ℕ) → (y p).knowledge ≡ (x p).knowledge)
+        → AreBooks t t.partitions y books.new.items) }
+{
+    for number in 0..books.len() {
+        run_book(alloc, &mut books[number])?;
+    }
+    Ok(())
+}
+
+/// Whether nothing is left to do for any book.
+fn all_done(books: &[Book]) -> bool
+    ensures { AreFinished books.now result }
+{
+    for book in books {
+        if !book.done() {
+            return false;
+        }
+    }
+    true
+}
+
+/// How many messages of a channel that comes in are known, which is the number of the next one.
+fn next_number(receiver: &Book, channel: ChanNo) -> u64
+    requires { is_incoming receiver.now channel ≡ true }
+    ensures { result ≡ length (slice_index_or receiver.now.knows channel nothing_known).list }
+{
+    match receiver.know(channel) {
+        Some(know) => know.len() as u64,
+        None => 0,
+    }
+}
+
+/// Message `number` of a channel, which was sent, behind others.
+fn push_data(
+    messages: &mut Vec<ChannelMessage>,
+    sender: &Book,
+    channel: ChanNo,
+    number: u64,
+) -> Result<(), AllocError>
+    requires goes { is_outgoing sender.now channel ≡ true }
+    requires sent { number < length (sent_on sender.now channel) }
+    ensures { OnOk result (IsPushed sender.now channel number messages.old.items messages.new.items) }
+{
+    if let Some(message) = sender.data(channel, number)? {
+        messages.push(ChannelMessage::Data(message))?;
+    }
+    Ok(())
+}
+
+/// All messages of a channel that the receiver does not know, and then the channel's null message.
+fn news(
+    alloc: Global,
+    receiver: &Book,
+    sender: &Book,
+    channel: ChanNo,
+) -> Result<Vec<ChannelMessage>, AllocError>
+    requires comes { is_incoming receiver.now channel ≡ true }
+    requires goes { is_outgoing sender.now channel ≡ true }
+    ensures { IfOk result (λ messages. AreNews
+        (slice_index_or receiver.now.knows channel nothing_known) sender.now channel messages.items) }
+{
+    let mut messages = Vec::new(alloc);
+    let Some(null) = sender.null(channel) else {
+        return Ok(messages);
+    };
+    for number in next_number(receiver, channel)..null.count {
+        push_data(&mut messages, sender, channel, number)?;
+    }
+    messages.push(ChannelMessage::Null(null))?;
+    Ok(messages)
+}
+
+/// What is to be told of a channel.
+fn news_of(
+    alloc: Global,
+    topology: &Topology,
+    books: &[Book],
+    channel: ChanNo,
+) -> Result<Vec<ChannelMessage>, AllocError>
+    requires there { channel < length topology.now.receivers }
+    requires books { (x : ℕ → Replica (List ℕ))
+        × AreBooks topology.now topology.now.partitions x books.now }
+    ensures { IfOk result (λ messages. (x : ℕ → Replica (List ℕ))
+        → AreBooks topology.now topology.now.partitions x books.now
+        → AreNewsOf topology.now x channel messages.items) }
+{
+    every_topology_is_a_network(topology); // law: each interface is of a partition that is there
+    channels_are_numbered_by_their_receivers(topology); // law: a channel has its own interface
+    channels_are_those_of_the_network(topology); // law: a channel comes in at its receiver
+    let receiver = receiver_of(topology, channel);
+    let sender = sender_of(topology, channel);
+    news(
+        alloc,
+        &books[receiver.index()],
+        &books[sender.index()],
+        channel,
+    )
+}
+
+/// What is to be told of each channel, in the order of their numbers.
+fn all_news(
+    alloc: Global,
+    topology: &Topology,
+    books: &[Book],
+) -> Result<Vec<Vec<ChannelMessage>>, AllocError>
+    requires books { (x : ℕ → Replica (List ℕ))
+        × AreBooks topology.now topology.now.partitions x books.now }
+    ensures { IfOk result (λ news. (x : ℕ → Replica (List ℕ))
+        → AreBooks topology.now topology.now.partitions x books.now
+        → AreAllNews topology.now x (length topology.now.receivers)
+        (map (λ messages. messages.items) news.items)) }
+{
+    accepted_topologies_are_in_order(topology); // law: channels have numbers of 32 bits
+    let mut news = Vec::new(alloc);
+    for number in 0..topology.receivers().len() {
+        let messages = news_of(alloc, topology, books, ChanNo::new(number as u32))?;
+        news.push(messages)?;
+    }
+    Ok(news)
+}
+
+/// What a refusal comes to: nothing, unless it was for want of memory.
+fn unless_memory(fault: KnowFault) -> Result<(), AllocError>
+    ensures { OnOk result (fault ≡ Memory → ⊥) }
+{
+    match fault {
+        KnowFault::Memory => Err(AllocError),
+        _ => Ok(()),
+    }
+}
+
+/// A book is told a message. Where it refuses it, nothing changes.
+fn tell_one(book: &mut Book, message: &ChannelMessage) -> Result<(), AllocError>
+    ensures { OnOk result (is_incoming book.old (message_channel message.now) ≡ true
+        → book.new ≡ record book.old {
+          knows = slice_set book.old.knows (message_channel message.now)
+              (told_one (slice_index_or book.old.knows (message_channel message.now) nothing_known)
+              message.now);
+        }) }
+{
+    match book.accept(message) {
+        Ok(_) => Ok(()),
+        Err(AcceptFault::Known(fault)) => unless_memory(fault),
+        Err(AcceptFault::Stranger) => Ok(()),
+    }
+}
+
+/// A book is told messages, one after another.
+fn tell_all(book: &mut Book, messages: &[ChannelMessage]) -> Result<(), AllocError>
+    ensures { OnOk result ((c : ℕ) → is_incoming book.old c ≡ true → c < length book.old.knows
+        → AreOfChannel c messages.now
+        → book.new ≡ record book.old {
+          knows = slice_set book.old.knows c
+              (told_all (slice_index_or book.old.knows c nothing_known) messages.now);
+        }) }
+{
+    for message in messages {
+        tell_one(book, message)?;
+    }
+    Ok(())
+}
+
+/// Each book hears what is told of the channels that come in.
+fn hear_all(
+    topology: &Topology,
+    books: &mut Vec<Book>,
+    news: &[Vec<ChannelMessage>],
+) -> Result<(), AllocError>
+    requires { (x : ℕ → Replica (List ℕ))
+        × AreBooks topology.now topology.now.partitions x books.old.items
+        × AreAllNews topology.now x (length topology.now.receivers)
+        (map (λ messages. messages.items) news.now) }
+    ensures { OnOk result ((x : ℕ → Replica (List ℕ))
+        → AreBooks topology.now topology.now.partitions x books.old.items
+        → AreAllNews topology.now x (length topology.now.receivers)
+        (map (λ messages. messages.items) news.now)
+        → AreBooks topology.now topology.now.partitions (after_hearing topology.now x)
+        books.new.items) }
+{
+    every_topology_is_a_network(topology); // law: each interface is of a partition that is there
+    accepted_topologies_are_in_order(topology); // law: channels have numbers of 32 bits
+    channels_are_numbered_by_their_receivers(topology); // law: a channel has its own interface
+    channels_are_those_of_the_network(topology); // law: what comes in is a channel
+    for number in 0..news.len() {
+        let receiver = receiver_of(topology, ChanNo::new(number as u32));
+        tell_all(&mut books[receiver.index()], &news[number])?;
+    }
+    Ok(())
+}
+
+/// Does a round, and answers whether all books are done in it. All null messages are made before
+/// any is told.
+pub(crate) fn do_round(
+    alloc: Global,
+    topology: &Topology,
+    books: &mut Vec<Book>,
+) -> Result<bool, AllocError>
+    requires { (j : ℕ) × (by_round : ℕ → ℕ → Replica (List ℕ)) × AreRounds topology.now by_round
+        × AreBooks topology.now topology.now.partitions (by_round j) books.old.items }
+    ensures { IfOk result (λ done. (j : ℕ) (by_round : ℕ → ℕ → Replica (List ℕ))
+        → AreRounds topology.now by_round
+        → AreBooks topology.now topology.now.partitions (by_round j) books.old.items
+        → EndsRound topology.now by_round j done books.new.items) }
+{
+    every_topology_is_a_network(topology); // law: `net_of` is a network of the model
+    times_pass::<Packet, NodeState>(); // law: all that is safe is one number of events
+    run_all(alloc, books)?;
+    if all_done(books) {
+        return Ok(true);
+    }
+    let news = all_news(alloc, topology, books)?;
+    hear_all(topology, books, &news)?;
+    Ok(false)
+}

@@ -1,0 +1,133 @@
+//! Rounds of all partitions, from the text of a topology.
+
+ghost use Rattle.std.specs.Prelude.{◌≡◌, ℕ, ◌<◌, ◌≤◌, ◌+◌, IfOk, List, Ok, OnOk};
+ghost use Rattle.std.specs.Arc.{arc_value};
+ghost use Rattle.nm_model.specs.World.{fresh};
+ghost use Rattle.nm_topology.specs.Topology.{topology_of};
+ghost use Rattle.nm_rounds.specs.declared.rounds.TheConstants.{MAX_ROUNDS};
+ghost use Rattle.nm_rounds.specs.Rounds.{AreBooks, AreEnded, ComesTo};
+
+use crate::round::do_round;
+use nm_base::{Packet, PartNo};
+use nm_book::Book;
+use nm_forward::NodeState;
+use nm_knowledge::laws::packets_are_told_apart;
+use nm_model::rounds::rounds_bound;
+use nm_model::run::times_pass;
+use nm_sim::network::{channels_are_those_of_the_network, every_topology_is_a_network};
+use nm_topology::topology::accepted_topologies_are_in_order;
+use nm_topology::{TopoFault, Topology};
+use std::alloc::{AllocError, Global};
+use std::sync::Arc;
+
+/// How many rounds may be asked for.
+pub const MAX_ROUNDS: u64 = 1_000_000_000;
+
+/// What rounds come to. The book of number p is replica 0 of partition p.
+#[derive(Drop)]
+pub enum Rounds {
+    /// In this round, counted from 1, each book was done: it has the whole trace of its partition.
+    Done { rounds: u64, books: Vec<Book> },
+    /// So many rounds were asked for, and some book was not done in the last of them.
+    Unfinished { rounds: u64, books: Vec<Book> },
+    /// Memory was refused.
+    Memory,
+    /// The text is refused, with its first fault.
+    Topo(TopoFault),
+}
+
+/// Adds a book that knows nothing behind the others.
+fn push_book(
+    alloc: Global,
+    topology: &Arc<Topology>,
+    books: &mut Vec<Book>,
+    partition: PartNo,
+) -> Result<(), AllocError>
+    requires { partition < (arc_value topology.now).partitions }
+    ensures { OnOk result (AreBooks (arc_value topology.now) partition (λ p. fresh) books.old.items
+        → AreBooks (arc_value topology.now) (partition + 1) (λ p. fresh) books.new.items) }
+{
+    let shared = topology.clone()?;
+    let Ok(book) = Book::new(alloc, shared, partition, 0) else {
+        return Err(AllocError);
+    };
+    books.push(book)?;
+    Ok(())
+}
+
+/// Replica 0 of each partition, which knows nothing.
+fn first_books(alloc: Global, topology: &Arc<Topology>) -> Result<Vec<Book>, AllocError>
+    ensures { IfOk result (λ books. AreBooks (arc_value topology.now)
+        (arc_value topology.now).partitions (λ p. fresh) books.items) }
+{
+    let mut books = Vec::new(alloc);
+    for partition in 0..topology.partitions() {
+        push_book(alloc, topology, &mut books, PartNo::new(partition))?;
+    }
+    Ok(books)
+}
+
+/// Does rounds until all books are done, and answers in which they are; or does as many as are
+/// asked for.
+fn do_rounds(
+    alloc: Global,
+    topology: &Topology,
+    books: &mut Vec<Book>,
+    max: u64,
+) -> Result<Option<u64>, AllocError>
+    requires some { 1 ≤ max }
+    requires few { max ≤ MAX_ROUNDS }
+    requires first { AreBooks topology.now topology.now.partitions (λ p. fresh) books.old.items }
+    ensures { IfOk result (λ done. AreEnded topology.now max done books.new.items) }
+{
+    every_topology_is_a_network(topology); // law: `net_of` is a network of the model
+    channels_are_those_of_the_network(topology); // law: what comes in is a channel
+    packets_are_told_apart(); // law: equal octets are found equal
+    times_pass::<Packet, NodeState>(); // law: the network reaches `stop`
+    rounds_bound::<Packet, NodeState>(); // law: in which round all is done
+    for round in 0..max {
+        if do_round(alloc, topology, books)? {
+            return Ok(Some(round + 1));
+        }
+    }
+    Ok(None)
+}
+
+/// Does rounds over a network.
+fn rounds_of(alloc: Global, topology: Topology, max: u64) -> Result<Rounds, AllocError>
+    requires some { 1 ≤ max }
+    requires few { max ≤ MAX_ROUNDS }
+    ensures { IfOk result (λ rounds. (text : List ℕ) → topology_of text ≡ Ok topology
+        → ComesTo text max rounds) }
+{
+    let topology = Arc::new(alloc, topology)?;
+    let mut books = first_books(alloc, &topology)?;
+    match do_rounds(alloc, &topology, &mut books, max)? {
+        Some(rounds) => Ok(Rounds::Done { rounds, books }),
+        None => Ok(Rounds::Unfinished { rounds: max, books }),
+    }
+}
+
+/// Lets all partitions of the network run and hear each other, in rounds, until all is done, but in
+/// at most so many rounds.
+///
+/// In a round each partition runs all that is safe. If all are done then, that is the last round.
+/// Else the new messages of each channel and its null message, which makes the promise of the
+/// moment, are first gathered of all channels, and only then told. Where there is no channel all is
+/// done in the first round; and always after `stop` divided by the least lookahead of a channel,
+/// rounded up, and one round more.
+pub fn run_rounds(alloc: Global, text: &[u8], max: u64) -> Rounds
+    requires some { 1 ≤ max }
+    requires few { max ≤ MAX_ROUNDS }
+    ensures { ComesTo text.now max result }
+{
+    let topology = match Topology::read(alloc, text) {
+        Ok(topology) => topology,
+        Err(TopoFault::Memory) => return Rounds::Memory,
+        Err(fault) => return Rounds::Topo(fault),
+    };
+    match rounds_of(alloc, topology, max) {
+        Ok(rounds) => rounds,
+        Err(_) => Rounds::Memory,
+    }
+}
