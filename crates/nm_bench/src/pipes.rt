@@ -10,7 +10,7 @@ use std::cell::RefCell;
 use std::rc::Rc;
 
 /// The octets that are on their way in one direction.
-type Way = Rc<RefCell<Vec<u8>>>;
+pub type Way = Rc<RefCell<Vec<u8>>>;
 
 /// One end of a connection in memory.
 #[derive(Drop)]
@@ -23,7 +23,7 @@ pub struct PipeWire {
 }
 
 /// Moves octets out of one direction, to the front of a buffer: how many.
-fn move_out(way: &Way, buffer: &mut [u8]) -> usize
+pub fn move_out(way: &Way, buffer: &mut [u8]) -> usize
     ensures { result ≤ length buffer.new }
 {
     let Ok(mut octets) = way.try_borrow_mut() else {
@@ -36,7 +36,7 @@ fn move_out(way: &Way, buffer: &mut [u8]) -> usize
 }
 
 /// Moves octets into one direction. Whether there was memory.
-fn move_in(way: &Way, octets: &[u8]) -> bool {
+pub fn move_in(way: &Way, octets: &[u8]) -> bool {
     match way.try_borrow_mut() {
         Ok(mut held) => held.extend_from_slice(octets).is_ok(),
         Err(_) => false,
@@ -56,14 +56,20 @@ impl PipeWire {
     }
 }
 
-/// Both ends of a connection.
-pub fn pipe(alloc: Global) -> Result<(PipeWire, PipeWire), AllocError> {
+/// Both directions of a connection.
+pub fn ways(alloc: Global) -> Result<(Way, Way), AllocError> {
     let Ok(there) = Rc::new(alloc, RefCell::new(Vec::new(alloc))) else {
         return Err(AllocError);
     };
     let Ok(back) = Rc::new(alloc, RefCell::new(Vec::new(alloc))) else {
         return Err(AllocError);
     };
+    Ok((there, back))
+}
+
+/// Both ends of a connection.
+pub fn pipe(alloc: Global) -> Result<(PipeWire, PipeWire), AllocError> {
+    let (there, back) = ways(alloc)?;
     let zero = PipeWire::new(back.clone()?, there.clone()?);
     Ok((zero, PipeWire::new(there, back)))
 }
