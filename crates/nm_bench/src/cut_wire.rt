@@ -100,13 +100,23 @@ impl Wire for CutWire {
     }
 
     fn write_some(&mut self, octets: &[u8]) -> Written {
-        let count = self.cut.takes.min(self.cut.piece).min(octets.len());
-        if count == 0 || !move_in(&self.to, &octets[..count]) {
-            self.failed.rise();
-            return Written::Fault;
+        let most = self.cut.takes.min(self.cut.piece).min(octets.len());
+        let taken = if most == 0 {
+            None
+        } else {
+            move_in(&self.to, &octets[..most])
+        };
+        match taken {
+            None => {
+                self.failed.rise();
+                Written::Fault
+            }
+            Some(0) => Written::Later,
+            Some(count) => {
+                self.cut.takes -= count;
+                self.sent.add(&octets[..count]);
+                Written::Took(count)
+            }
         }
-        self.cut.takes -= count;
-        self.sent.add(&octets[..count]);
-        Written::Took(count)
     }
 }
