@@ -98,8 +98,8 @@ impl Replica {
     }
 }
 
-/// A new connection: partition 0 goes on with its session, and partition 1 learns by the first frame
-/// who is there.
+/// A new connection: partition 0 goes on with its session, and partition 1 learns by the first
+/// frame who is there.
 fn connect(
     alloc: Global,
     topology: &Arc<Topology>,
@@ -233,8 +233,8 @@ fn fault_of(
 }
 
 /// Does so with so many seeds, from one on, over the topology of a file with two partitions, and
-/// shows each seed that is not certified, how many connections were made, and how many seeds are not
-/// certified.
+/// shows each seed that is not certified, how many connections were made, and how many seeds are
+/// not certified.
 ///
 /// # Errors
 ///
