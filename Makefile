@@ -1,6 +1,6 @@
 # `make help` lists the targets.
 
-.PHONY: all help try run bench cases check-frames check-pcap test gate-times clean toolchain
+.PHONY: all help try run bench cases check-frames check-links check-pcap test gate-times clean toolchain
 
 # The topology and the interface of `make try` and `make run`; the folder of `make cases`; how many crates `make` proves at a time.
 TOPO = examples/duo.toml
@@ -17,6 +17,7 @@ help:
 	@echo 'make bench       times it on generated topologies, and event lists and knowledge alone (docs/BENCH.md)'
 	@echo 'make cases       compares it with cases of an independent model; CASES=FOLDER: with those of a folder'
 	@echo 'make check-frames compares the reader of frames with a model of its own over generated streams'
+	@echo 'make check-links breaks the connections of replicas at random octets, with ten thousand seeds, and certifies what they come to'
 	@echo 'make check-pcap  reads the traces of the examples with tshark, or else tcpdump, one of which it needs'
 	@echo 'make test        the gate: proves everything from nothing and runs every test; the last line is N passed, M failed'
 	@echo 'make gate-times  the gate, with the processor minutes of each crate (docs/GATE.md)'
@@ -72,6 +73,9 @@ cases: bin/nullsim
 
 check-frames: bin/nm_bench
 	@tools/check-frames
+
+check-links: bin/nm_bench
+	@tools/check-links
 
 check-pcap: bin/nullsim
 	@tools/check-pcap bin/nullsim examples/*.toml

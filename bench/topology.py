@@ -206,6 +206,22 @@ def channels(count=1):
     write(10 ** 15, net.nodes, net.ifaces, net.links, [], [])
 
 
+def both(packets=5):
+    """Four routers in a ring, two in each of two partitions: two links join these, and each router sends to the one across."""
+    net = Net()
+    for i in range(4):
+        net.node(f"r{i}", partition=i // 2)
+    for i in range(4):
+        net.link(f"r{i}", f"r{(i + 1) % 4}", 8_000_000, 1_000_000)
+    sources = []
+    for i in range(4):
+        target = f"r{(i + 2) % 4}"
+        address = net.address(target)
+        net.reach(target, address + "/32")
+        sources.append(cbr(f"r{i}", address, 20 * i + 1, 100_000 * i, 1_500_000, packets))
+    write(20_000_000, net.nodes, net.ifaces, net.links, net.routes, sources)
+
+
 def spread(packets):
     """Delays from a microsecond to a second, in equal ratios: arrivals come in no order."""
     hub(packets, lambda part: round(1_000 * 1_000_000 ** part))
@@ -252,6 +268,7 @@ KINDS = {
     "hub": equal,
     "spread": spread,
     "channels": channels,
+    "both": both,
 }
 
 if __name__ == "__main__":

@@ -15,9 +15,16 @@
 //! million null messages by so many threads, `apart-2` and `apart-4` as many replicas as threads, and
 //! `jobs` gives a pool of four threads 100,000 jobs. `streams` reads a file of streams of frames, and
 //! shows the frames (`tools/check-frames`).
+//!
+//! `cuts FILE FROM COUNT` lets two replicas of a topology with two partitions tell each other all over
+//! links that break at random, with so many seeds, and says how many are not certified
+//! (`tools/check-links`).
 #![tactic(auto)]
 
 mod callers;
+mod chance;
+mod cut_wire;
+mod cuts;
 mod frames;
 mod links;
 mod network;
@@ -27,6 +34,7 @@ mod streams;
 mod turns;
 
 use bytes::Bytes;
+use cuts::try_seeds;
 use frames::frames_read;
 use links::messages_told;
 use network::{Task, Threading, work_over};
@@ -106,11 +114,24 @@ fn task(word: &str) -> Option<Task> {
     }
 }
 
+/// The number that a word says.
+fn number(word: Option<String>) -> Result<u64, Error> {
+    let word = word.ok_or(ErrorKind::InvalidInput)?;
+    match word.as_str().parse::<u64>() {
+        Ok(number) => Ok(number),
+        Err(_) => Err(ErrorKind::InvalidInput.into()),
+    }
+}
+
 fn main(rt: HostRuntime) -> Result<(), Error> {
     let mut words = env::args(&rt)?.skip(1);
     let word = words.next().ok_or(ErrorKind::InvalidInput)?;
     let done = match words.next() {
         None => work_alone(&rt, word.as_str())?,
+        Some(path) if word.as_str() == "cuts" => {
+            let from = number(words.next())?;
+            return try_seeds(&rt, path.as_str(), from, number(words.next())?);
+        }
         Some(path) if word.as_str() == "streams" => {
             let octets = fs::read(&rt, path.as_str())?;
             read_streams(&rt, octets.as_slice())?

@@ -64,7 +64,7 @@ impl Threading {
 }
 
 /// The topology of a file.
-fn topology_at<R: Files + AllocGlobal>(rt: &R, path: &str) -> Result<Topology, Error> {
+pub fn topology_at<R: Files + AllocGlobal>(rt: &R, path: &str) -> Result<Topology, Error> {
     let text = fs::read(rt, path)?;
     match Topology::read(rt.alloc(), text.as_slice()) {
         Ok(topology) => Ok(topology),

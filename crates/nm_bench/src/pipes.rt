@@ -1,6 +1,6 @@
 //! Wires between two links of one thread.
 
-ghost use Rattle.std.specs.Prelude.{◌≡◌, ℕ, ◌≤◌, List, length};
+ghost use Rattle.std.specs.Prelude.{◌≡◌, ℕ, ◌≤◌, List, length, IfSome};
 
 use nm_base::failures::FailureCount;
 use nm_base::wire::{Read, Written};
@@ -9,8 +9,11 @@ use std::alloc::{AllocError, Global};
 use std::cell::RefCell;
 use std::rc::Rc;
 
+/// The most octets that are on their way in one direction.
+const MAX_HELD: usize = 65_536;
+
 /// The octets that are on their way in one direction.
-type Way = Rc<RefCell<Vec<u8>>>;
+pub type Way = Rc<RefCell<Vec<u8>>>;
 
 /// One end of a connection in memory.
 #[derive(Drop)]
@@ -23,7 +26,7 @@ pub struct PipeWire {
 }
 
 /// Moves octets out of one direction, to the front of a buffer: how many.
-fn move_out(way: &Way, buffer: &mut [u8]) -> usize
+pub fn move_out(way: &Way, buffer: &mut [u8]) -> usize
     ensures { result ≤ length buffer.new }
 {
     let Ok(mut octets) = way.try_borrow_mut() else {
@@ -35,11 +38,18 @@ fn move_out(way: &Way, buffer: &mut [u8]) -> usize
     count
 }
 
-/// Moves octets into one direction. Whether there was memory.
-fn move_in(way: &Way, octets: &[u8]) -> bool {
-    match way.try_borrow_mut() {
-        Ok(mut held) => held.extend_from_slice(octets).is_ok(),
-        Err(_) => false,
+/// Moves the first octets of a list into one direction: how many it had room for, if there was
+/// memory.
+pub fn move_in(way: &Way, octets: &[u8]) -> Option<usize>
+    ensures { IfSome result (λ count. count ≤ length octets.now) }
+{
+    let Ok(mut held) = way.try_borrow_mut() else {
+        return None;
+    };
+    let count = MAX_HELD.saturating_sub(held.len()).min(octets.len());
+    match held.extend_from_slice(&octets[..count]) {
+        Ok(()) => Some(count),
+        Err(_) => None,
     }
 }
 
@@ -56,14 +66,20 @@ impl PipeWire {
     }
 }
 
-/// Both ends of a connection.
-pub fn pipe(alloc: Global) -> Result<(PipeWire, PipeWire), AllocError> {
+/// Both directions of a connection.
+pub fn ways(alloc: Global) -> Result<(Way, Way), AllocError> {
     let Ok(there) = Rc::new(alloc, RefCell::new(Vec::new(alloc))) else {
         return Err(AllocError);
     };
     let Ok(back) = Rc::new(alloc, RefCell::new(Vec::new(alloc))) else {
         return Err(AllocError);
     };
+    Ok((there, back))
+}
+
+/// Both ends of a connection.
+pub fn pipe(alloc: Global) -> Result<(PipeWire, PipeWire), AllocError> {
+    let (there, back) = ways(alloc)?;
     let zero = PipeWire::new(back.clone()?, there.clone()?);
     Ok((zero, PipeWire::new(there, back)))
 }
@@ -87,12 +103,16 @@ impl Wire for PipeWire {
     }
 
     fn write_some(&mut self, octets: &[u8]) -> Written {
-        let count = octets.len();
-        if !move_in(&self.to, octets) {
-            self.failed.rise();
-            return Written::Fault;
+        match move_in(&self.to, octets) {
+            None => {
+                self.failed.rise();
+                Written::Fault
+            }
+            Some(0) => Written::Later,
+            Some(count) => {
+                self.sent.add(&octets[..count]);
+                Written::Took(count)
+            }
         }
-        self.sent.add(&octets[..count]);
-        Written::Took(count)
     }
 }

@@ -1,0 +1,269 @@
+//! Two replicas whose connections break at random octets, again and again, until both have said
+//! Bye; and whether their books are then certified. `tools/check-links` does so with many seeds.
+
+use crate::chance::Chance;
+use crate::cut_wire::{CutWire, cut_pipe};
+use crate::network::topology_at;
+use nm_base::PartNo;
+use nm_book::Book;
+use nm_engine::{Host, Link, ReadBuffer, Turn};
+use nm_frames::Session;
+use nm_rounds::CertFault;
+use nm_rounds::certify::certify;
+use nm_shared::{Pass, Plain, SharedBook};
+use nm_topology::Topology;
+use std::alloc::Global;
+use std::io::{Error, ErrorKind};
+use std::rt::Files;
+use std::sync::{Arc, Wait};
+
+/// The most connections of a seed, and the most turns of a connection, which then is cut.
+const MAX_CONNECTIONS: u64 = 1_000;
+
+const MAX_TURNS: u64 = 500;
+
+/// A shared replica of one of two partitions.
+#[derive(Drop)]
+struct Replica {
+    book: SharedBook<Plain>,
+    pass: Pass<Plain>,
+}
+
+/// The links of a connection: that of partition 0, which connects, and that of partition 1.
+#[derive(Drop)]
+struct Links {
+    zero: Link<CutWire>,
+    one: Link<CutWire>,
+}
+
+/// What a connection came to.
+#[derive(Drop)]
+struct Came {
+    /// The session of partition 0 after the break.
+    session: Option<Session>,
+    /// Whether both sides have said Bye.
+    ended: bool,
+}
+
+/// What a seed came to.
+#[derive(Drop)]
+struct Outcome {
+    connections: u64,
+    /// Why the books are not certified, if they are not.
+    fault: Option<CertFault>,
+}
+
+/// Replica 0 of a partition.
+fn replica_of<R: Wait>(
+    rt: &R,
+    alloc: Global,
+    topology: &Arc<Topology>,
+    me: u32,
+) -> Result<Replica, Error> {
+    let (counts, whole) = Plain::open();
+    let shared = Arc::try_clone(topology)?;
+    let Ok(book) = SharedBook::new(alloc, shared, PartNo::new(me), 0, counts, whole) else {
+        return Err(ErrorKind::InvalidInput.into());
+    };
+    let pass = book.pass(rt)?;
+    Ok(Replica { book, pass })
+}
+
+impl Replica {
+    /// It runs a little, at times, and its link has a turn.
+    fn turn<R: Wait>(
+        &mut self,
+        rt: &R,
+        alloc: Global,
+        chance: &mut Chance,
+        link: &mut Link<CutWire>,
+        buffer: &mut ReadBuffer,
+    ) -> Turn {
+        if chance.once_in(3) {
+            let limit = chance.below(6);
+            let _ran = self.book.run(rt, &mut self.pass, alloc, limit);
+        }
+        link.turn(rt, alloc, &self.book, &mut self.pass, buffer)
+    }
+
+    /// Its book, which nobody shares any more.
+    fn into_book(self, alloc: Global) -> Result<Book, Error> {
+        let Replica { book, pass } = self;
+        let mut passes = Vec::new(alloc);
+        passes.push(pass)?;
+        match book.close(passes) {
+            Ok(closed) => Ok(closed.book),
+            Err(_) => Err(ErrorKind::InvalidInput.into()),
+        }
+    }
+}
+
+/// A new connection: partition 0 goes on with its session, and partition 1 learns by the first
+/// frame who is there.
+fn connect(
+    alloc: Global,
+    topology: &Arc<Topology>,
+    chance: &mut Chance,
+    session: Session,
+) -> Result<Links, Error> {
+    let (there, back) = cut_pipe(alloc, chance)?;
+    let host = Host::new(Arc::try_clone(topology)?, PartNo::new(1), 0);
+    Ok(Links {
+        zero: Link::connected(alloc, there, session),
+        one: Link::accepted(alloc, back, host),
+    })
+}
+
+/// Both sides have turns as chance says, until both have said Bye, or some time after one broke.
+/// Whether both have said Bye.
+fn talk<R: Wait>(
+    rt: &R,
+    alloc: Global,
+    chance: &mut Chance,
+    zero: &mut Replica,
+    one: &mut Replica,
+    links: &mut Links,
+    buffer: &mut ReadBuffer,
+) -> bool {
+    let mut first = Turn::Idle;
+    let mut second = Turn::Idle;
+    for _ in 0..MAX_TURNS {
+        if chance.once_in(2) {
+            first = zero.turn(rt, alloc, chance, &mut links.zero, buffer);
+        } else {
+            second = one.turn(rt, alloc, chance, &mut links.one, buffer);
+        }
+        if first == Turn::Ended && second == Turn::Ended {
+            return true;
+        }
+        if (is_over(first) || is_over(second)) && chance.once_in(8) {
+            return false;
+        }
+    }
+    false
+}
+
+/// Whether the link broke, now or before.
+fn is_over(turn: Turn) -> bool {
+    matches!(turn, Turn::Broken(_) | Turn::Failed)
+}
+
+/// One connection, from its start until it is over.
+fn connection<R: Wait>(
+    rt: &R,
+    alloc: Global,
+    topology: &Arc<Topology>,
+    chance: &mut Chance,
+    zero: &mut Replica,
+    one: &mut Replica,
+    session: Session,
+    buffer: &mut ReadBuffer,
+) -> Result<Came, Error> {
+    let mut links = connect(alloc, topology, chance, session)?;
+    let ended = talk(rt, alloc, chance, zero, one, &mut links, buffer);
+    let Links { zero: link, one: _ } = links;
+    let (_wire, session) = link.back();
+    Ok(Came { session, ended })
+}
+
+/// The session after its connection broke.
+fn broken(session: Option<Session>) -> Result<Session, Error> {
+    let Some(mut session) = session else {
+        return Err(ErrorKind::InvalidData.into());
+    };
+    session.broken();
+    Ok(session)
+}
+
+/// Connections until both sides have said Bye over one: how many.
+fn converse<R: Wait>(
+    rt: &R,
+    alloc: Global,
+    topology: &Arc<Topology>,
+    chance: &mut Chance,
+    zero: &mut Replica,
+    one: &mut Replica,
+    buffer: &mut ReadBuffer,
+) -> Result<u64, Error> {
+    let mut session = Session::new(alloc, topology, PartNo::new(0), 0, PartNo::new(1))?;
+    for count in 0..MAX_CONNECTIONS {
+        let came = connection(rt, alloc, topology, chance, zero, one, session, buffer)?;
+        if came.ended {
+            return Ok(count + 1);
+        }
+        session = broken(came.session)?;
+    }
+    Ok(MAX_CONNECTIONS)
+}
+
+/// What a seed comes to.
+fn outcome_of<R: Wait>(
+    rt: &R,
+    alloc: Global,
+    topology: &Arc<Topology>,
+    seed: u64,
+    buffer: &mut ReadBuffer,
+) -> Result<Outcome, Error> {
+    let mut chance = Chance::new(seed);
+    let mut zero = replica_of(rt, alloc, topology, 0)?;
+    let mut one = replica_of(rt, alloc, topology, 1)?;
+    let connections = converse(
+        rt,
+        alloc,
+        topology,
+        &mut chance,
+        &mut zero,
+        &mut one,
+        buffer,
+    )?;
+    let fault = fault_of(alloc, topology, zero, one)?;
+    Ok(Outcome { connections, fault })
+}
+
+/// Why the books of two replicas are not certified, if they are not.
+fn fault_of(
+    alloc: Global,
+    topology: &Topology,
+    zero: Replica,
+    one: Replica,
+) -> Result<Option<CertFault>, Error> {
+    let zero = zero.into_book(alloc)?;
+    let one = one.into_book(alloc)?;
+    Ok(certify(topology, &[&zero, &one]).err())
+}
+
+/// Does so with so many seeds, from one on, over the topology of a file with two partitions, and
+/// shows each seed that is not certified, how many connections were made, and how many seeds are
+/// not certified.
+///
+/// # Errors
+///
+/// `Other` where a seed is not certified.
+pub fn try_seeds<R: Files + Print + AllocGlobal + Wait>(
+    rt: &R,
+    path: &str,
+    from: u64,
+    count: u64,
+) -> Result<(), Error> {
+    let alloc = rt.alloc();
+    let Ok(topology) = Arc::new(alloc, topology_at(rt, path)?) else {
+        return Err(ErrorKind::OutOfMemory.into());
+    };
+    let mut buffer = ReadBuffer::new(alloc)?;
+    let (mut wrong, mut connections) = (0u64, 0u64);
+    for number in 0..count {
+        let seed = from.wrapping_add(number);
+        let outcome = outcome_of(rt, alloc, &topology, seed, &mut buffer)?;
+        connections = connections.saturating_add(outcome.connections);
+        if let Some(fault) = outcome.fault {
+            println!(rt; "seed {seed}: {fault}")?;
+            wrong = wrong.saturating_add(1);
+        }
+    }
+    println!(rt; "{connections} connections")?;
+    println!(rt; "{count} seeds, {wrong} not certified")?;
+    if wrong > 0 {
+        return Err(ErrorKind::Other.into());
+    }
+    Ok(())
+}
