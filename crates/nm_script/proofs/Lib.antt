@@ -1,0 +1,4 @@
+pub mod Parts
+pub mod Steps
+pub mod Lines
+pub mod Printing

@@ -1,0 +1,31 @@
+-- What a line of a script says. A line stands here without its line feed.
+use Rattle.std.specs.Prelude.{◌≡◌, ℕ, ◌<◌, ◌^◌, ◌==◌, Bool, true, List, [], ◌∷◌, map, decimal, Some}
+use Rattle.std.specs.List.{All}
+use Rattle.std.specs.Str.{IsAscii}
+use Rattle.nm_text.specs.Split.{parts_at}
+use Rattle.nm_rounds.specs.declared.step.WorldStep.{WorldStep}
+use Rattle.nm_script.specs.declared.line.Line.{Line}
+use Rattle.nm_script.specs.declared.line.Line.TheVariants.{Skipped, Step}
+use Rattle.nm_script.specs.Words.{step_of}
+
+-- the words of a line, which one space parts
+abbrev pub words_of : List ℕ → List (List ℕ)
+words_of line = parts_at 32 line
+
+-- The line is a step: its words are a word and numbers, which are written in decimal without leading zeros.
+pub record IsStep (line : List ℕ) (s : WorldStep) : Type 0 where
+  pub word : List ℕ
+  pub numbers : List ℕ
+  pub small : All (λ n. n < 2 ^ 64) numbers
+  pub words : words_of line ≡ word ∷ map decimal numbers
+  pub named : step_of word numbers ≡ Some s
+
+-- it is empty, or it begins with `#`
+abbrev pub is_idle : List ℕ → Bool
+is_idle [] = true
+is_idle (c ∷ cs) = c == 35
+
+-- what a line says: nothing, which must be ASCII, or a step
+abbrev pub Says : List ℕ → Line → Type 0
+Says line Skipped = (is_idle line ≡ true) × IsAscii line
+Says line (Step s) = IsStep line s

@@ -1,0 +1,58 @@
+//! The lines of a script.
+
+ghost use Rattle.std.specs.Prelude.{◌≡◌, Some, IfSome};
+ghost use Rattle.nm_rounds.specs.declared.step.WorldStep.{WorldStep as Step};
+ghost use Rattle.nm_script.specs.Grammar.{IsStep, Says, is_idle};
+ghost use Rattle.nm_script.specs.declared.line.Line.{Line as LineValue};
+
+use crate::numbers::numbers_of;
+use crate::words::step_of;
+use nm_rounds::WorldStep;
+use nm_text::split_once;
+
+/// What a line of a script says.
+#[derive(Clone, Copy)]
+pub enum Line {
+    /// Nothing: it is empty, or a comment.
+    Skipped,
+    /// A step.
+    Step(WorldStep),
+}
+
+/// Whether a line is empty, or begins as a comment does.
+fn is_idle(line: &[u8]) -> bool
+    ensures { result ≡ is_idle line.now }
+{
+    match line {
+        [] => true,
+        [first, ..] => *first == b'#',
+    }
+}
+
+/// The step that a line is.
+fn step_on(line: &[u8]) -> Option<WorldStep>
+    ensures found { IfSome result (IsStep line.now) }
+    ensures only { (s : Step) → IsStep line.now s → result ≡ Some s }
+{
+    let (word, rest) = split_once(line, b' ')?;
+    let numbers = numbers_of(rest)?;
+    step_of(word, &numbers)
+}
+
+/// What a line says, which stands here without its line feed. `None` where it says nothing that a
+/// script may have.
+pub fn read_line(line: &[u8]) -> Option<Line>
+    ensures found { IfSome result (Says line.now) }
+    ensures only { (said : LineValue) → Says line.now said → result ≡ Some said }
+{
+    if is_idle(line) {
+        if line.is_ascii() {
+            return Some(Line::Skipped);
+        }
+        return None;
+    }
+    match step_on(line) {
+        Some(step) => Some(Line::Step(step)),
+        None => None,
+    }
+}

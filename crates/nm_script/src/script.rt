@@ -1,0 +1,50 @@
+//! The text of a script to its steps.
+
+ghost use Rattle.std.specs.Prelude.{◌≤◌, length};
+ghost use Rattle.nm_script.specs.Script.{Takes, Tells};
+ghost use Rattle.nm_script.specs.declared.script.TheConstants.{MAX_STEPS};
+
+use crate::fault::ScriptFault;
+use crate::line::{Line, read_line};
+use nm_rounds::WorldStep;
+use nm_text::split_once;
+use std::alloc::Global;
+
+/// The greatest number of steps.
+pub const MAX_STEPS: usize = 1_000_000;
+
+/// Adds what a line says to the steps of the lines before it.
+fn take_line(steps: &mut Vec<WorldStep>, line: &[u8], number: u64) -> Result<(), ScriptFault>
+    requires { length steps.old.items ≤ MAX_STEPS }
+    ensures { Takes steps.old.items line.now number result steps.new.items }
+{
+    match read_line(line) {
+        Some(Line::Skipped) => Ok(()),
+        Some(Line::Step(step)) if steps.len() < MAX_STEPS => Ok(steps.push(step)?),
+        _ => Err(ScriptFault::Line(number)),
+    }
+}
+
+/// Reads a script: ASCII lines, each ended by a line feed. A line is a step, or it is skipped: it
+/// is empty, or a comment, which begins with `#`. The steps come in the order of their lines.
+///
+/// # Errors
+///
+/// `Line` with the first line that is no such line, or one step too many. `Memory` where memory was
+/// refused.
+pub fn read_script(alloc: Global, text: &[u8]) -> Result<Vec<WorldStep>, ScriptFault>
+    ensures { Tells text.now result }
+{
+    let mut steps = Vec::new(alloc);
+    let mut rest = text;
+    let mut number = 0;
+    while !rest.is_empty() {
+        number += 1;
+        let Some((line, after)) = split_once(rest, b'\n') else {
+            return Err(ScriptFault::Line(number));
+        };
+        take_line(&mut steps, line, number)?;
+        rest = after;
+    }
+    Ok(steps)
+}
