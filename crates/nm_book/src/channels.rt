@@ -12,8 +12,8 @@ use nm_topology::topology::{
     accepted_topologies_are_in_order, channels_are_numbered_by_their_receivers,
 };
 
-/// The partition of an interface.
-fn partition_of(topology: &Topology, iface: IfaceNo) -> PartNo
+/// The partition of an interface's node.
+pub fn partition_of(topology: &Topology, iface: IfaceNo) -> PartNo
     requires { iface < length topology.now.ifaces }
     ensures { result ≡ (net_of topology.now).part ((net_of topology.now).owner iface) }
 {

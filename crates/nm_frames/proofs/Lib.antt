@@ -4,7 +4,6 @@ pub mod Parsing
 pub mod Cutting
 pub mod Deciding
 pub mod Feeding
-pub mod Partitions
 pub mod Taking
 pub mod Consecutive
 pub mod Splitting
