@@ -127,3 +127,10 @@ ComesTo text max (Done rounds books) = (t : TopologyValue) × (topology_of text 
 ComesTo text max (Unfinished rounds books) = (t : TopologyValue) × (topology_of text ≡ Ok t) × AreUnfinished t max rounds books.items
 ComesTo text max Memory = Unit {0}
 ComesTo text max (Topo f) = Refuses (topology_of text) f
+
+-- what rounds over a network that was read come to
+abbrev pub IsOfNetwork : Rounds → Type 0
+IsOfNetwork (Done rounds books) = Unit {0}
+IsOfNetwork (Unfinished rounds books) = Unit {0}
+IsOfNetwork Memory = Unit {0}
+IsOfNetwork (Topo f) = ⊥

@@ -1,6 +1,6 @@
 //! The world: all replicas of a network's partitions, the frames that they ever sent, and every way
-//! in which these may come. And the certificate: whether what replicas did is what the whole network
-//! does.
+//! in which these may come. And the certificate: whether what replicas did is what the whole
+//! network does.
 #![tactic(auto)]
 
 mod acting;

@@ -14,7 +14,8 @@ use nm_topology::Topology;
 /// Where a replica of a partition stands among all: replica r of partition p is the one of number
 /// 2p + r. `None` where there is no such replica.
 pub(crate) fn place_of(topology: &Topology, partition: PartNo, replica: u8) -> Option<usize>
-    ensures { result ≡ only_if (is_replica topology.now partition replica) (2 * partition + replica) }
+    ensures { result
+        ≡ only_if (is_replica topology.now partition replica) (2 * partition + replica) }
 {
     if partition.number() >= topology.partitions() || replica >= MAX_REPLICAS {
         return None;

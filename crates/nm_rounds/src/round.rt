@@ -85,7 +85,8 @@ fn push_data(
 ) -> Result<(), AllocError>
     requires goes { is_outgoing sender.now channel ≡ true }
     requires sent { number < length (sent_on sender.now channel) }
-    ensures { OnOk result (IsPushed sender.now channel number messages.old.items messages.new.items) }
+    ensures { OnOk result
+        (IsPushed sender.now channel number messages.old.items messages.new.items) }
 {
     if let Some(message) = sender.data(channel, number)? {
         messages.push(ChannelMessage::Data(message))?;
@@ -103,7 +104,8 @@ fn news(
     requires comes { is_incoming receiver.now channel ≡ true }
     requires goes { is_outgoing sender.now channel ≡ true }
     ensures { IfOk result (λ messages. AreNews
-        (slice_index_or receiver.now.knows channel nothing_known) sender.now channel messages.items) }
+        (slice_index_or receiver.now.knows channel nothing_known)
+        sender.now channel messages.items) }
 {
     let mut messages = Vec::new(alloc);
     let Some(null) = sender.null(channel) else {

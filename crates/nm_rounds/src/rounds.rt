@@ -5,7 +5,7 @@ ghost use Rattle.std.specs.Arc.{arc_value};
 ghost use Rattle.nm_model.specs.World.{fresh};
 ghost use Rattle.nm_topology.specs.Topology.{topology_of};
 ghost use Rattle.nm_rounds.specs.declared.rounds.TheConstants.{MAX_ROUNDS};
-ghost use Rattle.nm_rounds.specs.Rounds.{AreBooks, AreEnded, ComesTo};
+ghost use Rattle.nm_rounds.specs.Rounds.{AreBooks, AreEnded, ComesTo, IsOfNetwork};
 
 use crate::round::do_round;
 use nm_base::{Packet, PartNo};
@@ -94,28 +94,42 @@ fn do_rounds(
 }
 
 /// Does rounds over a network.
-fn rounds_of(alloc: Global, topology: Topology, max: u64) -> Result<Rounds, AllocError>
+fn rounds_of(alloc: Global, topology: &Arc<Topology>, max: u64) -> Result<Rounds, AllocError>
     requires some { 1 ≤ max }
     requires few { max ≤ MAX_ROUNDS }
-    ensures { IfOk result (λ rounds. (text : List ℕ) → topology_of text ≡ Ok topology
-        → ComesTo text max rounds) }
+    ensures comes { IfOk result (λ rounds. (text : List ℕ)
+        → topology_of text ≡ Ok (arc_value topology.now) → ComesTo text max rounds) }
+    ensures read { IfOk result (λ rounds. IsOfNetwork rounds) }
 {
-    let topology = Arc::new(alloc, topology)?;
-    let mut books = first_books(alloc, &topology)?;
-    match do_rounds(alloc, &topology, &mut books, max)? {
+    let mut books = first_books(alloc, topology)?;
+    match do_rounds(alloc, topology, &mut books, max)? {
         Some(rounds) => Ok(Rounds::Done { rounds, books }),
         None => Ok(Rounds::Unfinished { rounds: max, books }),
     }
 }
 
-/// Lets all partitions of the network run and hear each other, in rounds, until all is done, but in
-/// at most so many rounds.
+/// Lets all partitions of a network run and hear each other, in rounds, until all is done, but in
+/// at most so many rounds. It never answers `Topo`.
 ///
 /// In a round each partition runs all that is safe. If all are done then, that is the last round.
 /// Else the new messages of each channel and its null message, which makes the promise of the
 /// moment, are first gathered of all channels, and only then told. Where there is no channel all is
 /// done in the first round; and always after `stop` divided by the least lookahead of a channel,
 /// rounded up, and one round more.
+pub fn run_rounds_over(alloc: Global, topology: &Arc<Topology>, max: u64) -> Rounds
+    requires some { 1 ≤ max }
+    requires few { max ≤ MAX_ROUNDS }
+    ensures comes { (text : List ℕ) → topology_of text ≡ Ok (arc_value topology.now)
+        → ComesTo text max result }
+    ensures read { IsOfNetwork result }
+{
+    match rounds_of(alloc, topology, max) {
+        Ok(rounds) => rounds,
+        Err(_) => Rounds::Memory,
+    }
+}
+
+/// Reads the text of a network, and lets its partitions run as `run_rounds_over` does.
 pub fn run_rounds(alloc: Global, text: &[u8], max: u64) -> Rounds
     requires some { 1 ≤ max }
     requires few { max ≤ MAX_ROUNDS }
@@ -126,8 +140,8 @@ pub fn run_rounds(alloc: Global, text: &[u8], max: u64) -> Rounds
         Err(TopoFault::Memory) => return Rounds::Memory,
         Err(fault) => return Rounds::Topo(fault),
     };
-    match rounds_of(alloc, topology, max) {
-        Ok(rounds) => rounds,
+    match Arc::new(alloc, topology) {
+        Ok(topology) => run_rounds_over(alloc, &topology, max),
         Err(_) => Rounds::Memory,
     }
 }

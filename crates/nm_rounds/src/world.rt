@@ -52,7 +52,8 @@ fn push_replica(
 ) -> Result<(), AllocError>
     requires there { replica < 2 }
     requires partition { partition < (arc_value topology.now).partitions }
-    ensures { OnOk result (AreFirst (arc_value topology.now) (2 * partition + replica) books.old.items
+    ensures { OnOk result
+        (AreFirst (arc_value topology.now) (2 * partition + replica) books.old.items
         → AreFirst (arc_value topology.now) (2 * partition + replica + 1) books.new.items) }
 {
     let shared = topology.clone()?;
