@@ -67,6 +67,15 @@ bench: bin/nullsim bin/nm_bench
 	    python3 bench/time.py "line of $$packets packets, $$work" bin/nm_bench $$work bin/line-$$packets.toml || exit 1; \
 	  done; \
 	done
+	@for kind in line-cut grid-cut; do \
+	  for partitions in 1 4 16; do \
+	    file=bin/$$kind-$$partitions.toml; \
+	    python3 bench/topology.py $$kind $$partitions > $$file && bin/nm_bench rounds $$file && \
+	    for work in kept rounds; do \
+	      python3 bench/time.py "$$kind, $$partitions partitions, $$work" bin/nm_bench $$work $$file || exit 1; \
+	    done; \
+	  done; \
+	done
 
 cases: bin/nullsim
 	@tools/cases.sh bin/nullsim $(if $(CASES),'$(CASES)',crates/nullsim_cases/data/cases/networks crates/nullsim_cases/data/cases/readings)

@@ -84,17 +84,17 @@ class Net:
         return next(i["address"] for i in self.ifaces if i["node"] == name)
 
 
-def line(packets=15_900, octets=100, interval=4_000, routers=64):
-    """Packets along a line of routers, from one end to the other."""
+def line(packets=15_900, octets=100, interval=4_000, routers=64, stop=10 ** 12, partitions=1):
+    """Packets along a line of routers, from one end to the other; the line is cut into parts of equal length."""
     net = Net()
     for i in range(routers):
-        net.node(f"r{i}")
+        net.node(f"r{i}", partition=i * partitions // routers)
     for i in range(routers - 1):
         net.link(f"r{i}", f"r{i + 1}", 1_000_000_000, 1_000)
     target = f"r{routers - 1}"
     address = net.address(target)
     net.reach(target, address + "/32")
-    write(10 ** 12, net.nodes, net.ifaces, net.links, net.routes,
+    write(stop, net.nodes, net.ifaces, net.links, net.routes,
           [cbr("r0", address, octets - HEADERS, 0, interval, packets)])
 
 
@@ -124,13 +124,13 @@ def mixed_links(number, count):
     return 10 ** (8 + number % 3), round(1_000 * 10_000 ** (number * 37 % count / (count - 1)))
 
 
-def grid(packets=2_000, octets=228, interval=50_000, side=8, links=same_links, sends=lambda x, y: True):
-    """Flows from the routers of a grid that send to the ones across."""
+def grid(packets=2_000, octets=228, interval=50_000, side=8, links=same_links, sends=lambda x, y: True, stop=10 ** 12, cuts=1):
+    """Flows from the routers of a grid that send to the ones across; the grid is cut into so many by so many squares."""
     net = Net()
     count = 2 * side * (side - 1)
     for x in range(side):
         for y in range(side):
-            net.node(f"g{x}-{y}")
+            net.node(f"g{x}-{y}", partition=x * cuts // side * cuts + y * cuts // side)
     for x in range(side):
         for y in range(side):
             if x + 1 < side:
@@ -145,7 +145,17 @@ def grid(packets=2_000, octets=228, interval=50_000, side=8, links=same_links, s
             net.reach(target, address + "/32")
             start = 1_000 * (x * side + y)
             sources.append(cbr(f"g{x}-{y}", address, octets - HEADERS, start, interval, packets))
-    write(10 ** 12, net.nodes, net.ifaces, net.links, net.routes, sources)
+    write(stop, net.nodes, net.ifaces, net.links, net.routes, sources)
+
+
+def cut_line(partitions):
+    """`line`, cut, and stopped soon after its last packet arrived: a round is a microsecond of simulated time."""
+    line(stop=64_000_000, partitions=partitions)
+
+
+def cut_grid(partitions):
+    """`grid`, cut into squares, and stopped soon after its last packet arrived: a round is ten microseconds of simulated time."""
+    grid(stop=110_000_000, cuts=round(partitions ** 0.5))
 
 
 def star(packets=20_000, octets=528, interval=60_000, leaves=32):
@@ -255,6 +265,8 @@ def limits(packets=4, partitions=64, size=16, chords=12, between=4, is_cut=True)
 KINDS = {
     "line": line,
     "grid": grid,
+    "line-cut": cut_line,
+    "grid-cut": cut_grid,
     "star": star,
     "line-1000": lambda packets=7_940: line(packets, 1_000, 20_000),
     "grid-1000": lambda packets=708: grid(packets, 1_000, 100_000, side=16, sends=lambda x, y: x == 0 or y == 0),

@@ -89,8 +89,8 @@ fn talk<R: Wait>(rt: &R, alloc: Global, zero: &mut End, one: &mut End) -> Result
     Ok(one.book.look(rt, &mut one.pass).messages)
 }
 
-/// A replica of partition 0 is done, and tells one of partition 1 its messages, if it is to: how many
-/// that then knows. Packets have 28 octets more than their data.
+/// A replica of partition 0 is done, and tells one of partition 1 its messages, if it is to: how
+/// many that then knows. Packets have 28 octets more than their data.
 pub fn messages_told<R: Wait>(
     rt: &R,
     alloc: Global,

@@ -1,23 +1,29 @@
 //! Works an event list, knowledge of a channel, or the parts of a simulation, so that it can be
-//! timed from outside (`make bench`). One word says which: `heap-random`, `heap-nearly`,
-//! `sorted-random` and `sorted-nearly` take a million keys through a list of 4,096, and print the
-//! last one's time; `know` makes knowledge of a million messages, and `copy` copies it a hundred
-//! times; `write` writes 200,000 messages of 100 octets as frames, and `read-1`, `read-100` and
-//! `read-65536` read them too, in pieces of so many octets; `links-100` and `links-1500` let a replica
-//! tell another 50,000 messages of so many octets over two links, and `sends-100` and `sends-1500` only
-//! make them.
+//! timed from outside (`make bench`). One word says which:
+//! - `heap-random`, `heap-nearly`, `sorted-random` and `sorted-nearly` take a million keys through a
+//!   list of 4,096, and print the last one's time;
+//! - `know` makes knowledge of a million messages, and `copy` copies it a hundred times;
+//! - `write` writes 200,000 messages of 100 octets as frames, and `read-1`, `read-100` and
+//!   `read-65536` read them too, in pieces of so many octets;
+//! - `links-100` and `links-1500` let a replica tell another 50,000 messages of so many octets over
+//!   two links, and `sends-100` and `sends-1500` only make them.
 //!
-//! With a second word, the name of a file with a topology: `topology` reads it, and prints how many
-//! nodes there are; `parts` starts two parts for each partition, and prints how many; `kept` and
-//! `flat` run the whole network to its stop, and print how many records there are: `flat` lets each
-//! go as it is made, and `kept` none; `told` tells replica 0 of partition 0 a million messages of its
-//! channels, and lets it run after each; `acts-1`, `acts-2` and `acts-4` tell one shared replica a
-//! million null messages by so many threads, `apart-2` and `apart-4` as many replicas as threads, and
-//! `jobs` gives a pool of four threads 100,000 jobs. `streams` reads a file of streams of frames, and
-//! shows the frames (`tools/check-frames`).
+//! With a second word, the name of a file with a topology:
+//! - `topology` reads it, and prints how many nodes there are;
+//! - `parts` starts two parts for each partition, and prints how many;
+//! - `kept` and `flat` run the whole network to its stop, and print how many records there are:
+//!   `flat` lets each go as it is made, and `kept` none;
+//! - `rounds` lets all partitions run in rounds until all are done, and prints how many rounds and
+//!   records there are;
+//! - `told` tells replica 0 of partition 0 a million messages of its channels, and lets it run after
+//!   each;
+//! - `acts-1`, `acts-2` and `acts-4` tell one shared replica a million null messages by so many
+//!   threads, `apart-2` and `apart-4` as many replicas as threads, and `jobs` gives a pool of four
+//!   threads 100,000 jobs.
 //!
-//! `cuts FILE FROM COUNT` lets two replicas of a topology with two partitions tell each other all over
-//! links that break at random, with so many seeds, and says how many are not certified
+//! `streams FILE` reads a file of streams of frames, and shows the frames (`tools/check-frames`).
+//! `cuts FILE FROM COUNT` lets two replicas of a topology with two partitions tell each other all
+//! over links that break at random, with so many seeds, and says how many are not certified
 //! (`tools/check-links`).
 #![tactic(auto)]
 
@@ -30,6 +36,7 @@ mod links;
 mod network;
 mod pipes;
 mod replica;
+mod rounds;
 mod streams;
 mod turns;
 
@@ -41,6 +48,7 @@ use network::{Task, Threading, work_over};
 use nm_base::{Packet, Time};
 use nm_events::{EventList, HeapList, SortedList};
 use nm_knowledge::{Accepted, Know};
+use rounds::rounds_over;
 use std::alloc::{AllocError, Global};
 use std::io::{Error, ErrorKind};
 use std::sync::Wait;
@@ -135,6 +143,11 @@ fn main(rt: HostRuntime) -> Result<(), Error> {
         Some(path) if word.as_str() == "streams" => {
             let octets = fs::read(&rt, path.as_str())?;
             read_streams(&rt, octets.as_slice())?
+        }
+        Some(path) if word.as_str() == "rounds" => {
+            let (rounds, records) = rounds_over(&rt, path.as_str())?;
+            println!(rt; "{rounds} rounds, {records} records")?;
+            return Ok(());
         }
         Some(path) => {
             let task = task(word.as_str()).ok_or(ErrorKind::InvalidInput)?;

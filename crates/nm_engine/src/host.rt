@@ -49,8 +49,8 @@ impl Host {
         }
     }
 
-    /// The session that a peer's first frame makes: a Hello of a partition below this one from which
-    /// a channel comes.
+    /// The session that a peer's first frame makes: a Hello of a partition below this one from
+    /// which a channel comes.
     ///
     /// # Errors
     ///

@@ -15,7 +15,8 @@ use std::alloc::Global;
 use std::marker::Model;
 use std::sync::Wait;
 
-/// A session over a wire. It has no session before the peer's first frame, where the peer connected.
+/// A session over a wire. It has no session before the peer's first frame, where the peer
+/// connected.
 #[derive(Drop)]
 pub struct Link<W> {
     wire: W,
@@ -115,8 +116,8 @@ impl<W> Link<W> {
 
 impl<W: Wire> Link<W> {
     /// Reads at most 65,536 octets once and takes the frames that came whole; then puts the frames
-    /// that the session owes into the buffer, until it has 131,072 octets or more; then writes once.
-    /// What the frames were for is told the book.
+    /// that the session owes into the buffer, until it has 131,072 octets or more; then writes
+    /// once. What the frames were for is told the book.
     pub fn turn<C: Counts, R: Wait>(
         &mut self,
         rt: &R,

@@ -47,8 +47,8 @@ fn answer(ended: bool, moved: usize) -> Turn
     }
 }
 
-/// Reads once, takes the frames that came, puts the frames that are owed into the buffer, and writes
-/// once.
+/// Reads once, takes the frames that came, puts the frames that are owed into the buffer, and
+/// writes once.
 pub(crate) fn work<W: Wire, C: Counts, R: Wait>(
     rt: &R,
     alloc: Global,
