@@ -1,31 +1,56 @@
 -- The words of the program.
-use Rattle.std.specs.Prelude.{ℕ, if◌then◌else◌, List, [], ◌∷◌, codes, Option, Some, None, option_map}
+use Rattle.std.specs.Prelude.{ℕ, ◌+◌, ◌≤◌, ◌&&◌, leb, if◌then◌else◌, List, [], ◌∷◌, codes, decimal, Option, Some, None, option_map}
 use Rattle.std.specs.Str.{bytes_eq}
 use Rattle.nm_command.specs.declared.command.Command.{Command}
+use Rattle.nm_command.specs.declared.command.Command.TheVariants as command
 use Rattle.nm_pcap.specs.declared.form.Form.{Form}
 use Rattle.nm_pcap.specs.declared.form.Form.TheVariants.{Octets, Hexadecimal}
+use Rattle.nm_rounds.specs.declared.rounds.TheConstants.{MAX_ROUNDS}
+use Rattle.nm_topology.specs.Parse.Forms.{least_below}
 
--- how a trace file is written, the name of the topology, and the name of the interface, if it has one
-pub record CommandValue : Type 0 where
-  pub form : Form
-  pub topology : List ℕ
-  pub iface : Option (List ℕ)
+-- what the program is asked to do, with the names of inputs as octets
+pub data CommandValue : Type 0 where
+  -- to write a trace file: its form, the topology, and the name of the interface, if it has one
+  Trace : Form → List ℕ → Option (List ℕ) → CommandValue
+  -- to run rounds: the topology, and the greatest number of rounds
+  Rounds : List ℕ → ℕ → CommandValue
+  -- to do steps: the topology, and the script
+  Script : List ℕ → List ℕ → CommandValue
 
 abbrev pub command_value : Command → CommandValue
-command_value c = record { form = c.form; topology = c.topology.now; iface = option_map (λ name. name.now) c.iface }
+command_value (command.Trace form topology iface) = Trace form topology.now (option_map (λ name. name.now) iface)
+command_value (command.Rounds topology max) = Rounds topology.now max
+command_value (command.Script topology steps) = Script topology.now steps.now
+
+-- the number of a command is one that may be asked for
+abbrev pub IsWithinLimits : Command → Type 0
+IsWithinLimits (command.Trace form topology iface) = Unit {0}
+IsWithinLimits (command.Rounds topology max) = (1 ≤ max) × (max ≤ MAX_ROUNDS)
+IsWithinLimits (command.Script topology steps) = Unit {0}
 
 abbrev pub form_of : List ℕ → Option Form
 form_of word = if bytes_eq word (codes "one") then Some Octets else (if bytes_eq word (codes "onehex") then Some Hexadecimal else None)
 
--- a command, if its first word has a form
-abbrev pub command_from : List ℕ → Option (List ℕ) → Option Form → Option CommandValue
-command_from topology iface None = None
-command_from topology iface (Some form) = Some (record { form = form; topology = topology; iface = iface })
+-- the number of rounds that a word writes in decimal
+abbrev pub max_of : List ℕ → Option ℕ
+max_of word = least_below (MAX_ROUNDS + 1) (λ n. leb 1 n && bytes_eq word (decimal n))
 
--- `one TOPO IFACE` or `onehex TOPO IFACE`, where IFACE may be left out; no words are `onehex -`
+-- a trace file, if the first word has a form
+abbrev pub trace_from : List ℕ → Option (List ℕ) → Option Form → Option CommandValue
+trace_from topology iface None = None
+trace_from topology iface (Some form) = Some (Trace form topology iface)
+
+-- `rounds TOPO MAX`, `script TOPO STEPS`, and else `one TOPO IFACE` or `onehex TOPO IFACE`
+abbrev pub of_three : List ℕ → List ℕ → List ℕ → Option CommandValue
+of_three word topology third =
+    if bytes_eq word (codes "rounds") then option_map (λ max. Rounds topology max) (max_of third)
+    else (if bytes_eq word (codes "script") then Some (Script topology third)
+    else trace_from topology (Some third) (form_of word))
+
+-- words of one and three; `one TOPO` or `onehex TOPO`; no words are `onehex -`
 abbrev pub command_of : List (List ℕ) → Option CommandValue
-command_of [] = command_from (codes "-") None (Some Hexadecimal)
+command_of [] = trace_from (codes "-") None (Some Hexadecimal)
 command_of (word ∷ []) = None
-command_of (word ∷ topology ∷ []) = command_from topology None (form_of word)
-command_of (word ∷ topology ∷ iface ∷ []) = command_from topology (Some iface) (form_of word)
-command_of (word ∷ topology ∷ iface ∷ more ∷ rest) = None
+command_of (word ∷ topology ∷ []) = trace_from topology None (form_of word)
+command_of (word ∷ topology ∷ third ∷ []) = of_three word topology third
+command_of (word ∷ topology ∷ third ∷ more ∷ rest) = None

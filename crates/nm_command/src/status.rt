@@ -1,8 +1,12 @@
 //! How the program ends.
 
-ghost use Rattle.std.specs.Prelude.{◌≡◌};
-ghost use Rattle.nm_command.specs.Status.{code_of, line_of, topology_line};
+ghost use Rattle.std.specs.Prelude.{◌≡◌, ◌+◌, ◌++◌, IfErr, OnOk, codes, decimal};
+ghost use Rattle.std.specs.Io.KnownBytes.{Appends};
+ghost use Rattle.nm_command.specs.Status.{code_of, line_of};
 
+use itoa::Buffer;
+use nm_base::sink::write_all;
+use nm_base::{Sink, SinkFault};
 use nm_topology::Refusal;
 
 /// How the program ends: what it says on standard error, and its exit status.
@@ -14,12 +18,18 @@ pub enum Status {
     Usage,
     /// The topology has no interface of this name, or no interface at all.
     NoInterface,
+    /// This line of a script, counted from 1, says no step.
+    ScriptLine(u64),
+    /// This step of a script, counted from 0, names what is not there.
+    Step(u64),
     /// The topology is refused.
     Topology(Refusal),
     /// An input could not be read or is too long, or a sink failed.
     File,
     /// Memory was refused.
     Memory,
+    /// Something was left to do when the program gave up.
+    Stalled,
 }
 
 impl Status {
@@ -29,45 +39,60 @@ impl Status {
     {
         match self {
             Status::Done => 0,
-            Status::Usage | Status::NoInterface => 2,
+            Status::Usage | Status::NoInterface | Status::ScriptLine(_) | Status::Step(_) => 2,
             Status::Topology(_) => 3,
             Status::File => 4,
             Status::Memory => 5,
+            Status::Stalled => 7,
         }
     }
 
-    /// The line for standard error, with its line feed. Who is done says nothing.
-    pub fn line(self) -> &'static [u8]
-        ensures { result.now ≡ line_of self }
+    /// Says the line for standard error, with its line feed. Who is done says nothing. It takes no
+    /// memory.
+    ///
+    /// # Errors
+    ///
+    /// The sink failed. It may have taken the front of the line.
+    pub fn say<S: Sink>(self, sink: &mut S) -> Result<(), SinkFault>
+        ensures said { OnOk result (Appends (S.taken sink.old) (S.taken sink.new) (line_of self)) }
+        ensures failed { IfErr result (λ _. S.failures sink.new ≡ S.failures sink.old + 1) }
     {
         match self {
-            Status::Done => b"",
-            Status::Usage => b"nullsim: usage\n",
-            Status::NoInterface => b"nullsim: no interface\n",
-            Status::Topology(refusal) => refused_line(refusal),
-            Status::File => b"nullsim: file\n",
-            Status::Memory => b"nullsim: memory\n",
+            Status::Done => put(sink, b""),
+            Status::Usage => put(sink, b"nullsim: usage\n"),
+            Status::NoInterface => put(sink, b"nullsim: no interface\n"),
+            Status::ScriptLine(line) => put_number(sink, b"nullsim: script line ", line),
+            Status::Step(step) => put_number(sink, b"nullsim: step ", step),
+            Status::Topology(refusal) => {
+                put_number(sink, b"nullsim: topology ", refusal.number() as u64)
+            }
+            Status::File => put(sink, b"nullsim: file\n"),
+            Status::Memory => put(sink, b"nullsim: memory\n"),
+            Status::Stalled => put(sink, b"nullsim: stalled\n"),
         }
     }
 }
 
-/// The line of a topology that is refused, with the number of the refusal.
-fn refused_line(refusal: Refusal) -> &'static [u8]
-    ensures { result.now ≡ topology_line refusal }
+/// Gives a sink all octets.
+fn put<S: Sink>(sink: &mut S, octets: &[u8]) -> Result<(), SinkFault>
+    ensures said { OnOk result (Appends (S.taken sink.old) (S.taken sink.new) octets.now) }
+    ensures no_fault { OnOk result (S.failures sink.new ≡ S.failures sink.old) }
+    ensures failed { IfErr result (λ _. S.failures sink.new ≡ S.failures sink.old + 1) }
 {
-    match refusal {
-        Refusal::Text => b"nullsim: topology 1\n",
-        Refusal::Missing => b"nullsim: topology 2\n",
-        Refusal::UnknownKey => b"nullsim: topology 3\n",
-        Refusal::Kind => b"nullsim: topology 4\n",
-        Refusal::Range => b"nullsim: topology 5\n",
-        Refusal::TooMany => b"nullsim: topology 6\n",
-        Refusal::DoubleName => b"nullsim: topology 7\n",
-        Refusal::NoSuch => b"nullsim: topology 8\n",
-        Refusal::IfaceUse => b"nullsim: topology 9\n",
-        Refusal::DoubleAddress => b"nullsim: topology 10\n",
-        Refusal::DoubleRoute => b"nullsim: topology 11\n",
-        Refusal::CutDelay => b"nullsim: topology 12\n",
-        Refusal::Hex => b"nullsim: topology 13\n",
+    match write_all(sink, octets) {
+        Ok(()) => Ok(()),
+        Err(_) => Err(SinkFault),
     }
+}
+
+/// Gives a sink a line that ends with a number.
+fn put_number<S: Sink>(sink: &mut S, text: &[u8], number: u64) -> Result<(), SinkFault>
+    ensures said { OnOk result (Appends (S.taken sink.old) (S.taken sink.new)
+        (text.now ++ decimal number ++ codes "\n")) }
+    ensures failed { IfErr result (λ _. S.failures sink.new ≡ S.failures sink.old + 1) }
+{
+    let mut buffer = Buffer::new();
+    put(sink, text)?;
+    put(sink, buffer.format(number).as_bytes())?;
+    put(sink, b"\n")
 }

@@ -18,7 +18,7 @@ fn is_between(topology: &Topology, from: PartNo, to: PartNo, channel: ChanNo) ->
 }
 
 /// The channels from one partition to another, by number.
-pub(crate) fn channels_between(
+pub fn channels_between(
     alloc: Global,
     topology: &Topology,
     from: PartNo,

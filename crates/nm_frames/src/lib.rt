@@ -2,7 +2,7 @@
 //! what a connection owes next.
 #![tactic(auto)]
 
-mod channels;
+pub mod channels;
 pub mod fault;
 pub mod frame;
 pub mod laws;

@@ -1,4 +1,9 @@
 pub mod Input
 pub mod Writing
 pub mod TraceFile
+pub mod Traces
+pub mod Lines
+pub mod Output
+pub mod Rounds
+pub mod Script
 pub mod Ending

@@ -3,9 +3,17 @@
 
 pub mod input;
 pub mod inputs;
+mod lines;
+pub mod mem_inputs;
+mod output;
 pub mod program;
+mod reading;
+mod rounds;
+mod script;
 pub mod trace_file;
+mod traces;
 
 pub use input::NamedInputs;
 pub use inputs::Inputs;
+pub use mem_inputs::MemInputs;
 pub use program::{conclude, report, run};

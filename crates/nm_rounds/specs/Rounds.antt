@@ -121,16 +121,16 @@ abbrev pub AreEnded : TopologyValue → ℕ → Option ℕ → List BookValue �
 AreEnded t max (Some rounds) books = AreDone t max rounds books
 AreEnded t max None books = AreUnfinished t max max books
 
--- What rounds over a text come to, of which at most so many are asked for: the text is read to the topology of these books; or it is refused.
+-- What rounds over a network come to, of which at most so many are asked for.
+abbrev pub RunsTo : TopologyValue → ℕ → Rounds → Type 0
+RunsTo t max (Done rounds books) = AreDone t max rounds books.items
+RunsTo t max (Unfinished rounds books) = AreUnfinished t max rounds books.items
+RunsTo t max Memory = Unit {0}
+RunsTo t max (Topo f) = ⊥
+
+-- and over a text: it is read to the topology of these books, or it is refused
 abbrev pub ComesTo : List ℕ → ℕ → Rounds → Type 0
 ComesTo text max (Done rounds books) = (t : TopologyValue) × (topology_of text ≡ Ok t) × AreDone t max rounds books.items
 ComesTo text max (Unfinished rounds books) = (t : TopologyValue) × (topology_of text ≡ Ok t) × AreUnfinished t max rounds books.items
 ComesTo text max Memory = Unit {0}
 ComesTo text max (Topo f) = Refuses (topology_of text) f
-
--- what rounds over a network that was read come to
-abbrev pub IsOfNetwork : Rounds → Type 0
-IsOfNetwork (Done rounds books) = Unit {0}
-IsOfNetwork (Unfinished rounds books) = Unit {0}
-IsOfNetwork Memory = Unit {0}
-IsOfNetwork (Topo f) = ⊥

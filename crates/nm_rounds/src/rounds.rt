@@ -1,11 +1,10 @@
 //! Rounds of all partitions, from the text of a topology.
 
-ghost use Rattle.std.specs.Prelude.{◌≡◌, ℕ, ◌<◌, ◌≤◌, ◌+◌, IfOk, List, Ok, OnOk};
+ghost use Rattle.std.specs.Prelude.{◌≡◌, ℕ, ◌<◌, ◌≤◌, ◌+◌, IfOk, OnOk};
 ghost use Rattle.std.specs.Arc.{arc_value};
 ghost use Rattle.nm_model.specs.World.{fresh};
-ghost use Rattle.nm_topology.specs.Topology.{topology_of};
 ghost use Rattle.nm_rounds.specs.declared.rounds.TheConstants.{MAX_ROUNDS};
-ghost use Rattle.nm_rounds.specs.Rounds.{AreBooks, AreEnded, ComesTo, IsOfNetwork};
+ghost use Rattle.nm_rounds.specs.Rounds.{AreBooks, AreEnded, ComesTo, RunsTo};
 
 use crate::round::do_round;
 use nm_base::{Packet, PartNo};
@@ -97,9 +96,7 @@ fn do_rounds(
 fn rounds_of(alloc: Global, topology: &Arc<Topology>, max: u64) -> Result<Rounds, AllocError>
     requires some { 1 ≤ max }
     requires few { max ≤ MAX_ROUNDS }
-    ensures comes { IfOk result (λ rounds. (text : List ℕ)
-        → topology_of text ≡ Ok (arc_value topology.now) → ComesTo text max rounds) }
-    ensures read { IfOk result (λ rounds. IsOfNetwork rounds) }
+    ensures { IfOk result (λ rounds. RunsTo (arc_value topology.now) max rounds) }
 {
     let mut books = first_books(alloc, topology)?;
     match do_rounds(alloc, topology, &mut books, max)? {
@@ -119,9 +116,7 @@ fn rounds_of(alloc: Global, topology: &Arc<Topology>, max: u64) -> Result<Rounds
 pub fn run_rounds_over(alloc: Global, topology: &Arc<Topology>, max: u64) -> Rounds
     requires some { 1 ≤ max }
     requires few { max ≤ MAX_ROUNDS }
-    ensures comes { (text : List ℕ) → topology_of text ≡ Ok (arc_value topology.now)
-        → ComesTo text max result }
-    ensures read { IsOfNetwork result }
+    ensures { RunsTo (arc_value topology.now) max result }
 {
     match rounds_of(alloc, topology, max) {
         Ok(rounds) => rounds,

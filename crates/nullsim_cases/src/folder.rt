@@ -3,6 +3,7 @@
 use crate::pair::run_pair;
 use crate::table::run_table;
 use crate::tally::Tally;
+use crate::words::{run_rounds_case, run_script_case};
 use std::alloc::Global;
 use std::fs::DirEntry;
 use std::rt::Files;
@@ -29,11 +30,22 @@ pub fn names_in<R: Files + AllocGlobal + Clone + Drop>(
     Ok(names)
 }
 
-/// What is expected is run with its text, which has to be there.
+/// What stands beside a topology text is run with it: the text has to be there.
 fn run_half<R: Files + AllocGlobal>(rt: &R, stem: &str) -> io::Result<Tally> {
     let path = format!(in rt.alloc(); "{stem}.toml")?;
     fs::metadata(rt, path.as_str())?;
     Ok(Tally::new())
+}
+
+/// Runs the case of the topology text at a path, which is without its end.
+fn run_text<R: Files + AllocGlobal + Print>(rt: &R, stem: &str) -> io::Result<Tally> {
+    if stem.starts_with("cases/rounds/") {
+        return run_rounds_case(rt, stem);
+    }
+    if stem.starts_with("cases/script/") {
+        return run_script_case(rt, stem);
+    }
+    run_pair(rt, stem)
 }
 
 /// Runs the cases of the file at a path.
@@ -42,12 +54,15 @@ fn run_file<R: Files + AllocGlobal + Print>(rt: &R, path: &str) -> io::Result<Ta
         return run_table(rt, path);
     }
     if let Some(stem) = path.strip_suffix(".toml") {
-        return run_pair(rt, stem);
+        return run_text(rt, stem);
     }
     if let Some(stem) = path.strip_suffix(".expect") {
         return run_half(rt, stem);
     }
-    Err(io::Error::other("a file that is neither a pair nor a table"))
+    if let Some(stem) = path.strip_suffix(".steps") {
+        return run_half(rt, stem);
+    }
+    Err(io::Error::other("a file that is no part of a case"))
 }
 
 /// Runs the cases of a file of a folder, and prints what is wrong with the file.

@@ -1,15 +1,18 @@
 //! Compares the simulator with the cases in `data/cases/`, and prints each line that differs.
 //!
-//! No case comes from this program. Those in `networks` and `readings` were made by an independent
-//! model of the rules in docs/RULES.md and docs/FORMATS.md, the others by hand. A case is added by
+//! No case comes from this program. Those in `networks` and `readings`, and most of those in
+//! `rounds` and `script`, were made by an independent model of the rules in docs/RULES.md,
+//! docs/FORMATS.md and docs/MODEL.md, the others by hand. A case is added by
 //! adding its files, or some lines to a table: each folder of `data/cases/` is listed, and each
 //! file in it is run. Nothing else has to be changed but `stdout`, which says how many cases each
 //! folder has.
 //!
 //! A folder has files of two forms:
 //!
-//! - A *pair* is a topology text `NAME.toml` and what it shows, `NAME.expect` (module `pair`).
-//! - A *table* `NAME.cases` has many cases, each some changes of one text of `data/texts/` (module `table`).
+//! - A *pair* is a topology text `NAME.toml` and what it shows, `NAME.expect` (module `pair`), or in
+//!   the folders `rounds` and `script` what the program's words do with it (module `words`).
+//! - A *table* `NAME.cases` has many cases, each some changes of one text of `data/texts/` (module
+//!   `table`).
 //!
 //! The program prints for each folder how many cases were run and how many differ. Where a case
 //! differs it ends with an error, and where a file is not in its form it ends there and then.
@@ -27,6 +30,7 @@ mod show;
 mod table;
 mod tally;
 mod trace_file;
+mod words;
 
 use folder::{names_in, run_folder};
 use std::io;

@@ -1,10 +1,9 @@
 //! Topologies of two hosts, their trace files as they stand on disk, and a run of the program in
 //! memory.
 
-use crate::memory::MemoryInputs;
 use nm_base::MemSink;
 use nm_command::Status;
-use nm_program::{Inputs, NamedInputs, run};
+use nm_program::{Inputs, MemInputs, NamedInputs, run};
 use std::alloc::{AllocError, Global};
 use std::io::Read;
 use std::process::Abort;
@@ -67,6 +66,15 @@ pub fn words_of(alloc: Global, line: &str) -> Result<Vec<String>, AllocError> {
     Ok(words)
 }
 
+/// The line that is said of a status.
+pub fn line_of(alloc: Global, status: Status) -> Result<MemSink, Fail> {
+    let mut said = MemSink::new(alloc, 64)?;
+    if status.say(&mut said).is_err() {
+        return Err("the line is too long".into());
+    }
+    Ok(said)
+}
+
 /// What the program did.
 #[derive(Drop)]
 struct Outcome {
@@ -105,7 +113,8 @@ pub fn writes_of<I: Inputs + Drop>(
 ) -> Result<(), Fail> {
     let ended = run_line(rt.alloc(), line, inputs, room)?;
     assert!(rt; ended.status == status, "{line}");
-    assert!(rt; ended.errors.octets() == status.line(), "{line}");
+    let said = line_of(rt.alloc(), status)?;
+    assert!(rt; ended.errors.octets() == said.octets(), "{line}");
     assert!(rt; ended.out.octets() == octets, "{line}");
     Ok(())
 }
@@ -119,7 +128,7 @@ pub fn ends<S: Read + Drop + Copy>(
     status: Status,
 ) -> Result<(), Fail> {
     let files = &[];
-    let inputs = MemoryInputs { standard, files };
+    let inputs = MemInputs { standard, files };
     writes_of(rt, line, inputs, 8, (b"", status))
 }
 
@@ -132,7 +141,7 @@ pub fn writes(
     ended: (&[u8], Status),
 ) -> Result<(), Fail> {
     let standard = text.as_bytes();
-    let files = &[("duo.toml", text)];
-    let inputs = MemoryInputs { standard, files };
+    let files = &[("duo.toml", text.as_bytes())];
+    let inputs = MemInputs { standard, files };
     writes_of(rt, line, inputs, room, ended)
 }

@@ -7,9 +7,9 @@ mod commands;
 #[cfg(test)]
 mod fixtures;
 #[cfg(test)]
-mod memory;
-#[cfg(test)]
 mod names;
+#[cfg(test)]
+mod partitions;
 #[cfg(test)]
 mod statuses;
 #[cfg(test)]

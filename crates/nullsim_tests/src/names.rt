@@ -1,8 +1,8 @@
 //! Topologies that are read by their names.
 
 use crate::fixtures::{empty_file, file_at, two_hosts, writes_of};
-use crate::memory::MemoryInputs;
 use nm_command::Status;
+use nm_program::MemInputs;
 use std::process::Abort;
 use std::test::Fail;
 
@@ -14,9 +14,13 @@ fn writes_with<'a>(
     idle: &'a str,
     (line, octets): (&str, &[u8]),
 ) -> Result<(), Fail> {
-    let inputs = MemoryInputs {
+    let inputs = MemInputs {
         standard: idle.as_bytes(),
-        files: &[("busy.toml", busy), ("idle.toml", idle), ("-", busy)],
+        files: &[
+            ("busy.toml", busy.as_bytes()),
+            ("idle.toml", idle.as_bytes()),
+            ("-", busy.as_bytes()),
+        ],
     };
     writes_of(rt, line, inputs, 1_000, (octets, Status::Done))
 }
@@ -41,9 +45,9 @@ fn the_text_of_each_name(rt: HostRuntime) -> Result<(), Fail> {
 /// The program ends with this status for each of these lines. There is one file, `duo.toml`.
 fn all_end(rt: &(impl Abort + AllocGlobal), lines: &[&str], status: Status) -> Result<(), Fail> {
     let text = two_hosts(rt.alloc(), 10_000_000, true)?;
-    let files = [("duo.toml", text.as_str())];
+    let files = [("duo.toml", text.as_bytes())];
     for line in lines {
-        let inputs = MemoryInputs {
+        let inputs = MemInputs {
             standard: text.as_bytes(),
             files: &files,
         };

@@ -9,7 +9,7 @@ use std::test::Fail;
 /// The words decide before the input, which is no topology.
 #[test]
 fn words_that_are_no_command(rt: HostRuntime) -> Result<(), Fail> {
-    for line in ["one", "one - a0 b0", "rounds - 11", "help"] {
+    for line in ["one", "one - a0 b0", "rounds - 0", "help"] {
         ends(&rt, line, b"?".as_slice(), Status::Usage)?;
     }
     Ok(())

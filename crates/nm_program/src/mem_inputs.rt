@@ -1,0 +1,37 @@
+//! Inputs in memory.
+
+ghost use Rattle.std.specs.Prelude.{find, option_map};
+ghost use Rattle.std.specs.Str.{bytes_eq};
+
+use crate::inputs::Inputs;
+use std::io::{self, ErrorKind, Read};
+
+/// Standard input, and files that have a name and octets each. A name that is no file's cannot be
+/// opened.
+#[derive(Clone, Copy)]
+pub struct MemInputs<'a, S> {
+    pub standard: S,
+    pub files: &'a [(&'a str, &'a [u8])],
+}
+
+impl<'a, S: Read + Drop + Copy> Inputs for MemInputs<'a, S> {
+    type Standard = S;
+
+    type File = &'a [u8];
+
+    ghost standard_text = { λ m. S.remaining m.standard };
+
+    ghost file_text = { λ m name. option_map (λ f. f.1.now)
+        (find (λ f. bytes_eq f.0.now name) m.files.now) };
+
+    fn standard(&self) -> S {
+        self.standard
+    }
+
+    fn open(&self, name: &str) -> io::Result<&'a [u8]> {
+        match self.files.iter().find(|file| file.0 == name) {
+            Some(file) => Ok(file.1),
+            None => Err(io::Error::from(ErrorKind::NotFound)),
+        }
+    }
+}

@@ -1,0 +1,117 @@
+//! Cases of the program's words for partitions, which are run in memory.
+//!
+//! In the folder `rounds` a topology text `NAME.toml` stands beside `NAME.expect`: for each of some
+//! numbers a line `max MAX status STATUS`, and then what `rounds` writes for this MAX.
+//!
+//! In the folder `script` a script `NAME.steps` stands there too, and `NAME.expect` has a line
+//! `status STATUS`, a line `error LINE` with the line on standard error, which is `-` where there is
+//! none, and then what `script` writes.
+
+use crate::compare::{differs, push_line};
+use crate::tally::Tally;
+use nm_base::MemSink;
+use nm_program::{MemInputs, NamedInputs, run};
+use std::alloc::Global;
+use std::rt::Files;
+use std::{fs, io};
+
+/// The greatest number of octets that a case writes.
+const MAX_OUTPUT_OCTETS: usize = 1_048_576;
+
+/// The greatest number of octets on standard error.
+const MAX_ERROR_OCTETS: usize = 64;
+
+/// What a run of the program did: its exit status, what it wrote, and its line on standard error.
+#[derive(Drop)]
+struct Ended {
+    code: u8,
+    out: MemSink,
+    errors: MemSink,
+}
+
+/// The text that a sink took.
+fn text_in(sink: &MemSink) -> io::Result<&str> {
+    str::from_utf8(sink.octets()).map_err(|_| io::Error::other("what was written is no text"))
+}
+
+/// Runs the program with these words. Standard input has the topology, and the file `steps` has the
+/// script.
+fn run_words(alloc: Global, words: &[&str], topology: &[u8], steps: &[u8]) -> io::Result<Ended> {
+    let mut owned = Vec::new(alloc);
+    for word in words {
+        owned.push(String::from_str(alloc, word)?)?;
+    }
+    let files = [("steps", steps)];
+    let mut inputs = NamedInputs::new(MemInputs {
+        standard: topology,
+        files: &files,
+    });
+    let out = MemSink::new(alloc, MAX_OUTPUT_OCTETS)?;
+    let mut errors = MemSink::new(alloc, MAX_ERROR_OCTETS)?;
+    let (status, out) = run(alloc, owned.as_slice(), &mut inputs, out, &mut errors);
+    Ok(Ended {
+        code: status.code(),
+        out,
+        errors,
+    })
+}
+
+/// The number of a line `max MAX status STATUS`.
+fn max_in(line: &str) -> Option<&str> {
+    line.strip_prefix("max ")?.split(' ').next()
+}
+
+/// What `rounds` does with each number that is expected.
+fn rounds_found(alloc: Global, topology: &[u8], expected: &str) -> io::Result<String> {
+    let mut found = String::new(alloc);
+    for line in expected.lines() {
+        if let Some(max) = max_in(line) {
+            let ended = run_words(alloc, &["rounds", "-", max], topology, b"")?;
+            let head = format!(in alloc; "max {max} status {}", ended.code)?;
+            push_line(&mut found, head.as_str())?;
+            found.push_str(text_in(&ended.out)?)?;
+        }
+    }
+    Ok(found)
+}
+
+/// What `script` does.
+fn script_found(alloc: Global, topology: &[u8], steps: &[u8]) -> io::Result<String> {
+    let ended = run_words(alloc, &["script", "-", "steps"], topology, steps)?;
+    let error = text_in(&ended.errors)?;
+    let error = if error.is_empty() { "-\n" } else { error };
+    let mut found = format!(in alloc; "status {}\nerror {error}", ended.code)?;
+    found.push_str(text_in(&ended.out)?)?;
+    Ok(found)
+}
+
+/// The octets of the file of a case that ends with this.
+fn file_of<R: Files + AllocGlobal>(rt: &R, stem: &str, end: &str) -> io::Result<Vec<u8>> {
+    let path = format!(in rt.alloc(); "{stem}{end}")?;
+    fs::read(rt, path.as_str())
+}
+
+/// The lines that a case expects.
+fn expected_of<R: Files + AllocGlobal>(rt: &R, stem: &str) -> io::Result<String> {
+    let path = format!(in rt.alloc(); "{stem}.expect")?;
+    fs::read_to_string(rt, path.as_str())
+}
+
+/// Runs the case of `rounds` at a path, which is without its end.
+pub fn run_rounds_case<R: Files + AllocGlobal + Print>(rt: &R, stem: &str) -> io::Result<Tally> {
+    let expected = expected_of(rt, stem)?;
+    let topology = file_of(rt, stem, ".toml")?;
+    let found = rounds_found(rt.alloc(), topology.as_slice(), expected.as_str())?;
+    let differs = differs(rt, stem, expected.as_str(), found.as_str())?;
+    Ok(Tally::of_case(differs))
+}
+
+/// Runs the case of `script` at a path, which is without its end.
+pub fn run_script_case<R: Files + AllocGlobal + Print>(rt: &R, stem: &str) -> io::Result<Tally> {
+    let expected = expected_of(rt, stem)?;
+    let topology = file_of(rt, stem, ".toml")?;
+    let steps = file_of(rt, stem, ".steps")?;
+    let found = script_found(rt.alloc(), topology.as_slice(), steps.as_slice())?;
+    let differs = differs(rt, stem, expected.as_str(), found.as_str())?;
+    Ok(Tally::of_case(differs))
+}
