@@ -1,0 +1,4 @@
+mod Splits
+mod Words
+mod Apart
+mod Lines
