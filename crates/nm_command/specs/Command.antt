@@ -3,6 +3,7 @@ use Rattle.std.specs.Prelude.{ℕ, ◌+◌, ◌≤◌, ◌&&◌, leb, if◌then�
 use Rattle.std.specs.Str.{bytes_eq}
 use Rattle.nm_command.specs.declared.command.Command.{Command}
 use Rattle.nm_command.specs.declared.command.Command.TheVariants as command
+use Rattle.nm_command.specs.declared.command.TheConstants.{MAX_PARTITION, MAX_REPLICA}
 use Rattle.nm_pcap.specs.declared.form.Form.{Form}
 use Rattle.nm_pcap.specs.declared.form.Form.TheVariants.{Octets, Hexadecimal}
 use Rattle.nm_rounds.specs.declared.rounds.TheConstants.{MAX_ROUNDS}
@@ -16,24 +17,28 @@ pub data CommandValue : Type 0 where
   Rounds : List ℕ → ℕ → CommandValue
   -- to do steps: the topology, and the script
   Script : List ℕ → List ℕ → CommandValue
+  -- to run one replica: the topology, the folder of its trace files, the partition, the number of the replica, and the addresses
+  Node : List ℕ → List ℕ → ℕ → ℕ → List ℕ → CommandValue
 
 abbrev pub command_value : Command → CommandValue
 command_value (command.Trace form topology iface) = Trace form topology.now (option_map (λ name. name.now) iface)
 command_value (command.Rounds topology max) = Rounds topology.now max
 command_value (command.Script topology steps) = Script topology.now steps.now
+command_value (command.Node topology folder partition replica addresses) = Node topology.now folder.now partition replica addresses.now
 
--- the number of a command is one that may be asked for
+-- the numbers of a command are such as may be asked for
 abbrev pub IsWithinLimits : Command → Type 0
 IsWithinLimits (command.Trace form topology iface) = Unit {0}
 IsWithinLimits (command.Rounds topology max) = (1 ≤ max) × (max ≤ MAX_ROUNDS)
 IsWithinLimits (command.Script topology steps) = Unit {0}
+IsWithinLimits (command.Node topology folder partition replica addresses) = (partition ≤ MAX_PARTITION) × (replica ≤ MAX_REPLICA)
 
 abbrev pub form_of : List ℕ → Option Form
 form_of word = if bytes_eq word (codes "one") then Some Octets else (if bytes_eq word (codes "onehex") then Some Hexadecimal else None)
 
--- the number of rounds that a word writes in decimal
-abbrev pub max_of : List ℕ → Option ℕ
-max_of word = least_below (MAX_ROUNDS + 1) (λ n. leb 1 n && bytes_eq word (decimal n))
+-- the number, one of these, that a word writes in decimal
+abbrev pub number_in : ℕ → ℕ → List ℕ → Option ℕ
+number_in low high word = least_below (high + 1) (λ n. leb low n && bytes_eq word (decimal n))
 
 -- a trace file, if the first word has a form
 abbrev pub trace_from : List ℕ → Option (List ℕ) → Option Form → Option CommandValue
@@ -43,14 +48,29 @@ trace_from topology iface (Some form) = Some (Trace form topology iface)
 -- `rounds TOPO MAX`, `script TOPO STEPS`, and else `one TOPO IFACE` or `onehex TOPO IFACE`
 abbrev pub of_three : List ℕ → List ℕ → List ℕ → Option CommandValue
 of_three word topology third =
-    if bytes_eq word (codes "rounds") then option_map (λ max. Rounds topology max) (max_of third)
+    if bytes_eq word (codes "rounds") then option_map (λ max. Rounds topology max) (number_in 1 MAX_ROUNDS third)
     else (if bytes_eq word (codes "script") then Some (Script topology third)
     else trace_from topology (Some third) (form_of word))
 
--- words of one and three; `one TOPO` or `onehex TOPO`; no words are `onehex -`
+-- `node`, if its two numbers are such
+abbrev pub node_of : List ℕ → List ℕ → Option ℕ → Option ℕ → List ℕ → Option CommandValue
+node_of topology folder None replica addresses = None
+node_of topology folder (Some partition) None addresses = None
+node_of topology folder (Some partition) (Some replica) addresses = Some (Node topology folder partition replica addresses)
+
+-- `node TOPO DIR PARTITION REPLICA ADDRESSES`
+abbrev pub of_six : List ℕ → List ℕ → List ℕ → List ℕ → List ℕ → List ℕ → Option CommandValue
+of_six word topology folder partition replica addresses =
+    if bytes_eq word (codes "node") then node_of topology folder (number_in 0 MAX_PARTITION partition) (number_in 0 MAX_REPLICA replica) addresses
+    else None
+
+-- words of three and of six; `one TOPO` or `onehex TOPO`; no words are `onehex -`
 abbrev pub command_of : List (List ℕ) → Option CommandValue
 command_of [] = trace_from (codes "-") None (Some Hexadecimal)
 command_of (word ∷ []) = None
 command_of (word ∷ topology ∷ []) = trace_from topology None (form_of word)
 command_of (word ∷ topology ∷ third ∷ []) = of_three word topology third
-command_of (word ∷ topology ∷ third ∷ more ∷ rest) = None
+command_of (word ∷ topology ∷ third ∷ fourth ∷ []) = None
+command_of (word ∷ topology ∷ third ∷ fourth ∷ fifth ∷ []) = None
+command_of (word ∷ topology ∷ folder ∷ partition ∷ replica ∷ addresses ∷ []) = of_six word topology folder partition replica addresses
+command_of (word ∷ topology ∷ folder ∷ partition ∷ replica ∷ addresses ∷ more ∷ rest) = None

@@ -1,12 +1,18 @@
 //! The words of the program.
 
 ghost use Rattle.std.specs.Prelude.{◌≡◌, ℕ, ◌≤◌, map, IfSome, Some, decimal, option_map, string_bytes};
-ghost use Rattle.nm_command.specs.Command.{IsWithinLimits, command_of, command_value, form_of, max_of, of_three};
-ghost use Rattle.nm_rounds.specs.declared.rounds.TheConstants.{MAX_ROUNDS};
+ghost use Rattle.nm_command.specs.Command.{IsWithinLimits, command_of, command_value, form_of, node_of, number_in, of_six, of_three};
+ghost use Rattle.nm_command.specs.declared.command.TheConstants.{MAX_PARTITION, MAX_REPLICA};
 
 use nm_pcap::Form;
 use nm_rounds::rounds::MAX_ROUNDS;
 use nm_text::number_of;
+
+/// The greatest number of a partition.
+pub const MAX_PARTITION: u64 = 63;
+
+/// The greatest number of a replica.
+pub const MAX_REPLICA: u64 = 1;
 
 /// What the program is to do. Each input is named by the file that has it, or by `-`, which is
 /// standard input. A clause sees the names as octets.
@@ -34,6 +40,19 @@ pub enum Command<'a> {
         /// The input with the script.
         steps: &'a str,
     },
+    /// To run one replica of a partition, which talks with the others over sockets.
+    Node {
+        /// The input with the topology text.
+        topology: &'a str,
+        /// The folder of its trace files.
+        folder: &'a str,
+        /// The partition: 0 to 63.
+        partition: u32,
+        /// The number of the replica: 0 or 1.
+        replica: u8,
+        /// The input with the addresses of the replicas.
+        addresses: &'a str,
+    },
 }
 
 /// The form of trace files that a first word asks for.
@@ -49,26 +68,26 @@ fn form_of(word: &str) -> Option<Form>
     None
 }
 
-/// The number that a word writes in decimal without leading zeros, if it is one of rounds.
-fn rounds_in(word: &str) -> Option<u64>
+/// The number that a word writes in decimal without leading zeros, if it is one of these.
+fn number_between(word: &str, low: u64, high: u64) -> Option<u64>
     ensures found { IfSome result
-        (λ n. (1 ≤ n) × (n ≤ MAX_ROUNDS) × (word.now ≡ decimal n)) }
-    ensures only { (n : ℕ) → 1 ≤ n → n ≤ MAX_ROUNDS → word.now ≡ decimal n → result ≡ Some n }
+        (λ n. (low ≤ n) × (n ≤ high) × (word.now ≡ decimal n)) }
+    ensures only { (n : ℕ) → low ≤ n → n ≤ high → word.now ≡ decimal n → result ≡ Some n }
 {
-    let max = number_of(word.as_bytes())?;
-    if max == 0 || max > MAX_ROUNDS {
+    let number = number_of(word.as_bytes())?;
+    if number < low || number > high {
         return None;
     }
-    Some(max)
+    Some(number)
 }
 
-/// The number of rounds that a word asks for: 1 to 1,000,000,000.
-fn max_of(word: &str) -> Option<u64>
-    ensures value { result ≡ max_of word.now }
-    ensures bounds { IfSome result (λ n. (1 ≤ n) × (n ≤ MAX_ROUNDS)) }
+/// The number from `low` to `high` that a word asks for.
+fn number_in(word: &str, low: u64, high: u64) -> Option<u64>
+    ensures value { result ≡ number_in low high word.now }
+    ensures bounds { IfSome result (λ n. (low ≤ n) × (n ≤ high)) }
 {
-    match rounds_in(word) {
-        Some(max) => Some(max),
+    match number_between(word, low, high) {
+        Some(number) => Some(number),
         None => None,
     }
 }
@@ -79,7 +98,7 @@ fn of_three<'a>(word: &'a str, topology: &'a str, third: &'a str) -> Option<Comm
     ensures limits { IfSome result IsWithinLimits }
 {
     if word == "rounds" {
-        let max = max_of(third)?;
+        let max = number_in(third, 1, MAX_ROUNDS)?;
         return Some(Command::Rounds { topology, max });
     }
     if word == "script" {
@@ -95,10 +114,53 @@ fn of_three<'a>(word: &'a str, topology: &'a str, third: &'a str) -> Option<Comm
     })
 }
 
+/// The command `node`, where its two numbers are such.
+fn node_of<'a>(
+    topology: &'a str,
+    folder: &'a str,
+    partition: &str,
+    replica: &str,
+    addresses: &'a str,
+) -> Option<Command<'a>>
+    ensures value { option_map command_value result
+        ≡ node_of topology.now folder.now (number_in 0 MAX_PARTITION partition.now)
+        (number_in 0 MAX_REPLICA replica.now) addresses.now }
+    ensures limits { IfSome result IsWithinLimits }
+{
+    let partition = number_in(partition, 0, MAX_PARTITION)?;
+    let replica = number_in(replica, 0, MAX_REPLICA)?;
+    Some(Command::Node {
+        topology,
+        folder,
+        partition: partition as u32,
+        replica: replica as u8,
+        addresses,
+    })
+}
+
+/// The command of six words.
+fn of_six<'a>(
+    word: &'a str,
+    topology: &'a str,
+    folder: &'a str,
+    partition: &'a str,
+    replica: &'a str,
+    addresses: &'a str,
+) -> Option<Command<'a>>
+    ensures value { option_map command_value result
+        ≡ of_six word.now topology.now folder.now partition.now replica.now addresses.now }
+    ensures limits { IfSome result IsWithinLimits }
+{
+    if word == "node" {
+        return node_of(topology, folder, partition, replica, addresses);
+    }
+    None
+}
+
 impl<'a> Command<'a> {
     /// The command of the words after the program's name: `one TOPO IFACE` or `onehex TOPO IFACE`,
-    /// where IFACE may be left out, `rounds TOPO MAX`, or `script TOPO STEPS`. No words are
-    /// `onehex -`. `None` where the words are no command.
+    /// where IFACE may be left out, `rounds TOPO MAX`, `script TOPO STEPS`, or `node TOPO DIR
+    /// PARTITION REPLICA ADDRESSES`. No words are `onehex -`. `None` where the words are no command.
     pub fn of(words: &'a [String]) -> Option<Command<'a>>
         ensures value { option_map command_value result
             ≡ command_of (map (λ w. string_bytes w) words.now) }
@@ -116,6 +178,14 @@ impl<'a> Command<'a> {
                 iface: None,
             }),
             [word, topology, third] => of_three(word.as_str(), topology.as_str(), third.as_str()),
+            [word, topology, folder, partition, replica, addresses] => of_six(
+                word.as_str(),
+                topology.as_str(),
+                folder.as_str(),
+                partition.as_str(),
+                replica.as_str(),
+                addresses.as_str(),
+            ),
             _ => None,
         }
     }
