@@ -1,0 +1,25 @@
+-- Seats that own words of a board.
+use Rattle.std.proofs.Common.{◌≡◌, ℕ, zero, suc, ◌<◌, List, [], ◌∷◌, ◌++◌, All, length, refl, sym, subst, arith}
+use Rattle.std.proofs.lemmas.List.Elements.{All-cons, All-nil, All-push, All-rest}
+use Rattle.nm_shared.specs.declared.board.ClockBoard.{ClockBoard}
+use Rattle.nm_shared.specs.declared.board.OwnerSeat.{OwnerSeat}
+use Rattle.nm_shared.specs.Board.{AreFirstOwners, Each, IsOwnerOf, SitsAt}
+
+-- what holds of each element and its place holds of each
+each_all : {A : Type 0} (P : ℕ → A → Type 0) (Q : A → Type 0) → ((k : ℕ) (a : A) → P k a → Q a) → (xs : List A) → Each P xs → All Q xs
+each_all P Q to [] each = All-nil Q
+each_all P Q to (x ∷ xs) each =
+    All-cons Q x xs (to zero x (each zero x refl)) (each_all (λ k a. P (suc k) a) Q (λ k a. to (suc k) a) xs (λ k a at. each (suc k) a at))
+
+-- the first owners of a board own its words
+pub first_are_owners : (board : ClockBoard) (os : List OwnerSeat) → AreFirstOwners board os → All (IsOwnerOf board) os
+first_are_owners board os first = each_all _ _ (λ k o at. subst (λ (w : ℕ). SitsAt board.words.items w o.place) (sym at.0) at.1) os first
+
+-- the first of a list goes to the end of another
+pub moves_one : {A : Type 0} (P : A → Type 0) (own mine rest left : List A) (x : A) → rest ≡ x ∷ left → mine ≡ own ++ x ∷ [] → All P own → All P rest → All P mine
+moves_one P own mine rest left x first last all more =
+    let head : P x = subst (All P) first more zero x (omega arith) in
+    subst (All P) (sym last) (All-push P own x all head)
+
+pub lets_one : {A : Type 0} (P : A → Type 0) (rest left : List A) (x : A) → rest ≡ x ∷ left → All P rest → All P left
+lets_one P rest left x first more = All-rest P x left rest first more

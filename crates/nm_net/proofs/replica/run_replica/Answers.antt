@@ -1,0 +1,18 @@
+use Rattle.std.proofs.Common.{◌≤◌, ◌+◌, arith, rules}
+use Rattle.nm_net.proofs.Endings.{early_ends, polled_ends}
+use Rattle.nm_net.proofs.replica.run_replica.Goals as goal
+
+pub returns-in-Err-clause-ends : goal.returns-in-Err-clause-ends
+returns-in-Err-clause-ends g c =
+    early_ends g.C.Counts.exact g.C.Counts.home c.args.replica.now.idle_limit (g.N.Network.idle_waits c.args.network.now) (g.N.Network.idle_waits c.poll.new.network)
+    c.in-Err.ending c.in-Err.ensures.early
+
+pub returns-in-Some-clause-ends : goal.returns-in-Some-clause-ends
+returns-in-Some-clause-ends g c =
+    let before = g.N.Network.idle_waits c.args.network.now in
+    let after = g.N.Network.idle_waits c.poll.new.network in
+    let so_far : before + c.loop-polls.idle ≤ g.N.Network.idle_waits c.loop-polls.network = c.loop-polls.invariant.idle in
+    let one = c.in-Ok-poll.ensures.idle in
+    let few = c.idle_polls-idle.ensures in
+    polled_ends g.C.Counts.exact g.C.Counts.home c.args.replica.now.idle_limit before after c.in-Ok-poll.polled.is_done c.idle_polls-idle.result (c.loop-polls.polls + 1)
+    c.in-Some.ending (search rules) c.in-Ok-poll.ensures.done (omega (arith, so_far, one, few))

@@ -1,0 +1,11 @@
+use Rattle.std.proofs.Common.{◌≡◌, ◌≤◌, ◌+◌, All, length}
+use Rattle.nm_shared.specs.Board.{IsOwnerOf}
+use Rattle.nm_net.proofs.replica.run_replica.Given as goal
+
+abbrev pub invariant-loop-polls : goal.invariant-loop-polls
+invariant-loop-polls g l = record {
+  owners : All (IsOwnerOf l.replica.board.now) l.holdings.seats.items;
+  seats : length l.holdings.seats.items ≡ length l.fn.holdings.seats.items;
+  passes : length l.holdings.passes.items ≡ length l.fn.holdings.passes.items;
+  idle : g.N.Network.idle_waits l.fn.network + l.idle ≤ g.N.Network.idle_waits l.network;
+}

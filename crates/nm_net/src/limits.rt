@@ -1,0 +1,23 @@
+//! The limits of the loop, each stated once.
+
+/// How long a poll waits where nothing is left to do, in milliseconds.
+pub const WAIT_MILLISECONDS: u64 = 50;
+
+/// After so many polls in a row that ran out a replica is stalled: a minute.
+pub const MAX_IDLE_POLLS: u64 = 1_200;
+
+/// After so many polls a replica is stalled, whatever moved.
+pub const MAX_POLLS: u64 = 1_000_000_000;
+
+/// The most connections that are accepted after one poll.
+pub const MAX_ACCEPTED: usize = 64;
+
+/// The most turns that a link has after one poll.
+pub const MAX_TURNS: usize = 64;
+
+/// After so many polls a connection that broke before an octet moved is begun again, or after one
+/// that ran out.
+pub const REST_POLLS: u32 = 64;
+
+/// After so many polls the sister's knowledge is merged.
+pub const MERGE_POLLS: u64 = 1_024;

@@ -1,0 +1,133 @@
+//! A replica over a network, until it ends.
+
+ghost use Rattle.std.specs.Prelude.{◌≡◌, ◌+◌, ◌≤◌, All, length};
+ghost use Rattle.nm_shared.specs.Board.{IsOwnerOf};
+ghost use Rattle.nm_net.specs.Ending.{EndsWith, ending_of};
+
+use crate::ending::Ending;
+use crate::limits::{MAX_POLLS, WAIT_MILLISECONDS};
+use crate::network::Network;
+use crate::serving::{Polled, Serving, poll};
+use nm_base::PartNo;
+use nm_shared::{ClockBoard, Counts, Gate, OwnerSeat, Pass, SharedBook};
+use nm_topology::Topology;
+use std::alloc::Global;
+use std::sync::{Arc, Wait};
+
+/// A replica, those with which it speaks, and its limits.
+#[derive(Clone, Copy)]
+pub struct Replica<'a, C: Counts> {
+    pub topology: &'a Arc<Topology>,
+    pub partition: PartNo,
+    /// 0 or 1.
+    pub replica: u8,
+    pub book: &'a SharedBook<C>,
+    pub board: &'a ClockBoard,
+    /// The partitions of the peers to which it connects, by their numbers in the network: one for
+    /// each replica of a partition above its own with which it shares a channel.
+    pub peers: &'a [PartNo],
+    /// How many replicas connect to it: those of the partitions below with which it shares one.
+    pub callers: usize,
+    /// The books of all replicas of the run, its own among them. None in a run of its own, where it
+    /// merges with nobody.
+    pub books: &'a [SharedBook<C>],
+    /// The place of its sister in that list, if it has one.
+    pub sister: Option<usize>,
+    /// After so many polls in a row that ran out it is stalled.
+    pub idle_limit: u64,
+    /// How many events it does at most after each poll: 0 where others run its book.
+    pub run_limit: u64,
+}
+
+/// What a replica holds while it runs, and has still when it has ended.
+#[derive(Drop)]
+pub struct Holdings<C: Counts> {
+    /// The pass of its book.
+    pub pass: Pass<C>,
+    /// A pass of each book of the run, in the order of the books.
+    pub passes: Vec<Pass<C>>,
+    /// The seats of its outgoing channels on the board.
+    pub seats: Vec<OwnerSeat>,
+}
+
+/// How many polls in a row ran out and nothing was moved or done, after one more.
+fn idle_polls(before: u64, polled: Polled) -> u64
+    ensures { result ≤ before + polled.idle }
+{
+    if polled.was_active {
+        0
+    } else {
+        before.saturating_add(polled.idle)
+    }
+}
+
+/// How a replica ends after a poll, if it does.
+fn ending_of(polled: Polled, idle: u64, limit: u64, polls: u64) -> Option<Ending>
+    ensures { result ≡ ending_of polled.is_done idle limit polls }
+{
+    if polled.is_done {
+        return Some(Ending::Ended);
+    }
+    if idle >= limit {
+        return Some(Ending::Stalled { polls });
+    }
+    None
+}
+
+/// Serves the connections of a replica, and runs its book if it is to, until the replica is done
+/// and its links have ended, or it ends for another reason. Passes and seats stay where they are.
+/// A connection that breaks is begun again by the side that began it; an octet or a Hello that
+/// should not be costs a connection that said no Hello, and after one the replica. The promise of
+/// each outgoing channel stands on the board before a poll ends. Before each poll the gate is asked,
+/// and told how many octets have moved.
+///
+/// `Ended` where the replica was seen to be done. `Stalled` after no fewer polls with nothing ready
+/// than its limit, or after 10^9 polls. `Net` where a peer broke the rules, a message was refused,
+/// or the gate said so. `Memory` where memory was refused.
+pub fn run_replica<C: Counts, N: Network, G: Gate, R: Wait>(
+    rt: &R,
+    alloc: Global,
+    replica: &Replica<'_, C>,
+    holdings: &mut Holdings<C>,
+    network: &mut N,
+    gate: &G,
+) -> Ending
+    requires owners { All (IsOwnerOf replica.now.board.now) holdings.old.seats.items }
+    ensures ends { EndsWith C.exact C.home replica.now.idle_limit (N.idle_waits network.old)
+        (N.idle_waits network.new) result }
+    ensures owners { All (IsOwnerOf replica.now.board.now) holdings.new.seats.items }
+    ensures seats { length holdings.new.seats.items ≡ length holdings.old.seats.items }
+    ensures passes { length holdings.new.passes.items ≡ length holdings.old.passes.items }
+{
+    let Ok(mut serving) = Serving::new(alloc, replica) else {
+        return Ending::Memory;
+    };
+    let mut idle = 0u64;
+    let mut milliseconds = 0u64;
+    for polls in 0..MAX_POLLS {
+        let polled = match poll(
+            rt,
+            alloc,
+            replica,
+            holdings,
+            network,
+            gate,
+            &mut serving,
+            polls,
+            milliseconds,
+        ) {
+            Ok(polled) => polled,
+            Err(ending) => return ending,
+        };
+        idle = idle_polls(idle, polled);
+        if let Some(ending) = ending_of(polled, idle, replica.idle_limit, polls + 1) {
+            return ending;
+        }
+        milliseconds = if polled.was_active {
+            0
+        } else {
+            WAIT_MILLISECONDS
+        };
+    }
+    Ending::Stalled { polls: MAX_POLLS }
+}

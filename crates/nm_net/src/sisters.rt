@@ -1,0 +1,63 @@
+//! The other replicas of a run of one process.
+
+ghost use Rattle.std.specs.Prelude.{◌≡◌, length};
+
+use crate::acts::IsDone;
+use crate::replica::{Holdings, Replica};
+use nm_shared::acts::{CopyKnowledge, Merge};
+use nm_shared::{Counts, Pass};
+use std::alloc::{AllocError, Global};
+use std::sync::Wait;
+
+/// Merges what the sister knows, if there is one. A merge that is refused changes nothing, and the
+/// run goes on.
+///
+/// # Errors
+///
+/// Where memory was refused to the copy.
+pub(crate) fn merge_sister<C: Counts, R: Wait>(
+    rt: &R,
+    alloc: Global,
+    replica: &Replica<'_, C>,
+    holdings: &mut Holdings<C>,
+) -> Result<(), AllocError>
+    ensures { (holdings.new.seats ≡ holdings.old.seats)
+        × (length holdings.new.passes.items ≡ length holdings.old.passes.items) }
+{
+    let Some(sister) = replica.sister else {
+        return Ok(());
+    };
+    if sister >= replica.books.len() || sister >= holdings.passes.len() {
+        return Ok(());
+    }
+    let book = &replica.books[sister];
+    let knowledge = book.act(rt, &mut holdings.passes[sister], CopyKnowledge { alloc })?;
+    let _merged = replica.book.act(
+        rt,
+        &mut holdings.pass,
+        Merge {
+            alloc,
+            knowledge: &knowledge,
+        },
+    );
+    Ok(())
+}
+
+/// Whether there are other replicas in the run, and all are done.
+pub(crate) fn all_are_done<C: Counts, R: Wait>(
+    rt: &R,
+    replica: &Replica<'_, C>,
+    passes: &mut Vec<Pass<C>>,
+) -> bool
+    ensures { length passes.new.items ≡ length passes.old.items }
+{
+    if replica.books.is_empty() || replica.books.len() > passes.len() {
+        return false;
+    }
+    for number in 0..replica.books.len() {
+        if !replica.books[number].act(rt, &mut passes[number], IsDone) {
+            return false;
+        }
+    }
+    true
+}

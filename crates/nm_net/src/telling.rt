@@ -1,0 +1,43 @@
+//! What the board is told.
+
+ghost use Rattle.std.specs.Prelude.{◌≡◌, All, length};
+ghost use Rattle.nm_shared.specs.Board.{IsOwnerOf, owned_word};
+
+use nm_shared::acts::MakeNull;
+use nm_shared::{ClockBoard, Counts, OwnerSeat, Pass, SharedBook};
+use std::sync::Wait;
+
+/// Raises a seat's word to the promise of its channel, as it is now.
+fn tell<C: Counts, R: Wait>(
+    rt: &R,
+    book: &SharedBook<C>,
+    pass: &mut Pass<C>,
+    board: &ClockBoard,
+    seat: &mut OwnerSeat,
+)
+    requires { IsOwnerOf board.now seat.old }
+    ensures owner { IsOwnerOf board.now seat.new }
+    ensures word { owned_word seat.new ≡ owned_word seat.old }
+{
+    let channel = seat.channel();
+    if let Some(null) = book.act(rt, pass, MakeNull { channel }) {
+        board.raise(seat, &null);
+    }
+}
+
+/// Raises each seat's word to the promise of its channel.
+pub(crate) fn tell_all<C: Counts, R: Wait>(
+    rt: &R,
+    book: &SharedBook<C>,
+    pass: &mut Pass<C>,
+    board: &ClockBoard,
+    seats: &mut Vec<OwnerSeat>,
+)
+    requires { All (IsOwnerOf board.now) seats.old.items }
+    ensures owners { All (IsOwnerOf board.now) seats.new.items }
+    ensures count { length seats.new.items ≡ length seats.old.items }
+{
+    for number in 0..seats.len() {
+        tell(rt, book, pass, board, &mut seats[number]);
+    }
+}

@@ -1,0 +1,115 @@
+//! Two replicas in two threads, over loopback.
+
+use crate::cut_network::CutNetwork;
+use crate::sides::{Company, Open, Served, listen, network, over_tcp, serve};
+use crate::texts::{SHIFT, SPLIT};
+use mio::net::TcpListener;
+use nm_base::PartNo;
+use nm_net::Ending;
+use nm_rounds::certify::certify;
+use nm_topology::Topology;
+use std::alloc::Global;
+use std::net::{Net, SocketAddr};
+use std::process::Abort;
+use std::sync::{Arc, Wait};
+use std::test::Fail;
+use std::thread::{Threads, join};
+use std::{io, net};
+
+/// Serves the replica that connects, over connections that fail after so many octets.
+fn call<R: Net + Wait + Drop + Copy>(
+    rt: &R,
+    alloc: Global,
+    topology: &Arc<Topology>,
+    listener: TcpListener,
+    peers: &[SocketAddr],
+    cuts: &[usize],
+) -> io::Result<Served> {
+    let network = over_tcp(rt, alloc, listener, peers)?;
+    let mut network = CutNetwork::new(network, cuts.to_vec(alloc)?);
+    let peers = [PartNo::new(1)];
+    let company = Company {
+        partition: PartNo::new(0),
+        peers: &peers,
+        callers: 0,
+        idle_limit: 100,
+    };
+    serve(rt, alloc, topology, &company, &mut network, &Open)
+}
+
+/// Serves the replica that is called.
+fn answer<R: Net + Wait + Drop + Copy>(
+    rt: &R,
+    alloc: Global,
+    topology: &Arc<Topology>,
+    listener: TcpListener,
+) -> io::Result<Served> {
+    let mut network = over_tcp(rt, alloc, listener, &[])?;
+    let company = Company {
+        partition: PartNo::new(1),
+        peers: &[],
+        callers: 1,
+        idle_limit: 100,
+    };
+    serve(rt, alloc, topology, &company, &mut network, &Open)
+}
+
+/// Both end, and their books are certified: their traces are those of the one event list.
+fn meet<R>(rt: &R, alloc: Global, text: &str, cuts: &[usize]) -> Result<(), Fail>
+where
+    R: Net<Stream = net::TcpStream, Listener = net::TcpListener>
+        + Threads
+        + Wait
+        + Abort
+        + Sync
+        + Drop
+        + Copy,
+{
+    let topology = network(alloc, text)?;
+    let (here, there) = (listen(rt)?, listen(rt)?);
+    let peers = [there.local_addr()?];
+    let (one, two) = join(
+        rt,
+        || call(rt, alloc, &topology, here, &peers, cuts),
+        || answer(rt, alloc, &topology, there),
+    );
+    let (near, far) = (one?, two?);
+    assert!(rt; near.ending == Ending::Ended && far.ending == Ending::Ended);
+    assert!(rt; certify(&topology, &[&near.book, &far.book]).is_ok());
+    Ok(())
+}
+
+/// Over whole connections.
+#[test]
+fn two_threads_meet(rt: HostRuntime) -> Result<(), Fail> {
+    meet(&rt, rt.alloc(), SPLIT, &[])?;
+    meet(&rt, rt.alloc(), SHIFT, &[])
+}
+
+/// Over eight connections that break, at most after the greeting and a message.
+#[test]
+fn two_threads_meet_again(rt: HostRuntime) -> Result<(), Fail> {
+    meet(&rt, rt.alloc(), SHIFT, &[190, 189, 125, 65, 64, 48, 1, 0])
+}
+
+/// Nobody listens at the peer's address.
+#[test]
+fn a_peer_that_never_listens_stalls(rt: HostRuntime) -> Result<(), Fail> {
+    let alloc = rt.alloc();
+    let gone = listen(&rt)?;
+    let peers = [gone.local_addr()?];
+    drop(gone);
+    let topology = network(alloc, SPLIT)?;
+    let listener = listen(&rt)?;
+    let mut network = over_tcp(&rt, alloc, listener, &peers)?;
+    let numbers = [PartNo::new(1)];
+    let company = Company {
+        partition: PartNo::new(0),
+        peers: &numbers,
+        callers: 0,
+        idle_limit: 4,
+    };
+    let served = serve(&rt, alloc, &topology, &company, &mut network, &Open)?;
+    assert!(rt; matches!(served.ending, Ending::Stalled { .. }));
+    Ok(())
+}

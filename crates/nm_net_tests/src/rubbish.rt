@@ -1,0 +1,45 @@
+//! What a replica does where somebody speaks no frames.
+
+use crate::scripted::{NEVER, Scripted};
+use crate::sides::{Company, Open, network, serve};
+use crate::talks::{RUBBISH, rubbish_behind_hello, said_by};
+use crate::texts::SPLIT;
+use nm_base::PartNo;
+use nm_net::Ending;
+use std::alloc::Global;
+use std::sync::Wait;
+use std::test::Fail;
+
+/// Serves the replica of partition 1 of SPLIT, to which these say something, from the last on.
+fn called_by<R: Wait>(rt: &R, alloc: Global, sources: Vec<Vec<u8>>) -> Result<Ending, Fail> {
+    let topology = network(alloc, SPLIT)?;
+    let mut network = Scripted::new(alloc, sources, true, NEVER);
+    let company = Company {
+        partition: PartNo::new(1),
+        peers: &[],
+        callers: 1,
+        idle_limit: 4,
+    };
+    Ok(serve(rt, alloc, &topology, &company, &mut network, &Open)?.ending)
+}
+
+/// Rubbish before a Hello costs that connection alone.
+#[test]
+fn rubbish_before_hello_costs_the_connection(rt: HostRuntime) -> Result<(), Fail> {
+    let alloc = rt.alloc();
+    let mut sources = Vec::new(alloc);
+    sources.push(said_by(alloc, 0)?)?;
+    sources.push(RUBBISH.to_vec(alloc)?)?;
+    assert!(rt; called_by(&rt, alloc, sources)? == Ending::Ended);
+    Ok(())
+}
+
+/// Rubbish after a Hello ends the replica.
+#[test]
+fn rubbish_after_hello_ends_the_replica(rt: HostRuntime) -> Result<(), Fail> {
+    let alloc = rt.alloc();
+    let mut sources = Vec::new(alloc);
+    sources.push(rubbish_behind_hello(alloc, 0)?)?;
+    assert!(rt; called_by(&rt, alloc, sources)? == Ending::Net);
+    Ok(())
+}

@@ -1,0 +1,101 @@
+//! A network in memory that does what a script says, and fails at some calls.
+
+ghost use Rattle.std.specs.Prelude.{◌≡◌, ◌+◌, [], IfSome};
+
+use nm_base::MemWire;
+use nm_base::failures::FailureCount;
+use nm_base::mem_wire::Ending;
+use nm_net::{Network, Waited};
+use std::alloc::Global;
+
+/// Which calls of a network fail: one, or all from it on. Calls are counted from 1.
+#[derive(Clone, Copy)]
+pub struct Fails {
+    pub at: u64,
+    pub for_good: bool,
+}
+
+/// No call fails.
+pub const NEVER: Fails = Fails {
+    at: 0,
+    for_good: false,
+};
+
+/// A network whose connections give these octets, one after the other from the last on, and then
+/// nothing. They are the peers' that the replica calls, or of those who call.
+#[derive(Drop)]
+pub struct Scripted {
+    alloc: Global,
+    sources: Vec<Vec<u8>>,
+    called: bool,
+    calls: u64,
+    fails: Fails,
+    idle: FailureCount,
+}
+
+impl Scripted {
+    /// Connections with these octets, of those who call, or else of peers that are called.
+    pub fn new(alloc: Global, sources: Vec<Vec<u8>>, called: bool, fails: Fails) -> Self {
+        Scripted {
+            alloc,
+            sources,
+            called,
+            calls: 0,
+            fails,
+            idle: FailureCount::new(),
+        }
+    }
+
+    /// Whether this call fails.
+    fn fails(&mut self) -> bool
+        ensures { self.new.idle.count ≡ self.old.idle.count }
+    {
+        self.calls = self.calls.saturating_add(1);
+        self.calls == self.fails.at || self.fails.for_good && self.calls > self.fails.at
+    }
+
+    /// The next connection.
+    fn wire(&mut self) -> Option<MemWire>
+        ensures fresh { IfSome result
+            (λ w. (w.at ≡ 0) × (w.taken ≡ []) × (w.ends ≡ 0) × (w.failures ≡ 0)) }
+        ensures idle { self.new.idle.count ≡ self.old.idle.count }
+    {
+        let source = self.sources.pop()?;
+        MemWire::new(self.alloc, source, Ending::Later, 2_000, 7).ok()
+    }
+}
+
+impl Network for Scripted {
+    type Connection = MemWire;
+
+    ghost idle_waits = { λ n. n.idle.count };
+
+    fn connect(&mut self, _peer: usize) -> Option<MemWire> {
+        if self.fails() || self.called {
+            return None;
+        }
+        self.wire()
+    }
+
+    fn accept(&mut self) -> Option<MemWire> {
+        if self.fails() || !self.called {
+            return None;
+        }
+        self.wire()
+    }
+
+    fn watch(&mut self, _connection: &mut MemWire, _key: usize) -> bool {
+        !self.fails()
+    }
+
+    fn unwatch(&mut self, _connection: &mut MemWire) {}
+
+    fn wait(&mut self, milliseconds: u64) -> Waited {
+        let fails = self.fails();
+        if milliseconds == 0 && !fails {
+            return Waited::Ready;
+        }
+        self.idle.rise();
+        if fails { Waited::Fault } else { Waited::RanOut }
+    }
+}

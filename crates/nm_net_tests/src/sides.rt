@@ -1,0 +1,143 @@
+//! Replicas that are served.
+
+ghost use Rattle.std.specs.Prelude.{All};
+ghost use Rattle.nm_shared.specs.Board.{IsOwnerOf};
+
+use mio::Poll;
+use mio::net::TcpListener;
+use nm_base::PartNo;
+use nm_book::Book;
+use nm_net::seats::own_seats;
+use nm_net::{Ending, Holdings, MioNetwork, Network, Replica, run_replica};
+use nm_shared::{ClockBoard, Gate, Plain, SharedBook};
+use nm_topology::Topology;
+use std::alloc::Global;
+use std::io::{self, ErrorKind};
+use std::net::{Ipv4Addr, Net, SocketAddr};
+use std::sync::{Arc, Wait};
+use std::test::Fail;
+
+/// What serving a replica came to: how it ended, and its book.
+#[derive(Drop)]
+pub struct Served {
+    pub ending: Ending,
+    pub book: Book,
+}
+
+/// A replica 0, with whom it speaks, and when it is stalled.
+#[derive(Clone, Copy)]
+pub struct Company<'a> {
+    pub partition: PartNo,
+    pub peers: &'a [PartNo],
+    pub callers: usize,
+    pub idle_limit: u64,
+}
+
+/// A gate that lets all go on.
+pub struct Open;
+
+impl Gate for Open {
+    fn enter(&self, _job: usize) {}
+
+    fn leave(&self, _job: usize) {}
+
+    fn poll(&self, _moved: u64) -> bool {
+        true
+    }
+}
+
+/// A network, which has to be accepted.
+pub fn network(alloc: Global, text: &str) -> Result<Arc<Topology>, Fail> {
+    let topology = Topology::read(alloc, text.as_bytes())?;
+    Ok(Arc::new(alloc, topology)?)
+}
+
+/// Serves a replica with what it holds. It does its events itself.
+fn serve_held<N: Network, G: Gate, R: Wait>(
+    rt: &R,
+    alloc: Global,
+    topology: &Arc<Topology>,
+    book: &SharedBook<Plain>,
+    board: &ClockBoard,
+    holdings: &mut Holdings<Plain>,
+    company: &Company<'_>,
+    network: &mut N,
+    gate: &G,
+) -> Ending
+    requires { All (IsOwnerOf board.now) holdings.old.seats.items }
+{
+    let replica = Replica {
+        topology,
+        partition: company.partition,
+        replica: 0,
+        book,
+        board,
+        peers: company.peers,
+        callers: company.callers,
+        books: &[],
+        sister: None,
+        idle_limit: company.idle_limit,
+        run_limit: 4_096,
+    };
+    run_replica(rt, alloc, &replica, holdings, network, gate)
+}
+
+/// Serves a replica that knows nothing at first, and closes its book.
+pub fn serve<N: Network, G: Gate, R: Wait>(
+    rt: &R,
+    alloc: Global,
+    topology: &Arc<Topology>,
+    company: &Company<'_>,
+    network: &mut N,
+    gate: &G,
+) -> io::Result<Served> {
+    let (counts, whole) = Plain::open();
+    let shared = Arc::try_clone(topology)?;
+    let Ok(book) = SharedBook::new(alloc, shared, company.partition, 0, counts, whole) else {
+        return Err(ErrorKind::OutOfMemory.into());
+    };
+    let pass = book.pass(rt)?;
+    let (board, owners, _) = ClockBoard::new(alloc, topology)?;
+    let seats = own_seats(alloc, topology, &board, company.partition, 0, owners)?;
+    let mut holdings = Holdings {
+        pass,
+        passes: Vec::new(alloc),
+        seats,
+    };
+    let ending = serve_held(
+        rt,
+        alloc,
+        topology,
+        &book,
+        &board,
+        &mut holdings,
+        company,
+        network,
+        gate,
+    );
+    let mut passes = Vec::new(alloc);
+    passes.push(holdings.pass)?;
+    match book.close(passes) {
+        Ok(closed) => Ok(Served {
+            ending,
+            book: closed.book,
+        }),
+        Err(_) => Err(ErrorKind::Other.into()),
+    }
+}
+
+/// A listener on a free port of 127.0.0.1.
+pub fn listen<R: Net>(net: &R) -> io::Result<TcpListener> {
+    TcpListener::bind(net, SocketAddr::from((Ipv4Addr::LOCALHOST, 0)))
+}
+
+/// A network over TCP with these peers.
+pub fn over_tcp<R: Net + Drop + Copy>(
+    net: &R,
+    alloc: Global,
+    listener: TcpListener,
+    peers: &[SocketAddr],
+) -> io::Result<MioNetwork<R>> {
+    let poll = Poll::new(net)?;
+    MioNetwork::new(*net, alloc, poll, listener, peers.to_vec(alloc)?)
+}
