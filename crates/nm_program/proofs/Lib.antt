@@ -3,4 +3,7 @@ pub mod Records
 pub mod InterfaceLines
 pub mod Texts
 pub mod Times
+pub mod BookTimes
+pub mod Making
 pub mod Endings
+pub mod NodeEndings

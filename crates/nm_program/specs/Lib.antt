@@ -6,4 +6,6 @@ pub mod Lines
 pub mod Output
 pub mod Rounds
 pub mod Script
+pub mod Outputs
+pub mod Node
 pub mod Ending

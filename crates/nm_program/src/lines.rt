@@ -15,7 +15,12 @@ use nm_topology::topology::accepted_topologies_are_in_order;
 use std::alloc::AllocError;
 
 /// Appends the line of an interface that has so many records and octets of its trace file.
-fn push_line(text: &mut Vec<u8>, iface: &Iface, records: u64, octets: u64) -> Result<(), AllocError>
+pub(crate) fn push_line(
+    text: &mut Vec<u8>,
+    iface: &Iface,
+    records: u64,
+    octets: u64,
+) -> Result<(), AllocError>
     ensures { OnOk result
         (text.new.items ≡ text.old.items ++ iface_line iface.now (records, octets)) }
 {

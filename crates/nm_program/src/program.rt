@@ -10,12 +10,16 @@ ghost use Rattle.nm_command.specs.declared.status.Status.TheVariants.{Done, File
 
 use crate::input::NamedInputs;
 use crate::inputs::Inputs;
+use crate::node::say_node;
+use crate::outputs::Outputs;
 use crate::rounds::say_rounds;
 use crate::script::say_script;
 use crate::traces::write_trace;
-use nm_base::Sink;
+use nm_base::{PartNo, Sink};
 use nm_command::{Command, Status};
 use std::alloc::Global;
+use std::net::Net;
+use std::sync::Wait;
 
 /// Does what the words say, and gives the sink back. Inputs are those that the words name. What is
 /// asked for goes to `out`, a trace file as it is made, and a line to `errors` where the program is
@@ -23,39 +27,46 @@ use std::alloc::Global;
 ///
 /// The first of these decides: the words, the inputs in the words' order, the topology, the lines of
 /// a script, all else.
-/// Words that are no command open no input. Memory may be refused at any place: the sink has a
+/// Words that are no command open no input. Only `node` makes files, once its replica is done, and
+/// only `node` uses the network. Memory may be refused at any place: the sink has a
 /// prefix of the trace file then, which may be empty. Where the sink fails it has a prefix of what
 /// was asked for too; with every other status but `Done` and `Stalled` it took nothing.
-pub fn run<I: Inputs, O: Sink + Drop, E: Sink>(
+pub fn run<I: Inputs, F: Outputs, O: Sink + Drop, E: Sink, R: Net + Wait + Drop + Copy>(
+    rt: &R,
     alloc: Global,
     words: &[String],
     inputs: &mut NamedInputs<I>,
+    outputs: &mut F,
     out: O,
     errors: &mut E,
 ) -> (Status, O)
     ensures ending { Ends O.taken O.failures
         (text_of I.standard_text I.file_text inputs.old.inputs)
         inputs.old.failures inputs.new.failures
-        out result.1 (command_of (map (λ w. string_bytes w) words.now)) result.0 }
+        out result.1 (F.made outputs.old) (F.made outputs.new)
+        (command_of (map (λ w. string_bytes w) words.now)) result.0 }
     ensures line { E.failures errors.new ≡ E.failures errors.old
         → Appends (E.taken errors.old) (E.taken errors.new) (line_of result.0) }
 {
-    let (status, out) = perform(alloc, Command::of(words), inputs, out);
+    let (status, out) = perform(rt, alloc, Command::of(words), inputs, outputs, out);
     (report(status, errors), out)
 }
 
 /// Does what a command asks for, and gives the sink back.
-fn perform<I: Inputs, O: Sink + Drop>(
+fn perform<I: Inputs, F: Outputs, O: Sink + Drop, R: Net + Wait + Drop + Copy>(
+    rt: &R,
     alloc: Global,
     command: Option<Command<'_>>,
     inputs: &mut NamedInputs<I>,
+    outputs: &mut F,
     out: O,
 ) -> (Status, O)
     requires { IfSome command IsWithinLimits }
     ensures { Ends O.taken O.failures
         (text_of I.standard_text I.file_text inputs.old.inputs)
         inputs.old.failures inputs.new.failures
-        out result.1 (option_map command_value command.entry) result.0 }
+        out result.1 (F.made outputs.old) (F.made outputs.new)
+        (option_map command_value command.entry) result.0 }
 {
     match command {
         Some(
@@ -69,6 +80,26 @@ fn perform<I: Inputs, O: Sink + Drop>(
         Some(Command::Script { topology, steps }) => {
             say_script(alloc, topology, steps, inputs, out)
         }
+        Some(
+            Command::Node {
+                topology,
+                folder,
+                partition,
+                replica,
+                addresses,
+            },
+        ) => say_node(
+            rt,
+            alloc,
+            topology,
+            folder,
+            PartNo::new(partition),
+            replica,
+            addresses,
+            inputs,
+            outputs,
+            out,
+        ),
         None => (Status::Usage, out),
     }
 }

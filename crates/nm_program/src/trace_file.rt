@@ -135,7 +135,7 @@ fn next_record(
 }
 
 /// Writes a record if it is at the interface.
-fn write_at<S: Sink>(
+pub(crate) fn write_at<S: Sink>(
     iface: IfaceNo,
     record: &Record,
     file: &mut PcapOut<S>,
@@ -152,7 +152,7 @@ fn write_at<S: Sink>(
 }
 
 /// What a fault of a trace file is to the program.
-fn sink_outcome(outcome: Result<(), PcapFault>) -> Result<(), TraceFault>
+pub(crate) fn sink_outcome(outcome: Result<(), PcapFault>) -> Result<(), TraceFault>
     ensures { result ≡ sink_outcome outcome }
 {
     match outcome {

@@ -1,10 +1,11 @@
-//! The inputs of the host.
+//! The inputs and the files of the host.
 
 ghost use Rattle.std.specs.Prelude.{None};
 
-use nm_program::Inputs;
+use nm_base::StdSink;
+use nm_program::{Inputs, Outputs};
 use std::fs::File;
-use std::io::StdinLock;
+use std::io::{BufWriter, StdinLock};
 use std::{fs, io};
 
 /// Standard input and the files of the host. What they have is not told.
@@ -28,5 +29,28 @@ impl<'a> Inputs for HostInputs<'a> {
 
     fn open(&self, name: &str) -> io::Result<File> {
         fs::open(self.runtime, name)
+    }
+}
+
+/// The files of the host that are made or replaced. What they have is not told.
+#[derive(Drop)]
+pub struct HostOutputs<'a> {
+    pub runtime: &'a HostRuntime,
+}
+
+impl<'a> Outputs for HostOutputs<'a> {
+    type File = StdSink<BufWriter<File>>;
+
+    ghost made = { λ _. None };
+
+    fn create(&mut self, name: &str) -> Option<StdSink<BufWriter<File>>> {
+        let file = fs::create(self.runtime, name).ok()?;
+        let writer = BufWriter::new(self.runtime.alloc(), file).ok()?;
+        Some(StdSink::new(writer))
+    }
+
+    fn close(&mut self, _name: &str, file: StdSink<BufWriter<File>>) -> bool {
+        let mut file = file;
+        file.flush().is_ok()
     }
 }

@@ -5,13 +5,15 @@
 
 mod host;
 
-use host::HostInputs;
+use host::{HostInputs, HostOutputs};
 use nm_base::StdSink;
 use nm_command::Status;
 use nm_program::{NamedInputs, conclude, report, run};
 use std::env::Env;
 use std::io::{BufWriter, ErrorKind};
+use std::net::Net;
 use std::process::ExitCode;
+use std::sync::Wait;
 use std::{env, io};
 
 /// The words after the program's name.
@@ -23,8 +25,9 @@ fn words<R: Env + Alloc>(rt: &R) -> io::Result<Vec<String<R::A>, R::A>> {
     Ok(words)
 }
 
-/// The program, up to its exit status.
-fn status(rt: &HostRuntime) -> Status {
+/// The program, up to its exit status. `network` is the runtime too, with what `main` alone may hand
+/// on: the network, and waiting.
+fn status<N: Net + Wait + Drop + Copy>(rt: &HostRuntime, network: &N) -> Status {
     let mut errors = StdSink::new(rt.stderr());
     let words = match words(rt) {
         Ok(words) => words,
@@ -38,10 +41,13 @@ fn status(rt: &HostRuntime) -> Status {
         return report(Status::Memory, &mut errors);
     };
     let mut inputs = NamedInputs::new(HostInputs { runtime: rt });
+    let mut outputs = HostOutputs { runtime: rt };
     let (status, mut out) = run(
+        network,
         rt.alloc(),
         words.as_slice(),
         &mut inputs,
+        &mut outputs,
         StdSink::new(writer),
         &mut errors,
     );
@@ -49,5 +55,5 @@ fn status(rt: &HostRuntime) -> Status {
 }
 
 fn main(rt: HostRuntime) -> ExitCode {
-    ExitCode::from(status(&rt).code())
+    ExitCode::from(status(&rt, &rt).code())
 }

@@ -6,7 +6,9 @@ use crate::tally::Tally;
 use crate::words::{run_rounds_case, run_script_case};
 use std::alloc::Global;
 use std::fs::DirEntry;
+use std::net::Net;
 use std::rt::Files;
+use std::sync::Wait;
 use std::{fs, io};
 
 /// The name of an entry of a folder.
@@ -38,7 +40,10 @@ fn run_half<R: Files + AllocGlobal>(rt: &R, stem: &str) -> io::Result<Tally> {
 }
 
 /// Runs the case of the topology text at a path, which is without its end.
-fn run_text<R: Files + AllocGlobal + Print>(rt: &R, stem: &str) -> io::Result<Tally> {
+fn run_text<R: Files + AllocGlobal + Print + Net + Wait + Drop + Copy>(
+    rt: &R,
+    stem: &str,
+) -> io::Result<Tally> {
     if stem.starts_with("cases/rounds/") {
         return run_rounds_case(rt, stem);
     }
@@ -49,7 +54,10 @@ fn run_text<R: Files + AllocGlobal + Print>(rt: &R, stem: &str) -> io::Result<Ta
 }
 
 /// Runs the cases of the file at a path.
-fn run_file<R: Files + AllocGlobal + Print>(rt: &R, path: &str) -> io::Result<Tally> {
+fn run_file<R: Files + AllocGlobal + Print + Net + Wait + Drop + Copy>(
+    rt: &R,
+    path: &str,
+) -> io::Result<Tally> {
     if path.ends_with(".cases") {
         return run_table(rt, path);
     }
@@ -66,7 +74,7 @@ fn run_file<R: Files + AllocGlobal + Print>(rt: &R, path: &str) -> io::Result<Ta
 }
 
 /// Runs the cases of a file of a folder, and prints what is wrong with the file.
-fn run_named<R: Files + AllocGlobal + Print>(
+fn run_named<R: Files + AllocGlobal + Print + Net + Wait + Drop + Copy>(
     rt: &R,
     folder: &str,
     name: &str,
@@ -80,7 +88,7 @@ fn run_named<R: Files + AllocGlobal + Print>(
 }
 
 /// Runs the cases of these files of a folder.
-fn run_all<R: Files + AllocGlobal + Print>(
+fn run_all<R: Files + AllocGlobal + Print + Net + Wait + Drop + Copy>(
     rt: &R,
     folder: &str,
     names: &[String],
@@ -93,7 +101,7 @@ fn run_all<R: Files + AllocGlobal + Print>(
 }
 
 /// Runs the cases of a folder.
-pub fn run_folder<R: Files + AllocGlobal + Print + Clone + Drop>(
+pub fn run_folder<R: Files + AllocGlobal + Print + Net + Wait + Clone + Drop + Copy>(
     rt: &R,
     folder: &str,
 ) -> io::Result<Tally> {

@@ -10,9 +10,10 @@
 use crate::compare::{differs, push_line};
 use crate::tally::Tally;
 use nm_base::MemSink;
-use nm_program::{MemInputs, NamedInputs, run};
-use std::alloc::Global;
+use nm_program::{MemInputs, MemOutputs, NamedInputs, run};
+use std::net::Net;
 use std::rt::Files;
+use std::sync::Wait;
 use std::{fs, io};
 
 /// The greatest number of octets that a case writes.
@@ -36,7 +37,13 @@ fn text_in(sink: &MemSink) -> io::Result<&str> {
 
 /// Runs the program with these words. Standard input has the topology, and the file `steps` has the
 /// script.
-fn run_words(alloc: Global, words: &[&str], topology: &[u8], steps: &[u8]) -> io::Result<Ended> {
+fn run_words<R: AllocGlobal + Net + Wait + Drop + Copy>(
+    rt: &R,
+    words: &[&str],
+    topology: &[u8],
+    steps: &[u8],
+) -> io::Result<Ended> {
+    let alloc = rt.alloc();
     let mut owned = Vec::new(alloc);
     for word in words {
         owned.push(String::from_str(alloc, word)?)?;
@@ -46,9 +53,23 @@ fn run_words(alloc: Global, words: &[&str], topology: &[u8], steps: &[u8]) -> io
         standard: topology,
         files: &files,
     });
+    let mut outputs = MemOutputs {
+        alloc,
+        file_octets: 0,
+        room: 0,
+        files: Vec::new(alloc),
+    };
     let out = MemSink::new(alloc, MAX_OUTPUT_OCTETS)?;
     let mut errors = MemSink::new(alloc, MAX_ERROR_OCTETS)?;
-    let (status, out) = run(alloc, owned.as_slice(), &mut inputs, out, &mut errors);
+    let (status, out) = run(
+        rt,
+        alloc,
+        owned.as_slice(),
+        &mut inputs,
+        &mut outputs,
+        out,
+        &mut errors,
+    );
     Ok(Ended {
         code: status.code(),
         out,
@@ -62,12 +83,16 @@ fn max_in(line: &str) -> Option<&str> {
 }
 
 /// What `rounds` does with each number that is expected.
-fn rounds_found(alloc: Global, topology: &[u8], expected: &str) -> io::Result<String> {
-    let mut found = String::new(alloc);
+fn rounds_found<R: AllocGlobal + Net + Wait + Drop + Copy>(
+    rt: &R,
+    topology: &[u8],
+    expected: &str,
+) -> io::Result<String> {
+    let mut found = String::new(rt.alloc());
     for line in expected.lines() {
         if let Some(max) = max_in(line) {
-            let ended = run_words(alloc, &["rounds", "-", max], topology, b"")?;
-            let head = format!(in alloc; "max {max} status {}", ended.code)?;
+            let ended = run_words(rt, &["rounds", "-", max], topology, b"")?;
+            let head = format!(in rt.alloc(); "max {max} status {}", ended.code)?;
             push_line(&mut found, head.as_str())?;
             found.push_str(text_in(&ended.out)?)?;
         }
@@ -76,11 +101,15 @@ fn rounds_found(alloc: Global, topology: &[u8], expected: &str) -> io::Result<St
 }
 
 /// What `script` does.
-fn script_found(alloc: Global, topology: &[u8], steps: &[u8]) -> io::Result<String> {
-    let ended = run_words(alloc, &["script", "-", "steps"], topology, steps)?;
+fn script_found<R: AllocGlobal + Net + Wait + Drop + Copy>(
+    rt: &R,
+    topology: &[u8],
+    steps: &[u8],
+) -> io::Result<String> {
+    let ended = run_words(rt, &["script", "-", "steps"], topology, steps)?;
     let error = text_in(&ended.errors)?;
     let error = if error.is_empty() { "-\n" } else { error };
-    let mut found = format!(in alloc; "status {}\nerror {error}", ended.code)?;
+    let mut found = format!(in rt.alloc(); "status {}\nerror {error}", ended.code)?;
     found.push_str(text_in(&ended.out)?)?;
     Ok(found)
 }
@@ -98,20 +127,26 @@ fn expected_of<R: Files + AllocGlobal>(rt: &R, stem: &str) -> io::Result<String>
 }
 
 /// Runs the case of `rounds` at a path, which is without its end.
-pub fn run_rounds_case<R: Files + AllocGlobal + Print>(rt: &R, stem: &str) -> io::Result<Tally> {
+pub fn run_rounds_case<R: Files + AllocGlobal + Print + Net + Wait + Drop + Copy>(
+    rt: &R,
+    stem: &str,
+) -> io::Result<Tally> {
     let expected = expected_of(rt, stem)?;
     let topology = file_of(rt, stem, ".toml")?;
-    let found = rounds_found(rt.alloc(), topology.as_slice(), expected.as_str())?;
+    let found = rounds_found(rt, topology.as_slice(), expected.as_str())?;
     let differs = differs(rt, stem, expected.as_str(), found.as_str())?;
     Ok(Tally::of_case(differs))
 }
 
 /// Runs the case of `script` at a path, which is without its end.
-pub fn run_script_case<R: Files + AllocGlobal + Print>(rt: &R, stem: &str) -> io::Result<Tally> {
+pub fn run_script_case<R: Files + AllocGlobal + Print + Net + Wait + Drop + Copy>(
+    rt: &R,
+    stem: &str,
+) -> io::Result<Tally> {
     let expected = expected_of(rt, stem)?;
     let topology = file_of(rt, stem, ".toml")?;
     let steps = file_of(rt, stem, ".steps")?;
-    let found = script_found(rt.alloc(), topology.as_slice(), steps.as_slice())?;
+    let found = script_found(rt, topology.as_slice(), steps.as_slice())?;
     let differs = differs(rt, stem, expected.as_str(), found.as_str())?;
     Ok(Tally::of_case(differs))
 }

@@ -45,6 +45,17 @@ fn words_of_a_trace_file(rt: HostRuntime) -> Result<(), Fail> {
     )
 }
 
+/// The command of a replica, with the names of the row.
+fn node_of(partition: u32, replica: u8) -> Command<'static> {
+    Command::Node {
+        topology: "a.toml",
+        folder: "d",
+        partition,
+        replica,
+        addresses: "c.txt",
+    }
+}
+
 #[test]
 fn words_of_partitions(rt: HostRuntime) -> Result<(), Fail> {
     let topology = "a.toml";
@@ -68,6 +79,8 @@ fn words_of_partitions(rt: HostRuntime) -> Result<(), Fail> {
                     steps: "-",
                 },
             ),
+            ("node a.toml d 0 0 c.txt", node_of(0, 0)),
+            ("node a.toml d 63 1 c.txt", node_of(63, 1)),
         ],
     )
 }
@@ -102,7 +115,12 @@ fn words_of_no_command(rt: HostRuntime) -> Result<(), Fail> {
             "script a.toml",
             "script a.toml b.txt c",
             "run a.toml d 1 1",
-            "node a.toml d 0 0 c.txt",
+            "node a.toml d 0 0",
+            "node a.toml d 64 0 c.txt",
+            "node a.toml d 00 0 c.txt",
+            "node a.toml d 0 2 c.txt",
+            "node a.toml d 0 -1 c.txt",
+            "node a.toml d 0 0 c.txt e",
         ],
     )
 }

@@ -3,10 +3,12 @@
 
 use nm_base::MemSink;
 use nm_command::Status;
-use nm_program::{Inputs, MemInputs, NamedInputs, run};
+use nm_program::{Inputs, MemInputs, MemOutputs, NamedInputs, run};
 use std::alloc::{AllocError, Global};
 use std::io::Read;
+use std::net::Net;
 use std::process::Abort;
+use std::sync::Wait;
 use std::test::Fail;
 
 /// Two hosts and a link. A topology follows with its `stop` before and its sources after.
@@ -83,18 +85,38 @@ struct Outcome {
     errors: MemSink,
 }
 
+/// A place where no file can be made.
+fn no_files(alloc: Global) -> MemOutputs {
+    MemOutputs {
+        alloc,
+        file_octets: 0,
+        room: 0,
+        files: Vec::new(alloc),
+    }
+}
+
 /// Runs the program on the words of a line and inputs, with room for so many octets of output.
-fn run_line<I: Inputs + Drop>(
-    alloc: Global,
+fn run_line<I: Inputs + Drop, R: AllocGlobal + Net + Wait + Drop + Copy>(
+    rt: &R,
     line: &str,
     inputs: I,
     room: usize,
 ) -> Result<Outcome, AllocError> {
+    let alloc = rt.alloc();
     let words = words_of(alloc, line)?;
     let mut inputs = NamedInputs::new(inputs);
     let out = MemSink::new(alloc, room)?;
     let mut errors = MemSink::new(alloc, 64)?;
-    let (status, out) = run(alloc, words.as_slice(), &mut inputs, out, &mut errors);
+    let mut outputs = no_files(alloc);
+    let (status, out) = run(
+        rt,
+        alloc,
+        words.as_slice(),
+        &mut inputs,
+        &mut outputs,
+        out,
+        &mut errors,
+    );
     Ok(Outcome {
         status,
         out,
@@ -105,13 +127,13 @@ fn run_line<I: Inputs + Drop>(
 /// The program with so much room writes these octets of inputs, and ends with this status and its
 /// line.
 pub fn writes_of<I: Inputs + Drop>(
-    rt: &(impl Abort + AllocGlobal),
+    rt: &(impl Abort + AllocGlobal + Net + Wait + Drop + Copy),
     line: &str,
     inputs: I,
     room: usize,
     (octets, status): (&[u8], Status),
 ) -> Result<(), Fail> {
-    let ended = run_line(rt.alloc(), line, inputs, room)?;
+    let ended = run_line(rt, line, inputs, room)?;
     assert!(rt; ended.status == status, "{line}");
     let said = line_of(rt.alloc(), status)?;
     assert!(rt; ended.errors.octets() == said.octets(), "{line}");
@@ -122,7 +144,7 @@ pub fn writes_of<I: Inputs + Drop>(
 /// The program ends with this status and its line, and writes nothing. There is no file beside
 /// standard input.
 pub fn ends<S: Read + Drop + Copy>(
-    rt: &(impl Abort + AllocGlobal),
+    rt: &(impl Abort + AllocGlobal + Net + Wait + Drop + Copy),
     line: &str,
     standard: S,
     status: Status,
@@ -135,7 +157,7 @@ pub fn ends<S: Read + Drop + Copy>(
 /// The program with so much room writes these octets, and ends with this status and its line. The
 /// text is that of standard input and of `duo.toml`.
 pub fn writes(
-    rt: &(impl Abort + AllocGlobal),
+    rt: &(impl Abort + AllocGlobal + Net + Wait + Drop + Copy),
     (line, text): (&str, &str),
     room: usize,
     ended: (&[u8], Status),
@@ -144,4 +166,18 @@ pub fn writes(
     let files = &[("duo.toml", text.as_bytes())];
     let inputs = MemInputs { standard, files };
     writes_of(rt, line, inputs, room, ended)
+}
+
+/// What `one` writes of an interface of a topology text.
+pub fn written_by<R: AllocGlobal + Net + Wait + Drop + Copy>(
+    rt: &R,
+    iface: &str,
+    text: &str,
+) -> Result<MemSink, Fail> {
+    let line = format!(in rt.alloc(); "one - {iface}")?;
+    let inputs = MemInputs {
+        standard: text.as_bytes(),
+        files: &[],
+    };
+    Ok(run_line(rt, line.as_str(), inputs, 1_000)?.out)
 }

@@ -9,6 +9,8 @@ mod fixtures;
 #[cfg(test)]
 mod names;
 #[cfg(test)]
+mod nodes;
+#[cfg(test)]
 mod partitions;
 #[cfg(test)]
 mod statuses;

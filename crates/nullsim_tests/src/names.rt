@@ -3,13 +3,15 @@
 use crate::fixtures::{empty_file, file_at, two_hosts, writes_of};
 use nm_command::Status;
 use nm_program::MemInputs;
+use std::net::Net;
 use std::process::Abort;
+use std::sync::Wait;
 use std::test::Fail;
 
 /// The program writes these octets for a line. `busy.toml` has one text, and so has a file of the
 /// name `-`; `idle.toml` has another, which is also that of standard input.
 fn writes_with<'a>(
-    rt: &(impl Abort + AllocGlobal),
+    rt: &(impl Abort + AllocGlobal + Net + Wait + Drop + Copy),
     busy: &'a str,
     idle: &'a str,
     (line, octets): (&str, &[u8]),
@@ -43,7 +45,11 @@ fn the_text_of_each_name(rt: HostRuntime) -> Result<(), Fail> {
 }
 
 /// The program ends with this status for each of these lines. There is one file, `duo.toml`.
-fn all_end(rt: &(impl Abort + AllocGlobal), lines: &[&str], status: Status) -> Result<(), Fail> {
+fn all_end(
+    rt: &(impl Abort + AllocGlobal + Net + Wait + Drop + Copy),
+    lines: &[&str],
+    status: Status,
+) -> Result<(), Fail> {
     let text = two_hosts(rt.alloc(), 10_000_000, true)?;
     let files = [("duo.toml", text.as_bytes())];
     for line in lines {

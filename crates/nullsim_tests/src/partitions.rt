@@ -5,13 +5,15 @@ use crate::fixtures::{two_hosts, writes_of};
 use nm_command::Status;
 use nm_program::MemInputs;
 use std::alloc::{AllocError, Global};
+use std::net::Net;
 use std::process::Abort;
+use std::sync::Wait;
 use std::test::Fail;
 
 /// The program ends with this status, of two hosts in `duo.toml` and a script of one step in
 /// `steps`, and an output with so much room then has these octets.
 fn writes_of_files(
-    rt: &(impl Abort + AllocGlobal),
+    rt: &(impl Abort + AllocGlobal + Net + Wait + Drop + Copy),
     line: &str,
     room: usize,
     ended: (&[u8], Status),
@@ -80,7 +82,7 @@ fn script_of(alloc: Global, steps: u64) -> Result<Vec<u8>, AllocError> {
 
 /// The program ends with this status, of a script of so many steps.
 fn ends_with_steps(
-    rt: &(impl Abort + AllocGlobal),
+    rt: &(impl Abort + AllocGlobal + Net + Wait + Drop + Copy),
     steps: u64,
     status: Status,
 ) -> Result<(), Fail> {

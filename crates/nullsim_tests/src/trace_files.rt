@@ -3,7 +3,9 @@
 use crate::fixtures::{empty_file, file_at, two_hosts, writes};
 use nm_command::Status;
 use std::alloc::Global;
+use std::net::Net;
 use std::process::Abort;
+use std::sync::Wait;
 use std::test::Fail;
 
 /// 1,100,000 nanoseconds: 100,000 for 100 octets at 8,000,000 bits per second, and a delay of
@@ -12,7 +14,7 @@ const ARRIVAL: [u8; 8] = [0, 0, 0, 0, 0xe0, 0xc8, 0x10, 0];
 
 /// The program writes these octets of a text for each of these lines of words.
 fn all_write(
-    rt: &(impl Abort + AllocGlobal),
+    rt: &(impl Abort + AllocGlobal + Net + Wait + Drop + Copy),
     text: &str,
     lines: &[&str],
     octets: &[u8],

@@ -12,6 +12,8 @@ returns-clause-ending g c =
     let before = c.args.inputs.now.failures in
     let after = c.perform-status.new.inputs.failures in
     let out = c.perform-status.result.1 in
-    subst (λ command. Ends taken failures told before after c.args.out out command c.report.result) c.of.ensures.value
-    (subst (λ status. Ends taken failures told before after c.args.out out (option_map command_value c.of.result) status) (sym c.report.ensures.status)
+    let made_before = g.F.Outputs.made c.args.outputs.now in
+    let made = g.F.Outputs.made c.perform-status.new.outputs in
+    subst (λ command. Ends taken failures told before after c.args.out out made_before made command c.report.result) c.of.ensures.value
+    (subst (λ status. Ends taken failures told before after c.args.out out made_before made (option_map command_value c.of.result) status) (sym c.report.ensures.status)
     c.perform-status.ensures)

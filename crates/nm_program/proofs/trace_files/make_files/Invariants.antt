@@ -1,0 +1,14 @@
+use Rattle.std.proofs.Common.{◌≤◌, length, take}
+use Rattle.std.specs.List.{enumerate_from, flat_map}
+use Rattle.nm_pcap.specs.declared.form.Form.TheVariants.{Octets}
+use Rattle.nm_program.specs.Node.{file_name, of_own}
+use Rattle.nm_program.specs.Outputs.{HasMade}
+use Rattle.nm_program.specs.TraceFile.{trace_file}
+use Rattle.nm_program.proofs.trace_files.make_files.Given as goal
+
+abbrev pub invariant-loop-number : goal.invariant-loop-number
+invariant-loop-number g l = record {
+  within : l.number ≤ length l.topology.ifaces;
+  made : HasMade (g.F.Outputs.made l.fn.outputs) (g.F.Outputs.made l.outputs)
+      (flat_map (of_own l.topology l.partition (λ n i. (file_name l.folder i, trace_file Octets n l.records))) (enumerate_from 0 (take l.number l.topology.ifaces)));
+}
