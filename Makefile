@@ -1,6 +1,6 @@
 # `make help` lists the targets.
 
-.PHONY: all help try run bench cases check-frames check-links check-pcap test gate-times clean toolchain
+.PHONY: all help try run bench cases check-frames check-links check-pcap cut-connections test gate-times clean toolchain
 
 # The topology and the interface of `make try` and `make run`; the folder of `make cases`; how many crates `make` proves at a time.
 TOPO = examples/duo.toml
@@ -19,6 +19,7 @@ help:
 	@echo 'make check-frames compares the reader of frames with a model of its own over generated streams'
 	@echo 'make check-links breaks the connections of replicas at random octets, with ten thousand seeds, and certifies what they come to'
 	@echo 'make check-pcap  reads the traces of the examples with tshark, or else tcpdump, one of which it needs'
+	@echo 'make cut-connections cuts the connection of two nodes a thousand times, and compares their files with those of the one event list'
 	@echo 'make test        the gate: proves everything from nothing and runs every test; the last line is N passed, M failed'
 	@echo 'make gate-times  the gate, with the processor minutes of each crate (docs/GATE.md)'
 	@echo 'make clean       removes what was built'
@@ -76,6 +77,7 @@ bench: bin/nullsim bin/nm_bench
 	    done; \
 	  done; \
 	done
+	@python3 bench/nodes.py bin/nullsim nulls=1000 nulls=10000 one-way=10000 one-way=100000
 
 cases: bin/nullsim
 	@tools/cases.sh bin/nullsim $(if $(CASES),'$(CASES)',crates/nullsim_cases/data/cases/networks crates/nullsim_cases/data/cases/readings)
@@ -88,6 +90,9 @@ check-links: bin/nm_bench
 
 check-pcap: bin/nullsim
 	@tools/check-pcap bin/nullsim examples/*.toml
+
+cut-connections: bin/nullsim
+	@tools/cut-connections
 
 test: toolchain
 	@rt ci

@@ -232,6 +232,27 @@ def both(packets=5):
     write(20_000_000, net.nodes, net.ifaces, net.links, net.routes, sources)
 
 
+def pair(stop, packets=0, interval=20_000):
+    """Two hosts in two partitions: the first sends datagrams to the second. Each null message raises a clock by 1,001,000 ns at most."""
+    net = Net()
+    net.node("a", "host")
+    net.node("b", "host", 1)
+    net.link("a", "b", 8_000_000_000 if packets else 8_000_000, 1_000_000)
+    net.reach("b", net.address("b") + "/32")
+    write(stop, net.nodes, net.ifaces, net.links, net.routes,
+          [cbr("a", net.address("b"), 100 - HEADERS, 0, interval, packets)] if packets else [])
+
+
+def nulls(rounds=1_000):
+    """Two partitions that tell each other nothing but null messages, so many each way in turn."""
+    pair(rounds * 1_001_000)
+
+
+def one_way(packets=10_000):
+    """Two partitions, the first of which sends so many messages to the second."""
+    pair(packets * 20_000 + 10_000_000, packets)
+
+
 def spread(packets):
     """Delays from a microsecond to a second, in equal ratios: arrivals come in no order."""
     hub(packets, lambda part: round(1_000 * 1_000_000 ** part))
@@ -281,6 +302,8 @@ KINDS = {
     "spread": spread,
     "channels": channels,
     "both": both,
+    "nulls": nulls,
+    "one-way": one_way,
 }
 
 if __name__ == "__main__":
