@@ -1,4 +1,5 @@
 pub mod Beginnings
+pub mod BookTimes
 mod Gatherings
 pub mod Incoming
 mod Runnings

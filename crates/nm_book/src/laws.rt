@@ -1,6 +1,7 @@
 //! Laws of replicas, whoever told them what they know.
 
-ghost use Rattle.std.specs.Prelude.{◌≡◌, ℕ, ◌<◌, ◌≤◌, true, Some, length};
+ghost use Rattle.std.specs.Prelude.{◌≡◌, ℕ, ◌<◌, ◌≤◌, true, All, Some, length};
+ghost use Rattle.nm_base.specs.declared.limits.TheConstants.{MAX_TIME};
 ghost use Rattle.nm_model.specs.Lists.{IsPrefix};
 ghost use Rattle.nm_model.specs.Network.{IsNet};
 ghost use Rattle.nm_model.specs.Partition.{comes_in};
@@ -18,7 +19,9 @@ use nm_model::promise::{promises_kept, promises_never_fall};
 use nm_model::replica::{equal_knowledge_gives_equal_states, law_of_books, what_was_done_stays};
 use nm_sim::network::{channels_are_those_of_the_network, every_topology_is_a_network};
 use nm_topology::Topology;
-use nm_topology::topology::channels_are_numbered_by_their_receivers;
+use nm_topology::topology::{
+    accepted_topologies_are_in_order, channels_are_numbered_by_their_receivers,
+};
 
 /// What the laws rely on of a topology.
 fn network_of(topology: &Topology)
@@ -90,4 +93,12 @@ pub fn the_old_promise_is_no_later(book: &Book)
 {
     promises_kept::<Packet, NodeState>(); // law: it is earlier by the least transmission at least
     let _topology = book.topology();
+}
+
+/// Each record of a replica's trace has a time that a trace file can say.
+pub fn records_have_times_of_a_file(book: &Book)
+    ensures { All (λ r. r.time ≤ MAX_TIME) (state_of book.now).records }
+{
+    accepted_topologies_are_in_order(book.topology()); // law: `stop` is within its limit
+    let _events = book.events(); // they are before the safe time
 }

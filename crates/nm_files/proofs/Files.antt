@@ -1,0 +1,126 @@
+-- Trace files that are written side by side.
+use Rattle.std.proofs.Common.{◌≡◌, ◌⊎◌, inl, inr, ℕ, ◌==◌, ◌<◌, ◌≤◌, true, false, Bool, Option, Some, None, List, [], ◌∷◌, length, get_or, set, length-set, take, ◌+◌, ◌++◌, slice_get, slice_set, Result, Ok, Err, OnOk, refl, sym, ◌∙◌, ap, subst, arith, rules}
+use Rattle.std.proofs.lemmas.List.{get_or-set_same, get_or-set_other}
+use Rattle.std.proofs.lemmas.Option.{slice_get_within, get_or_from_slice_get, slice_get-get_or}
+use Rattle.std.proofs.lemmas.Bool.Decides.{nat_tests}
+use Rattle.std.specs.Io.KnownBytes.{Appends}
+use Rattle.nm_base.proofs.Sinks.{Appends-append}
+use Rattle.nm_base.specs.declared.record.Record.{Record}
+use Rattle.nm_pcap.specs.Format.{record_octets}
+use Rattle.nm_pcap.specs.Outcome.{AddedAll}
+use Rattle.nm_pcap.specs.Writer.{Writer}
+use Rattle.nm_pcap.specs.Writing.{written}
+use Rattle.nm_files.specs.Files.{FileTook, FilesTook, Took}
+use Rattle.nm_files.specs.TraceFile.{written_at}
+use Rattle.nm_files.proofs.Pieces.{WroteAll-nil}
+use Rattle.nm_files.proofs.Records.{one_more, written_at-append, written_elsewhere, written_there}
+use Rattle.nm_pcap.proofs.Forms.{written-nil}
+
+pub on_ok : {T E : Type 0} {A B : Type 0} (r : Result T E) → (A → B) → OnOk r A → OnOk r B
+on_ok (Ok x) f a = f a
+on_ok (Err e) f a = tt
+
+module _ {S : Type 0} (taken : S → Option (List ℕ)) (failures : S → ℕ) (r : Record (List ℕ)) where
+  -- the record's own file took it
+  pub own_took : (old new : Writer S) (n : ℕ) → r.iface ≡ n → AddedAll taken failures old new (written old.form (record_octets r)) → Took taken failures (r ∷ []) n old new
+  own_took old new n here w =
+      let same : (r.iface == n) ≡ true = grind (arith, nat_tests, here) in
+      record {
+        whole = subst (Appends (taken old.sink) (taken new.sink)) (sym (written_there old.form n r same)) w.whole;
+        no_fault = w.no_fault;
+        same_form = w.same_form;
+      }
+
+  -- another file took nothing of it
+  other_took : (n : ℕ) (o : Option (Writer S)) → (r.iface == n) ≡ false → FileTook taken failures (r ∷ []) n o o
+  other_took n None other = tt
+  other_took n (Some file) other = record {
+    whole = subst (Appends (taken file.sink) (taken file.sink)) (sym (written_elsewhere file.form n r other)) (WroteAll-nil taken failures file.sink).whole;
+    no_fault = refl;
+    same_form = refl;
+  }
+
+  same_file : (n : ℕ) (o p : Option (Writer S)) → p ≡ o → (r.iface == n) ≡ false → FileTook taken failures (r ∷ []) n o p
+  same_file n o p same other = subst (FileTook taken failures (r ∷ []) n o) (sym same) (other_took n o other)
+
+  -- no file is the record's own
+  pub none_took : (files : List (Option (Writer S))) → length files ≤ r.iface → FilesTook taken failures (r ∷ []) files files
+  none_took files far = record {
+    count = refl;
+    each = λ n o p old new.
+        let low = slice_get_within files n o old in
+        same_file n o p (let e : Some p ≡ Some o = sym new ∙ old in cc) (grind (arith, nat_tests, arith, far, low));
+  }
+
+  -- one is
+  pub one_took : (files : List (Option (Writer S))) (k : ℕ) (own new : Option (Writer S)) → k ≡ r.iface → k < length files → slice_get files k ≡ Some own
+      → FileTook taken failures (r ∷ []) r.iface own new → FilesTook taken failures (r ∷ []) files (slice_set files k new)
+  one_took files k own new is low there own_did = record {
+    count = length-set files k new;
+    each = λ n o p old at. pick n o p old at (n == k) refl;
+  }
+    where
+      took : FileTook taken failures (r ∷ []) k own new
+      took = subst (λ m. FileTook taken failures (r ∷ []) m own new) (sym is) own_did
+
+      pick : (n : ℕ) (o p : Option (Writer S)) → slice_get files n ≡ Some o → slice_get (slice_set files k new) n ≡ Some p → (b : Bool) → (n == k) ≡ b → FileTook taken failures (r ∷ []) n o p
+      pick n o p old at true same =
+          let here : n ≡ k = grind (arith, nat_tests, same) in
+          let first : get_or (set files k new) k p ≡ p = get_or_from_slice_get (set files k new) k p p (subst (λ m. slice_get (set files k new) m ≡ Some p) here at) in
+          let is_new : new ≡ p = sym (get_or-set_same files k new p low) ∙ first in
+          let was : Some o ≡ Some own = sym old ∙ ap (slice_get files) here ∙ there in
+          let is_own : own ≡ o = cc in
+          subst (λ m. FileTook taken failures (r ∷ []) m o p) (sym here) (subst (λ z. FileTook taken failures (r ∷ []) k z p) is_own (subst (FileTook taken failures (r ∷ []) k own) is_new took))
+      pick n o p old at false other =
+          let away : n ≡ k → ⊥ = λ e. grind (arith, nat_tests, other, e) in
+          let first : get_or (set files k new) n p ≡ p = get_or_from_slice_get (set files k new) n p p at in
+          let kept : get_or files n p ≡ p = sym (get_or-set_other files k n new p away) ∙ first in
+          let was : get_or files n p ≡ o = get_or_from_slice_get files n o p old in
+          same_file n o p (sym kept ∙ was) (grind (arith, nat_tests, other, is))
+
+module _ {S : Type 0} (taken : S → Option (List ℕ)) (failures : S → ℕ) where
+  none_yet : (n : ℕ) (o p : Option (Writer S)) → p ≡ o → FileTook taken failures [] n o p
+  none_yet n None p same = subst (FileTook taken failures [] n None) (sym same) tt
+  none_yet n (Some file) p same = subst (FileTook taken failures [] n (Some file)) (sym same) (record {
+    whole = subst (Appends (taken file.sink) (taken file.sink)) (sym (written-nil file.form)) (WroteAll-nil taken failures file.sink).whole;
+    no_fault = refl;
+    same_form = refl;
+  })
+
+  -- of no records all files took what is theirs
+  pub no_records : (files : List (Option (Writer S))) → FilesTook taken failures [] files files
+  no_records files = record {
+    count = refl;
+    each = λ n o p old new. none_yet n o p (let e : Some p ≡ Some o = sym new ∙ old in cc);
+  }
+
+  file_more : (xs ys : List (Record (List ℕ))) (n : ℕ) (o m p : Option (Writer S)) → FileTook taken failures xs n o m → FileTook taken failures ys n m p → FileTook taken failures (xs ++ ys) n o p
+  file_more xs ys n None None None v w = tt
+  file_more xs ys n None None (Some p) v w = absurd w
+  file_more xs ys n None (Some m) p v w = absurd v
+  file_more xs ys n (Some o) None p v w = absurd v
+  file_more xs ys n (Some o) (Some m) None v w = absurd w
+  file_more xs ys n (Some o) (Some m) (Some p) v w = record {
+    whole = subst (Appends (taken o.sink) (taken p.sink)) (sym (written_at-append o.form n xs ys))
+        (Appends-append (taken o.sink) (taken m.sink) (taken p.sink) (written_at o.form n xs) (written_at o.form n ys) v.whole
+        (subst (λ f. Appends (taken m.sink) (taken p.sink) (written_at f n ys)) v.same_form w.whole));
+    no_fault = w.no_fault ∙ v.no_fault;
+    same_form = w.same_form ∙ v.same_form;
+  }
+
+  -- and of more
+  pub more_records : (xs ys : List (Record (List ℕ))) (old mid new : List (Option (Writer S))) → FilesTook taken failures xs old mid → FilesTook taken failures ys mid new → FilesTook taken failures (xs ++ ys) old new
+  more_records xs ys old mid new v w = record {
+    count = w.count ∙ v.count;
+    each = λ n o p first last.
+        let low = slice_get_within old n o first in
+        let same = v.count in
+        let at = slice_get-get_or mid n o (omega (arith, low, same)) in
+        file_more xs ys n o (get_or mid n o) p (v.each n o (get_or mid n o) first at) (w.each n (get_or mid n o) p at last);
+  }
+
+  -- after the first n records one more
+  pub next_record : (records : List (Record (List ℕ))) (n : ℕ) (r : Record (List ℕ)) (old mid new : List (Option (Writer S))) → slice_get records n ≡ Some r
+      → FilesTook taken failures (take n records) old mid → FilesTook taken failures (r ∷ []) mid new → FilesTook taken failures (take (n + 1) records) old new
+  next_record records n r old mid new is v w =
+      subst (λ l. FilesTook taken failures l old new) (sym (one_more records n (n + 1) r is refl)) (more_records (take n records) (r ∷ []) old mid new v w)

@@ -1,0 +1,107 @@
+-- What is written of records.
+use Rattle.std.proofs.Common.{◌≡◌, ℕ, ◌+◌, ◌==◌, true, false, cond, List, [], ◌∷◌, ◌++◌, length, take, drop, flat_map, Option, Some, Result, Err, Ok, slice_get, append-nil, add-one, sym, ◌∙◌, ap, subst, arith}
+use Rattle.std.proofs.Math.Seq.{take-suc}
+use Rattle.std.proofs.lemmas.Grind.{flat_map-append}
+use Rattle.std.proofs.lemmas.List.{take_all, take-append-drop}
+use Rattle.std.proofs.lemmas.List.Elements.{filter-append}
+use Rattle.std.proofs.lemmas.Option.{slice_get_within, get_or_from_slice_get}
+use Rattle.nm_base.specs.declared.record.Record.{Record}
+use Rattle.nm_pcap.specs.declared.form.Form.{Form}
+use Rattle.nm_pcap.specs.Format.{file_header, record_octets}
+use Rattle.nm_pcap.specs.Writer.{Writer}
+use Rattle.nm_pcap.specs.Writing.{ending, written}
+use Rattle.nm_pcap.proofs.Forms.{written-append, written-nil}
+use Rattle.nm_files.specs.declared.trace_file.TraceFault.{TraceFault}
+use Rattle.nm_files.specs.TraceFile.{records_at, trace_file, written_at}
+use Rattle.nm_files.specs.Writing.{WrotePart, WroteOn, WritesOn}
+use Rattle.nm_files.proofs.Pieces.{WroteAll-part, WroteOn-nil, WritesOn-after, WritesOn-more}
+
+pub written_at-append : (form : Form) (iface : ℕ) (a b : List (Record (List ℕ))) → written_at form iface (a ++ b) ≡ written_at form iface a ++ written_at form iface b
+written_at-append form iface a b =
+    ap (λ l. written form (flat_map record_octets l)) (filter-append (λ r. r.iface == iface) a b)
+    ∙ ap (written form) (flat_map-append record_octets (records_at iface a) (records_at iface b))
+    ∙ written-append form (flat_map record_octets (records_at iface a)) (flat_map record_octets (records_at iface b))
+
+pub written_there : (form : Form) (iface : ℕ) (r : Record (List ℕ)) → (r.iface == iface) ≡ true → written_at form iface (r ∷ []) ≡ written form (record_octets r)
+written_there form iface r h =
+    ap (λ b. written form (flat_map record_octets (cond b (r ∷ []) []))) h ∙ ap (written form) (append-nil (record_octets r))
+
+pub written_elsewhere : (form : Form) (iface : ℕ) (r : Record (List ℕ)) → (r.iface == iface) ≡ false → written_at form iface (r ∷ []) ≡ []
+written_elsewhere form iface r h = ap (λ b. written form (flat_map record_octets (cond b (r ∷ []) []))) h ∙ written-nil form
+
+-- a trace file is its header, its records and what stands at its end
+pub file_parts : (form : Form) (iface : ℕ) (records : List (Record (List ℕ))) → trace_file form iface records ≡ (written form file_header ++ written_at form iface records) ++ ending form
+file_parts form iface records = ap (λ l. l ++ ending form) (written-append form file_header (flat_map record_octets (records_at iface records)))
+
+-- one more record of a list
+pub one_more : (records : List (Record (List ℕ))) (n m : ℕ) (r : Record (List ℕ)) → slice_get records n ≡ Some r → m ≡ n + 1 → take m records ≡ take n records ++ r ∷ []
+one_more records n m r is next =
+    ap (λ k. take k records) (next ∙ add-one n) ∙ take-suc records n r (slice_get_within records n r is)
+    ∙ ap (λ x. take n records ++ x ∷ []) (get_or_from_slice_get records n r r is)
+
+-- a list is its first so many, and the others
+parts_at : (form : Form) (iface : ℕ) (records : List (Record (List ℕ))) (n : ℕ) → written_at form iface records ≡ written_at form iface (take n records) ++ written_at form iface (drop n records)
+parts_at form iface records n =
+    ap (written_at form iface) (sym (take-append-drop n records)) ∙ written_at-append form iface (take n records) (drop n records)
+
+module _ {S : Type 0} (taken : S → Option (List ℕ)) (failures : S → ℕ) (iface : ℕ) (records : List (Record (List ℕ))) where
+  -- no record was written so far
+  pub no_record : (old : Writer S) (n : ℕ) → n ≡ 0 → old.failed ≡ false → WroteOn taken failures old old (written_at old.form iface (take n records))
+  no_record old n none sound =
+      subst (WroteOn taken failures old old) (sym (ap (λ k. written_at old.form iface (take k records)) none ∙ written-nil old.form)) (WroteOn-nil taken failures old sound)
+
+  -- after the first n records one more was dealt with, whatever came of it
+  after_record : (old mid new : Writer S) (outcome : Result Unit TraceFault) (n m : ℕ) (r : Record (List ℕ)) → slice_get records n ≡ Some r → m ≡ n + 1
+      → WroteOn taken failures old mid (written_at old.form iface (take n records)) → WritesOn taken failures mid new outcome (written_at mid.form iface (r ∷ []))
+      → WritesOn taken failures old new outcome (written_at old.form iface (take m records))
+  after_record old mid new outcome n m r is next v w =
+      subst (WritesOn taken failures old new outcome) (sym (ap (written_at old.form iface) (one_more records n m r is next) ∙ written_at-append old.form iface (take n records) (r ∷ [])))
+      (WritesOn-after taken failures old mid new outcome (written_at old.form iface (take n records)) (written_at old.form iface (r ∷ [])) v
+      (subst (λ f. WritesOn taken failures mid new outcome (written_at f iface (r ∷ []))) v.same_form w))
+
+  pub next_record : (old mid new : Writer S) (n m : ℕ) (r : Record (List ℕ)) → slice_get records n ≡ Some r → m ≡ n + 1
+      → WroteOn taken failures old mid (written_at old.form iface (take n records)) → WroteOn taken failures mid new (written_at mid.form iface (r ∷ []))
+      → WroteOn taken failures old new (written_at old.form iface (take m records))
+  next_record old mid new n m r is next v w = after_record old mid new (Ok tt) n m r is next v w
+
+  pub last_record : (old mid new : Writer S) (e : TraceFault) (n m : ℕ) (r : Record (List ℕ)) → slice_get records n ≡ Some r → m ≡ n + 1
+      → WroteOn taken failures old mid (written_at old.form iface (take n records)) → WritesOn taken failures mid new (Err e) (written_at mid.form iface (r ∷ []))
+      → WritesOn taken failures old new (Err e) (written_at old.form iface records)
+  last_record old mid new e n m r is next v w =
+      subst (WritesOn taken failures old new (Err e)) (sym (parts_at old.form iface records m))
+      (WritesOn-more taken failures old new e _ _ (after_record old mid new (Err e) n m r is next v w))
+
+  -- the records are all, or they are some
+  pub all_records : (old new : Writer S) (n : ℕ) → n ≡ length records → WroteOn taken failures old new (written_at old.form iface (take n records)) → WroteOn taken failures old new (written_at old.form iface records)
+  all_records old new n all w = subst (λ l. WroteOn taken failures old new (written_at old.form iface l)) (take_all n records (omega (arith, all))) w
+
+  pub some_records : (old new : Writer S) (n : ℕ) → WroteOn taken failures old new (written_at old.form iface (take n records)) → WrotePart taken failures old.sink new.sink (written_at old.form iface records)
+  some_records old new n w =
+      subst (WrotePart taken failures old.sink new.sink) (sym (parts_at old.form iface records n))
+      (WroteAll-part taken failures old.sink new.sink (written_at old.form iface (take n records)) (written_at old.form iface (drop n records)) w.all)
+
+  -- the file is cut short in its header, or in its records, or it is written as far as its end
+  pub cut_in_header : (old new : Writer S) (e : TraceFault) → WritesOn taken failures old new (Err e) (written old.form file_header) → WritesOn taken failures old new (Err e) (trace_file old.form iface records)
+  cut_in_header old new e w =
+      subst (WritesOn taken failures old new (Err e)) (sym (file_parts old.form iface records))
+      (WritesOn-more taken failures old new e _ (ending old.form) (WritesOn-more taken failures old new e (written old.form file_header) (written_at old.form iface records) w))
+
+  pub after_header : (old mid new : Writer S) (outcome : Result Unit TraceFault) → WroteOn taken failures old mid (written old.form file_header) → WritesOn taken failures mid new outcome (written_at mid.form iface records)
+      → WritesOn taken failures old new outcome (written old.form file_header ++ written_at old.form iface records)
+  after_header old mid new outcome v w =
+      WritesOn-after taken failures old mid new outcome (written old.form file_header) (written_at old.form iface records) v
+      (subst (λ f. WritesOn taken failures mid new outcome (written_at f iface records)) v.same_form w)
+
+  pub cut_in_records : (old mid new : Writer S) (e : TraceFault) → WroteOn taken failures old mid (written old.form file_header) → WritesOn taken failures mid new (Err e) (written_at mid.form iface records)
+      → WritesOn taken failures old new (Err e) (trace_file old.form iface records)
+  cut_in_records old mid new e v w =
+      subst (WritesOn taken failures old new (Err e)) (sym (file_parts old.form iface records))
+      (WritesOn-more taken failures old new e _ (ending old.form) (after_header old mid new (Err e) v w))
+
+  pub to_the_end : (old mid late new : Writer S) (outcome : Result Unit TraceFault) → WroteOn taken failures old mid (written old.form file_header) → WroteOn taken failures mid late (written_at mid.form iface records)
+      → WritesOn taken failures late new outcome (ending late.form) → WritesOn taken failures old new outcome (trace_file old.form iface records)
+  to_the_end old mid late new outcome v w x =
+      subst (WritesOn taken failures old new outcome) (sym (file_parts old.form iface records))
+      (WritesOn-after taken failures old late new outcome (written old.form file_header ++ written_at old.form iface records) (ending old.form)
+      (after_header old mid late (Ok tt) v w)
+      (subst (λ f. WritesOn taken failures late new outcome (ending f)) (w.same_form ∙ v.same_form) x))

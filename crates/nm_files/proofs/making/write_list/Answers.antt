@@ -1,0 +1,33 @@
+use Rattle.std.proofs.Common.{◌≡◌, ◌≤◌, ◌<◌, ◌+◌, length, Some, refl, sym, ap, ◌∙◌, arith, rules}
+use Rattle.std.proofs.lemmas.Result.{err_from_is_err_and}
+use Rattle.std.proofs.lemmas.Option.{slice_get-get_or}
+use Rattle.nm_files.proofs.Records.{last_record, next_record, no_record}
+use Rattle.nm_files.proofs.making.write_list.Goals as goal
+
+pub loop-number-init : goal.loop-number-init
+loop-number-init g c = record {
+  within = omega arith;
+  sound = c.requires.sound;
+  front = no_record g.S.Sink.taken g.S.Sink.failures c.args.iface c.args.records.now c.args.file.now 0 refl c.requires.sound;
+}
+
+pub returns-in_err-write_at : goal.returns-in_err-write_at
+returns-in_err-write_at g c =
+    let p = err_from_is_err_and c.from_residual.result c.from_residual.ensures.1 in
+    let n = c.loop-number.number in
+    let low : n < length c.args.records.now = search rules in
+    let is = slice_get-get_or c.args.records.now n c.index-records-number.result low ∙ ap (λ r. Some r) (sym c.index-records-number.is) in
+    rw (p.1, p.2) (last_record g.S.Sink.taken g.S.Sink.failures c.args.iface c.args.records.now c.args.file.now c.loop-number.file c.write_at.new.file _ n (n + 1) c.index-records-number.result is refl
+    c.loop-number.invariant.front c.in_err-write_at.ensures)
+
+pub loop-number-preserved : goal.loop-number-preserved
+loop-number-preserved g c =
+    let n = c.loop-number.number in
+    let low : n < length c.args.records.now = search rules in
+    let is = slice_get-get_or c.args.records.now n c.index-records-number.result low ∙ ap (λ r. Some r) (sym c.index-records-number.is) in
+    record {
+      within = omega (arith, low);
+      sound = c.in_ok-write_at.ensures.sound;
+      front = next_record g.S.Sink.taken g.S.Sink.failures c.args.iface c.args.records.now c.args.file.now c.loop-number.file c.write_at.new.file n (n + 1) c.index-records-number.result is refl
+          c.loop-number.invariant.front c.in_ok-write_at.ensures;
+    }

@@ -1,0 +1,28 @@
+-- Trace files that are written side by side. File n is that of interface n.
+use Rattle.std.specs.Prelude.{◌≡◌, ℕ, false, List, length, slice_get, Option, Some, None}
+use Rattle.std.specs.Io.KnownBytes.{Appends}
+use Rattle.nm_base.specs.declared.record.Record.{Record}
+use Rattle.nm_pcap.specs.Writer.{Writer}
+use Rattle.nm_files.specs.TraceFile.{written_at}
+
+-- a file may be written on, if there is one
+abbrev pub IsSound : {S : Type 0} → Option (Writer S) → Type 0
+IsSound None = Unit {0}
+IsSound (Some file) = file.failed ≡ false
+
+module _ {S : Type 0} (taken : S → Option (List ℕ)) (failures : S → ℕ) (records : List (Record (List ℕ))) where
+  -- of these records the file took those that are at interface n, and did not fail
+  pub record Took (n : ℕ) (old new : Writer S) : Type 0 where
+    pub whole : Appends (taken old.sink) (taken new.sink) (written_at old.form n records)
+    pub no_fault : failures new.sink ≡ failures old.sink
+    pub same_form : new.form ≡ old.form
+
+  abbrev pub FileTook : ℕ → Option (Writer S) → Option (Writer S) → Type 0
+  FileTook n None None = Unit {0}
+  FileTook n None (Some new) = ⊥
+  FileTook n (Some old) None = ⊥
+  FileTook n (Some old) (Some new) = Took n old new
+
+  pub record FilesTook (old new : List (Option (Writer S))) : Type 0 where
+    pub count : length new ≡ length old
+    pub each : (n : ℕ) (o p : Option (Writer S)) → slice_get old n ≡ Some o → slice_get new n ≡ Some p → FileTook n o p

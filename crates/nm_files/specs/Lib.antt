@@ -1,0 +1,5 @@
+pub mod Outputs
+pub mod Names
+pub mod TraceFile
+pub mod Writing
+pub mod Files

@@ -1,0 +1,67 @@
+//! Trace files that are made at one go.
+
+ghost use Rattle.std.specs.Prelude.{◌≡◌, ◌≤◌, ◌∷◌, [], true, false, All};
+ghost use Rattle.nm_base.specs.declared.limits.TheConstants.{MAX_TIME};
+ghost use Rattle.nm_pcap.specs.declared.form.Form.TheVariants.{Octets};
+ghost use Rattle.nm_files.specs.Outputs.{HasMade};
+ghost use Rattle.nm_files.specs.TraceFile.{trace_file, written_at};
+ghost use Rattle.nm_files.specs.Writing.{WritesOn};
+
+use crate::outputs::Outputs;
+use crate::trace_file::{TraceFault, sink_outcome, write_at};
+use nm_base::{IfaceNo, Record, Sink};
+use nm_pcap::PcapOut;
+
+/// Writes those of the records that are at the interface.
+fn write_list<S: Sink>(
+    iface: IfaceNo,
+    records: &[Record],
+    file: &mut PcapOut<S>,
+) -> Result<(), TraceFault>
+    requires sound { file.old.failed ≡ false }
+    requires times { All (λ r. r.time ≤ MAX_TIME) records.now }
+    ensures { WritesOn S.taken S.failures file.old file.new result
+        (written_at file.old.form iface records.now) }
+{
+    for number in 0..records.len() {
+        write_at(iface, &records[number], file)?;
+    }
+    Ok(())
+}
+
+/// Writes the trace file of an interface with these records, of which nothing was written.
+fn write_whole<S: Sink>(
+    iface: IfaceNo,
+    records: &[Record],
+    file: &mut PcapOut<S>,
+) -> Result<(), TraceFault>
+    requires sound { file.old.failed ≡ false }
+    requires times { All (λ r. r.time ≤ MAX_TIME) records.now }
+    ensures { WritesOn S.taken S.failures file.old file.new result
+        (trace_file file.old.form iface records.now) }
+{
+    sink_outcome(file.start())?;
+    write_list(iface, records, file)?;
+    sink_outcome(file.end())
+}
+
+/// Makes the trace file of an interface with this name and these records: whether it was made.
+pub fn make_file<F: Outputs>(
+    outputs: &mut F,
+    name: &str,
+    iface: IfaceNo,
+    records: &[Record],
+) -> bool
+    requires { All (λ r. r.time ≤ MAX_TIME) records.now }
+    ensures { result ≡ true → HasMade (F.made outputs.old) (F.made outputs.new)
+        ((name.now, trace_file Octets iface records.now) ∷ []) }
+{
+    let Some(sink) = outputs.create(name) else {
+        return false;
+    };
+    let mut file = PcapOut::new(sink);
+    if write_whole(iface, records, &mut file).is_err() {
+        return false;
+    }
+    outputs.close(name, file.into_sink())
+}

@@ -1,0 +1,186 @@
+//! The trace files of a replica, written as its records are handed out.
+
+ghost use Rattle.std.specs.Prelude.{◌≡◌, ◌≤◌, ◌∷◌, [], false, All, IfErr, IfOk, OnOk};
+ghost use Rattle.nm_base.specs.declared.limits.TheConstants.{MAX_TIME};
+ghost use Rattle.nm_files.specs.Files.{FileTook, FilesTook, IsSound};
+
+use nm_base::{IfaceNo, Record, Sink};
+use nm_pcap::{PcapFault, PcapOut};
+use std::alloc::{AllocError, AllocFailed, Global};
+use thiserror::Error;
+
+/// The trace file of an interface failed. It has so many octets, from the front of what it was to
+/// have, which stops at 2^64 - 1.
+#[derive(Clone, Copy, Debug, PartialEq, Eq, Error)]
+#[error("a trace file failed after {written} octets")]
+pub struct FileFault {
+    pub iface: IfaceNo,
+    pub written: u64,
+}
+
+/// Why trace files were not opened, or not written on.
+#[derive(Clone, Copy, Debug, PartialEq, Eq, Error)]
+pub enum FilesFault {
+    /// The file failed.
+    #[error("{0}")]
+    File(FileFault),
+    /// Memory was refused.
+    #[error("out of memory")]
+    Memory,
+}
+
+impl From<FileFault> for FilesFault {
+    fn from(fault: FileFault) -> Self {
+        FilesFault::File(fault)
+    }
+}
+
+impl From<AllocError> for FilesFault {
+    fn from(_: AllocError) -> Self {
+        FilesFault::Memory
+    }
+}
+
+impl<T: Drop> From<AllocFailed<T>> for FilesFault {
+    fn from(_: AllocFailed<T>) -> Self {
+        FilesFault::Memory
+    }
+}
+
+/// Trace files that are written side by side, by the numbers of their interfaces. An interface may
+/// have none.
+#[derive(Drop)]
+pub struct TraceFiles<S> {
+    files: Vec<Option<PcapOut<S>>>,
+}
+
+/// A file whose header is written.
+fn begun<S: Sink + Drop>(iface: IfaceNo, sink: S) -> Result<PcapOut<S>, FilesFault>
+    ensures { IfOk result (λ f. f.failed ≡ false) }
+{
+    let mut file = PcapOut::new(sink);
+    match file.start() {
+        Ok(()) => Ok(file),
+        Err(PcapFault::File { written }) => Err(FilesFault::File(FileFault { iface, written })),
+        Err(PcapFault::Failed) => unreachable!(),
+    }
+}
+
+/// Writes a record to its file, if there is one.
+fn put_in<S: Sink>(
+    iface: IfaceNo,
+    file: &mut Option<PcapOut<S>>,
+    record: &Record,
+) -> Result<(), FileFault>
+    requires time { «record».now.time ≤ MAX_TIME }
+    requires here { «record».now.iface ≡ iface }
+    requires sound { IsSound file.old }
+    ensures took { OnOk result
+        (FileTook S.taken S.failures («record».now ∷ []) iface file.old file.new) }
+    ensures sound { OnOk result (IsSound file.new) }
+    ensures fault { IfErr result (λ f. f.iface ≡ iface) }
+{
+    let Some(file) = file else {
+        return Ok(());
+    };
+    match file.put(record) {
+        Ok(()) => Ok(()),
+        Err(PcapFault::File { written }) => Err(FileFault { iface, written }),
+        Err(PcapFault::Failed) => unreachable!(),
+    }
+}
+
+impl<S> TraceFiles<S> {
+    /// No files.
+    pub fn new(alloc: Global) -> Self
+        ensures { result.files.items ≡ [] }
+    {
+        TraceFiles {
+            files: Vec::new(alloc),
+        }
+    }
+
+    /// Whether no interface has one.
+    pub fn is_empty(&self) -> bool {
+        self.files.is_empty()
+    }
+
+    /// Takes the file of an interface out, if it has one.
+    pub fn take(&mut self, iface: IfaceNo) -> Option<PcapOut<S>> {
+        let number = iface.index();
+        if number >= self.files.len() {
+            return None;
+        }
+        self.files[number].take()
+    }
+}
+
+impl<S: Sink + Drop> TraceFiles<S> {
+    /// The next interface has no file.
+    ///
+    /// # Errors
+    ///
+    /// Where memory was refused. No interface was added then.
+    pub fn skip(&mut self) -> Result<(), AllocError>
+        requires { All IsSound self.old.files.items }
+        ensures { All IsSound self.new.files.items }
+    {
+        self.files.push(None)?;
+        Ok(())
+    }
+
+    /// The next interface has this file, whose header is written.
+    ///
+    /// # Errors
+    ///
+    /// `File` where the file failed: it has a prefix of the header. `Memory` where memory was
+    /// refused. No interface was added then.
+    pub fn open(&mut self, iface: IfaceNo, sink: S) -> Result<(), FilesFault>
+        requires { All IsSound self.old.files.items }
+        ensures { All IsSound self.new.files.items }
+    {
+        let file = begun(iface, sink)?;
+        self.files.push(Some(file))?;
+        Ok(())
+    }
+}
+
+impl<S: Sink> TraceFiles<S> {
+    /// Writes a record to the file of its interface, if that has one.
+    ///
+    /// # Errors
+    ///
+    /// Where that file failed. It has a prefix of what it was to have, and is not written on.
+    pub fn put(&mut self, record: &Record) -> Result<(), FileFault>
+        requires time { «record».now.time ≤ MAX_TIME }
+        requires sound { All IsSound self.old.files.items }
+        ensures took { OnOk result (FilesTook S.taken S.failures («record».now ∷ [])
+            self.old.files.items self.new.files.items) }
+        ensures sound { OnOk result (All IsSound self.new.files.items) }
+        ensures fault { IfErr result (λ f. f.iface ≡ «record».now.iface) }
+    {
+        let number = record.iface.index();
+        if number >= self.files.len() {
+            return Ok(());
+        }
+        put_in(record.iface, &mut self.files[number], record)
+    }
+
+    /// Writes records to the files of their interfaces, in order.
+    ///
+    /// # Errors
+    ///
+    /// Where a file failed: it has a prefix of what it was to have, and no file is written on.
+    pub fn put_all(&mut self, records: &[Record]) -> Result<(), FileFault>
+        requires time { All (λ r. r.time ≤ MAX_TIME) records.now }
+        requires sound { All IsSound self.old.files.items }
+        ensures took { OnOk result (FilesTook S.taken S.failures records.now
+            self.old.files.items self.new.files.items) }
+        ensures sound { OnOk result (All IsSound self.new.files.items) }
+    {
+        for number in 0..records.len() {
+            self.put(&records[number])?;
+        }
+        Ok(())
+    }
+}
