@@ -3,7 +3,7 @@ use Rattle.std.proofs.Common.{◌≡◌, ℕ, ◌+◌, ◌≤◌, leb, Bool, tru
 use Rattle.std.proofs.lemmas.Bool.{leb-true, true≢false}
 use Rattle.nm_shared.specs.Known.{Home}
 use Rattle.nm_net.specs.declared.ending.Ending.{Ending}
-use Rattle.nm_net.specs.declared.ending.Ending.TheVariants.{Ended, Net, Memory, Stalled}
+use Rattle.nm_net.specs.declared.ending.Ending.TheVariants.{Ended, Net, Memory, File, Stalled}
 use Rattle.nm_net.specs.Ending.{EndsEarly, EndsWith, WasFinished, ending_of}
 
 abbrev ending_in : Option Ending → Ending
@@ -19,6 +19,7 @@ module _ (exact : Bool) (own : Home) (limit before after : ℕ) where
   early_ends Ended h = absurd h
   early_ends Net h = tt
   early_ends Memory h = tt
+  early_ends (File iface written) h = tt
   early_ends (Stalled polls) h = absurd h
 
   pub polled_ends : (is_done : Bool) (idle polls : ℕ) (e : Ending) → ending_of is_done idle limit polls ≡ Some e → (is_done ≡ true → WasFinished exact own) → before + idle ≤ after

@@ -1,3 +1,4 @@
 pub mod Owners
 pub mod Greeting
 pub mod Endings
+pub mod Recordings

@@ -7,7 +7,7 @@ use Rattle.nm_model.specs.Certificate.{is_done}
 use Rattle.nm_shared.specs.Known.{Home, home_of}
 use Rattle.nm_sim.specs.Network.{net_of}
 use Rattle.nm_net.specs.declared.ending.Ending.{Ending}
-use Rattle.nm_net.specs.declared.ending.Ending.TheVariants.{Ended, Net, Memory, Stalled}
+use Rattle.nm_net.specs.declared.ending.Ending.TheVariants.{Ended, Net, Memory, File, Stalled}
 use Rattle.nm_net.specs.declared.limits.TheConstants.{MAX_POLLS}
 
 -- how a replica ends because a link broke: not, where its wire did, or where who said no Hello spoke nonsense
@@ -33,6 +33,7 @@ abbrev pub EndsWith : Bool → Home → (limit before after : ℕ) → Ending �
 EndsWith exact own limit before after Ended = WasFinished exact own
 EndsWith exact own limit before after Net = Unit {0}
 EndsWith exact own limit before after Memory = Unit {0}
+EndsWith exact own limit before after (File iface written) = Unit {0}
 EndsWith exact own limit before after (Stalled polls) = (before + limit ≤ after) ⊎ (MAX_POLLS ≤ polls)
 
 -- how a replica ends that was not seen to be done, nor stalled
@@ -40,6 +41,7 @@ abbrev pub EndsEarly : Ending → Type 0
 EndsEarly Ended = ⊥
 EndsEarly Net = Unit {0}
 EndsEarly Memory = Unit {0}
+EndsEarly (File iface written) = Unit {0}
 EndsEarly (Stalled polls) = ⊥
 
 -- how a replica ends after a poll, if it does

@@ -1,3 +1,4 @@
 pub mod Network
 pub mod Dialing
 pub mod Ending
+pub mod Recording

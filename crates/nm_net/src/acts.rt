@@ -1,12 +1,16 @@
 //! What the loop does with a shared book in one go.
 
-ghost use Rattle.std.specs.Prelude.{◌≡◌};
+ghost use Rattle.std.specs.Prelude.{◌≡◌, ◌+◌};
 ghost use Rattle.nm_book.specs.Book.{replica_of};
 ghost use Rattle.nm_model.specs.Certificate.{is_done};
-ghost use Rattle.nm_shared.specs.Growing.{same_grows};
+ghost use Rattle.nm_net.specs.Recording.{HandsOut, TakesOut};
+ghost use Rattle.nm_shared.specs.Growing.{handed_grows, same_grows};
 ghost use Rattle.nm_sim.specs.Network.{net_of};
 
+use crate::limits::MAX_HANDED;
+use nm_base::Record;
 use nm_book::Book;
+use nm_book::laws::records_have_times_of_a_file;
 use nm_shared::Act;
 
 /// `Book::done`: whether nothing is left to do.
@@ -24,4 +28,57 @@ impl Act for IsDone {
     }
 
     ghost grows = { λ a b r c h. same_grows b c h.0 };
+}
+
+/// `Book::events`: how many events were done.
+#[derive(Drop)]
+pub struct Events;
+
+impl Act for Events {
+    type Out = u64;
+
+    ghost does = { λ a b r c. (c ≡ b) × (r ≡ b.events) };
+
+    fn act(self, book: &mut Book) -> u64 {
+        book.events()
+    }
+
+    ghost grows = { λ a b r c h. same_grows b c h.0 };
+}
+
+/// Takes the first records out that are kept, as many as the list has room for.
+fn take_out(book: &mut Book, room: &mut Vec<Record>)
+    ensures { TakesOut book.old room.old.items book.new room.new.items }
+{
+    for _ in 0..MAX_HANDED {
+        if room.len() >= room.capacity() {
+            return;
+        }
+        let Some(handed) = book.hand_out() else {
+            return;
+        };
+        room.push_reserved(handed);
+    }
+}
+
+/// `Book::hand_out`, again and again: takes the first records that are kept out of the trace, as
+/// many as the list has room for, and appends them.
+#[derive(Drop)]
+pub struct HandOutSome {
+    pub room: Vec<Record>,
+}
+
+impl Act for HandOutSome {
+    type Out = Vec<Record>;
+
+    ghost does = { λ a b r c. HandsOut b a.room.items c r.items };
+
+    fn act(self, book: &mut Book) -> Vec<Record> {
+        records_have_times_of_a_file(book); // law: a trace file can say their times
+        let HandOutSome { mut room } = self;
+        take_out(book, &mut room);
+        room
+    }
+
+    ghost grows = { λ a b r c h. handed_grows (b.handed + h.takes.0) b c h.takes.1 };
 }

@@ -3,7 +3,9 @@
 ghost use Rattle.std.specs.Prelude.{◌≡◌, IfSome};
 ghost use Rattle.nm_net.specs.Ending.{EndsEarly, break_ending};
 
+use nm_base::IfaceNo;
 use nm_engine::Cause;
+use nm_files::{FileFault, FilesFault};
 
 /// What serving a replica came to.
 #[derive(Clone, Copy, Debug, PartialEq, Eq)]
@@ -14,6 +16,8 @@ pub enum Ending {
     Net,
     /// Memory was refused.
     Memory,
+    /// The trace file of this interface failed: it has so many octets, which stops at 2^64 - 1.
+    File { iface: IfaceNo, written: u64 },
     /// So many polls were made, and the last of them moved nothing; or no more may be made.
     Stalled { polls: u64 },
 }
@@ -29,5 +33,15 @@ pub(crate) fn break_ending(cause: Cause, is_peer: bool) -> Option<Ending>
         Cause::Frame | Cause::Session if !is_peer => None,
         Cause::Frame | Cause::Session | Cause::Book => Some(Ending::Net),
         Cause::Memory => Some(Ending::Memory),
+    }
+}
+
+/// How a replica ends whose trace files were not written on.
+pub(crate) fn file_ending(fault: FilesFault) -> Ending
+    ensures { EndsEarly result }
+{
+    match fault {
+        FilesFault::File(FileFault { iface, written }) => Ending::File { iface, written },
+        FilesFault::Memory => Ending::Memory,
     }
 }

@@ -10,6 +10,7 @@ pub mod mio_network;
 mod moved;
 pub mod net_wire;
 pub mod network;
+mod recording;
 pub mod replica;
 pub mod seats;
 mod serving;

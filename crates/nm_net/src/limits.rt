@@ -21,3 +21,9 @@ pub const REST_POLLS: u32 = 64;
 
 /// After so many polls the sister's knowledge is merged.
 pub const MERGE_POLLS: u64 = 1_024;
+
+/// The most records that a book hands out in one go.
+pub const MAX_HANDED: usize = 256;
+
+/// The most such goes after one poll.
+pub const MAX_HAND_OUTS: usize = 64;

@@ -2,13 +2,17 @@
 
 ghost use Rattle.std.specs.Prelude.{◌≡◌, ◌+◌, ◌≤◌, All, length};
 ghost use Rattle.nm_shared.specs.Board.{IsOwnerOf};
+ghost use Rattle.nm_files.specs.Files.{IsSound};
 ghost use Rattle.nm_net.specs.Ending.{EndsWith, ending_of};
+ghost use Rattle.nm_net.specs.Recording.{Streams};
+ghost use Rattle.nm_net.specs.declared.ending.Ending.TheVariants.{Ended};
 
 use crate::ending::Ending;
 use crate::limits::{MAX_POLLS, WAIT_MILLISECONDS};
 use crate::network::Network;
 use crate::serving::{Polled, Serving, poll};
-use nm_base::PartNo;
+use nm_base::{PartNo, Sink};
+use nm_files::TraceFiles;
 use nm_shared::{ClockBoard, Counts, Gate, OwnerSeat, Pass, SharedBook};
 use nm_topology::Topology;
 use std::alloc::Global;
@@ -41,13 +45,16 @@ pub struct Replica<'a, C: Counts> {
 
 /// What a replica holds while it runs, and has still when it has ended.
 #[derive(Drop)]
-pub struct Holdings<C: Counts> {
+pub struct Holdings<C: Counts, S> {
     /// The pass of its book.
     pub pass: Pass<C>,
     /// A pass of each book of the run, in the order of the books.
     pub passes: Vec<Pass<C>>,
     /// The seats of its outgoing channels on the board.
     pub seats: Vec<OwnerSeat>,
+    /// The trace files to which its records go while it runs. Where there are none the book keeps
+    /// its records.
+    pub files: TraceFiles<S>,
 }
 
 /// How many polls in a row ran out and nothing was moved or done, after one more.
@@ -75,24 +82,29 @@ fn ending_of(polled: Polled, idle: u64, limit: u64, polls: u64) -> Option<Ending
 }
 
 /// Serves the connections of a replica, and runs its book if it is to, until the replica is done
-/// and its links have ended, or it ends for another reason. Passes and seats stay where they are.
+/// and its links have ended, or it ends for another reason. Passes, seats and files stay where they
+/// are. Records go to the trace files while it runs: what they took is of one list of records, each
+/// at its own interface, and when the replica has ended none is left.
 /// A connection that breaks is begun again by the side that began it; an octet or a Hello that
 /// should not be costs a connection that said no Hello, and after one the replica. The promise of
 /// each outgoing channel stands on the board before a poll ends. Before each poll the gate is asked,
 /// and told how many octets have moved.
 ///
-/// `Ended` where the replica was seen to be done. `Stalled` after no fewer polls with nothing ready
+/// `Ended` where the replica was seen to be done. `File` where a trace file failed. `Stalled` after no fewer polls with nothing ready
 /// than its limit, or after 10^9 polls. `Net` where a peer broke the rules, a message was refused,
 /// or the gate said so. `Memory` where memory was refused.
-pub fn run_replica<C: Counts, N: Network, G: Gate, R: Wait>(
+pub fn run_replica<C: Counts, S: Sink, N: Network, G: Gate, R: Wait>(
     rt: &R,
     alloc: Global,
     replica: &Replica<'_, C>,
-    holdings: &mut Holdings<C>,
+    holdings: &mut Holdings<C, S>,
     network: &mut N,
     gate: &G,
 ) -> Ending
     requires owners { All (IsOwnerOf replica.now.board.now) holdings.old.seats.items }
+    requires files { All IsSound holdings.old.files.files.items }
+    ensures streams { result ≡ Ended → Streams S.taken S.failures
+        holdings.old.files.files.items holdings.new.files.files.items }
     ensures ends { EndsWith C.exact C.home replica.now.idle_limit (N.idle_waits network.old)
         (N.idle_waits network.new) result }
     ensures owners { All (IsOwnerOf replica.now.board.now) holdings.new.seats.items }
@@ -123,11 +135,7 @@ pub fn run_replica<C: Counts, N: Network, G: Gate, R: Wait>(
         if let Some(ending) = ending_of(polled, idle, replica.idle_limit, polls + 1) {
             return ending;
         }
-        milliseconds = if polled.was_active {
-            0
-        } else {
-            WAIT_MILLISECONDS
-        };
+        milliseconds = if polled.is_busy { 0 } else { WAIT_MILLISECONDS };
     }
     Ending::Stalled { polls: MAX_POLLS }
 }

@@ -10,7 +10,7 @@ use nm_topology::Topology;
 use std::alloc::{AllocError, Global};
 
 /// Whether the seat is of a channel that goes out from the partition, and of this replica.
-fn is_own(topology: &Topology, partition: PartNo, replica: u8, seat: &OwnerSeat) -> bool {
+pub fn is_own(topology: &Topology, partition: PartNo, replica: u8, seat: &OwnerSeat) -> bool {
     let channel = seat.channel();
     channel.index() < topology.receivers().len()
         && goes_out(topology, partition, channel)

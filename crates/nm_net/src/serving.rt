@@ -1,19 +1,22 @@
 //! One poll of a replica, and what follows it.
 
-ghost use Rattle.std.specs.Prelude.{◌≡◌, ◌+◌, true, All, IfErr, IfOk, length};
+ghost use Rattle.std.specs.Prelude.{◌≡◌, ◌+◌, true, All, IfErr, IfOk, OnOk, length};
 ghost use Rattle.nm_shared.specs.Board.{IsOwnerOf};
+ghost use Rattle.nm_files.specs.Files.{IsSound};
 ghost use Rattle.nm_net.specs.Ending.{EndsEarly, WasFinished};
+ghost use Rattle.nm_net.specs.Recording.{Streams};
 
-use crate::acts::IsDone;
+use crate::acts::{Events, IsDone};
 use crate::connections::{Connection, accept_all, dial_all, end, let_go};
 use crate::dialing::Dialing;
-use crate::ending::Ending;
+use crate::ending::{Ending, file_ending};
 use crate::limits::{MAX_TURNS, MERGE_POLLS};
 use crate::network::{Network, Waited};
+use crate::recording::write_records;
 use crate::replica::{Holdings, Replica};
 use crate::sisters::{all_are_done, merge_sister};
 use crate::telling::tell_all;
-use nm_base::Wire;
+use nm_base::{Sink, Wire};
 use nm_book::Ran;
 use nm_engine::{ReadBuffer, Turn};
 use nm_shared::{Counts, Gate, Pass, SharedBook};
@@ -30,6 +33,8 @@ pub(crate) struct Serving<W> {
     callers_ended: usize,
     /// How many octets have moved, which stops at the greatest `u64`.
     moved: u64,
+    /// How many events the book had done when it was looked at last.
+    events: u64,
     buffer: ReadBuffer,
 }
 
@@ -38,9 +43,11 @@ pub(crate) struct Serving<W> {
 pub(crate) struct Polled {
     /// 1 where nothing was ready, else 0.
     pub idle: u64,
-    /// Octets moved, or the book did an event, so that more may be left to do.
+    /// Octets moved, or the book did an event.
     pub was_active: bool,
-    /// The replica is done, and so are its links or all replicas.
+    /// More may be left to do that no connection tells of.
+    pub is_busy: bool,
+    /// The replica is done, so are its links or all replicas, and its trace files are written.
     pub is_done: bool,
 }
 
@@ -67,6 +74,7 @@ impl<W> Serving<W> {
             dialing,
             callers_ended: 0,
             moved: 0,
+            events: 0,
             buffer,
         })
     }
@@ -152,7 +160,8 @@ fn serve_all<N: Network, C: Counts, R: Wait>(
     Ok(moved)
 }
 
-/// Runs the book, if the replica is to: how many events were done.
+/// Runs the book, if the replica is to: whether events were done since it was looked at last,
+/// whoever ran it.
 ///
 /// # Errors
 ///
@@ -162,25 +171,28 @@ fn run_book<C: Counts, R: Wait>(
     alloc: Global,
     replica: &Replica<'_, C>,
     pass: &mut Pass<C>,
-) -> Result<u64, AllocError> {
-    if replica.run_limit == 0 {
-        return Ok(0);
+    events: &mut u64,
+) -> Result<bool, AllocError> {
+    if replica.run_limit > 0 {
+        if let Ran::Memory(_) = replica.book.run(rt, pass, alloc, replica.run_limit) {
+            return Err(AllocError);
+        }
     }
-    match replica.book.run(rt, pass, alloc, replica.run_limit) {
-        Ran::All(count) | Ran::Limit(count) => Ok(count),
-        Ran::Memory(_) => Err(AllocError),
-    }
+    let before = *events;
+    *events = replica.book.act(rt, pass, Events);
+    Ok(*events != before)
 }
 
 /// Whether the replica is done, and its links or all replicas of the run are.
-fn is_done<W, C: Counts, R: Wait>(
+fn is_done<W, C: Counts, S, R: Wait>(
     rt: &R,
     replica: &Replica<'_, C>,
-    holdings: &mut Holdings<C>,
+    holdings: &mut Holdings<C, S>,
     serving: &Serving<W>,
 ) -> bool
     ensures done { result ≡ true → WasFinished C.exact C.home }
     ensures same { (holdings.new.seats ≡ holdings.old.seats)
+        × (holdings.new.files ≡ holdings.old.files)
         × (length holdings.new.passes.items ≡ length holdings.old.passes.items) }
 {
     if !replica.book.act(rt, &mut holdings.pass, IsDone) {
@@ -218,15 +230,17 @@ fn await_network<N: Network, C: Counts>(
 }
 
 /// What the replica does by itself after a poll: its events, what its sister knows, and what the
-/// board is told. It answers how many events were done.
-fn act_alone<C: Counts, R: Wait>(
+/// board is told. It answers whether events were done.
+fn act_alone<C: Counts, S, R: Wait>(
     rt: &R,
     alloc: Global,
     replica: &Replica<'_, C>,
-    holdings: &mut Holdings<C>,
+    holdings: &mut Holdings<C, S>,
     polls: u64,
-) -> Result<u64, AllocError>
+    events: &mut u64,
+) -> Result<bool, AllocError>
     requires { All (IsOwnerOf replica.now.board.now) holdings.old.seats.items }
+    ensures files { holdings.new.files ≡ holdings.old.files }
     ensures owners { All (IsOwnerOf replica.now.board.now) holdings.new.seats.items }
     ensures seats { length holdings.new.seats.items ≡ length holdings.old.seats.items }
     ensures passes { length holdings.new.passes.items ≡ length holdings.old.passes.items }
@@ -234,7 +248,7 @@ fn act_alone<C: Counts, R: Wait>(
     if polls % MERGE_POLLS == MERGE_POLLS - 1 {
         merge_sister(rt, alloc, replica, holdings)?;
     }
-    let events = run_book(rt, alloc, replica, &mut holdings.pass)?;
+    let was_run = run_book(rt, alloc, replica, &mut holdings.pass, events)?;
     tell_all(
         rt,
         replica.book,
@@ -242,7 +256,41 @@ fn act_alone<C: Counts, R: Wait>(
         replica.board,
         &mut holdings.seats,
     );
-    Ok(events)
+    Ok(was_run)
+}
+
+/// Writes the trace files on, and tells whether the replica has ended: what a poll came to.
+fn conclude<W, C: Counts, S: Sink, R: Wait>(
+    rt: &R,
+    alloc: Global,
+    replica: &Replica<'_, C>,
+    holdings: &mut Holdings<C, S>,
+    serving: &Serving<W>,
+    idle: u64,
+    moved: u64,
+    was_run: bool,
+) -> Result<Polled, Ending>
+    requires { All IsSound holdings.old.files.files.items }
+    ensures seats { holdings.new.seats ≡ holdings.old.seats }
+    ensures passes { length holdings.new.passes.items ≡ length holdings.old.passes.items }
+    ensures streams { OnOk result (Streams S.taken S.failures
+        holdings.old.files.files.items holdings.new.files.files.items) }
+    ensures idle { IfOk result (λ p. p.idle ≡ idle) }
+    ensures done { IfOk result (λ p. p.is_done ≡ true → WasFinished C.exact C.home) }
+    ensures early { IfErr result EndsEarly }
+{
+    // A replica that is done makes no records any more: those that it has are written after this.
+    let is_done = is_done(rt, replica, holdings, serving);
+    let more = match write_records(rt, alloc, replica, &mut holdings.pass, &mut holdings.files) {
+        Ok(more) => more,
+        Err(fault) => return Err(file_ending(fault)),
+    };
+    Ok(Polled {
+        idle,
+        was_active: moved > 0 || was_run,
+        is_busy: more || moved > 0 || (was_run && replica.run_limit > 0),
+        is_done: is_done && !more,
+    })
 }
 
 /// One poll, after the gate was asked, and what follows it.
@@ -250,21 +298,24 @@ fn act_alone<C: Counts, R: Wait>(
 /// # Errors
 ///
 /// How the replica ends, where it does by itself.
-pub(crate) fn poll<C: Counts, N: Network, G: Gate, R: Wait>(
+pub(crate) fn poll<C: Counts, S: Sink, N: Network, G: Gate, R: Wait>(
     rt: &R,
     alloc: Global,
     replica: &Replica<'_, C>,
-    holdings: &mut Holdings<C>,
+    holdings: &mut Holdings<C, S>,
     network: &mut N,
     gate: &G,
     serving: &mut Serving<N::Connection>,
     polls: u64,
     milliseconds: u64,
 ) -> Result<Polled, Ending>
-    requires { All (IsOwnerOf replica.now.board.now) holdings.old.seats.items }
+    requires owners { All (IsOwnerOf replica.now.board.now) holdings.old.seats.items }
+    requires files { All IsSound holdings.old.files.files.items }
     ensures owners { All (IsOwnerOf replica.now.board.now) holdings.new.seats.items }
     ensures seats { length holdings.new.seats.items ≡ length holdings.old.seats.items }
     ensures passes { length holdings.new.passes.items ≡ length holdings.old.passes.items }
+    ensures streams { OnOk result (Streams S.taken S.failures
+        holdings.old.files.files.items holdings.new.files.files.items) }
     ensures idle { IfOk result
         (λ p. N.idle_waits network.new ≡ N.idle_waits network.old + p.idle) }
     ensures done { IfOk result (λ p. p.is_done ≡ true → WasFinished C.exact C.home) }
@@ -278,12 +329,9 @@ pub(crate) fn poll<C: Counts, N: Network, G: Gate, R: Wait>(
     };
     let moved = serve_all(rt, alloc, replica, &mut holdings.pass, network, serving)?;
     serving.moved = serving.moved.saturating_add(moved);
-    let Ok(events) = act_alone(rt, alloc, replica, holdings, polls) else {
+    let alone = act_alone(rt, alloc, replica, holdings, polls, &mut serving.events);
+    let Ok(was_run) = alone else {
         return Err(Ending::Memory);
     };
-    Ok(Polled {
-        idle,
-        was_active: moved > 0 || events > 0,
-        is_done: is_done(rt, replica, holdings, serving),
-    })
+    conclude(rt, alloc, replica, holdings, serving, idle, moved, was_run)
 }

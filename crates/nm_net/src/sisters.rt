@@ -15,13 +15,14 @@ use std::sync::Wait;
 /// # Errors
 ///
 /// Where memory was refused to the copy.
-pub(crate) fn merge_sister<C: Counts, R: Wait>(
+pub(crate) fn merge_sister<C: Counts, S, R: Wait>(
     rt: &R,
     alloc: Global,
     replica: &Replica<'_, C>,
-    holdings: &mut Holdings<C>,
+    holdings: &mut Holdings<C, S>,
 ) -> Result<(), AllocError>
     ensures { (holdings.new.seats ≡ holdings.old.seats)
+        × (holdings.new.files ≡ holdings.old.files)
         × (length holdings.new.passes.items ≡ length holdings.old.passes.items) }
 {
     let Some(sister) = replica.sister else {

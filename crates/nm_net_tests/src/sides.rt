@@ -1,12 +1,14 @@
 //! Replicas that are served.
 
 ghost use Rattle.std.specs.Prelude.{All};
+ghost use Rattle.nm_files.specs.Files.{IsSound};
 ghost use Rattle.nm_shared.specs.Board.{IsOwnerOf};
 
 use mio::Poll;
 use mio::net::TcpListener;
-use nm_base::PartNo;
+use nm_base::{MemSink, PartNo};
 use nm_book::Book;
+use nm_files::TraceFiles;
 use nm_net::seats::own_seats;
 use nm_net::{Ending, Holdings, MioNetwork, Network, Replica, run_replica};
 use nm_shared::{ClockBoard, Gate, Plain, SharedBook};
@@ -59,12 +61,13 @@ fn serve_held<N: Network, G: Gate, R: Wait>(
     topology: &Arc<Topology>,
     book: &SharedBook<Plain>,
     board: &ClockBoard,
-    holdings: &mut Holdings<Plain>,
+    holdings: &mut Holdings<Plain, MemSink>,
     company: &Company<'_>,
     network: &mut N,
     gate: &G,
 ) -> Ending
-    requires { All (IsOwnerOf board.now) holdings.old.seats.items }
+    requires owners { All (IsOwnerOf board.now) holdings.old.seats.items }
+    requires files { All IsSound holdings.old.files.files.items }
 {
     let replica = Replica {
         topology,
@@ -103,6 +106,7 @@ pub fn serve<N: Network, G: Gate, R: Wait>(
         pass,
         passes: Vec::new(alloc),
         seats,
+        files: TraceFiles::new(alloc),
     };
     let ending = serve_held(
         rt,

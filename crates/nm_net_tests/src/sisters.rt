@@ -1,13 +1,15 @@
 //! A replica whose sister knows all.
 
 ghost use Rattle.std.specs.Prelude.{All};
+ghost use Rattle.nm_files.specs.Files.{IsSound};
 ghost use Rattle.nm_shared.specs.Board.{IsOwnerOf};
 
 use crate::scripted::{NEVER, Scripted};
 use crate::sides::{Open, network};
 use crate::texts::SPLIT;
-use nm_base::{ChanNo, PartNo, Time};
+use nm_base::{ChanNo, MemSink, PartNo, Time};
 use nm_book::{ChannelMessage, Null};
+use nm_files::TraceFiles;
 use nm_net::seats::own_seats;
 use nm_net::{Ending, Holdings, Replica, run_replica};
 use nm_shared::{ClockBoard, Pass, Plain, SharedBook};
@@ -48,9 +50,10 @@ fn serve_sister<R: Wait>(
     books: &[SharedBook<Plain>],
     own: &SharedBook<Plain>,
     board: &ClockBoard,
-    holdings: &mut Holdings<Plain>,
+    holdings: &mut Holdings<Plain, MemSink>,
 ) -> Ending
-    requires { All (IsOwnerOf board.now) holdings.old.seats.items }
+    requires owners { All (IsOwnerOf board.now) holdings.old.seats.items }
+    requires files { All IsSound holdings.old.files.files.items }
 {
     let mut network = Scripted::new(alloc, Vec::new(alloc), true, NEVER);
     let replica = Replica {
@@ -87,6 +90,7 @@ fn a_sister_is_merged(rt: HostRuntime) -> Result<(), Fail> {
         pass,
         passes,
         seats,
+        files: TraceFiles::new(alloc),
     };
     let ending = serve_sister(
         &rt,

@@ -3,7 +3,7 @@
 
 pub mod fault;
 pub mod node;
-mod peers;
+pub mod peers;
 
 pub use fault::NodeFault;
 pub use node::{Node, run_node};

@@ -2,6 +2,7 @@
 
 ghost use Rattle.std.specs.Prelude.{◌≡◌, ◌^◌, All, IfOk};
 ghost use Rattle.std.specs.Arc.{arc_value};
+ghost use Rattle.nm_files.specs.Files.{IsSound};
 ghost use Rattle.nm_node.specs.Node.{IsDoneReplica};
 ghost use Rattle.nm_shared.specs.Board.{IsOwnerOf};
 
@@ -10,8 +11,9 @@ use crate::peers::{Peers, own_listener, peers_of};
 use mio::Poll;
 use mio::net::TcpListener;
 use nm_addresses::Address;
-use nm_base::PartNo;
+use nm_base::{MemSink, PartNo};
 use nm_book::{Book, BookFault};
+use nm_files::TraceFiles;
 use nm_net::seats::own_seats;
 use nm_net::{Ending, Holdings, MioNetwork, Replica, run_replica};
 use nm_shared::counts::PARTS;
@@ -82,9 +84,10 @@ fn serve<C: Counts, R: Net + Wait + Drop + Copy>(
     node: &Node<'_>,
     book: &SharedBook<C>,
     board: &ClockBoard,
-    holdings: &mut Holdings<C>,
+    holdings: &mut Holdings<C, MemSink>,
 ) -> Result<(), NodeFault>
-    requires { All (IsOwnerOf board.now) holdings.old.seats.items }
+    requires owners { All (IsOwnerOf board.now) holdings.old.seats.items }
+    requires files { All IsSound holdings.old.files.files.items }
 {
     let peers = peers_of(alloc, node.topology, node.partition, node.addresses)?;
     let mut network = open_network(rt, alloc, node, &peers)?;
@@ -103,7 +106,7 @@ fn serve<C: Counts, R: Net + Wait + Drop + Copy>(
     };
     match run_replica(rt, alloc, &replica, holdings, &mut network, &Open) {
         Ending::Ended => Ok(()),
-        Ending::Net => Err(NodeFault::Net),
+        Ending::Net | Ending::File { .. } => Err(NodeFault::Net),
         Ending::Memory => Err(NodeFault::Memory),
         Ending::Stalled { .. } => Err(NodeFault::Stalled),
     }
@@ -170,6 +173,8 @@ fn run_named<M: Naming + Send + Sync, E: Ledger + Send + Sync, R: Net + Wait + D
         pass,
         passes: Vec::new(alloc),
         seats,
+        // The book keeps its trace: files are made of it once it is done.
+        files: TraceFiles::new(alloc),
     };
     serve(rt, alloc, node, &shared, &board, &mut holdings)?;
     let mut passes = Vec::new(alloc);

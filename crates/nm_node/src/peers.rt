@@ -1,4 +1,4 @@
-//! The peers of a node.
+//! The peers of a replica.
 
 use nm_addresses::Address;
 use nm_base::PartNo;
@@ -7,10 +7,10 @@ use nm_topology::Topology;
 use std::alloc::{AllocError, Global};
 use std::net::SocketAddr;
 
-/// The replicas with which a node speaks: those of the partitions with which its own shares a
+/// The replicas with which a replica speaks: those of the partitions with which its own shares a
 /// channel.
 #[derive(Drop)]
-pub(crate) struct Peers {
+pub struct Peers {
     /// The partition of each replica that it calls, and where that listens.
     pub partitions: Vec<PartNo>,
     pub listeners: Vec<SocketAddr>,
@@ -31,7 +31,7 @@ fn is_near(
 
 /// The peers among these addresses. Of two partitions that share a channel the replicas of the one
 /// with the lesser number call those of the other.
-pub(crate) fn peers_of(
+pub fn peers_of(
     alloc: Global,
     topology: &Topology,
     partition: PartNo,

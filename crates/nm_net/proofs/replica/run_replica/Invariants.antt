@@ -1,5 +1,6 @@
 use Rattle.std.proofs.Common.{◌≡◌, ◌≤◌, ◌+◌, All, length}
 use Rattle.nm_shared.specs.Board.{IsOwnerOf}
+use Rattle.nm_net.specs.Recording.{Streams}
 use Rattle.nm_net.proofs.replica.run_replica.Given as goal
 
 abbrev pub invariant-loop-polls : goal.invariant-loop-polls
@@ -8,4 +9,5 @@ invariant-loop-polls g l = record {
   seats : length l.holdings.seats.items ≡ length l.fn.holdings.seats.items;
   passes : length l.holdings.passes.items ≡ length l.fn.holdings.passes.items;
   idle : g.N.Network.idle_waits l.fn.network + l.idle ≤ g.N.Network.idle_waits l.network;
+  streams : Streams g.S.Sink.taken g.S.Sink.failures l.fn.holdings.files.files.items l.holdings.files.files.items;
 }

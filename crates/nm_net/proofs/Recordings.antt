@@ -1,0 +1,58 @@
+-- Records that a replica hands out, and the trace files to which they go.
+use Rattle.std.proofs.Common.{◌≡◌, ℕ, ◌+◌, ◌<◌, ◌≤◌, All, List, [], ◌∷◌, ◌++◌, take, drop, slice_get, slice_index_or, get_or, Option, Some, is_some, if◌then◌else◌, length, length-drop, refl, sym, ◌∙◌, ap, subst, arith, append-nil}
+use Rattle.std.proofs.lemmas.List.{append_assoc, get_or-drop}
+use Rattle.std.proofs.lemmas.List.Elements.{All-drop, All-take}
+use Rattle.std.proofs.lemmas.Option.{slice_get_within, get_or_from_slice_get, slice_get-get_or}
+use Rattle.nm_base.specs.declared.limits.TheConstants.{MAX_TIME}
+use Rattle.nm_base.specs.declared.record.Record.{Record}
+use Rattle.nm_pcap.specs.Writer.{Writer}
+use Rattle.nm_files.specs.Files.{FilesTook, IsSound}
+use Rattle.nm_files.proofs.Files.{more_records, no_records}
+use Rattle.nm_files.proofs.Records.{one_more}
+use Rattle.nm_book.specs.Book.{BookValue, state_of}
+use Rattle.nm_net.specs.Recording.{HandsOut, Streams, TakesOut}
+
+pub none_out : (b : BookValue) (room : List (Record (List ℕ))) → TakesOut b room b room
+none_out b room =
+    let e : b.handed ≡ b.handed + 0 = omega arith in
+    let same : b ≡ record b { handed = b.handed + 0 } = ap {A = ℕ} (λ z. record b { handed = z }) e in
+    (0, same, sym (append-nil room))
+
+at_drop : {X : Type 0} (xs : List X) (h n : ℕ) (x : X) → slice_get xs (h + n) ≡ Some x → slice_get (drop h xs) n ≡ Some x
+at_drop xs h n x is =
+    let low = slice_get_within xs (h + n) x is in
+    let long = length-drop h xs in
+    slice_get-get_or (drop h xs) n x (omega (arith, low, long)) ∙ ap (λ z. Some z) (get_or-drop h xs n x ∙ get_or_from_slice_get xs (h + n) x x is)
+
+-- after some records one more
+pub one_out : (b mid c : BookValue) (room some more : List (Record (List ℕ))) (o : Option (Record (List ℕ))) (r : Record (List ℕ)) → TakesOut b room mid some
+    → o ≡ slice_get (state_of mid).records mid.handed → o ≡ Some r → c ≡ record mid { handed = mid.handed + (if is_some o then 1 else 0) } → more ≡ some ++ r ∷ []
+    → TakesOut b room c more
+one_out b mid c room some more o r took is there next last =
+    let n = took.0 in
+    let records = (state_of b).records in
+    let at : slice_get records (b.handed + n) ≡ Some r = sym (ap {A = BookValue} (λ z. slice_get (state_of z).records z.handed) took.1) ∙ sym is ∙ there in
+    let one : (if is_some o then 1 else 0) ≡ 1 = ap {A = Option (Record (List ℕ))} (λ z. if is_some z then 1 else 0) there in
+    let step : c ≡ record mid { handed = mid.handed + 1 } = next ∙ ap {A = ℕ} (λ z. record mid { handed = mid.handed + z }) one in
+    let base : record mid { handed = mid.handed + 1 } ≡ record b { handed = (b.handed + n) + 1 } = ap {A = BookValue} (λ z. record z { handed = z.handed + 1 }) took.1 in
+    let count : (b.handed + n) + 1 ≡ b.handed + (n + 1) = omega arith in
+    let moved : record b { handed = (b.handed + n) + 1 } ≡ record b { handed = b.handed + (n + 1) } = ap {A = ℕ} (λ z. record b { handed = z }) count in
+    let text : more ≡ room ++ take (n + 1) (drop b.handed records) =
+    last ∙ ap {A = List (Record (List ℕ))} (λ z. z ++ r ∷ []) took.2 ∙ append_assoc room (take n (drop b.handed records)) (r ∷ [])
+    ∙ ap {A = List (Record (List ℕ))} (λ z. room ++ z) (sym (one_more (drop b.handed records) n (n + 1) r (at_drop records b.handed n r at) refl)) in
+    (n + 1, step ∙ base ∙ moved, text)
+
+-- a trace file can say the times of what came into an empty list
+pub handed_times : (b c : BookValue) (room given : List (Record (List ℕ))) → room ≡ [] → HandsOut b room c given → All (λ r. r.time ≤ MAX_TIME) given
+handed_times b c room given none hands =
+    let n = hands.takes.0 in
+    let records = (state_of b).records in
+    subst (All (λ r. r.time ≤ MAX_TIME)) (sym (hands.takes.2 ∙ ap (λ z. z ++ take n (drop b.handed records)) none))
+    (All-take (λ r. r.time ≤ MAX_TIME) n (drop b.handed records) (All-drop (λ r. r.time ≤ MAX_TIME) b.handed records hands.times))
+
+module _ {S : Type 0} (taken : S → Option (List ℕ)) (failures : S → ℕ) where
+  pub streams_none : (files : List (Option (Writer S))) → All IsSound files → Streams taken failures files files
+  streams_none files sound = ([], no_records taken failures files, sound)
+
+  pub streams_more : (old mid new : List (Option (Writer S))) → Streams taken failures old mid → Streams taken failures mid new → Streams taken failures old new
+  streams_more old mid new v w = (v.0 ++ w.0, more_records taken failures v.0 w.0 old mid new v.1 w.1, w.2)

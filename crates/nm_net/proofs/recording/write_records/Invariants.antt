@@ -1,0 +1,7 @@
+use Rattle.std.proofs.Common.{All}
+use Rattle.nm_files.specs.Files.{IsSound}
+use Rattle.nm_net.specs.Recording.{Streams}
+use Rattle.nm_net.proofs.recording.write_records.Given as goal
+
+abbrev pub invariant-loop : goal.invariant-loop
+invariant-loop g l = Streams g.S.Sink.taken g.S.Sink.failures l.initial.files.files.items l.files.files.items
