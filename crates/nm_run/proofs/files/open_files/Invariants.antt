@@ -1,0 +1,6 @@
+use Rattle.std.proofs.Common.{All}
+use Rattle.nm_files.specs.Files.{IsSound}
+use Rattle.nm_run.proofs.files.open_files.Given as goal
+
+abbrev pub invariant-loop-number : goal.invariant-loop-number
+invariant-loop-number g l = All IsSound l.files.files.items

@@ -1,0 +1,9 @@
+use Rattle.std.proofs.Common.{◌<◌, All, length}
+use Rattle.nm_shared.specs.Board.{IsSeatOf}
+use Rattle.nm_run.proofs.jobs.jobs_for.Given as goal
+
+abbrev pub invariant-loop-number : goal.invariant-loop-number
+invariant-loop-number g l = record {
+  seat : IsSeatOf l.board l.seat;
+  named : All (λ j. j.book < length l.books) l.jobs.items;
+}

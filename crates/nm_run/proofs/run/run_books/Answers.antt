@@ -1,0 +1,15 @@
+use Rattle.std.proofs.Common.{◌≡◌, ◌∷◌, [], ◌++◌, sym, subst, rules}
+use Rattle.nm_net.proofs.Owners.{first_are_owners}
+use Rattle.nm_shared.specs.Board.{IsSeatOf}
+use Rattle.nm_shared.proofs.Closings.{each_back}
+use Rattle.nm_run.proofs.run.run_books.Goals as goal
+
+pub sides_of-requires : goal.sides_of-requires
+sides_of-requires g c = first_are_owners c.in_ok-board.board c.in_ok-board.owners.items c.in_ok-board.ensures.owners
+
+pub run_threads-requires-clause-seat : goal.run_threads-requires-clause-seat
+run_threads-requires-clause-seat g c = λ κs bounds.
+    let board = c.in_ok-board.board in
+    let last : c.in_ok-board.seats.items ≡ c.pop.new.self.items ++ c.in-Some.seat ∷ [] = search rules in
+    subst (IsSeatOf board) (sym c.in_ok-dispatcher.ensures)
+    (each_back (λ _ s. IsSeatOf board s) c.in_ok-board.seats.items c.pop.new.self.items c.in-Some.seat last c.in_ok-board.ensures.seats)

@@ -1,0 +1,145 @@
+//! The dispatcher: it gives jobs to a pool as long as there are any.
+
+ghost use Rattle.std.specs.Prelude.{◌≡◌, ◌≤◌};
+ghost use Rattle.nm_shared.specs.Board.{IsSeatOf};
+
+use crate::jobs::{Watched, jobs_for, note_answer};
+use crate::threads::Threaded;
+use mio::{Events, Poll};
+use nm_book::Ran;
+use nm_net::limits::WAIT_MILLISECONDS;
+use nm_shared::workers::BookPass;
+use nm_shared::{Gate, Job, Plain, PoolReport, Seat, pool};
+use std::alloc::{AllocError, Global};
+use std::sync::Wait;
+use std::sync::atomic::Ordering;
+use std::thread::Threads;
+use std::time::Duration;
+
+/// What the dispatcher has: what it remembers of each book, where it looks at clocks, where it is
+/// woken, and the passes of the jobs so far.
+#[derive(Drop)]
+pub(crate) struct Dispatcher {
+    pub watched: Vec<Watched>,
+    pub seat: Seat,
+    pub poll: Poll,
+    pub events: Events,
+    pub passes: Vec<BookPass<Plain>>,
+}
+
+/// Notes the answers of jobs, and wakes the replicas whose books did events: how many they were.
+fn note_all<G>(
+    threaded: &Threaded<'_, G>,
+    dispatcher: &mut Dispatcher,
+    jobs: &[Job],
+    answers: &[Ran],
+) -> Result<u64, AllocError>
+    ensures { dispatcher.new.seat ≡ dispatcher.old.seat }
+{
+    let mut events = 0u64;
+    for number in 0..jobs.len() {
+        if number < answers.len() {
+            let book = jobs[number].book;
+            let count = note_answer(&mut dispatcher.watched, book, answers[number])?;
+            if count > 0 {
+                threaded.wake(book);
+            }
+            events = events.saturating_add(count);
+        }
+    }
+    Ok(events)
+}
+
+/// Keeps the passes of jobs.
+fn keep_all(
+    all: &mut Vec<BookPass<Plain>>,
+    passes: Vec<BookPass<Plain>>,
+) -> Result<(), AllocError> {
+    for pass in passes {
+        all.push(pass)?;
+    }
+    Ok(())
+}
+
+/// Gives jobs to the pool, if there are any: how many events they were.
+fn give_jobs<G: Gate + Sync, R: Threads + Wait + Sync>(
+    rt: &R,
+    alloc: Global,
+    threaded: &Threaded<'_, G>,
+    workers: usize,
+    dispatcher: &mut Dispatcher,
+) -> Result<u64, AllocError>
+    requires workers { (1 ≤ workers) × (workers ≤ 64) }
+    requires seat { IsSeatOf threaded.now.board.now dispatcher.old.seat }
+    ensures { IsSeatOf threaded.now.board.now dispatcher.new.seat }
+{
+    let jobs = jobs_for(
+        rt,
+        alloc,
+        threaded.books,
+        threaded.board,
+        &mut dispatcher.seat,
+        &mut dispatcher.watched,
+    )?;
+    if jobs.is_empty() {
+        return Ok(0);
+    }
+    let PoolReport { answers, passes } = pool(
+        rt,
+        alloc,
+        threaded.books,
+        jobs.as_slice(),
+        workers,
+        threaded.gate,
+    )?;
+    keep_all(&mut dispatcher.passes, passes)?;
+    note_all(threaded, dispatcher, jobs.as_slice(), answers.as_slice())
+}
+
+/// Waits until it is woken, or the time is over.
+fn listen(dispatcher: &mut Dispatcher)
+    ensures { dispatcher.new.seat ≡ dispatcher.old.seat }
+{
+    let limit = Duration::from_millis(WAIT_MILLISECONDS);
+    let _ = dispatcher.poll.poll(&mut dispatcher.events, Some(limit));
+}
+
+/// Whether all books are done.
+fn are_done(watched: &[Watched]) -> bool {
+    watched.iter().all(|watched| watched.is_done)
+}
+
+/// Gives jobs until all replicas have ended.
+///
+/// # Errors
+///
+/// Where memory was refused, to a job or to the pool. The replicas are told then.
+pub(crate) fn dispatch<G: Gate + Sync, R: Threads + Wait + Sync>(
+    rt: &R,
+    alloc: Global,
+    threaded: &Threaded<'_, G>,
+    workers: usize,
+    dispatcher: &mut Dispatcher,
+) -> Result<(), AllocError>
+    requires workers { (1 ≤ workers) × (workers ≤ 64) }
+    requires seat { IsSeatOf threaded.now.board.now dispatcher.old.seat }
+{
+    let mut were_done = false;
+    for _ in 0..u64::MAX {
+        if threaded.are_over() {
+            return Ok(());
+        }
+        let Ok(events) = give_jobs(rt, alloc, threaded, workers, dispatcher) else {
+            threaded.fail();
+            return Err(AllocError);
+        };
+        if !were_done && are_done(dispatcher.watched.as_slice()) {
+            were_done = true;
+            threaded.wake_all();
+        }
+        if events == 0 {
+            listen(dispatcher);
+        }
+    }
+    Ok(())
+}

@@ -1,0 +1,57 @@
+//! Why a run has no report.
+
+ghost use Rattle.std.specs.Prelude.{◌≡◌};
+ghost use Rattle.nm_run.specs.declared.fault.RunFault.TheVariants.{Memory};
+
+use nm_base::IfaceNo;
+use nm_files::{FileFault, FilesFault};
+use nm_rounds::certify::CertFault;
+use std::alloc::{AllocError, AllocFailed};
+use thiserror::Error;
+
+/// Why a run has no report. Each trace file that was made has a prefix of what its replica handed
+/// out, and nothing is claimed of it.
+#[derive(Clone, Copy, Debug, PartialEq, Eq, Error)]
+pub enum RunFault {
+    /// The trace file of this interface could not be made, or failed when it had so many octets,
+    /// which stops at 2^64 - 1.
+    #[error("a trace file failed after {written} octets")]
+    File { iface: IfaceNo, written: u64 },
+    /// No replica can listen or wait, one was told what cannot be, or the gate said so.
+    #[error("the network failed")]
+    Net,
+    /// Memory was refused.
+    #[error("out of memory")]
+    Memory,
+    /// All replicas ended, and their books are not those of the one event list.
+    #[error("not certified: {0}")]
+    NotCertified(CertFault),
+    /// A replica made so many polls, and the last of them moved nothing.
+    #[error("stalled after {polls} polls")]
+    Stalled { polls: u64 },
+}
+
+impl From<AllocError> for RunFault {
+    ghost from_gives = { λ _ f. f ≡ Memory };
+
+    fn from(_: AllocError) -> Self {
+        RunFault::Memory
+    }
+}
+
+impl<T: Drop> From<AllocFailed<T>> for RunFault {
+    ghost from_gives = { λ _ f. f ≡ Memory };
+
+    fn from(_: AllocFailed<T>) -> Self {
+        RunFault::Memory
+    }
+}
+
+impl From<FilesFault> for RunFault {
+    fn from(fault: FilesFault) -> Self {
+        match fault {
+            FilesFault::File(FileFault { iface, written }) => RunFault::File { iface, written },
+            FilesFault::Memory => RunFault::Memory,
+        }
+    }
+}

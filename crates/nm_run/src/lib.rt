@@ -1,0 +1,22 @@
+//! All partitions of a network at once, each as one or two replicas over TCP, and the certificate of
+//! what they come to.
+#![tactic(auto)]
+
+pub mod acts;
+mod closing;
+mod dispatching;
+mod endings;
+pub mod fault;
+mod files;
+mod gates;
+mod jobs;
+mod posts;
+pub mod report;
+pub mod run;
+mod seats;
+mod sides;
+mod threads;
+
+pub use fault::RunFault;
+pub use report::{IfaceTotals, Report};
+pub use run::{Run, run_all};

@@ -1,0 +1,90 @@
+//! Where the replicas of a run listen, and what wakes them.
+
+use crate::fault::RunFault;
+use mio::net::TcpListener;
+use mio::{Poll, Token, Waker};
+use nm_addresses::Address;
+use nm_base::PartNo;
+use std::alloc::Global;
+use std::io;
+use std::net::{Ipv4Addr, Net, SocketAddr};
+
+/// The token of wakers. Connections have their keys, and the listener the greatest token.
+const WOKEN: Token = Token(usize::MAX - 1);
+
+/// A listener, and the poll on which its replica will wait.
+#[derive(Drop)]
+pub(crate) struct Post {
+    pub listener: TcpListener,
+    pub poll: Poll,
+}
+
+/// The posts of all replicas by partition and replica, where they listen, and what wakes them.
+#[derive(Drop)]
+pub(crate) struct Posts {
+    pub posts: Vec<Post>,
+    pub addresses: Vec<Address>,
+    pub wakers: Vec<Waker>,
+}
+
+/// A poll, and what wakes it.
+pub(crate) fn woken_poll<R: Net>(net: &R) -> io::Result<(Poll, Waker)> {
+    let poll = Poll::new(net)?;
+    let waker = Waker::new(poll.registry(), WOKEN)?;
+    Ok((poll, waker))
+}
+
+/// A listener at a free port of 127.0.0.1, and its address.
+fn listen<R: Net>(net: &R, partition: PartNo, replica: u8) -> io::Result<(TcpListener, Address)> {
+    let listener = TcpListener::bind(net, SocketAddr::from((Ipv4Addr::LOCALHOST, 0)))?;
+    match listener.local_addr()? {
+        SocketAddr::V4(at) => Ok((
+            listener,
+            Address {
+                partition,
+                replica,
+                listener: at,
+            },
+        )),
+        SocketAddr::V6(_) => Err(io::ErrorKind::Other.into()),
+    }
+}
+
+/// Opens the post of one replica.
+fn open_one<R: Net>(
+    net: &R,
+    posts: &mut Posts,
+    partition: PartNo,
+    replica: u8,
+) -> Result<(), RunFault> {
+    let Ok((listener, address)) = listen(net, partition, replica) else {
+        return Err(RunFault::Net);
+    };
+    let Ok((poll, waker)) = woken_poll(net) else {
+        return Err(RunFault::Net);
+    };
+    posts.posts.push(Post { listener, poll })?;
+    posts.addresses.push(address)?;
+    posts.wakers.push(waker)?;
+    Ok(())
+}
+
+/// Opens the posts of all replicas.
+pub(crate) fn open_posts<R: Net>(
+    net: &R,
+    alloc: Global,
+    partitions: u32,
+    replicas: u8,
+) -> Result<Posts, RunFault> {
+    let mut posts = Posts {
+        posts: Vec::new(alloc),
+        addresses: Vec::new(alloc),
+        wakers: Vec::new(alloc),
+    };
+    for partition in 0..partitions {
+        for replica in 0..replicas {
+            open_one(net, &mut posts, PartNo::new(partition), replica)?;
+        }
+    }
+    Ok(posts)
+}

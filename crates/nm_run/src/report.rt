@@ -1,0 +1,84 @@
+//! What a run came to.
+
+ghost use Rattle.std.specs.Prelude.{◌≡◌, ℕ, ◌<◌, IfOk, length};
+ghost use Rattle.nm_model.specs.Before.{IsBefore, trace};
+ghost use Rattle.nm_model.specs.Partition.{receiver_of};
+ghost use Rattle.nm_book.specs.Book.{state_of};
+ghost use Rattle.nm_rounds.specs.Certify.{AreCertified};
+ghost use Rattle.nm_rounds.specs.SameTopology.{SaysSame};
+ghost use Rattle.nm_run.specs.Report.{AreTotals, IsTotal};
+ghost use Rattle.nm_sim.specs.Network.{net_of};
+
+use crate::fault::RunFault;
+use nm_base::{IfaceNo, Packet};
+use nm_book::Book;
+use nm_book::channels::partition_of;
+use nm_forward::NodeState;
+use nm_model::trace::interfaces_have_their_records;
+use nm_topology::Topology;
+use nm_topology::topology::accepted_topologies_are_in_order;
+use std::alloc::Global;
+
+/// How many records an interface has, and the octets of its trace file, which stop at 2^64 - 1.
+#[derive(Clone, Copy, Drop)]
+pub struct IfaceTotals {
+    pub records: u64,
+    pub octets: u64,
+}
+
+/// What a certified run came to.
+#[derive(Drop)]
+pub struct Report {
+    /// The totals of each interface, by its number.
+    pub totals: Vec<IfaceTotals>,
+}
+
+/// The totals of an interface in the book of its partition.
+fn totals_in(topology: &Topology, book: &Book, iface: IfaceNo) -> IfaceTotals
+    requires there { iface < length topology.now.ifaces }
+    requires same { SaysSame book.now.topology topology.now }
+    requires part { book.now.partition ≡ receiver_of (net_of topology.now) iface }
+    requires whole { (last : ℕ) → IsBefore (net_of topology.now) (net_of topology.now).stop last
+        → (state_of book.now).records ≡ trace (net_of topology.now) book.now.partition last }
+    ensures { IsTotal topology.now iface result }
+{
+    interfaces_have_their_records::<Packet, NodeState>(); // law: they are in their partition's too
+    let (records, octets) = book.totals(iface);
+    IfaceTotals { records, octets }
+}
+
+/// The totals of an interface of certified books.
+///
+/// # Errors
+///
+/// `Net` where no book is of its partition, which no certified list of books is.
+fn totals_of(topology: &Topology, books: &[Book], iface: IfaceNo) -> Result<IfaceTotals, RunFault>
+    requires there { iface < length topology.now.ifaces }
+    requires certified { AreCertified topology.now books.now }
+    ensures { IfOk result (IsTotal topology.now iface) }
+{
+    let partition = partition_of(topology, iface);
+    for number in 0..books.len() {
+        if books[number].partition() == partition {
+            return Ok(totals_in(topology, &books[number], iface));
+        }
+    }
+    Err(RunFault::Net)
+}
+
+/// The report of certified books.
+pub(crate) fn report_of(
+    alloc: Global,
+    topology: &Topology,
+    books: &[Book],
+) -> Result<Report, RunFault>
+    requires { AreCertified topology.now books.now }
+    ensures { IfOk result (λ report. AreTotals topology.now report.totals.items) }
+{
+    accepted_topologies_are_in_order(topology); // law: there are few interfaces
+    let mut totals = Vec::new(alloc);
+    for number in 0..topology.ifaces().len() {
+        totals.push(totals_of(topology, books, IfaceNo::new(number as u32))?)?;
+    }
+    Ok(Report { totals })
+}

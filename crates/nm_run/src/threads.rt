@@ -1,0 +1,64 @@
+//! What the threads of a run share.
+
+use mio::Waker;
+use nm_shared::{ClockBoard, Plain, SharedBook};
+use nm_topology::Topology;
+use std::sync::Arc;
+use std::sync::atomic::{AtomicBool, AtomicUsize, Ordering};
+
+/// What all threads of a run share.
+#[derive(Clone, Copy)]
+pub(crate) struct Threaded<'a, G> {
+    pub topology: &'a Arc<Topology>,
+    /// The books of all replicas, by partition and replica.
+    pub books: &'a [SharedBook<Plain>],
+    pub board: &'a ClockBoard,
+    /// Each wakes the replica of the book at its place.
+    pub wakers: &'a [Waker],
+    /// Wakes the dispatcher.
+    pub dispatcher: &'a Waker,
+    /// How many replicas have ended.
+    pub ended: &'a AtomicUsize,
+    /// A replica has ended before it was done, or memory was refused to the dispatcher.
+    pub has_failed: &'a AtomicBool,
+    pub gate: &'a G,
+}
+
+impl<'a, G> Threaded<'a, G> {
+    /// Wakes the replica of a book.
+    pub(crate) fn wake(&self, book: usize) {
+        if let Some(waker) = self.wakers.get(book) {
+            let _ = waker.wake();
+        }
+    }
+
+    /// Wakes all replicas.
+    pub(crate) fn wake_all(&self) {
+        for waker in self.wakers {
+            let _ = waker.wake();
+        }
+    }
+
+    /// Tells all replicas that the run has failed.
+    pub(crate) fn fail(&self) {
+        self.has_failed.store(true, Ordering::SeqCst);
+        self.wake_all();
+    }
+
+    /// One more replica has ended.
+    pub(crate) fn count_end(&self) {
+        let _ = self.ended.fetch_add(1, Ordering::SeqCst);
+        let _ = self.dispatcher.wake();
+    }
+
+    /// No replica runs any more, or will.
+    pub(crate) fn end_all(&self) {
+        self.ended.store(self.books.len(), Ordering::SeqCst);
+        let _ = self.dispatcher.wake();
+    }
+
+    /// Whether all replicas have ended.
+    pub(crate) fn are_over(&self) -> bool {
+        self.ended.load(Ordering::SeqCst) >= self.books.len()
+    }
+}
