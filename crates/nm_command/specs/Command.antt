@@ -3,7 +3,7 @@ use Rattle.std.specs.Prelude.{ℕ, ◌+◌, ◌≤◌, ◌&&◌, leb, if◌then�
 use Rattle.std.specs.Str.{bytes_eq}
 use Rattle.nm_command.specs.declared.command.Command.{Command}
 use Rattle.nm_command.specs.declared.command.Command.TheVariants as command
-use Rattle.nm_command.specs.declared.command.TheConstants.{MAX_PARTITION, MAX_REPLICA}
+use Rattle.nm_command.specs.declared.command.TheConstants.{MAX_PARTITION, MAX_REPLICA, MAX_REPLICAS, MAX_WORKERS}
 use Rattle.nm_pcap.specs.declared.form.Form.{Form}
 use Rattle.nm_pcap.specs.declared.form.Form.TheVariants.{Octets, Hexadecimal}
 use Rattle.nm_rounds.specs.declared.rounds.TheConstants.{MAX_ROUNDS}
@@ -17,6 +17,8 @@ pub data CommandValue : Type 0 where
   Rounds : List ℕ → ℕ → CommandValue
   -- to do steps: the topology, and the script
   Script : List ℕ → List ℕ → CommandValue
+  -- to run all partitions: the topology, the folder of their trace files, how many threads run books, and how many replicas each partition has
+  Run : List ℕ → List ℕ → ℕ → ℕ → CommandValue
   -- to run one replica: the topology, the folder of its trace files, the partition, the number of the replica, and the addresses
   Node : List ℕ → List ℕ → ℕ → ℕ → List ℕ → CommandValue
 
@@ -24,6 +26,7 @@ abbrev pub command_value : Command → CommandValue
 command_value (command.Trace form topology iface) = Trace form topology.now (option_map (λ name. name.now) iface)
 command_value (command.Rounds topology max) = Rounds topology.now max
 command_value (command.Script topology steps) = Script topology.now steps.now
+command_value (command.Run topology folder workers replicas) = Run topology.now folder.now workers replicas
 command_value (command.Node topology folder partition replica addresses) = Node topology.now folder.now partition replica addresses.now
 
 -- the numbers of a command are such as may be asked for
@@ -31,6 +34,7 @@ abbrev pub IsWithinLimits : Command → Type 0
 IsWithinLimits (command.Trace form topology iface) = Unit {0}
 IsWithinLimits (command.Rounds topology max) = (1 ≤ max) × (max ≤ MAX_ROUNDS)
 IsWithinLimits (command.Script topology steps) = Unit {0}
+IsWithinLimits (command.Run topology folder workers replicas) = (1 ≤ workers) × (workers ≤ MAX_WORKERS) × (1 ≤ replicas) × (replicas ≤ MAX_REPLICAS)
 IsWithinLimits (command.Node topology folder partition replica addresses) = (partition ≤ MAX_PARTITION) × (replica ≤ MAX_REPLICA)
 
 abbrev pub form_of : List ℕ → Option Form
@@ -52,6 +56,18 @@ of_three word topology third =
     else (if bytes_eq word (codes "script") then Some (Script topology third)
     else trace_from topology (Some third) (form_of word))
 
+-- `run`, if its two numbers are such
+abbrev pub run_of : List ℕ → List ℕ → Option ℕ → Option ℕ → Option CommandValue
+run_of topology folder None replicas = None
+run_of topology folder (Some workers) None = None
+run_of topology folder (Some workers) (Some replicas) = Some (Run topology folder workers replicas)
+
+-- `run TOPO DIR WORKERS REPLICAS`
+abbrev pub of_five : List ℕ → List ℕ → List ℕ → List ℕ → List ℕ → Option CommandValue
+of_five word topology folder workers replicas =
+    if bytes_eq word (codes "run") then run_of topology folder (number_in 1 MAX_WORKERS workers) (number_in 1 MAX_REPLICAS replicas)
+    else None
+
 -- `node`, if its two numbers are such
 abbrev pub node_of : List ℕ → List ℕ → Option ℕ → Option ℕ → List ℕ → Option CommandValue
 node_of topology folder None replica addresses = None
@@ -64,13 +80,13 @@ of_six word topology folder partition replica addresses =
     if bytes_eq word (codes "node") then node_of topology folder (number_in 0 MAX_PARTITION partition) (number_in 0 MAX_REPLICA replica) addresses
     else None
 
--- words of three and of six; `one TOPO` or `onehex TOPO`; no words are `onehex -`
+-- words of three, of five and of six; `one TOPO` or `onehex TOPO`; no words are `onehex -`
 abbrev pub command_of : List (List ℕ) → Option CommandValue
 command_of [] = trace_from (codes "-") None (Some Hexadecimal)
 command_of (word ∷ []) = None
 command_of (word ∷ topology ∷ []) = trace_from topology None (form_of word)
 command_of (word ∷ topology ∷ third ∷ []) = of_three word topology third
 command_of (word ∷ topology ∷ third ∷ fourth ∷ []) = None
-command_of (word ∷ topology ∷ third ∷ fourth ∷ fifth ∷ []) = None
+command_of (word ∷ topology ∷ folder ∷ workers ∷ replicas ∷ []) = of_five word topology folder workers replicas
 command_of (word ∷ topology ∷ folder ∷ partition ∷ replica ∷ addresses ∷ []) = of_six word topology folder partition replica addresses
 command_of (word ∷ topology ∷ folder ∷ partition ∷ replica ∷ addresses ∷ more ∷ rest) = None

@@ -2,7 +2,7 @@
 use Rattle.std.specs.Prelude.{ℕ, List, [], ◌++◌, codes, decimal}
 use Rattle.nm_topology.specs.Fault.{refusal_number}
 use Rattle.nm_command.specs.declared.status.Status.{Status}
-use Rattle.nm_command.specs.declared.status.Status.TheVariants.{Done, Usage, NoInterface, ScriptLine, Step, Topology, File, Memory, Stalled}
+use Rattle.nm_command.specs.declared.status.Status.TheVariants.{Done, Usage, NoInterface, ScriptLine, Step, Topology, File, Memory, NotCertified, Stalled}
 
 -- the exit status
 abbrev pub code_of : Status → ℕ
@@ -14,6 +14,7 @@ code_of (Step n) = 2
 code_of (Topology r) = 3
 code_of File = 4
 code_of Memory = 5
+code_of (NotCertified n) = 6
 code_of Stalled = 7
 
 -- the line on standard error
@@ -26,4 +27,5 @@ line_of (Step n) = codes "nullsim: step " ++ decimal n ++ codes "\n"
 line_of (Topology r) = codes "nullsim: topology " ++ decimal (refusal_number r) ++ codes "\n"
 line_of File = codes "nullsim: file\n"
 line_of Memory = codes "nullsim: memory\n"
+line_of (NotCertified n) = codes "nullsim: not certified " ++ decimal n ++ codes "\n"
 line_of Stalled = codes "nullsim: stalled\n"

@@ -1,8 +1,8 @@
 //! The words of the program.
 
 ghost use Rattle.std.specs.Prelude.{◌≡◌, ℕ, ◌≤◌, map, IfSome, Some, decimal, option_map, string_bytes};
-ghost use Rattle.nm_command.specs.Command.{IsWithinLimits, command_of, command_value, form_of, node_of, number_in, of_six, of_three};
-ghost use Rattle.nm_command.specs.declared.command.TheConstants.{MAX_PARTITION, MAX_REPLICA};
+ghost use Rattle.nm_command.specs.Command.{IsWithinLimits, command_of, command_value, form_of, node_of, number_in, of_five, of_six, of_three, run_of};
+ghost use Rattle.nm_command.specs.declared.command.TheConstants.{MAX_PARTITION, MAX_REPLICA, MAX_REPLICAS, MAX_WORKERS};
 
 use nm_pcap::Form;
 use nm_rounds::rounds::MAX_ROUNDS;
@@ -13,6 +13,12 @@ pub const MAX_PARTITION: u64 = 63;
 
 /// The greatest number of a replica.
 pub const MAX_REPLICA: u64 = 1;
+
+/// The most threads that run books.
+pub const MAX_WORKERS: u64 = 64;
+
+/// The most replicas of a partition.
+pub const MAX_REPLICAS: u64 = 2;
 
 /// What the program is to do. Each input is named by the file that has it, or by `-`, which is
 /// standard input. A clause sees the names as octets.
@@ -39,6 +45,17 @@ pub enum Command<'a> {
         topology: &'a str,
         /// The input with the script.
         steps: &'a str,
+    },
+    /// To run all partitions at once, each as one or two replicas, and to certify what they come to.
+    Run {
+        /// The input with the topology text.
+        topology: &'a str,
+        /// The folder of its trace files.
+        folder: &'a str,
+        /// How many threads run books: 1 to 64.
+        workers: u8,
+        /// How many replicas each partition has: 1 or 2.
+        replicas: u8,
     },
     /// To run one replica of a partition, which talks with the others over sockets.
     Node {
@@ -114,6 +131,46 @@ fn of_three<'a>(word: &'a str, topology: &'a str, third: &'a str) -> Option<Comm
     })
 }
 
+/// The command of five words.
+fn of_five<'a>(
+    word: &'a str,
+    topology: &'a str,
+    folder: &'a str,
+    workers: &str,
+    replicas: &str,
+) -> Option<Command<'a>>
+    ensures value { option_map command_value result
+        ≡ of_five word.now topology.now folder.now workers.now replicas.now }
+    ensures limits { IfSome result IsWithinLimits }
+{
+    if word == "run" {
+        return run_of(topology, folder, workers, replicas);
+    }
+    None
+}
+
+/// The command `run`, where its two numbers are such.
+fn run_of<'a>(
+    topology: &'a str,
+    folder: &'a str,
+    workers: &str,
+    replicas: &str,
+) -> Option<Command<'a>>
+    ensures value { option_map command_value result
+        ≡ run_of topology.now folder.now (number_in 1 MAX_WORKERS workers.now)
+        (number_in 1 MAX_REPLICAS replicas.now) }
+    ensures limits { IfSome result IsWithinLimits }
+{
+    let workers = number_in(workers, 1, MAX_WORKERS)?;
+    let replicas = number_in(replicas, 1, MAX_REPLICAS)?;
+    Some(Command::Run {
+        topology,
+        folder,
+        workers: workers as u8,
+        replicas: replicas as u8,
+    })
+}
+
 /// The command `node`, where its two numbers are such.
 fn node_of<'a>(
     topology: &'a str,
@@ -159,8 +216,8 @@ fn of_six<'a>(
 
 impl<'a> Command<'a> {
     /// The command of the words after the program's name: `one TOPO IFACE` or `onehex TOPO IFACE`,
-    /// where IFACE may be left out, `rounds TOPO MAX`, `script TOPO STEPS`, or `node TOPO DIR
-    /// PARTITION REPLICA ADDRESSES`. No words are `onehex -`. `None` where the words are no command.
+    /// where IFACE may be left out, `rounds TOPO MAX`, `script TOPO STEPS`, `run TOPO DIR
+    /// WORKERS REPLICAS`, or `node TOPO DIR PARTITION REPLICA ADDRESSES`. No words are `onehex -`. `None` where the words are no command.
     pub fn of(words: &'a [String]) -> Option<Command<'a>>
         ensures value { option_map command_value result
             ≡ command_of (map (λ w. string_bytes w) words.now) }
@@ -178,6 +235,13 @@ impl<'a> Command<'a> {
                 iface: None,
             }),
             [word, topology, third] => of_three(word.as_str(), topology.as_str(), third.as_str()),
+            [word, topology, folder, workers, replicas] => of_five(
+                word.as_str(),
+                topology.as_str(),
+                folder.as_str(),
+                workers.as_str(),
+                replicas.as_str(),
+            ),
             [word, topology, folder, partition, replica, addresses] => of_six(
                 word.as_str(),
                 topology.as_str(),

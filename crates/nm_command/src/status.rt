@@ -28,6 +28,8 @@ pub enum Status {
     File,
     /// Memory was refused.
     Memory,
+    /// What the replicas came to is not certified, for the reason with this number.
+    NotCertified(u8),
     /// Something was left to do when the program gave up.
     Stalled,
 }
@@ -43,6 +45,7 @@ impl Status {
             Status::Topology(_) => 3,
             Status::File => 4,
             Status::Memory => 5,
+            Status::NotCertified(_) => 6,
             Status::Stalled => 7,
         }
     }
@@ -68,6 +71,9 @@ impl Status {
             }
             Status::File => put(sink, b"nullsim: file\n"),
             Status::Memory => put(sink, b"nullsim: memory\n"),
+            Status::NotCertified(fault) => {
+                put_number(sink, b"nullsim: not certified ", fault as u64)
+            }
             Status::Stalled => put(sink, b"nullsim: stalled\n"),
         }
     }

@@ -2,15 +2,15 @@
 use Rattle.std.proofs.Common.{◌≡◌, ℕ, List, Option, Result, Ok, Err, inl, inr, subst, sym}
 use Rattle.nm_pcap.specs.declared.form.Form.{Form}
 use Rattle.nm_command.specs.declared.status.Status.{Status}
-use Rattle.nm_command.specs.declared.status.Status.TheVariants.{Done, Usage, NoInterface, ScriptLine, Step, Topology, File, Memory as OutOfMemory, Stalled}
-use Rattle.nm_program.specs.declared.trace_file.TraceFault.{TraceFault}
-use Rattle.nm_program.specs.declared.trace_file.TraceFault.TheVariants.{Sink, Memory}
+use Rattle.nm_command.specs.declared.status.Status.TheVariants.{Done, Usage, NoInterface, ScriptLine, Step, Topology, File, Memory as OutOfMemory, NotCertified, Stalled}
+use Rattle.nm_files.specs.declared.trace_file.TraceFault.{TraceFault}
+use Rattle.nm_files.specs.declared.trace_file.TraceFault.TheVariants.{Sink, Memory}
 use Rattle.nm_program.specs.Input.{IsInput, IsRefused, IsUnread}
 use Rattle.nm_program.specs.Output.{IsPut}
 use Rattle.nm_program.specs.Rounds.{EndsRounds, SaysRounds}
 use Rattle.nm_program.specs.Script.{EndsScript, FailsScript, SaysReport}
 use Rattle.nm_program.specs.Traces.{EndsTrace, IsAnswer, outcome_status}
-use Rattle.nm_program.specs.Writing.{Writes}
+use Rattle.nm_files.specs.Writing.{Writes}
 
 module _ {S : Type 0} (taken : S → Option (List ℕ)) (failures : S → ℕ) (told : List ℕ → Option (List ℕ)) (failed_before failed : ℕ) (old new : S) where
   pub ends_written : (form : Form) (topology : List ℕ) (iface : Option (List ℕ)) (text octets : List ℕ) (outcome : Result Unit TraceFault)
@@ -34,6 +34,7 @@ module _ {S : Type 0} (taken : S → Option (List ℕ)) (failures : S → ℕ) (
       whole (Topology refusal) s = absurd s
       whole File s = absurd s
       whole OutOfMemory s = absurd s
+      whole (NotCertified n) s = absurd s
       whole Stalled s = (text, input, (octets, s, w))
   ends_rounds topology max text octets asked status input says (inr (file, w)) =
       subst (EndsRounds taken failures told failed_before failed old new topology max) (sym file) (inr (text, input, (asked, octets, says, w)))
@@ -55,6 +56,7 @@ module _ {S : Type 0} (taken : S → Option (List ℕ)) (failures : S → ℕ) (
   fails_script topology steps text script (Topology refusal) one two f same = (text, script, (one, two), f, same)
   fails_script topology steps text script File one two f same = absurd f
   fails_script topology steps text script OutOfMemory one two f same = same
+  fails_script topology steps text script (NotCertified n) one two f same = absurd f
   fails_script topology steps text script Stalled one two f same = absurd f
 
   pub first_unread : (topology steps : List ℕ) (status : Status) → IsUnread (told topology) failed_before failed status → new ≡ old → EndsScript taken failures told failed_before failed old new topology steps status
@@ -66,6 +68,7 @@ module _ {S : Type 0} (taken : S → Option (List ℕ)) (failures : S → ℕ) (
   first_unread topology steps (Topology refusal) f same = absurd f
   first_unread topology steps File f same = inl (inl f, same)
   first_unread topology steps OutOfMemory f same = same
+  first_unread topology steps (NotCertified n) f same = absurd f
   first_unread topology steps Stalled f same = absurd f
 
   pub second_unread : (topology steps : List ℕ) (status : Status) → IsUnread (told steps) failed_before failed status → new ≡ old → EndsScript taken failures told failed_before failed old new topology steps status
@@ -77,6 +80,7 @@ module _ {S : Type 0} (taken : S → Option (List ℕ)) (failures : S → ℕ) (
   second_unread topology steps (Topology refusal) f same = absurd f
   second_unread topology steps File f same = inl (inr f, same)
   second_unread topology steps OutOfMemory f same = same
+  second_unread topology steps (NotCertified n) f same = absurd f
   second_unread topology steps Stalled f same = absurd f
 
   pub unread_rounds : (topology : List ℕ) (max : ℕ) (status : Status) → IsUnread (told topology) failed_before failed status → new ≡ old → EndsRounds taken failures told failed_before failed old new topology max status
@@ -88,6 +92,7 @@ module _ {S : Type 0} (taken : S → Option (List ℕ)) (failures : S → ℕ) (
   unread_rounds topology max (Topology refusal) f same = absurd f
   unread_rounds topology max File f same = inl (f, same)
   unread_rounds topology max OutOfMemory f same = same
+  unread_rounds topology max (NotCertified n) f same = absurd f
   unread_rounds topology max Stalled f same = absurd f
 
   pub refused_rounds : (topology : List ℕ) (max : ℕ) (text : List ℕ) (status : Status) → IsInput (told topology) text → IsRefused text status → new ≡ old
@@ -100,6 +105,7 @@ module _ {S : Type 0} (taken : S → Option (List ℕ)) (failures : S → ℕ) (
   refused_rounds topology max text (Topology refusal) input f same = (text, input, f, same)
   refused_rounds topology max text File input f same = absurd f
   refused_rounds topology max text OutOfMemory input f same = same
+  refused_rounds topology max text (NotCertified n) input f same = absurd f
   refused_rounds topology max text Stalled input f same = absurd f
 
   pub unread_trace : (form : Form) (topology : List ℕ) (iface : Option (List ℕ)) (status : Status) → IsUnread (told topology) failed_before failed status → new ≡ old
@@ -112,6 +118,7 @@ module _ {S : Type 0} (taken : S → Option (List ℕ)) (failures : S → ℕ) (
   unread_trace form topology iface (Topology refusal) f same = absurd f
   unread_trace form topology iface File f same = inl (f, same)
   unread_trace form topology iface OutOfMemory f same = inl same
+  unread_trace form topology iface (NotCertified n) f same = absurd f
   unread_trace form topology iface Stalled f same = absurd f
 
   pub refused_trace : (form : Form) (topology : List ℕ) (iface : Option (List ℕ)) (text : List ℕ) (status : Status) → IsInput (told topology) text → IsRefused text status → new ≡ old
@@ -124,4 +131,5 @@ module _ {S : Type 0} (taken : S → Option (List ℕ)) (failures : S → ℕ) (
   refused_trace form topology iface text (Topology refusal) input f same = (text, input, f, same)
   refused_trace form topology iface text File input f same = absurd f
   refused_trace form topology iface text OutOfMemory input f same = inl same
+  refused_trace form topology iface text (NotCertified n) input f same = absurd f
   refused_trace form topology iface text Stalled input f same = absurd f

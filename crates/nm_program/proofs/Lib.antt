@@ -1,9 +1,6 @@
-pub mod Pieces
-pub mod Records
 pub mod InterfaceLines
 pub mod Texts
 pub mod Times
-pub mod BookTimes
-pub mod Making
 pub mod Endings
 pub mod NodeEndings
+pub mod RunEndings

@@ -1,11 +1,11 @@
 -- How the word `node` ends.
 use Rattle.std.proofs.Common.{◌≡◌, ◌⊎◌, ℕ, inl, inr, List, Option, Result, Ok, Err, sym, subst}
 use Rattle.nm_command.specs.declared.status.Status.{Status}
-use Rattle.nm_command.specs.declared.status.Status.TheVariants.{Done, Usage, NoInterface, ScriptLine, Step, Topology, File, Memory, Stalled}
+use Rattle.nm_command.specs.declared.status.Status.TheVariants.{Done, Usage, NoInterface, ScriptLine, Step, Topology, File, Memory, NotCertified, Stalled}
 use Rattle.nm_program.specs.Input.{IsInput, IsUnread}
 use Rattle.nm_program.specs.Node.{EndsNode, FailsNode, SaysNode, StopsNode}
 use Rattle.nm_program.specs.Output.{IsPut}
-use Rattle.nm_program.specs.Outputs.{Files, HasMade}
+use Rattle.nm_files.specs.Outputs.{Files, HasMade}
 
 module _ {S : Type 0} (taken : S → Option (List ℕ)) (failures : S → ℕ) (told : List ℕ → Option (List ℕ)) (failed_before failed : ℕ) (old new : S) (before after : Option Files) where
   module _ (topology folder : List ℕ) (p r : ℕ) (addresses : List ℕ) where
@@ -29,6 +29,7 @@ module _ {S : Type 0} (taken : S → Option (List ℕ)) (failures : S → ℕ) (
     node_fails text listeners (Topology refusal) one two f same kept = (text, listeners, (one, two), f, (same, kept))
     node_fails text listeners File one two f same kept = absurd f
     node_fails text listeners Memory one two f same kept = same
+    node_fails text listeners (NotCertified n) one two f same kept = absurd f
     node_fails text listeners Stalled one two f same kept = absurd f
 
     pub node_stops : (text listeners : List ℕ) (status : Status) → IsInput (told topology) text → IsInput (told addresses) listeners
@@ -41,6 +42,7 @@ module _ {S : Type 0} (taken : S → Option (List ℕ)) (failures : S → ℕ) (
     node_stops text listeners (Topology refusal) one two f same = absurd f
     node_stops text listeners File one two f same = inr (text, listeners, (one, two), inl same)
     node_stops text listeners Memory one two f same = same
+    node_stops text listeners (NotCertified n) one two f same = absurd f
     node_stops text listeners Stalled one two f same = (text, listeners, (one, two), (same, f))
 
     pub node_unread : (status : Status) → IsUnread (told topology) failed_before failed status ⊎ IsUnread (told addresses) failed_before failed status
@@ -60,6 +62,8 @@ module _ {S : Type 0} (taken : S → Option (List ℕ)) (failures : S → ℕ) (
     node_unread File (inl f) same kept = inl (inl f, (same, kept))
     node_unread File (inr f) same kept = inl (inr f, (same, kept))
     node_unread Memory h same kept = same
+    node_unread (NotCertified n) (inl f) same kept = absurd f
+    node_unread (NotCertified n) (inr f) same kept = absurd f
     node_unread Stalled (inl f) same kept = absurd f
     node_unread Stalled (inr f) same kept = absurd f
 

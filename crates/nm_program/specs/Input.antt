@@ -6,7 +6,7 @@ use Rattle.std.specs.declared.io.ErrorKind.TheVariants.{OutOfMemory}
 use Rattle.nm_topology.specs.Topology.{topology_of}
 use Rattle.nm_topology.specs.TopologyValue.{TopologyValue}
 use Rattle.nm_command.specs.declared.status.Status.{Status}
-use Rattle.nm_command.specs.declared.status.Status.TheVariants.{Done, Usage, NoInterface, ScriptLine, Step, Topology, File, Memory, Stalled}
+use Rattle.nm_command.specs.declared.status.Status.TheVariants.{Done, Usage, NoInterface, ScriptLine, Step, Topology, File, Memory, NotCertified, Stalled}
 use Rattle.nm_program.specs.declared.input.TheConstants.{MAX_INPUT_OCTETS}
 use Rattle.nm_program.specs.declared.input.InputFault.{InputFault}
 use Rattle.nm_program.specs.declared.input.InputFault.TheVariants.{Failed, Memory as NoMemory}
@@ -44,6 +44,7 @@ IsUnread told failed_before failed (Step n) = ⊥
 IsUnread told failed_before failed (Topology refusal) = ⊥
 IsUnread told failed_before failed File = IsNotRead told failed_before failed
 IsUnread told failed_before failed Memory = Unit {0}
+IsUnread told failed_before failed (NotCertified n) = ⊥
 IsUnread told failed_before failed Stalled = ⊥
 
 -- why a text gives no topology
@@ -56,6 +57,7 @@ IsRefused text (Step n) = ⊥
 IsRefused text (Topology refusal) = topology_of text ≡ Err refusal
 IsRefused text File = ⊥
 IsRefused text Memory = Unit {0}
+IsRefused text (NotCertified n) = ⊥
 IsRefused text Stalled = ⊥
 
 -- what the reading of a topology answers, of an input that may tell what it has

@@ -1,11 +1,9 @@
 pub mod Input
-pub mod Writing
-pub mod TraceFile
 pub mod Traces
 pub mod Lines
 pub mod Output
 pub mod Rounds
 pub mod Script
-pub mod Outputs
 pub mod Node
+pub mod Run
 pub mod Ending

@@ -14,16 +14,13 @@ use Rattle.nm_addresses.specs.Addresses.{IsAddresses}
 use Rattle.nm_addresses.specs.declared.address.Address.{Address}
 use Rattle.nm_node.specs.Node.{IsDoneReplica}
 use Rattle.nm_command.specs.declared.status.Status.{Status}
-use Rattle.nm_command.specs.declared.status.Status.TheVariants.{Done, Usage, NoInterface, ScriptLine, Step, Topology, File, Memory, Stalled}
+use Rattle.nm_command.specs.declared.status.Status.TheVariants.{Done, Usage, NoInterface, ScriptLine, Step, Topology, File, Memory, NotCertified, Stalled}
 use Rattle.nm_program.specs.Input.{IsInput, IsNotRead}
 use Rattle.nm_program.specs.Lines.{iface_line}
-use Rattle.nm_program.specs.Outputs.{Files, HasMade}
-use Rattle.nm_program.specs.TraceFile.{trace_file}
-use Rattle.nm_program.specs.Writing.{WroteAll, WrotePrefix}
-
--- the name of the trace file of an interface in a folder
-abbrev pub file_name : List ℕ → IfaceValue → List ℕ
-file_name folder iface = folder ++ codes "/" ++ iface.name ++ codes ".pcap"
+use Rattle.nm_files.specs.Names.{file_name}
+use Rattle.nm_files.specs.Outputs.{Files, HasMade}
+use Rattle.nm_files.specs.TraceFile.{trace_file}
+use Rattle.nm_files.specs.Writing.{WroteAll, WrotePrefix}
 
 -- what is made of the interfaces of a partition, each with its number, in the order of the text
 abbrev pub of_own : {X : Type 0} → TopologyValue → ℕ → (ℕ → IfaceValue → X) → ℕ × IfaceValue → List X
@@ -68,6 +65,7 @@ FailsNode text addresses partition replica (Step n) = ⊥
 FailsNode text addresses partition replica (Topology refusal) = topology_of text ≡ Err refusal
 FailsNode text addresses partition replica File = ⊥
 FailsNode text addresses partition replica Memory = Unit {0}
+FailsNode text addresses partition replica (NotCertified n) = ⊥
 FailsNode text addresses partition replica Stalled = ⊥
 
 -- why a replica that was served has no files, or not all
@@ -80,6 +78,7 @@ StopsNode before after (Step n) = ⊥
 StopsNode before after (Topology refusal) = ⊥
 StopsNode before after File = Unit {0}
 StopsNode before after Memory = Unit {0}
+StopsNode before after (NotCertified n) = ⊥
 StopsNode before after Stalled = after ≡ before
 
 -- What each status says. Both inputs are read before anything else is looked at. Files are made only once the replica is done; what files there
@@ -107,4 +106,5 @@ module _ {S : Type 0} (taken : S → Option (List ℕ)) (failures : S → ℕ) (
         ⊎ ((octets : List ℕ) × (files : Files) × SaysNode text listeners folder partition replica octets files
         × WrotePrefix taken failures old new octets × HasMade made_before made files)))
     EndsNode Memory = new ≡ old
+    EndsNode (NotCertified n) = ⊥
     EndsNode Stalled = (text : List ℕ) × (listeners : List ℕ) × AreRead text listeners × IsUntouched

@@ -8,10 +8,10 @@ use Rattle.nm_sim.specs.Trace.{IsTraceBefore}
 use Rattle.nm_book.specs.Book.{BookValue}
 use Rattle.nm_rounds.specs.Rounds.{AreUnfinished}
 use Rattle.nm_command.specs.declared.status.Status.{Status}
-use Rattle.nm_command.specs.declared.status.Status.TheVariants.{Done, Usage, NoInterface, ScriptLine, Step, Topology, File, Memory, Stalled}
+use Rattle.nm_command.specs.declared.status.Status.TheVariants.{Done, Usage, NoInterface, ScriptLine, Step, Topology, File, Memory, NotCertified, Stalled}
 use Rattle.nm_program.specs.Input.{IsInput, IsNotRead}
 use Rattle.nm_program.specs.Lines.{AreTotals, iface_lines}
-use Rattle.nm_program.specs.Writing.{WroteAll, WrotePrefix}
+use Rattle.nm_files.specs.Writing.{WroteAll, WrotePrefix}
 
 -- All was done in one of so many rounds. Each interface has what it has in the trace of the one event list, over the whole run.
 pub record SaysDone (max : ℕ) (text octets : List ℕ) : Type 0 where
@@ -44,6 +44,7 @@ SaysRounds max text (Step n) octets = ⊥
 SaysRounds max text (Topology refusal) octets = ⊥
 SaysRounds max text File octets = ⊥
 SaysRounds max text Memory octets = ⊥
+SaysRounds max text (NotCertified n) octets = ⊥
 SaysRounds max text Stalled octets = SaysUnfinished max text octets
 
 -- What each status says. Where memory was refused, the sink took nothing.
@@ -59,4 +60,5 @@ module _ {S : Type 0} (taken : S → Option (List ℕ)) (failures : S → ℕ) (
     EndsRounds File = (IsNotRead (told topology) failed_before failed × (new ≡ old))
         ⊎ ((text : List ℕ) × IsInput (told topology) text × ((status : Status) × (octets : List ℕ) × SaysRounds max text status octets × WrotePrefix taken failures old new octets))
     EndsRounds Memory = new ≡ old
+    EndsRounds (NotCertified n) = ⊥
     EndsRounds Stalled = (text : List ℕ) × IsInput (told topology) text × ((octets : List ℕ) × SaysUnfinished max text octets × WroteAll taken failures old new octets)

@@ -11,9 +11,9 @@ use Rattle.nm_rounds.specs.declared.step.WorldStep.{WorldStep}
 use Rattle.nm_script.specs.Printed.{report_text}
 use Rattle.nm_script.specs.Script.{IsFirstFault, IsScript}
 use Rattle.nm_command.specs.declared.status.Status.{Status}
-use Rattle.nm_command.specs.declared.status.Status.TheVariants.{Done, Usage, NoInterface, ScriptLine, Step, Topology, File, Memory, Stalled}
+use Rattle.nm_command.specs.declared.status.Status.TheVariants.{Done, Usage, NoInterface, ScriptLine, Step, Topology, File, Memory, NotCertified, Stalled}
 use Rattle.nm_program.specs.Input.{IsInput, IsNotRead}
-use Rattle.nm_program.specs.Writing.{WroteAll, WrotePrefix}
+use Rattle.nm_files.specs.Writing.{WroteAll, WrotePrefix}
 
 -- What is said are the answers to all steps of the script, and the books that they left, as the model's world has them. So the headline holds of them.
 pub record SaysReport (text script octets : List ℕ) : Type 0 where
@@ -53,6 +53,7 @@ FailsScript text script (Step step) = StopsAt text script step
 FailsScript text script (Topology refusal) = topology_of text ≡ Err refusal
 FailsScript text script File = ⊥
 FailsScript text script Memory = Unit {0}
+FailsScript text script (NotCertified n) = ⊥
 FailsScript text script Stalled = ⊥
 
 -- What each status says. Both inputs are read before anything else is looked at; where the first is not read, the second is not opened.
@@ -73,4 +74,5 @@ module _ {S : Type 0} (taken : S → Option (List ℕ)) (failures : S → ℕ) (
         ⊎ ((text : List ℕ) × (script : List ℕ) × AreRead text script
         × ((octets : List ℕ) × SaysReport text script octets × WrotePrefix taken failures old new octets))
     EndsScript Memory = new ≡ old
+    EndsScript (NotCertified n) = ⊥
     EndsScript Stalled = ⊥

@@ -8,12 +8,12 @@ use Rattle.nm_topology.specs.PartValues.{IfaceValue}
 use Rattle.nm_topology.specs.TopologyValue.{TopologyValue}
 use Rattle.nm_sim.specs.Trace.{IsTraceBefore}
 use Rattle.nm_command.specs.declared.status.Status.{Status}
-use Rattle.nm_command.specs.declared.status.Status.TheVariants.{Done, Usage, NoInterface, ScriptLine, Step, Topology, File, Memory, Stalled}
-use Rattle.nm_program.specs.declared.trace_file.TraceFault.{TraceFault}
-use Rattle.nm_program.specs.declared.trace_file.TraceFault.TheVariants.{Sink, Memory as NoMemory}
+use Rattle.nm_command.specs.declared.status.Status.TheVariants.{Done, Usage, NoInterface, ScriptLine, Step, Topology, File, Memory, NotCertified, Stalled}
+use Rattle.nm_files.specs.declared.trace_file.TraceFault.{TraceFault}
+use Rattle.nm_files.specs.declared.trace_file.TraceFault.TheVariants.{Sink, Memory as NoMemory}
 use Rattle.nm_program.specs.Input.{IsInput, IsNotRead}
-use Rattle.nm_program.specs.Writing.{WroteAll, WrotePart, WrotePrefix}
-use Rattle.nm_program.specs.TraceFile.{trace_file}
+use Rattle.nm_files.specs.Writing.{WroteAll, WrotePart, WrotePrefix}
+use Rattle.nm_files.specs.TraceFile.{trace_file}
 
 -- the number of the interface that a command names, which is 0 where it names none
 abbrev pub iface_named : List IfaceValue → Option (List ℕ) → Option ℕ
@@ -45,6 +45,7 @@ module _ {S : Type 0} (taken : S → Option (List ℕ)) (failures : S → ℕ) (
         ⊎ ((text : List ℕ) × IsInput (told topology) text × ((octets : List ℕ) × IsAnswer form iface text octets × WrotePrefix taken failures old new octets))
     EndsTrace Memory = (new ≡ old)
         ⊎ ((text : List ℕ) × IsInput (told topology) text × ((octets : List ℕ) × IsAnswer form iface text octets × WrotePart taken failures old new octets))
+    EndsTrace (NotCertified n) = ⊥
     EndsTrace Stalled = ⊥
 
 -- the status of a command whose trace file was written, or was not

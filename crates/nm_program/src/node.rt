@@ -9,7 +9,7 @@ ghost use Rattle.nm_node.specs.Node.{IsDoneReplica};
 ghost use Rattle.nm_program.specs.Input.{text_of};
 ghost use Rattle.nm_program.specs.Node.{EndsNode, FailsNode, SaysNode, StopsNode, own_files, own_line, own_lines};
 ghost use Rattle.nm_command.specs.declared.status.Status.TheVariants.{File, Memory, Stalled};
-ghost use Rattle.nm_program.specs.Outputs.{Files, HasMade};
+ghost use Rattle.nm_files.specs.Outputs.{Files, HasMade};
 ghost use Rattle.nm_topology.specs.PartValues.{IfaceValue};
 ghost use Rattle.nm_topology.specs.Topology.{topology_of};
 
@@ -17,14 +17,15 @@ use crate::input::NamedInputs;
 use crate::inputs::Inputs;
 use crate::lines::push_line;
 use crate::output::{Output, put};
-use crate::outputs::Outputs;
 use crate::reading::{read_network, read_text};
 use crate::trace_files::make_files;
 use nm_addresses::{Address, AddressFault, read_addresses};
 use nm_base::{IfaceNo, PartNo, Record, Sink};
 use nm_book::Book;
 use nm_book::channels::partition_of;
+use nm_book::laws::records_have_times_of_a_file;
 use nm_command::Status;
+use nm_files::Outputs;
 use nm_net::limits::MAX_IDLE_POLLS;
 use nm_node::{Node, NodeFault, run_node};
 use nm_topology::Topology;
@@ -39,8 +40,7 @@ fn trace_of(book: &Book) -> &[Record]
     ensures value { result.now ≡ (state_of book.now).records }
     ensures times { All (λ r. r.time ≤ MAX_TIME) result.now }
 {
-    accepted_topologies_are_in_order(book.topology()); // law: `stop` is within its limit
-    let _ = book.events(); // they are before the safe time
+    records_have_times_of_a_file(book); // law: their times are before `stop`
     book.trace()
 }
 

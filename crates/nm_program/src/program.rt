@@ -11,15 +11,18 @@ ghost use Rattle.nm_command.specs.declared.status.Status.TheVariants.{Done, File
 use crate::input::NamedInputs;
 use crate::inputs::Inputs;
 use crate::node::say_node;
-use crate::outputs::Outputs;
 use crate::rounds::say_rounds;
+use crate::runs::say_run;
 use crate::script::say_script;
 use crate::traces::write_trace;
 use nm_base::{PartNo, Sink};
 use nm_command::{Command, Status};
+use nm_files::Outputs;
 use std::alloc::Global;
+use std::net;
 use std::net::Net;
 use std::sync::Wait;
+use std::thread::Threads;
 
 /// Does what the words say, and gives the sink back. Inputs are those that the words name. What is
 /// asked for goes to `out`, a trace file as it is made, and a line to `errors` where the program is
@@ -27,11 +30,11 @@ use std::sync::Wait;
 ///
 /// The first of these decides: the words, the inputs in the words' order, the topology, the lines of
 /// a script, all else.
-/// Words that are no command open no input. Only `node` makes files, once its replica is done, and
-/// only `node` uses the network. Memory may be refused at any place: the sink has a
+/// Words that are no command open no input. Only `run` makes files, as its replicas run, and `node`,
+/// once its replica is done; only these use the network. Memory may be refused at any place: the sink has a
 /// prefix of the trace file then, which may be empty. Where the sink fails it has a prefix of what
 /// was asked for too; with every other status but `Done` and `Stalled` it took nothing.
-pub fn run<I: Inputs, F: Outputs, O: Sink + Drop, E: Sink, R: Net + Wait + Drop + Copy>(
+pub fn run<I: Inputs, F: Outputs, O: Sink + Drop, E: Sink, R>(
     rt: &R,
     alloc: Global,
     words: &[String],
@@ -40,6 +43,14 @@ pub fn run<I: Inputs, F: Outputs, O: Sink + Drop, E: Sink, R: Net + Wait + Drop 
     out: O,
     errors: &mut E,
 ) -> (Status, O)
+where
+    F::File: Send,
+    R: Net<Stream = net::TcpStream, Listener = net::TcpListener>
+        + Threads
+        + Wait
+        + Sync
+        + Drop
+        + Copy,
     ensures ending { Ends O.taken O.failures
         (text_of I.standard_text I.file_text inputs.old.inputs)
         inputs.old.failures inputs.new.failures
@@ -53,7 +64,7 @@ pub fn run<I: Inputs, F: Outputs, O: Sink + Drop, E: Sink, R: Net + Wait + Drop 
 }
 
 /// Does what a command asks for, and gives the sink back.
-fn perform<I: Inputs, F: Outputs, O: Sink + Drop, R: Net + Wait + Drop + Copy>(
+fn perform<I: Inputs, F: Outputs, O: Sink + Drop, R>(
     rt: &R,
     alloc: Global,
     command: Option<Command<'_>>,
@@ -61,6 +72,14 @@ fn perform<I: Inputs, F: Outputs, O: Sink + Drop, R: Net + Wait + Drop + Copy>(
     outputs: &mut F,
     out: O,
 ) -> (Status, O)
+where
+    F::File: Send,
+    R: Net<Stream = net::TcpStream, Listener = net::TcpListener>
+        + Threads
+        + Wait
+        + Sync
+        + Drop
+        + Copy,
     requires { IfSome command IsWithinLimits }
     ensures { Ends O.taken O.failures
         (text_of I.standard_text I.file_text inputs.old.inputs)
@@ -80,6 +99,16 @@ fn perform<I: Inputs, F: Outputs, O: Sink + Drop, R: Net + Wait + Drop + Copy>(
         Some(Command::Script { topology, steps }) => {
             say_script(alloc, topology, steps, inputs, out)
         }
+        Some(
+            Command::Run {
+                topology,
+                folder,
+                workers,
+                replicas,
+            },
+        ) => say_run(
+            rt, alloc, topology, folder, workers, replicas, inputs, outputs, out,
+        ),
         Some(
             Command::Node {
                 topology,

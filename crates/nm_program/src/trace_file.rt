@@ -7,28 +7,17 @@ ghost use Rattle.nm_events.specs.Held.{pending_of};
 ghost use Rattle.nm_pcap.specs.Format.{file_header};
 ghost use Rattle.nm_pcap.specs.Writing.{ending, written};
 ghost use Rattle.nm_sim.specs.Trace.{Hands, IsTraceBefore, IsTracing};
-ghost use Rattle.nm_program.specs.Writing.{Writes, WritesOn, sink_outcome};
-ghost use Rattle.nm_program.specs.TraceFile.{trace_file, written_at};
+ghost use Rattle.nm_files.specs.Writing.{Writes, WritesOn};
+ghost use Rattle.nm_files.specs.TraceFile.{trace_file, written_at};
 
 use nm_base::{IfaceNo, Record, Sink};
-use nm_pcap::{Form, PcapFault, PcapOut};
+use nm_files::trace_file::{TraceFault, sink_outcome, write_at};
+use nm_pcap::{Form, PcapOut};
 use nm_sim::Tracer;
 use nm_sim::trace::every_topology_has_a_trace;
 use nm_topology::Topology;
 use nm_topology::topology::accepted_topologies_are_in_order;
 use std::alloc::{AllocError, Global};
-use thiserror::Error;
-
-/// Why a trace file was not written to its end.
-#[derive(Clone, Copy, Debug, PartialEq, Eq, Error)]
-pub enum TraceFault {
-    /// The sink failed. It took a prefix of the file.
-    #[error("the sink failed")]
-    Sink,
-    /// Memory was refused. The sink took a prefix of the file, and did not fail.
-    #[error("out of memory")]
-    Memory,
-}
 
 /// Writes the trace file of an interface, and gives the sink back. The network runs as the file is
 /// written: each record is let go before the next is made.
@@ -132,31 +121,4 @@ fn next_record(
     accepted_topologies_are_in_order(topology); // law: `stop` is within its limit
     every_topology_has_a_trace(topology); // law: the record is one of a trace
     tracer.next(alloc, topology)
-}
-
-/// Writes a record if it is at the interface.
-pub(crate) fn write_at<S: Sink>(
-    iface: IfaceNo,
-    record: &Record,
-    file: &mut PcapOut<S>,
-) -> Result<(), TraceFault>
-    requires time { «record».now.time ≤ MAX_TIME }
-    requires sound { file.old.failed ≡ false }
-    ensures { WritesOn S.taken S.failures file.old file.new result
-        (written_at file.old.form iface («record».now ∷ [])) }
-{
-    if record.iface != iface {
-        return Ok(());
-    }
-    sink_outcome(file.put(record))
-}
-
-/// What a fault of a trace file is to the program.
-pub(crate) fn sink_outcome(outcome: Result<(), PcapFault>) -> Result<(), TraceFault>
-    ensures { result ≡ sink_outcome outcome }
-{
-    match outcome {
-        Ok(()) => Ok(()),
-        Err(_) => Err(TraceFault::Sink),
-    }
 }

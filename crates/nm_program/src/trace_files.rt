@@ -1,86 +1,24 @@
 //! The trace files of a partition, of a replica that is done.
 
-ghost use Rattle.std.specs.Prelude.{◌≡◌, ◌<◌, ◌≤◌, ◌∷◌, ◌⊎◌, [], Some, true, false, All, IfErr, IfOk, length, slice_get, string_bytes};
+ghost use Rattle.std.specs.Prelude.{◌≡◌, ◌<◌, ◌≤◌, ◌⊎◌, Some, All, IfErr, IfOk, length, slice_get};
 ghost use Rattle.nm_base.specs.declared.limits.TheConstants.{MAX_TIME};
 ghost use Rattle.nm_command.specs.declared.status.Status.TheVariants.{File, Memory};
+ghost use Rattle.nm_files.specs.Names.{file_name};
+ghost use Rattle.nm_files.specs.Outputs.{HasMade};
+ghost use Rattle.nm_files.specs.TraceFile.{trace_file};
 ghost use Rattle.nm_pcap.specs.declared.form.Form.TheVariants.{Octets};
-ghost use Rattle.nm_program.specs.Node.{file_name, of_own, own_files};
-ghost use Rattle.nm_program.specs.Outputs.{HasMade};
-ghost use Rattle.nm_program.specs.TraceFile.{trace_file, written_at};
-ghost use Rattle.nm_program.specs.Writing.{WritesOn};
+ghost use Rattle.nm_program.specs.Node.{of_own, own_files};
 ghost use Rattle.nm_topology.specs.PartValues.{IfaceValue};
 
-use crate::outputs::Outputs;
-use crate::trace_file::{TraceFault, sink_outcome, write_at};
-use nm_base::{IfaceNo, PartNo, Record, Sink};
+use nm_base::{IfaceNo, PartNo, Record};
 use nm_book::channels::partition_of;
 use nm_command::Status;
-use nm_pcap::PcapOut;
+use nm_files::Outputs;
+use nm_files::making::make_file;
+use nm_files::names::name_of;
 use nm_topology::Topology;
-use nm_topology::parts::Iface;
 use nm_topology::topology::accepted_topologies_are_in_order;
-use std::alloc::{AllocError, Global};
-
-/// Writes those of the records that are at the interface.
-fn write_list<S: Sink>(
-    iface: IfaceNo,
-    records: &[Record],
-    file: &mut PcapOut<S>,
-) -> Result<(), TraceFault>
-    requires sound { file.old.failed ≡ false }
-    requires times { All (λ r. r.time ≤ MAX_TIME) records.now }
-    ensures { WritesOn S.taken S.failures file.old file.new result
-        (written_at file.old.form iface records.now) }
-{
-    for number in 0..records.len() {
-        write_at(iface, &records[number], file)?;
-    }
-    Ok(())
-}
-
-/// Writes the trace file of an interface with these records, of which nothing was written.
-fn write_whole<S: Sink>(
-    iface: IfaceNo,
-    records: &[Record],
-    file: &mut PcapOut<S>,
-) -> Result<(), TraceFault>
-    requires sound { file.old.failed ≡ false }
-    requires times { All (λ r. r.time ≤ MAX_TIME) records.now }
-    ensures { WritesOn S.taken S.failures file.old file.new result
-        (trace_file file.old.form iface records.now) }
-{
-    sink_outcome(file.start())?;
-    write_list(iface, records, file)?;
-    sink_outcome(file.end())
-}
-
-/// Makes the trace file of an interface with this name and these records: whether it was made.
-fn make_file<F: Outputs>(outputs: &mut F, name: &str, iface: IfaceNo, records: &[Record]) -> bool
-    requires { All (λ r. r.time ≤ MAX_TIME) records.now }
-    ensures { result ≡ true → HasMade (F.made outputs.old) (F.made outputs.new)
-        ((name.now, trace_file Octets iface records.now) ∷ []) }
-{
-    let Some(sink) = outputs.create(name) else {
-        return false;
-    };
-    let mut file = PcapOut::new(sink);
-    if write_whole(iface, records, &mut file).is_err() {
-        return false;
-    }
-    outputs.close(name, file.into_sink())
-}
-
-/// The name of the trace file of an interface in a folder.
-fn name_of(alloc: Global, folder: &str, iface: &Iface) -> Result<String, AllocError>
-    ensures { IfOk result (λ name. string_bytes name ≡ file_name folder.now iface.now) }
-{
-    let mut name = String::new(alloc);
-    name.push_str(folder)?;
-    name.push_str("/")?;
-    name.push_str(iface.name())?;
-    name.push_str(".pcap")?;
-    Ok(name)
-}
+use std::alloc::Global;
 
 /// Makes the trace file of an interface, if that is of the partition.
 fn make_own<F: Outputs>(

@@ -8,9 +8,10 @@ ghost use Rattle.nm_program.specs.Traces.{EndsTrace, iface_named, outcome_status
 use crate::input::NamedInputs;
 use crate::inputs::Inputs;
 use crate::reading::read_topology;
-use crate::trace_file::{TraceFault, write_trace_file};
+use crate::trace_file::write_trace_file;
 use nm_base::{IfaceNo, Sink};
 use nm_command::{Form, Status};
+use nm_files::trace_file::TraceFault;
 use nm_sim::trace::every_topology_has_a_trace;
 use nm_topology::Topology;
 use nm_topology::parts::Iface;

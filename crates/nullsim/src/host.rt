@@ -3,7 +3,8 @@
 ghost use Rattle.std.specs.Prelude.{None};
 
 use nm_base::StdSink;
-use nm_program::{Inputs, Outputs};
+use nm_files::Outputs;
+use nm_program::Inputs;
 use std::fs::File;
 use std::io::{BufWriter, StdinLock};
 use std::{fs, io};

@@ -27,7 +27,14 @@ fn words<R: Env + Alloc>(rt: &R) -> io::Result<Vec<String<R::A>, R::A>> {
 
 /// The program, up to its exit status. `network` is the runtime too, with what `main` alone may hand
 /// on: the network, and waiting.
-fn status<N: Net + Wait + Drop + Copy>(rt: &HostRuntime, network: &N) -> Status {
+fn status<
+    N: Net<Stream = std::net::TcpStream, Listener = std::net::TcpListener>
+        + std::thread::Threads
+        + Wait
+        + Sync
+        + Drop
+        + Copy,
+>(rt: &HostRuntime, network: &N) -> Status {
     let mut errors = StdSink::new(rt.stderr());
     let words = match words(rt) {
         Ok(words) => words,

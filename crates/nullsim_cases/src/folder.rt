@@ -40,10 +40,17 @@ fn run_half<R: Files + AllocGlobal>(rt: &R, stem: &str) -> io::Result<Tally> {
 }
 
 /// Runs the case of the topology text at a path, which is without its end.
-fn run_text<R: Files + AllocGlobal + Print + Net + Wait + Drop + Copy>(
-    rt: &R,
-    stem: &str,
-) -> io::Result<Tally> {
+fn run_text<
+    R: Files
+        + AllocGlobal
+        + Print
+        + Net<Stream = std::net::TcpStream, Listener = std::net::TcpListener>
+        + std::thread::Threads
+        + Wait
+        + Sync
+        + Drop
+        + Copy,
+>(rt: &R, stem: &str) -> io::Result<Tally> {
     if stem.starts_with("cases/rounds/") {
         return run_rounds_case(rt, stem);
     }
@@ -54,10 +61,17 @@ fn run_text<R: Files + AllocGlobal + Print + Net + Wait + Drop + Copy>(
 }
 
 /// Runs the cases of the file at a path.
-fn run_file<R: Files + AllocGlobal + Print + Net + Wait + Drop + Copy>(
-    rt: &R,
-    path: &str,
-) -> io::Result<Tally> {
+fn run_file<
+    R: Files
+        + AllocGlobal
+        + Print
+        + Net<Stream = std::net::TcpStream, Listener = std::net::TcpListener>
+        + std::thread::Threads
+        + Wait
+        + Sync
+        + Drop
+        + Copy,
+>(rt: &R, path: &str) -> io::Result<Tally> {
     if path.ends_with(".cases") {
         return run_table(rt, path);
     }
@@ -74,11 +88,17 @@ fn run_file<R: Files + AllocGlobal + Print + Net + Wait + Drop + Copy>(
 }
 
 /// Runs the cases of a file of a folder, and prints what is wrong with the file.
-fn run_named<R: Files + AllocGlobal + Print + Net + Wait + Drop + Copy>(
-    rt: &R,
-    folder: &str,
-    name: &str,
-) -> io::Result<Tally> {
+fn run_named<
+    R: Files
+        + AllocGlobal
+        + Print
+        + Net<Stream = std::net::TcpStream, Listener = std::net::TcpListener>
+        + std::thread::Threads
+        + Wait
+        + Sync
+        + Drop
+        + Copy,
+>(rt: &R, folder: &str, name: &str) -> io::Result<Tally> {
     let path = format!(in rt.alloc(); "cases/{folder}/{name}")?;
     let tally = run_file(rt, path.as_str());
     if let Err(error) = &tally {
@@ -88,11 +108,17 @@ fn run_named<R: Files + AllocGlobal + Print + Net + Wait + Drop + Copy>(
 }
 
 /// Runs the cases of these files of a folder.
-fn run_all<R: Files + AllocGlobal + Print + Net + Wait + Drop + Copy>(
-    rt: &R,
-    folder: &str,
-    names: &[String],
-) -> io::Result<Tally> {
+fn run_all<
+    R: Files
+        + AllocGlobal
+        + Print
+        + Net<Stream = std::net::TcpStream, Listener = std::net::TcpListener>
+        + std::thread::Threads
+        + Wait
+        + Sync
+        + Drop
+        + Copy,
+>(rt: &R, folder: &str, names: &[String]) -> io::Result<Tally> {
     let mut tally = Tally::new();
     for name in names {
         tally.add(run_named(rt, folder, name.as_str())?);
@@ -101,10 +127,18 @@ fn run_all<R: Files + AllocGlobal + Print + Net + Wait + Drop + Copy>(
 }
 
 /// Runs the cases of a folder.
-pub fn run_folder<R: Files + AllocGlobal + Print + Net + Wait + Clone + Drop + Copy>(
-    rt: &R,
-    folder: &str,
-) -> io::Result<Tally> {
+pub fn run_folder<
+    R: Files
+        + AllocGlobal
+        + Print
+        + Net<Stream = std::net::TcpStream, Listener = std::net::TcpListener>
+        + std::thread::Threads
+        + Wait
+        + Sync
+        + Clone
+        + Drop
+        + Copy,
+>(rt: &R, folder: &str) -> io::Result<Tally> {
     let path = format!(in rt.alloc(); "cases/{folder}")?;
     let names = names_in(rt, path.as_str())?;
     run_all(rt, folder, names.as_slice())

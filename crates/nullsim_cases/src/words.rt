@@ -10,7 +10,8 @@
 use crate::compare::{differs, push_line};
 use crate::tally::Tally;
 use nm_base::MemSink;
-use nm_program::{MemInputs, MemOutputs, NamedInputs, run};
+use nm_files::MemOutputs;
+use nm_program::{MemInputs, NamedInputs, run};
 use std::net::Net;
 use std::rt::Files;
 use std::sync::Wait;
@@ -37,12 +38,15 @@ fn text_in(sink: &MemSink) -> io::Result<&str> {
 
 /// Runs the program with these words. Standard input has the topology, and the file `steps` has the
 /// script.
-fn run_words<R: AllocGlobal + Net + Wait + Drop + Copy>(
-    rt: &R,
-    words: &[&str],
-    topology: &[u8],
-    steps: &[u8],
-) -> io::Result<Ended> {
+fn run_words<
+    R: AllocGlobal
+        + Net<Stream = std::net::TcpStream, Listener = std::net::TcpListener>
+        + std::thread::Threads
+        + Wait
+        + Sync
+        + Drop
+        + Copy,
+>(rt: &R, words: &[&str], topology: &[u8], steps: &[u8]) -> io::Result<Ended> {
     let alloc = rt.alloc();
     let mut owned = Vec::new(alloc);
     for word in words {
@@ -83,11 +87,15 @@ fn max_in(line: &str) -> Option<&str> {
 }
 
 /// What `rounds` does with each number that is expected.
-fn rounds_found<R: AllocGlobal + Net + Wait + Drop + Copy>(
-    rt: &R,
-    topology: &[u8],
-    expected: &str,
-) -> io::Result<String> {
+fn rounds_found<
+    R: AllocGlobal
+        + Net<Stream = std::net::TcpStream, Listener = std::net::TcpListener>
+        + std::thread::Threads
+        + Wait
+        + Sync
+        + Drop
+        + Copy,
+>(rt: &R, topology: &[u8], expected: &str) -> io::Result<String> {
     let mut found = String::new(rt.alloc());
     for line in expected.lines() {
         if let Some(max) = max_in(line) {
@@ -101,11 +109,15 @@ fn rounds_found<R: AllocGlobal + Net + Wait + Drop + Copy>(
 }
 
 /// What `script` does.
-fn script_found<R: AllocGlobal + Net + Wait + Drop + Copy>(
-    rt: &R,
-    topology: &[u8],
-    steps: &[u8],
-) -> io::Result<String> {
+fn script_found<
+    R: AllocGlobal
+        + Net<Stream = std::net::TcpStream, Listener = std::net::TcpListener>
+        + std::thread::Threads
+        + Wait
+        + Sync
+        + Drop
+        + Copy,
+>(rt: &R, topology: &[u8], steps: &[u8]) -> io::Result<String> {
     let ended = run_words(rt, &["script", "-", "steps"], topology, steps)?;
     let error = text_in(&ended.errors)?;
     let error = if error.is_empty() { "-\n" } else { error };
@@ -127,10 +139,17 @@ fn expected_of<R: Files + AllocGlobal>(rt: &R, stem: &str) -> io::Result<String>
 }
 
 /// Runs the case of `rounds` at a path, which is without its end.
-pub fn run_rounds_case<R: Files + AllocGlobal + Print + Net + Wait + Drop + Copy>(
-    rt: &R,
-    stem: &str,
-) -> io::Result<Tally> {
+pub fn run_rounds_case<
+    R: Files
+        + AllocGlobal
+        + Print
+        + Net<Stream = std::net::TcpStream, Listener = std::net::TcpListener>
+        + std::thread::Threads
+        + Wait
+        + Sync
+        + Drop
+        + Copy,
+>(rt: &R, stem: &str) -> io::Result<Tally> {
     let expected = expected_of(rt, stem)?;
     let topology = file_of(rt, stem, ".toml")?;
     let found = rounds_found(rt, topology.as_slice(), expected.as_str())?;
@@ -139,10 +158,17 @@ pub fn run_rounds_case<R: Files + AllocGlobal + Print + Net + Wait + Drop + Copy
 }
 
 /// Runs the case of `script` at a path, which is without its end.
-pub fn run_script_case<R: Files + AllocGlobal + Print + Net + Wait + Drop + Copy>(
-    rt: &R,
-    stem: &str,
-) -> io::Result<Tally> {
+pub fn run_script_case<
+    R: Files
+        + AllocGlobal
+        + Print
+        + Net<Stream = std::net::TcpStream, Listener = std::net::TcpListener>
+        + std::thread::Threads
+        + Wait
+        + Sync
+        + Drop
+        + Copy,
+>(rt: &R, stem: &str) -> io::Result<Tally> {
     let expected = expected_of(rt, stem)?;
     let topology = file_of(rt, stem, ".toml")?;
     let steps = file_of(rt, stem, ".steps")?;

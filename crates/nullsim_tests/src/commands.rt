@@ -45,6 +45,16 @@ fn words_of_a_trace_file(rt: HostRuntime) -> Result<(), Fail> {
     )
 }
 
+/// `run a.toml d WORKERS REPLICAS`.
+fn run_of(workers: u8, replicas: u8) -> Command<'static> {
+    Command::Run {
+        topology: "a.toml",
+        folder: "d",
+        workers,
+        replicas,
+    }
+}
+
 /// The command of a replica, with the names of the row.
 fn node_of(partition: u32, replica: u8) -> Command<'static> {
     Command::Node {
@@ -79,6 +89,8 @@ fn words_of_partitions(rt: HostRuntime) -> Result<(), Fail> {
                     steps: "-",
                 },
             ),
+            ("run a.toml d 1 1", run_of(1, 1)),
+            ("run a.toml d 64 2", run_of(64, 2)),
             ("node a.toml d 0 0 c.txt", node_of(0, 0)),
             ("node a.toml d 63 1 c.txt", node_of(63, 1)),
         ],
@@ -114,7 +126,11 @@ fn words_of_no_command(rt: HostRuntime) -> Result<(), Fail> {
             "rounds a.toml 1 1",
             "script a.toml",
             "script a.toml b.txt c",
-            "run a.toml d 1 1",
+            "run a.toml d 0 1",
+            "run a.toml d 65 1",
+            "run a.toml d 1 3",
+            "run a.toml d 01 1",
+            "ran a.toml d 1 1",
             "node a.toml d 0 0",
             "node a.toml d 64 0 c.txt",
             "node a.toml d 00 0 c.txt",

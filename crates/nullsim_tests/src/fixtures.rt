@@ -3,7 +3,8 @@
 
 use nm_base::MemSink;
 use nm_command::Status;
-use nm_program::{Inputs, MemInputs, MemOutputs, NamedInputs, run};
+use nm_files::MemOutputs;
+use nm_program::{Inputs, MemInputs, NamedInputs, run};
 use std::alloc::{AllocError, Global};
 use std::io::Read;
 use std::net::Net;
@@ -96,12 +97,16 @@ fn no_files(alloc: Global) -> MemOutputs {
 }
 
 /// Runs the program on the words of a line and inputs, with room for so many octets of output.
-fn run_line<I: Inputs + Drop, R: AllocGlobal + Net + Wait + Drop + Copy>(
-    rt: &R,
-    line: &str,
-    inputs: I,
-    room: usize,
-) -> Result<Outcome, AllocError> {
+fn run_line<
+    I: Inputs + Drop,
+    R: AllocGlobal
+        + Net<Stream = std::net::TcpStream, Listener = std::net::TcpListener>
+        + std::thread::Threads
+        + Wait
+        + Sync
+        + Drop
+        + Copy,
+>(rt: &R, line: &str, inputs: I, room: usize) -> Result<Outcome, AllocError> {
     let alloc = rt.alloc();
     let words = words_of(alloc, line)?;
     let mut inputs = NamedInputs::new(inputs);
@@ -127,7 +132,14 @@ fn run_line<I: Inputs + Drop, R: AllocGlobal + Net + Wait + Drop + Copy>(
 /// The program with so much room writes these octets of inputs, and ends with this status and its
 /// line.
 pub fn writes_of<I: Inputs + Drop>(
-    rt: &(impl Abort + AllocGlobal + Net + Wait + Drop + Copy),
+    rt: &(impl Abort
+        + AllocGlobal
+        + Net<Stream = std::net::TcpStream, Listener = std::net::TcpListener>
+        + std::thread::Threads
+        + Wait
+        + Sync
+        + Drop
+        + Copy),
     line: &str,
     inputs: I,
     room: usize,
@@ -144,7 +156,14 @@ pub fn writes_of<I: Inputs + Drop>(
 /// The program ends with this status and its line, and writes nothing. There is no file beside
 /// standard input.
 pub fn ends<S: Read + Drop + Copy>(
-    rt: &(impl Abort + AllocGlobal + Net + Wait + Drop + Copy),
+    rt: &(impl Abort
+        + AllocGlobal
+        + Net<Stream = std::net::TcpStream, Listener = std::net::TcpListener>
+        + std::thread::Threads
+        + Wait
+        + Sync
+        + Drop
+        + Copy),
     line: &str,
     standard: S,
     status: Status,
@@ -157,7 +176,14 @@ pub fn ends<S: Read + Drop + Copy>(
 /// The program with so much room writes these octets, and ends with this status and its line. The
 /// text is that of standard input and of `duo.toml`.
 pub fn writes(
-    rt: &(impl Abort + AllocGlobal + Net + Wait + Drop + Copy),
+    rt: &(impl Abort
+        + AllocGlobal
+        + Net<Stream = std::net::TcpStream, Listener = std::net::TcpListener>
+        + std::thread::Threads
+        + Wait
+        + Sync
+        + Drop
+        + Copy),
     (line, text): (&str, &str),
     room: usize,
     ended: (&[u8], Status),
@@ -169,11 +195,15 @@ pub fn writes(
 }
 
 /// What `one` writes of an interface of a topology text.
-pub fn written_by<R: AllocGlobal + Net + Wait + Drop + Copy>(
-    rt: &R,
-    iface: &str,
-    text: &str,
-) -> Result<MemSink, Fail> {
+pub fn written_by<
+    R: AllocGlobal
+        + Net<Stream = std::net::TcpStream, Listener = std::net::TcpListener>
+        + std::thread::Threads
+        + Wait
+        + Sync
+        + Drop
+        + Copy,
+>(rt: &R, iface: &str, text: &str) -> Result<MemSink, Fail> {
     let line = format!(in rt.alloc(); "one - {iface}")?;
     let inputs = MemInputs {
         standard: text.as_bytes(),

@@ -11,7 +11,14 @@ use std::test::Fail;
 /// The program writes these octets for a line. `busy.toml` has one text, and so has a file of the
 /// name `-`; `idle.toml` has another, which is also that of standard input.
 fn writes_with<'a>(
-    rt: &(impl Abort + AllocGlobal + Net + Wait + Drop + Copy),
+    rt: &(impl Abort
+        + AllocGlobal
+        + Net<Stream = std::net::TcpStream, Listener = std::net::TcpListener>
+        + std::thread::Threads
+        + Wait
+        + Sync
+        + Drop
+        + Copy),
     busy: &'a str,
     idle: &'a str,
     (line, octets): (&str, &[u8]),
@@ -46,7 +53,14 @@ fn the_text_of_each_name(rt: HostRuntime) -> Result<(), Fail> {
 
 /// The program ends with this status for each of these lines. There is one file, `duo.toml`.
 fn all_end(
-    rt: &(impl Abort + AllocGlobal + Net + Wait + Drop + Copy),
+    rt: &(impl Abort
+        + AllocGlobal
+        + Net<Stream = std::net::TcpStream, Listener = std::net::TcpListener>
+        + std::thread::Threads
+        + Wait
+        + Sync
+        + Drop
+        + Copy),
     lines: &[&str],
     status: Status,
 ) -> Result<(), Fail> {

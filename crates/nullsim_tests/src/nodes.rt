@@ -1,11 +1,13 @@
 //! The word `node`: replicas of two partitions over loopback.
 
 use crate::fixtures::{line_of, words_of, written_by};
+use crate::runs::RING;
 use mio::net::TcpListener;
 use nm_base::MemSink;
 use nm_command::Status;
-use nm_program::mem_outputs::MemFile;
-use nm_program::{MemInputs, MemOutputs, NamedInputs, run};
+use nm_files::MemOutputs;
+use nm_files::mem_outputs::MemFile;
+use nm_program::{MemInputs, NamedInputs, run};
 use std::alloc::Global;
 use std::net::{Ipv4Addr, Net, SocketAddr};
 use std::process::Abort;
@@ -28,27 +30,31 @@ source = [
   {kind = "cbr", node = "a", to = "10.0.0.2", sport = 1000, dport = 9, size = 72, start = 0, interval = 1000000, count = 1} ]
 "#;
 
-/// How a node ended: its status, what it said, its line on standard error, and its files.
+/// How a node or a run ended: its status, what it said, its line on standard error, and its files.
 #[derive(Drop)]
-struct Ended {
-    status: Status,
-    out: MemSink,
-    errors: MemSink,
-    files: Vec<MemFile>,
+pub struct Ended {
+    pub status: Status,
+    pub out: MemSink,
+    pub errors: MemSink,
+    pub files: Vec<MemFile>,
 }
 
-/// Runs the program on the words of a line. The input `split.toml` is SPLIT, and `addresses` has
-/// these lines. So many files can be made.
-fn run_line<R: AllocGlobal + Net + Wait + Drop + Copy>(
-    rt: &R,
-    line: &str,
-    addresses: &str,
-    room: usize,
-) -> io::Result<Ended> {
+/// Runs the program on the words of a line. The input `split.toml` is SPLIT, `ring.toml` RING,
+/// and `addresses` has these lines. So many files can be made.
+pub fn run_line<
+    R: AllocGlobal
+        + Net<Stream = std::net::TcpStream, Listener = std::net::TcpListener>
+        + std::thread::Threads
+        + Wait
+        + Sync
+        + Drop
+        + Copy,
+>(rt: &R, line: &str, addresses: &str, room: usize) -> io::Result<Ended> {
     let alloc = rt.alloc();
     let words = words_of(alloc, line)?;
     let files = [
         ("split.toml", SPLIT.as_bytes()),
+        ("ring.toml", RING.as_bytes()),
         ("bad.toml", b"format".as_slice()),
         ("addresses", addresses.as_bytes()),
     ];
@@ -62,7 +68,7 @@ fn run_line<R: AllocGlobal + Net + Wait + Drop + Copy>(
         room,
         files: Vec::new(alloc),
     };
-    let out = MemSink::new(alloc, 100)?;
+    let out = MemSink::new(alloc, 400)?;
     let mut errors = MemSink::new(alloc, 64)?;
     let (status, out) = run(
         rt,
@@ -91,11 +97,16 @@ fn free_addresses<R: Net>(rt: &R, alloc: Global) -> io::Result<String> {
 
 /// A node is done: it made one file, of this name and with the octets that `one` writes of the
 /// interface, and said the interface's line.
-fn is_done<R: Abort + AllocGlobal + Net + Wait + Drop + Copy>(
-    rt: &R,
-    ended: &Ended,
-    iface: &str,
-) -> Result<(), Fail> {
+fn is_done<
+    R: Abort
+        + AllocGlobal
+        + Net<Stream = std::net::TcpStream, Listener = std::net::TcpListener>
+        + std::thread::Threads
+        + Wait
+        + Sync
+        + Drop
+        + Copy,
+>(rt: &R, ended: &Ended, iface: &str) -> Result<(), Fail> {
     assert!(rt; ended.status == Status::Done);
     let said = format!(in rt.alloc(); "iface {iface} records 1 octets 140\n")?;
     assert!(rt; ended.out.octets() == said.as_bytes());
@@ -139,10 +150,16 @@ fn two_nodes_write_what_one_writes(rt: HostRuntime) -> Result<(), Fail> {
 }
 
 /// The program ends with this status and its line, says nothing, and makes no file.
-fn ends_with<R: Abort + AllocGlobal + Net + Wait + Drop + Copy>(
-    rt: &R,
-    (line, addresses, status): (&str, &str, Status),
-) -> Result<(), Fail> {
+fn ends_with<
+    R: Abort
+        + AllocGlobal
+        + Net<Stream = std::net::TcpStream, Listener = std::net::TcpListener>
+        + std::thread::Threads
+        + Wait
+        + Sync
+        + Drop
+        + Copy,
+>(rt: &R, (line, addresses, status): (&str, &str, Status)) -> Result<(), Fail> {
     let ended = run_line(rt, line, addresses, 1)?;
     assert!(rt; ended.status == status, "{line}, {addresses}");
     let said = line_of(rt.alloc(), status)?;

@@ -13,7 +13,14 @@ use std::test::Fail;
 /// The program ends with this status, of two hosts in `duo.toml` and a script of one step in
 /// `steps`, and an output with so much room then has these octets.
 fn writes_of_files(
-    rt: &(impl Abort + AllocGlobal + Net + Wait + Drop + Copy),
+    rt: &(impl Abort
+        + AllocGlobal
+        + Net<Stream = std::net::TcpStream, Listener = std::net::TcpListener>
+        + std::thread::Threads
+        + Wait
+        + Sync
+        + Drop
+        + Copy),
     line: &str,
     room: usize,
     ended: (&[u8], Status),
@@ -82,7 +89,14 @@ fn script_of(alloc: Global, steps: u64) -> Result<Vec<u8>, AllocError> {
 
 /// The program ends with this status, of a script of so many steps.
 fn ends_with_steps(
-    rt: &(impl Abort + AllocGlobal + Net + Wait + Drop + Copy),
+    rt: &(impl Abort
+        + AllocGlobal
+        + Net<Stream = std::net::TcpStream, Listener = std::net::TcpListener>
+        + std::thread::Threads
+        + Wait
+        + Sync
+        + Drop
+        + Copy),
     steps: u64,
     status: Status,
 ) -> Result<(), Fail> {

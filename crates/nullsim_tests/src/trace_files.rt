@@ -14,7 +14,14 @@ const ARRIVAL: [u8; 8] = [0, 0, 0, 0, 0xe0, 0xc8, 0x10, 0];
 
 /// The program writes these octets of a text for each of these lines of words.
 fn all_write(
-    rt: &(impl Abort + AllocGlobal + Net + Wait + Drop + Copy),
+    rt: &(impl Abort
+        + AllocGlobal
+        + Net<Stream = std::net::TcpStream, Listener = std::net::TcpListener>
+        + std::thread::Threads
+        + Wait
+        + Sync
+        + Drop
+        + Copy),
     text: &str,
     lines: &[&str],
     octets: &[u8],

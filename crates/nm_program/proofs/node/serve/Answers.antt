@@ -2,7 +2,7 @@ use Rattle.std.proofs.Common.{◌≡◌, refl, subst}
 use Rattle.std.specs.Arc.{arc_value}
 use Rattle.nm_book.specs.Book.{state_of}
 use Rattle.nm_program.specs.Node.{own_files, own_lines}
-use Rattle.nm_program.specs.Outputs.{HasMade}
+use Rattle.nm_files.specs.Outputs.{HasMade}
 use Rattle.nm_program.proofs.node.serve.Goals as goal
 
 pub returns-in-Ok-write_book-clause-said : goal.returns-in-Ok-write_book-clause-said

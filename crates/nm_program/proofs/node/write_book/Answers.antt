@@ -1,6 +1,6 @@
 use Rattle.std.proofs.Common.{subst}
 use Rattle.nm_program.specs.Node.{own_files}
-use Rattle.nm_program.specs.Outputs.{HasMade}
+use Rattle.nm_files.specs.Outputs.{HasMade}
 use Rattle.nm_program.proofs.node.write_book.Goals as goal
 
 pub returns-in-Ok-clause-made : goal.returns-in-Ok-clause-made

@@ -2,7 +2,7 @@ use Rattle.std.proofs.Common.{ℕ, List, Option, Ok, subst}
 use Rattle.std.proofs.lemmas.Result.{err_from_is_err_and}
 use Rattle.nm_base.specs.declared.record.Record.{Record}
 use Rattle.nm_sim.specs.Trace.{Hands}
-use Rattle.nm_program.proofs.Records.{all_records, last_record, next_record, no_record, some_records}
+use Rattle.nm_files.proofs.Records.{all_records, last_record, next_record, no_record, some_records}
 use Rattle.nm_program.proofs.trace_file.write_all_of.Goals as goal
 
 pub loop-init : goal.loop-init

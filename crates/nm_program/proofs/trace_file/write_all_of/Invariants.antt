@@ -2,8 +2,8 @@ use Rattle.std.proofs.Common.{◌≡◌, ℕ, false, List, take}
 use Rattle.nm_base.specs.declared.record.Record.{Record}
 use Rattle.nm_events.specs.Held.{pending_of}
 use Rattle.nm_sim.specs.Trace.{IsTraceBefore, IsTracing}
-use Rattle.nm_program.specs.Writing.{WroteOn}
-use Rattle.nm_program.specs.TraceFile.{written_at}
+use Rattle.nm_files.specs.Writing.{WroteOn}
+use Rattle.nm_files.specs.TraceFile.{written_at}
 use Rattle.nm_program.proofs.trace_file.write_all_of.Given as goal
 
 abbrev pub invariant-loop : goal.invariant-loop

@@ -2,9 +2,9 @@ use Rattle.std.proofs.Common.{Ok}
 use Rattle.std.proofs.lemmas.Result.{err_from_is_err_and}
 use Rattle.nm_pcap.specs.Format.{file_header}
 use Rattle.nm_pcap.specs.Writing.{ending, written}
-use Rattle.nm_program.specs.Writing.{WroteOn}
-use Rattle.nm_program.proofs.Pieces.{WritesOn-put}
-use Rattle.nm_program.proofs.Records.{cut_in_header, cut_in_records, to_the_end}
+use Rattle.nm_files.specs.Writing.{WroteOn}
+use Rattle.nm_files.proofs.Pieces.{WritesOn-put}
+use Rattle.nm_files.proofs.Records.{cut_in_header, cut_in_records, to_the_end}
 use Rattle.nm_program.proofs.trace_file.write_file.Goals as goal
 
 pub returns-in_err-sink_outcome : goal.returns-in_err-sink_outcome

@@ -1,7 +1,7 @@
 use Rattle.std.proofs.Common.{sym, subst}
-use Rattle.nm_program.specs.TraceFile.{trace_file}
-use Rattle.nm_program.specs.Writing.{Writes, WritesOn}
-use Rattle.nm_program.proofs.Pieces.{Writes-of}
+use Rattle.nm_files.specs.TraceFile.{trace_file}
+use Rattle.nm_files.specs.Writing.{Writes, WritesOn}
+use Rattle.nm_files.proofs.Pieces.{Writes-of}
 use Rattle.nm_program.proofs.trace_file.write_trace_file.Goals as goal
 
 pub returns : goal.returns

@@ -1,9 +1,10 @@
 use Rattle.std.proofs.Common.{◌≤◌, length, take}
 use Rattle.std.specs.List.{enumerate_from, flat_map}
 use Rattle.nm_pcap.specs.declared.form.Form.TheVariants.{Octets}
-use Rattle.nm_program.specs.Node.{file_name, of_own}
-use Rattle.nm_program.specs.Outputs.{HasMade}
-use Rattle.nm_program.specs.TraceFile.{trace_file}
+use Rattle.nm_files.specs.Names.{file_name}
+use Rattle.nm_program.specs.Node.{of_own}
+use Rattle.nm_files.specs.Outputs.{HasMade}
+use Rattle.nm_files.specs.TraceFile.{trace_file}
 use Rattle.nm_program.proofs.trace_files.make_files.Given as goal
 
 abbrev pub invariant-loop-number : goal.invariant-loop-number

@@ -1,0 +1,199 @@
+//! The word `run`: all partitions at once.
+
+ghost use Rattle.std.specs.Prelude.{◌≡◌, ℕ, ◌<◌, ◌≤◌, ◌++◌, List, Some, IfErr, IfOk, OnOk, Ok, codes, length, slice_get};
+ghost use Rattle.std.specs.Arc.{arc_value};
+ghost use Rattle.nm_base.specs.declared.record.Record.{Record as TraceRecord};
+ghost use Rattle.nm_command.specs.declared.command.TheConstants.{MAX_WORKERS};
+ghost use Rattle.nm_run.specs.Report.{AreTotals, IsCertifiedRun};
+ghost use Rattle.nm_sim.specs.Records.{totals_of};
+ghost use Rattle.nm_sim.specs.Trace.{IsTraceBefore};
+ghost use Rattle.nm_topology.specs.PartValues.{IfaceValue};
+ghost use Rattle.nm_topology.specs.Topology.{topology_of};
+ghost use Rattle.nm_program.specs.Input.{text_of};
+ghost use Rattle.nm_program.specs.Lines.{iface_line, iface_lines};
+ghost use Rattle.nm_program.specs.Run.{EndsRun, SaysCertified, StopsRun};
+
+use crate::input::NamedInputs;
+use crate::inputs::Inputs;
+use crate::lines::push_line;
+use crate::output::{Output, put};
+use crate::reading::read_topology;
+use nm_base::{IfaceNo, Sink};
+use nm_command::Status;
+use nm_files::Outputs;
+use nm_run::{IfaceTotals, Report, Run, RunFault, run_all};
+use nm_shared::Gate;
+use nm_sim::trace::every_topology_has_a_trace;
+use nm_text::push_text;
+use nm_topology::Topology;
+use nm_topology::topology::accepted_topologies_are_in_order;
+use std::alloc::{AllocError, Global};
+use std::net;
+use std::net::Net;
+use std::sync::{Arc, Wait};
+use std::thread::Threads;
+
+/// A gate that lets all go on.
+struct Open;
+
+impl Gate for Open {
+    fn enter(&self, _job: usize) {}
+
+    fn leave(&self, _job: usize) {}
+
+    fn poll(&self, _moved: u64) -> bool {
+        true
+    }
+}
+
+/// Appends the line of an interface that has these totals.
+fn push_total(
+    text: &mut Vec<u8>,
+    topology: &Topology,
+    totals: &[IfaceTotals],
+    number: usize,
+) -> Result<(), AllocError>
+    requires there { number < length topology.now.ifaces }
+    requires are { AreTotals topology.now totals.now }
+    ensures { (records : List (TraceRecord (List ℕ)))
+        → IsTraceBefore topology.now topology.now.stop records → (iface : IfaceValue)
+        → slice_get topology.now.ifaces number ≡ Some iface
+        → OnOk result (text.new.items ≡ text.old.items
+        ++ iface_line iface (totals_of number records)) }
+{
+    accepted_topologies_are_in_order(topology); // law: there are few interfaces
+    let found = totals[number];
+    let iface = topology.iface(IfaceNo::new(number as u32));
+    push_line(text, iface, found.records, found.octets)
+}
+
+/// `certified`, and the lines of all interfaces.
+fn run_text(
+    alloc: Global,
+    topology: &Topology,
+    totals: &[IfaceTotals],
+) -> Result<Vec<u8>, AllocError>
+    requires { AreTotals topology.now totals.now }
+    ensures { (records : List (TraceRecord (List ℕ)))
+        → IsTraceBefore topology.now topology.now.stop records
+        → IfOk result (λ text. text.items
+        ≡ codes "certified\n" ++ iface_lines (λ i. totals_of i records) topology.now) }
+{
+    let mut text = Vec::new(alloc);
+    push_text(&mut text, b"certified\n")?;
+    for number in 0..topology.ifaces().len() {
+        push_total(&mut text, topology, totals, number)?;
+    }
+    Ok(text)
+}
+
+/// What the fault of a run is to the program.
+fn status_of(fault: RunFault) -> Status
+    ensures { StopsRun result }
+{
+    match fault {
+        RunFault::File { .. } | RunFault::Net => Status::File,
+        RunFault::Memory => Status::Memory,
+        RunFault::NotCertified(fault) => Status::NotCertified(fault.number()),
+        RunFault::Stalled { .. } => Status::Stalled,
+    }
+}
+
+/// The text of a report.
+fn report_text(
+    alloc: Global,
+    network: &Arc<Topology>,
+    report: &Report,
+) -> Result<Vec<u8>, AllocError>
+    requires { IsCertifiedRun (arc_value network.now) report.now.totals.items }
+    ensures { (text : List ℕ) → topology_of text ≡ Ok (arc_value network.now)
+        → IfOk result (λ octets. SaysCertified text octets.items) }
+{
+    every_topology_has_a_trace(network); // law: there is a trace of the whole run
+    run_text(alloc, network, report.totals.as_slice())
+}
+
+/// Runs all partitions at once: what is said of them.
+fn run_network<F: Outputs, R>(
+    rt: &R,
+    alloc: Global,
+    network: &Arc<Topology>,
+    folder: &str,
+    workers: u8,
+    replicas: u8,
+    outputs: &mut F,
+) -> Result<Vec<u8>, Status>
+where
+    F::File: Send,
+    R: Net<Stream = net::TcpStream, Listener = net::TcpListener>
+        + Threads
+        + Wait
+        + Sync
+        + Drop
+        + Copy,
+    requires { (1 ≤ workers) × (workers ≤ MAX_WORKERS) }
+    ensures said { (text : List ℕ) → topology_of text ≡ Ok (arc_value network.now)
+        → IfOk result (λ octets. SaysCertified text octets.items) }
+    ensures fault { IfErr result StopsRun }
+{
+    let run = Run {
+        topology: network,
+        folder,
+        workers: workers as usize,
+        replicas,
+    };
+    let report = match run_all(rt, alloc, &run, outputs, &Open) {
+        Ok(report) => report,
+        Err(fault) => return Err(status_of(fault)),
+    };
+    match report_text(alloc, network, &report) {
+        Ok(text) => Ok(text),
+        Err(_) => Err(Status::Memory),
+    }
+}
+
+/// Runs all partitions at once, and says that what they came to is certified, and how many records
+/// each interface has.
+pub(crate) fn say_run<I: Inputs, F: Outputs, O: Sink + Drop, R>(
+    rt: &R,
+    alloc: Global,
+    topology: &str,
+    folder: &str,
+    workers: u8,
+    replicas: u8,
+    inputs: &mut NamedInputs<I>,
+    outputs: &mut F,
+    out: O,
+) -> (Status, O)
+where
+    F::File: Send,
+    R: Net<Stream = net::TcpStream, Listener = net::TcpListener>
+        + Threads
+        + Wait
+        + Sync
+        + Drop
+        + Copy,
+    requires { (1 ≤ workers) × (workers ≤ MAX_WORKERS) }
+    ensures { EndsRun O.taken O.failures
+        (text_of I.standard_text I.file_text inputs.old.inputs)
+        inputs.old.failures inputs.new.failures
+        out result.1 (F.made outputs.old) (F.made outputs.new) topology.entry.now result.0 }
+{
+    let network = match read_topology(alloc, inputs, topology) {
+        Ok(network) => network,
+        Err(status) => return (status, out),
+    };
+    let Ok(network) = Arc::new(alloc, network) else {
+        return (Status::Memory, out);
+    };
+    match run_network(rt, alloc, &network, folder, workers, replicas, outputs) {
+        Ok(text) => put(
+            Output {
+                text,
+                status: Status::Done,
+            },
+            out,
+        ),
+        Err(status) => (status, out),
+    }
+}
