@@ -1,9 +1,9 @@
 //! Ports: drop-tail queues.
 
-ghost use Rattle.std.specs.Prelude.{◌≡◌, ℕ, ◌+◌, ◌<◌, ◌≤◌, ◌^◌, if◌then◌else◌, List, Option, Some, None, OnOk, IfSome, IsSome};
+ghost use Rattle.std.specs.Prelude.{◌≡◌, ℕ, ◌+◌, ◌<◌, ◌≤◌, ◌^◌, if◌then◌else◌, List, Option, Some, None, OnOk, IfSome, IsSome, length};
 ghost use Rattle.std.specs.Option.{option_map};
 ghost use Rattle.nm_base.specs.declared.limits.TheConstants.{MAX_DELAY, MAX_RATE, MAX_TIME};
-ghost use Rattle.nm_model.specs.Port.{offered, completed, is_refused};
+ghost use Rattle.nm_model.specs.Port.{offered, completed, is_refused, waiting_of};
 ghost use Rattle.nm_iface.specs.PortValue.{has_room, takes, with_port};
 ghost use Rattle.nm_iface.specs.Offers.{IsTransmission, handed_back, transmitted_packet, transmission_in};
 
@@ -200,6 +200,13 @@ impl Port {
         ensures soon { IfSome result (λ t. t < 2 ^ 51) }
     {
         self.busy_until
+    }
+
+    /// How many packets wait behind the one that is transmitted.
+    pub fn waiting(&self) -> usize
+        ensures { result ≡ length (waiting_of self.now.busy) }
+    {
+        self.waiting.len()
     }
 
     /// How many packets were dropped. It stops at the greatest `u64`.

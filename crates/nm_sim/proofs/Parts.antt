@@ -17,7 +17,7 @@ use Rattle.nm_model.specs.Run.{Effect, State, effect, in_record, next_events, ou
 use Rattle.nm_forward.specs.State.{NodeStateValue}
 use Rattle.nm_iface.specs.declared.port.Start.{Start}
 use Rattle.nm_model.specs.EventList.{is_before}
-use Rattle.nm_model.specs.Port.{Port}
+use Rattle.nm_model.specs.Port.{Port, waiting_of}
 use Rattle.nm_traffic.specs.Source.{source_of}
 use Rattle.std.specs.Option.{option_and_then, option_map}
 use Rattle.std.proofs.lemmas.Bool.Decides.{nat_tests}
@@ -33,7 +33,7 @@ use Rattle.std.proofs.lemmas.Option.{slice_get_cases, slice_get_past}
 use Rattle.nm_forward.specs.declared.counter.Counter.{Counter}
 use Rattle.nm_forward.specs.Counter.{counter_number}
 use Rattle.nm_base.specs.Count.{saturated}
-use Rattle.nm_sim.specs.Part.{IsUnderWay, PartValue, Represents, Taken, busy_at, completes_at, count_at, drops_at, with_arrival}
+use Rattle.nm_sim.specs.Part.{IsUnderWay, PartValue, Represents, Taken, busy_at, completes_at, count_at, drops_at, waiting_at, with_arrival}
 use Rattle.nm_sim.specs.Timelines.{TimelineRepresents}
 use Rattle.nm_sim.proofs.Schedules.{next_here, one_more, placed_insert, placed_next, placed_remove, placed_schedule, placed_transmission, schedule_append}
 use Rattle.nm_sim.proofs.Beginnings.{numbered_same}
@@ -256,6 +256,12 @@ pub drops_is : (t : TopologyValue) (part : Option ℕ) (d : DevicesValue) (s : S
 drops_is t part d s represented i =
     table_value (is_iface_here t part) (λ i w. IsPortOf t i w (s.port i)) d.ports (λ w. w.dropped) (saturated (s.port i).dropped) i (length t.ifaces)
     represented.ports represented.port_count (λ w p. p.dropped)
+
+pub waiting_is : (t : TopologyValue) (part : Option ℕ) (d : DevicesValue) (s : State (List ℕ) NodeStateValue) → DevicesRepresent t part d s.node s.port → (i : ℕ)
+    → option_and_then (option_map (λ w. length (waiting_of w.busy))) (slice_get d.ports i) ≡ waiting_at t part s i
+waiting_is t part d s represented i =
+    table_value (is_iface_here t part) (λ i w. IsPortOf t i w (s.port i)) d.ports (λ w. length (waiting_of w.busy)) (length (waiting_of (s.port i).busy)) i (length t.ifaces)
+    represented.ports represented.port_count (λ w p. ap (λ b. length (waiting_of b)) p.busy)
 
 -- a record is handed out
 pub represents_handed : {L : Type 0} (pending : L → FinMap key_cmp (Event (List ℕ))) (t : TopologyValue) (part : Option ℕ) (p q : PartValue L) → Kept p q → (s : State (List ℕ) NodeStateValue)

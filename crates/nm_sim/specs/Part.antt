@@ -12,7 +12,7 @@ use Rattle.nm_topology.specs.Topology.{receiving_iface}
 use Rattle.nm_topology.specs.TopologyValue.{TopologyValue}
 use Rattle.nm_model.specs.EventList.{least, schedule}
 use Rattle.nm_model.specs.Orderly.{IsOrderly}
-use Rattle.nm_model.specs.Port.{Busy}
+use Rattle.nm_model.specs.Port.{Busy, waiting_of}
 use Rattle.nm_model.specs.Run.{State, in_record, next_events, pends_before, step}
 use Rattle.nm_forward.specs.declared.counter.Counter.{Counter}
 use Rattle.nm_forward.specs.Counter.{counter_number}
@@ -140,6 +140,10 @@ count_at t part s v c = if ltb v (length t.nodes) && is_node_here t part v then 
 -- how many packets were dropped at interface i, if it is here; the count stops at the greatest of its type
 abbrev pub drops_at : TopologyValue → Option ℕ → State (List ℕ) NodeStateValue → ℕ → Option ℕ
 drops_at t part s i = if ltb i (length t.ifaces) && is_iface_here t part i then Some (saturated (s.port i).dropped) else None
+
+-- how many packets wait at interface i behind the one that is transmitted, if it is here
+abbrev pub waiting_at : TopologyValue → Option ℕ → State (List ℕ) NodeStateValue → ℕ → Option ℕ
+waiting_at t part s i = if ltb i (length t.ifaces) && is_iface_here t part i then Some (length (waiting_of (s.port i).busy)) else None
 
 -- what was put on a channel that goes out from here: within the whole network there is none
 abbrev pub messages_out : TopologyValue → Option ℕ → State (List ℕ) NodeStateValue → ℕ → List (ℕ × List ℕ)

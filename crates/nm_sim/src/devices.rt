@@ -7,7 +7,7 @@ ghost use Rattle.nm_base.specs.declared.event.Origin.TheVariants.{Arrival, Sourc
 ghost use Rattle.nm_base.specs.declared.key.Place.TheVariants.{Complete};
 ghost use Rattle.nm_base.specs.declared.event.Event.TheVariants.{Completion};
 ghost use Rattle.nm_model.specs.Network.{node_of};
-ghost use Rattle.nm_model.specs.Port.{Port as PortState, idle_port};
+ghost use Rattle.nm_model.specs.Port.{Port as PortState, idle_port, waiting_of};
 ghost use Rattle.nm_forward.specs.State.{NodeStateValue, first_state};
 ghost use Rattle.nm_forward.specs.Reaction.{FitsOrigin, sent_of};
 ghost use Rattle.nm_base.specs.Key.{key_of};
@@ -274,6 +274,17 @@ impl Devices {
     {
         match self.ports.get(iface.index()) {
             Some(Some(port)) => Some(port.dropped()),
+            Some(None) | None => None,
+        }
+    }
+
+    /// How many packets wait at the interface behind the one that is transmitted, if it is here.
+    pub fn waiting(&self, iface: IfaceNo) -> Option<usize>
+        ensures { result ≡ option_and_then (option_map (λ w. length (waiting_of w.busy)))
+            (slice_get self.now.ports iface) }
+    {
+        match self.ports.get(iface.index()) {
+            Some(Some(port)) => Some(port.waiting()),
             Some(None) | None => None,
         }
     }

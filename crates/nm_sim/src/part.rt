@@ -18,7 +18,7 @@ ghost use Rattle.nm_forward.specs.State.{NodeStateValue};
 ghost use Rattle.nm_forward.specs.Reaction.{FitsOrigin, sent_of};
 ghost use Rattle.nm_sim.specs.Network.{here_of, net_of};
 ghost use Rattle.nm_sim.specs.Outgoing.{HaveSpare};
-ghost use Rattle.nm_sim.specs.Part.{Advanced, HasMemory, HasReacted, IsReady, IsUnderWay, Performed, Represents, Stepped, busy_at, count_at, drops_at, events_counted, events_done, messages_out, with_arrival};
+ghost use Rattle.nm_sim.specs.Part.{Advanced, HasMemory, HasReacted, IsReady, IsUnderWay, Performed, Represents, Stepped, busy_at, count_at, drops_at, events_counted, events_done, messages_out, waiting_at, with_arrival};
 ghost use Rattle.nm_sim.specs.Records.{totals_at};
 ghost use Rattle.nm_topology.specs.Topology.{receiving_iface};
 ghost use Rattle.nm_topology.specs.TopologyValue.{TopologyValue};
@@ -289,6 +289,15 @@ impl<L: EventList> Part<L> {
             → result ≡ drops_at t part s iface }
     {
         self.devices.dropped(iface)
+    }
+
+    /// How many packets wait at the interface behind the one that is transmitted, if it is here.
+    pub fn waiting(&self, iface: IfaceNo) -> Option<usize>
+        ensures { (t : TopologyValue) (part : Option ℕ) (s : State (List ℕ) NodeStateValue)
+            → Represents L.pending t part self.now s
+            → result ≡ waiting_at t part s iface }
+    {
+        self.devices.waiting(iface)
     }
 
     /// The least time of an event that is to come, if there is one.

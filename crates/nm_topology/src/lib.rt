@@ -4,18 +4,18 @@
 //! whole, in their order).
 #![tactic(auto)]
 
-mod build;
+pub mod build;
 pub mod fault;
 pub mod laws;
-mod names;
+pub mod names;
 pub mod node;
-mod parse;
+pub mod parse;
 pub mod parts;
 pub mod prefix;
-mod resolve;
+pub mod resolve;
 pub mod topology;
 pub mod traffic;
-mod validate;
+pub mod validate;
 
 pub use fault::{Refusal, TopoFault};
 pub use node::NodeKind;
