@@ -1,0 +1,95 @@
+-- Traffic as records come, one after another.
+use Rattle.std.proofs.Common.{◌≡◌, ℕ, zero, suc, ◌+◌, ◌==◌, ◌&&◌, Bool, true, false, not, cond, List, [], ◌∷◌, ◌++◌, take, length, replicate, sum_by, Some, slice_get, refl, sym, ap, ◌∙◌, arith, ⊎_elim, length-append, option_map}
+use Rattle.std.proofs.lemmas.Bool.Decides.{nat_tests}
+use Rattle.std.proofs.lemmas.List.{length-replicate}
+use Rattle.std.proofs.lemmas.List.Sums.{sum_by_push}
+use Rattle.std.proofs.lemmas.Option.{slice_get_cases, slice_get_past}
+use Rattle.nm_base.specs.Count.{saturated}
+use Rattle.nm_base.specs.declared.record.Record.{Record}
+use Rattle.nm_topology.specs.TopologyValue.{TopologyValue}
+use Rattle.nm_model.specs.Lists.{keep_where}
+use Rattle.nm_model.proofs.ListLemmas.{kept-append, not_some, some_inj}
+use Rattle.nm_report.specs.declared.amounts.Amount.{Amount}
+use Rattle.nm_report.specs.declared.amounts.Traffic.{Traffic}
+use Rattle.nm_report.specs.Amounts.{AreTraffic, amount_after, amount_of, came_to, is_in, traffic_after, traffic_of, went_from}
+
+-- one more of a list
+pub take_one_more : {X : Type 0} (xs : List X) (i : ℕ) (x : X) → slice_get xs i ≡ Some x → take (i + 1) xs ≡ take i xs ++ x ∷ []
+take_one_more [] i x h = absurd cc
+take_one_more (y ∷ xs) zero x h = ap (λ z. z ∷ []) (some_inj y x h)
+take_one_more (y ∷ xs) (suc i) x h = let e : suc i + 1 ≡ suc (i + 1) = omega arith in ap (λ n. take n (y ∷ xs)) e ∙ ap (λ l. y ∷ l) (take_one_more xs i x h)
+
+twice : (n m : ℕ) → saturated (n + m) ≡ saturated (saturated n + m)
+twice n m = omega arith
+
+nothing_more : {X : Type 0} (l : List X) → l ++ [] ≡ l
+nothing_more [] = refl
+nothing_more (x ∷ l) = ap (λ k. x ∷ k) (nothing_more l)
+
+-- the amount with one more record
+amount_more : (f : Record (List ℕ) → Bool) (l : List (Record (List ℕ))) (r : Record (List ℕ)) (b : Bool) → f r ≡ b
+    → amount_of f (l ++ r ∷ []) ≡ cond b (amount_after (amount_of f l) (length r.packet)) (amount_of f l)
+amount_more f l r true h =
+    let own = keep_where f l in
+    let e : keep_where f (l ++ r ∷ []) ≡ own ++ r ∷ [] = kept-append f l (r ∷ []) ∙ ap (λ b. own ++ cond b (r ∷ []) []) h in
+    let n = ap length e ∙ length-append own (r ∷ []) in
+    let m = ap (sum_by (λ (x : Record (List ℕ)). length x.packet)) e ∙ sum_by_push (λ (x : Record (List ℕ)). length x.packet) own r in
+    (λ k. record { packets = saturated (n k); octets = saturated (m k) })
+    ∙ (λ k. record { packets = twice (length own) 1 k; octets = twice (sum_by (λ (x : Record (List ℕ)). length x.packet) own) (length r.packet) k })
+amount_more f l r false h =
+    let own = keep_where f l in
+    let e : keep_where f (l ++ r ∷ []) ≡ own = kept-append f l (r ∷ []) ∙ ap (λ b. own ++ cond b (r ∷ []) []) h ∙ nothing_more own in
+    ap (λ k. record { packets = saturated (length k); octets = saturated (sum_by (λ (x : Record (List ℕ)). length x.packet) k) }) e
+
+-- the traffic of an interface with one more record
+traffic_more : (i : ℕ) (l : List (Record (List ℕ))) (r : Record (List ℕ)) (b : Bool) → (i == r.iface) ≡ b
+    → traffic_of i (l ++ r ∷ []) ≡ cond b (traffic_after (traffic_of i l) r) (traffic_of i l)
+traffic_more i l r b h = go b here (is_in r.dir) refl
+  where
+    here : (r.iface == i) ≡ b
+    here = grind (arith, nat_tests, h)
+
+    go : (b : Bool) → (r.iface == i) ≡ b → (d : Bool) → is_in r.dir ≡ d → traffic_of i (l ++ r ∷ []) ≡ cond b (traffic_after (traffic_of i l) r) (traffic_of i l)
+    go true e true f =
+        let came = amount_more (came_to i) l r true (λ k. e k && f k) in
+        let went = amount_more (went_from i) l r false (λ k. e k && not (f k)) in
+        (λ k. record { came = came k; went = went k })
+        ∙ sym (ap (λ z. cond z (record { came = amount_after (amount_of (came_to i) l) (length r.packet); went = amount_of (went_from i) l })
+        (record { came = amount_of (came_to i) l; went = amount_after (amount_of (went_from i) l) (length r.packet) })) f)
+    go true e false f =
+        let came = amount_more (came_to i) l r false (λ k. e k && f k) in
+        let went = amount_more (went_from i) l r true (λ k. e k && not (f k)) in
+        (λ k. record { came = came k; went = went k })
+        ∙ sym (ap (λ z. cond z (record { came = amount_after (amount_of (came_to i) l) (length r.packet); went = amount_of (went_from i) l })
+        (record { came = amount_of (came_to i) l; went = amount_after (amount_of (went_from i) l) (length r.packet) })) f)
+    go false e d f =
+        let came = amount_more (came_to i) l r false (λ k. e k && is_in r.dir) in
+        let went = amount_more (went_from i) l r false (λ k. e k && not (is_in r.dir)) in
+        (λ k. record { came = came k; went = went k })
+
+module _ (t : TopologyValue) where
+  -- all are as they are to be with one more record
+  pub traffic_on : (old new : List Traffic) (records : List (Record (List ℕ))) (r : Record (List ℕ)) → length new ≡ length old
+      → ((i : ℕ) → slice_get new i ≡ option_map (λ x. cond (i == r.iface) (traffic_after x r) x) (slice_get old i))
+      → AreTraffic t old records → AreTraffic t new (records ++ r ∷ [])
+  traffic_on old new records r count each h = record {
+    count = count ∙ h.count;
+    each = λ i y e. ⊎_elim
+        (λ g. some_inj y (cond (i == r.iface) (traffic_after g.0 r) g.0)
+        (sym e ∙ each i ∙ ap (option_map (λ x. cond (i == r.iface) (traffic_after x r) x)) g.2)
+        ∙ ap (λ x. cond (i == r.iface) (traffic_after x r) x) (h.each i g.0 g.2) ∙ sym (traffic_more i records r (i == r.iface) refl))
+        (λ g. absurd (not_some y (sym (each i ∙ ap (option_map (λ x. cond (i == r.iface) (traffic_after x r) x)) (slice_get_past old i g.0)) ∙ e)))
+        ((slice_get_cases old i).1);
+  }
+
+  -- before any record
+  pub traffic_first : (none : Traffic) → none ≡ traffic_of 0 [] → AreTraffic t (replicate (length t.ifaces) none) []
+  traffic_first none h = record {
+    count = length-replicate (length t.ifaces) none;
+    each = λ i y e. all (length t.ifaces) i y e;
+  }
+    where
+      all : (n i : ℕ) (y : Traffic) → slice_get (replicate n none) i ≡ Some y → y ≡ traffic_of i []
+      all zero i y e = absurd cc
+      all (suc n) zero y e = some_inj y none (sym e) ∙ h
+      all (suc n) (suc i) y e = all n i y e

@@ -1,0 +1,3 @@
+pub mod Amounts
+pub mod Measured
+pub mod Lines

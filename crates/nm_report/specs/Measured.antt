@@ -1,0 +1,21 @@
+-- A network whose run is over, and what was measured of it.
+use Rattle.std.specs.Prelude.{◌≡◌, ℕ, List, None}
+use Rattle.nm_events.specs.Held.{Held, pending_of}
+use Rattle.nm_model.specs.Before.{IsBefore}
+use Rattle.nm_model.specs.Run.{one_list}
+use Rattle.nm_topology.specs.TopologyValue.{TopologyValue}
+use Rattle.nm_sim.specs.Network.{net_of}
+use Rattle.nm_sim.specs.Part.{PartValue, Represents}
+use Rattle.nm_report.specs.Amounts.{AreTraffic}
+use Rattle.nm_report.specs.declared.amounts.Traffic.{Traffic}
+
+pub record MeasuredValue : Type 0 where
+  pub part : PartValue Held
+  pub traffic : List Traffic
+
+-- the whole network after all events of its one event list that are before stop
+pub record IsMeasured (t : TopologyValue) (m : MeasuredValue) : Type 0 where
+  pub events : ℕ
+  pub over : IsBefore (net_of t) t.stop events
+  pub represents : Represents pending_of t None m.part (one_list (net_of t) events)
+  pub traffic : AreTraffic t m.traffic (one_list (net_of t) events).records

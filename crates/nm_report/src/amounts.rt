@@ -1,0 +1,98 @@
+//! How many packets came to an interface and how many it transmitted, with their octets.
+
+ghost use Rattle.std.specs.Prelude.{◌≡◌, ◌≤◌, ◌^◌, ◌==◌, IfOk, List, ℕ, if◌then◌else◌, length, slice_get};
+ghost use Rattle.std.specs.Option.{option_map};
+ghost use Rattle.nm_base.specs.declared.record.Record.{Record as TraceRecord};
+ghost use Rattle.nm_report.specs.Amounts.{AreTraffic, amount_after, traffic_after};
+ghost use Rattle.nm_sim.specs.Trace.{IsTraceBefore};
+
+use nm_base::{Dir, Record};
+use nm_sim::Tracer;
+use nm_topology::Topology;
+use std::alloc::{AllocError, Global};
+
+/// Packets, and the octets of their IPv4 packets. Both stop at 2^64 - 1.
+#[derive(Clone, Copy, Drop)]
+pub struct Amount {
+    pub packets: u64,
+    pub octets: u64,
+}
+
+/// What came to an interface, and what it began to transmit.
+#[derive(Clone, Copy, Drop)]
+pub struct Traffic {
+    pub came: Amount,
+    pub went: Amount,
+}
+
+/// No packets.
+const NONE: Amount = Amount {
+    packets: 0,
+    octets: 0,
+};
+
+/// The amount with one packet more, of so many octets.
+fn one_more(amount: Amount, octets: usize) -> Amount
+    requires { octets ≤ 2 ^ 16 }
+    ensures { result ≡ amount_after amount octets }
+{
+    Amount {
+        packets: amount.packets.saturating_add(1),
+        octets: amount.octets.saturating_add(octets as u64),
+    }
+}
+
+/// The traffic of an interface with one record more that is there.
+fn with_record(traffic: Traffic, record: &Record) -> Traffic
+    ensures { result ≡ traffic_after traffic «record».now }
+{
+    let octets = record.packet.octet_count();
+    match record.dir {
+        Dir::In => Traffic {
+            came: one_more(traffic.came, octets),
+            went: traffic.went,
+        },
+        Dir::Out => Traffic {
+            came: traffic.came,
+            went: one_more(traffic.went, octets),
+        },
+    }
+}
+
+/// Counts a record at its interface.
+fn count(all: &mut Vec<Traffic>, record: &Record)
+    ensures count { length all.new.items ≡ length all.old.items }
+    ensures each { (i : ℕ) → slice_get all.new.items i ≡ option_map
+        (λ x. if i == «record».now.iface then traffic_after x «record».now else x)
+        (slice_get all.old.items i) }
+{
+    let place = record.iface.index();
+    if place < all.len() {
+        all[place] = with_record(all[place], record);
+    }
+}
+
+/// The traffic of each interface over the whole run of a network by one event list, by number.
+///
+/// # Errors
+///
+/// Where memory was refused.
+pub fn traffic_of_all(alloc: Global, topology: &Topology) -> Result<Vec<Traffic>, AllocError>
+    ensures { IfOk result (λ all. (records : List (TraceRecord (List ℕ)))
+        → IsTraceBefore topology.now topology.now.stop records
+        → AreTraffic topology.now all.items records) }
+{
+    let none = Traffic {
+        came: NONE,
+        went: NONE,
+    };
+    let mut all = vec![in alloc; none; topology.ifaces().len()]?;
+    let mut tracer = Tracer::start(alloc, topology)?;
+    for _ in 0..u64::MAX {
+        let Some(record) = tracer.next(alloc, topology)? else {
+            return Ok(all);
+        };
+        count(&mut all, &record);
+    }
+    Err(AllocError)
+}

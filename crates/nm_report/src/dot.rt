@@ -1,0 +1,196 @@
+//! The network as a graph in the language of Graphviz (dot).
+
+ghost use Rattle.std.specs.Prelude.{IfOk};
+ghost use Rattle.nm_report.specs.Lines.{EndsLine};
+
+use crate::measured::Measured;
+use crate::table::end_line;
+use crate::units::{push_percentage, push_rate, push_time, thousandths};
+use nm_base::IfaceNo;
+use nm_text::{push_number, push_text};
+use nm_topology::parts::Link;
+use nm_topology::{NodeKind, Topology};
+use std::alloc::{AllocError, Global};
+
+/// Appends a text between quotes. Names have no quotes in them.
+fn push_quoted(text: &mut Vec<u8>, name: &str) -> Result<(), AllocError> {
+    push_text(text, b"\"")?;
+    push_text(text, name.as_bytes())?;
+    push_text(text, b"\"")
+}
+
+/// Appends the nodes of a partition: hosts are ellipses, routers boxes.
+fn push_nodes(text: &mut Vec<u8>, topology: &Topology, partition: u32) -> Result<(), AllocError> {
+    for node in topology.nodes() {
+        if node.partition().number() != partition {
+            continue;
+        }
+        push_text(text, b"    ")?;
+        push_quoted(text, node.name())?;
+        push_text(
+            text,
+            match node.kind() {
+                NodeKind::Host => b" [shape=ellipse];\n",
+                NodeKind::Router => b" [shape=box];\n",
+            },
+        )?;
+    }
+    Ok(())
+}
+
+/// Appends the partitions as clusters.
+fn push_partitions(text: &mut Vec<u8>, topology: &Topology) -> Result<(), AllocError> {
+    for partition in 0..topology.partitions() {
+        push_text(text, b"  subgraph cluster_")?;
+        push_number(text, u64::from(partition))?;
+        push_text(text, b" {\n    label=\"partition ")?;
+        push_number(text, u64::from(partition))?;
+        push_text(text, b"\";\n")?;
+        push_nodes(text, topology, partition)?;
+        push_text(text, b"  }\n")?;
+    }
+    Ok(())
+}
+
+/// Appends the name of the node of an interface.
+fn push_owner(text: &mut Vec<u8>, topology: &Topology, iface: IfaceNo) -> Result<(), AllocError> {
+    let Some(owner) = topology.ifaces().get(iface.index()) else {
+        return Ok(());
+    };
+    match topology.nodes().get(owner.node().index()) {
+        Some(node) => push_quoted(text, node.name()),
+        None => Ok(()),
+    }
+}
+
+/// Appends the name of an interface as that of an end of a link.
+fn push_end(
+    text: &mut Vec<u8>,
+    topology: &Topology,
+    end: &[u8],
+    iface: IfaceNo,
+) -> Result<(), AllocError> {
+    push_text(text, end)?;
+    match topology.ifaces().get(iface.index()) {
+        Some(iface) => push_quoted(text, iface.name()),
+        None => Ok(()),
+    }
+}
+
+/// Appends how a link is coloured: from green where it is never used to red where it always is, and
+/// how many packets were dropped at its ends.
+fn push_load(
+    text: &mut Vec<u8>,
+    topology: &Topology,
+    measured: &Measured,
+    link: Link,
+) -> Result<(), AllocError> {
+    let stop = topology.stop().nanoseconds();
+    let busy = measured.busy(link.a).max(measured.busy(link.b));
+    let share = thousandths(busy, stop);
+    push_text(text, b"\\n")?;
+    push_percentage(text, share)?;
+    push_text(text, b" busy")?;
+    let dropped = measured
+        .dropped(link.a)
+        .unwrap_or(0)
+        .saturating_add(measured.dropped(link.b).unwrap_or(0));
+    if dropped > 0 {
+        push_text(text, b"\\n")?;
+        push_number(text, dropped)?;
+        push_text(text, b" dropped")?;
+    }
+    push_text(text, b"\", penwidth=3, color=\"0.")?;
+    push_hue(text, share)?;
+    push_text(text, b" 1.0 0.8\"")?;
+    if dropped > 0 {
+        push_text(text, b", style=dashed, fontcolor=red")?;
+    }
+    Ok(())
+}
+
+/// Appends the decimals of a hue: that of green for 0 thousandths, that of red for 1,000.
+fn push_hue(text: &mut Vec<u8>, share: u64) -> Result<(), AllocError> {
+    let hue = 1_000u64.saturating_sub(share) / 3;
+    if hue < 100 {
+        push_text(text, b"0")?;
+    }
+    if hue < 10 {
+        push_text(text, b"0")?;
+    }
+    push_number(text, hue)
+}
+
+/// Appends a link with its rate and delay, and how it was used if it was measured.
+fn push_link(
+    text: &mut Vec<u8>,
+    topology: &Topology,
+    measured: Option<&Measured>,
+    link: Link,
+) -> Result<(), AllocError> {
+    push_text(text, b"  ")?;
+    push_owner(text, topology, link.a)?;
+    push_text(text, b" -- ")?;
+    push_owner(text, topology, link.b)?;
+    push_end(text, topology, b" [taillabel=", link.a)?;
+    push_end(text, topology, b", headlabel=", link.b)?;
+    push_text(text, b", label=\"")?;
+    push_rate(text, link.rate)?;
+    push_text(text, b", ")?;
+    push_time(text, link.delay)?;
+    match measured {
+        Some(measured) => push_load(text, topology, measured, link)?,
+        None => push_text(text, b"\"")?,
+    }
+    push_text(text, b"];\n")
+}
+
+/// The graph of a network, with how it was used if it was measured.
+fn graph(
+    alloc: Global,
+    topology: &Topology,
+    measured: Option<&Measured>,
+) -> Result<Vec<u8>, AllocError>
+    ensures { IfOk result (λ text. EndsLine text.items) }
+{
+    let mut text = Vec::new(alloc);
+    push_text(
+        &mut text,
+        b"graph network {\n  labelfontsize=9;\n  edge [fontsize=10];\n",
+    )?;
+    push_partitions(&mut text, topology)?;
+    for link in topology.links() {
+        push_link(&mut text, topology, measured, *link)?;
+    }
+    push_text(&mut text, b"}")?;
+    end_line(&mut text)?;
+    Ok(text)
+}
+
+/// The network as a graph for Graphviz: partitions are clusters, and links say their rate and delay.
+///
+/// # Errors
+///
+/// Where memory was refused.
+pub fn dot_text(alloc: Global, topology: &Topology) -> Result<Vec<u8>, AllocError>
+    ensures { IfOk result (λ text. EndsLine text.items) }
+{
+    graph(alloc, topology, None)
+}
+
+/// The same with links coloured by use: the greater of the shares of the time before `stop` in which
+/// their two ends transmitted, from green to red. Links at whose ends packets were dropped are
+/// dashed.
+///
+/// # Errors
+///
+/// Where memory was refused.
+pub fn load_text(
+    alloc: Global,
+    topology: &Topology,
+    measured: &Measured,
+) -> Result<Vec<u8>, AllocError>
+    ensures { IfOk result (λ text. EndsLine text.items) }
+{
+    graph(alloc, topology, Some(measured))
+}

@@ -1,0 +1,24 @@
+//! What a run of a whole network comes to, for people and for programs: its measures, as tables or
+//! comma-separated values, the network as a graph, and packets as lines.
+#![tactic(auto)]
+
+pub mod amounts;
+pub mod csv;
+pub mod dot;
+mod flows;
+pub mod measured;
+mod measuring;
+pub mod packet_line;
+pub mod report;
+mod table;
+mod units;
+mod watched;
+
+pub use amounts::{Amount, Traffic};
+pub use csv::csv_text;
+pub use dot::{dot_text, load_text};
+pub use flows::Flow;
+pub use measured::Measured;
+pub use measuring::measure;
+pub use packet_line::push_packet_line;
+pub use report::report_text;

@@ -1,0 +1,84 @@
+//! A run of a whole network that is measured.
+
+ghost use Rattle.std.specs.Prelude.{◌≡◌, ℕ, List, Option, None, IfOk, OnOk};
+ghost use Rattle.nm_events.specs.Held.{pending_of};
+ghost use Rattle.nm_model.specs.Before.{IsBefore};
+ghost use Rattle.nm_forward.specs.State.{NodeStateValue};
+ghost use Rattle.nm_model.specs.Run.{State, one_list};
+ghost use Rattle.nm_report.specs.Measured.{IsMeasured};
+ghost use Rattle.nm_sim.specs.Network.{net_of};
+ghost use Rattle.nm_sim.specs.Part.{Represents};
+ghost use Rattle.nm_topology.specs.TopologyValue.{TopologyValue};
+
+use crate::amounts::traffic_of_all;
+use crate::measured::Measured;
+use crate::watched::{Watched, node_at, source_at};
+use nm_base::{Place, Time};
+use nm_events::SortedList;
+use nm_sim::Part;
+use nm_sim::part::MAX_STEPS;
+use nm_topology::Topology;
+use std::alloc::{AllocError, Global};
+
+/// Lets go of the records of one event, of which there are two at most.
+fn let_go(part: &mut Part<SortedList>)
+    requires { (t : TopologyValue) × (here : Option ℕ) × (s : State (List ℕ) NodeStateValue)
+        × Represents pending_of t here part.old s }
+    ensures { (t : TopologyValue) (here : Option ℕ) (s : State (List ℕ) NodeStateValue)
+        → Represents pending_of t here part.old s → Represents pending_of t here part.new s }
+{
+    let _ = part.hand_out();
+    let _ = part.hand_out();
+}
+
+/// Sees an event that was just done.
+fn see(
+    topology: &Topology,
+    part: &Part<SortedList>,
+    watched: &mut Watched,
+    time: Time,
+    place: &Place,
+) -> Result<(), AllocError> {
+    match node_at(topology, place) {
+        Some(node) => watched.see(topology, part, time, node, source_at(place)),
+        None => Ok(()),
+    }
+}
+
+/// Does the events of a whole network that stands at the start of its run, as far as they are before
+/// `stop`, and watches each.
+fn run(
+    alloc: Global,
+    topology: &Topology,
+    part: &mut Part<SortedList>,
+    watched: &mut Watched,
+) -> Result<(), AllocError>
+    requires { Represents pending_of topology.now None part.old
+        (one_list (net_of topology.now) 0) }
+    ensures { OnOk result ((n : ℕ) × IsBefore (net_of topology.now) topology.now.stop n
+        × Represents pending_of topology.now None part.new (one_list (net_of topology.now) n)) }
+{
+    for done in 0..MAX_STEPS + 1 {
+        match part.step(alloc, topology, topology.stop())? {
+            None => return Ok(()),
+            Some(key) => see(topology, part, watched, key.time, &key.place)?,
+        }
+        let_go(part);
+    }
+    Err(AllocError)
+}
+
+/// Runs a whole network by one event list to its `stop`, and measures it.
+///
+/// # Errors
+///
+/// Where memory was refused.
+pub fn measure(alloc: Global, topology: &Topology) -> Result<Measured, AllocError>
+    ensures { IfOk result (IsMeasured topology.now) }
+{
+    let traffic = traffic_of_all(alloc, topology)?;
+    let mut part = Part::<SortedList>::start(alloc, topology, None)?;
+    let mut watched = Watched::new(alloc, topology)?;
+    run(alloc, topology, &mut part, &mut watched)?;
+    Ok(Measured::new(part, traffic, watched))
+}

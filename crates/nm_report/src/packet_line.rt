@@ -1,0 +1,177 @@
+//! A packet as a line, in the manner of tcpdump.
+
+ghost use Rattle.std.specs.Prelude.{OnOk};
+ghost use Rattle.nm_report.specs.Lines.{EndsLine};
+
+use crate::table::end_line;
+use crate::units::push_address;
+use nm_base::{Dir, Record};
+use nm_packet::icmp::IcmpView;
+use nm_packet::ipv4::Ipv4View;
+use nm_packet::{HeaderFault, Icmp, Ipv4, Udp};
+use nm_text::{push_number, push_text};
+use std::alloc::AllocError;
+
+/// The numbers of protocols (RFC 790).
+const ICMP: u8 = 1;
+
+const UDP: u8 = 17;
+
+/// Appends a word and a number.
+fn push_field(text: &mut Vec<u8>, word: &[u8], value: u64) -> Result<(), AllocError> {
+    push_text(text, word)?;
+    push_number(text, value)
+}
+
+/// What a message of ICMP says, in words (RFC 792).
+fn words_of(message_type: u8, code: u8) -> Option<&'static str> {
+    match (message_type, code) {
+        (0, 0) => Some("echo reply"),
+        (3, 0) => Some("destination unreachable: network"),
+        (3, 1) => Some("destination unreachable: host"),
+        (3, 2) => Some("destination unreachable: protocol"),
+        (3, 3) => Some("destination unreachable: port"),
+        (4, 0) => Some("source quench"),
+        (5, _) => Some("redirect"),
+        (8, 0) => Some("echo request"),
+        (11, 0) => Some("time exceeded in transit"),
+        (11, 1) => Some("time exceeded in reassembly"),
+        (12, _) => Some("parameter problem"),
+        _ => None,
+    }
+}
+
+/// Appends what a message of ICMP says.
+fn push_message(text: &mut Vec<u8>, message: &IcmpView<'_>) -> Result<(), AllocError> {
+    push_text(text, b": ICMP ")?;
+    match words_of(message.message_type(), message.code()) {
+        Some(words) => push_text(text, words.as_bytes())?,
+        None => {
+            push_field(text, b"type ", u64::from(message.message_type()))?;
+            push_field(text, b" code ", u64::from(message.code()))?;
+        }
+    }
+    if matches!(message.message_type(), 0 | 8) {
+        push_field(text, b", id ", u64::from(message.identifier()))?;
+        push_field(text, b", seq ", u64::from(message.sequence_number()))?;
+    }
+    Ok(())
+}
+
+/// Appends an address, and a port where there is one.
+fn push_place(
+    text: &mut Vec<u8>,
+    address: nm_packet::Address,
+    port: Option<u16>,
+) -> Result<(), AllocError> {
+    push_address(text, address)?;
+    match port {
+        Some(port) => push_field(text, b".", u64::from(port)),
+        None => Ok(()),
+    }
+}
+
+/// Appends where a packet comes from and where it goes.
+fn push_way(
+    text: &mut Vec<u8>,
+    header: &Ipv4View<'_>,
+    ports: Option<(u16, u16)>,
+) -> Result<(), AllocError> {
+    let (from, to) = match ports {
+        Some((from, to)) => (Some(from), Some(to)),
+        None => (None, None),
+    };
+    push_place(text, header.source(), from)?;
+    push_text(text, b" > ")?;
+    push_place(text, header.destination(), to)
+}
+
+/// Appends what a packet carries, which is no fragment.
+fn push_payload(text: &mut Vec<u8>, header: &Ipv4View<'_>) -> Result<(), AllocError> {
+    let payload = header.payload();
+    match header.protocol() {
+        UDP => match Udp::read(header.source(), header.destination(), payload) {
+            Ok(datagram) => {
+                let ports = (datagram.source_port(), datagram.destination_port());
+                push_way(text, header, Some(ports))?;
+                push_field(text, b": UDP, length ", datagram.data().len() as u64)
+            }
+            Err(_) => {
+                push_way(text, header, None)?;
+                push_field(text, b": bad UDP, length ", payload.len() as u64)
+            }
+        },
+        ICMP => match Icmp::read(payload) {
+            Ok(message) => {
+                push_way(text, header, None)?;
+                push_message(text, &message)?;
+                push_field(text, b", length ", payload.len() as u64)
+            }
+            Err(_) => {
+                push_way(text, header, None)?;
+                push_field(text, b": bad ICMP, length ", payload.len() as u64)
+            }
+        },
+        protocol => {
+            push_way(text, header, None)?;
+            push_field(text, b": protocol ", u64::from(protocol))?;
+            push_field(text, b", length ", payload.len() as u64)
+        }
+    }
+}
+
+/// Appends a packet with a header that is in order.
+fn push_packet(text: &mut Vec<u8>, header: &Ipv4View<'_>) -> Result<(), AllocError> {
+    if header.more_fragments() || header.fragment_offset() > 0 {
+        push_way(text, header, None)?;
+        push_field(
+            text,
+            b": fragment at ",
+            u64::from(header.fragment_offset()) * 8,
+        )?;
+        push_field(text, b", length ", header.payload().len() as u64)?;
+    } else {
+        push_payload(text, header)?;
+    }
+    push_field(text, b", ttl ", u64::from(header.time_to_live()))
+}
+
+/// What is wrong with a header.
+fn fault_of(fault: HeaderFault) -> &'static str {
+    match fault {
+        HeaderFault::Short => "too short",
+        HeaderFault::Version => "version",
+        HeaderFault::Ihl => "header length",
+        HeaderFault::Checksum => "checksum",
+        HeaderFault::Total => "total length",
+    }
+}
+
+/// Appends a record as a line: its time in nanoseconds, whether the packet came in or went out, from
+/// where to where it goes, what it carries and how many octets of that, and its time to live. Of a
+/// packet with a bad header it says what is wrong, and how many octets it has.
+///
+/// # Errors
+///
+/// Where memory was refused. A part of the line may have been appended.
+pub fn push_packet_line(text: &mut Vec<u8>, record: &Record) -> Result<(), AllocError>
+    ensures { OnOk result (EndsLine text.new.items) }
+{
+    push_number(text, record.time.nanoseconds())?;
+    push_text(
+        text,
+        match record.dir {
+            Dir::In => b" in  ",
+            Dir::Out => b" out ",
+        },
+    )?;
+    match Ipv4::read(record.packet.octets()) {
+        Ok(header) => push_packet(text, &header)?,
+        Err(fault) => {
+            push_text(text, b"bad IPv4 header (")?;
+            push_text(text, fault_of(fault).as_bytes())?;
+            push_field(text, b"), length ", record.packet.octet_count() as u64)?;
+        }
+    }
+    end_line(text)
+}

@@ -1,0 +1,241 @@
+//! The measures of a run as tables for a reader.
+
+ghost use Rattle.std.specs.Prelude.{IfOk};
+ghost use Rattle.nm_report.specs.Lines.{EndsLine};
+
+use crate::amounts::{Amount, Traffic};
+use crate::flows::Flow;
+use crate::measured::Measured;
+use crate::table::{Table, end_line};
+use crate::units::{push_address, push_percentage, thousandths};
+use nm_base::{IfaceNo, NodeNo, SourceNo};
+use nm_forward::Counter;
+use nm_text::push_text;
+use nm_topology::Topology;
+use nm_topology::traffic::{Source, Traffic as SourceTraffic};
+use std::alloc::{AllocError, Global};
+
+/// Nothing came and nothing went.
+const NO_TRAFFIC: Traffic = Traffic {
+    came: Amount {
+        packets: 0,
+        octets: 0,
+    },
+    went: Amount {
+        packets: 0,
+        octets: 0,
+    },
+};
+
+/// What came to an interface and what it transmitted, which is nothing where it is not there.
+pub(crate) fn traffic_at(measured: &Measured, iface: IfaceNo) -> Traffic {
+    measured.traffic(iface).unwrap_or(NO_TRAFFIC)
+}
+
+/// What became of the packets of a source, which is nothing where it is not there.
+pub(crate) fn flow_of(measured: &Measured, source: SourceNo) -> Flow {
+    measured.flow(source).unwrap_or(Flow::NONE)
+}
+
+/// The kind of a source, as the topology's text has it.
+pub(crate) fn kind_of(source: &Source) -> &'static str {
+    match &source.traffic {
+        SourceTraffic::Cbr(_) => "cbr",
+        SourceTraffic::Echo(_) => "echo",
+        SourceTraffic::Raw(_) => "raw",
+    }
+}
+
+/// Appends where the packets of a source go; `-` for raw packets, which say it themselves.
+fn push_destination(text: &mut Vec<u8>, source: &Source) -> Result<(), AllocError> {
+    match &source.traffic {
+        SourceTraffic::Cbr(cbr) => push_address(text, cbr.to),
+        SourceTraffic::Echo(echo) => push_address(text, echo.to),
+        SourceTraffic::Raw(_) => push_text(text, b"-"),
+    }
+}
+
+/// What nodes counted: the counters above 0.
+fn push_nodes(
+    alloc: Global,
+    text: &mut Vec<u8>,
+    topology: &Topology,
+    measured: &Measured,
+) -> Result<(), AllocError> {
+    let mut table = Table::new(alloc, &["node", "counter", "packets"], 2)?;
+    let mut number = 0u32;
+    for node in topology.nodes() {
+        for counter in Counter::ALL {
+            let count = measured.counter(NodeNo::new(number), counter).unwrap_or(0);
+            if count > 0 {
+                table.text(node.name().as_bytes())?;
+                table.text(counter.name().as_bytes())?;
+                table.number(count)?;
+            }
+        }
+        number = number.saturating_add(1);
+    }
+    table.print(text)
+}
+
+/// The share of the time before `stop` in which an interface transmitted.
+fn busy_share(
+    alloc: Global,
+    topology: &Topology,
+    measured: &Measured,
+    iface: IfaceNo,
+) -> Result<Vec<u8>, AllocError> {
+    let mut text = Vec::new(alloc);
+    let share = thousandths(measured.busy(iface), topology.stop().nanoseconds());
+    push_percentage(&mut text, share)?;
+    Ok(text)
+}
+
+/// A row of an interface.
+fn add_iface(
+    alloc: Global,
+    table: &mut Table,
+    topology: &Topology,
+    measured: &Measured,
+    name: &str,
+    iface: IfaceNo,
+) -> Result<(), AllocError> {
+    let Traffic { came, went } = traffic_at(measured, iface);
+    table.text(name.as_bytes())?;
+    table.number(came.packets)?;
+    table.number(came.octets)?;
+    table.number(went.packets)?;
+    table.number(went.octets)?;
+    table.number(measured.dropped(iface).unwrap_or(0))?;
+    table.number(measured.longest_queue(iface))?;
+    table.text(busy_share(alloc, topology, measured, iface)?.as_slice())
+}
+
+/// The columns of interfaces.
+const IFACE_HEAD: [&str; 8] = [
+    "interface",
+    "packets in",
+    "octets in",
+    "packets out",
+    "octets out",
+    "dropped",
+    "longest queue",
+    "busy",
+];
+
+/// What passed the interfaces.
+fn push_ifaces(
+    alloc: Global,
+    text: &mut Vec<u8>,
+    topology: &Topology,
+    measured: &Measured,
+) -> Result<(), AllocError> {
+    let mut table = Table::new(alloc, &IFACE_HEAD, 1)?;
+    let mut number = 0u32;
+    for iface in topology.ifaces() {
+        let place = IfaceNo::new(number);
+        add_iface(alloc, &mut table, topology, measured, iface.name(), place)?;
+        number = number.saturating_add(1);
+    }
+    table.print(text)
+}
+
+/// The columns of sources. Delays are in nanoseconds.
+const SOURCE_HEAD: [&str; 10] = [
+    "source",
+    "kind",
+    "node",
+    "to",
+    "sent",
+    "delivered",
+    "lost",
+    "least delay",
+    "mean delay",
+    "greatest delay",
+];
+
+/// The name of the node of a source.
+pub(crate) fn node_name<'a>(topology: &'a Topology, source: &Source) -> &'a str {
+    match topology.nodes().get(source.node.index()) {
+        Some(node) => node.name(),
+        None => "-",
+    }
+}
+
+/// The cells of a row that say which source it is.
+fn add_source(
+    alloc: Global,
+    table: &mut Table,
+    topology: &Topology,
+    source: &Source,
+    number: u32,
+) -> Result<(), AllocError> {
+    table.number(u64::from(number))?;
+    table.text(kind_of(source).as_bytes())?;
+    table.text(node_name(topology, source).as_bytes())?;
+    let mut to = Vec::new(alloc);
+    push_destination(&mut to, source)?;
+    table.text(to.as_slice())
+}
+
+/// The cells of a row that say what became of its packets. Of raw ones it is not known.
+fn add_flow(table: &mut Table, flow: Flow, is_raw: bool) -> Result<(), AllocError> {
+    table.number(flow.sent)?;
+    if is_raw {
+        for _ in 0..5 {
+            table.text(b"-")?;
+        }
+        return Ok(());
+    }
+    table.number(flow.delivered)?;
+    table.number(flow.lost())?;
+    table.number(flow.least)?;
+    table.number(flow.mean())?;
+    table.number(flow.greatest)
+}
+
+/// What became of the packets of sources.
+fn push_sources(
+    alloc: Global,
+    text: &mut Vec<u8>,
+    topology: &Topology,
+    measured: &Measured,
+) -> Result<(), AllocError> {
+    let mut table = Table::new(alloc, &SOURCE_HEAD, 4)?;
+    let mut number = 0u32;
+    for source in topology.sources() {
+        add_source(alloc, &mut table, topology, source, number)?;
+        let is_raw = matches!(source.traffic, SourceTraffic::Raw(_));
+        add_flow(&mut table, flow_of(measured, SourceNo::new(number)), is_raw)?;
+        number = number.saturating_add(1);
+    }
+    table.print(text)
+}
+
+/// Three tables, with an empty line between: what nodes counted, what passed the interfaces, and
+/// what became of the packets of sources. Delays are in nanoseconds, and lost is what had not
+/// arrived at `stop`.
+///
+/// # Errors
+///
+/// Where memory was refused.
+pub fn report_text(
+    alloc: Global,
+    topology: &Topology,
+    measured: &Measured,
+) -> Result<Vec<u8>, AllocError>
+    ensures { IfOk result (λ text. EndsLine text.items) }
+{
+    let mut text = Vec::new(alloc);
+    push_nodes(alloc, &mut text, topology, measured)?;
+    push_text(&mut text, b"\n")?;
+    push_ifaces(alloc, &mut text, topology, measured)?;
+    push_text(&mut text, b"\n")?;
+    push_sources(alloc, &mut text, topology, measured)?;
+    push_text(
+        &mut text,
+        b"\nDelays are in nanoseconds; lost is what had not arrived at stop.",
+    )?;
+    end_line(&mut text)?;
+    Ok(text)
+}

@@ -1,0 +1,124 @@
+//! Tables with aligned columns.
+
+ghost use Rattle.std.specs.Prelude.{OnOk};
+ghost use Rattle.nm_report.specs.Lines.{EndsLine};
+
+use nm_text::{push_number, push_text};
+use std::alloc::{AllocError, Global};
+
+/// A table of cells, row by row. Its first columns are texts, which stand at the left, and all others
+/// numbers, which stand at the right.
+#[derive(Drop)]
+pub(crate) struct Table {
+    alloc: Global,
+    columns: usize,
+    texts: usize,
+    cells: Vec<Vec<u8>>,
+}
+
+/// Appends so many spaces.
+fn push_spaces(text: &mut Vec<u8>, count: usize) -> Result<(), AllocError> {
+    for _ in 0..count {
+        push_text(text, b" ")?;
+    }
+    Ok(())
+}
+
+impl Table {
+    /// A table with a head, the first of whose columns are texts.
+    pub(crate) fn new(alloc: Global, head: &[&str], texts: usize) -> Result<Self, AllocError> {
+        let mut table = Table {
+            alloc,
+            columns: head.len(),
+            texts,
+            cells: Vec::new(alloc),
+        };
+        for name in head {
+            table.text(name.as_bytes())?;
+        }
+        Ok(table)
+    }
+
+    /// One more cell, with a text.
+    pub(crate) fn text(&mut self, text: &[u8]) -> Result<(), AllocError> {
+        let cell = Vec::from_slice(self.alloc, text)?;
+        self.cells.push(cell)?;
+        Ok(())
+    }
+
+    /// One more cell, with a number.
+    pub(crate) fn number(&mut self, number: u64) -> Result<(), AllocError> {
+        let mut cell = Vec::new(self.alloc);
+        push_number(&mut cell, number)?;
+        self.cells.push(cell)?;
+        Ok(())
+    }
+
+    /// How wide a column is.
+    fn width(&self, column: usize) -> usize {
+        let mut width = 0;
+        let mut at = 0;
+        for cell in &self.cells {
+            if at == column {
+                width = cell.len().max(width);
+            }
+            at = self.after(at);
+        }
+        width
+    }
+
+    /// The column behind this one.
+    fn after(&self, column: usize) -> usize {
+        if column.saturating_add(1) >= self.columns {
+            0
+        } else {
+            column.saturating_add(1)
+        }
+    }
+
+    /// Appends a cell of a column that is so wide.
+    fn push_cell(
+        &self,
+        text: &mut Vec<u8>,
+        cell: &[u8],
+        column: usize,
+        width: usize,
+    ) -> Result<(), AllocError> {
+        let spaces = width.saturating_sub(cell.len());
+        if column >= self.texts {
+            push_spaces(text, spaces)?;
+            return push_text(text, cell);
+        }
+        push_text(text, cell)?;
+        push_spaces(text, spaces)
+    }
+
+    /// How wide the columns are.
+    fn widths(&self) -> Result<Vec<usize>, AllocError> {
+        let mut widths = Vec::new(self.alloc);
+        for column in 0..self.columns {
+            widths.push(self.width(column))?;
+        }
+        Ok(widths)
+    }
+
+    /// Appends the table, whose rows end with line feeds.
+    pub(crate) fn print(&self, text: &mut Vec<u8>) -> Result<(), AllocError> {
+        let widths = self.widths()?;
+        let mut column = 0;
+        for cell in &self.cells {
+            let width = widths.get(column).copied().unwrap_or(0);
+            self.push_cell(text, cell.as_slice(), column, width)?;
+            column = self.after(column);
+            push_text(text, if column == 0 { b"\n" } else { b"  " })?;
+        }
+        Ok(())
+    }
+}
+
+/// Appends a line feed.
+pub(crate) fn end_line(text: &mut Vec<u8>) -> Result<(), AllocError>
+    ensures { OnOk result (EndsLine text.new.items) }
+{
+    push_text(text, b"\n")
+}

@@ -1,0 +1,71 @@
+//! Numbers with the units that people use.
+
+use nm_packet::Address;
+use nm_text::{push_number, push_text};
+use std::alloc::AllocError;
+
+/// Units of rates, in bits per second.
+const RATES: [(u64, &[u8]); 3] = [
+    (1_000_000_000, b" Gbit/s"),
+    (1_000_000, b" Mbit/s"),
+    (1_000, b" kbit/s"),
+];
+
+/// Units of times, in nanoseconds.
+const TIMES: [(u64, &[u8]); 3] = [(1_000_000_000, b" s"), (1_000_000, b" ms"), (1_000, b" us")];
+
+/// Appends a quantity in the greatest unit of which it is a whole number, or in the least one. Units
+/// stand from the greatest down, each with how many of the least it has.
+fn push_quantity(
+    text: &mut Vec<u8>,
+    quantity: u64,
+    units: &[(u64, &[u8])],
+    least: &[u8],
+) -> Result<(), AllocError> {
+    for (size, name) in units {
+        if *size > 0 && quantity >= *size && quantity % *size == 0 {
+            push_number(text, quantity / *size)?;
+            return push_text(text, name);
+        }
+    }
+    push_number(text, quantity)?;
+    push_text(text, least)
+}
+
+/// Appends a rate in bits per second.
+pub(crate) fn push_rate(text: &mut Vec<u8>, rate: u64) -> Result<(), AllocError> {
+    push_quantity(text, rate, &RATES, b" bit/s")
+}
+
+/// Appends a time in nanoseconds.
+pub(crate) fn push_time(text: &mut Vec<u8>, nanoseconds: u64) -> Result<(), AllocError> {
+    push_quantity(text, nanoseconds, &TIMES, b" ns")
+}
+
+/// Appends an address.
+pub(crate) fn push_address(text: &mut Vec<u8>, address: Address) -> Result<(), AllocError> {
+    let [a, b, c, d] = address.octets();
+    push_number(text, u64::from(a))?;
+    for octet in [b, c, d] {
+        push_text(text, b".")?;
+        push_number(text, u64::from(octet))?;
+    }
+    Ok(())
+}
+
+/// A part of a whole in thousandths, rounded down: 0 where there is no whole, 1,000 at most.
+pub(crate) fn thousandths(part: u64, whole: u64) -> u64 {
+    if whole == 0 {
+        return 0;
+    }
+    let share = u128::from(part) * 1_000 / u128::from(whole);
+    u64::try_from(share).unwrap_or(1_000).min(1_000)
+}
+
+/// Appends thousandths as a percentage with one decimal.
+pub(crate) fn push_percentage(text: &mut Vec<u8>, thousandths: u64) -> Result<(), AllocError> {
+    push_number(text, thousandths / 10)?;
+    push_text(text, b".")?;
+    push_number(text, thousandths % 10)?;
+    push_text(text, b"%")
+}
