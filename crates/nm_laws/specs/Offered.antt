@@ -1,0 +1,42 @@
+-- The packets that nodes offer to their interfaces.
+use Rattle.std.specs.Prelude.{ℕ, zero, suc, ◌==◌, List, [], ◌++◌, Option, Some, None}
+use Rattle.nm_base.specs.declared.key.Place.{Place}
+use Rattle.nm_base.specs.declared.key.Place.TheVariants.{Arrive, Complete, Fire}
+use Rattle.nm_base.specs.declared.key.Key.{Key}
+use Rattle.nm_base.specs.declared.event.Event.{Event}
+use Rattle.nm_base.specs.declared.event.Event.TheVariants.{Delivery, Completion}
+use Rattle.nm_base.specs.declared.event.Origin.TheVariants.{Arrival, Source}
+use Rattle.nm_model.specs.Lists.{keep_where}
+use Rattle.nm_model.specs.EventList.{least}
+use Rattle.nm_model.specs.Network.{Net}
+use Rattle.nm_model.specs.Port.{option_list}
+use Rattle.nm_model.specs.Run.{State, one_list}
+
+-- those of interface i
+abbrev pub offered_to : {P : Type 0} → ℕ → List (ℕ × P) → List (ℕ × P)
+offered_to i offers = keep_where (λ o. i == o.0) offers
+
+module _ {P N : Type 0} (net : Net P N) where
+  -- What a node sends in answer to an event: by which of its interfaces, and the packet. Nodes answer to the packets that arrive and to
+  -- those of their sources, and to nothing else.
+  abbrev pub answer_to : (ℕ → N) → Place → Event P → Option (ℕ × P)
+  answer_to nodes (Arrive i) (Delivery x) = (net.react (net.owner i) (nodes (net.owner i)) (Arrival i) x).1
+  answer_to nodes (Fire j) (Delivery x) = (net.react (net.source_node j) (nodes (net.source_node j)) (Source j) x).1
+  answer_to nodes (Complete i) (Delivery x) = None
+  answer_to nodes (Arrive i) Completion = None
+  answer_to nodes (Complete i) Completion = None
+  answer_to nodes (Fire j) Completion = None
+
+  -- in answer to the next event, if one is pending
+  abbrev pub next_offer : State P N → Option (Key × Event P) → List (ℕ × P)
+  next_offer s None = []
+  next_offer s (Some e) = option_list (answer_to s.node e.0.place e.1)
+
+  -- all packets that were offered in the first n events of the network, in that order, each with its interface
+  abbrev pub offers : ℕ → List (ℕ × P)
+  offers zero = []
+  offers (suc n) = offers n ++ next_offer (one_list net n) (least (one_list net n).pending)
+
+  -- those of the interfaces of node v
+  abbrev pub offered_by : ℕ → List (ℕ × P) → List (ℕ × P)
+  offered_by v l = keep_where (λ o. v == net.owner o.0) l
