@@ -1,1 +1,4 @@
 mod Ports
+mod Transmissions
+mod Counting
+mod Counters

@@ -1,0 +1,1 @@
+-- By how much the counters of a node rise.

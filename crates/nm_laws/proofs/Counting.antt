@@ -1,0 +1,217 @@
+-- A count that each packet raises by so much at the node to which it comes: what it is after any number of events.
+use Rattle.std.proofs.Common.{◌≡◌, ◌≢◌, ◌⊎◌, ℕ, zero, suc, ◌+◌, ◌<◌, Bool, true, false, cond, ◌==◌, ◌&&◌, List, [], ◌∷◌, ◌++◌, length, Option, Some, None, refl, sym, ap, ◌∙◌, subst, arith, ⊎_elim, length-append}
+use Rattle.nm_base.specs.declared.key.Place.{Place}
+use Rattle.nm_base.specs.declared.key.Place.TheVariants.{Arrive, Complete, Fire}
+use Rattle.nm_base.specs.declared.key.Key.{Key}
+use Rattle.nm_base.specs.declared.event.Event.{Event}
+use Rattle.nm_base.specs.declared.event.Event.TheVariants.{Delivery, Completion}
+use Rattle.nm_base.specs.declared.event.Origin.{Origin}
+use Rattle.nm_base.specs.declared.event.Origin.TheVariants.{Arrival, Source}
+use Rattle.nm_base.specs.declared.record.Dir.TheVariants.{In, Out}
+use Rattle.nm_base.specs.declared.record.Record.{Record}
+use Rattle.nm_model.specs.EventList.{least}
+use Rattle.nm_model.specs.Lists.{keep_where, set_at}
+use Rattle.nm_model.specs.Network.{Net, IsNet, node_of}
+use Rattle.nm_model.specs.Port.{Port, option_list}
+use Rattle.nm_model.specs.Run.{State, Effect, effect, sent_on, in_record, out_record, step_at, one_list}
+use Rattle.nm_model.specs.Trace.{same_dir}
+use Rattle.nm_model.proofs.ListLemmas.{same_number, number_apart, number_tied, set_here, set_there, kept-append}
+use Rattle.nm_laws.specs.Offered.{answer_to, next_offer, offers, offered_by}
+use Rattle.nm_laws.specs.Counted.{arrivals_at}
+
+module _ {P N : Type 0} (net : Net P N) where
+  -- the state of its node after an event, and the packet that arrived
+  abbrev state_after : (ℕ → N) → Place → Event P → N
+  state_after nodes (Arrive i) (Delivery x) = (net.react (net.owner i) (nodes (net.owner i)) (Arrival i) x).0
+  state_after nodes (Fire j) (Delivery x) = (net.react (net.source_node j) (nodes (net.source_node j)) (Source j) x).0
+  state_after nodes (Complete i) (Delivery x) = nodes (net.owner i)
+  state_after nodes (Arrive i) Completion = nodes (net.owner i)
+  state_after nodes (Complete i) Completion = nodes (net.owner i)
+  state_after nodes (Fire j) Completion = nodes (net.source_node j)
+
+  module _ (ports : ℕ → Port P) (time : ℕ) where
+    sent_state : (came : Option (ℕ × P)) (n : N) (o follows : Option (ℕ × P)) → (sent_on net ports time came n o follows).after ≡ n
+    sent_state came n None follows = refl
+    sent_state came n (Some s) follows = refl
+
+    sent_came : (came : Option (ℕ × P)) (n : N) (o follows : Option (ℕ × P)) → (sent_on net ports time came n o follows).came ≡ came
+    sent_came came n None follows = refl
+    sent_came came n (Some s) follows = refl
+
+    effect_state : (nodes : ℕ → N) (place : Place) (number : ℕ) (event : Event P) → (effect net nodes ports time place number event).after ≡ state_after nodes place event
+    effect_state nodes (Arrive i) number (Delivery x) = sent_state (Some (i, x)) _ (net.react (net.owner i) (nodes (net.owner i)) (Arrival i) x).1 None
+    effect_state nodes (Fire j) number (Delivery x) = sent_state None _ (net.react (net.source_node j) (nodes (net.source_node j)) (Source j) x).1 (net.source j (suc number))
+    effect_state nodes (Complete i) number (Delivery x) = refl
+    effect_state nodes (Arrive i) number Completion = refl
+    effect_state nodes (Complete i) number Completion = refl
+    effect_state nodes (Fire j) number Completion = refl
+
+  -- by how much a packet raises the count of the node to which it comes
+  module _ (k : ℕ → N → Origin → P → ℕ) where
+    abbrev gain : (ℕ → N) → Place → Event P → ℕ → ℕ
+    gain nodes (Arrive i) (Delivery x) v = cond (v == net.owner i) (k (net.owner i) (nodes (net.owner i)) (Arrival i) x) 0
+    gain nodes (Fire j) (Delivery x) v = cond (v == net.source_node j) (k (net.source_node j) (nodes (net.source_node j)) (Source j) x) 0
+    gain nodes (Complete i) (Delivery x) v = 0
+    gain nodes (Arrive i) Completion v = 0
+    gain nodes (Complete i) Completion v = 0
+    gain nodes (Fire j) Completion v = 0
+
+    abbrev next_gain : State P N → Option (Key × Event P) → ℕ → ℕ
+    next_gain s None v = 0
+    next_gain s (Some e) v = gain s.node e.0.place e.1 v
+
+    abbrev pub gained : ℕ → ℕ → ℕ
+    gained v zero = 0
+    gained v (suc n) = gained v n + next_gain (one_list net n) (least (one_list net n).pending) v
+
+    module _ (Good : N → Type 0) (begins : (v : ℕ) → Good (net.first v)) (keeps : (v : ℕ) (n : N) (o : Origin) (x : P) → Good n → Good (net.react v n o x).0) where
+      good_after : (nodes : ℕ → N) (place : Place) (event : Event P) → ((v : ℕ) → Good (nodes v)) → Good (state_after nodes place event)
+      good_after nodes (Arrive i) (Delivery x) h = keeps (net.owner i) (nodes (net.owner i)) (Arrival i) x (h (net.owner i))
+      good_after nodes (Fire j) (Delivery x) h = keeps (net.source_node j) (nodes (net.source_node j)) (Source j) x (h (net.source_node j))
+      good_after nodes (Complete i) (Delivery x) h = h (net.owner i)
+      good_after nodes (Arrive i) Completion h = h (net.owner i)
+      good_after nodes (Complete i) Completion h = h (net.owner i)
+      good_after nodes (Fire j) Completion h = h (net.source_node j)
+
+      good_step : (s : State P N) (o : Option (Key × Event P)) → ((v : ℕ) → Good (s.node v)) → (v : ℕ) → Good ((step_at net (λ q. true) s o).node v)
+      good_step s None h v = h v
+      good_step s (Some e) h v =
+          let does : Effect P N = effect net s.node s.port e.0.time e.0.place e.0.number e.1 in
+          ⊎_elim
+          (λ same. subst Good (sym (ap (set_at s.node (node_of net e.0.place) does.after) same ∙ set_here s.node (node_of net e.0.place) does.after ∙ effect_state s.port e.0.time s.node e.0.place e.0.number e.1)) (good_after s.node e.0.place e.1 h))
+          (λ other. subst Good (sym (set_there s.node (node_of net e.0.place) does.after v other)) (h v))
+          (same_number v (node_of net e.0.place))
+
+      pub good : (n v : ℕ) → Good ((one_list net n).node v)
+      good zero v = begins v
+      good (suc n) v = good_step (one_list net n) (least (one_list net n).pending) (good n) v
+
+      module _ (total : N → ℕ) (none : (v : ℕ) → total (net.first v) ≡ 0) (limit : ℕ)
+          (rises : (v : ℕ) (n : N) (o : Origin) (x : P) → Good n → total n + k v n o x < limit → total (net.react v n o x).0 ≡ total n + k v n o x) where
+        -- the one node that changes
+        changed : (nodes : ℕ → N) (w : ℕ) (after : N) (g : ℕ) → (total (nodes w) + g < limit → total after ≡ total (nodes w) + g)
+            → (v : ℕ) → total (nodes v) + cond (v == w) g 0 < limit → total (set_at nodes w after v) ≡ total (nodes v) + cond (v == w) g 0
+        changed nodes w after g h v below = ⊎_elim
+            (λ same.
+            let a = ap total (ap (set_at nodes w after) same ∙ set_here nodes w after) in
+            let b : cond (v == w) g 0 ≡ g = ap (λ z. cond (z == w) g 0) same ∙ ap (λ z. cond z g 0) (number_tied w) in
+            let c = ap (λ z. total (nodes z)) same in
+            let d = h (omega arith) in
+            omega arith)
+            (λ other.
+            let a = ap total (set_there nodes w after v other) in
+            let b : cond (v == w) g 0 ≡ 0 = ap (λ z. cond z g 0) (number_apart v w other) in
+            omega arith)
+            (same_number v w)
+
+        unchanged : (nodes : ℕ → N) (w v : ℕ) → total (set_at nodes w (nodes w) v) ≡ total (nodes v) + 0
+        unchanged nodes w v = ⊎_elim
+            (λ same. let a = ap total (ap (set_at nodes w (nodes w)) same ∙ set_here nodes w (nodes w) ∙ ap nodes (sym same)) in omega arith)
+            (λ other. let a = ap total (set_there nodes w (nodes w) v other) in omega arith)
+            (same_number v w)
+
+        after_is : (nodes : ℕ → N) → ((v : ℕ) → Good (nodes v)) → (place : Place) (event : Event P) (v : ℕ) → total (nodes v) + gain nodes place event v < limit
+            → total (set_at nodes (node_of net place) (state_after nodes place event) v) ≡ total (nodes v) + gain nodes place event v
+        after_is nodes h (Arrive i) (Delivery x) v below = changed nodes (net.owner i) _ _ (rises (net.owner i) (nodes (net.owner i)) (Arrival i) x (h (net.owner i))) v below
+        after_is nodes h (Fire j) (Delivery x) v below = changed nodes (net.source_node j) _ _ (rises (net.source_node j) (nodes (net.source_node j)) (Source j) x (h (net.source_node j))) v below
+        after_is nodes h (Complete i) (Delivery x) v below = unchanged nodes (net.owner i) v
+        after_is nodes h (Arrive i) Completion v below = unchanged nodes (net.owner i) v
+        after_is nodes h (Complete i) Completion v below = unchanged nodes (net.owner i) v
+        after_is nodes h (Fire j) Completion v below = unchanged nodes (net.source_node j) v
+
+        step_is : (s : State P N) → ((v : ℕ) → Good (s.node v)) → (o : Option (Key × Event P)) (v : ℕ) → total (s.node v) + next_gain s o v < limit
+            → total ((step_at net (λ q. true) s o).node v) ≡ total (s.node v) + next_gain s o v
+        step_is s h None v below = omega arith
+        step_is s h (Some e) v below =
+            ap (λ a. total (set_at s.node (node_of net e.0.place) a v)) (effect_state s.port e.0.time s.node e.0.place e.0.number e.1) ∙ after_is s.node h e.0.place e.1 v below
+
+        pub total_is : (v n : ℕ) → gained v n < limit → total ((one_list net n).node v) ≡ gained v n
+        total_is v zero below = none v
+        total_is v (suc n) below =
+            let a = total_is v n (omega arith) in
+            let b = step_is (one_list net n) (good n) (least (one_list net n).pending) v (omega arith) in
+            omega arith
+
+  -- each packet that arrives is counted
+  abbrev pub one_arrival : ℕ → N → Origin → P → ℕ
+  one_arrival v n (Arrival i) x = 1
+  one_arrival v n (Source j) x = 0
+
+  abbrev is_arrival_at : ℕ → Record P → Bool
+  is_arrival_at v r = same_dir r.dir In && (v == net.owner r.iface)
+
+  out_is_none : (v time : ℕ) (o : Option (ℕ × P)) → keep_where (is_arrival_at v) (out_record time o) ≡ []
+  out_is_none v time None = refl
+  out_is_none v time (Some s) = refl
+
+  in_is : (v time : ℕ) (ports : ℕ → Port P) (nodes : ℕ → N) (place : Place) (number : ℕ) (event : Event P) → length (keep_where (is_arrival_at v) (in_record time (effect net nodes ports time place number event).came)) ≡ gain one_arrival nodes place event v
+  in_is v time ports nodes (Arrive i) number (Delivery x) =
+      ap (λ o. length (keep_where (is_arrival_at v) (in_record time o))) (sent_came ports time (Some (i, x)) _ (net.react (net.owner i) (nodes (net.owner i)) (Arrival i) x).1 None) ∙ go (v == net.owner i)
+    where
+      go : (z : Bool) → length (cond {A = List (Record P)} z (record { time = time; iface = i; dir = In; packet = x } ∷ []) []) ≡ cond z 1 0
+      go true = refl
+      go false = refl
+  in_is v time ports nodes (Fire j) number (Delivery x) =
+      ap (λ o. length (keep_where (is_arrival_at v) (in_record time o))) (sent_came ports time None _ (net.react (net.source_node j) (nodes (net.source_node j)) (Source j) x).1 (net.source j (suc number))) ∙ go (v == net.source_node j)
+    where
+      go : (z : Bool) → ◌≡◌ {A = ℕ} 0 (cond z 0 0)
+      go true = refl
+      go false = refl
+  in_is v time ports nodes (Complete i) number (Delivery x) = refl
+  in_is v time ports nodes (Arrive i) number Completion = refl
+  in_is v time ports nodes (Complete i) number Completion = refl
+  in_is v time ports nodes (Fire j) number Completion = refl
+
+  arrivals_step : (v : ℕ) (s : State P N) (o : Option (Key × Event P)) → length (arrivals_at net v (step_at net (λ q. true) s o).records) ≡ length (arrivals_at net v s.records) + next_gain one_arrival s o v
+  arrivals_step v s None = omega arith
+  arrivals_step v s (Some e) =
+      let does : Effect P N = effect net s.node s.port e.0.time e.0.place e.0.number e.1 in
+      let a = ap length (kept-append (is_arrival_at v) s.records (in_record e.0.time does.came ++ out_record e.0.time does.transmission)) in
+      let b = length-append (arrivals_at net v s.records) (arrivals_at net v (in_record e.0.time does.came ++ out_record e.0.time does.transmission)) in
+      let c = ap length (kept-append (is_arrival_at v) (in_record e.0.time does.came) (out_record e.0.time does.transmission)) in
+      let d = length-append (arrivals_at net v (in_record e.0.time does.came)) (arrivals_at net v (out_record e.0.time does.transmission)) in
+      let f = ap length (out_is_none v e.0.time does.transmission) in
+      let g = in_is v e.0.time s.port s.node e.0.place e.0.number e.1 in
+      omega arith
+
+  pub arrivals_are : (v n : ℕ) → length (arrivals_at net v (one_list net n).records) ≡ gained one_arrival v n
+  arrivals_are v zero = refl
+  arrivals_are v (suc n) = let a = arrivals_are v n in let b = arrivals_step v (one_list net n) (least (one_list net n).pending) in omega arith
+
+  -- each packet that a node sends is counted
+  abbrev pub one_sent : ℕ → N → Origin → P → ℕ
+  one_sent v n o x = length (option_list (net.react v n o x).1)
+
+  module _ (ok : IsNet net) where
+    of_node : (v w : ℕ) (r : Option (ℕ × P)) → ((s : ℕ × P) → r ≡ Some s → net.owner s.0 ≡ w) → length (offered_by net v (option_list r)) ≡ cond (v == w) (length (option_list r)) 0
+    of_node v w None own = go (v == w)
+      where
+        go : (z : Bool) → ◌≡◌ {A = ℕ} 0 (cond z 0 0)
+        go true = refl
+        go false = refl
+    of_node v w (Some s) own = ap (λ u. length (cond {A = List (ℕ × P)} (v == u) (s ∷ []) [])) (own s refl) ∙ go (v == w)
+      where
+        go : (z : Bool) → length (cond {A = List (ℕ × P)} z (s ∷ []) []) ≡ cond z 1 0
+        go true = refl
+        go false = refl
+
+    answer_is : (v : ℕ) (nodes : ℕ → N) (place : Place) (event : Event P) → length (offered_by net v (option_list (answer_to net nodes place event))) ≡ gain one_sent nodes place event v
+    answer_is v nodes (Arrive i) (Delivery x) = of_node v (net.owner i) (net.react (net.owner i) (nodes (net.owner i)) (Arrival i) x).1 (λ s e. ok.own (net.owner i) (nodes (net.owner i)) (Arrival i) x s e)
+    answer_is v nodes (Fire j) (Delivery x) = of_node v (net.source_node j) (net.react (net.source_node j) (nodes (net.source_node j)) (Source j) x).1 (λ s e. ok.own (net.source_node j) (nodes (net.source_node j)) (Source j) x s e)
+    answer_is v nodes (Complete i) (Delivery x) = refl
+    answer_is v nodes (Arrive i) Completion = refl
+    answer_is v nodes (Complete i) Completion = refl
+    answer_is v nodes (Fire j) Completion = refl
+
+    offer_is : (v : ℕ) (s : State P N) (o : Option (Key × Event P)) → length (offered_by net v (next_offer net s o)) ≡ next_gain one_sent s o v
+    offer_is v s None = refl
+    offer_is v s (Some e) = answer_is v s.node e.0.place e.1
+
+    pub offers_are : (v n : ℕ) → length (offered_by net v (offers net n)) ≡ gained one_sent v n
+    offers_are v zero = refl
+    offers_are v (suc n) =
+        let a = offers_are v n in
+        let b = offer_is v (one_list net n) (least (one_list net n).pending) in
+        let c = ap length (kept-append (λ o. v == net.owner o.0) (offers net n) (next_offer net (one_list net n) (least (one_list net n).pending))) in
+        let d = length-append (offered_by net v (offers net n)) (offered_by net v (next_offer net (one_list net n) (least (one_list net n).pending))) in
+        omega arith
