@@ -1,5 +1,5 @@
 -- A count that each packet raises by so much at the node to which it comes: what it is after any number of events.
-use Rattle.std.proofs.Common.{◌≡◌, ◌≢◌, ◌⊎◌, ℕ, zero, suc, ◌+◌, ◌<◌, Bool, true, false, cond, ◌==◌, ◌&&◌, List, [], ◌∷◌, ◌++◌, length, Option, Some, None, refl, sym, ap, ◌∙◌, subst, arith, ⊎_elim, length-append}
+use Rattle.std.proofs.Common.{◌≡◌, ℕ, zero, suc, ◌+◌, ◌<◌, ◌≤◌, Bool, true, false, cond, ◌==◌, ◌&&◌, List, [], ◌∷◌, ◌++◌, length, Option, Some, None, refl, sym, ap, ◌∙◌, subst, arith, ⊎_elim, length-append}
 use Rattle.nm_base.specs.declared.key.Place.{Place}
 use Rattle.nm_base.specs.declared.key.Place.TheVariants.{Arrive, Complete, Fire}
 use Rattle.nm_base.specs.declared.key.Key.{Key}
@@ -7,7 +7,7 @@ use Rattle.nm_base.specs.declared.event.Event.{Event}
 use Rattle.nm_base.specs.declared.event.Event.TheVariants.{Delivery, Completion}
 use Rattle.nm_base.specs.declared.event.Origin.{Origin}
 use Rattle.nm_base.specs.declared.event.Origin.TheVariants.{Arrival, Source}
-use Rattle.nm_base.specs.declared.record.Dir.TheVariants.{In, Out}
+use Rattle.nm_base.specs.declared.record.Dir.TheVariants.{In}
 use Rattle.nm_base.specs.declared.record.Record.{Record}
 use Rattle.nm_model.specs.EventList.{least}
 use Rattle.nm_model.specs.Lists.{keep_where, set_at}
@@ -63,6 +63,32 @@ module _ {P N : Type 0} (net : Net P N) where
     abbrev pub gained : ℕ → ℕ → ℕ
     gained v zero = 0
     gained v (suc n) = gained v n + next_gain (one_list net n) (least (one_list net n).pending) v
+
+    -- at most one for each event
+    module _ (small : (v : ℕ) (n : N) (o : Origin) (x : P) → k v n o x ≤ 1) where
+      gain_small : (nodes : ℕ → N) (place : Place) (event : Event P) (v : ℕ) → gain nodes place event v ≤ 1
+      gain_small nodes (Arrive i) (Delivery x) v = go (v == net.owner i) (small (net.owner i) (nodes (net.owner i)) (Arrival i) x)
+        where
+          go : (b : Bool) → k (net.owner i) (nodes (net.owner i)) (Arrival i) x ≤ 1 → cond b (k (net.owner i) (nodes (net.owner i)) (Arrival i) x) 0 ≤ 1
+          go true h = h
+          go false h = omega arith
+      gain_small nodes (Fire j) (Delivery x) v = go (v == net.source_node j) (small (net.source_node j) (nodes (net.source_node j)) (Source j) x)
+        where
+          go : (b : Bool) → k (net.source_node j) (nodes (net.source_node j)) (Source j) x ≤ 1 → cond b (k (net.source_node j) (nodes (net.source_node j)) (Source j) x) 0 ≤ 1
+          go true h = h
+          go false h = omega arith
+      gain_small nodes (Complete i) (Delivery x) v = omega arith
+      gain_small nodes (Arrive i) Completion v = omega arith
+      gain_small nodes (Complete i) Completion v = omega arith
+      gain_small nodes (Fire j) Completion v = omega arith
+
+      next_small : (s : State P N) (o : Option (Key × Event P)) (v : ℕ) → next_gain s o v ≤ 1
+      next_small s None v = omega arith
+      next_small s (Some e) v = gain_small s.node e.0.place e.1 v
+
+      pub gained_few : (v n : ℕ) → gained v n ≤ n
+      gained_few v zero = omega arith
+      gained_few v (suc n) = let a = gained_few v n in let b = next_small (one_list net n) (least (one_list net n).pending) v in omega arith
 
     module _ (Good : N → Type 0) (begins : (v : ℕ) → Good (net.first v)) (keeps : (v : ℕ) (n : N) (o : Origin) (x : P) → Good n → Good (net.react v n o x).0) where
       good_after : (nodes : ℕ → N) (place : Place) (event : Event P) → ((v : ℕ) → Good (nodes v)) → Good (state_after nodes place event)
@@ -137,6 +163,10 @@ module _ {P N : Type 0} (net : Net P N) where
   one_arrival v n (Arrival i) x = 1
   one_arrival v n (Source j) x = 0
 
+  pub one_arrival_small : (v : ℕ) (n : N) (o : Origin) (x : P) → one_arrival v n o x ≤ 1
+  one_arrival_small v n (Arrival i) x = omega arith
+  one_arrival_small v n (Source j) x = omega arith
+
   abbrev is_arrival_at : ℕ → Record P → Bool
   is_arrival_at v r = same_dir r.dir In && (v == net.owner r.iface)
 
@@ -181,6 +211,13 @@ module _ {P N : Type 0} (net : Net P N) where
   -- each packet that a node sends is counted
   abbrev pub one_sent : ℕ → N → Origin → P → ℕ
   one_sent v n o x = length (option_list (net.react v n o x).1)
+
+  pub one_sent_small : (v : ℕ) (n : N) (o : Origin) (x : P) → one_sent v n o x ≤ 1
+  one_sent_small v n o x = go (net.react v n o x).1
+    where
+      go : (r : Option (ℕ × P)) → length (option_list r) ≤ 1
+      go None = omega arith
+      go (Some s) = omega arith
 
   module _ (ok : IsNet net) where
     of_node : (v w : ℕ) (r : Option (ℕ × P)) → ((s : ℕ × P) → r ≡ Some s → net.owner s.0 ≡ w) → length (offered_by net v (option_list r)) ≡ cond (v == w) (length (option_list r)) 0

@@ -1,4 +1,5 @@
 mod Ports
-mod Transmissions
+mod Passings
 mod Counting
-mod Counters
+mod Reactions
+mod Stated

@@ -1,12 +1,12 @@
 -- The packets offered to an interface have started, wait, or were dropped.
-use Rattle.std.proofs.Common.{◌≡◌, ◌≢◌, ◌⊎◌, ℕ, zero, suc, ◌+◌, Bool, true, false, cond, ◌==◌, ◌&&◌, List, [], ◌∷◌, ◌++◌, length, Option, Some, None, refl, sym, ap, ◌∙◌, arith, ⊎_elim, length-append}
+use Rattle.std.proofs.Common.{◌≡◌, ℕ, zero, suc, ◌+◌, ◌≤◌, Bool, true, false, cond, ◌==◌, List, [], ◌∷◌, ◌++◌, length, Option, Some, None, refl, ap, ◌∙◌, arith, ⊎_elim, length-append}
 use Rattle.nm_base.specs.declared.key.Place.{Place}
 use Rattle.nm_base.specs.declared.key.Place.TheVariants.{Arrive, Complete, Fire}
 use Rattle.nm_base.specs.declared.key.Key.{Key}
 use Rattle.nm_base.specs.declared.event.Event.{Event}
 use Rattle.nm_base.specs.declared.event.Event.TheVariants.{Delivery, Completion}
 use Rattle.nm_base.specs.declared.event.Origin.TheVariants.{Arrival, Source}
-use Rattle.nm_base.specs.declared.record.Dir.TheVariants.{In, Out}
+use Rattle.nm_base.specs.declared.record.Dir.TheVariants.{Out}
 use Rattle.nm_base.specs.declared.record.Record.{Record}
 use Rattle.nm_model.specs.EventList.{least}
 use Rattle.nm_model.specs.Lists.{set_at}
@@ -14,7 +14,7 @@ use Rattle.nm_model.specs.Network.{Net}
 use Rattle.nm_model.specs.Port.{Busy, Port, offered, completed, next_transmitting, waiting_of, option_list}
 use Rattle.nm_model.specs.Run.{State, Effect, effect, at_iface, turned, turned_by, sent_on, in_record, out_record, step_at, one_list}
 use Rattle.nm_model.specs.Trace.{passed}
-use Rattle.nm_model.proofs.ListLemmas.{bool_cases, same_number, number_apart, number_tied, number_is, set_here, set_there, kept-append}
+use Rattle.nm_model.proofs.ListLemmas.{same_number, number_apart, number_tied, set_here, set_there, kept-append}
 use Rattle.nm_laws.specs.Offered.{answer_to, next_offer, offers, offered_to}
 
 -- the records of one event in one direction at an interface
@@ -158,4 +158,21 @@ module _ {P N : Type 0} (net : Net P N) (i : ℕ) where
       let b = step_gives (λ q. true) (one_list net n) (least (one_list net n).pending) in
       let c = ap length (kept-append (λ o. i == o.0) (offers net n) (next_offer net (one_list net n) (least (one_list net n).pending))) in
       let d = length-append (offered_to i (offers net n)) (offered_to i (next_offer net (one_list net n) (least (one_list net n).pending))) in
+      omega arith
+
+module _ {P N : Type 0} (net : Net P N) where
+  next_few : (s : State P N) (o : Option (Key × Event P)) → length (next_offer net s o) ≤ 1
+  next_few s None = omega arith
+  next_few s (Some e) = go (answer_to net s.node e.0.place e.1)
+    where
+      go : (o : Option (ℕ × P)) → length (option_list o) ≤ 1
+      go None = omega arith
+      go (Some a) = omega arith
+
+  pub offers_few : (n : ℕ) → length (offers net n) ≤ n
+  offers_few zero = omega arith
+  offers_few (suc n) =
+      let a = offers_few n in
+      let b = next_few (one_list net n) (least (one_list net n).pending) in
+      let c = length-append (offers net n) (next_offer net (one_list net n) (least (one_list net n).pending)) in
       omega arith

@@ -1,2 +1,3 @@
+pub mod Transmissions
 pub mod Offered
 pub mod Counted

@@ -1,16 +1,18 @@
 -- The packets that nodes offer to their interfaces.
-use Rattle.std.specs.Prelude.{ℕ, zero, suc, ◌==◌, List, [], ◌++◌, Option, Some, None}
+use Rattle.std.specs.Prelude.{◌≡◌, ℕ, zero, suc, ◌+◌, ◌≤◌, ◌==◌, List, [], ◌++◌, length, Option, Some, None}
 use Rattle.nm_base.specs.declared.key.Place.{Place}
 use Rattle.nm_base.specs.declared.key.Place.TheVariants.{Arrive, Complete, Fire}
 use Rattle.nm_base.specs.declared.key.Key.{Key}
 use Rattle.nm_base.specs.declared.event.Event.{Event}
 use Rattle.nm_base.specs.declared.event.Event.TheVariants.{Delivery, Completion}
 use Rattle.nm_base.specs.declared.event.Origin.TheVariants.{Arrival, Source}
+use Rattle.nm_base.specs.declared.record.Dir.TheVariants.{Out}
 use Rattle.nm_model.specs.Lists.{keep_where}
 use Rattle.nm_model.specs.EventList.{least}
 use Rattle.nm_model.specs.Network.{Net}
-use Rattle.nm_model.specs.Port.{option_list}
+use Rattle.nm_model.specs.Port.{option_list, waiting_of}
 use Rattle.nm_model.specs.Run.{State, one_list}
+use Rattle.nm_model.specs.Trace.{passed}
 
 -- those of interface i
 abbrev pub offered_to : {P : Type 0} → ℕ → List (ℕ × P) → List (ℕ × P)
@@ -40,3 +42,11 @@ module _ {P N : Type 0} (net : Net P N) where
   -- those of the interfaces of node v
   abbrev pub offered_by : ℕ → List (ℕ × P) → List (ℕ × P)
   offered_by v l = keep_where (λ o. v == net.owner o.0) l
+
+-- What became of the packets offered to each interface in the first n events.
+pub record AreAccountedFor {P N : Type 0} (net : Net P N) (n : ℕ) : Type 0 where
+  -- an event offers one packet at most
+  pub few : length (offers net n) ≤ n
+  -- their transmission started, or they wait, or they were dropped
+  pub all : (i : ℕ) → let s : State P N = one_list net n in
+      length (offered_to i (offers net n)) ≡ length (passed Out i s.records) + length (waiting_of (s.port i).busy) + (s.port i).dropped

@@ -1,0 +1,65 @@
+-- The laws of nodes, over the network of a topology.
+use Rattle.std.proofs.Common.{◌≡◌, ℕ, ◌+◌, ◌≤◌, ◌<◌, ◌^◌, List, length, sym, ◌∙◌, arith}
+use Rattle.nm_topology.specs.TopologyValue.{TopologyValue}
+use Rattle.nm_base.specs.declared.event.Origin.{Origin}
+use Rattle.nm_base.specs.declared.event.Origin.TheVariants.{Arrival, Source}
+use Rattle.nm_model.specs.Network.{IsNet}
+use Rattle.nm_model.specs.Run.{one_list}
+use Rattle.nm_forward.specs.State.{NodeStateValue}
+use Rattle.nm_sim.specs.Network.{net_of}
+use Rattle.nm_laws.specs.Offered.{offered_by, offers}
+use Rattle.nm_laws.specs.Counted.{arrival_counters, arrivals_at, sending_counters, total_of}
+use Rattle.nm_laws.proofs.Counting.{arrivals_are, gained_few, offers_are, one_arrival, one_arrival_small, one_sent, one_sent_small, total_is}
+use Rattle.nm_laws.proofs.Reactions.{IsWhole, arrival_counts, first_arrivals, first_sendings, first_whole, reaction_sends, reaction_whole, source_counts}
+
+module _ (t : TopologyValue) where
+  whole_first : (v : ℕ) → IsWhole ((net_of t).first v)
+  unfolding net_of
+  whole_first v = first_whole t v
+
+  whole_keeps : (v : ℕ) (n : NodeStateValue) (o : Origin) (x : List ℕ) → IsWhole n → IsWhole ((net_of t).react v n o x).0
+  unfolding net_of
+  whole_keeps v n o x w = reaction_whole t v n x w o
+
+  none_arrived : (v : ℕ) → total_of arrival_counters ((net_of t).first v) ≡ 0
+  unfolding net_of
+  none_arrived v = first_arrivals t v
+
+  none_sent : (v : ℕ) → total_of sending_counters ((net_of t).first v) ≡ 0
+  unfolding net_of
+  none_sent v = first_sendings t v
+
+  arrival_rises : (v : ℕ) (n : NodeStateValue) (o : Origin) (x : List ℕ) → IsWhole n → total_of arrival_counters n + one_arrival (net_of t) v n o x < 2 ^ 64
+      → total_of arrival_counters ((net_of t).react v n o x).0 ≡ total_of arrival_counters n + one_arrival (net_of t) v n o x
+  unfolding net_of
+  arrival_rises v n (Arrival i) x w below = arrival_counts t v n x w i below
+  arrival_rises v n (Source j) x w below = source_counts t v n x w j below
+
+  sending_rises : (v : ℕ) (n : NodeStateValue) (o : Origin) (x : List ℕ) → IsWhole n → total_of sending_counters n + one_sent (net_of t) v n o x < 2 ^ 64
+      → total_of sending_counters ((net_of t).react v n o x).0 ≡ total_of sending_counters n + one_sent (net_of t) v n o x
+  unfolding net_of
+  sending_rises v n o x w below = reaction_sends t v n x w o below
+
+  pub arrivals_total : (v n : ℕ) → length (arrivals_at (net_of t) v (one_list (net_of t) n).records) < 2 ^ 64
+      → total_of arrival_counters ((one_list (net_of t) n).node v) ≡ length (arrivals_at (net_of t) v (one_list (net_of t) n).records)
+  arrivals_total v n below =
+      let e = arrivals_are (net_of t) v n in
+      total_is (net_of t) (one_arrival (net_of t)) IsWhole whole_first whole_keeps (total_of arrival_counters) none_arrived (2 ^ 64) arrival_rises v n (omega arith) ∙ sym e
+
+  pub sendings_total : IsNet (net_of t) → (v n : ℕ) → length (offered_by (net_of t) v (offers (net_of t) n)) < 2 ^ 64
+      → total_of sending_counters ((one_list (net_of t) n).node v) ≡ length (offered_by (net_of t) v (offers (net_of t) n))
+  sendings_total ok v n below =
+      let e = offers_are (net_of t) ok v n in
+      total_is (net_of t) (one_sent (net_of t)) IsWhole whole_first whole_keeps (total_of sending_counters) none_sent (2 ^ 64) sending_rises v n (omega arith) ∙ sym e
+
+  pub arrivals_few : (v n : ℕ) → length (arrivals_at (net_of t) v (one_list (net_of t) n).records) ≤ n
+  arrivals_few v n =
+      let e = arrivals_are (net_of t) v n in
+      let f = gained_few (net_of t) (one_arrival (net_of t)) (one_arrival_small (net_of t)) v n in
+      omega arith
+
+  pub sendings_few : IsNet (net_of t) → (v n : ℕ) → length (offered_by (net_of t) v (offers (net_of t) n)) ≤ n
+  sendings_few ok v n =
+      let e = offers_are (net_of t) ok v n in
+      let f = gained_few (net_of t) (one_sent (net_of t)) (one_sent_small (net_of t)) v n in
+      omega arith

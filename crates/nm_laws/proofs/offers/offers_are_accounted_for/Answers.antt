@@ -1,0 +1,6 @@
+use Rattle.nm_sim.specs.Network.{net_of}
+use Rattle.nm_laws.proofs.Ports.{offered_is, offers_few}
+use Rattle.nm_laws.proofs.offers.offers_are_accounted_for.Goals as goal
+
+pub returns : goal.returns
+returns c = λ n. let net = net_of c.args.topology.now in record { few = offers_few net n; all = λ i. offered_is net i n }

@@ -1,0 +1,35 @@
+-- What a trace says of the transmissions over each link.
+use Rattle.std.specs.Prelude.{◌≡◌, ℕ, ◌+◌, ◌<◌, ◌≤◌, ltb, List, map, Some}
+use Rattle.nm_base.specs.declared.record.Dir.TheVariants.{In, Out}
+use Rattle.nm_base.specs.declared.record.Record.{Record}
+use Rattle.nm_topology.specs.TopologyValue.{TopologyValue}
+use Rattle.nm_model.specs.Lists.{IsPrefix, keep_where, nth}
+use Rattle.nm_model.specs.Trace.{passed}
+use Rattle.nm_iface.specs.PortValue.{takes}
+use Rattle.nm_sim.specs.Network.{far_of}
+
+-- how long interface i transmits this packet: its octets, at the rate of the link
+abbrev pub transmission_at : TopologyValue → ℕ → List ℕ → ℕ
+transmission_at t i packet = takes (far_of t i).rate packet
+
+-- Of two transmissions of one interface the later starts once the earlier is complete.
+pub record DoNotOverlap (t : TopologyValue) (records : List (Record (List ℕ))) : Type 0 where
+  pub apart : (m n : ℕ) (a b : Record (List ℕ)) → m < n
+      → nth records m ≡ Some a → nth records n ≡ Some b → a.dir ≡ Out → b.dir ≡ Out → a.iface ≡ b.iface
+      → a.time + transmission_at t a.iface a.packet ≤ b.time
+
+-- a transmission that interface i starts at this time arrives after it is complete, and after the link's delay
+abbrev pub arrival_of : TopologyValue → ℕ → ℕ × List ℕ → ℕ × List ℕ
+arrival_of t i start = (start.0 + transmission_at t i start.1 + (far_of t i).delay, start.1)
+
+-- when the transmissions at the far end of interface i arrive, in the order in which they started
+abbrev pub arrivals_due : TopologyValue → List (Record (List ℕ)) → ℕ → List (ℕ × List ℕ)
+arrivals_due t records i = let j : ℕ = (far_of t i).peer in map (arrival_of t j) (passed Out j records)
+
+-- What arrived at an interface are the first of the transmissions at its far end, each when it was due.
+pub record ArriveInOrder (t : TopologyValue) (records : List (Record (List ℕ))) : Type 0 where
+  pub first : (i : ℕ) → IsPrefix (passed In i records) (arrivals_due t records i)
+
+-- And before this time all arrived that were due.
+pub record AllArrive (t : TopologyValue) (before : ℕ) (records : List (Record (List ℕ))) : Type 0 where
+  pub all : (i : ℕ) → passed In i records ≡ keep_where (λ a. ltb a.0 before) (arrivals_due t records i)
