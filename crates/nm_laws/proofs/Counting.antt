@@ -34,7 +34,7 @@ module _ {P N : Type 0} (net : Net P N) where
     sent_state came n None follows = refl
     sent_state came n (Some s) follows = refl
 
-    sent_came : (came : Option (ℕ × P)) (n : N) (o follows : Option (ℕ × P)) → (sent_on net ports time came n o follows).came ≡ came
+    pub sent_came : (came : Option (ℕ × P)) (n : N) (o follows : Option (ℕ × P)) → (sent_on net ports time came n o follows).came ≡ came
     sent_came came n None follows = refl
     sent_came came n (Some s) follows = refl
 

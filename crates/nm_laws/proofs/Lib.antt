@@ -1,5 +1,6 @@
 mod Ports
 mod Passings
+mod Packets
 mod Counting
 mod Reactions
 mod Stated

@@ -6,6 +6,7 @@ use Rattle.nm_base.specs.declared.key.Key.{Key}
 use Rattle.nm_base.specs.declared.event.Event.{Event}
 use Rattle.nm_base.specs.declared.event.Event.TheVariants.{Delivery, Completion}
 use Rattle.nm_base.specs.declared.event.Origin.TheVariants.{Arrival, Source}
+use Rattle.nm_base.specs.declared.record.Dir.{Dir}
 use Rattle.nm_base.specs.declared.record.Dir.TheVariants.{Out}
 use Rattle.nm_base.specs.declared.record.Record.{Record}
 use Rattle.nm_model.specs.EventList.{least}
@@ -19,15 +20,15 @@ use Rattle.nm_laws.specs.Offered.{answer_to, next_offer, offers, offered_to}
 
 -- the records of one event in one direction at an interface
 module _ {P : Type 0} where
-  passed-append : (i : ℕ) (k l : List (Record P)) → passed Out i (k ++ l) ≡ passed Out i k ++ passed Out i l
-  passed-append i [] l = refl
-  passed-append i (r ∷ k) l = go _ (passed-append i k l)
+  pub passed-append : (d : Dir) (i : ℕ) (k l : List (Record P)) → passed d i (k ++ l) ≡ passed d i k ++ passed d i l
+  passed-append d i [] l = refl
+  passed-append d i (r ∷ k) l = go _ (passed-append d i k l)
     where
-      go : (z : Bool) → passed Out i (k ++ l) ≡ passed Out i k ++ passed Out i l → cond z ((r.time, r.packet) ∷ passed Out i (k ++ l)) (passed Out i (k ++ l)) ≡ cond z ((r.time, r.packet) ∷ passed Out i k) (passed Out i k) ++ passed Out i l
+      go : (z : Bool) → passed d i (k ++ l) ≡ passed d i k ++ passed d i l → cond z ((r.time, r.packet) ∷ passed d i (k ++ l)) (passed d i (k ++ l)) ≡ cond z ((r.time, r.packet) ∷ passed d i k) (passed d i k) ++ passed d i l
       go true e = ap (λ z. (r.time, r.packet) ∷ z) e
       go false e = e
 
-  in_none : (time i : ℕ) (o : Option (ℕ × P)) → passed Out i (in_record time o) ≡ []
+  pub in_none : (time i : ℕ) (o : Option (ℕ × P)) → passed Out i (in_record time o) ≡ []
   in_none time i None = refl
   in_none time i (Some a) = refl
 
@@ -46,9 +47,9 @@ module _ {P : Type 0} where
 
   started_more : (time i : ℕ) (l : List (Record P)) (came start : Option (ℕ × P)) → length (passed Out i (l ++ (in_record time came ++ out_record time start))) ≡ length (passed Out i l) + starts i start
   started_more time i l came start =
-      let a = ap length (passed-append i l (in_record time came ++ out_record time start)) in
+      let a = ap length (passed-append Out i l (in_record time came ++ out_record time start)) in
       let b = length-append (passed Out i l) (passed Out i (in_record time came ++ out_record time start)) in
-      let c = ap length (passed-append i (in_record time came) (out_record time start) ∙ ap (λ z. z ++ passed Out i (out_record time start)) (in_none time i came)) in
+      let c = ap length (passed-append Out i (in_record time came) (out_record time start) ∙ ap (λ z. z ++ passed Out i (out_record time start)) (in_none time i came)) in
       let d = out_counts time i start in
       omega arith
 
