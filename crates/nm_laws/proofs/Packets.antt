@@ -9,6 +9,7 @@ use Rattle.nm_base.specs.Key.{key_of}
 use Rattle.nm_base.specs.declared.event.Event.{Event}
 use Rattle.nm_base.specs.declared.event.Event.TheVariants.{Delivery, Completion}
 use Rattle.nm_base.specs.declared.event.Origin.TheVariants.{Arrival, Source}
+use Rattle.nm_base.specs.declared.record.Dir.{Dir}
 use Rattle.nm_base.specs.declared.record.Dir.TheVariants.{In, Out}
 use Rattle.nm_base.specs.declared.record.Record.{Record}
 use Rattle.nm_model.specs.EventList.{least}
@@ -22,14 +23,10 @@ use Rattle.nm_model.proofs.Keys.{key_at, least_has}
 use Rattle.nm_model.proofs.ListLemmas.{nth_last, not_some, number_tied, same_number, set_here, set_there, some_inj}
 use Rattle.nm_laws.specs.Offered.{answer_to}
 use Rattle.nm_laws.proofs.Counting.{sent_came}
+use Rattle.nm_laws.proofs.Passings.{all_nth, position}
 use Rattle.nm_laws.proofs.Ports.{in_none, passed-append}
 
 module _ {A : Type 0} where
-  pub all_nth : (P : A → Type 0) (l : List A) (n : ℕ) (a : A) → All P l → nth l n ≡ Some a → P a
-  all_nth P [] n a h e = absurd (not_some a e)
-  all_nth P (x ∷ l) zero a h e = subst P (some_inj x a e) (All-head P x l h)
-  all_nth P (x ∷ l) (suc n) a h e = all_nth P l n a (All-tail P x l h) e
-
   nth_either : (xs ys : List A) (n : ℕ) (a : A) → nth (xs ++ ys) n ≡ Some a → (nth xs n ≡ Some a) ⊎ ((k : ℕ) × (nth ys k ≡ Some a))
   nth_either [] ys n a e = inr (n, e)
   nth_either (x ∷ xs) ys zero a e = inl e
@@ -83,6 +80,10 @@ out_in : {P : Type 0} (time i : ℕ) (o : Option (ℕ × P)) → passed In i (ou
 out_in time i None = refl
 out_in time i (Some s) = refl
 
+-- the arrivals at an interface are starts at its far end
+abbrev pub Came : {P N : Type 0} → Net P N → State P N → Type 0
+Came {P} net s = (i m t : ℕ) (x : P) → nth (passed In i s.records) m ≡ Some (t, x) → (u : ℕ) × (nth (passed Out (net.peer i) s.records) m ≡ Some (u, x)) × (t ≡ u + net.tx (net.peer i) x + net.delay (net.peer i))
+
 module _ {P N : Type 0} (net : Net P N) (Q : P → Type 0) where
   abbrev Waits : (ℕ → Port P) → Type 0
   Waits ports = (i : ℕ) → All Q (waiting_of (ports i).busy)
@@ -121,16 +122,12 @@ module _ {P N : Type 0} (net : Net P N) (Q : P → Type 0) where
     started : (i : ℕ) → All (IsGood Q) (passed Out i s.records)
     waits : Waits s.port
 
-  -- the arrivals at an interface are starts at its far end
-  abbrev Came : State P N → Type 0
-  Came s = (i m t : ℕ) (x : P) → nth (passed In i s.records) m ≡ Some (t, x) → (u : ℕ) × (nth (passed Out (net.peer i) s.records) m ≡ Some (u, x)) × (t ≡ u + net.tx (net.peer i) x + net.delay (net.peer i))
-
   module _ (ok : IsNet net)
       (arriving : (v : ℕ) (n : N) (i : ℕ) (x : P) (s : ℕ × P) → Q x → (net.react v n (Arrival i) x).1 ≡ Some s → Q s.1)
       (handing : (v : ℕ) (n : N) (j m t : ℕ) (x : P) (s : ℕ × P) → net.source j m ≡ Some (t, x) → (net.react v n (Source j) x).1 ≡ Some s → Q s.1) where
     module _ (s : State P N) (orderly : IsOrderly net (λ q. true) s) (g : Good s) (time : ℕ) (number : ℕ) where
       -- a packet that arrives started before
-      came_good : (i : ℕ) (x : P) → Came (step_at net (λ q. true) s (Some (key_of time (Arrive i) number, Delivery x))) → Q x
+      came_good : (i : ℕ) (x : P) → Came net (step_at net (λ q. true) s (Some (key_of time (Arrive i) number, Delivery x))) → Q x
       came_good i x came =
           let does : Effect P N = effect net s.node s.port time (Arrive i) number (Delivery x) in
           let new : in_record time does.came ≡ record { time = time; iface = i; dir = In; packet = x } ∷ []
@@ -149,7 +146,7 @@ module _ {P N : Type 0} (net : Net P N) (Q : P → Type 0) where
           (λ e. absurd (let at = out_at time (net.peer i) does.transmission e.0 (from.0, x) e.1 in let takes = ok.takes_time (net.peer i) x in let late = from.2 in omega arith))
           (nth_either (passed Out (net.peer i) s.records) (passed Out (net.peer i) (out_record time does.transmission)) (length (passed In i s.records)) (from.0, x) (ap (λ l. nth l (length (passed In i s.records))) (sym starts) ∙ from.1))
 
-      answer_good : (place : Place) (event : Event P) → get s.pending (key_of time place number) ≡ Some event → Came (step_at net (λ q. true) s (Some (key_of time place number, event)))
+      answer_good : (place : Place) (event : Event P) → get s.pending (key_of time place number) ≡ Some event → Came net (step_at net (λ q. true) s (Some (key_of time place number, event)))
           → (a : ℕ × P) → answer_to net s.node place event ≡ Some a → Q a.1
       answer_good (Arrive i) (Delivery x) there came a e = arriving (net.owner i) (s.node (net.owner i)) i x a (came_good i x came) e
       answer_good (Fire j) (Delivery x) there came a e =
@@ -161,7 +158,7 @@ module _ {P N : Type 0} (net : Net P N) (Q : P → Type 0) where
       answer_good (Complete i) Completion there came a e = absurd (not_some a e)
       answer_good (Fire j) Completion there came a e = absurd (not_some a e)
 
-    good_step : (s : State P N) → IsOrderly net (λ q. true) s → Good s → (o : Option (Key × Event P)) → least s.pending ≡ o → Came (step_at net (λ q. true) s o) → Good (step_at net (λ q. true) s o)
+    good_step : (s : State P N) → IsOrderly net (λ q. true) s → Good s → (o : Option (Key × Event P)) → least s.pending ≡ o → Came net (step_at net (λ q. true) s o) → Good (step_at net (λ q. true) s o)
     good_step s orderly g None m came = g
     good_step s orderly g (Some e) m came =
         let does : Effect P N = effect net s.node s.port e.0.time e.0.place e.0.number e.1 in
@@ -175,13 +172,21 @@ module _ {P N : Type 0} (net : Net P N) (Q : P → Type 0) where
           waits = h.0;
         }
 
-    good : ((n : ℕ) → IsOrderly net (λ q. true) (one_list net n)) → ((n : ℕ) → Came (one_list net n)) → (n : ℕ) → Good (one_list net n)
+    good : ((n : ℕ) → IsOrderly net (λ q. true) (one_list net n)) → ((n : ℕ) → Came net (one_list net n)) → (n : ℕ) → Good (one_list net n)
     good orderly came zero = record { started = λ i. All-nil (IsGood Q); waits = λ i. All-nil Q }
     good orderly came (suc n) = good_step (one_list net n) (orderly n) (good orderly came n) (least (one_list net n).pending) refl (came (suc n))
 
-    -- all that started, and so all that arrived
-    pub all_started : ((n : ℕ) → IsOrderly net (λ q. true) (one_list net n)) → ((n : ℕ) → Came (one_list net n)) → (n i m : ℕ) (a : ℕ × P) → nth (passed Out i (one_list net n).records) m ≡ Some a → Q a.1
-    all_started orderly came n i m a e = all_nth (IsGood Q) (passed Out i (one_list net n).records) m a ((good orderly came n).started i) e
+    module _ (orderly : (n : ℕ) → IsOrderly net (λ q. true) (one_list net n)) (came : (n : ℕ) → Came net (one_list net n)) (n : ℕ) where
+      started : (i m : ℕ) (a : ℕ × P) → nth (passed Out i (one_list net n).records) m ≡ Some a → Q a.1
+      started i m a e = all_nth (IsGood Q) (passed Out i (one_list net n).records) m a ((good orderly came n).started i) e
 
-    pub all_arrived : ((n : ℕ) → IsOrderly net (λ q. true) (one_list net n)) → ((n : ℕ) → Came (one_list net n)) → (n i m : ℕ) (a : ℕ × P) → nth (passed In i (one_list net n).records) m ≡ Some a → Q a.1
-    all_arrived orderly came n i m a e = let f = came n i m a.0 a.1 e in all_started orderly came n (net.peer i) m (f.0, a.1) f.1
+      arrived : (i m : ℕ) (a : ℕ × P) → nth (passed In i (one_list net n).records) m ≡ Some a → Q a.1
+      arrived i m a e = let f = came n i m a.0 a.1 e in started (net.peer i) m (f.0, a.1) f.1
+
+      -- the packet of each record
+      pub recorded : (m : ℕ) (r : Record P) → nth (one_list net n).records m ≡ Some r → Q r.packet
+      recorded m r e = go r.dir refl
+        where
+          go : (d : Dir) → r.dir ≡ d → Q r.packet
+          go In f = let k = position In r.iface (one_list net n).records m r e f refl in arrived r.iface k.0 (r.time, r.packet) k.1
+          go Out f = let k = position Out r.iface (one_list net n).records m r e f refl in started r.iface k.0 (r.time, r.packet) k.1

@@ -37,6 +37,16 @@ module _ {A : Type 0} where
       let rest = kept_is p xs ys (λ n z e. h (suc n) z e) (λ n z e f. g (suc n) z e f) in
       ap (λ b. cond b (y ∷ keep_where p ys) (keep_where p ys)) (ap p same ∙ first.1) ∙ (λ i. same i ∷ rest i)
 
+  pub all_nth : (P : A → Type 0) (l : List A) (n : ℕ) (a : A) → All P l → nth l n ≡ Some a → P a
+  all_nth P [] n a h e = absurd (not_some a e)
+  all_nth P (x ∷ l) zero a h e = subst P (some_inj x a e) (All-head P x l h)
+  all_nth P (x ∷ l) (suc n) a h e = all_nth P l n a (All-tail P x l h) e
+
+-- functions that give the same of each member
+pub map_same : {A B : Type 0} (f g : A → B) (l : List A) → ((n : ℕ) (x : A) → nth l n ≡ Some x → f x ≡ g x) → map f l ≡ map g l
+map_same f g [] h = refl
+map_same f g (x ∷ l) h = let e = h 0 x refl in let r = map_same f g l (λ n y q. h (suc n) y q) in λ i. e i ∷ r i
+
 module _ {A B : Type 0} (f : A → B) where
   map_nth : (l : List A) (n : ℕ) (x : A) → nth l n ≡ Some x → nth (map f l) n ≡ Some (f x)
   map_nth [] n x e = absurd (not_some x e)
@@ -57,7 +67,7 @@ module _ {P : Type 0} where
   passes d i a e f = ap (λ z. same_dir z d && (i == a.iface)) e ∙ ap (λ z. z && (i == a.iface)) (dir_tied d) ∙ ap (λ z. i == z) f ∙ number_tied i
 
   -- a record stands among those of its interface and direction
-  position : (d : Dir) (i : ℕ) (l : List (Record P)) (n : ℕ) (a : Record P) → nth l n ≡ Some a → a.dir ≡ d → a.iface ≡ i → (k : ℕ) × (nth (passed d i l) k ≡ Some (a.time, a.packet))
+  pub position : (d : Dir) (i : ℕ) (l : List (Record P)) (n : ℕ) (a : Record P) → nth l n ≡ Some a → a.dir ≡ d → a.iface ≡ i → (k : ℕ) × (nth (passed d i l) k ≡ Some (a.time, a.packet))
   position d i [] n a e f g = absurd (not_some a e)
   position d i (r ∷ l) zero a e f g =
       let same : a ≡ r = sym (some_inj r a e) in
@@ -89,23 +99,31 @@ module _ {P : Type 0} where
       go true h = (suc h.0, suc h.1, omega (arith, h.2), h.3, h.4)
       go false h = h
 
-  -- what passes an interface passes it at the time of a record
-  passed_before : (t : ℕ) (d : Dir) (i : ℕ) (l : List (Record P)) (n : ℕ) (a : ℕ × P) → All (λ r. r.time < t) l → nth (passed d i l) n ≡ Some a → a.0 < t
-  passed_before t d i [] n a h e = absurd (not_some a e)
-  passed_before t d i (r ∷ l) n a h e = go (same_dir r.dir d && (i == r.iface)) n e (λ m f. passed_before t d i l m a (All-tail (λ r. r.time < t) r l h) f)
+  -- what passes an interface is the packet of a record, at its time
+  pub passed_from : (d : Dir) (i : ℕ) (l : List (Record P)) (n : ℕ) (a : ℕ × P) → nth (passed d i l) n ≡ Some a → (m : ℕ) × (r : Record P) × (nth l m ≡ Some r) × ◌≡◌ {A = ℕ × P} (r.time, r.packet) a
+  passed_from d i [] n a e = absurd (not_some a e)
+  passed_from d i (r ∷ l) n a e = go (same_dir r.dir d && (i == r.iface)) n e (λ m f. passed_from d i l m a f)
     where
-      go : (b : Bool) (n : ℕ) → nth (cond b ((r.time, r.packet) ∷ passed d i l) (passed d i l)) n ≡ Some a → ((m : ℕ) → nth (passed d i l) m ≡ Some a → a.0 < t) → a.0 < t
-      go true zero f rest = subst (λ (z : ℕ × P). z.0 < t) (some_inj (r.time, r.packet) a f) (All-head (λ r. r.time < t) r l h)
-      go true (suc n) f rest = rest n f
-      go false n f rest = rest n f
+      later : (m : ℕ) × (q : Record P) × (nth l m ≡ Some q) × ◌≡◌ {A = ℕ × P} (q.time, q.packet) a → (m : ℕ) × (q : Record P) × (nth (r ∷ l) m ≡ Some q) × ◌≡◌ {A = ℕ × P} (q.time, q.packet) a
+      later h = (suc h.0, h.1, h.2, h.3)
+
+      go : (b : Bool) (n : ℕ) → nth (cond b ((r.time, r.packet) ∷ passed d i l) (passed d i l)) n ≡ Some a
+          → ((m : ℕ) → nth (passed d i l) m ≡ Some a → (k : ℕ) × (q : Record P) × (nth l k ≡ Some q) × ◌≡◌ {A = ℕ × P} (q.time, q.packet) a)
+          → (m : ℕ) × (q : Record P) × (nth (r ∷ l) m ≡ Some q) × ◌≡◌ {A = ℕ × P} (q.time, q.packet) a
+      go true zero f rest = (0, r, refl, some_inj (r.time, r.packet) a f)
+      go true (suc n) f rest = later (rest n f)
+      go false n f rest = later (rest n f)
+
+  passed_before : (t : ℕ) (d : Dir) (i : ℕ) (l : List (Record P)) (n : ℕ) (a : ℕ × P) → All (λ r. r.time < t) l → nth (passed d i l) n ≡ Some a → a.0 < t
+  passed_before t d i l n a h e = let r = passed_from d i l n a e in subst (λ (z : ℕ × P). z.0 < t) r.3 (all_nth (λ r. r.time < t) l r.0 r.1 h r.2)
+
+-- the arrival at the far end that follows a start at interface i
+abbrev pub arrival_after : {P N : Type 0} → Net P N → ℕ → ℕ × P → ℕ × P
+arrival_after net i s = (s.0 + net.tx i s.1 + net.delay i, s.1)
 
 module _ {P N : Type 0} (net : Net P N) (ok : IsNet net) (n : ℕ) where
   abbrev R : List (Record P)
   R = (one_list net n).records
-
-  -- the arrival at the far end that follows a start at interface i
-  abbrev arrival_after : ℕ → ℕ × P → ℕ × P
-  arrival_after i s = (s.0 + net.tx i s.1 + net.delay i, s.1)
 
   pub apart : ((i m k s t : ℕ) (x y : P) → m < k → nth (passed Out i R) m ≡ Some (s, x) → nth (passed Out i R) k ≡ Some (t, y) → s + net.tx i x ≤ t)
       → (j k : ℕ) (a b : Record P) → j < k → nth R j ≡ Some a → nth R k ≡ Some b → a.dir ≡ Out → b.dir ≡ Out → a.iface ≡ b.iface → a.time + net.tx a.iface a.packet ≤ b.time
@@ -116,12 +134,12 @@ module _ {P N : Type 0} (net : Net P N) (ok : IsNet net) (n : ℕ) where
   module _ (came : (i m t : ℕ) (x : P) → nth (passed In i R) m ≡ Some (t, x) → (s : ℕ) × (nth (passed Out (net.peer i) R) m ≡ Some (s, x)) × (t ≡ s + net.tx (net.peer i) x + net.delay (net.peer i))) (i : ℕ) where
     -- the transmissions at the far end, each as it arrives
     abbrev due : List (ℕ × P)
-    due = map (arrival_after (net.peer i)) (passed Out (net.peer i) R)
+    due = map (arrival_after net (net.peer i)) (passed Out (net.peer i) R)
 
     from_start : (m : ℕ) (a : ℕ × P) → nth (passed In i R) m ≡ Some a → nth due m ≡ Some a
     from_start m a e =
         let c = came i m a.0 a.1 e in
-        map_nth (arrival_after (net.peer i)) (passed Out (net.peer i) R) m (c.0, a.1) c.1 ∙ ap (λ z. Some (z, a.1)) (sym c.2)
+        map_nth (arrival_after net (net.peer i)) (passed Out (net.peer i) R) m (c.0, a.1) c.1 ∙ ap (λ z. Some (z, a.1)) (sym c.2)
 
     pub arrivals_begin : IsPrefix (passed In i R) due
     arrivals_begin = prefix_from (passed In i R) due from_start
@@ -132,7 +150,7 @@ module _ {P N : Type 0} (net : Net P N) (ok : IsNet net) (n : ℕ) where
     arrivals_are t early arrives = sym (kept_is (λ a. ltb a.0 t) (passed In i R) due
         (λ m a e. (from_start m a e, before_is a.0 (passed_before t In i R m a (records_before net t n early) e)))
         (λ m a e f.
-        let s = nth_map (arrival_after (net.peer i)) (passed Out (net.peer i) R) m a e in
+        let s = nth_map (arrival_after net (net.peer i)) (passed Out (net.peer i) R) m a e in
         let time : s.0.0 + net.tx (net.peer i) s.0.1 + net.delay (net.peer i) ≡ a.0 = ap (λ (z : ℕ × P). z.0) s.2 in
         let lt = is_before a.0 f in
         ap (λ j. nth (passed In j R) m) (sym (ok.twice i)) ∙ arrives (net.peer i) m s.0.0 s.0.1 s.1 (omega arith) ∙ ap Some s.2))

@@ -1,16 +1,22 @@
 -- What a trace says of the transmissions over each link.
-use Rattle.std.specs.Prelude.{◌≡◌, ℕ, ◌+◌, ◌<◌, ◌≤◌, ltb, List, map, Some}
+use Rattle.std.specs.Prelude.{◌≡◌, ℕ, ◌+◌, ◌<◌, ◌≤◌, ltb, List, length, map, Some}
+use Rattle.nm_base.specs.declared.limits.TheConstants.{MAX_PACKET_OCTETS}
 use Rattle.nm_base.specs.declared.record.Dir.TheVariants.{In, Out}
 use Rattle.nm_base.specs.declared.record.Record.{Record}
 use Rattle.nm_topology.specs.TopologyValue.{TopologyValue}
 use Rattle.nm_model.specs.Lists.{IsPrefix, keep_where, nth}
 use Rattle.nm_model.specs.Trace.{passed}
-use Rattle.nm_iface.specs.PortValue.{takes}
+use Rattle.nm_iface.specs.Transmission.{transmission_time}
 use Rattle.nm_sim.specs.Network.{far_of}
+
+-- Each record is of a packet that has 1 to 65,535 octets.
+pub record HaveOctets (records : List (Record (List ℕ))) : Type 0 where
+  pub least : (n : ℕ) (r : Record (List ℕ)) → nth records n ≡ Some r → 1 ≤ length r.packet
+  pub greatest : (n : ℕ) (r : Record (List ℕ)) → nth records n ≡ Some r → length r.packet ≤ MAX_PACKET_OCTETS
 
 -- how long interface i transmits this packet: its octets, at the rate of the link
 abbrev pub transmission_at : TopologyValue → ℕ → List ℕ → ℕ
-transmission_at t i packet = takes (far_of t i).rate packet
+transmission_at t i packet = transmission_time (far_of t i).rate (length packet)
 
 -- Of two transmissions of one interface the later starts once the earlier is complete.
 pub record DoNotOverlap (t : TopologyValue) (records : List (Record (List ℕ))) : Type 0 where
