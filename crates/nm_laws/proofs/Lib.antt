@@ -1,4 +1,5 @@
 mod Ports
+mod Turns
 mod Passings
 mod Packets
 mod Links

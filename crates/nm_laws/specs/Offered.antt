@@ -1,5 +1,5 @@
 -- The packets that nodes offer to their interfaces.
-use Rattle.std.specs.Prelude.{◌≡◌, ℕ, zero, suc, ◌+◌, ◌≤◌, ◌==◌, List, [], ◌++◌, length, Option, Some, None}
+use Rattle.std.specs.Prelude.{◌≡◌, ◌⊎◌, ℕ, zero, suc, ◌+◌, ◌≤◌, ◌==◌, List, [], ◌∷◌, ◌++◌, length, map, Option, Some, None}
 use Rattle.nm_base.specs.declared.key.Place.{Place}
 use Rattle.nm_base.specs.declared.key.Place.TheVariants.{Arrive, Complete, Fire}
 use Rattle.nm_base.specs.declared.key.Key.{Key}
@@ -14,7 +14,7 @@ use Rattle.nm_model.specs.Port.{option_list, waiting_of}
 use Rattle.nm_model.specs.Run.{State, one_list}
 use Rattle.nm_model.specs.Trace.{passed}
 
--- those of interface i
+-- of offers, those to interface i
 abbrev pub offered_to : {P : Type 0} → ℕ → List (ℕ × P) → List (ℕ × P)
 offered_to i offers = keep_where (λ o. i == o.0) offers
 
@@ -43,10 +43,23 @@ module _ {P N : Type 0} (net : Net P N) where
   abbrev pub offered_by : ℕ → List (ℕ × P) → List (ℕ × P)
   offered_by v l = keep_where (λ o. v == net.owner o.0) l
 
--- What became of the packets offered to each interface in the first n events.
-pub record AreAccountedFor {P N : Type 0} (net : Net P N) (n : ℕ) : Type 0 where
-  -- an event offers one packet at most
+-- the first list is the second with some members left out
+abbrev pub IsSubsequence : {A : Type 0} → List A → List A → Type 0
+IsSubsequence [] ys = Unit {0}
+IsSubsequence (x ∷ xs) [] = ⊥
+IsSubsequence (x ∷ xs) (y ∷ ys) = ((x ≡ y) × IsSubsequence xs ys) ⊎ IsSubsequence (x ∷ xs) ys
+
+-- without their times, or their interfaces
+abbrev pub packets_of : {P : Type 0} → List (ℕ × P) → List P
+packets_of l = map (λ a. a.1) l
+
+-- What became of the packets offered to interface i in the first n events.
+pub record AreAccountedFor {P N : Type 0} (net : Net P N) (n i : ℕ) : Type 0 where
+  -- each event offers one packet at most
   pub few : length (offers net n) ≤ n
   -- their transmission started, or they wait, or they were dropped
-  pub all : (i : ℕ) → let s : State P N = one_list net n in
+  pub all : let s : State P N = one_list net n in
       length (offered_to i (offers net n)) ≡ length (passed Out i s.records) + length (waiting_of (s.port i).busy) + (s.port i).dropped
+  -- those that were not dropped start, and wait, in the order in which they were offered; and no other packet does
+  pub in_turn : let s : State P N = one_list net n in
+      IsSubsequence (packets_of (passed Out i s.records) ++ waiting_of (s.port i).busy) (packets_of (offered_to i (offers net n)))

@@ -7,7 +7,8 @@ ghost use Rattle.nm_laws.specs.Offered.{AreAccountedFor};
 use nm_topology::Topology;
 
 /// After any number of events, the packets that were offered to an interface are as many as those
-/// whose transmission started, those that wait and those that were dropped.
+/// whose transmission started, those that wait and those that were dropped; and those that were not
+/// dropped start in the order in which they were offered.
 pub fn offers_are_accounted_for(topology: &Topology)
-    ensures { (n : ℕ) → AreAccountedFor (net_of topology.now) n }
+    ensures { (n i : ℕ) → AreAccountedFor (net_of topology.now) n i }
 {}
