@@ -1,9 +1,9 @@
 -- The laws of transmissions, over the network of a topology.
-use Rattle.std.proofs.Common.{◌≡◌, ℕ, ◌+◌, ◌<◌, ◌≤◌, List, length, map, max, ltb, true, Option, Some, None, refl, sym, ap, ap₂, ◌∙◌, subst, arith, slice_get}
+use Rattle.std.proofs.Common.{◌≡◌, ℕ, ◌+◌, ◌≤◌, List, length, map, max, true, Option, Some, None, refl, ap, subst, arith, slice_get}
 use Rattle.nm_base.specs.declared.event.Origin.TheVariants.{Arrival, Source as FromSource}
 use Rattle.nm_base.specs.declared.event.Origin.{Origin}
 use Rattle.nm_base.specs.declared.limits.TheConstants.{MAX_PACKET_OCTETS}
-use Rattle.nm_base.specs.declared.record.Dir.TheVariants.{In, Out}
+use Rattle.nm_base.specs.declared.record.Dir.TheVariants.{Out}
 use Rattle.nm_base.specs.declared.record.Record.{Record}
 use Rattle.nm_topology.specs.declared.traffic.Source.{Source}
 use Rattle.nm_topology.specs.declared.traffic.Traffic.{Traffic}
@@ -17,12 +17,11 @@ use Rattle.nm_model.specs.Run.{one_list}
 use Rattle.nm_model.specs.Trace.{passed}
 use Rattle.nm_forward.specs.State.{NodeStateValue}
 use Rattle.nm_forward.specs.Reaction.{FitsHeaders, FitsOrigin, FitsSource, reaction}
-use Rattle.nm_iface.specs.PortValue.{takes}
 use Rattle.nm_iface.specs.Transmission.{transmission_time}
 use Rattle.nm_traffic.specs.Orderly.{ArePackets, FitsMtu, FitTheMtu, HaveOctets as SourcesHaveOctets}
 use Rattle.nm_traffic.specs.Source.{source_at}
 use Rattle.nm_sim.specs.Network.{far_of, net_of}
-use Rattle.nm_laws.specs.Transmissions.{HaveOctets, arrival_of, arrivals_due, transmission_at}
+use Rattle.nm_laws.specs.Transmissions.{HaveOctets, arrivals_due, transmission_at}
 use Rattle.nm_laws.proofs.Packets.{Came, recorded}
 use Rattle.nm_laws.proofs.Passings.{arrival_after, map_same, passed_from}
 

@@ -1,5 +1,5 @@
 -- What holds of the packets of sources, and of what a node sends where it holds of what arrived, holds of all packets of a run.
-use Rattle.std.proofs.Common.{◌≡◌, ◌≢◌, ◌⊎◌, inl, inr, ℕ, zero, suc, ◌+◌, ◌<◌, ◌≤◌, Bool, true, false, cond, ◌==◌, All, List, [], ◌∷◌, ◌++◌, length, Option, Some, None, refl, sym, ap, ◌∙◌, subst, arith, ⊎_elim, append_assoc}
+use Rattle.std.proofs.Common.{◌≡◌, ◌⊎◌, inl, inr, ℕ, zero, suc, ◌+◌, Bool, true, false, cond, ◌==◌, All, List, [], ◌∷◌, ◌++◌, length, Option, Some, None, refl, sym, ap, ◌∙◌, subst, arith, ⊎_elim}
 use Rattle.std.proofs.lemmas.List.Elements.{All-append, All-cons, All-head, All-nil, All-tail}
 use Rattle.std.specs.FinMap.{get}
 use Rattle.nm_base.specs.declared.key.Place.{Place}
@@ -19,7 +19,7 @@ use Rattle.nm_model.specs.Orderly.{IsOrderly}
 use Rattle.nm_model.specs.Port.{Busy, Port, offered, completed, next_transmitting, waiting_of}
 use Rattle.nm_model.specs.Run.{State, Effect, effect, at_iface, turned, turned_by, sent_on, in_record, out_record, step_at, one_list}
 use Rattle.nm_model.specs.Trace.{passed}
-use Rattle.nm_model.proofs.Keys.{key_at, least_has}
+use Rattle.nm_model.proofs.Keys.{least_has}
 use Rattle.nm_model.proofs.ListLemmas.{nth_last, not_some, number_tied, same_number, set_here, set_there, some_inj}
 use Rattle.nm_laws.specs.Offered.{answer_to}
 use Rattle.nm_laws.proofs.Counting.{sent_came}
@@ -95,9 +95,9 @@ module _ {P N : Type 0} (net : Net P N) (Q : P → Type 0) where
     turned_good : (j : ℕ) (r : Port P × Option P) → All Q (waiting_of r.0.busy) × ((y : P) → r.1 ≡ Some y → Q y) → GoodEffect ports (turned_by net came n j r follows)
     turned_good j r h = (
       (λ i. ⊎_elim
-        (λ same. subst (λ (p : Port P). All Q (waiting_of p.busy)) (sym (ap (set_at ports j r.0) same ∙ set_here ports j r.0)) h.0)
-        (λ other. subst (λ (p : Port P). All Q (waiting_of p.busy)) (sym (set_there ports j r.0 i other)) (w i))
-        (same_number i j)),
+          (λ same. subst (λ (p : Port P). All Q (waiting_of p.busy)) (sym (ap (set_at ports j r.0) same ∙ set_here ports j r.0)) h.0)
+          (λ other. subst (λ (p : Port P). All Q (waiting_of p.busy)) (sym (set_there ports j r.0 i other)) (w i))
+          (same_number i j)),
       at_iface_good Q j r.1 h.1,
     )
 
@@ -163,7 +163,7 @@ module _ {P N : Type 0} (net : Net P N) (Q : P → Type 0) where
     good_step s orderly g (Some e) m came =
         let does : Effect P N = effect net s.node s.port e.0.time e.0.place e.0.number e.1 in
         let h = effect_good s.node s.port g.waits e.0.time e.0.place e.0.number e.1
-            (answer_good s orderly g e.0.time e.0.number e.0.place e.1 (least_has s.pending e m) came) in
+        (answer_good s orderly g e.0.time e.0.number e.0.place e.1 (least_has s.pending e m) came) in
         record {
           started = λ i. subst (All (IsGood Q))
               (sym (passed-append Out i s.records (in_record e.0.time does.came ++ out_record e.0.time does.transmission)

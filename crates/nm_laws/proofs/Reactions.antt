@@ -74,7 +74,7 @@ module _ (d : Counter) (counts : List ℕ) (whole : length counts ≡ 19) where
       let old = ap (slice_index counts) same in
       let there = counter_below d in
       let new = ap (slice_index (slice_set counts (counter_number d) (saturated (slice_index counts (counter_number d) + 1)))) same
-          ∙ get_or-set_same counts (counter_number d) (saturated (slice_index counts (counter_number d) + 1)) 0 (omega arith) in
+      ∙ get_or-set_same counts (counter_number d) (saturated (slice_index counts (counter_number d) + 1)) 0 (omega arith) in
       omega arith)
       (λ other.
       let none : ◌≡◌ {A = ℕ} (cond (counter_number c == counter_number d) 1 0) 0 = ap (λ b. cond b 1 0) (number_apart (counter_number c) (counter_number d) other) in

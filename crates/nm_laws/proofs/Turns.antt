@@ -1,5 +1,5 @@
 -- The packets of an interface start in the order in which they were offered.
-use Rattle.std.proofs.Common.{◌≡◌, ◌⊎◌, inl, inr, ℕ, zero, suc, ◌+◌, Bool, true, false, cond, ◌==◌, List, [], ◌∷◌, ◌++◌, map, Option, Some, None, refl, sym, ap, ◌∙◌, subst, ⊎_elim, append_assoc, append-nil}
+use Rattle.std.proofs.Common.{◌≡◌, ◌⊎◌, inl, inr, ℕ, zero, suc, ◌+◌, Bool, true, false, cond, ◌==◌, List, [], ◌∷◌, ◌++◌, Option, Some, None, refl, sym, ap, ◌∙◌, subst, ⊎_elim, append_assoc}
 use Rattle.nm_base.specs.declared.key.Place.{Place}
 use Rattle.nm_base.specs.declared.key.Place.TheVariants.{Arrive, Complete, Fire}
 use Rattle.nm_base.specs.declared.key.Key.{Key}
@@ -7,7 +7,6 @@ use Rattle.nm_base.specs.declared.event.Event.{Event}
 use Rattle.nm_base.specs.declared.event.Event.TheVariants.{Delivery, Completion}
 use Rattle.nm_base.specs.declared.event.Origin.TheVariants.{Arrival, Source}
 use Rattle.nm_base.specs.declared.record.Dir.TheVariants.{Out}
-use Rattle.nm_base.specs.declared.record.Record.{Record}
 use Rattle.nm_model.specs.EventList.{least}
 use Rattle.nm_model.specs.Lists.{set_at}
 use Rattle.nm_model.specs.Network.{Net}
@@ -150,9 +149,6 @@ module _ {P N : Type 0} (net : Net P N) (i : ℕ) where
   step_queued here s None = inr refl
   step_queued here s (Some e) = ⊎_elim (λ h. inl (is ∙ ap (λ l. started ++ l) h ∙ sym (append_assoc started (waiting_of (s.port i).busy) _))) (λ h. inr (is ∙ ap (λ l. started ++ l) h)) (effect_line s.node s.port e.0.time e.0.place e.0.number e.1)
     where
-      does : Effect P N
-      does = effect net s.node s.port e.0.time e.0.place e.0.number e.1
-
       started : List P
       started = packets_of (passed Out i s.records)
 

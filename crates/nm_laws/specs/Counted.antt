@@ -12,11 +12,11 @@ use Rattle.nm_forward.specs.Counter.{counter_number}
 use Rattle.nm_forward.specs.State.{NodeStateValue}
 use Rattle.nm_laws.specs.Offered.{offered_by, offers}
 
--- the counters that say what became of a packet that arrived
+-- the counters that say what became of a packet that arrived: one for each row of the table
 abbrev pub arrival_counters : List Counter
 arrival_counters = Header ∷ BadDest ∷ NotMine ∷ NoNet ∷ Ttl ∷ Forwarded ∷ Fragment ∷ IcmpBad ∷ Echo ∷ Icmp ∷ UdpBad ∷ Udp ∷ Port ∷ Proto ∷ []
 
--- the counters of what a node sends
+-- the counters of what a node sends: what it sends on, what it makes and has a route for, and what its raw sources hand to it
 abbrev pub sending_counters : List Counter
 sending_counters = Forwarded ∷ Originated ∷ Raw ∷ []
 
@@ -28,14 +28,16 @@ total_of counters n = sum_by (λ c. slice_index n.counters (counter_number c)) c
 abbrev pub arrivals_at : {P N : Type 0} → Net P N → ℕ → List (Record P) → List (Record P)
 arrivals_at net v records = keep_where (λ r. same_dir r.dir In && (v == net.owner r.iface)) records
 
--- What the counters of each node are after n events. Counters stop at 2^64 - 1, so it is said of nodes to which fewer packets came, or
--- which sent fewer; and these are no more than the events.
-pub record AreCounted (net : Net (List ℕ) NodeStateValue) (n : ℕ) : Type 0 where
-  pub few_arrivals : (v : ℕ) → length (arrivals_at net v (one_list net n).records) ≤ n
-  -- one counter of arrivals counts each packet that arrived
-  pub arrivals : (v : ℕ) → length (arrivals_at net v (one_list net n).records) < 2 ^ 64
+-- What node v counted in the first n events. A counter stops at 2^64 - 1, so this is said where there are fewer packets to count; and
+-- there are no more than events.
+pub record ArrivalsAreCounted (net : Net (List ℕ) NodeStateValue) (n v : ℕ) : Type 0 where
+  pub few : length (arrivals_at net v (one_list net n).records) ≤ n
+  -- each packet that arrived raised one of its counters
+  pub counted : length (arrivals_at net v (one_list net n).records) < 2 ^ 64
       → total_of arrival_counters ((one_list net n).node v) ≡ length (arrivals_at net v (one_list net n).records)
-  pub few_sendings : (v : ℕ) → length (offered_by net v (offers net n)) ≤ n
-  -- one counter of sendings counts each packet that the node offered to an interface of its own
-  pub sendings : (v : ℕ) → length (offered_by net v (offers net n)) < 2 ^ 64
+
+pub record SendingsAreCounted (net : Net (List ℕ) NodeStateValue) (n v : ℕ) : Type 0 where
+  pub few : length (offered_by net v (offers net n)) ≤ n
+  -- so did each packet that it offered to one of its interfaces
+  pub counted : length (offered_by net v (offers net n)) < 2 ^ 64
       → total_of sending_counters ((one_list net n).node v) ≡ length (offered_by net v (offers net n))

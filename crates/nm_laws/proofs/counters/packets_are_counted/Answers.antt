@@ -1,13 +1,13 @@
 use Rattle.nm_laws.proofs.Stated.{arrivals_few, arrivals_total, sendings_few, sendings_total}
 use Rattle.nm_laws.proofs.counters.packets_are_counted.Goals as goal
 
-pub returns : goal.returns
-returns c = λ n.
+pub returns-clause-arrivals : goal.returns-clause-arrivals
+returns-clause-arrivals c = λ n v.
+    let t = c.args.topology.now in
+    record { few = arrivals_few t v n; counted = λ below. arrivals_total t v n below }
+
+pub returns-clause-sendings : goal.returns-clause-sendings
+returns-clause-sendings c = λ n v.
     let t = c.args.topology.now in
     let ok = c.every_topology_is_a_network.ensures.network in
-    record {
-      few_arrivals = λ v. arrivals_few t v n;
-      arrivals = λ v below. arrivals_total t v n below;
-      few_sendings = λ v. sendings_few t ok v n;
-      sendings = λ v below. sendings_total t ok v n below;
-    }
+    record { few = sendings_few t ok v n; counted = λ below. sendings_total t ok v n below }

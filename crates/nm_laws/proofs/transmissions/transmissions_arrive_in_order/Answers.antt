@@ -1,4 +1,4 @@
-use Rattle.std.proofs.Common.{◌≡◌, ltb, min, ap, sym, ◌∙◌, subst}
+use Rattle.std.proofs.Common.{ltb, min, ap, sym, ◌∙◌, subst}
 use Rattle.nm_base.specs.declared.record.Dir.TheVariants.{In}
 use Rattle.nm_model.specs.Lists.{IsPrefix, keep_where}
 use Rattle.nm_model.specs.Run.{one_list}
@@ -14,8 +14,10 @@ returns-clause-events c = λ n.
     let t = c.args.topology.now in
     let net = net_of c.args.topology.now in
     let ok = c.every_topology_is_a_network.ensures.network in
-    record { first = λ i. subst (IsPrefix (passed In i (one_list net n).records)) (due_is t (one_list net n).records (c.packets_have_octets.ensures.events n) i)
-        (arrivals_begin net ok n (c.what_starts_arrives.ensures.transmitting net ok n) i) }
+    record {
+      first = λ i. subst (IsPrefix (passed In i (one_list net n).records)) (due_is t (one_list net n).records (c.packets_have_octets.ensures.events n) i)
+          (arrivals_begin net ok n (c.what_starts_arrives.ensures.transmitting net ok n) i);
+    }
 
 pub returns-clause-trace : goal.returns-clause-trace
 returns-clause-trace c = λ until records h.
@@ -23,5 +25,7 @@ returns-clause-trace c = λ until records h.
     let net = net_of c.args.topology.now in
     let ok = c.every_topology_is_a_network.ensures.network in
     subst (AllArrive t (min until t.stop)) (sym h.2)
-    (record { all = λ i. arrivals_are net ok h.0 (c.what_starts_arrives.ensures.transmitting net ok h.0) i (min until t.stop) h.1.first (c.what_starts_arrives.ensures.arrives net ok (min until t.stop) h.0 h.1.over)
-        ∙ ap (keep_where (λ a. ltb a.0 (min until t.stop))) (due_is t (one_list net h.0).records (c.packets_have_octets.ensures.events h.0) i) })
+    (record {
+      all = λ i. arrivals_are net ok h.0 (c.what_starts_arrives.ensures.transmitting net ok h.0) i (min until t.stop) h.1.first (c.what_starts_arrives.ensures.arrives net ok (min until t.stop) h.0 h.1.over)
+          ∙ ap (keep_where (λ a. ltb a.0 (min until t.stop))) (due_is t (one_list net h.0).records (c.packets_have_octets.ensures.events h.0) i);
+    })

@@ -1,4 +1,4 @@
-use Rattle.std.proofs.Common.{◌+◌, ◌≤◌, ap, sym, subst}
+use Rattle.std.proofs.Common.{◌+◌, ◌≤◌, sym, subst}
 use Rattle.nm_sim.specs.Network.{net_of}
 use Rattle.nm_laws.specs.Transmissions.{DoNotOverlap}
 use Rattle.nm_laws.proofs.Links.{takes_its_octets}
@@ -10,9 +10,11 @@ returns-clause-events c = λ n.
     let t = c.args.topology.now in
     let net = net_of c.args.topology.now in
     let ok = c.every_topology_is_a_network.ensures.network in
-    record { apart = λ j k a b lt e f da db same.
-        subst (λ x. a.time + x ≤ b.time) (takes_its_octets t a.iface a.packet ((c.packets_have_octets.ensures.events n).least j a e))
-        (apart net ok n (c.what_starts_arrives.ensures.apart net ok n) j k a b lt e f da db same) }
+    record {
+      apart = λ j k a b lt e f da db same.
+          subst (λ x. a.time + x ≤ b.time) (takes_its_octets t a.iface a.packet ((c.packets_have_octets.ensures.events n).least j a e))
+          (apart net ok n (c.what_starts_arrives.ensures.apart net ok n) j k a b lt e f da db same);
+    }
 
 pub returns-clause-trace : goal.returns-clause-trace
 returns-clause-trace c = λ until records h. subst (DoNotOverlap c.args.topology.now) (sym h.2) (returns-clause-events c h.0)
