@@ -19,6 +19,20 @@ use Rattle.nm_model.proofs.ListLemmas.{same_number, number_apart, number_tied, s
 use Rattle.nm_laws.specs.Offered.{answer_to, next_offer, offers, offered_by}
 use Rattle.nm_laws.specs.Counted.{arrivals_at}
 
+module _ {A : Type 0} where
+  kept_twice : (p q : A → Bool) (l : List A) → keep_where q (keep_where p l) ≡ keep_where (λ x. p x && q x) l
+  kept_twice p q [] = refl
+  kept_twice p q (x ∷ l) = go (p x) (kept_twice p q l)
+    where
+      go : (b : Bool) → keep_where q (keep_where p l) ≡ keep_where (λ x. p x && q x) l
+          → keep_where q (cond b (x ∷ keep_where p l) (keep_where p l)) ≡ cond (b && q x) (x ∷ keep_where (λ x. p x && q x) l) (keep_where (λ x. p x && q x) l)
+      go true h = ap (λ k. cond (q x) (x ∷ k) k) h
+      go false h = h
+
+  kept_all : (l : List A) → keep_where (λ x. true) l ≡ l
+  kept_all [] = refl
+  kept_all (x ∷ l) = ap (λ k. x ∷ k) (kept_all l)
+
 module _ {P N : Type 0} (net : Net P N) where
   -- the state of its node after an event, and the packet that arrived
   abbrev state_after : (ℕ → N) → Place → Event P → N
@@ -158,55 +172,76 @@ module _ {P N : Type 0} (net : Net P N) where
             let b = step_is (one_list net n) (good n) (least (one_list net n).pending) v (omega arith) in
             omega arith
 
-  -- each packet that arrives is counted
-  abbrev pub one_arrival : ℕ → N → Origin → P → ℕ
-  one_arrival v n (Arrival i) x = 1
-  one_arrival v n (Source j) x = 0
+  -- of the packets that arrive at a node, each that passes a test is counted
+  module _ (p : ℕ → P → Bool) where
+    abbrev pub one_arrival : ℕ → N → Origin → P → ℕ
+    one_arrival v n (Arrival i) x = cond (p v x) 1 0
+    one_arrival v n (Source j) x = 0
 
-  pub one_arrival_small : (v : ℕ) (n : N) (o : Origin) (x : P) → one_arrival v n o x ≤ 1
-  one_arrival_small v n (Arrival i) x = omega arith
-  one_arrival_small v n (Source j) x = omega arith
+    pub one_arrival_small : (v : ℕ) (n : N) (o : Origin) (x : P) → one_arrival v n o x ≤ 1
+    one_arrival_small v n (Arrival i) x = go (p v x)
+      where
+        go : (b : Bool) → cond b 1 0 ≤ 1
+        go true = omega arith
+        go false = omega arith
+    one_arrival_small v n (Source j) x = omega arith
 
-  abbrev is_arrival_at : ℕ → Record P → Bool
-  is_arrival_at v r = same_dir r.dir In && (v == net.owner r.iface)
+    abbrev is_counted : ℕ → Record P → Bool
+    is_counted v r = (same_dir r.dir In && (v == net.owner r.iface)) && p v r.packet
 
-  out_is_none : (v time : ℕ) (o : Option (ℕ × P)) → keep_where (is_arrival_at v) (out_record time o) ≡ []
-  out_is_none v time None = refl
-  out_is_none v time (Some s) = refl
+    out_is_none : (v time : ℕ) (o : Option (ℕ × P)) → keep_where (is_counted v) (out_record time o) ≡ []
+    out_is_none v time None = refl
+    out_is_none v time (Some s) = refl
 
-  in_is : (v time : ℕ) (ports : ℕ → Port P) (nodes : ℕ → N) (place : Place) (number : ℕ) (event : Event P) → length (keep_where (is_arrival_at v) (in_record time (effect net nodes ports time place number event).came)) ≡ gain one_arrival nodes place event v
-  in_is v time ports nodes (Arrive i) number (Delivery x) =
-      ap (λ o. length (keep_where (is_arrival_at v) (in_record time o))) (sent_came ports time (Some (i, x)) _ (net.react (net.owner i) (nodes (net.owner i)) (Arrival i) x).1 None) ∙ go (v == net.owner i)
-    where
-      go : (z : Bool) → length (cond {A = List (Record P)} z (record { time = time; iface = i; dir = In; packet = x } ∷ []) []) ≡ cond z 1 0
-      go true = refl
-      go false = refl
-  in_is v time ports nodes (Fire j) number (Delivery x) =
-      ap (λ o. length (keep_where (is_arrival_at v) (in_record time o))) (sent_came ports time None _ (net.react (net.source_node j) (nodes (net.source_node j)) (Source j) x).1 (net.source j (suc number))) ∙ go (v == net.source_node j)
-    where
-      go : (z : Bool) → ◌≡◌ {A = ℕ} 0 (cond z 0 0)
-      go true = refl
-      go false = refl
-  in_is v time ports nodes (Complete i) number (Delivery x) = refl
-  in_is v time ports nodes (Arrive i) number Completion = refl
-  in_is v time ports nodes (Complete i) number Completion = refl
-  in_is v time ports nodes (Fire j) number Completion = refl
+    one_is : (v w : ℕ) (r : Record P) → length (cond {A = List (Record P)} ((v == w) && p v r.packet) (r ∷ []) []) ≡ cond (v == w) (cond (p w r.packet) 1 0) 0
+    one_is v w r = ⊎_elim
+        (λ same. subst (λ u. length (cond {A = List (Record P)} ((u == w) && p u r.packet) (r ∷ []) []) ≡ cond (u == w) (cond (p w r.packet) 1 0) 0) (sym same) (both (w == w) (p w r.packet)))
+        (λ other. ap (λ b. length (cond {A = List (Record P)} (b && p v r.packet) (r ∷ []) [])) (number_apart v w other) ∙ sym (ap (λ b. cond b (cond (p w r.packet) 1 0) 0) (number_apart v w other)))
+        (same_number v w)
+      where
+        both : (b c : Bool) → length (cond {A = List (Record P)} (b && c) (r ∷ []) []) ≡ cond b (cond c 1 0) 0
+        both true true = refl
+        both true false = refl
+        both false c = refl
 
-  arrivals_step : (v : ℕ) (s : State P N) (o : Option (Key × Event P)) → length (arrivals_at net v (step_at net (λ q. true) s o).records) ≡ length (arrivals_at net v s.records) + next_gain one_arrival s o v
-  arrivals_step v s None = omega arith
-  arrivals_step v s (Some e) =
-      let does : Effect P N = effect net s.node s.port e.0.time e.0.place e.0.number e.1 in
-      let a = ap length (kept-append (is_arrival_at v) s.records (in_record e.0.time does.came ++ out_record e.0.time does.transmission)) in
-      let b = length-append (arrivals_at net v s.records) (arrivals_at net v (in_record e.0.time does.came ++ out_record e.0.time does.transmission)) in
-      let c = ap length (kept-append (is_arrival_at v) (in_record e.0.time does.came) (out_record e.0.time does.transmission)) in
-      let d = length-append (arrivals_at net v (in_record e.0.time does.came)) (arrivals_at net v (out_record e.0.time does.transmission)) in
-      let f = ap length (out_is_none v e.0.time does.transmission) in
-      let g = in_is v e.0.time s.port s.node e.0.place e.0.number e.1 in
-      omega arith
+    in_is : (v time : ℕ) (ports : ℕ → Port P) (nodes : ℕ → N) (place : Place) (number : ℕ) (event : Event P) → length (keep_where (is_counted v) (in_record time (effect net nodes ports time place number event).came)) ≡ gain one_arrival nodes place event v
+    in_is v time ports nodes (Arrive i) number (Delivery x) =
+        ap (λ o. length (keep_where (is_counted v) (in_record time o))) (sent_came ports time (Some (i, x)) _ (net.react (net.owner i) (nodes (net.owner i)) (Arrival i) x).1 None)
+        ∙ one_is v (net.owner i) (record { time = time; iface = i; dir = In; packet = x })
+    in_is v time ports nodes (Fire j) number (Delivery x) =
+        ap (λ o. length (keep_where (is_counted v) (in_record time o))) (sent_came ports time None _ (net.react (net.source_node j) (nodes (net.source_node j)) (Source j) x).1 (net.source j (suc number))) ∙ go (v == net.source_node j)
+      where
+        go : (z : Bool) → ◌≡◌ {A = ℕ} 0 (cond z 0 0)
+        go true = refl
+        go false = refl
+    in_is v time ports nodes (Complete i) number (Delivery x) = refl
+    in_is v time ports nodes (Arrive i) number Completion = refl
+    in_is v time ports nodes (Complete i) number Completion = refl
+    in_is v time ports nodes (Fire j) number Completion = refl
 
-  pub arrivals_are : (v n : ℕ) → length (arrivals_at net v (one_list net n).records) ≡ gained one_arrival v n
-  arrivals_are v zero = refl
-  arrivals_are v (suc n) = let a = arrivals_are v n in let b = arrivals_step v (one_list net n) (least (one_list net n).pending) in omega arith
+    counted_step : (v : ℕ) (s : State P N) (o : Option (Key × Event P)) → length (keep_where (is_counted v) (step_at net (λ q. true) s o).records) ≡ length (keep_where (is_counted v) s.records) + next_gain one_arrival s o v
+    counted_step v s None = omega arith
+    counted_step v s (Some e) =
+        let does : Effect P N = effect net s.node s.port e.0.time e.0.place e.0.number e.1 in
+        let a = ap length (kept-append (is_counted v) s.records (in_record e.0.time does.came ++ out_record e.0.time does.transmission)) in
+        let b = length-append (keep_where (is_counted v) s.records) (keep_where (is_counted v) (in_record e.0.time does.came ++ out_record e.0.time does.transmission)) in
+        let c = ap length (kept-append (is_counted v) (in_record e.0.time does.came) (out_record e.0.time does.transmission)) in
+        let d = length-append (keep_where (is_counted v) (in_record e.0.time does.came)) (keep_where (is_counted v) (out_record e.0.time does.transmission)) in
+        let f = ap length (out_is_none v e.0.time does.transmission) in
+        let g = in_is v e.0.time s.port s.node e.0.place e.0.number e.1 in
+        omega arith
+
+    counted_are : (v n : ℕ) → length (keep_where (is_counted v) (one_list net n).records) ≡ gained one_arrival v n
+    counted_are v zero = refl
+    counted_are v (suc n) = let a = counted_are v n in let b = counted_step v (one_list net n) (least (one_list net n).pending) in omega arith
+
+    -- those that pass the test, of those that arrived
+    pub arrivals_where : (v n : ℕ) → length (keep_where (λ r. p v r.packet) (arrivals_at net v (one_list net n).records)) ≡ gained one_arrival v n
+    arrivals_where v n = ap length (kept_twice (λ r. same_dir r.dir In && (v == net.owner r.iface)) (λ r. p v r.packet) (one_list net n).records) ∙ counted_are v n
+
+  -- and all where all pass it
+  pub arrivals_are : (v n : ℕ) → length (arrivals_at net v (one_list net n).records) ≡ gained (one_arrival (λ u x. true)) v n
+  arrivals_are v n = sym (ap length (kept_all (arrivals_at net v (one_list net n).records))) ∙ arrivals_where (λ u x. true) v n
 
   -- each packet that a node sends is counted
   abbrev pub one_sent : ℕ → N → Origin → P → ℕ

@@ -49,7 +49,7 @@ counter_below Originated = omega arith
 counter_below Raw = omega arith
 
 -- how often a counter stands among these
-abbrev weight : List Counter → Counter → ℕ
+abbrev pub weight : List Counter → Counter → ℕ
 weight l d = sum_by (λ c. cond (counter_number c == counter_number d) 1 0) l
 
 abbrev totals : List Counter → List ℕ → ℕ
@@ -147,41 +147,60 @@ module _ (P : Consequence → Type 0) (quiet : P (Counts Quiet)) (itself : P (Co
   unfolding reply_of
   of_reply h request = either (is_martian h.source) (Counts Quiet) _ quiet (of_originate (reply_to h request))
 
--- the counters of arrivals: each row raises one of them, and what follows none
-module _ (ifaces : List IfaceValue) (table : NodeTable) (identification : ℕ) where
-  abbrev AddsNone : Consequence → Type 0
-  AddsNone c = added arrival_counters c ≡ 0
+-- counters that arrivals raise, and nothing else
+pub record OfArrivals (l : List Counter) : Type 0 where
+  pub quiet : weight l Quiet ≡ 0
+  pub itself : weight l ToSelf ≡ 0
+  pub unrouted : weight l NoRoute ≡ 0
+  pub made : weight l Originated ≡ 0
+  pub raw : weight l Raw ≡ 0
 
-  abbrev SendsAll : Consequence → Type 0
-  SendsAll c = added sending_counters c ≡ sendings c
+pub all_of_arrivals : OfArrivals arrival_counters
+all_of_arrivals = record { quiet = refl; itself = refl; unrouted = refl; made = refl; raw = refl }
+
+pub row_of_arrivals : (r : Row) → OfArrivals (row_counter r ∷ [])
+row_of_arrivals row.BadHeader = record { quiet = refl; itself = refl; unrouted = refl; made = refl; raw = refl }
+row_of_arrivals row.BadDestination = record { quiet = refl; itself = refl; unrouted = refl; made = refl; raw = refl }
+row_of_arrivals row.NotMine = record { quiet = refl; itself = refl; unrouted = refl; made = refl; raw = refl }
+row_of_arrivals row.Unreachable = record { quiet = refl; itself = refl; unrouted = refl; made = refl; raw = refl }
+row_of_arrivals row.Expired = record { quiet = refl; itself = refl; unrouted = refl; made = refl; raw = refl }
+row_of_arrivals (row.Forward via) = record { quiet = refl; itself = refl; unrouted = refl; made = refl; raw = refl }
+row_of_arrivals row.Fragment = record { quiet = refl; itself = refl; unrouted = refl; made = refl; raw = refl }
+row_of_arrivals row.BadIcmp = record { quiet = refl; itself = refl; unrouted = refl; made = refl; raw = refl }
+row_of_arrivals (row.EchoRequest request) = record { quiet = refl; itself = refl; unrouted = refl; made = refl; raw = refl }
+row_of_arrivals row.OtherIcmp = record { quiet = refl; itself = refl; unrouted = refl; made = refl; raw = refl }
+row_of_arrivals row.BadUdp = record { quiet = refl; itself = refl; unrouted = refl; made = refl; raw = refl }
+row_of_arrivals row.Delivered = record { quiet = refl; itself = refl; unrouted = refl; made = refl; raw = refl }
+row_of_arrivals row.ClosedPort = record { quiet = refl; itself = refl; unrouted = refl; made = refl; raw = refl }
+row_of_arrivals row.UnknownProtocol = record { quiet = refl; itself = refl; unrouted = refl; made = refl; raw = refl }
+
+-- each row raises one of the counters of arrivals
+pub row_counts : (r : Row) → weight arrival_counters (row_counter r) ≡ 1
+row_counts row.BadHeader = refl
+row_counts row.BadDestination = refl
+row_counts row.NotMine = refl
+row_counts row.Unreachable = refl
+row_counts row.Expired = refl
+row_counts (row.Forward via) = refl
+row_counts row.Fragment = refl
+row_counts row.BadIcmp = refl
+row_counts (row.EchoRequest request) = refl
+row_counts row.OtherIcmp = refl
+row_counts row.BadUdp = refl
+row_counts row.Delivered = refl
+row_counts row.ClosedPort = refl
+row_counts row.UnknownProtocol = refl
+
+-- and what follows raises none
+module _ (l : List Counter) (of : OfArrivals l) (ifaces : List IfaceValue) (table : NodeTable) (identification : ℕ) where
+  abbrev AddsNone : Consequence → Type 0
+  AddsNone c = added l c ≡ 0
 
   none_of_error : (p : List ℕ) (kind : MessageKind) → AddsNone (error_of ifaces table identification p kind)
-  none_of_error p kind = of_error AddsNone refl refl refl (λ via x. refl) ifaces table identification p kind
+  none_of_error p kind = of_error AddsNone of.quiet of.itself of.unrouted (λ via x. of.made) ifaces table identification p kind
 
   none_of_originate : (out : Outgoing) → AddsNone (originate ifaces table identification out)
-  none_of_originate out = of_originate AddsNone refl refl refl (λ via x. refl) ifaces table identification out
-
-  all_of_error : (p : List ℕ) (kind : MessageKind) → SendsAll (error_of ifaces table identification p kind)
-  all_of_error p kind = of_error SendsAll refl refl refl (λ via x. refl) ifaces table identification p kind
-
-  all_of_originate : (out : Outgoing) → SendsAll (originate ifaces table identification out)
-  all_of_originate out = of_originate SendsAll refl refl refl (λ via x. refl) ifaces table identification out
-
-  row_counts : (r : Row) → weight arrival_counters (row_counter r) ≡ 1
-  row_counts row.BadHeader = refl
-  row_counts row.BadDestination = refl
-  row_counts row.NotMine = refl
-  row_counts row.Unreachable = refl
-  row_counts row.Expired = refl
-  row_counts (row.Forward via) = refl
-  row_counts row.Fragment = refl
-  row_counts row.BadIcmp = refl
-  row_counts (row.EchoRequest request) = refl
-  row_counts row.OtherIcmp = refl
-  row_counts row.BadUdp = refl
-  row_counts row.Delivered = refl
-  row_counts row.ClosedPort = refl
-  row_counts row.UnknownProtocol = refl
+  none_of_originate out = of_originate AddsNone of.quiet of.itself of.unrouted (λ via x. of.made) ifaces table identification out
 
   row_adds : (p : List ℕ) (r : Row) → AddsNone (consequence_of ifaces table identification p r)
   row_adds p row.BadHeader = refl
@@ -192,12 +211,23 @@ module _ (ifaces : List IfaceValue) (table : NodeTable) (identification : ℕ) w
   row_adds p (row.Forward via) = refl
   row_adds p row.Fragment = refl
   row_adds p row.BadIcmp = refl
-  row_adds p (row.EchoRequest request) = of_reply AddsNone refl refl refl (λ via x. refl) ifaces table identification (fields_of p) request
+  row_adds p (row.EchoRequest request) = of_reply AddsNone of.quiet of.itself of.unrouted (λ via x. of.made) ifaces table identification (fields_of p) request
   row_adds p row.OtherIcmp = refl
   row_adds p row.BadUdp = refl
   row_adds p row.Delivered = refl
   row_adds p row.ClosedPort = none_of_error p no_port
   row_adds p row.UnknownProtocol = none_of_error p no_protocol
+
+-- the counters of sendings: one is raised where something is sent
+module _ (ifaces : List IfaceValue) (table : NodeTable) (identification : ℕ) where
+  abbrev SendsAll : Consequence → Type 0
+  SendsAll c = added sending_counters c ≡ sendings c
+
+  all_of_error : (p : List ℕ) (kind : MessageKind) → SendsAll (error_of ifaces table identification p kind)
+  all_of_error p kind = of_error SendsAll refl refl refl (λ via x. refl) ifaces table identification p kind
+
+  all_of_originate : (out : Outgoing) → SendsAll (originate ifaces table identification out)
+  all_of_originate out = of_originate SendsAll refl refl refl (λ via x. refl) ifaces table identification out
 
   row_sends : (p : List ℕ) (r : Row) → weight sending_counters (row_counter r) + added sending_counters (consequence_of ifaces table identification p r) ≡ sendings (consequence_of ifaces table identification p r)
   row_sends p row.BadHeader = refl
@@ -239,12 +269,12 @@ module _ (t : TopologyValue) (v : ℕ) (n : NodeStateValue) (x : List ℕ) (w : 
       let b = concluded_total l follows after_row row_whole (omega arith) in
       omega arith
 
-  -- each arrival raises one counter of arrivals
-  arrived_counts : total_of arrival_counters n + 1 < 2 ^ 64 → total_of arrival_counters (arrived t.ifaces (table_of t v) n x).0 ≡ total_of arrival_counters n + 1
-  arrived_counts below =
-      let a = row_counts t.ifaces (table_of t v) n.identification (arrival_row (table_of t v) x) in
-      let b = row_adds t.ifaces (table_of t v) n.identification (cut_of x) (arrival_row (table_of t v) x) in
-      let c = arrived_total arrival_counters (omega arith) in
+  -- an arrival raises the counter of its row among these
+  arrived_counts : (l : List Counter) → OfArrivals l → total_of l n + weight l (row_counter (arrival_row (table_of t v) x)) < 2 ^ 64
+      → total_of l (arrived t.ifaces (table_of t v) n x).0 ≡ total_of l n + weight l (row_counter (arrival_row (table_of t v) x))
+  arrived_counts l of below =
+      let b = row_adds l of t.ifaces (table_of t v) n.identification (cut_of x) (arrival_row (table_of t v) x) in
+      let c = arrived_total l (omega arith) in
       omega arith
 
   -- and one of sendings where something is sent
@@ -260,18 +290,8 @@ module _ (t : TopologyValue) (v : ℕ) (n : NodeStateValue) (x : List ℕ) (w : 
   abbrev IsKept : NodeStateValue × Option (ℕ × List ℕ) → Type 0
   IsKept r = IsWhole r.0
 
-  -- a packet of a source raises no counter of arrivals
-  abbrev CountsNone : NodeStateValue × Option (ℕ × List ℕ) → Type 0
-  CountsNone r = total_of arrival_counters n + 0 < 2 ^ 64 → total_of arrival_counters r.0 ≡ total_of arrival_counters n + 0
-
   abbrev CountsSent : NodeStateValue × Option (ℕ × List ℕ) → Type 0
   CountsSent r = total_of sending_counters n + length (option_list r.1) < 2 ^ 64 → total_of sending_counters r.0 ≡ total_of sending_counters n + length (option_list r.1)
-
-  out_none : (out : Outgoing) → CountsNone (concluded (originate t.ifaces (table_of t v) n.identification out) n)
-  out_none out below =
-      let a = none_of_originate t.ifaces (table_of t v) n.identification out in
-      let b = concluded_total arrival_counters (originate t.ifaces (table_of t v) n.identification out) n w (omega arith) in
-      omega arith
 
   out_sent : (out : Outgoing) → CountsSent (concluded (originate t.ifaces (table_of t v) n.identification out) n)
   out_sent out below =
@@ -284,11 +304,6 @@ module _ (t : TopologyValue) (v : ℕ) (n : NodeStateValue) (x : List ℕ) (w : 
   handed_whole (Cbr c) = concluded_whole (originate t.ifaces (table_of t v) n.identification _) n w
   handed_whole (EchoTraffic e) = concluded_whole (originate t.ifaces (table_of t v) n.identification _) n w
   handed_whole (RawTraffic r) = raised-length Raw n.counters ∙ w
-
-  handed_none : (traffic : Traffic) → CountsNone (handed t.ifaces (table_of t v) n traffic x)
-  handed_none (Cbr c) below = out_none _ below
-  handed_none (EchoTraffic e) below = out_none _ below
-  handed_none (RawTraffic r) below = raised_totals Raw n.counters w arrival_counters below
 
   handed_sent : (traffic : Traffic) → CountsSent (handed t.ifaces (table_of t v) n traffic x)
   handed_sent (Cbr c) below = out_sent _ below
@@ -309,13 +324,30 @@ module _ (t : TopologyValue) (v : ℕ) (n : NodeStateValue) (x : List ℕ) (w : 
   reaction_whole (Arrival i) = arrived_whole
   reaction_whole (FromSource j) = by_source IsKept w handed_whole (slice_get t.sources j)
 
-  pub arrival_counts : (i : ℕ) → total_of arrival_counters n + 1 < 2 ^ 64 → total_of arrival_counters (reaction t v n (Arrival i) x).0 ≡ total_of arrival_counters n + 1
-  unfolding reaction
-  arrival_counts i below = arrived_counts below
+  -- a packet of a source raises no counter of arrivals
+  module _ (l : List Counter) (of : OfArrivals l) where
+    abbrev CountsNone : NodeStateValue × Option (ℕ × List ℕ) → Type 0
+    CountsNone r = total_of l n + 0 < 2 ^ 64 → total_of l r.0 ≡ total_of l n + 0
 
-  pub source_counts : (j : ℕ) → total_of arrival_counters n + 0 < 2 ^ 64 → total_of arrival_counters (reaction t v n (FromSource j) x).0 ≡ total_of arrival_counters n + 0
-  unfolding reaction
-  source_counts j below = by_source CountsNone (λ b. omega arith) handed_none (slice_get t.sources j) below
+    out_none : (out : Outgoing) → CountsNone (concluded (originate t.ifaces (table_of t v) n.identification out) n)
+    out_none out below =
+        let a = none_of_originate l of t.ifaces (table_of t v) n.identification out in
+        let b = concluded_total l (originate t.ifaces (table_of t v) n.identification out) n w (omega arith) in
+        omega arith
+
+    handed_none : (traffic : Traffic) → CountsNone (handed t.ifaces (table_of t v) n traffic x)
+    handed_none (Cbr c) below = out_none _ below
+    handed_none (EchoTraffic e) below = out_none _ below
+    handed_none (RawTraffic r) below = let a = of.raw in let b = raised_totals Raw n.counters w l (omega arith) in omega arith
+
+    pub source_counts : (j : ℕ) → total_of l n + 0 < 2 ^ 64 → total_of l (reaction t v n (FromSource j) x).0 ≡ total_of l n + 0
+    unfolding reaction
+    source_counts j below = by_source CountsNone (λ b. omega arith) handed_none (slice_get t.sources j) below
+
+    pub arrival_counts : (i : ℕ) → total_of l n + weight l (row_counter (arrival_row (table_of t v) x)) < 2 ^ 64
+        → total_of l (reaction t v n (Arrival i) x).0 ≡ total_of l n + weight l (row_counter (arrival_row (table_of t v) x))
+    unfolding reaction
+    arrival_counts i below = arrived_counts l of below
 
   pub reaction_sends : (o : Origin) → total_of sending_counters n + length (option_list (reaction t v n o x).1) < 2 ^ 64
       → total_of sending_counters (reaction t v n o x).0 ≡ total_of sending_counters n + length (option_list (reaction t v n o x).1)
@@ -329,6 +361,22 @@ first_whole t v = refl
 
 pub first_arrivals : (t : TopologyValue) (v : ℕ) → total_of arrival_counters (first_state t v) ≡ 0
 first_arrivals t v = refl
+
+pub first_row : (t : TopologyValue) (v : ℕ) (r : Row) → total_of (row_counter r ∷ []) (first_state t v) ≡ 0
+first_row t v row.BadHeader = refl
+first_row t v row.BadDestination = refl
+first_row t v row.NotMine = refl
+first_row t v row.Unreachable = refl
+first_row t v row.Expired = refl
+first_row t v (row.Forward via) = refl
+first_row t v row.Fragment = refl
+first_row t v row.BadIcmp = refl
+first_row t v (row.EchoRequest request) = refl
+first_row t v row.OtherIcmp = refl
+first_row t v row.BadUdp = refl
+first_row t v row.Delivered = refl
+first_row t v row.ClosedPort = refl
+first_row t v row.UnknownProtocol = refl
 
 pub first_sendings : (t : TopologyValue) (v : ℕ) → total_of sending_counters (first_state t v) ≡ 0
 first_sendings t v = refl

@@ -9,7 +9,11 @@ use Rattle.nm_model.specs.Trace.{same_dir}
 use Rattle.nm_forward.specs.declared.counter.Counter.{Counter}
 use Rattle.nm_forward.specs.declared.counter.Counter.TheVariants.{Header, BadDest, NotMine, NoNet, Ttl, Forwarded, Fragment, IcmpBad, Echo, Icmp, UdpBad, Udp, Port, Proto, Originated, Raw}
 use Rattle.nm_forward.specs.Counter.{counter_number}
-use Rattle.nm_forward.specs.State.{NodeStateValue}
+use Rattle.nm_topology.specs.TopologyValue.{TopologyValue}
+use Rattle.nm_forward.specs.declared.row.Row.{Row}
+use Rattle.nm_forward.specs.Row.{arrival_row, row_counter}
+use Rattle.nm_forward.specs.State.{NodeStateValue, table_of}
+use Rattle.nm_sim.specs.Network.{net_of}
 use Rattle.nm_laws.specs.Offered.{offered_by, offers}
 
 -- the counters that say what became of a packet that arrived: one for each row of the table
@@ -28,16 +32,28 @@ total_of counters n = sum_by (λ c. slice_index n.counters (counter_number c)) c
 abbrev pub arrivals_at : {P N : Type 0} → Net P N → ℕ → List (Record P) → List (Record P)
 arrivals_at net v records = keep_where (λ r. same_dir r.dir In && (v == net.owner r.iface)) records
 
--- What node v counted in the first n events. A counter stops at 2^64 - 1, so this is said where there are fewer packets to count; and
--- there are no more than events.
-pub record ArrivalsAreCounted (net : Net (List ℕ) NodeStateValue) (n v : ℕ) : Type 0 where
-  pub few : length (arrivals_at net v (one_list net n).records) ≤ n
-  -- each packet that arrived raised one of its counters
-  pub counted : length (arrivals_at net v (one_list net n).records) < 2 ^ 64
-      → total_of arrival_counters ((one_list net n).node v) ≡ length (arrivals_at net v (one_list net n).records)
+-- those that raise this counter, by the row of the table that fits the packet
+abbrev pub arrivals_raising : TopologyValue → ℕ → Counter → List (Record (List ℕ)) → List (Record (List ℕ))
+arrivals_raising t v c records =
+    keep_where (λ r. counter_number c == counter_number (row_counter (arrival_row (table_of t v) r.packet))) (arrivals_at (net_of t) v records)
 
-pub record SendingsAreCounted (net : Net (List ℕ) NodeStateValue) (n v : ℕ) : Type 0 where
-  pub few : length (offered_by net v (offers net n)) ≤ n
-  -- so did each packet that it offered to one of its interfaces
-  pub counted : length (offered_by net v (offers net n)) < 2 ^ 64
-      → total_of sending_counters ((one_list net n).node v) ≡ length (offered_by net v (offers net n))
+-- What node v counted in the first n events. A counter stops at 2^64 - 1, so this is said where there are fewer packets to count; and
+-- there are no more of them than events.
+module _ (t : TopologyValue) (n v : ℕ) where
+  -- the sum of the counters of arrivals is the number of arrivals
+  pub record ArrivalsAreCounted : Type 0 where
+    pub few : length (arrivals_at (net_of t) v (one_list (net_of t) n).records) ≤ n
+    pub counted : length (arrivals_at (net_of t) v (one_list (net_of t) n).records) < 2 ^ 64
+        → total_of arrival_counters ((one_list (net_of t) n).node v) ≡ length (arrivals_at (net_of t) v (one_list (net_of t) n).records)
+
+  -- and each of them is the number of those to which its row fits
+  pub record RowsAreCounted : Type 0 where
+    pub counted : (row : Row) → let c : Counter = row_counter row in
+        length (arrivals_raising t v c (one_list (net_of t) n).records) < 2 ^ 64
+        → slice_index ((one_list (net_of t) n).node v).counters (counter_number c) ≡ length (arrivals_raising t v c (one_list (net_of t) n).records)
+
+  -- the sum of the counters of sendings is the number of packets that the node offered to its interfaces
+  pub record SendingsAreCounted : Type 0 where
+    pub few : length (offered_by (net_of t) v (offers (net_of t) n)) ≤ n
+    pub counted : length (offered_by (net_of t) v (offers (net_of t) n)) < 2 ^ 64
+        → total_of sending_counters ((one_list (net_of t) n).node v) ≡ length (offered_by (net_of t) v (offers (net_of t) n))

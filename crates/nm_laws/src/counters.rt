@@ -1,18 +1,19 @@
 //! Laws of the counters of nodes.
 
 ghost use Rattle.std.specs.Prelude.{ℕ};
-ghost use Rattle.nm_sim.specs.Network.{net_of};
-ghost use Rattle.nm_laws.specs.Counted.{ArrivalsAreCounted, SendingsAreCounted};
+ghost use Rattle.nm_laws.specs.Counted.{ArrivalsAreCounted, RowsAreCounted, SendingsAreCounted};
 
 use nm_sim::network::every_topology_is_a_network;
 use nm_topology::Topology;
 
-/// After any number of events, each packet that arrived at an interface of a node has raised one of
-/// the node's counters of arrivals, and each that the node offered to one of its interfaces has
-/// raised one of its counters of sendings; and nothing else has raised these.
+/// After any number of events, the packets that arrived at the interfaces of a node are as many as
+/// the sum of its counters of arrivals, each of which is the number of those to which its row fits;
+/// and those that the node offered to its interfaces are as many as the sum of what it sent on,
+/// what it originated and what its raw sources handed to it.
 pub fn packets_are_counted(topology: &Topology)
-    ensures arrivals { (n v : ℕ) → ArrivalsAreCounted (net_of topology.now) n v }
-    ensures sendings { (n v : ℕ) → SendingsAreCounted (net_of topology.now) n v }
+    ensures arrivals { (n v : ℕ) → ArrivalsAreCounted topology.now n v }
+    ensures rows { (n v : ℕ) → RowsAreCounted topology.now n v }
+    ensures sendings { (n v : ℕ) → SendingsAreCounted topology.now n v }
 {
     every_topology_is_a_network(topology); // law: a node sends by its own interfaces
 }

@@ -1,4 +1,4 @@
-use Rattle.nm_laws.proofs.Stated.{arrivals_few, arrivals_total, sendings_few, sendings_total}
+use Rattle.nm_laws.proofs.Stated.{arrivals_few, arrivals_total, row_total, sendings_few, sendings_total}
 use Rattle.nm_laws.proofs.counters.packets_are_counted.Goals as goal
 
 pub returns-clause-arrivals : goal.returns-clause-arrivals
@@ -11,3 +11,6 @@ returns-clause-sendings c = λ n v.
     let t = c.args.topology.now in
     let ok = c.every_topology_is_a_network.ensures.network in
     record { few = sendings_few t ok v n; counted = λ below. sendings_total t ok v n below }
+
+pub returns-clause-rows : goal.returns-clause-rows
+returns-clause-rows c = λ n v. let t = c.args.topology.now in record { counted = λ row below. row_total t row v n below }
