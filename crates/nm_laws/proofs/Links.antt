@@ -18,10 +18,10 @@ use Rattle.nm_model.specs.Trace.{passed}
 use Rattle.nm_forward.specs.State.{NodeStateValue}
 use Rattle.nm_forward.specs.Reaction.{FitsHeaders, FitsOrigin, FitsSource, reaction}
 use Rattle.nm_iface.specs.Transmission.{transmission_time}
-use Rattle.nm_traffic.specs.Orderly.{ArePackets, FitsMtu, FitTheMtu, HaveOctets as SourcesHaveOctets}
+use Rattle.nm_traffic.specs.Orderly.{ArePackets, FitsMtu, FitTheMtu, HaveOctets}
 use Rattle.nm_traffic.specs.Source.{source_at}
 use Rattle.nm_sim.specs.Network.{far_of, net_of}
-use Rattle.nm_laws.specs.Transmissions.{HaveOctets, arrivals_due, transmission_at}
+use Rattle.nm_laws.specs.Transmissions.{AreOfPackets, arrivals_due, transmission_at}
 use Rattle.nm_laws.proofs.Packets.{Came, recorded}
 use Rattle.nm_laws.proofs.Passings.{arrival_after, map_same, passed_from}
 
@@ -44,7 +44,7 @@ module _ (t : TopologyValue) where
         go (Some s) f = fits_headers s.traffic a.1 (fit j n s a f e)
 
   -- all packets of the run have octets, and not too many
-  module _ (ok : IsNet (net_of t)) (limits : IsWithinLimits t) (fit : FitTheMtu t) (least : SourcesHaveOctets t) (greatest : ArePackets t)
+  module _ (ok : IsNet (net_of t)) (limits : IsWithinLimits t) (fit : FitTheMtu t) (least : HaveOctets t) (greatest : ArePackets t)
       (fits : (t : TopologyValue) (v : ℕ) (n : NodeStateValue) (o : Origin) (x : List ℕ) (s : ℕ × List ℕ) → 1 ≤ length x → length x ≤ MAX_PACKET_OCTETS → FitsOrigin t o x
       → (reaction t v n o x).1 ≡ Some s → (1 ≤ length s.1) × (length s.1 ≤ MAX_PACKET_OCTETS))
       (orderly : (n : ℕ) → IsOrderly (net_of t) (λ q. true) (one_list (net_of t) n)) (came : (n : ℕ) → Came (net_of t) (one_list (net_of t) n)) (n : ℕ) where
@@ -59,7 +59,7 @@ module _ (t : TopologyValue) where
     packets : (m : ℕ) (r : Record (List ℕ)) → nth (one_list (net_of t) n).records m ≡ Some r → IsPacket r.packet
     packets = recorded (net_of t) IsPacket ok forwarded handed orderly came n
 
-    pub have_octets : HaveOctets (one_list (net_of t) n).records
+    pub have_octets : AreOfPackets (one_list (net_of t) n).records
     have_octets = record { least = λ m r e. (packets m r e).0; greatest = λ m r e. (packets m r e).1 }
 
   -- so the time that a transmission takes is that of its octets
@@ -72,7 +72,7 @@ module _ (t : TopologyValue) where
   delay_is i = refl
 
   -- and arrivals are due as the model says
-  pub due_is : (records : List (Record (List ℕ))) → HaveOctets records → (i : ℕ) → map (arrival_after (net_of t) ((net_of t).peer i)) (passed Out ((net_of t).peer i) records) ≡ arrivals_due t records i
+  pub due_is : (records : List (Record (List ℕ))) → AreOfPackets records → (i : ℕ) → map (arrival_after (net_of t) ((net_of t).peer i)) (passed Out ((net_of t).peer i) records) ≡ arrivals_due t records i
   unfolding net_of
   due_is records octets i = map_same _ _ (passed Out (far_of t i).peer records) (λ n a e.
       let r = passed_from Out (far_of t i).peer records n a e in

@@ -10,11 +10,11 @@ use Rattle.nm_iface.specs.Transmission.{transmission_time}
 use Rattle.nm_sim.specs.Network.{far_of}
 
 -- Each record is of a packet that has 1 to 65,535 octets.
-pub record HaveOctets (records : List (Record (List ℕ))) : Type 0 where
+pub record AreOfPackets (records : List (Record (List ℕ))) : Type 0 where
   pub least : (n : ℕ) (r : Record (List ℕ)) → nth records n ≡ Some r → 1 ≤ length r.packet
   pub greatest : (n : ℕ) (r : Record (List ℕ)) → nth records n ≡ Some r → length r.packet ≤ MAX_PACKET_OCTETS
 
--- how long interface i transmits this packet: its octets, at the rate of the link
+-- how long interface i transmits this packet: its octets, at the rate of the link, rounded up to nanoseconds
 abbrev pub transmission_at : TopologyValue → ℕ → List ℕ → ℕ
 transmission_at t i packet = transmission_time (far_of t i).rate (length packet)
 
@@ -24,18 +24,18 @@ pub record DoNotOverlap (t : TopologyValue) (records : List (Record (List ℕ)))
       → nth records m ≡ Some a → nth records n ≡ Some b → a.dir ≡ Out → b.dir ≡ Out → a.iface ≡ b.iface
       → a.time + transmission_at t a.iface a.packet ≤ b.time
 
--- a transmission that interface i starts at this time arrives after it is complete, and after the link's delay
+-- what interface i starts to transmit at this time arrives at the far end once that is complete, and after the link's delay
 abbrev pub arrival_of : TopologyValue → ℕ → ℕ × List ℕ → ℕ × List ℕ
 arrival_of t i start = (start.0 + transmission_at t i start.1 + (far_of t i).delay, start.1)
 
--- when the transmissions at the far end of interface i arrive, in the order in which they started
+-- when the packets that the far end of interface i started to transmit arrive at i, in the order of their starts
 abbrev pub arrivals_due : TopologyValue → List (Record (List ℕ)) → ℕ → List (ℕ × List ℕ)
 arrivals_due t records i = let j : ℕ = (far_of t i).peer in map (arrival_of t j) (passed Out j records)
 
--- What arrived at an interface are the first of the transmissions at its far end, each when it was due.
+-- What arrived at an interface are the first of the packets that its far end started to transmit, each when it was due.
 pub record ArriveInOrder (t : TopologyValue) (records : List (Record (List ℕ))) : Type 0 where
   pub first : (i : ℕ) → IsPrefix (passed In i records) (arrivals_due t records i)
 
--- And before this time all arrived that were due.
+-- All that were due before this time arrived, and no others.
 pub record AllArrive (t : TopologyValue) (before : ℕ) (records : List (Record (List ℕ))) : Type 0 where
   pub all : (i : ℕ) → passed In i records ≡ keep_where (λ a. ltb a.0 before) (arrivals_due t records i)

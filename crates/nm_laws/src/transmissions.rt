@@ -5,7 +5,7 @@ ghost use Rattle.nm_base.specs.declared.record.Record.{Record};
 ghost use Rattle.nm_model.specs.Run.{one_list};
 ghost use Rattle.nm_sim.specs.Network.{net_of};
 ghost use Rattle.nm_sim.specs.Trace.{IsTraceBefore};
-ghost use Rattle.nm_laws.specs.Transmissions.{AllArrive, ArriveInOrder, DoNotOverlap, HaveOctets};
+ghost use Rattle.nm_laws.specs.Transmissions.{AllArrive, ArriveInOrder, DoNotOverlap, AreOfPackets};
 
 use nm_base::Packet;
 use nm_forward::NodeState;
@@ -19,9 +19,9 @@ use nm_traffic::laws::source_times_rise;
 
 /// Each record is of a packet that has 1 to 65,535 octets.
 pub fn packets_have_octets(topology: &Topology)
-    ensures events { (n : ℕ) → HaveOctets (one_list (net_of topology.now) n).records }
+    ensures events { (n : ℕ) → AreOfPackets (one_list (net_of topology.now) n).records }
     ensures trace { (until : ℕ) (records : List (Record (List ℕ)))
-        → IsTraceBefore topology.now until records → HaveOctets records }
+        → IsTraceBefore topology.now until records → AreOfPackets records }
 {
     every_topology_is_a_network(topology); // law: transmissions take time
     accepted_topologies_are_in_order(topology); // law: limits

@@ -1,6 +1,6 @@
 use Rattle.std.proofs.Common.{sym, subst}
 use Rattle.nm_sim.specs.Network.{net_of}
-use Rattle.nm_laws.specs.Transmissions.{HaveOctets}
+use Rattle.nm_laws.specs.Transmissions.{AreOfPackets}
 use Rattle.nm_laws.proofs.Links.{have_octets}
 use Rattle.nm_laws.proofs.transmissions.packets_have_octets.Goals as goal
 
@@ -13,4 +13,4 @@ returns-clause-events c = λ n.
     (λ m. c.every_state_is_orderly.ensures.whole net ok m) (λ m. c.what_starts_arrives.ensures.transmitting net ok m) n
 
 pub returns-clause-trace : goal.returns-clause-trace
-returns-clause-trace c = λ until records h. subst HaveOctets (sym h.2) (returns-clause-events c h.0)
+returns-clause-trace c = λ until records h. subst AreOfPackets (sym h.2) (returns-clause-events c h.0)
