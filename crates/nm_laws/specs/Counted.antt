@@ -43,17 +43,16 @@ module _ (t : TopologyValue) (n v : ℕ) where
   -- the sum of the counters of arrivals is the number of arrivals
   pub record ArrivalsAreCounted : Type 0 where
     pub few : length (arrivals_at (net_of t) v (one_list (net_of t) n).records) ≤ n
-    pub counted : length (arrivals_at (net_of t) v (one_list (net_of t) n).records) < 2 ^ 64
-        → total_of arrival_counters ((one_list (net_of t) n).node v) ≡ length (arrivals_at (net_of t) v (one_list (net_of t) n).records)
+    pub counted : let packets : ℕ = length (arrivals_at (net_of t) v (one_list (net_of t) n).records) in
+        packets < 2 ^ 64 → total_of arrival_counters ((one_list (net_of t) n).node v) ≡ packets
 
-  -- and each of them is the number of those to which its row fits
+  -- and the counter of each row is the number of arrivals that the row fits
   pub record RowsAreCounted : Type 0 where
-    pub counted : (row : Row) → let c : Counter = row_counter row in
-        length (arrivals_raising t v c (one_list (net_of t) n).records) < 2 ^ 64
-        → slice_index ((one_list (net_of t) n).node v).counters (counter_number c) ≡ length (arrivals_raising t v c (one_list (net_of t) n).records)
+    pub counted : (row : Row) → let packets : ℕ = length (arrivals_raising t v (row_counter row) (one_list (net_of t) n).records) in
+        packets < 2 ^ 64 → slice_index ((one_list (net_of t) n).node v).counters (counter_number (row_counter row)) ≡ packets
 
   -- the sum of the counters of sendings is the number of packets that the node offered to its interfaces
   pub record SendingsAreCounted : Type 0 where
     pub few : length (offered_by (net_of t) v (offers (net_of t) n)) ≤ n
-    pub counted : length (offered_by (net_of t) v (offers (net_of t) n)) < 2 ^ 64
-        → total_of sending_counters ((one_list (net_of t) n).node v) ≡ length (offered_by (net_of t) v (offers (net_of t) n))
+    pub counted : let packets : ℕ = length (offered_by (net_of t) v (offers (net_of t) n)) in
+        packets < 2 ^ 64 → total_of sending_counters ((one_list (net_of t) n).node v) ≡ packets

@@ -33,7 +33,8 @@ pub fn packets_have_octets(topology: &Topology)
 
 /// The transmissions of an interface do not overlap: after any number of events, and so in a trace.
 pub fn transmissions_do_not_overlap(topology: &Topology)
-    ensures events { (n : ℕ) → DoNotOverlap topology.now (one_list (net_of topology.now) n).records }
+    ensures events { (n : ℕ)
+        → DoNotOverlap topology.now (one_list (net_of topology.now) n).records }
     ensures trace { (until : ℕ) (records : List (Record (List ℕ)))
         → IsTraceBefore topology.now until records → DoNotOverlap topology.now records }
 {
