@@ -1,5 +1,8 @@
 //! The measures of a run as comma-separated values for a program (RFC 4180).
 
+ghost use Rattle.std.specs.Prelude.{IfOk, OnOk};
+ghost use Rattle.nm_report.specs.Lines.{EndsLine};
+
 use crate::amounts::Traffic;
 use crate::measured::Measured;
 use crate::report::{flow_of, traffic_at};
@@ -8,6 +11,7 @@ use nm_base::{IfaceNo, NodeNo, SourceNo};
 use nm_forward::Counter;
 use nm_text::{push_number, push_text};
 use nm_topology::Topology;
+use nm_topology::topology::accepted_topologies_are_in_order;
 use std::alloc::{AllocError, Global};
 
 /// Appends a value of a node, an interface or a source, whose names need no quotes.
@@ -17,7 +21,9 @@ fn push_value(
     name: &str,
     measure: &str,
     value: u64,
-) -> Result<(), AllocError> {
+) -> Result<(), AllocError>
+    ensures { OnOk result (EndsLine text.new.items) }
+{
     for word in [kind, name, measure] {
         push_text(text, word.as_bytes())?;
         push_text(text, b",")?;
@@ -26,19 +32,62 @@ fn push_value(
     end_line(text)
 }
 
-/// The counters of nodes, also those that are 0.
+/// The counters of a node, also those that are 0.
+fn push_node(
+    text: &mut Vec<u8>,
+    measured: &Measured,
+    name: &str,
+    node: u32,
+) -> Result<(), AllocError>
+    requires { EndsLine text.old.items }
+    ensures { OnOk result (EndsLine text.new.items) }
+{
+    for counter in Counter::ALL {
+        let count = measured.counter(NodeNo::new(node), counter).unwrap_or(0);
+        push_value(text, "node", name, counter.name(), count)?;
+    }
+    Ok(())
+}
+
+/// The values of nodes.
 fn push_nodes(
     text: &mut Vec<u8>,
     topology: &Topology,
     measured: &Measured,
-) -> Result<(), AllocError> {
+) -> Result<(), AllocError>
+    requires { EndsLine text.old.items }
+    ensures { OnOk result (EndsLine text.new.items) }
+{
     let mut number = 0u32;
     for node in topology.nodes() {
-        for counter in Counter::ALL {
-            let count = measured.counter(NodeNo::new(number), counter).unwrap_or(0);
-            push_value(text, "node", node.name(), counter.name(), count)?;
-        }
+        push_node(text, measured, node.name(), number)?;
         number = number.saturating_add(1);
+    }
+    Ok(())
+}
+
+/// The values of an interface.
+fn push_iface(
+    text: &mut Vec<u8>,
+    measured: &Measured,
+    name: &str,
+    iface: u32,
+) -> Result<(), AllocError>
+    requires { EndsLine text.old.items }
+    ensures { OnOk result (EndsLine text.new.items) }
+{
+    let iface = IfaceNo::new(iface);
+    let Traffic { came, went } = traffic_at(measured, iface);
+    for (measure, value) in [
+        ("packets_in", came.packets),
+        ("octets_in", came.octets),
+        ("packets_out", went.packets),
+        ("octets_out", went.octets),
+        ("dropped", measured.dropped(iface).unwrap_or(0)),
+        ("longest_queue", measured.longest_queue(iface)),
+        ("busy_nanoseconds", measured.busy(iface)),
+    ] {
+        push_value(text, "interface", name, measure, value)?;
     }
     Ok(())
 }
@@ -48,22 +97,13 @@ fn push_ifaces(
     text: &mut Vec<u8>,
     topology: &Topology,
     measured: &Measured,
-) -> Result<(), AllocError> {
+) -> Result<(), AllocError>
+    requires { EndsLine text.old.items }
+    ensures { OnOk result (EndsLine text.new.items) }
+{
     let mut number = 0u32;
     for iface in topology.ifaces() {
-        let place = IfaceNo::new(number);
-        let Traffic { came, went } = traffic_at(measured, place);
-        for (measure, value) in [
-            ("packets_in", came.packets),
-            ("octets_in", came.octets),
-            ("packets_out", went.packets),
-            ("octets_out", went.octets),
-            ("dropped", measured.dropped(place).unwrap_or(0)),
-            ("longest_queue", measured.longest_queue(place)),
-            ("busy_nanoseconds", measured.busy(place)),
-        ] {
-            push_value(text, "interface", iface.name(), measure, value)?;
-        }
+        push_iface(text, measured, iface.name(), number)?;
         number = number.saturating_add(1);
     }
     Ok(())
@@ -75,7 +115,9 @@ fn push_source_value(
     source: u32,
     measure: &str,
     value: u64,
-) -> Result<(), AllocError> {
+) -> Result<(), AllocError>
+    ensures { OnOk result (EndsLine text.new.items) }
+{
     push_text(text, b"source,")?;
     push_number(text, u64::from(source))?;
     push_text(text, b",")?;
@@ -85,26 +127,37 @@ fn push_source_value(
     end_line(text)
 }
 
+/// The values of a source.
+fn push_source(text: &mut Vec<u8>, measured: &Measured, source: u32) -> Result<(), AllocError>
+    requires { EndsLine text.old.items }
+    ensures { OnOk result (EndsLine text.new.items) }
+{
+    let flow = flow_of(measured, SourceNo::new(source));
+    for (measure, value) in [
+        ("sent", flow.sent),
+        ("delivered", flow.delivered),
+        ("lost", flow.lost()),
+        ("least_delay_nanoseconds", flow.least),
+        ("mean_delay_nanoseconds", flow.mean()),
+        ("greatest_delay_nanoseconds", flow.greatest),
+    ] {
+        push_source_value(text, source, measure, value)?;
+    }
+    Ok(())
+}
+
 /// The values of sources.
 fn push_sources(
     text: &mut Vec<u8>,
     topology: &Topology,
     measured: &Measured,
-) -> Result<(), AllocError> {
-    let mut number = 0u32;
-    for _ in topology.sources() {
-        let flow = flow_of(measured, SourceNo::new(number));
-        for (measure, value) in [
-            ("sent", flow.sent),
-            ("delivered", flow.delivered),
-            ("lost", flow.lost()),
-            ("least_delay_nanoseconds", flow.least),
-            ("mean_delay_nanoseconds", flow.mean()),
-            ("greatest_delay_nanoseconds", flow.greatest),
-        ] {
-            push_source_value(text, number, measure, value)?;
-        }
-        number = number.saturating_add(1);
+) -> Result<(), AllocError>
+    requires { EndsLine text.old.items }
+    ensures { OnOk result (EndsLine text.new.items) }
+{
+    accepted_topologies_are_in_order(topology); // law: sources have numbers of 32 bits
+    for number in 0..topology.sources().len() as u32 {
+        push_source(text, measured, number)?;
     }
     Ok(())
 }
@@ -119,7 +172,9 @@ pub fn csv_text(
     alloc: Global,
     topology: &Topology,
     measured: &Measured,
-) -> Result<Vec<u8>, AllocError> {
+) -> Result<Vec<u8>, AllocError>
+    ensures { IfOk result (λ text. EndsLine text.items) }
+{
     let mut text = Vec::new(alloc);
     push_text(&mut text, b"kind,name,measure,value")?;
     end_line(&mut text)?;

@@ -156,7 +156,7 @@ fn graph(
     let mut text = Vec::new(alloc);
     push_text(
         &mut text,
-        b"graph network {\n  labelfontsize=9;\n  edge [fontsize=10];\n",
+        b"graph network {\n  edge [fontsize=10, labelfontsize=9];\n",
     )?;
     push_partitions(&mut text, topology)?;
     for link in topology.links() {

@@ -3,7 +3,7 @@
 use crate::pair::run_pair;
 use crate::table::run_table;
 use crate::tally::Tally;
-use crate::words::{run_rounds_case, run_script_case};
+use crate::words::{run_check_case, run_rounds_case, run_script_case, run_words_case};
 use std::alloc::Global;
 use std::fs::DirEntry;
 use std::net::Net;
@@ -56,6 +56,12 @@ fn run_text<
     }
     if stem.starts_with("cases/script/") {
         return run_script_case(rt, stem);
+    }
+    if stem.starts_with("cases/check/") {
+        return run_check_case(rt, stem);
+    }
+    if stem.starts_with("cases/runs/") || stem.starts_with("cases/shown/") {
+        return run_words_case(rt, stem);
     }
     run_pair(rt, stem)
 }

@@ -1,6 +1,6 @@
 //! Compares the simulator with the cases in `data/cases/`, and prints each line that differs.
 //!
-//! No case comes from this program. Those in `networks` and `readings`, and most of those in
+//! No case comes from this program. Those in `networks`, `readings` and `runs`, and most of those in
 //! `rounds` and `script`, were made by an independent model of the rules in docs/RULES.md,
 //! docs/FORMATS.md and docs/MODEL.md, the others by hand. A case is added by
 //! adding its files, or some lines to a table: each folder of `data/cases/` is listed, and each
@@ -10,7 +10,8 @@
 //! A folder has files of two forms:
 //!
 //! - A *pair* is a topology text `NAME.toml` and what it shows, `NAME.expect` (module `pair`), or in
-//!   the folders `rounds` and `script` what the program's words do with it (module `words`).
+//!   the folders `check`, `rounds`, `runs`, `script` and `shown` what the program's words do with
+//!   it (module `words`).
 //! - A *table* `NAME.cases` has many cases, each some changes of one text of `data/texts/` (module
 //!   `table`).
 //!

@@ -1,4 +1,4 @@
-//! Cases of the program's words for partitions, which are run in memory.
+//! Cases of the program's words, which are run in memory.
 //!
 //! In the folder `rounds` a topology text `NAME.toml` stands beside `NAME.expect`: for each of some
 //! numbers a line `max MAX status STATUS`, and then what `rounds` writes for this MAX.
@@ -6,6 +6,10 @@
 //! In the folder `script` a script `NAME.steps` stands there too, and `NAME.expect` has a line
 //! `status STATUS`, a line `error LINE` with the line on standard error, which is `-` where there is
 //! none, and then what `script` writes.
+//!
+//! In the folder `check` `NAME.expect` has a line `status STATUS`, and then what `check` writes of the
+//! topology text. In the folders `runs` and `shown` it has blocks of a line `words WORDS`, a line
+//! `status STATUS`, and what these words write; the topology text is standard input.
 
 use crate::compare::{differs, push_line};
 use crate::tally::Tally;
@@ -19,6 +23,11 @@ use std::{fs, io};
 
 /// The greatest number of octets that a case writes.
 const MAX_OUTPUT_OCTETS: usize = 1_048_576;
+
+/// The most files that a case makes, and the greatest number of octets of one.
+const MAX_FILES: usize = 64;
+
+const MAX_FILE_OCTETS: usize = 65_536;
 
 /// The greatest number of octets on standard error.
 const MAX_ERROR_OCTETS: usize = 64;
@@ -59,8 +68,8 @@ fn run_words<
     });
     let mut outputs = MemOutputs {
         alloc,
-        file_octets: 0,
-        room: 0,
+        file_octets: MAX_FILE_OCTETS,
+        room: MAX_FILES,
         files: Vec::new(alloc),
     };
     let out = MemSink::new(alloc, MAX_OUTPUT_OCTETS)?;
@@ -126,6 +135,59 @@ fn script_found<
     Ok(found)
 }
 
+/// What `check` does.
+fn check_found<
+    R: AllocGlobal
+        + Net<Stream = std::net::TcpStream, Listener = std::net::TcpListener>
+        + std::thread::Threads
+        + Wait
+        + Sync
+        + Drop
+        + Copy,
+>(rt: &R, topology: &[u8]) -> io::Result<String> {
+    let ended = run_words(rt, &["check", "-"], topology, b"")?;
+    let mut found = format!(in rt.alloc(); "status {}\n", ended.code)?;
+    found.push_str(text_in(&ended.out)?)?;
+    Ok(found)
+}
+
+/// Appends what the words of a line do.
+fn push_block<
+    R: AllocGlobal
+        + Net<Stream = std::net::TcpStream, Listener = std::net::TcpListener>
+        + std::thread::Threads
+        + Wait
+        + Sync
+        + Drop
+        + Copy,
+>(rt: &R, found: &mut String, line: &str, topology: &[u8]) -> io::Result<()> {
+    let words: Vec<&str> = line.split(' ').collect(rt.alloc())?;
+    let ended = run_words(rt, words.as_slice(), topology, b"")?;
+    let head = format!(in rt.alloc(); "words {line}\nstatus {}", ended.code)?;
+    push_line(found, head.as_str())?;
+    found.push_str(text_in(&ended.out)?)?;
+    Ok(())
+}
+
+/// What the words do that a case has.
+fn blocks_found<
+    R: AllocGlobal
+        + Net<Stream = std::net::TcpStream, Listener = std::net::TcpListener>
+        + std::thread::Threads
+        + Wait
+        + Sync
+        + Drop
+        + Copy,
+>(rt: &R, topology: &[u8], expected: &str) -> io::Result<String> {
+    let mut found = String::new(rt.alloc());
+    for line in expected.lines() {
+        if let Some(words) = line.strip_prefix("words ") {
+            push_block(rt, &mut found, words, topology)?;
+        }
+    }
+    Ok(found)
+}
+
 /// The octets of the file of a case that ends with this.
 fn file_of<R: Files + AllocGlobal>(rt: &R, stem: &str, end: &str) -> io::Result<Vec<u8>> {
     let path = format!(in rt.alloc(); "{stem}{end}")?;
@@ -173,6 +235,44 @@ pub fn run_script_case<
     let topology = file_of(rt, stem, ".toml")?;
     let steps = file_of(rt, stem, ".steps")?;
     let found = script_found(rt, topology.as_slice(), steps.as_slice())?;
+    let differs = differs(rt, stem, expected.as_str(), found.as_str())?;
+    Ok(Tally::of_case(differs))
+}
+
+/// Runs the case of `check` at a path, which is without its end.
+pub fn run_check_case<
+    R: Files
+        + AllocGlobal
+        + Print
+        + Net<Stream = std::net::TcpStream, Listener = std::net::TcpListener>
+        + std::thread::Threads
+        + Wait
+        + Sync
+        + Drop
+        + Copy,
+>(rt: &R, stem: &str) -> io::Result<Tally> {
+    let expected = expected_of(rt, stem)?;
+    let topology = file_of(rt, stem, ".toml")?;
+    let found = check_found(rt, topology.as_slice())?;
+    let differs = differs(rt, stem, expected.as_str(), found.as_str())?;
+    Ok(Tally::of_case(differs))
+}
+
+/// Runs the case of words at a path, which is without its end.
+pub fn run_words_case<
+    R: Files
+        + AllocGlobal
+        + Print
+        + Net<Stream = std::net::TcpStream, Listener = std::net::TcpListener>
+        + std::thread::Threads
+        + Wait
+        + Sync
+        + Drop
+        + Copy,
+>(rt: &R, stem: &str) -> io::Result<Tally> {
+    let expected = expected_of(rt, stem)?;
+    let topology = file_of(rt, stem, ".toml")?;
+    let found = blocks_found(rt, topology.as_slice(), expected.as_str())?;
     let differs = differs(rt, stem, expected.as_str(), found.as_str())?;
     Ok(Tally::of_case(differs))
 }

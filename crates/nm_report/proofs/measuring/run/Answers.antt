@@ -26,7 +26,7 @@ loop-done-preserved c =
     (c.in_ok-step.ensures.step None s c.loop-done.invariant.0)) in
     let next : suc c.loop-done.done ≡ c.loop-done.done + 1 = omega arith in (
       subst (λ n. Represents pending_of t None c.let_go.new.part (one_list (net_of t) n)) next
-      (c.let_go.ensures t None (one_list (net_of t) (suc c.loop-done.done)) more.0),
+          (c.let_go.ensures t None (one_list (net_of t) (suc c.loop-done.done)) more.0),
       λ m h. ⊎_elim
           (λ l. c.loop-done.invariant.1 m l)
           (λ g. let same : c.loop-done.done ≡ m = omega (arith, g, h) in subst (λ k. pends_before t.stop (one_list (net_of t) k) ≡ true) same more.1)
