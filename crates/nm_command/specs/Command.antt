@@ -1,5 +1,5 @@
 -- The words of the program.
-use Rattle.std.specs.Prelude.{ℕ, ◌+◌, ◌≤◌, ◌&&◌, leb, if◌then◌else◌, List, [], ◌∷◌, codes, decimal, Option, Some, None, option_map}
+use Rattle.std.specs.Prelude.{Bool, true, false, ℕ, ◌+◌, ◌≤◌, ◌&&◌, leb, if◌then◌else◌, List, [], ◌∷◌, codes, decimal, Option, Some, None, option_map}
 use Rattle.std.specs.Str.{bytes_eq}
 use Rattle.nm_command.specs.declared.command.Command.{Command}
 use Rattle.nm_command.specs.declared.command.Command.TheVariants as command
@@ -17,6 +17,14 @@ pub data CommandValue : Type 0 where
   Rounds : List ℕ → ℕ → CommandValue
   -- to do steps: the topology, and the script
   Script : List ℕ → List ℕ → CommandValue
+  -- to say where the topology is at fault, or what it has
+  Check : List ℕ → CommandValue
+  -- to measure a run of the topology, and to say it for a reader, or (true) for a program
+  Report : List ℕ → Bool → CommandValue
+  -- to draw the topology, or (true) how its links were used
+  Dot : List ℕ → Bool → CommandValue
+  -- to say in words what passed an interface: the topology, and the name of the interface
+  Text : List ℕ → List ℕ → CommandValue
   -- to run all partitions: the topology, the folder of their trace files, how many threads run books, and how many replicas each partition has
   Run : List ℕ → List ℕ → ℕ → ℕ → CommandValue
   -- to run one replica: the topology, the folder of its trace files, the partition, the number of the replica, and the addresses
@@ -26,6 +34,10 @@ abbrev pub command_value : Command → CommandValue
 command_value (command.Trace form topology iface) = Trace form topology.now (option_map (λ name. name.now) iface)
 command_value (command.Rounds topology max) = Rounds topology.now max
 command_value (command.Script topology steps) = Script topology.now steps.now
+command_value (command.Check topology) = Check topology.now
+command_value (command.Report topology is_csv) = Report topology.now is_csv
+command_value (command.Dot topology has_load) = Dot topology.now has_load
+command_value (command.Text topology iface) = Text topology.now iface.now
 command_value (command.Run topology folder workers replicas) = Run topology.now folder.now workers replicas
 command_value (command.Node topology folder partition replica addresses) = Node topology.now folder.now partition replica addresses.now
 
@@ -34,6 +46,10 @@ abbrev pub IsWithinLimits : Command → Type 0
 IsWithinLimits (command.Trace form topology iface) = Unit {0}
 IsWithinLimits (command.Rounds topology max) = (1 ≤ max) × (max ≤ MAX_ROUNDS)
 IsWithinLimits (command.Script topology steps) = Unit {0}
+IsWithinLimits (command.Check topology) = Unit {0}
+IsWithinLimits (command.Report topology is_csv) = Unit {0}
+IsWithinLimits (command.Dot topology has_load) = Unit {0}
+IsWithinLimits (command.Text topology iface) = Unit {0}
 IsWithinLimits (command.Run topology folder workers replicas) = (1 ≤ workers) × (workers ≤ MAX_WORKERS) × (1 ≤ replicas) × (replicas ≤ MAX_REPLICAS)
 IsWithinLimits (command.Node topology folder partition replica addresses) = (partition ≤ MAX_PARTITION) × (replica ≤ MAX_REPLICA)
 
@@ -49,12 +65,28 @@ abbrev pub trace_from : List ℕ → Option (List ℕ) → Option Form → Optio
 trace_from topology iface None = None
 trace_from topology iface (Some form) = Some (Trace form topology iface)
 
--- `rounds TOPO MAX`, `script TOPO STEPS`, and else `one TOPO IFACE` or `onehex TOPO IFACE`
+-- `check TOPO`, `report TOPO`, `dot TOPO`, and else `one TOPO` or `onehex TOPO`
+abbrev pub of_two : List ℕ → List ℕ → Option CommandValue
+of_two word topology =
+    if bytes_eq word (codes "check") then Some (Check topology)
+    else (if bytes_eq word (codes "report") then Some (Report topology false)
+    else (if bytes_eq word (codes "dot") then Some (Dot topology false)
+    else trace_from topology None (form_of word)))
+
+-- `text TOPO IFACE`, `report TOPO csv` and `dot TOPO load`; of other words what else they are
+abbrev pub shown_of : List ℕ → List ℕ → List ℕ → Option CommandValue → Option CommandValue
+shown_of word topology third other =
+    if bytes_eq word (codes "text") then Some (Text topology third)
+    else (if bytes_eq word (codes "report") then (if bytes_eq third (codes "csv") then Some (Report topology true) else None)
+    else (if bytes_eq word (codes "dot") then (if bytes_eq third (codes "load") then Some (Dot topology true) else None)
+    else other))
+
+-- `rounds TOPO MAX`, `script TOPO STEPS`, those above, and else `one TOPO IFACE` or `onehex TOPO IFACE`
 abbrev pub of_three : List ℕ → List ℕ → List ℕ → Option CommandValue
 of_three word topology third =
     if bytes_eq word (codes "rounds") then option_map (λ max. Rounds topology max) (number_in 1 MAX_ROUNDS third)
     else (if bytes_eq word (codes "script") then Some (Script topology third)
-    else trace_from topology (Some third) (form_of word))
+    else shown_of word topology third (trace_from topology (Some third) (form_of word)))
 
 -- `run`, if its two numbers are such
 abbrev pub run_of : List ℕ → List ℕ → Option ℕ → Option ℕ → Option CommandValue
@@ -80,11 +112,11 @@ of_six word topology folder partition replica addresses =
     if bytes_eq word (codes "node") then node_of topology folder (number_in 0 MAX_PARTITION partition) (number_in 0 MAX_REPLICA replica) addresses
     else None
 
--- words of three, of five and of six; `one TOPO` or `onehex TOPO`; no words are `onehex -`
+-- words of two, of three, of five and of six; no words are `onehex -`
 abbrev pub command_of : List (List ℕ) → Option CommandValue
 command_of [] = trace_from (codes "-") None (Some Hexadecimal)
 command_of (word ∷ []) = None
-command_of (word ∷ topology ∷ []) = trace_from topology None (form_of word)
+command_of (word ∷ topology ∷ []) = of_two word topology
 command_of (word ∷ topology ∷ third ∷ []) = of_three word topology third
 command_of (word ∷ topology ∷ third ∷ fourth ∷ []) = None
 command_of (word ∷ topology ∷ folder ∷ workers ∷ replicas ∷ []) = of_five word topology folder workers replicas

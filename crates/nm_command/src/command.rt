@@ -1,7 +1,7 @@
 //! The words of the program.
 
 ghost use Rattle.std.specs.Prelude.{◌≡◌, ℕ, ◌≤◌, map, IfSome, Some, decimal, option_map, string_bytes};
-ghost use Rattle.nm_command.specs.Command.{IsWithinLimits, command_of, command_value, form_of, node_of, number_in, of_five, of_six, of_three, run_of};
+ghost use Rattle.nm_command.specs.Command.{IsWithinLimits, command_of, command_value, form_of, node_of, number_in, of_five, of_six, of_three, of_two, run_of, shown_of, trace_from};
 ghost use Rattle.nm_command.specs.declared.command.TheConstants.{MAX_PARTITION, MAX_REPLICA, MAX_REPLICAS, MAX_WORKERS};
 
 use nm_pcap::Form;
@@ -45,6 +45,32 @@ pub enum Command<'a> {
         topology: &'a str,
         /// The input with the script.
         steps: &'a str,
+    },
+    /// To say where a topology is at fault, or what it has.
+    Check {
+        /// The input with the topology text.
+        topology: &'a str,
+    },
+    /// To measure a run of the whole network, and to say what it came to.
+    Report {
+        /// The input with the topology text.
+        topology: &'a str,
+        /// As comma-separated values for a program, and not as tables for a reader.
+        is_csv: bool,
+    },
+    /// To draw the network as a graph.
+    Dot {
+        /// The input with the topology text.
+        topology: &'a str,
+        /// With how its links were used in a run of the whole network.
+        has_load: bool,
+    },
+    /// To say in words what passed an interface, a line a packet.
+    Text {
+        /// The input with the topology text.
+        topology: &'a str,
+        /// The name of the interface.
+        iface: &'a str,
     },
     /// To run all partitions at once, each as one or two replicas, and to certify what they come to.
     Run {
@@ -109,6 +135,58 @@ fn number_in(word: &str, low: u64, high: u64) -> Option<u64>
     }
 }
 
+/// The command of two words.
+fn of_two<'a>(word: &str, topology: &'a str) -> Option<Command<'a>>
+    ensures value { option_map command_value result ≡ of_two word.now topology.now }
+    ensures limits { IfSome result IsWithinLimits }
+{
+    match word {
+        "check" => Some(Command::Check { topology }),
+        "report" => Some(Command::Report {
+            topology,
+            is_csv: false,
+        }),
+        "dot" => Some(Command::Dot {
+            topology,
+            has_load: false,
+        }),
+        _ => Some(Command::Trace {
+            form: form_of(word)?,
+            topology,
+            iface: None,
+        }),
+    }
+}
+
+/// The command `text`, `report` or `dot` of three words, or else the one of a trace file.
+fn shown_of<'a>(word: &str, topology: &'a str, third: &'a str) -> Option<Command<'a>>
+    ensures value { option_map command_value result ≡ shown_of word.now topology.now third.now
+        (trace_from topology.now (Some third.now) (form_of word.now)) }
+    ensures limits { IfSome result IsWithinLimits }
+{
+    match word {
+        "text" => Some(Command::Text {
+            topology,
+            iface: third,
+        }),
+        "report" if third == "csv" => Some(Command::Report {
+            topology,
+            is_csv: true,
+        }),
+        "report" => None,
+        "dot" if third == "load" => Some(Command::Dot {
+            topology,
+            has_load: true,
+        }),
+        "dot" => None,
+        _ => Some(Command::Trace {
+            form: form_of(word)?,
+            topology,
+            iface: Some(third),
+        }),
+    }
+}
+
 /// The command of three words.
 fn of_three<'a>(word: &'a str, topology: &'a str, third: &'a str) -> Option<Command<'a>>
     ensures value { option_map command_value result ≡ of_three word.now topology.now third.now }
@@ -124,11 +202,7 @@ fn of_three<'a>(word: &'a str, topology: &'a str, third: &'a str) -> Option<Comm
             steps: third,
         });
     }
-    Some(Command::Trace {
-        form: form_of(word)?,
-        topology,
-        iface: Some(third),
-    })
+    shown_of(word, topology, third)
 }
 
 /// The command of five words.
@@ -216,8 +290,10 @@ fn of_six<'a>(
 
 impl<'a> Command<'a> {
     /// The command of the words after the program's name: `one TOPO IFACE` or `onehex TOPO IFACE`,
-    /// where IFACE may be left out, `rounds TOPO MAX`, `script TOPO STEPS`, `run TOPO DIR
-    /// WORKERS REPLICAS`, or `node TOPO DIR PARTITION REPLICA ADDRESSES`. No words are `onehex -`. `None` where the words are no command.
+    /// where IFACE may be left out, `rounds TOPO MAX`, `script TOPO STEPS`, `check TOPO`, `report
+    /// TOPO` or `report TOPO csv`, `dot TOPO` or `dot TOPO load`, `text TOPO IFACE`, `run TOPO DIR
+    /// WORKERS REPLICAS`, or `node TOPO DIR PARTITION REPLICA ADDRESSES`. No words are `onehex -`.
+    /// `None` where the words are no command.
     pub fn of(words: &'a [String]) -> Option<Command<'a>>
         ensures value { option_map command_value result
             ≡ command_of (map (λ w. string_bytes w) words.now) }
@@ -229,11 +305,7 @@ impl<'a> Command<'a> {
                 topology: "-",
                 iface: None,
             }),
-            [word, topology] => Some(Command::Trace {
-                form: form_of(word.as_str())?,
-                topology: topology.as_str(),
-                iface: None,
-            }),
+            [word, topology] => of_two(word.as_str(), topology.as_str()),
             [word, topology, third] => of_three(word.as_str(), topology.as_str(), third.as_str()),
             [word, topology, folder, workers, replicas] => of_five(
                 word.as_str(),

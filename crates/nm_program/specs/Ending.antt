@@ -2,12 +2,14 @@
 use Rattle.std.specs.Prelude.{◌≡◌, Bool, false, ℕ, List, Option, Some, None}
 use Rattle.nm_command.specs.declared.status.Status.{Status}
 use Rattle.nm_command.specs.declared.status.Status.TheVariants.{Done, Usage, File}
-use Rattle.nm_command.specs.Command.{CommandValue, Trace, Rounds, Script, Run, Node}
+use Rattle.nm_command.specs.Command.{CommandValue, Trace, Rounds, Script, Check, Report, Dot, Text, Run, Node}
 use Rattle.nm_program.specs.Node.{EndsNode}
 use Rattle.nm_files.specs.Outputs.{Files}
 use Rattle.nm_program.specs.Rounds.{EndsRounds}
 use Rattle.nm_program.specs.Run.{EndsRun}
+use Rattle.nm_program.specs.Check.{EndsCheck}
 use Rattle.nm_program.specs.Script.{EndsScript}
+use Rattle.nm_program.specs.Shown.{EndsShown, EndsText}
 use Rattle.nm_program.specs.Traces.{EndsTrace}
 
 -- What each status says of words. The inputs tell what the input of a name has, if they do, and failed so often before and after; the sink was old and is
@@ -18,6 +20,10 @@ module _ {S : Type 0} (taken : S → Option (List ℕ)) (failures : S → ℕ) (
   Ends (Some (Trace form topology iface)) status = EndsTrace taken failures told failed_before failed old new form topology iface status × (made ≡ made_before)
   Ends (Some (Rounds topology max)) status = EndsRounds taken failures told failed_before failed old new topology max status × (made ≡ made_before)
   Ends (Some (Script topology steps)) status = EndsScript taken failures told failed_before failed old new topology steps status × (made ≡ made_before)
+  Ends (Some (Check topology)) status = EndsCheck taken failures told failed_before failed old new topology status × (made ≡ made_before)
+  Ends (Some (Report topology is_csv)) status = EndsShown taken failures told failed_before failed old new topology status × (made ≡ made_before)
+  Ends (Some (Dot topology has_load)) status = EndsShown taken failures told failed_before failed old new topology status × (made ≡ made_before)
+  Ends (Some (Text topology iface)) status = EndsText taken failures told failed_before failed old new topology iface status × (made ≡ made_before)
   Ends (Some (Run topology folder workers replicas)) status = EndsRun taken failures told failed_before failed old new made_before made topology status
   Ends (Some (Node topology folder partition replica addresses)) status =
       EndsNode taken failures told failed_before failed old new made_before made topology folder partition replica addresses status

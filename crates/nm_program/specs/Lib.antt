@@ -4,6 +4,8 @@ pub mod Lines
 pub mod Output
 pub mod Rounds
 pub mod Script
+pub mod Shown
 pub mod Node
 pub mod Run
 pub mod Ending
+pub mod Check

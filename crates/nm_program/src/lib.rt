@@ -1,6 +1,7 @@
 //! The program of nullsim as one function over words, inputs and sinks.
 #![tactic(auto)]
 
+mod checking;
 pub mod input;
 pub mod inputs;
 mod lines;
@@ -12,6 +13,7 @@ mod reading;
 mod rounds;
 mod runs;
 mod script;
+mod shown;
 pub mod trace_file;
 mod trace_files;
 mod traces;

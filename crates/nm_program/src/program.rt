@@ -8,12 +8,14 @@ ghost use Rattle.nm_program.specs.Ending.{Ends, handed_on};
 ghost use Rattle.nm_program.specs.Input.{text_of};
 ghost use Rattle.nm_command.specs.declared.status.Status.TheVariants.{Done, File};
 
+use crate::checking::say_check;
 use crate::input::NamedInputs;
 use crate::inputs::Inputs;
 use crate::node::say_node;
 use crate::rounds::say_rounds;
 use crate::runs::say_run;
 use crate::script::say_script;
+use crate::shown::{View, say_text, say_view};
 use crate::traces::write_trace;
 use nm_base::{PartNo, Sink};
 use nm_command::{Command, Status};
@@ -99,6 +101,16 @@ where
         Some(Command::Script { topology, steps }) => {
             say_script(alloc, topology, steps, inputs, out)
         }
+        Some(Command::Check { topology }) => say_check(alloc, topology, inputs, out),
+        Some(Command::Report { topology, is_csv }) => {
+            let view = if is_csv { View::Values } else { View::Tables };
+            say_view(alloc, topology, view, inputs, out)
+        }
+        Some(Command::Dot { topology, has_load }) => {
+            let view = if has_load { View::Load } else { View::Graph };
+            say_view(alloc, topology, view, inputs, out)
+        }
+        Some(Command::Text { topology, iface }) => say_text(alloc, topology, iface, inputs, out),
         Some(
             Command::Run {
                 topology,

@@ -57,7 +57,7 @@ fn status_of(outcome: Result<(), TraceFault>) -> Status
 }
 
 /// The interface of this name, or interface 0 where there is no name.
-fn find_iface(topology: &Topology, name: Option<&str>) -> Option<IfaceNo>
+pub(crate) fn find_iface(topology: &Topology, name: Option<&str>) -> Option<IfaceNo>
     ensures { result ≡ iface_named topology.now.ifaces (option_map (λ n. n.now) name.entry) }
 {
     match name {
