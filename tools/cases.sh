@@ -7,7 +7,7 @@
 #     iface IFACE HEX     `onehex NAME.toml IFACE` writes HEX, with status 0
 #     fault N             `onehex NAME.toml` ends with status 3 and the line `nullsim: topology N`
 #     accepted            `onehex NAME.toml` ends with status 0, or says `nullsim: no interface`
-#     counter .., dropped ..   no command prints these yet: they are counted, and compared in the gate (nullsim_cases)
+#     counter .., dropped ..   `onehex` does not print these: they are counted, and compared in the gate (nullsim_cases)
 #     # ..                a comment
 # Any other line is a difference. Each difference is a line; the last line is 'N passed, M failed, K not compared'. The status is 1 where M is not 0, or
 # where there was nothing to compare.
@@ -88,5 +88,5 @@ for folder in "$@"; do
         done <"$expect"
     done
 done
-echo "$passed passed, $failed failed, $left not compared (counters and drops, which no command prints)"
+echo "$passed passed, $failed failed, $left not compared (counters and drops, which onehex does not print)"
 [ "$failed" -eq 0 ] && [ "$passed" -gt 0 ]
