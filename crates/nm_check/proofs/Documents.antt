@@ -1,0 +1,153 @@
+-- A document is refused where `find_in` says, and for what is refused there.
+use Rattle.std.proofs.Common.{◌≡◌, ℕ, Bool, true, false, List, [], ◌∷◌, Option, Some, None}
+use Rattle.std.proofs.Common.{Result, Ok, Err, refl, sym, ap, ◌∙◌, subst, map}
+use Rattle.std.specs.Prelude.{codes, if◌then◌else◌, unwrap_or, ◌==◌}
+use Rattle.std.specs.Result.{result_ok}
+use Rattle.toml.specs.Data.{Data, Members, get_member}
+use Rattle.nm_base.specs.declared.limits.TheConstants.{MAX_IFACES, MAX_LINKS, MAX_MTU, MAX_NODES}
+use Rattle.nm_base.specs.declared.limits.TheConstants.{MAX_ROUTES, MAX_SOURCES, MAX_TIME, MIN_MTU}
+use Rattle.nm_topology.specs.declared.fault.Refusal.{Refusal}
+use Rattle.nm_topology.specs.declared.fault.Refusal.TheVariants.{UnknownKey}
+use Rattle.nm_topology.specs.declared.parse.head.Format.{Format}
+use Rattle.nm_topology.specs.declared.parse.head.Format.TheVariants.{One, Two}
+use Rattle.nm_topology.specs.declared.parse.head.Head.{Head}
+use Rattle.nm_topology.specs.Fault.{◌>>=◌, demand}
+use Rattle.nm_topology.specs.Parse.Arrays.{array_of, in_table, is_table}
+use Rattle.nm_topology.specs.Parse.DocumentValue.{DocumentValue}
+use Rattle.nm_topology.specs.Parse.Sources.{source_table_of}
+use Rattle.nm_topology.specs.Parse.Tables.{iface_table_of, link_table_of, node_table_of}
+use Rattle.nm_topology.specs.Parse.Tables.{route_table_of}
+use Rattle.nm_topology.specs.Parse.Document.{document_of, format_of, with_tables}
+use Rattle.nm_topology.specs.Parse.Fields.{all_among, number_in, optional, required}
+use Rattle.nm_check.specs.declared.array.Array.{Array}
+use Rattle.nm_check.specs.declared.array.Array.TheVariants as array
+use Rattle.nm_check.specs.declared.field.Field.{Field}
+use Rattle.nm_check.specs.declared.field.Form.TheVariants as form
+use Rattle.nm_check.specs.declared.spot.FieldFault.{FieldFault}
+use Rattle.nm_check.specs.declared.spot.Spot.TheVariants as spot
+use Rattle.nm_check.specs.Keys.{array_key, key_text}
+use Rattle.nm_check.specs.declared.fields.TheConstants.{ARRAYS, HEAD}
+use Rattle.nm_check.specs.declared.place.Place.TheVariants as place
+use Rattle.nm_check.specs.Place.{at_top, find_behind, find_in, find_in_arrays, found_by, head_by}
+use Rattle.nm_check.specs.Place.{head_of, no_head, place_in_value, place_of, place_refusal}
+use Rattle.nm_check.specs.Place.{refused_in, top_keys}
+use Rattle.nm_check.specs.Reading.{at_field, first_fault, or_else, outcome, refused_at, tables_of}
+use Rattle.nm_check.proofs.Places.{place-refused}
+use Rattle.nm_check.proofs.Steps.{chain, chain-first, five-arrays, outcome-bind}
+
+-- the field of an array
+abbrev pub array_field : Array → Field
+array_field a = record { key = array_key a; form = form.Tables a }
+
+-- a fault of the arrays is one of an array
+pub record IsOfArray (head : Head) (t : Members) (g : FieldFault) (a : Array) : Type 0 where
+  pub field : g.field ≡ array_field a
+  pub refused : tables_of head a (get_member (key_text (array_key a)) t) ≡ Err g.refusal
+
+of-arrays : (head : Head) (t : Members) (g : FieldFault) (bs : List Array) → first_fault head t (map array_field bs) ≡ Some g → (a : Array) × IsOfArray head t g a
+of-arrays head t g [] e = cc
+of-arrays head t g (a ∷ bs) e = go (λ h. of-arrays head t g bs h) (tables_of head a (get_member (key_text (array_key a)) t)) refl e
+  where
+    go : (first_fault head t (map array_field bs) ≡ Some g → (b : Array) × IsOfArray head t g b) → (r : Result Unit Refusal) → tables_of head a (get_member (key_text (array_key a)) t) ≡ r → or_else (array_field a) r (first_fault head t (map array_field bs)) ≡ Some g → (b : Array) × IsOfArray head t g b
+    go others (Ok u) h k = others k
+    go others (Err q) h k =
+        let same : ◌≡◌ {A = FieldFault} (record { field = array_field a; refusal = q }) g = cc in
+        (a, record { field = ap (λ x. x.field) (sym same); refused = h ∙ ap (λ (x : FieldFault). Err x.refusal) same })
+
+pub of-array : (head : Head) (t : Members) (g : FieldFault) → first_fault head t ARRAYS ≡ Some g → (a : Array) × IsOfArray head t g a
+of-array head t g e = of-arrays head t g (array.Node ∷ array.Iface ∷ array.Link ∷ array.Route ∷ array.Source ∷ []) e
+
+-- what is refused of the fault of an array is refused at its place
+pub place_of-refusal : (head : Head) (t : Members) (g : FieldFault) → first_fault head t ARRAYS ≡ Some g → place_refusal (place_of head t g) ≡ g.refusal
+place_of-refusal head t g e =
+    let p = of-array head t g e in
+    subst (λ (w : Field). place_refusal (unwrap_or (place_in_value head w.form (get_member (key_text w.key) t)) (place.Top (spot.Field g))) ≡ g.refusal) (sym p.1.field)
+    (place-refused head p.0 g.field (get_member (key_text (array_key p.0)) t) g.refusal p.1.refused)
+
+-- the arrays, one after another
+arrays-chain : (head : Head) (t : Members) → refused_in (find_in_arrays head t) ≡ chain head t ARRAYS
+arrays-chain head t = go (first_fault head t ARRAYS) refl ∙ sym (chain-first head t ARRAYS)
+  where
+    go : (o : Option FieldFault) → first_fault head t ARRAYS ≡ o → refused_in (found_by head t o) ≡ refused_at (at_field o)
+    go None h = refl
+    go (Some g) h = ap Err (place_of-refusal head t g h)
+
+arrays : (head : Head) (stop : ℕ) (t : Members) → outcome (with_tables head stop t) ≡ chain head t ARRAYS
+unfolding with_tables
+arrays head stop t =
+    five-arrays (optional [] (array_of is_table MAX_NODES (in_table node_table_of)) (get_member (codes "node") t))
+    (optional [] (array_of is_table MAX_IFACES (in_table (iface_table_of head.format))) (get_member (codes "iface") t))
+    (optional [] (array_of is_table MAX_LINKS (in_table link_table_of)) (get_member (codes "link") t))
+    (optional [] (array_of is_table MAX_ROUTES (in_table route_table_of)) (get_member (codes "route") t))
+    (optional [] (array_of is_table MAX_SOURCES (in_table (source_table_of head.mtu))) (get_member (codes "source") t))
+    (λ nodes ifaces links routes sources. let d : DocumentValue = record { stop = stop; mtu = head.mtu; nodes = nodes; ifaces = ifaces; links = links; routes = routes; sources = sources } in d)
+
+format-outcome : (v : Option Data) → outcome (required format_of v) ≡ outcome (required (number_in 1 2) v)
+format-outcome None = refl
+format-outcome (Some d) = outcome-bind (number_in 1 2 d) (λ n. if n == 1 then One else Two)
+
+-- the head that was read is that of the text
+head-read : (t : Members) (format : Format) (mtu : ℕ) → required format_of (get_member (codes "format") t) ≡ Ok format → required (number_in MIN_MTU MAX_MTU) (get_member (codes "mtu") t) ≡ Ok mtu → head_of t ≡ record { format = format; mtu = mtu }
+head-read t format mtu e h =
+    ap (λ m. head_by (result_ok (required (number_in 1 2) (get_member (codes "format") t))) (result_ok m)) h
+    ∙ by_value (get_member (codes "format") t) e
+  where
+    by_number : (r : Result ℕ Refusal) → (r >>= λ n. Ok (if n == 1 then One else Two)) ≡ Ok format → head_by (result_ok r) (Some mtu) ≡ record { format = format; mtu = mtu }
+    by_number (Ok n) g =
+        let same : (if n == 1 then One else Two) ≡ format = cc in
+        ap (λ (f : Format). let h : Head = record { format = f; mtu = mtu } in h) same
+    by_number (Err q) g = cc
+
+    by_value : (v : Option Data) → required format_of v ≡ Ok format → head_by (result_ok (required (number_in 1 2) v)) (Some mtu) ≡ record { format = format; mtu = mtu }
+    by_value None g = cc
+    by_value (Some d) g = by_number (number_in 1 2 d) g
+
+-- the keys of the top table, its head and then what follows, which is the same whatever stop is
+head-chain : {A B C D : Type 0} (b : Bool) (p : Result A Refusal) (q : Result B Refusal) (r : Result C Refusal) (k : A → B → C → Result D Refusal) (o z : Result Unit Refusal) → outcome p ≡ o
+    → ((x : A) (y : B) (w : C) → p ≡ Ok x → r ≡ Ok w → outcome (k x y w) ≡ z)
+    → outcome (demand b UnknownKey >>= λ u. p >>= λ x. q >>= λ y. r >>= λ w. k x y w) ≡ (if b then (o >>= λ u. outcome q >>= λ u. outcome r >>= λ u. z) else Err UnknownKey)
+head-chain false p q r k o z e h = refl
+head-chain true (Err f) q r k o z e h = ap (λ v. v >>= λ u. outcome q >>= λ u. outcome r >>= λ u. z) e
+head-chain true (Ok x) (Err f) r k o z e h = ap (λ v. v >>= λ u. Err f) e
+head-chain true (Ok x) (Ok y) (Err f) k o z e h = ap (λ v. v >>= λ u. Err f) e
+head-chain true (Ok x) (Ok y) (Ok w) k o z e h = h x y w refl refl ∙ ap (λ v. v >>= λ u. z) e
+
+-- where the head is refused, and what follows where it is not
+behind-chain : (t : Members) (r : Result Unit Refusal) → (refused_at (at_field (first_fault no_head t HEAD)) >>= λ u. refused_in (find_in_arrays (head_of t) t)) ≡ refused_in (find_behind t (first_fault no_head t HEAD))
+behind-chain t r = go (first_fault no_head t HEAD)
+  where
+    go : (o : Option FieldFault) → (refused_at (at_field o) >>= λ u. refused_in (find_in_arrays (head_of t) t)) ≡ refused_in (find_behind t o)
+    go None = refl
+    go (Some g) = refl
+
+find-chain : (t : Members) → (if all_among top_keys t then (chain no_head t HEAD >>= λ u. refused_in (find_in_arrays (head_of t) t)) else Err UnknownKey) ≡ refused_in (find_in t)
+find-chain t = go (all_among top_keys t)
+  where
+    go : (b : Bool) → (if b then (chain no_head t HEAD >>= λ u. refused_in (find_in_arrays (head_of t) t)) else Err UnknownKey) ≡ refused_in (if b then find_behind t (first_fault no_head t HEAD) else Some (at_top spot.Unknown))
+    go true = ap (λ o. o >>= λ u. refused_in (find_in_arrays (head_of t) t)) (chain-first no_head t HEAD) ∙ behind-chain t (Ok tt)
+    go false = refl
+
+abbrev done : Result Unit Refusal
+done = Ok tt
+
+-- the last step of a chain, and what follows it
+three-units : (o p q z : Result Unit Refusal) → (o >>= λ u. p >>= λ u. q >>= λ u. z) ≡ ((o >>= λ u. p >>= λ u. q >>= λ u. done) >>= λ u. z)
+three-units (Err e) p q z = refl
+three-units (Ok u) (Err e) q z = refl
+three-units (Ok u) (Ok v) (Err e) z = refl
+three-units (Ok u) (Ok v) (Ok w) z = refl
+
+pub document-refused : (t : Members) → outcome (document_of t) ≡ refused_in (find_in t)
+unfolding document_of
+document-refused t =
+    let format = required format_of (get_member (codes "format") t) in
+    let number = outcome (required (number_in 1 2) (get_member (codes "format") t)) in
+    let stop = required (number_in 1 MAX_TIME) (get_member (codes "stop") t) in
+    let mtu = required (number_in MIN_MTU MAX_MTU) (get_member (codes "mtu") t) in
+    let rest = refused_in (find_in_arrays (head_of t) t) in
+    head-chain (all_among top_keys t) format stop mtu (λ f s m. with_tables (record { format = f; mtu = m }) s t) number rest (format-outcome (get_member (codes "format") t))
+    (λ f s m is_format is_mtu.
+    arrays (record { format = f; mtu = m }) s t ∙ sym (arrays-chain (record { format = f; mtu = m }) t)
+    ∙ ap (λ (h : Head). refused_in (find_in_arrays h t)) (sym (head-read t f m is_format is_mtu)))
+    ∙ ap (λ o. if all_among top_keys t then o else Err UnknownKey) (three-units number (outcome stop) (outcome mtu) rest)
+    ∙ find-chain t

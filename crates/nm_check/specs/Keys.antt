@@ -1,0 +1,59 @@
+-- The keys of a topology text, as they stand in one, and its arrays of tables.
+use Rattle.std.specs.Prelude.{ℕ, List, codes}
+use Rattle.nm_base.specs.declared.limits.TheConstants.{MAX_IFACES, MAX_LINKS, MAX_NODES, MAX_ROUTES}
+use Rattle.nm_base.specs.declared.limits.TheConstants.{MAX_SOURCES}
+use Rattle.nm_check.specs.declared.array.Array.{Array}
+use Rattle.nm_check.specs.declared.array.Array.TheVariants as array
+use Rattle.nm_check.specs.declared.key.Key.{Key}
+use Rattle.nm_check.specs.declared.key.Key.TheVariants as key
+
+abbrev pub key_text : Key → List ℕ
+key_text key.Format = codes "format"
+key_text key.Stop = codes "stop"
+key_text key.Mtu = codes "mtu"
+key_text key.Node = codes "node"
+key_text key.Iface = codes "iface"
+key_text key.Link = codes "link"
+key_text key.Route = codes "route"
+key_text key.Source = codes "source"
+key_text key.Name = codes "name"
+key_text key.Kind = codes "kind"
+key_text key.Partition = codes "partition"
+key_text key.Ports = codes "ports"
+key_text key.Address = codes "address"
+key_text key.Queue = codes "queue"
+key_text key.QueueOctets = codes "queue_octets"
+key_text key.A = codes "a"
+key_text key.B = codes "b"
+key_text key.Rate = codes "rate"
+key_text key.Delay = codes "delay"
+key_text key.To = codes "to"
+key_text key.Via = codes "via"
+key_text key.SourcePort = codes "sport"
+key_text key.DestinationPort = codes "dport"
+key_text key.Identifier = codes "ident"
+key_text key.Size = codes "size"
+key_text key.Fill = codes "fill"
+key_text key.Start = codes "start"
+key_text key.Interval = codes "interval"
+key_text key.Count = codes "count"
+key_text key.Ttl = codes "ttl"
+key_text key.Packet = codes "packet"
+key_text key.At = codes "at"
+key_text key.Data = codes "data"
+
+-- the key of an array
+abbrev pub array_key : Array → Key
+array_key array.Node = key.Node
+array_key array.Iface = key.Iface
+array_key array.Link = key.Link
+array_key array.Route = key.Route
+array_key array.Source = key.Source
+
+-- how many tables an array may have
+abbrev pub array_limit : Array → ℕ
+array_limit array.Node = MAX_NODES
+array_limit array.Iface = MAX_IFACES
+array_limit array.Link = MAX_LINKS
+array_limit array.Route = MAX_ROUTES
+array_limit array.Source = MAX_SOURCES

@@ -1,0 +1,7 @@
+pub mod Doubles
+pub mod First
+pub mod Keys
+pub mod Lines
+pub mod Locate
+pub mod Place
+pub mod Reading

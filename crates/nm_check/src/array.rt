@@ -1,0 +1,45 @@
+//! The arrays of tables of a topology text.
+
+ghost use Rattle.std.specs.Prelude.{◌≡◌};
+ghost use Rattle.nm_check.specs.Keys.{array_key, array_limit};
+
+use crate::key::Key;
+use nm_base::limits::{MAX_IFACES, MAX_LINKS, MAX_NODES, MAX_ROUTES, MAX_SOURCES};
+
+/// An array of tables of a topology text.
+#[derive(Clone, Copy)]
+pub enum Array {
+    Node,
+    Iface,
+    Link,
+    Route,
+    Source,
+}
+
+impl Array {
+    /// The key of the array.
+    pub fn key(self) -> Key
+        ensures { result ≡ array_key self }
+    {
+        match self {
+            Array::Node => Key::Node,
+            Array::Iface => Key::Iface,
+            Array::Link => Key::Link,
+            Array::Route => Key::Route,
+            Array::Source => Key::Source,
+        }
+    }
+
+    /// How many tables it may have.
+    pub fn limit(self) -> usize
+        ensures { result ≡ array_limit self }
+    {
+        match self {
+            Array::Node => MAX_NODES,
+            Array::Iface => MAX_IFACES,
+            Array::Link => MAX_LINKS,
+            Array::Route => MAX_ROUTES,
+            Array::Source => MAX_SOURCES,
+        }
+    }
+}

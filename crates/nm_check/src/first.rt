@@ -1,0 +1,117 @@
+//! The first that is refused: of the fields of a table, and of the tables of an array.
+
+ghost use Rattle.std.specs.Prelude.{◌≡◌, ◌≤◌, IfOk, map, not};
+ghost use Rattle.toml.specs.View.{items_view, table_view};
+ghost use Rattle.nm_topology.specs.Parse.Fields.{all_among};
+ghost use Rattle.nm_check.specs.Reading.{first_fault, keys_of, outcome, spot_in};
+ghost use Rattle.nm_check.specs.First.{first_from};
+
+use crate::field::Field;
+use crate::reading::read_field;
+use crate::spot::{FieldFault, Spot};
+use nm_topology::parse::arrays::Element;
+use nm_topology::parse::fields::only;
+use nm_topology::parse::head::Head;
+use nm_topology::{Refusal, TopoFault};
+use std::alloc::{AllocError, Global};
+use toml::{Table, Value};
+
+/// The first of these fields that is refused, in a text with this head.
+pub fn first_fault(
+    alloc: Global,
+    head: Head,
+    table: &Table,
+    fields: &[Field],
+) -> Result<Option<FieldFault>, AllocError>
+    requires { 28 ≤ head.mtu }
+    ensures { IfOk result
+        (λ found. found ≡ first_fault head (table_view table.now) fields.now) }
+{
+    for wanted in fields {
+        match read_field(alloc, head, table, *wanted) {
+            Ok(()) => {}
+            Err(TopoFault::Memory) => return Err(AllocError),
+            Err(TopoFault::Refused(refusal)) => {
+                return Ok(Some(FieldFault {
+                    field: *wanted,
+                    refusal,
+                }));
+            }
+        }
+    }
+    Ok(None)
+}
+
+/// The keys of these fields.
+pub fn keys_of(alloc: Global, fields: &[Field]) -> Result<Vec<&'static str>, AllocError>
+    ensures { IfOk result (λ v. map (λ k. k.now) v.items ≡ keys_of fields.now) }
+{
+    let mut keys = Vec::new(alloc);
+    for wanted in fields {
+        keys.push(wanted.key.text())?;
+    }
+    Ok(keys)
+}
+
+/// Whether a table has a key that none of these fields has.
+pub fn has_unknown(table: &Table, keys: &[&str]) -> Result<bool, AllocError>
+    ensures { IfOk result
+        (λ b. b ≡ not (all_among (map (λ k. k.now) keys.now) (table_view table.now))) }
+{
+    match only(table, keys) {
+        Ok(()) => Ok(false),
+        Err(TopoFault::Memory) => Err(AllocError),
+        Err(TopoFault::Refused(_)) => Ok(true),
+    }
+}
+
+/// Where a table of these fields is refused.
+pub fn spot_in(
+    alloc: Global,
+    head: Head,
+    table: &Table,
+    fields: &[Field],
+) -> Result<Option<Spot>, AllocError>
+    requires { 28 ≤ head.mtu }
+    ensures { IfOk result (λ found. found ≡ spot_in head fields.now (table_view table.now)) }
+{
+    let keys = keys_of(alloc, fields)?;
+    if has_unknown(table, &keys)? {
+        return Ok(Some(Spot::Unknown));
+    }
+    match first_fault(alloc, head, table, fields)? {
+        Some(fault) => Ok(Some(Spot::Field(fault))),
+        None => Ok(None),
+    }
+}
+
+/// A member of an array that is refused: its number, from 0, and why.
+#[derive(Clone, Copy)]
+pub struct MemberFault {
+    pub number: usize,
+    pub refusal: Refusal,
+}
+
+/// The first member of an array that is refused, in a text with this head.
+pub fn first_member<T: Element>(
+    alloc: Global,
+    head: Head,
+    items: &[Value],
+) -> Result<Option<MemberFault>, AllocError>
+    requires { 28 ≤ head.mtu }
+    ensures { IfOk result (λ found.
+        found ≡ first_from (λ d. outcome (T.reads head d)) 0 (items_view items.now)) }
+{
+    let mut number = 0;
+    for item in items {
+        match T::read(alloc, head, item) {
+            Ok(_) => {}
+            Err(TopoFault::Memory) => return Err(AllocError),
+            Err(TopoFault::Refused(refusal)) => {
+                return Ok(Some(MemberFault { number, refusal }));
+            }
+        }
+        number += 1;
+    }
+    Ok(None)
+}

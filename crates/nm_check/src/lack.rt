@@ -1,0 +1,152 @@
+//! The first table that names what is not there.
+
+use crate::array::Array;
+use crate::key::Key;
+use nm_base::NodeNo;
+use nm_topology::names::Names;
+use nm_topology::parse::sources::{NamedTraffic, SourceTable};
+use nm_topology::parse::tables::{IfaceTable, LinkTable, RouteTable};
+
+/// What a table names that is not there.
+#[derive(Clone, Copy)]
+pub enum Lack {
+    /// A node of this name.
+    Node,
+    /// An interface of the name at this key.
+    Iface(Key),
+    /// An interface of its node: `via` is one of another node.
+    Own,
+}
+
+/// A table that names what is not there: its number, from 0, and what.
+#[derive(Clone, Copy)]
+pub struct Lacking {
+    pub array: Array,
+    pub number: usize,
+    pub lack: Lack,
+}
+
+/// What a table of `iface` lacks.
+fn iface_lack(nodes: &Names, table: &IfaceTable) -> Option<Lack> {
+    match nodes.number(table.node.as_str()) {
+        Ok(_) => None,
+        Err(_) => Some(Lack::Node),
+    }
+}
+
+/// What a table of `link` lacks.
+fn link_lack(ifaces: &Names, table: &LinkTable) -> Option<Lack> {
+    if ifaces.number(table.a.as_str()).is_err() {
+        return Some(Lack::Iface(Key::A));
+    }
+    if ifaces.number(table.b.as_str()).is_err() {
+        return Some(Lack::Iface(Key::B));
+    }
+    None
+}
+
+/// What a node lacks, from which packets leave by an interface.
+fn via_lack(ifaces: &Names, owners: &[NodeNo], node: u32, via: &str) -> Option<Lack> {
+    let Ok(iface) = ifaces.number(via) else {
+        return Some(Lack::Iface(Key::Via));
+    };
+    match owners.get(iface as usize) {
+        Some(owner) if owner.number() == node => None,
+        _ => Some(Lack::Own),
+    }
+}
+
+/// What a table of `route` lacks.
+fn route_lack(
+    nodes: &Names,
+    ifaces: &Names,
+    owners: &[NodeNo],
+    table: &RouteTable,
+) -> Option<Lack> {
+    let Ok(node) = nodes.number(table.node.as_str()) else {
+        return Some(Lack::Node);
+    };
+    via_lack(ifaces, owners, node, table.via.as_str())
+}
+
+/// What a table of `source` lacks.
+fn source_lack(
+    nodes: &Names,
+    ifaces: &Names,
+    owners: &[NodeNo],
+    table: &SourceTable,
+) -> Option<Lack> {
+    let Ok(node) = nodes.number(table.node.as_str()) else {
+        return Some(Lack::Node);
+    };
+    match &table.traffic {
+        NamedTraffic::Raw(raw) => via_lack(ifaces, owners, node, raw.via.as_str()),
+        _ => None,
+    }
+}
+
+/// The first table of `iface` that lacks something.
+pub fn first_iface(nodes: &Names, tables: &[IfaceTable]) -> Option<Lacking> {
+    for (number, table) in tables.iter().enumerate() {
+        if let Some(lack) = iface_lack(nodes, table) {
+            return Some(Lacking {
+                array: Array::Iface,
+                number,
+                lack,
+            });
+        }
+    }
+    None
+}
+
+/// The first table of `link` that lacks something.
+pub fn first_link(ifaces: &Names, tables: &[LinkTable]) -> Option<Lacking> {
+    for (number, table) in tables.iter().enumerate() {
+        if let Some(lack) = link_lack(ifaces, table) {
+            return Some(Lacking {
+                array: Array::Link,
+                number,
+                lack,
+            });
+        }
+    }
+    None
+}
+
+/// The first table of `route` that lacks something.
+pub fn first_route(
+    nodes: &Names,
+    ifaces: &Names,
+    owners: &[NodeNo],
+    tables: &[RouteTable],
+) -> Option<Lacking> {
+    for (number, table) in tables.iter().enumerate() {
+        if let Some(lack) = route_lack(nodes, ifaces, owners, table) {
+            return Some(Lacking {
+                array: Array::Route,
+                number,
+                lack,
+            });
+        }
+    }
+    None
+}
+
+/// The first table of `source` that lacks something.
+pub fn first_source(
+    nodes: &Names,
+    ifaces: &Names,
+    owners: &[NodeNo],
+    tables: &[SourceTable],
+) -> Option<Lacking> {
+    for (number, table) in tables.iter().enumerate() {
+        if let Some(lack) = source_lack(nodes, ifaces, owners, table) {
+            return Some(Lacking {
+                array: Array::Source,
+                number,
+                lack,
+            });
+        }
+    }
+    None
+}

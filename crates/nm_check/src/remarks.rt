@@ -1,0 +1,243 @@
+//! What is odd in a topology that is accepted.
+
+use crate::words::{Piece, push};
+use nm_base::IfaceNo;
+use nm_packet::Address;
+use nm_topology::parts::{Node, Route};
+use nm_topology::traffic::{Source, Traffic};
+use nm_topology::{Prefix, Topology};
+use std::alloc::{AllocError, Global};
+
+/// The most remarks that are written out.
+const MAX_REMARKS: u64 = 20;
+
+/// Appends a remark, if not too many stand there: how many there are now.
+fn push_remark(out: &mut Vec<u8>, count: u64, pieces: &[Piece]) -> Result<u64, AllocError> {
+    if count < MAX_REMARKS {
+        push(out, &[Piece::Text("remark: ")])?;
+        push(out, pieces)?;
+        push(out, &[Piece::Text("\n")])?;
+    }
+    Ok(count.saturating_add(1))
+}
+
+/// The addresses of all interfaces, least first.
+fn addresses(alloc: Global, topology: &Topology) -> Result<Vec<u32>, AllocError> {
+    let mut addresses = Vec::new(alloc);
+    for iface in topology.ifaces() {
+        addresses.push(iface.address().bits())?;
+    }
+    addresses.sort_unstable();
+    Ok(addresses)
+}
+
+/// Whether a prefix holds one of these addresses, which stand least first.
+fn holds_any(to: Prefix, addresses: &[u32]) -> bool {
+    let least = to.address.bits();
+    let span = (1u64 << 32u8.saturating_sub(to.length).min(32)) - 1;
+    match addresses.binary_search(&least) {
+        Ok(_) => true,
+        Err(place) => match addresses.get(place) {
+            Some(next) => *next as u64 <= least as u64 + span,
+            None => false,
+        },
+    }
+}
+
+/// The name of an interface.
+fn iface_name(topology: &Topology, iface: IfaceNo) -> &str {
+    match topology.ifaces().get(iface.index()) {
+        Some(iface) => iface.name(),
+        None => "",
+    }
+}
+
+/// Appends a remark on a route that leads to no address.
+fn push_route<'a>(
+    out: &mut Vec<u8>,
+    count: u64,
+    topology: &'a Topology,
+    node: &'a str,
+    route: Route,
+) -> Result<u64, AllocError> {
+    let to = route.to;
+    let via = iface_name(topology, route.via);
+    push_remark(
+        out,
+        count,
+        &[
+            Piece::Text("node "),
+            Piece::Quoted(node),
+            Piece::Text(": the route to "),
+            Piece::Address(to.address),
+            Piece::Text("/"),
+            Piece::Number(to.length as u64),
+            Piece::Text(" via "),
+            Piece::Quoted(via),
+            Piece::Text(" leads to no address"),
+        ],
+    )
+}
+
+/// Appends a remark for each route of a node that leads to no address.
+fn push_routes_of(
+    out: &mut Vec<u8>,
+    count: u64,
+    topology: &Topology,
+    node: &Node,
+    addresses: &[u32],
+) -> Result<u64, AllocError> {
+    let mut count = count;
+    for route in node.routes() {
+        if !holds_any(route.to, addresses) {
+            count = push_route(out, count, topology, node.name(), *route)?;
+        }
+    }
+    Ok(count)
+}
+
+/// Appends a remark for each route that leads to no address.
+fn push_routes(
+    out: &mut Vec<u8>,
+    count: u64,
+    topology: &Topology,
+    addresses: &[u32],
+) -> Result<u64, AllocError> {
+    let mut count = count;
+    for node in topology.nodes() {
+        count = push_routes_of(out, count, topology, node, addresses)?;
+    }
+    Ok(count)
+}
+
+/// Where a source sends its packets, if it says so.
+fn destination(source: &Source) -> Option<Address> {
+    match &source.traffic {
+        Traffic::Cbr(cbr) => Some(cbr.to),
+        Traffic::Echo(echo) => Some(echo.to),
+        Traffic::Raw(_) => None,
+    }
+}
+
+/// The name of the node of a source.
+fn node_name<'a>(topology: &'a Topology, source: &Source) -> &'a str {
+    match topology.nodes().get(source.node.index()) {
+        Some(node) => node.name(),
+        None => "",
+    }
+}
+
+/// Appends a remark on a source whose destination nobody has.
+fn push_source(
+    out: &mut Vec<u8>,
+    count: u64,
+    number: usize,
+    node: &str,
+    to: Address,
+) -> Result<u64, AllocError> {
+    push_remark(
+        out,
+        count,
+        &[
+            Piece::Text("source "),
+            Piece::Number(number as u64),
+            Piece::Text(" (node "),
+            Piece::Quoted(node),
+            Piece::Text("): no interface has its destination, "),
+            Piece::Address(to),
+        ],
+    )
+}
+
+/// Appends a remark for each source whose destination nobody has.
+fn push_sources(
+    out: &mut Vec<u8>,
+    count: u64,
+    topology: &Topology,
+    addresses: &[u32],
+) -> Result<u64, AllocError> {
+    let mut count = count;
+    for (number, source) in topology.sources().iter().enumerate() {
+        if let Some(to) = destination(source) {
+            if addresses.binary_search(&to.bits()).is_err() {
+                let node = node_name(topology, source);
+                count = push_source(out, count, number, node, to)?;
+            }
+        }
+    }
+    Ok(count)
+}
+
+/// Notes that an interface is used.
+fn note(used: &mut [bool], iface: IfaceNo) {
+    if let Some(place) = used.get_mut(iface.index()) {
+        *place = true;
+    }
+}
+
+/// Whether a route or a raw source uses each interface.
+fn used_ifaces(alloc: Global, topology: &Topology) -> Result<Vec<bool>, AllocError> {
+    let mut used = vec![in alloc; false; topology.ifaces().len()]?;
+    for node in topology.nodes() {
+        for route in node.routes() {
+            note(&mut used, route.via);
+        }
+    }
+    for source in topology.sources() {
+        if let Traffic::Raw(raw) = &source.traffic {
+            note(&mut used, raw.via());
+        }
+    }
+    Ok(used)
+}
+
+/// Appends a remark for each interface that no route and no raw source uses.
+fn push_ifaces(
+    out: &mut Vec<u8>,
+    count: u64,
+    topology: &Topology,
+    used: &[bool],
+) -> Result<u64, AllocError> {
+    let mut count = count;
+    for (number, iface) in topology.ifaces().iter().enumerate() {
+        if used.get(number) == Some(&false) {
+            count = push_remark(
+                out,
+                count,
+                &[
+                    Piece::Text("iface "),
+                    Piece::Number(number as u64),
+                    Piece::Text(" ("),
+                    Piece::Quoted(iface.name()),
+                    Piece::Text("): no route and no raw source uses it"),
+                ],
+            )?;
+        }
+    }
+    Ok(count)
+}
+
+/// Appends the remarks: on routes, on sources and on interfaces, each in the order of the text; at
+/// most 20, and how many more there are.
+pub fn push_remarks(
+    alloc: Global,
+    out: &mut Vec<u8>,
+    topology: &Topology,
+) -> Result<(), AllocError> {
+    let addresses = addresses(alloc, topology)?;
+    let used = used_ifaces(alloc, topology)?;
+    let count = push_routes(out, 0, topology, &addresses)?;
+    let count = push_sources(out, count, topology, &addresses)?;
+    let count = push_ifaces(out, count, topology, &used)?;
+    if count > MAX_REMARKS {
+        return push(
+            out,
+            &[
+                Piece::Text("and "),
+                Piece::Number(count - MAX_REMARKS),
+                Piece::Text(" more\n"),
+            ],
+        );
+    }
+    Ok(())
+}

@@ -1,0 +1,184 @@
+//! What is wrong in a table, and where, as a sentence.
+
+ghost use Rattle.std.specs.Prelude.{◌≤◌};
+
+use crate::array::Array;
+use crate::field::Form;
+use crate::field_sentence::push_field_fault;
+use crate::first::keys_of;
+use crate::nearest::nearest;
+use crate::packet::{first_packet, packet_fields};
+use crate::place::{Found, Place, TOP_KEYS, fields_of};
+use crate::spot::{FieldFault, Spot};
+use crate::words::{Piece, push};
+use nm_topology::parse::fields::field;
+use nm_topology::parse::head::Head;
+use std::alloc::{AllocError, Global};
+use toml::{Table, Value};
+
+/// The text at a key, if there is one.
+pub fn text_at<'a>(table: &'a Table, key: &str) -> Option<&'a str> {
+    field(table, key)?.as_str()
+}
+
+/// The member of an array of a table.
+fn member<'a>(table: &'a Table, array: Array, number: usize) -> Option<&'a Table> {
+    field(table, array.key().text())?
+        .as_array()?
+        .get(number)?
+        .as_table()
+}
+
+/// Appends which table of an array it is.
+fn push_table_name(
+    out: &mut Vec<u8>,
+    table: &Table,
+    array: Array,
+    number: usize,
+) -> Result<(), AllocError> {
+    let known = [
+        Piece::Text(array.key().text()),
+        Piece::Text(" "),
+        Piece::Number(number as u64),
+    ];
+    push(out, &known)?;
+    let (before, key) = match array {
+        Array::Node | Array::Iface => (" (", "name"),
+        Array::Link => return Ok(()),
+        Array::Route | Array::Source => (" (node ", "node"),
+    };
+    match text_at(table, key) {
+        Some(name) => push(
+            out,
+            &[Piece::Text(before), Piece::Quoted(name), Piece::Text(")")],
+        ),
+        None => Ok(()),
+    }
+}
+
+/// The first key of a table that is none of these.
+fn unknown_key<'a>(table: &'a Table, known: &[&str]) -> &'a str {
+    for key in table.keys() {
+        if !known.iter().any(|k| *k == key.as_str()) {
+            return key.as_str();
+        }
+    }
+    ""
+}
+
+/// Appends that a table has a key that is none of these, and which may have been meant.
+pub fn push_unknown(out: &mut Vec<u8>, table: &Table, known: &[&str]) -> Result<(), AllocError> {
+    let key = unknown_key(table, known);
+    push(
+        out,
+        &[
+            Piece::Text("key "),
+            Piece::Quoted(key),
+            Piece::Text(" is unknown"),
+        ],
+    )?;
+    push_meant(out, key, known)
+}
+
+/// Appends which of the known words may have been meant.
+pub fn push_meant(out: &mut Vec<u8>, word: &str, known: &[&str]) -> Result<(), AllocError> {
+    match nearest(word, known) {
+        Some(meant) => push(
+            out,
+            &[
+                Piece::Text("; did you mean "),
+                Piece::Quoted(meant),
+                Piece::Text("?"),
+            ],
+        ),
+        None => Ok(()),
+    }
+}
+
+/// Appends what is wrong with the packets of a raw source, and with which.
+fn push_packets_fault(
+    alloc: Global,
+    out: &mut Vec<u8>,
+    head: Head,
+    table: &Table,
+    fault: FieldFault,
+) -> Result<(), AllocError>
+    requires { 28 ≤ head.mtu }
+{
+    let Some(Value::Array(items)) = field(table, "packet") else {
+        return push_field_fault(out, head, table, fault);
+    };
+    let Some(found) = first_packet(alloc, head, items)? else {
+        return push_field_fault(out, head, table, fault);
+    };
+    let Some(Value::Table(packet)) = items.get(found.number) else {
+        return push_field_fault(out, head, table, fault);
+    };
+    push(
+        out,
+        &[
+            Piece::Text("packet "),
+            Piece::Number(found.number as u64),
+            Piece::Text(": "),
+        ],
+    )?;
+    match found.spot {
+        Spot::Unknown => push_unknown(out, packet, &["at", "data"]),
+        Spot::Field(inner) => push_field_fault(out, head, packet, inner),
+    }
+}
+
+/// Appends what is wrong in a table of an array.
+fn push_table_fault(
+    alloc: Global,
+    out: &mut Vec<u8>,
+    head: Head,
+    array: Array,
+    table: &Table,
+    spot: Spot,
+) -> Result<(), AllocError>
+    requires { 28 ≤ head.mtu }
+{
+    match spot {
+        Spot::Unknown => {
+            let known = keys_of(alloc, fields_of(head, array, table)?)?;
+            push_unknown(out, table, &known)
+        }
+        Spot::Field(fault) => match fault.field.form {
+            Form::Packets => push_packets_fault(alloc, out, head, table, fault),
+            _ => push_field_fault(out, head, table, fault),
+        },
+    }
+}
+
+/// Appends what is wrong in the tables of a text, and where.
+pub fn push_found(
+    alloc: Global,
+    out: &mut Vec<u8>,
+    top: &Table,
+    found: Found,
+) -> Result<(), AllocError>
+    requires { 28 ≤ found.head.mtu }
+{
+    match found.place {
+        Place::Top(spot) => {
+            push(out, &[Piece::Text("top: ")])?;
+            match spot {
+                Spot::Unknown => push_unknown(out, top, &TOP_KEYS),
+                Spot::Field(fault) => push_field_fault(out, found.head, top, fault),
+            }
+        }
+        Place::Table {
+            array,
+            number,
+            spot,
+        } => {
+            let Some(table) = member(top, array, number) else {
+                return Ok(());
+            };
+            push_table_name(out, table, array, number)?;
+            push(out, &[Piece::Text(": ")])?;
+            push_table_fault(alloc, out, found.head, array, table, spot)
+        }
+    }
+}

@@ -1,0 +1,23 @@
+//! Where in a table a fault lies.
+
+ghost use Rattle.std.specs.Prelude.{◌≡◌};
+ghost use Rattle.nm_check.specs.Reading.{spot_refusal};
+
+use crate::field::Field;
+use nm_topology::Refusal;
+
+/// A field that is refused.
+#[derive(Clone, Copy)]
+pub struct FieldFault {
+    pub field: Field,
+    pub refusal: Refusal,
+}
+
+/// Where in a table its fault lies.
+#[derive(Clone, Copy)]
+pub enum Spot {
+    /// At a key that the table has not.
+    Unknown,
+    /// At a field, the first that is refused.
+    Field(FieldFault),
+}

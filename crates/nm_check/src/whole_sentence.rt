@@ -1,0 +1,336 @@
+//! What the whole of a topology text is refused for, as a sentence.
+
+use crate::array::Array;
+use crate::doubles::Double;
+use crate::key::Key;
+use crate::lack::{Lack, Lacking};
+use crate::names::names_of;
+use crate::sentence::push_meant;
+use crate::whole::{WholeFault, whole_fault};
+use crate::words::{Piece, push};
+use nm_base::PartNo;
+use nm_base::limits::{MAX_CHANNELS, MAX_ROUTES_OF_NODE};
+use nm_topology::Refusal;
+use nm_topology::names::Named;
+use nm_topology::parse::document::Document;
+use nm_topology::parse::sources::{NamedTraffic, SourceTable};
+use std::alloc::{AllocError, Global};
+
+/// The name of a node or of an interface, by its number.
+fn name_of<T: Named>(items: &[T], number: usize) -> &str {
+    match items.get(number) {
+        Some(item) => item.name(),
+        None => "",
+    }
+}
+
+/// The node that a table names, by the table's number.
+fn node_of(document: &Document, array: Array, number: usize) -> &str {
+    match array {
+        Array::Route => match document.routes.get(number) {
+            Some(table) => table.node.as_str(),
+            None => "",
+        },
+        Array::Source => match document.sources.get(number) {
+            Some(table) => table.node.as_str(),
+            None => "",
+        },
+        _ => match document.ifaces.get(number) {
+            Some(table) => table.node.as_str(),
+            None => "",
+        },
+    }
+}
+
+/// The interface by which packets of a source leave.
+fn via_of_source(source: &SourceTable) -> &str {
+    match &source.traffic {
+        NamedTraffic::Raw(raw) => raw.via.as_str(),
+        _ => "",
+    }
+}
+
+/// The interface that a table names at a key.
+fn iface_of(document: &Document, lacking: Lacking) -> &str {
+    let number = lacking.number;
+    match lacking.array {
+        Array::Link => match (document.links.get(number), lacking.lack) {
+            (Some(table), Lack::Iface(Key::A)) => table.a.as_str(),
+            (Some(table), _) => table.b.as_str(),
+            (None, _) => "",
+        },
+        Array::Source => match document.sources.get(number) {
+            Some(table) => via_of_source(table),
+            None => "",
+        },
+        _ => match document.routes.get(number) {
+            Some(table) => table.via.as_str(),
+            None => "",
+        },
+    }
+}
+
+/// The node that has the interface of this name.
+fn owner_of<'a>(document: &'a Document, iface: &str) -> &'a str {
+    for table in &document.ifaces {
+        if table.name.as_str() == iface {
+            return table.node.as_str();
+        }
+    }
+    ""
+}
+
+/// Appends a name in parentheses, behind what it is the name of.
+fn push_named<'a>(out: &mut Vec<u8>, what: &'a str, name: &'a str) -> Result<(), AllocError> {
+    push(
+        out,
+        &[
+            Piece::Text(" ("),
+            Piece::Text(what),
+            Piece::Quoted(name),
+            Piece::Text(")"),
+        ],
+    )
+}
+
+/// Appends which table of an array it is.
+fn push_table_name(
+    out: &mut Vec<u8>,
+    document: &Document,
+    array: Array,
+    number: usize,
+) -> Result<(), AllocError> {
+    push(
+        out,
+        &[
+            Piece::Text(array.key().text()),
+            Piece::Text(" "),
+            Piece::Number(number as u64),
+        ],
+    )?;
+    match array {
+        Array::Node => push_named(out, "", name_of(&document.nodes, number)),
+        Array::Iface => push_named(out, "", name_of(&document.ifaces, number)),
+        Array::Link => Ok(()),
+        Array::Route | Array::Source => {
+            push_named(out, "node ", node_of(document, array, number))
+        }
+    }
+}
+
+/// Appends that two tables of an array have the same.
+fn push_double(
+    out: &mut Vec<u8>,
+    document: &Document,
+    array: Array,
+    double: Double,
+    same: &[Piece],
+) -> Result<(), AllocError> {
+    push_table_name(out, document, array, double.second)?;
+    push(out, &[Piece::Text(": ")])?;
+    push_table_name(out, document, array, double.first)?;
+    push(out, same)
+}
+
+/// Appends that there is nothing of this name, and which may have been meant.
+fn push_none<'a>(
+    out: &mut Vec<u8>,
+    kind: &'a str,
+    name: &'a str,
+    known: &[&str],
+) -> Result<(), AllocError> {
+    push(
+        out,
+        &[
+            Piece::Text("there is no "),
+            Piece::Text(kind),
+            Piece::Text(" "),
+            Piece::Quoted(name),
+        ],
+    )?;
+    push_meant(out, name, known)
+}
+
+/// Appends what a table names that is not there.
+fn push_lack(
+    alloc: Global,
+    out: &mut Vec<u8>,
+    document: &Document,
+    lacking: Lacking,
+) -> Result<(), AllocError> {
+    push_table_name(out, document, lacking.array, lacking.number)?;
+    push(out, &[Piece::Text(": ")])?;
+    match lacking.lack {
+        Lack::Node => {
+            let name = node_of(document, lacking.array, lacking.number);
+            push_none(out, "node", name, &names_of(alloc, &document.nodes)?)
+        }
+        Lack::Iface(_) => {
+            let name = iface_of(document, lacking);
+            push_none(out, "interface", name, &names_of(alloc, &document.ifaces)?)
+        }
+        Lack::Own => {
+            let name = iface_of(document, lacking);
+            push(
+                out,
+                &[
+                    Piece::Text("via "),
+                    Piece::Quoted(name),
+                    Piece::Text(" is an interface of node "),
+                    Piece::Quoted(owner_of(document, name)),
+                ],
+            )
+        }
+    }
+}
+
+/// Appends how many ends of links name an interface.
+fn push_ends(
+    out: &mut Vec<u8>,
+    document: &Document,
+    iface: usize,
+    ends: usize,
+) -> Result<(), AllocError> {
+    push_table_name(out, document, Array::Iface, iface)?;
+    match ends {
+        0 => push(
+            out,
+            &[Piece::Text(": no end of a link names it, and one has to")],
+        ),
+        _ => push(
+            out,
+            &[
+                Piece::Text(": "),
+                Piece::Number(ends as u64),
+                Piece::Text(" ends of links name it, and one has to"),
+            ],
+        ),
+    }
+}
+
+/// Appends what two routes of a node have in common.
+fn push_double_route(
+    out: &mut Vec<u8>,
+    document: &Document,
+    double: Double,
+) -> Result<(), AllocError> {
+    let Some(table) = document.routes.get(double.second) else {
+        return Ok(());
+    };
+    let to = table.to;
+    push_double(
+        out,
+        document,
+        Array::Route,
+        double,
+        &[
+            Piece::Text(" leads to the same prefix, "),
+            Piece::Address(to.address),
+            Piece::Text("/"),
+            Piece::Number(to.length as u64),
+        ],
+    )
+}
+
+/// Appends the address that two interfaces have.
+fn push_double_address(
+    out: &mut Vec<u8>,
+    document: &Document,
+    double: Double,
+) -> Result<(), AllocError> {
+    let Some(table) = document.ifaces.get(double.second) else {
+        return Ok(());
+    };
+    push_double(
+        out,
+        document,
+        Array::Iface,
+        double,
+        &[
+            Piece::Text(" has the same address, "),
+            Piece::Address(table.address),
+        ],
+    )
+}
+
+/// Appends that there are too many of something.
+fn push_many(out: &mut Vec<u8>, count: usize, what: &str, limit: usize) -> Result<(), AllocError> {
+    push(
+        out,
+        &[
+            Piece::Number(count as u64),
+            Piece::Text(what),
+            Piece::Number(limit as u64),
+        ],
+    )
+}
+
+/// Appends that a link between two partitions delays by nothing.
+fn push_cut(out: &mut Vec<u8>, link: usize, a: PartNo, b: PartNo) -> Result<(), AllocError> {
+    push(
+        out,
+        &[
+            Piece::Text("link "),
+            Piece::Number(link as u64),
+            Piece::Text(": its delay is 0 and its ends lie in partitions "),
+            Piece::Number(a.number() as u64),
+            Piece::Text(" and "),
+            Piece::Number(b.number() as u64),
+        ],
+    )
+}
+
+/// Appends what the whole is refused for.
+fn push_fault(
+    alloc: Global,
+    out: &mut Vec<u8>,
+    document: &Document,
+    fault: WholeFault,
+) -> Result<(), AllocError> {
+    match fault {
+        WholeFault::DoubleName { array, double } => push_double(
+            out,
+            document,
+            array,
+            double,
+            &[Piece::Text(" has the same name")],
+        ),
+        WholeFault::NoSuch(lacking) => push_lack(alloc, out, document, lacking),
+        WholeFault::IfaceUse { iface, ends } => push_ends(out, document, iface, ends),
+        WholeFault::DoubleAddress(double) => push_double_address(out, document, double),
+        WholeFault::DoubleRoute(double) => push_double_route(out, document, double),
+        WholeFault::ManyRoutes { node, count } => {
+            push_table_name(out, document, Array::Node, node)?;
+            push(out, &[Piece::Text(": it has ")])?;
+            push_many(out, count, " routes, and may have ", MAX_ROUTES_OF_NODE)
+        }
+        WholeFault::ManyChannels(count) => {
+            push(
+                out,
+                &[Piece::Text("top: the links between partitions make ")],
+            )?;
+            push_many(out, count, " channels, and there may be ", MAX_CHANNELS)
+        }
+        WholeFault::CutDelay { link, a, b } => push_cut(out, link, a, b),
+    }
+}
+
+/// Appends what a document is refused for, whose tables are all read. Where no place is found, the
+/// number of the refusal is told: that there always is one is not proved.
+pub fn push_whole_fault(
+    alloc: Global,
+    out: &mut Vec<u8>,
+    document: &Document,
+    refusal: Refusal,
+) -> Result<(), AllocError> {
+    match whole_fault(alloc, document)? {
+        Some(fault) => push_fault(alloc, out, document, fault),
+        None => push(
+            out,
+            &[
+                Piece::Text("top: refusal "),
+                Piece::Number(refusal.number() as u64),
+            ],
+        ),
+    }
+}
