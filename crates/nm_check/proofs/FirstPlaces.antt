@@ -1,5 +1,5 @@
 -- The place that `find_in` says is the first in the reading order.
-use Rattle.std.proofs.Common.{◌≡◌, ◌⊎◌, inl, inr, ℕ, ◌+◌, Bool, true, false, ◌&&◌, List, [], ◌∷◌, Option, Some, None}
+use Rattle.std.proofs.Common.{◌≡◌, inl, inr, ℕ, Bool, true, false, ◌&&◌, Option, Some, None}
 use Rattle.std.proofs.Common.{Result, Ok, Err, refl, sym, ap, ◌∙◌, subst, arith}
 use Rattle.std.specs.Prelude.{if◌then◌else◌, nat_le, unwrap_or}
 use Rattle.toml.specs.Data.{Data, Items, Members, array, get_item, get_member, table}
@@ -8,9 +8,7 @@ use Rattle.nm_topology.specs.declared.parse.head.Head.{Head}
 use Rattle.nm_topology.specs.Parse.Arrays.{all_fit, count, is_table}
 use Rattle.nm_topology.specs.Parse.Fields.{all_among}
 use Rattle.nm_check.specs.declared.array.Array.{Array}
-use Rattle.nm_check.specs.declared.array.Array.TheVariants as array_of
 use Rattle.nm_check.specs.declared.field.Field.{Field}
-use Rattle.nm_check.specs.declared.field.Form.{Form}
 use Rattle.nm_check.specs.declared.field.Form.TheVariants as form
 use Rattle.nm_check.specs.declared.fields.TheConstants.{ARRAYS, HEAD}
 use Rattle.nm_check.specs.declared.first.MemberFault.{MemberFault}

@@ -1,5 +1,5 @@
 -- Packets of a raw source, one after another.
-use Rattle.std.proofs.Common.{◌≡◌, ℕ, ◌+◌, ◌∷◌, Result, Ok, Err, refl, ap, ◌∙◌}
+use Rattle.std.proofs.Common.{◌≡◌, ℕ, ◌+◌, ◌∷◌, Result, Ok, Err, ap, ◌∙◌}
 use Rattle.toml.specs.Data.{Data, Items, item}
 use Rattle.nm_topology.specs.declared.fault.Refusal.{Refusal}
 use Rattle.nm_topology.specs.declared.traffic.RawPacket.{RawPacket}

@@ -1,12 +1,12 @@
 -- Where the fault of a document lies is where it is refused.
-use Rattle.std.proofs.Common.{◌≡◌, ℕ, ◌+◌, ◌<◌, Bool, true, false, ◌&&◌, List, [], ◌∷◌, Option, Some, None}
-use Rattle.std.proofs.Common.{Result, Ok, Err, refl, sym, ap, ◌∙◌, arith, ◌≤◌, length}
+use Rattle.std.proofs.Common.{◌≡◌, ℕ, Bool, true, false, ◌&&◌, List, Option, Some, None}
+use Rattle.std.proofs.Common.{Err, refl, sym, ap, ◌∙◌, arith, ◌≤◌, length}
 use Rattle.std.proofs.lemmas.Bool.Decides.{nat_tests}
 use Rattle.toml.specs.View.{items_view}
 use Rattle.toml.specs.declared.value.Value.{Value}
 use Rattle.nm_check.proofs.Items.{count_view}
 use Rattle.std.specs.Prelude.{if◌then◌else◌, nat_le, unwrap_or}
-use Rattle.toml.specs.Data.{Data, Items, Members, array, get_item, get_member, table}
+use Rattle.toml.specs.Data.{Data, Items, array, get_item, table}
 use Rattle.nm_topology.specs.declared.fault.Refusal.{Refusal}
 use Rattle.nm_topology.specs.declared.parse.head.Head.{Head}
 use Rattle.nm_topology.specs.Parse.Arrays.{all_fit, count, in_table, is_table}
@@ -18,19 +18,17 @@ use Rattle.nm_base.specs.declared.limits.TheConstants.{MAX_ROUTES, MAX_SOURCES}
 use Rattle.nm_check.specs.declared.array.Array.{Array}
 use Rattle.nm_check.specs.declared.array.Array.TheVariants as array_of
 use Rattle.nm_check.specs.declared.field.Field.{Field}
-use Rattle.nm_check.specs.declared.field.Form.{Form}
 use Rattle.nm_check.specs.declared.field.Form.TheVariants as form
 use Rattle.nm_check.specs.declared.first.MemberFault.{MemberFault}
 use Rattle.nm_check.specs.declared.place.Place.{Place}
 use Rattle.nm_check.specs.declared.place.Place.TheVariants as place
-use Rattle.nm_check.specs.declared.spot.FieldFault.{FieldFault}
 use Rattle.nm_check.specs.declared.spot.Spot.{Spot}
 use Rattle.nm_check.specs.declared.spot.Spot.TheVariants as spot
 use Rattle.nm_check.specs.First.{first_from}
-use Rattle.nm_check.specs.Keys.{array_key, array_limit, key_text}
+use Rattle.nm_check.specs.Keys.{array_limit}
 use Rattle.nm_check.specs.Place.{in_table_at, item_of, place_at, place_in_array, place_in_value}
 use Rattle.nm_check.specs.Place.{place_of_member, place_refusal, spot_of}
-use Rattle.nm_check.specs.Reading.{outcome, refused_at, spot_refusal, tables_of}
+use Rattle.nm_check.specs.Reading.{refused_at, tables_of}
 use Rattle.nm_check.proofs.Firsts.{array-first, first-is, refused_member}
 use Rattle.nm_check.proofs.Tables.{item-table}
 

@@ -1,6 +1,6 @@
 -- The first thing that stands in a list twice.
-use Rattle.std.specs.Prelude.{◌≡◌, ℕ, ◌+◌, Bool, true, false, ◌&&◌, nat_eq, List, [], take, Option, Some}
-use Rattle.std.specs.Prelude.{None}
+use Rattle.std.specs.Prelude.{◌≡◌, ℕ, ◌+◌, Bool, true, false, ◌&&◌, nat_eq, List, [], take}
+use Rattle.std.specs.Prelude.{Option, Some, None}
 use Rattle.nm_topology.specs.Names.{repeats}
 use Rattle.nm_check.specs.declared.doubles.Double.{Double}
 

@@ -1,9 +1,8 @@
 -- Where a topology text is refused, and that this is what is refused of the text.
-use Rattle.std.specs.Prelude.{◌≡◌, ℕ, ◌≤◌, List, Result, Ok, Err}
+use Rattle.std.specs.Prelude.{◌≡◌, ℕ, ◌≤◌, List, Ok, Err}
 use Rattle.sha2.specs.Sha256.{sha256}
 use Rattle.toml.specs.Data.{Members}
 use Rattle.toml.specs.View.{table_view}
-use Rattle.nm_topology.specs.declared.fault.Refusal.{Refusal}
 use Rattle.nm_topology.specs.declared.fault.Refusal.TheVariants.{Range, Text}
 use Rattle.nm_topology.specs.Parse.{top_table_of}
 use Rattle.nm_topology.specs.Parse.Document.{document_of}

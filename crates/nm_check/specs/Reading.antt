@@ -19,7 +19,6 @@ use Rattle.nm_check.specs.declared.array.Array.TheVariants as array
 use Rattle.nm_check.specs.declared.field.Field.{Field}
 use Rattle.nm_check.specs.declared.field.Form.{Form}
 use Rattle.nm_check.specs.declared.field.Form.TheVariants as form
-use Rattle.nm_check.specs.declared.key.Key.{Key}
 use Rattle.nm_check.specs.declared.spot.FieldFault.{FieldFault}
 use Rattle.nm_check.specs.declared.spot.Spot.{Spot}
 use Rattle.nm_check.specs.declared.spot.Spot.TheVariants as spot

@@ -1,4 +1,4 @@
-use Rattle.std.proofs.Common.{false, true, refl, sym, arith}
+use Rattle.std.proofs.Common.{false, true, refl, arith}
 use Rattle.std.proofs.lemmas.Grind.{common_steps}
 use Rattle.std.specs.List.{list_any}
 use Rattle.nm_check.proofs.Repeats.{front-and-one, is-among, is-not-among}

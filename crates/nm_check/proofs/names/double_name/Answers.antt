@@ -1,4 +1,4 @@
-use Rattle.std.proofs.Common.{◌≡◌, ◌∙◌, ap, map}
+use Rattle.std.proofs.Common.{◌∙◌, ap, map}
 use Rattle.nm_check.proofs.Repeats.{double-names}
 use Rattle.nm_check.proofs.names.double_name.Goals as goal
 

@@ -1,4 +1,4 @@
-use Rattle.std.proofs.Common.{◌≡◌, Some, refl, sym, ap, ◌∙◌, subst, Option}
+use Rattle.std.proofs.Common.{◌≡◌, Some, sym, ap, ◌∙◌, subst, Option}
 use Rattle.std.specs.Prelude.{IfOk}
 use Rattle.toml.specs.Data.{Data, get_item}
 use Rattle.toml.specs.View.{items_view, view}

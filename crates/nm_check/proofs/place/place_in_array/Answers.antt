@@ -1,6 +1,5 @@
-use Rattle.std.proofs.Common.{◌≡◌, ◌≤◌, Option, Some, sym, ◌∙◌, subst, arith, length}
+use Rattle.std.proofs.Common.{◌≡◌, ◌≤◌, Option, sym, ◌∙◌, subst, arith, length}
 use Rattle.std.specs.Prelude.{IfOk}
-use Rattle.toml.specs.View.{items_view}
 use Rattle.nm_check.specs.declared.place.Place.{Place}
 use Rattle.nm_check.specs.Keys.{array_limit}
 use Rattle.nm_check.proofs.Places.{in-array}

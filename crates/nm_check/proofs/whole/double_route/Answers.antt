@@ -1,4 +1,4 @@
-use Rattle.std.proofs.Common.{◌≡◌, ℕ, List, ◌∙◌, subst}
+use Rattle.std.proofs.Common.{ℕ, List, ◌∙◌, subst}
 use Rattle.std.specs.Prelude.{IfOk}
 use Rattle.nm_check.specs.Doubles.{IsFirstDouble, same_key}
 use Rattle.nm_check.proofs.whole.double_route.Goals as goal
