@@ -15,13 +15,17 @@ pub record IsShown (text octets : List ℕ) : Type 0 where
   pub read : topology_of text ≡ Ok network
   pub lines : EndsLine octets
 
+-- whole lines, or nothing
+abbrev pub AreLines : List ℕ → Type 0
+AreLines octets = (octets ≡ []) ⊎ EndsLine octets
+
 -- what is said of the interface of that name is whole lines, or nothing
 pub record IsShownAt (name text octets : List ℕ) : Type 0 where
   pub network : TopologyValue
   pub read : topology_of text ≡ Ok network
   pub iface : ℕ
   pub named : iface_named network.ifaces (Some name) ≡ Some iface
-  pub lines : (octets ≡ []) ⊎ EndsLine octets
+  pub lines : AreLines octets
 
 -- What each status says. Where memory was refused, the sink took nothing.
 module _ {S : Type 0} (taken : S → Option (List ℕ)) (failures : S → ℕ) (told : List ℕ → Option (List ℕ)) (failed_before failed : ℕ) (old new : S) where

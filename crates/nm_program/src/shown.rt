@@ -1,8 +1,8 @@
 //! The words `report`, `dot` and `text`: a run or a network in words and pictures.
 
-ghost use Rattle.std.specs.Prelude.{◌≡◌, ◌⊎◌, [], IfOk};
+ghost use Rattle.std.specs.Prelude.{IfOk, OnOk};
 ghost use Rattle.nm_program.specs.Input.{text_of};
-ghost use Rattle.nm_program.specs.Shown.{EndsShown, EndsText};
+ghost use Rattle.nm_program.specs.Shown.{AreLines, EndsShown, EndsText};
 ghost use Rattle.nm_report.specs.Lines.{EndsLine};
 
 use crate::input::NamedInputs;
@@ -10,7 +10,7 @@ use crate::inputs::Inputs;
 use crate::output::{Output, put};
 use crate::reading::read_topology;
 use crate::traces::find_iface;
-use nm_base::{IfaceNo, Sink};
+use nm_base::{IfaceNo, Record, Sink};
 use nm_command::Status;
 use nm_report::{csv_text, dot_text, load_text, measure, push_packet_line, report_text};
 use nm_sim::Tracer;
@@ -74,9 +74,20 @@ pub(crate) fn say_view<I: Inputs, O: Sink + Drop>(
     }
 }
 
+/// Appends the line of a record that is at the interface.
+fn push_at(iface: IfaceNo, record: &Record, text: &mut Vec<u8>) -> Result<(), AllocError>
+    requires { AreLines text.old.items }
+    ensures { OnOk result (AreLines text.new.items) }
+{
+    if record.iface != iface {
+        return Ok(());
+    }
+    push_packet_line(text, record)
+}
+
 /// The packets that passed an interface, a line each, in the order of the one event list.
 fn packets_text(alloc: Global, network: &Topology, iface: IfaceNo) -> Result<Vec<u8>, AllocError>
-    ensures { IfOk result (λ text. (text.items ≡ []) ⊎ EndsLine text.items) }
+    ensures { IfOk result (λ text. AreLines text.items) }
 {
     let mut text = Vec::new(alloc);
     let mut tracer = Tracer::start(alloc, network)?;
@@ -84,9 +95,7 @@ fn packets_text(alloc: Global, network: &Topology, iface: IfaceNo) -> Result<Vec
         let Some(record) = tracer.next(alloc, network)? else {
             return Ok(text);
         };
-        if record.iface == iface {
-            push_packet_line(&mut text, &record)?;
-        }
+        push_at(iface, &record, &mut text)?;
     }
     Err(AllocError)
 }

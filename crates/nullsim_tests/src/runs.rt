@@ -52,13 +52,13 @@ fn is_as_one(
         + Copy),
     ended: &Ended,
 ) -> Result<(), Fail> {
-    let mut found = 0;
+    let mut found = 0u32;
     for iface in ["n0a", "n1a", "n1b", "n2a", "n2b", "n0b"] {
         let name = format!(in rt.alloc(); "out/{iface}.pcap")?;
         let wanted = written_by(rt, iface, RING)?;
         for file in &ended.files {
             if file.name.as_str() == name.as_str() {
-                found += 1;
+                found = found.saturating_add(1);
                 assert!(rt; file.octets.as_slice() == wanted.octets(), "{iface}");
             }
         }
