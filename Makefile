@@ -1,6 +1,6 @@
 # `make help` lists the targets.
 
-.PHONY: all help try run bench cases check-frames check-links check-pcap cut-connections test gate-times clean toolchain
+.PHONY: all help try run bench cases run-cases check-frames check-links check-pcap cut-connections tutorial trust test gate-times clean toolchain
 
 # The topology and the interface of `make try` and `make run`; the folder of `make cases`; how many crates `make` proves at a time.
 TOPO = examples/duo.toml
@@ -16,6 +16,8 @@ help:
 	@echo 'make run         builds it and shows a trace in hexadecimal; TOPO and IFACE as for make try'
 	@echo 'make bench       times it on generated topologies, and event lists and knowledge alone (docs/BENCH.md)'
 	@echo 'make cases       compares it with cases of an independent model; CASES=FOLDER: with those of a folder'
+	@echo 'make run-cases   runs the partitions of many topologies at once, and compares each file with what one writes'
+	@echo 'make tutorial    runs the commands of docs/TUTORIAL.md, and compares what they print; make trust writes the list of docs/TRUST.md anew'
 	@echo 'make check-frames compares the reader of frames with a model of its own over generated streams'
 	@echo 'make check-links breaks the connections of replicas at random octets, with ten thousand seeds, and certifies what they come to'
 	@echo 'make check-pcap  reads the traces of the examples with tshark, or else tcpdump, one of which it needs'
@@ -78,9 +80,19 @@ bench: bin/nullsim bin/nm_bench
 	  done; \
 	done
 	@python3 bench/nodes.py bin/nullsim nulls=1000 nulls=10000 one-way=10000 one-way=100000
+	@python3 bench/runs.py bin/nullsim grid-cut=4:1x1,2x1,4x1,2x2 grid-cut=16:1x1,2x1,4x1,2x2 line-cut=4:1x1,2x1,2x2 line-cut=16:2x1 nulls=1000 ring-cut=64:2x1
 
 cases: bin/nullsim
 	@tools/cases.sh bin/nullsim $(if $(CASES),'$(CASES)',crates/nullsim_cases/data/cases/networks crates/nullsim_cases/data/cases/readings)
+
+run-cases: bin/nullsim
+	@tools/run-cases
+
+tutorial: bin/nullsim
+	@tools/tutorial
+
+trust:
+	@tools/trust --write
 
 check-frames: bin/nm_bench
 	@tools/check-frames

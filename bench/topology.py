@@ -114,6 +114,22 @@ def ring(packets=245, octets=1_000, routers=64):
     write(10 ** 12, net.nodes, net.ifaces, net.links, net.routes, sources)
 
 
+def cut_ring(partitions=64):
+    """A ring with a partition for each router, and two channels for each link: few packets, many null messages."""
+    net = Net()
+    for i in range(partitions):
+        net.node(f"r{i}", partition=i)
+    for i in range(partitions):
+        net.link(f"r{i}", f"r{(i + 1) % partitions}", 1_000_000_000, 1_000_000)
+    sources = []
+    for i in range(partitions):
+        target = f"r{(i + partitions // 2) % partitions}"
+        address = net.address(target)
+        net.reach(target, address + "/32")
+        sources.append(cbr(f"r{i}", address, 972, 1_000 * i, 400_000, 245))
+    write(200_000_000, net.nodes, net.ifaces, net.links, net.routes, sources)
+
+
 # A grid's links: all of one rate and delay, or rates and delays that differ from link to link: 100 Mbit/s to 10 Gbit/s, and a microsecond
 # to 10 milliseconds in equal ratios.
 def same_links(number, count):
@@ -288,6 +304,7 @@ KINDS = {
     "grid": grid,
     "line-cut": cut_line,
     "grid-cut": cut_grid,
+    "ring-cut": cut_ring,
     "star": star,
     "line-1000": lambda packets=7_940: line(packets, 1_000, 20_000),
     "grid-1000": lambda packets=708: grid(packets, 1_000, 100_000, side=16, sends=lambda x, y: x == 0 or y == 0),
