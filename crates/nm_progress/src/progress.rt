@@ -1,0 +1,84 @@
+//! How far a run is.
+
+use nm_base::{PartNo, Time};
+use std::sync::atomic::{AtomicU64, Ordering};
+
+/// A run by one event list notes each record of this many.
+const RECORDS_A_NOTE: u64 = 1_024;
+
+/// Where no partition is furthest behind.
+const NOBODY: u64 = u64::MAX;
+
+/// How far a run is. Threads that run a network note it, and others look at it; no answer of a run
+/// hangs on it.
+#[derive(Drop)]
+pub struct Progress {
+    /// When the run ends, in nanoseconds: 0 before it has begun.
+    stop: AtomicU64,
+    /// All before this time is done, in nanoseconds.
+    time: AtomicU64,
+    /// How many records there are. A packet that passes a link makes two.
+    records: AtomicU64,
+    /// The number of the partition that is furthest behind.
+    last: AtomicU64,
+}
+
+/// What a look at a run's progress has shown.
+#[derive(Clone, Copy, Drop)]
+pub struct Seen {
+    /// When the run ends, in nanoseconds: 0 before it has begun.
+    pub stop: u64,
+    /// All before this time is done, in nanoseconds.
+    pub time: u64,
+    /// How many records there are. A packet that passes a link makes two.
+    pub records: u64,
+    /// The number of the partition that is furthest behind, where the run tells of partitions.
+    pub last: Option<u64>,
+}
+
+impl Progress {
+    /// No run has begun.
+    pub fn new() -> Self {
+        Progress {
+            stop: AtomicU64::new(0),
+            time: AtomicU64::new(0),
+            records: AtomicU64::new(0),
+            last: AtomicU64::new(NOBODY),
+        }
+    }
+
+    /// A run up to this time has begun.
+    pub fn begin(&self, stop: Time) {
+        self.stop.store(stop.nanoseconds(), Ordering::SeqCst);
+    }
+
+    /// All before this time is done, and there are so many records.
+    pub fn note(&self, time: Time, records: u64) {
+        self.time.store(time.nanoseconds(), Ordering::SeqCst);
+        self.records.store(records, Ordering::SeqCst);
+    }
+
+    /// A run by one event list has made its record of this number, counted from 0, at this time.
+    pub fn note_record(&self, number: u64, time: Time) {
+        if number % RECORDS_A_NOTE == 0 {
+            self.note(time, number);
+        }
+    }
+
+    /// This partition is furthest behind.
+    pub fn note_last(&self, partition: PartNo) {
+        self.last
+            .store(u64::from(partition.number()), Ordering::SeqCst);
+    }
+
+    /// How far the run is. Where it goes on meanwhile, the numbers may be of different moments.
+    pub fn look(&self) -> Seen {
+        let last = self.last.load(Ordering::SeqCst);
+        Seen {
+            stop: self.stop.load(Ordering::SeqCst),
+            time: self.time.load(Ordering::SeqCst),
+            records: self.records.load(Ordering::SeqCst),
+            last: if last == NOBODY { None } else { Some(last) },
+        }
+    }
+}
