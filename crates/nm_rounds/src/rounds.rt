@@ -7,12 +7,13 @@ ghost use Rattle.nm_rounds.specs.declared.rounds.TheConstants.{MAX_ROUNDS};
 ghost use Rattle.nm_rounds.specs.Rounds.{AreBooks, AreEnded, ComesTo, RunsTo};
 
 use crate::round::do_round;
-use nm_base::{Packet, PartNo};
+use nm_base::{Packet, PartNo, Time};
 use nm_book::Book;
 use nm_forward::NodeState;
 use nm_knowledge::laws::packets_are_told_apart;
 use nm_model::rounds::rounds_bound;
 use nm_model::run::times_pass;
+use nm_progress::Progress;
 use nm_sim::network::{channels_are_those_of_the_network, every_topology_is_a_network};
 use nm_topology::topology::accepted_topologies_are_in_order;
 use nm_topology::{TopoFault, Topology};
@@ -66,6 +67,16 @@ fn first_books(alloc: Global, topology: &Arc<Topology>) -> Result<Vec<Book>, All
     Ok(books)
 }
 
+/// Notes how far the books are.
+fn note_progress(books: &[Book], progress: &Progress) {
+    let (mut time, mut records) = (u64::MAX, 0u64);
+    for book in books {
+        time = time.min(book.safe().nanoseconds());
+        records = records.saturating_add(book.records());
+    }
+    progress.note(Time::from_nanoseconds(time), records);
+}
+
 /// Does rounds until all books are done, and answers in which they are; or does as many as are
 /// asked for.
 fn do_rounds(
@@ -73,6 +84,7 @@ fn do_rounds(
     topology: &Topology,
     books: &mut Vec<Book>,
     max: u64,
+    progress: &Progress,
 ) -> Result<Option<u64>, AllocError>
     requires some { 1 ≤ max }
     requires few { max ≤ MAX_ROUNDS }
@@ -88,18 +100,24 @@ fn do_rounds(
         if do_round(alloc, topology, books)? {
             return Ok(Some(round + 1));
         }
+        note_progress(books.as_slice(), progress);
     }
     Ok(None)
 }
 
 /// Does rounds over a network.
-fn rounds_of(alloc: Global, topology: &Arc<Topology>, max: u64) -> Result<Rounds, AllocError>
+fn rounds_of(
+    alloc: Global,
+    topology: &Arc<Topology>,
+    max: u64,
+    progress: &Progress,
+) -> Result<Rounds, AllocError>
     requires some { 1 ≤ max }
     requires few { max ≤ MAX_ROUNDS }
     ensures { IfOk result (λ rounds. RunsTo (arc_value topology.now) max rounds) }
 {
     let mut books = first_books(alloc, topology)?;
-    match do_rounds(alloc, topology, &mut books, max)? {
+    match do_rounds(alloc, topology, &mut books, max, progress)? {
         Some(rounds) => Ok(Rounds::Done { rounds, books }),
         None => Ok(Rounds::Unfinished { rounds: max, books }),
     }
@@ -112,13 +130,18 @@ fn rounds_of(alloc: Global, topology: &Arc<Topology>, max: u64) -> Result<Rounds
 /// Else the new messages of each channel and its null message, which makes the promise of the
 /// moment, are first gathered of all channels, and only then told. Where there is no channel all is
 /// done in the first round; and always after `stop` divided by the least lookahead of a channel,
-/// rounded up, and one round more.
-pub fn run_rounds_over(alloc: Global, topology: &Arc<Topology>, max: u64) -> Rounds
+/// rounded up, and one round more. After each round it is noted how far all are.
+pub fn run_rounds_over(
+    alloc: Global,
+    topology: &Arc<Topology>,
+    max: u64,
+    progress: &Progress,
+) -> Rounds
     requires some { 1 ≤ max }
     requires few { max ≤ MAX_ROUNDS }
     ensures { RunsTo (arc_value topology.now) max result }
 {
-    match rounds_of(alloc, topology, max) {
+    match rounds_of(alloc, topology, max, progress) {
         Ok(rounds) => rounds,
         Err(_) => Rounds::Memory,
     }
@@ -136,7 +159,7 @@ pub fn run_rounds(alloc: Global, text: &[u8], max: u64) -> Rounds
         Err(fault) => return Rounds::Topo(fault),
     };
     match Arc::new(alloc, topology) {
-        Ok(topology) => run_rounds_over(alloc, &topology, max),
+        Ok(topology) => run_rounds_over(alloc, &topology, max, &Progress::new()),
         Err(_) => Rounds::Memory,
     }
 }
