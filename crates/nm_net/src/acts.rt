@@ -1,14 +1,14 @@
 //! What the loop does with a shared book in one go.
 
-ghost use Rattle.std.specs.Prelude.{◌≡◌, ◌+◌};
-ghost use Rattle.nm_book.specs.Book.{replica_of};
+ghost use Rattle.std.specs.Prelude.{◌≡◌, ◌+◌, length};
+ghost use Rattle.nm_book.specs.Book.{replica_of, safe_of, state_of};
 ghost use Rattle.nm_model.specs.Certificate.{is_done};
 ghost use Rattle.nm_net.specs.Recording.{HandsOut, TakesOut};
 ghost use Rattle.nm_shared.specs.Growing.{handed_grows, same_grows};
 ghost use Rattle.nm_sim.specs.Network.{net_of};
 
 use crate::limits::MAX_HANDED;
-use nm_base::Record;
+use nm_base::{Record, Time};
 use nm_book::Book;
 use nm_book::laws::records_have_times_of_a_file;
 use nm_shared::Act;
@@ -30,17 +30,30 @@ impl Act for IsDone {
     ghost grows = { λ a b r c h. same_grows b c h.0 };
 }
 
-/// `Book::events`: how many events were done.
+/// How far a book is: the events that were done, the records of its trace, and how far it may run.
+#[derive(Clone, Copy, Drop)]
+pub struct Far {
+    pub events: u64,
+    pub records: u64,
+    pub safe: Time,
+}
+
+/// `Book::events`, `Book::records` and `Book::safe`.
 #[derive(Drop)]
-pub struct Events;
+pub struct HowFar;
 
-impl Act for Events {
-    type Out = u64;
+impl Act for HowFar {
+    type Out = Far;
 
-    ghost does = { λ a b r c. (c ≡ b) × (r ≡ b.events) };
+    ghost does = { λ a b r c. (c ≡ b) × (r.events ≡ b.events)
+        × (r.records ≡ length (state_of b).records) × (r.safe ≡ safe_of b) };
 
-    fn act(self, book: &mut Book) -> u64 {
-        book.events()
+    fn act(self, book: &mut Book) -> Far {
+        Far {
+            events: book.events(),
+            records: book.records(),
+            safe: book.safe(),
+        }
     }
 
     ghost grows = { λ a b r c h. same_grows b c h.0 };

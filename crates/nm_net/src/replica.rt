@@ -13,6 +13,7 @@ use crate::network::Network;
 use crate::serving::{Polled, Serving, poll};
 use nm_base::{PartNo, Sink};
 use nm_files::TraceFiles;
+use nm_progress::Progress;
 use nm_shared::{ClockBoard, Counts, Gate, OwnerSeat, Pass, SharedBook};
 use nm_topology::Topology;
 use std::alloc::Global;
@@ -41,6 +42,8 @@ pub struct Replica<'a, C: Counts> {
     pub idle_limit: u64,
     /// How many events it does at most after each poll: 0 where others run its book.
     pub run_limit: u64,
+    /// Where it notes how far its book is, if nobody else does.
+    pub progress: Option<&'a Progress>,
 }
 
 /// What a replica holds while it runs, and has still when it has ended.

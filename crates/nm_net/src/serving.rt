@@ -6,7 +6,7 @@ ghost use Rattle.nm_files.specs.Files.{IsSound};
 ghost use Rattle.nm_net.specs.Ending.{EndsEarly, WasFinished};
 ghost use Rattle.nm_net.specs.Recording.{Streams};
 
-use crate::acts::{Events, IsDone};
+use crate::acts::{HowFar, IsDone};
 use crate::connections::{Connection, accept_all, dial_all, end, let_go};
 use crate::dialing::Dialing;
 use crate::ending::{Ending, file_ending};
@@ -160,8 +160,8 @@ fn serve_all<N: Network, C: Counts, R: Wait>(
     Ok(moved)
 }
 
-/// Runs the book, if the replica is to: whether events were done since it was looked at last,
-/// whoever ran it.
+/// Runs the book, if the replica is to, and notes how far it is: whether events were done since it
+/// was looked at last, whoever ran it.
 ///
 /// # Errors
 ///
@@ -179,7 +179,11 @@ fn run_book<C: Counts, R: Wait>(
         }
     }
     let before = *events;
-    *events = replica.book.act(rt, pass, Events);
+    let far = replica.book.act(rt, pass, HowFar);
+    if let Some(progress) = replica.progress {
+        progress.note(far.safe, far.records);
+    }
+    *events = far.events;
     Ok(*events != before)
 }
 

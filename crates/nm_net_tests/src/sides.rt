@@ -81,6 +81,7 @@ fn serve_held<N: Network, G: Gate, R: Wait>(
         sister: None,
         idle_limit: company.idle_limit,
         run_limit: 4_096,
+        progress: None,
     };
     run_replica(rt, alloc, &replica, holdings, network, gate)
 }

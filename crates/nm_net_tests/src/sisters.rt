@@ -68,6 +68,7 @@ fn serve_sister<R: Wait>(
         sister: Some(0),
         idle_limit: 2_000,
         run_limit: 4_096,
+        progress: None,
     };
     run_replica(rt, alloc, &replica, holdings, &mut network, &Open)
 }
