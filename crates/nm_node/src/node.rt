@@ -16,6 +16,7 @@ use nm_book::{Book, BookFault};
 use nm_files::TraceFiles;
 use nm_net::seats::own_seats;
 use nm_net::{Ending, Holdings, MioNetwork, Replica, run_replica};
+use nm_progress::Progress;
 use nm_shared::counts::PARTS;
 use nm_shared::{ClockBoard, Counts, Gate, Ledgers, Naming, SharedBook};
 use nm_topology::Topology;
@@ -39,6 +40,8 @@ pub struct Node<'a> {
     pub addresses: &'a [Address],
     /// After so many polls of 50 ms in a row at which nothing moved the node is stalled.
     pub idle_limit: u64,
+    /// Where it notes how far it is.
+    pub progress: &'a Progress,
 }
 
 /// A gate that lets all go on.
@@ -103,6 +106,7 @@ fn serve<C: Counts, R: Net + Wait + Drop + Copy>(
         sister: None,
         idle_limit: node.idle_limit,
         run_limit: RUN_EVENTS,
+        progress: Some(node.progress),
     };
     match run_replica(rt, alloc, &replica, holdings, &mut network, &Open) {
         Ending::Ended => Ok(()),
