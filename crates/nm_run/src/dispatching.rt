@@ -1,11 +1,12 @@
 //! The dispatcher: it gives jobs to a pool as long as there are any.
 
-ghost use Rattle.std.specs.Prelude.{◌≡◌, ◌≤◌};
+ghost use Rattle.std.specs.Prelude.{◌≡◌, ◌<◌, ◌≤◌, All, length};
 ghost use Rattle.nm_shared.specs.Board.{IsSeatOf};
 
-use crate::jobs::{Watched, jobs_for, note_answer};
+use crate::jobs::{Watched, are_long, jobs_for, note_answer};
 use crate::threads::Threaded;
 use mio::{Events, Poll};
+use nm_base::Time;
 use nm_book::Ran;
 use nm_net::limits::WAIT_MILLISECONDS;
 use nm_shared::workers::BookPass;
@@ -50,6 +51,34 @@ fn note_all<G>(
     Ok(events)
 }
 
+/// Does jobs one after another, without another thread: how many events they were.
+fn do_in_turn<G: Gate, R: Wait>(
+    rt: &R,
+    alloc: Global,
+    threaded: &Threaded<'_, G>,
+    dispatcher: &mut Dispatcher,
+    jobs: &[Job],
+) -> Result<u64, AllocError>
+    ensures { dispatcher.new.seat ≡ dispatcher.old.seat }
+{
+    let mut events = 0u64;
+    for number in 0..jobs.len() {
+        let Job { book: place, limit } = jobs[number];
+        let watched = dispatcher.watched.get_mut(place);
+        if let (Some(watched), Some(book)) = (watched, threaded.books.get(place)) {
+            threaded.gate.enter(number);
+            let answer = watched.run(rt, alloc, book, limit);
+            threaded.gate.leave(number);
+            let count = watched.note(answer)?;
+            if count > 0 {
+                threaded.wake(place);
+            }
+            events = events.saturating_add(count);
+        }
+    }
+    Ok(events)
+}
+
 /// Keeps the passes of jobs.
 fn keep_all(
     all: &mut Vec<BookPass<Plain>>,
@@ -61,7 +90,27 @@ fn keep_all(
     Ok(())
 }
 
-/// Gives jobs to the pool, if there are any: how many events they were.
+/// Gives jobs to the pool: how many events they were.
+fn give_to_pool<G: Gate + Sync, R: Threads + Wait + Sync>(
+    rt: &R,
+    alloc: Global,
+    threaded: &Threaded<'_, G>,
+    workers: usize,
+    dispatcher: &mut Dispatcher,
+    jobs: &[Job],
+) -> Result<u64, AllocError>
+    requires workers { (1 ≤ workers) × (workers ≤ 64) }
+    requires named { All (λ j. j.book < length threaded.now.books.now) jobs.now }
+    ensures { dispatcher.new.seat ≡ dispatcher.old.seat }
+{
+    let report = pool(rt, alloc, threaded.books, jobs, workers, threaded.gate)?;
+    let PoolReport { answers, passes } = report;
+    keep_all(&mut dispatcher.passes, passes)?;
+    note_all(threaded, dispatcher, jobs, answers.as_slice())
+}
+
+/// Has all jobs done that there are: how many events they were. No pool is made of one thread, nor
+/// for jobs that take no longer than to make it: what it answers would be the same.
 fn give_jobs<G: Gate + Sync, R: Threads + Wait + Sync>(
     rt: &R,
     alloc: Global,
@@ -81,19 +130,27 @@ fn give_jobs<G: Gate + Sync, R: Threads + Wait + Sync>(
         &mut dispatcher.seat,
         &mut dispatcher.watched,
     )?;
-    if jobs.is_empty() {
-        return Ok(0);
+    if workers == 1 || !are_long(dispatcher.watched.as_slice(), jobs.as_slice()) {
+        return do_in_turn(rt, alloc, threaded, dispatcher, jobs.as_slice());
     }
-    let PoolReport { answers, passes } = pool(
-        rt,
-        alloc,
-        threaded.books,
-        jobs.as_slice(),
-        workers,
-        threaded.gate,
-    )?;
-    keep_all(&mut dispatcher.passes, passes)?;
-    note_all(threaded, dispatcher, jobs.as_slice(), answers.as_slice())
+    give_to_pool(rt, alloc, threaded, workers, dispatcher, jobs.as_slice())
+}
+
+/// Notes how far all partitions are, and which is furthest behind.
+fn note_progress<G>(threaded: &Threaded<'_, G>, all: &[Watched]) {
+    let (mut time, mut records) = (u64::MAX, 0u64);
+    for watched in all {
+        if watched.replica == 0 {
+            records = records.saturating_add(watched.records);
+            if watched.safe < time {
+                time = watched.safe;
+                threaded.progress.note_last(watched.partition);
+            }
+        }
+    }
+    threaded
+        .progress
+        .note(Time::from_nanoseconds(time), records);
 }
 
 /// Waits until it is woken, or the time is over.
@@ -133,6 +190,7 @@ pub(crate) fn dispatch<G: Gate + Sync, R: Threads + Wait + Sync>(
             threaded.fail();
             return Err(AllocError);
         };
+        note_progress(threaded, dispatcher.watched.as_slice());
         if !were_done && are_done(dispatcher.watched.as_slice()) {
             were_done = true;
             threaded.wake_all();

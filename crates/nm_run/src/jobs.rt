@@ -4,6 +4,7 @@ ghost use Rattle.std.specs.Prelude.{◌<◌, All, IfOk, length};
 ghost use Rattle.nm_shared.specs.Board.{IsSeatOf};
 
 use crate::acts::Stand;
+use nm_addresses::Address;
 use nm_base::{ChanNo, PartNo};
 use nm_book::Ran;
 use nm_book::channels::comes_in;
@@ -17,16 +18,26 @@ use std::sync::Wait;
 /// How many events a job does at most.
 const JOB_EVENTS: u64 = 4_096;
 
+/// A job of so many events takes longer than to make the threads of a pool.
+const LONG_JOB_EVENTS: u64 = 512;
+
 /// What the dispatcher remembers of a book.
 #[derive(Drop)]
 pub(crate) struct Watched {
     pass: Pass<Plain>,
     /// The words of the channels that come in.
     words: Vec<usize>,
+    /// 0 or 1.
+    pub replica: u8,
+    pub partition: PartNo,
     /// The safe time before its last job, in nanoseconds.
-    safe: u64,
+    pub safe: u64,
+    /// How many records it had then.
+    pub records: u64,
     /// It has had no job, or its last one was cut short.
     is_owed: bool,
+    /// It has had no job, or its last one had many events.
+    is_long: bool,
     pub is_done: bool,
 }
 
@@ -65,19 +76,23 @@ fn has_news(board: &ClockBoard, seat: &mut Seat, words: &[usize], safe: u64) -> 
 }
 
 impl Watched {
-    /// A book that has had no job.
+    /// The book of the replica with this address, which has had no job.
     pub(crate) fn new(
         alloc: Global,
         topology: &Topology,
-        partition: PartNo,
+        address: &Address,
         replicas: u8,
         pass: Pass<Plain>,
     ) -> Result<Self, AllocError> {
         Ok(Watched {
-            words: words_of(alloc, topology, partition, replicas)?,
+            words: words_of(alloc, topology, address.partition, replicas)?,
             pass,
+            replica: address.replica,
+            partition: address.partition,
             safe: 0,
+            records: 0,
             is_owed: true,
+            is_long: true,
             is_done: false,
         })
     }
@@ -109,8 +124,20 @@ impl Watched {
         let safe = standing.safe.nanoseconds();
         let is_later = safe > self.safe;
         self.safe = safe;
+        self.records = standing.records;
         self.is_done = standing.is_done;
         !self.is_done && (self.is_owed || is_later)
+    }
+
+    /// Does a job of the book with its own pass.
+    pub(crate) fn run<R: Wait>(
+        &mut self,
+        rt: &R,
+        alloc: Global,
+        book: &SharedBook<Plain>,
+        limit: u64,
+    ) -> Ran {
+        book.run(rt, &mut self.pass, alloc, limit)
     }
 
     /// Its job was done: how many events it was.
@@ -118,14 +145,16 @@ impl Watched {
     /// # Errors
     ///
     /// Where memory was refused to the job.
-    fn note(&mut self, answer: Ran) -> Result<u64, AllocError> {
+    pub(crate) fn note(&mut self, answer: Ran) -> Result<u64, AllocError> {
         match answer {
             Ran::All(count) => {
                 self.is_owed = false;
+                self.is_long = count >= LONG_JOB_EVENTS;
                 Ok(count)
             }
             Ran::Limit(count) => {
                 self.is_owed = true;
+                self.is_long = true;
                 Ok(count)
             }
             Ran::Memory(_) => Err(AllocError),
@@ -156,6 +185,20 @@ pub(crate) fn jobs_for<R: Wait>(
         }
     }
     Ok(jobs)
+}
+
+/// Whether two jobs at least are likely to be long, as the last ones of their books were.
+pub(crate) fn are_long(watched: &[Watched], jobs: &[Job]) -> bool {
+    let mut one = false;
+    for job in jobs {
+        if let Some(watched) = watched.get(job.book) {
+            if watched.is_long && one {
+                return true;
+            }
+            one = one || watched.is_long;
+        }
+    }
+    false
 }
 
 /// Notes the answer of the job of a book: how many events it was.

@@ -24,6 +24,7 @@ use nm_book::{Book, BookFault};
 use nm_files::{Outputs, TraceFiles};
 use nm_net::Holdings;
 use nm_node::peers::peers_of;
+use nm_progress::Progress;
 use nm_shared::{ClockBoard, Gate, OwnerSeat, Pass, Plain, Seat, SharedBook};
 use nm_topology::Topology;
 use std::alloc::{AllocError, Global};
@@ -43,6 +44,8 @@ pub struct Run<'a> {
     pub workers: usize,
     /// How many replicas each partition has: 1 or 2.
     pub replicas: u8,
+    /// Where it is noted how far all are.
+    pub progress: &'a Progress,
 }
 
 /// Shares a new replica of a partition.
@@ -218,9 +221,9 @@ fn watch_all<R: Wait>(
     for place in 0..opened.books.len() {
         if place < opened.addresses.len() {
             let pass = opened.books[place].pass(rt)?;
-            let partition = opened.addresses[place].partition;
-            let run = opened.run;
-            watched.push(Watched::new(alloc, run.topology, partition, run.replicas, pass)?)?;
+            let address = &opened.addresses[place];
+            let (topology, replicas) = (opened.run.topology, opened.run.replicas);
+            watched.push(Watched::new(alloc, topology, address, replicas, pass)?)?;
         }
     }
     Ok(watched)
@@ -345,6 +348,7 @@ where
         ended: &ended,
         has_failed: &has_failed,
         gate: &*gate,
+        progress: run.progress,
     };
     let (ends, dispatcher) = run_threads(rt, alloc, &threaded, run.workers, sides, dispatcher)?;
     check_endings(ends.as_slice())?;

@@ -105,6 +105,7 @@ pub(crate) fn run_side<S: Sink, G: Gate, R: Net + Wait + Drop + Copy>(
                 sister,
                 idle_limit: MAX_IDLE_POLLS,
                 run_limit: 0,
+                progress: None, // the dispatcher notes it
             };
             serve(rt, alloc, threaded, &replica, &mut holdings, &mut network)
         }

@@ -1,6 +1,7 @@
 //! What the threads of a run share.
 
 use mio::Waker;
+use nm_progress::Progress;
 use nm_shared::{ClockBoard, Plain, SharedBook};
 use nm_topology::Topology;
 use std::sync::Arc;
@@ -22,6 +23,8 @@ pub(crate) struct Threaded<'a, G> {
     /// A replica has ended before it was done, or memory was refused to the dispatcher.
     pub has_failed: &'a AtomicBool,
     pub gate: &'a G,
+    /// Where the dispatcher notes how far all are.
+    pub progress: &'a Progress,
 }
 
 impl<'a, G> Threaded<'a, G> {
