@@ -1,6 +1,6 @@
 //! The replicas of a run, each in a thread of its own.
 
-ghost use Rattle.std.specs.Prelude.{All};
+ghost use Rattle.std.specs.Prelude.{◌≡◌, All};
 ghost use Rattle.nm_files.specs.Files.{IsSound};
 ghost use Rattle.nm_shared.specs.Board.{IsOwnerOf};
 
@@ -12,11 +12,12 @@ use nm_base::{PartNo, Sink};
 use nm_net::limits::MAX_IDLE_POLLS;
 use nm_net::{Ending, Holdings, MioNetwork, Replica, run_replica};
 use nm_node::peers::Peers;
-use nm_shared::{Gate, Plain};
+use nm_shared::{ClockBoard, Gate, Plain, SharedBook};
+use nm_topology::Topology;
 use std::alloc::Global;
 use std::net::Net;
-use std::sync::Wait;
 use std::sync::atomic::AtomicU64;
+use std::sync::{Arc, Wait};
 
 /// A replica that is to run.
 #[derive(Drop)]
@@ -63,6 +64,37 @@ fn serve<S: Sink, G: Gate, R: Net + Wait + Drop + Copy>(
     run_replica(rt, alloc, replica, holdings, network, &gate)
 }
 
+/// A replica of a partition, with its number and the place of its sister's book, and those with
+/// which it speaks. The dispatcher runs its book, and notes how far it is.
+fn replica_of<'x>(
+    topology: &'x Arc<Topology>,
+    board: &'x ClockBoard,
+    books: &'x [SharedBook<Plain>],
+    book: &'x SharedBook<Plain>,
+    peers: &'x [PartNo],
+    callers: usize,
+    partition: PartNo,
+    replica: u8,
+    sister: Option<usize>,
+) -> Replica<'x, Plain>
+    ensures { result.board.now ≡ board.now }
+{
+    Replica {
+        topology,
+        partition,
+        replica,
+        book,
+        board,
+        peers,
+        callers,
+        books,
+        sister,
+        idle_limit: MAX_IDLE_POLLS,
+        run_limit: 0,
+        progress: None,
+    }
+}
+
 /// Runs a replica until it ends. Where it was not done, all others are told to end too.
 pub(crate) fn run_side<S: Sink, G: Gate, R: Net + Wait + Drop + Copy>(
     rt: &R,
@@ -93,20 +125,17 @@ pub(crate) fn run_side<S: Sink, G: Gate, R: Net + Wait + Drop + Copy>(
         MioNetwork::new(*rt, alloc, poll, listener, listeners),
     ) {
         (Some(own), Ok(mut network)) => {
-            let replica = Replica {
-                topology: threaded.topology,
+            let replica = replica_of(
+                threaded.topology,
+                threaded.board,
+                threaded.books,
+                own,
+                partitions.as_slice(),
+                callers,
                 partition,
                 replica,
-                book: own,
-                board: threaded.board,
-                peers: partitions.as_slice(),
-                callers,
-                books: threaded.books,
                 sister,
-                idle_limit: MAX_IDLE_POLLS,
-                run_limit: 0,
-                progress: None, // the dispatcher notes it
-            };
+            );
             serve(rt, alloc, threaded, &replica, &mut holdings, &mut network)
         }
         _ => Ending::Net,
