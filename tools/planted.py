@@ -1,12 +1,13 @@
 #!/usr/bin/env python3
 """Plants bugs in a crate's code, one at a time, and says which goal of the proofs refuses each.
 
-usage: tools/planted.py CRATE [WORD]
+usage: tools/planted.py CRATE [WORD]      prints a row of a table for each bug
+       tools/planted.py CRATE --write     writes the table to tools/planted/CRATE.md too
 
 The bugs are tools/planted/CRATE.bugs: blocks, each with a line 'bug:' (what is wrong), 'file:' (in the crate), 'check:' (the
 function whose proof is tried first; none: the whole crate), and pairs of lines 'old:' and 'new:'; each old text stands once in the
 file. With WORD only the bugs whose text holds it are tried. The crate must be proved, and is not changed: a copy of it is, beside
-copies of the crates below it. Prints a row of a table for each bug. A bug whose function is still proved is tried in the whole crate.
+copies of the crates below it. A bug whose function is still proved is tried in the whole crate.
 """
 
 import os
@@ -97,15 +98,25 @@ def try_bug(folder, bug):
         open(path, "w", encoding="utf-8").write(before)
 
 
+def write_table(crate, rows):
+    with open(os.path.join(ROOT, "tools", "planted", crate + ".md"), "w", encoding="utf-8") as table:
+        table.write(f"# Planted bugs of `{crate}`\n\n`tools/planted.py {crate} --write` made this table; `docs/PROOFS.md` says what a row shows.\n\n")
+        table.write("\n".join(["| Planted bug | Refused by |", "|---|---|", *rows]) + "\n")
+
+
 def main():
     crate, word = sys.argv[1], sys.argv[2] if len(sys.argv) > 2 else ""
-    root = copy_of(crate)
+    is_written = word == "--write"
+    root, rows = copy_of(crate), []
     try:
         for bug in read_bugs(os.path.join(ROOT, "tools", "planted", crate + ".bugs")):
-            if word in bug["bug"]:
-                print(f"| {bug['bug']} | {try_bug(os.path.join(root, 'crates', crate), bug)} |", flush=True)
+            if is_written or word in bug["bug"]:
+                rows.append(f"| {bug['bug']} | {try_bug(os.path.join(root, 'crates', crate), bug)} |")
+                print(rows[-1], flush=True)
     finally:
         shutil.rmtree(root)
+    if is_written:
+        write_table(crate, rows)
 
 
 if __name__ == "__main__":

@@ -28,6 +28,7 @@ use nm_command::Status;
 use nm_files::Outputs;
 use nm_net::limits::MAX_IDLE_POLLS;
 use nm_node::{Node, NodeFault, run_node};
+use nm_progress::Progress;
 use nm_topology::Topology;
 use nm_topology::topology::accepted_topologies_are_in_order;
 use std::alloc::{AllocError, Global};
@@ -144,6 +145,7 @@ fn book_of<R: Net + Wait + Drop + Copy>(
     addresses: &[Address],
     partition: PartNo,
     replica: u8,
+    progress: &Progress,
 ) -> Result<Book, Status>
     ensures done { IfOk result
         (IsDoneReplica (arc_value topology.now) partition replica) }
@@ -155,7 +157,9 @@ fn book_of<R: Net + Wait + Drop + Copy>(
         replica,
         addresses,
         idle_limit: MAX_IDLE_POLLS,
+        progress,
     };
+    progress.begin(topology.stop());
     match run_node(rt, alloc, &node) {
         Ok(book) => Ok(book),
         Err(NodeFault::Net) => Err(Status::File),
@@ -174,6 +178,7 @@ fn serve<F: Outputs, R: Net + Wait + Drop + Copy>(
     partition: PartNo,
     replica: u8,
     outputs: &mut F,
+    progress: &Progress,
 ) -> Result<Vec<u8>, Status>
     ensures said { (text : List ℕ) → (written : List ℕ)
         → topology_of text ≡ Ok (arc_value topology.now)
@@ -183,7 +188,7 @@ fn serve<F: Outputs, R: Net + Wait + Drop + Copy>(
         × HasMade (F.made outputs.old) (F.made outputs.new) files) }
     ensures fault { IfErr result (StopsNode (F.made outputs.old) (F.made outputs.new)) }
 {
-    let book = match book_of(rt, alloc, topology, addresses, partition, replica) {
+    let book = match book_of(rt, alloc, topology, addresses, partition, replica, progress) {
         Ok(book) => book,
         Err(status) => return Err(status),
     };
@@ -206,6 +211,7 @@ pub(crate) fn say_node<I: Inputs, F: Outputs, O: Sink + Drop, R: Net + Wait + Dr
     inputs: &mut NamedInputs<I>,
     outputs: &mut F,
     out: O,
+    progress: &Progress,
 ) -> (Status, O)
     ensures { EndsNode O.taken O.failures
         (text_of I.standard_text I.file_text inputs.old.inputs)
@@ -241,6 +247,7 @@ pub(crate) fn say_node<I: Inputs, F: Outputs, O: Sink + Drop, R: Net + Wait + Dr
         partition,
         replica,
         outputs,
+        progress,
     ) {
         Ok(text) => put(
             Output {

@@ -20,6 +20,7 @@ use crate::traces::write_trace;
 use nm_base::{PartNo, Sink};
 use nm_command::{Command, Status};
 use nm_files::Outputs;
+use nm_progress::Progress;
 use std::alloc::Global;
 use std::net;
 use std::net::Net;
@@ -31,7 +32,7 @@ use std::thread::Threads;
 /// not done; where `errors` fails there is nobody to tell, and the status stays.
 ///
 /// The first of these decides: the words, the inputs in the words' order, the topology, the lines of
-/// a script, all else.
+/// a script, all else. How far a run is it notes in `progress`, on which nothing hangs.
 /// Words that are no command open no input. Only `run` makes files, as its replicas run, and `node`,
 /// once its replica is done; only these use the network. Memory may be refused at any place: the sink has a
 /// prefix of the trace file then, which may be empty. Where the sink fails it has a prefix of what
@@ -44,6 +45,7 @@ pub fn run<I: Inputs, F: Outputs, O: Sink + Drop, E: Sink, R>(
     outputs: &mut F,
     out: O,
     errors: &mut E,
+    progress: &Progress,
 ) -> (Status, O)
 where
     F::File: Send,
@@ -61,7 +63,15 @@ where
     ensures line { E.failures errors.new ≡ E.failures errors.old
         → Appends (E.taken errors.old) (E.taken errors.new) (line_of result.0) }
 {
-    let (status, out) = perform(rt, alloc, Command::of(words), inputs, outputs, out);
+    let (status, out) = perform(
+        rt,
+        alloc,
+        Command::of(words),
+        inputs,
+        outputs,
+        out,
+        progress,
+    );
     (report(status, errors), out)
 }
 
@@ -73,6 +83,7 @@ fn perform<I: Inputs, F: Outputs, O: Sink + Drop, R>(
     inputs: &mut NamedInputs<I>,
     outputs: &mut F,
     out: O,
+    progress: &Progress,
 ) -> (Status, O)
 where
     F::File: Send,
@@ -96,19 +107,21 @@ where
                 topology,
                 iface,
             },
-        ) => write_trace(alloc, form, topology, iface, inputs, out),
-        Some(Command::Rounds { topology, max }) => say_rounds(alloc, topology, max, inputs, out),
+        ) => write_trace(alloc, form, topology, iface, inputs, out, progress),
+        Some(Command::Rounds { topology, max }) => {
+            say_rounds(alloc, topology, max, inputs, out, progress)
+        }
         Some(Command::Script { topology, steps }) => {
             say_script(alloc, topology, steps, inputs, out)
         }
         Some(Command::Check { topology }) => say_check(alloc, topology, inputs, out),
         Some(Command::Report { topology, is_csv }) => {
             let view = if is_csv { View::Values } else { View::Tables };
-            say_view(alloc, topology, view, inputs, out)
+            say_view(alloc, topology, view, inputs, out, progress)
         }
         Some(Command::Dot { topology, has_load }) => {
             let view = if has_load { View::Load } else { View::Graph };
-            say_view(alloc, topology, view, inputs, out)
+            say_view(alloc, topology, view, inputs, out, progress)
         }
         Some(Command::Text { topology, iface }) => say_text(alloc, topology, iface, inputs, out),
         Some(
@@ -119,7 +132,7 @@ where
                 replicas,
             },
         ) => say_run(
-            rt, alloc, topology, folder, workers, replicas, inputs, outputs, out,
+            rt, alloc, topology, folder, workers, replicas, inputs, outputs, out, progress,
         ),
         Some(
             Command::Node {
@@ -140,6 +153,7 @@ where
             inputs,
             outputs,
             out,
+            progress,
         ),
         None => (Status::Usage, out),
     }

@@ -18,6 +18,7 @@ use nm_book::Book;
 use nm_command::Status;
 use nm_forward::NodeState;
 use nm_model::trace::interfaces_have_their_records;
+use nm_progress::Progress;
 use nm_rounds::rounds::{Rounds, run_rounds_over};
 use nm_sim::trace::every_topology_has_a_trace;
 use nm_text::{push_number, push_text};
@@ -48,7 +49,12 @@ fn rounds_text(
 }
 
 /// Lets all partitions run in rounds, and tells what came of it.
-fn rounds_output(alloc: Global, topology: &Arc<Topology>, max: u64) -> Result<Output, AllocError>
+fn rounds_output(
+    alloc: Global,
+    topology: &Arc<Topology>,
+    max: u64,
+    progress: &Progress,
+) -> Result<Output, AllocError>
     requires some { 1 ≤ max }
     requires few { max ≤ MAX_ROUNDS }
     ensures { IfOk result (λ output. (text : List ℕ)
@@ -57,7 +63,7 @@ fn rounds_output(alloc: Global, topology: &Arc<Topology>, max: u64) -> Result<Ou
 {
     every_topology_has_a_trace(topology); // law: there is a trace of the whole run
     interfaces_have_their_records::<Packet, NodeState>(); // law: they are in their partition's too
-    match run_rounds_over(alloc, topology, max) {
+    match run_rounds_over(alloc, topology, max, progress) {
         Rounds::Done { rounds, books } => Ok(Output {
             text: rounds_text(alloc, b"done", rounds, topology, books.as_slice())?,
             status: Status::Done,
@@ -79,6 +85,7 @@ pub(crate) fn say_rounds<I: Inputs, O: Sink + Drop>(
     max: u64,
     inputs: &mut NamedInputs<I>,
     out: O,
+    progress: &Progress,
 ) -> (Status, O)
     requires some { 1 ≤ max }
     requires few { max ≤ MAX_ROUNDS }
@@ -94,7 +101,8 @@ pub(crate) fn say_rounds<I: Inputs, O: Sink + Drop>(
     let Ok(topology) = Arc::new(alloc, topology) else {
         return (Status::Memory, out);
     };
-    match rounds_output(alloc, &topology, max) {
+    progress.begin(topology.stop());
+    match rounds_output(alloc, &topology, max, progress) {
         Ok(output) => put(output, out),
         Err(_) => (Status::Memory, out),
     }

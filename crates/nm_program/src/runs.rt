@@ -21,6 +21,7 @@ use crate::reading::read_topology;
 use nm_base::{IfaceNo, Sink};
 use nm_command::Status;
 use nm_files::Outputs;
+use nm_progress::Progress;
 use nm_run::{IfaceTotals, Report, Run, RunFault, run_all};
 use nm_shared::Gate;
 use nm_sim::trace::every_topology_has_a_trace;
@@ -122,6 +123,7 @@ fn run_network<F: Outputs, R>(
     workers: u8,
     replicas: u8,
     outputs: &mut F,
+    progress: &Progress,
 ) -> Result<Vec<u8>, Status>
 where
     F::File: Send,
@@ -141,7 +143,9 @@ where
         folder,
         workers: workers as usize,
         replicas,
+        progress,
     };
+    progress.begin(network.stop());
     let report = match run_all(rt, alloc, &run, outputs, &Open) {
         Ok(report) => report,
         Err(fault) => return Err(status_of(fault)),
@@ -164,6 +168,7 @@ pub(crate) fn say_run<I: Inputs, F: Outputs, O: Sink + Drop, R>(
     inputs: &mut NamedInputs<I>,
     outputs: &mut F,
     out: O,
+    progress: &Progress,
 ) -> (Status, O)
 where
     F::File: Send,
@@ -186,7 +191,9 @@ where
     let Ok(network) = Arc::new(alloc, network) else {
         return (Status::Memory, out);
     };
-    match run_network(rt, alloc, &network, folder, workers, replicas, outputs) {
+    match run_network(
+        rt, alloc, &network, folder, workers, replicas, outputs, progress,
+    ) {
         Ok(text) => put(
             Output {
                 text,

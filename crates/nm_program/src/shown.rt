@@ -12,6 +12,7 @@ use crate::reading::read_topology;
 use crate::traces::find_iface;
 use nm_base::{IfaceNo, Record, Sink};
 use nm_command::Status;
+use nm_progress::Progress;
 use nm_report::{csv_text, dot_text, load_text, measure, push_packet_line, report_text};
 use nm_sim::Tracer;
 use nm_topology::Topology;
@@ -31,13 +32,19 @@ pub(crate) enum View {
 }
 
 /// A view of a network.
-fn view_text(alloc: Global, network: &Topology, view: View) -> Result<Vec<u8>, AllocError>
+fn view_text(
+    alloc: Global,
+    network: &Topology,
+    view: View,
+    progress: &Progress,
+) -> Result<Vec<u8>, AllocError>
     ensures { IfOk result (λ text. EndsLine text.items) }
 {
     if let View::Graph = view {
         return dot_text(alloc, network);
     }
-    let measured = measure(alloc, network)?;
+    progress.begin(network.stop());
+    let measured = measure(alloc, network, progress)?;
     match view {
         View::Tables => report_text(alloc, network, &measured),
         View::Values => csv_text(alloc, network, &measured),
@@ -52,6 +59,7 @@ pub(crate) fn say_view<I: Inputs, O: Sink + Drop>(
     view: View,
     inputs: &mut NamedInputs<I>,
     out: O,
+    progress: &Progress,
 ) -> (Status, O)
     ensures { EndsShown O.taken O.failures
         (text_of I.standard_text I.file_text inputs.old.inputs)
@@ -62,7 +70,7 @@ pub(crate) fn say_view<I: Inputs, O: Sink + Drop>(
         Ok(network) => network,
         Err(status) => return (status, out),
     };
-    match view_text(alloc, &network, view) {
+    match view_text(alloc, &network, view, progress) {
         Ok(text) => put(
             Output {
                 text,

@@ -13,6 +13,7 @@ ghost use Rattle.nm_files.specs.TraceFile.{trace_file, written_at};
 use nm_base::{IfaceNo, Record, Sink};
 use nm_files::trace_file::{TraceFault, sink_outcome, write_at};
 use nm_pcap::{Form, PcapOut};
+use nm_progress::Progress;
 use nm_sim::Tracer;
 use nm_sim::trace::every_topology_has_a_trace;
 use nm_topology::Topology;
@@ -20,7 +21,8 @@ use nm_topology::topology::accepted_topologies_are_in_order;
 use std::alloc::{AllocError, Global};
 
 /// Writes the trace file of an interface, and gives the sink back. The network runs as the file is
-/// written: each record is let go before the next is made.
+/// written: each record is let go before the next is made. Now and then it is noted how far the run
+/// is.
 ///
 /// # Errors
 ///
@@ -32,13 +34,14 @@ pub fn write_trace_file<S: Sink + Drop>(
     form: Form,
     iface: IfaceNo,
     sink: S,
+    progress: &Progress,
 ) -> (Result<(), TraceFault>, S)
     ensures { (records : List (TraceRecord (List ℕ)))
         → IsTraceBefore topology.now topology.now.stop records
         → Writes S.taken S.failures sink result.1 result.0 (trace_file form iface records) }
 {
     let mut file = PcapOut::in_form(sink, form);
-    let outcome = write_file(alloc, topology, iface, &mut file);
+    let outcome = write_file(alloc, topology, iface, &mut file, progress);
     (outcome, file.into_sink())
 }
 
@@ -48,6 +51,7 @@ fn write_file<S: Sink>(
     topology: &Topology,
     iface: IfaceNo,
     file: &mut PcapOut<S>,
+    progress: &Progress,
 ) -> Result<(), TraceFault>
     requires { file.old.failed ≡ false }
     ensures { (records : List (TraceRecord (List ℕ)))
@@ -56,7 +60,7 @@ fn write_file<S: Sink>(
         (trace_file file.old.form iface records) }
 {
     sink_outcome(file.start())?;
-    write_records(alloc, topology, iface, file)?;
+    write_records(alloc, topology, iface, file, progress)?;
     sink_outcome(file.end())
 }
 
@@ -66,6 +70,7 @@ fn write_records<S: Sink>(
     topology: &Topology,
     iface: IfaceNo,
     file: &mut PcapOut<S>,
+    progress: &Progress,
 ) -> Result<(), TraceFault>
     requires { file.old.failed ≡ false }
     ensures { (records : List (TraceRecord (List ℕ)))
@@ -76,7 +81,7 @@ fn write_records<S: Sink>(
     let Ok(mut tracer) = Tracer::start(alloc, topology) else {
         return Err(TraceFault::Memory);
     };
-    write_all_of(alloc, topology, &mut tracer, iface, file)
+    write_all_of(alloc, topology, &mut tracer, iface, file, progress)
 }
 
 /// Runs a network from its start, and writes those of its records that are at the interface.
@@ -86,6 +91,7 @@ fn write_all_of<S: Sink>(
     tracer: &mut Tracer,
     iface: IfaceNo,
     file: &mut PcapOut<S>,
+    progress: &Progress,
 ) -> Result<(), TraceFault>
     requires tracing { IsTracing pending_of topology.now tracer.old }
     requires none { tracer.old.records.handed ≡ 0 }
@@ -95,9 +101,12 @@ fn write_all_of<S: Sink>(
         → WritesOn S.taken S.failures file.old file.new result
         (written_at file.old.form iface records) }
 {
-    for _ in 0..u64::MAX {
+    for number in 0..u64::MAX {
         match next_record(alloc, topology, tracer) {
-            Ok(Some(record)) => write_at(iface, &record, file)?,
+            Ok(Some(record)) => {
+                progress.note_record(number, record.time);
+                write_at(iface, &record, file)?;
+            }
             Ok(None) => return Ok(()),
             Err(AllocError) => return Err(TraceFault::Memory),
         }

@@ -12,6 +12,7 @@ use crate::trace_file::write_trace_file;
 use nm_base::{IfaceNo, Sink};
 use nm_command::{Form, Status};
 use nm_files::trace_file::TraceFault;
+use nm_progress::Progress;
 use nm_sim::trace::every_topology_has_a_trace;
 use nm_topology::Topology;
 use nm_topology::parts::Iface;
@@ -27,6 +28,7 @@ pub(crate) fn write_trace<I: Inputs, O: Sink + Drop>(
     iface: Option<&str>,
     inputs: &mut NamedInputs<I>,
     out: O,
+    progress: &Progress,
 ) -> (Status, O)
     ensures { EndsTrace O.taken O.failures
         (text_of I.standard_text I.file_text inputs.old.inputs)
@@ -41,7 +43,8 @@ pub(crate) fn write_trace<I: Inputs, O: Sink + Drop>(
         return (Status::NoInterface, out);
     };
     every_topology_has_a_trace(&topology); // law: there is an answer, also where it is not written
-    let (outcome, out) = write_trace_file(alloc, &topology, form, iface, out);
+    progress.begin(topology.stop());
+    let (outcome, out) = write_trace_file(alloc, &topology, form, iface, out, progress);
     (status_of(outcome), out)
 }
 

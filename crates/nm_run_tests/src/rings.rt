@@ -4,6 +4,7 @@ use crate::gates::Watching;
 use crate::texts::RING;
 use nm_base::IfaceNo;
 use nm_files::MemOutputs;
+use nm_progress::Progress;
 use nm_run::{Report, Run, RunFault, run_all};
 use nm_topology::Topology;
 use std::alloc::Global;
@@ -50,6 +51,7 @@ where
         folder: "out",
         workers: 2,
         replicas,
+        progress: &Progress::new(),
     };
     Ok(run_all(rt, alloc, &run, outputs, gate))
 }

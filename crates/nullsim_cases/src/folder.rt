@@ -1,6 +1,7 @@
 //! The files of a folder of cases.
 
 use crate::pair::run_pair;
+use crate::reported::report_differs;
 use crate::table::run_table;
 use crate::tally::Tally;
 use crate::words::{run_check_case, run_rounds_case, run_script_case, run_words_case};
@@ -63,7 +64,11 @@ fn run_text<
     if stem.starts_with("cases/runs/") || stem.starts_with("cases/shown/") {
         return run_words_case(rt, stem);
     }
-    run_pair(rt, stem)
+    let tally = run_pair(rt, stem)?;
+    if stem.starts_with("cases/networks/") && report_differs(rt, stem)? {
+        return Ok(Tally::of_case(true));
+    }
+    Ok(tally)
 }
 
 /// Runs the cases of the file at a path.

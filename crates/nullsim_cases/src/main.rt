@@ -26,6 +26,7 @@ mod folder;
 mod network;
 mod pair;
 mod records;
+mod reported;
 mod run;
 mod show;
 mod table;

@@ -3,9 +3,9 @@
 //!
 //! In the folder `networks` these are a line `iface NAME HEX` for each interface, with its trace
 //! file in hexadecimal, a line `counter NODE NAME VALUE` for each counter above 0, and a line
-//! `dropped IFACE VALUE` for each interface at which packets were dropped. In each other folder it
-//! is the line `accepted`, or `fault N` with the number of the first fault. Lines that begin with
-//! `#` are comments.
+//! `dropped IFACE VALUE` for each interface at which packets were dropped; what a report says of
+//! these is compared too (module `reported`). In each other folder it is the line `accepted`, or
+//! `fault N` with the number of the first fault. Lines that begin with `#` are comments.
 
 use crate::compare::{differs, push_line};
 use crate::show::{Show, View};

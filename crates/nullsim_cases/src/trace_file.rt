@@ -3,6 +3,7 @@
 use nm_base::{IfaceNo, MemSink};
 use nm_command::Form;
 use nm_program::trace_file::write_trace_file;
+use nm_progress::Progress;
 use nm_topology::Topology;
 use std::alloc::Global;
 use std::fmt::Write;
@@ -14,7 +15,14 @@ const MAX_FILE_DIGITS: usize = 1_048_576;
 /// The trace file of an interface in hexadecimal, and a line feed, as the program writes it.
 fn trace_text(alloc: Global, topology: &Topology, iface: IfaceNo) -> io::Result<String> {
     let sink = MemSink::new(alloc, MAX_FILE_DIGITS)?;
-    let (outcome, sink) = write_trace_file(alloc, topology, Form::Hexadecimal, iface, sink);
+    let (outcome, sink) = write_trace_file(
+        alloc,
+        topology,
+        Form::Hexadecimal,
+        iface,
+        sink,
+        &Progress::new(),
+    );
     if outcome.is_err() {
         return Err(io::Error::from(ErrorKind::OutOfMemory));
     }

@@ -16,6 +16,7 @@ use crate::tally::Tally;
 use nm_base::MemSink;
 use nm_files::MemOutputs;
 use nm_program::{MemInputs, NamedInputs, run};
+use nm_progress::Progress;
 use std::net::Net;
 use std::rt::Files;
 use std::sync::Wait;
@@ -34,20 +35,20 @@ const MAX_ERROR_OCTETS: usize = 64;
 
 /// What a run of the program did: its exit status, what it wrote, and its line on standard error.
 #[derive(Drop)]
-struct Ended {
-    code: u8,
-    out: MemSink,
-    errors: MemSink,
+pub struct Ended {
+    pub code: u8,
+    pub out: MemSink,
+    pub errors: MemSink,
 }
 
 /// The text that a sink took.
-fn text_in(sink: &MemSink) -> io::Result<&str> {
+pub fn text_in(sink: &MemSink) -> io::Result<&str> {
     str::from_utf8(sink.octets()).map_err(|_| io::Error::other("what was written is no text"))
 }
 
 /// Runs the program with these words. Standard input has the topology, and the file `steps` has the
 /// script.
-fn run_words<
+pub fn run_words<
     R: AllocGlobal
         + Net<Stream = std::net::TcpStream, Listener = std::net::TcpListener>
         + std::thread::Threads
@@ -82,6 +83,7 @@ fn run_words<
         &mut outputs,
         out,
         &mut errors,
+        &Progress::new(),
     );
     Ok(Ended {
         code: status.code(),
@@ -189,13 +191,13 @@ fn blocks_found<
 }
 
 /// The octets of the file of a case that ends with this.
-fn file_of<R: Files + AllocGlobal>(rt: &R, stem: &str, end: &str) -> io::Result<Vec<u8>> {
+pub fn file_of<R: Files + AllocGlobal>(rt: &R, stem: &str, end: &str) -> io::Result<Vec<u8>> {
     let path = format!(in rt.alloc(); "{stem}{end}")?;
     fs::read(rt, path.as_str())
 }
 
 /// The lines that a case expects.
-fn expected_of<R: Files + AllocGlobal>(rt: &R, stem: &str) -> io::Result<String> {
+pub fn expected_of<R: Files + AllocGlobal>(rt: &R, stem: &str) -> io::Result<String> {
     let path = format!(in rt.alloc(); "{stem}.expect")?;
     fs::read_to_string(rt, path.as_str())
 }

@@ -5,6 +5,7 @@ use nm_base::MemSink;
 use nm_command::Status;
 use nm_files::MemOutputs;
 use nm_program::{Inputs, MemInputs, NamedInputs, run};
+use nm_progress::Progress;
 use std::alloc::{AllocError, Global};
 use std::io::Read;
 use std::net::Net;
@@ -121,6 +122,7 @@ fn run_line<
         &mut outputs,
         out,
         &mut errors,
+        &Progress::new(),
     );
     Ok(Outcome {
         status,

@@ -13,6 +13,8 @@ mod nodes;
 #[cfg(test)]
 mod partitions;
 #[cfg(test)]
+mod progress;
+#[cfg(test)]
 mod runs;
 #[cfg(test)]
 mod statuses;

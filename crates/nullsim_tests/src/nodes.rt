@@ -8,6 +8,7 @@ use nm_command::Status;
 use nm_files::MemOutputs;
 use nm_files::mem_outputs::MemFile;
 use nm_program::{MemInputs, NamedInputs, run};
+use nm_progress::Progress;
 use std::alloc::Global;
 use std::net::{Ipv4Addr, Net, SocketAddr};
 use std::process::Abort;
@@ -78,6 +79,7 @@ pub fn run_line<
         &mut outputs,
         out,
         &mut errors,
+        &Progress::new(),
     );
     Ok(Ended {
         status,
