@@ -55,12 +55,13 @@ pub fn network(alloc: Global, text: &str) -> Result<Arc<Topology>, Fail> {
 }
 
 /// Serves a replica with what it holds. It does its events itself.
-fn serve_held<N: Network, G: Gate, R: Wait>(
+fn serve_held<'x, N: Network, G: Gate, R: Wait>(
     rt: &R,
     alloc: Global,
-    topology: &Arc<Topology>,
-    book: &SharedBook<Plain>,
-    board: &ClockBoard,
+    topology: &'x Arc<Topology>,
+    book: &'x SharedBook<Plain>,
+    board: &'x ClockBoard,
+    peers: &'x [PartNo],
     holdings: &mut Holdings<Plain, MemSink>,
     company: &Company<'_>,
     network: &mut N,
@@ -75,7 +76,7 @@ fn serve_held<N: Network, G: Gate, R: Wait>(
         replica: 0,
         book,
         board,
-        peers: company.peers,
+        peers,
         callers: company.callers,
         books: &[],
         sister: None,
@@ -115,6 +116,7 @@ pub fn serve<N: Network, G: Gate, R: Wait>(
         topology,
         &book,
         &board,
+        company.peers,
         &mut holdings,
         company,
         network,

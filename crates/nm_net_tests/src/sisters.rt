@@ -43,13 +43,13 @@ fn finish<R: Wait>(rt: &R, alloc: Global, book: &SharedBook<Plain>) -> Result<Pa
 }
 
 /// Serves replica 1, to which nobody speaks, beside its sister.
-fn serve_sister<R: Wait>(
+fn serve_sister<'x, R: Wait>(
     rt: &R,
     alloc: Global,
-    topology: &Arc<Topology>,
-    books: &[SharedBook<Plain>],
-    own: &SharedBook<Plain>,
-    board: &ClockBoard,
+    topology: &'x Arc<Topology>,
+    books: &'x [SharedBook<Plain>],
+    own: &'x SharedBook<Plain>,
+    board: &'x ClockBoard,
     holdings: &mut Holdings<Plain, MemSink>,
 ) -> Ending
     requires owners { All (IsOwnerOf board.now) holdings.old.seats.items }

@@ -6,8 +6,8 @@ use Rattle.nm_files.specs.Writing.{WroteOn}
 use Rattle.nm_files.specs.TraceFile.{written_at}
 use Rattle.nm_program.proofs.trace_file.write_all_of.Given as goal
 
-abbrev pub invariant-loop : goal.invariant-loop
-invariant-loop g l = record {
+abbrev pub invariant-loop-number : goal.invariant-loop-number
+invariant-loop-number g l = record {
   tracing : IsTracing pending_of l.topology l.tracer;
   sound : l.file.failed ≡ false;
   front : (records : List (Record (List ℕ))) → IsTraceBefore l.topology l.topology.stop records
