@@ -1,12 +1,13 @@
 # `make help` lists the targets.
 
-.PHONY: all help try run bench cases run-cases check-frames check-links check-pcap cut-connections tutorial trust test gate-times clean toolchain
+.PHONY: all help try run bench cases run-cases check-frames check-links check-pcap cut-connections deep tutorial trust test gate-times clean toolchain
 
-# The topology and the interface of `make try` and `make run`; the folder of `make cases`; how many crates `make` proves at a time.
+# The topology and the interface of `make try` and `make run`; the folder of `make cases`; how many jobs `make` proves with; which steps of `make deep`.
 TOPO = examples/duo.toml
 IFACE =
 CASES =
 JOBS =
+STEPS =
 
 all: bin/nullsim
 
@@ -22,6 +23,7 @@ help:
 	@echo 'make check-links breaks the connections of replicas at random octets, with ten thousand seeds, and certifies what they come to'
 	@echo 'make check-pcap  reads the traces of the examples with tshark, or else tcpdump, one of which it needs'
 	@echo 'make cut-connections cuts the connection of two nodes a thousand times, and compares their files with those of the one event list'
+	@echo 'make deep        all that is too long for the gate: refused memory, frames, links, connections, runs and planted bugs; STEPS=WORD: some of it'
 	@echo 'make test        the gate: proves everything from nothing and runs every test; the last line is N passed, M failed'
 	@echo 'make gate-times  the gate, with the processor minutes of each crate (docs/GATE.md)'
 	@echo 'make clean       removes what was built'
@@ -105,6 +107,9 @@ check-pcap: bin/nullsim
 
 cut-connections: bin/nullsim
 	@tools/cut-connections
+
+deep: bin/nullsim bin/nm_bench
+	@tools/deep $(STEPS)
 
 test: toolchain
 	@rt ci

@@ -7,7 +7,8 @@ usage: tools/planted.py CRATE [WORD]      prints a row of a table for each bug
 The bugs are tools/planted/CRATE.bugs: blocks, each with a line 'bug:' (what is wrong), 'file:' (in the crate), 'check:' (the
 function whose proof is tried first; none: the whole crate), and pairs of lines 'old:' and 'new:'; each old text stands once in the
 file. With WORD only the bugs whose text holds it are tried. The crate must be proved, and is not changed: a copy of it is, beside
-copies of the crates below it. A bug whose function is still proved is tried in the whole crate.
+copies of the crates below it. A bug whose function is still proved is tried in the whole crate. The last line counts; the status is 1 where a bug was not
+refused, or could not be tried.
 """
 
 import os
@@ -117,7 +118,10 @@ def main():
         shutil.rmtree(root)
     if is_written:
         write_table(crate, rows)
+    bad = [row for row in rows if "| PROVED |" in row or "| NOT TRIED" in row]
+    print(f"{len(rows)} bugs planted in {crate}, {len(bad)} not refused")
+    return 1 if bad else 0
 
 
 if __name__ == "__main__":
-    main()
+    sys.exit(main())

@@ -23,22 +23,30 @@ fn push_field(text: &mut Vec<u8>, word: &[u8], value: u64) -> Result<(), AllocEr
     push_number(text, value)
 }
 
-/// What a message of ICMP says, in words (RFC 792).
+/// What messages of ICMP say, in words (RFC 792): of a type and a code, or of a type whatever its
+/// code.
+const WORDS: &[(u8, Option<u8>, &str)] = &[
+    (0, Some(0), "echo reply"),
+    (3, Some(0), "destination unreachable: network"),
+    (3, Some(1), "destination unreachable: host"),
+    (3, Some(2), "destination unreachable: protocol"),
+    (3, Some(3), "destination unreachable: port"),
+    (4, Some(0), "source quench"),
+    (5, None, "redirect"),
+    (8, Some(0), "echo request"),
+    (11, Some(0), "time exceeded in transit"),
+    (11, Some(1), "time exceeded in reassembly"),
+    (12, None, "parameter problem"),
+];
+
+/// What a message of ICMP says, in words.
 fn words_of(message_type: u8, code: u8) -> Option<&'static str> {
-    match (message_type, code) {
-        (0, 0) => Some("echo reply"),
-        (3, 0) => Some("destination unreachable: network"),
-        (3, 1) => Some("destination unreachable: host"),
-        (3, 2) => Some("destination unreachable: protocol"),
-        (3, 3) => Some("destination unreachable: port"),
-        (4, 0) => Some("source quench"),
-        (5, _) => Some("redirect"),
-        (8, 0) => Some("echo request"),
-        (11, 0) => Some("time exceeded in transit"),
-        (11, 1) => Some("time exceeded in reassembly"),
-        (12, _) => Some("parameter problem"),
-        _ => None,
+    for (kind, of, words) in WORDS {
+        if *kind == message_type && of.unwrap_or(code) == code {
+            return Some(*words);
+        }
     }
+    None
 }
 
 /// Appends what a message of ICMP says.
@@ -86,37 +94,53 @@ fn push_way(
     push_place(text, header.destination(), to)
 }
 
-/// Appends what a packet carries, which is no fragment.
-fn push_payload(text: &mut Vec<u8>, header: &Ipv4View<'_>) -> Result<(), AllocError> {
-    let payload = header.payload();
-    match header.protocol() {
-        UDP => match Udp::read(header.source(), header.destination(), payload) {
-            Ok(datagram) => {
-                let ports = (datagram.source_port(), datagram.destination_port());
-                push_way(text, header, Some(ports))?;
-                push_field(text, b": UDP, length ", datagram.data().len() as u64)
-            }
-            Err(_) => {
-                push_way(text, header, None)?;
-                push_field(text, b": bad UDP, length ", payload.len() as u64)
-            }
-        },
-        ICMP => match Icmp::read(payload) {
-            Ok(message) => {
-                push_way(text, header, None)?;
-                push_message(text, &message)?;
-                push_field(text, b", length ", payload.len() as u64)
-            }
-            Err(_) => {
-                push_way(text, header, None)?;
-                push_field(text, b": bad ICMP, length ", payload.len() as u64)
-            }
-        },
-        protocol => {
+/// Appends what is said of a UDP datagram.
+fn push_datagram(
+    text: &mut Vec<u8>,
+    header: &Ipv4View<'_>,
+    payload: &[u8],
+) -> Result<(), AllocError> {
+    match Udp::read(header.source(), header.destination(), payload) {
+        Ok(datagram) => {
+            let ports = (datagram.source_port(), datagram.destination_port());
+            push_way(text, header, Some(ports))?;
+            push_field(text, b": UDP, length ", datagram.data().len() as u64)
+        }
+        Err(_) => {
             push_way(text, header, None)?;
-            push_field(text, b": protocol ", u64::from(protocol))?;
+            push_field(text, b": bad UDP, length ", payload.len() as u64)
+        }
+    }
+}
+
+/// Appends what is said of a payload of ICMP.
+fn push_control(text: &mut Vec<u8>, payload: &[u8]) -> Result<(), AllocError> {
+    match Icmp::read(payload) {
+        Ok(message) => {
+            push_message(text, &message)?;
             push_field(text, b", length ", payload.len() as u64)
         }
+        Err(_) => push_field(text, b": bad ICMP, length ", payload.len() as u64),
+    }
+}
+
+/// Appends what is said of a payload of another protocol.
+fn push_other(text: &mut Vec<u8>, protocol: u8, payload: &[u8]) -> Result<(), AllocError> {
+    push_field(text, b": protocol ", u64::from(protocol))?;
+    push_field(text, b", length ", payload.len() as u64)
+}
+
+/// Appends what a packet carries, which is no fragment.
+fn push_payload(text: &mut Vec<u8>, header: &Ipv4View<'_>) -> Result<(), AllocError> {
+    let (protocol, payload) = (header.protocol(), header.payload());
+    if protocol == UDP {
+        return push_datagram(text, header, payload);
+    }
+    push_way(text, header, None)?;
+    if protocol == ICMP {
+        push_control(text, payload)
+    } else {
+        push_other(text, protocol, payload)
     }
 }
 

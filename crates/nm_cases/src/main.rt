@@ -1,0 +1,48 @@
+//! Compares the layers from replicas up to certificates with the cases in `data/cases/`.
+//!
+//! A case is a file `NAME.case` of lines. A line is a command, ` -> ` and what it answers; where the
+//! answer is left out it is `ok`. Empty lines, and lines that begin with `#`, say nothing.
+//!
+//! ```text
+//! text split.toml
+//! book 0 0
+//! null 0 0 0 1000000 -> raised
+//! run 0 10 -> all 2
+//! safe 0 -> 1000000
+//! ```
+//!
+//! | Command | Does and answers |
+//! |---|---|
+//! | `text NAME` | begins anew with the network of `data/texts/NAME` |
+//! | module `books` | replicas, by their numbers in the order in which they were made |
+//! | module `certificates` | certificates of some of these replicas |
+//! | module `replays` | replays of steps, and rounds |
+//! | module `streams` | octets to frames, and back |
+//! | module `sessions` | sessions, by their numbers, over one of these replicas |
+//! | module `talks` | two replicas that talk over a connection which breaks |
+//!
+//! Answers come from outside: from the rules in docs/, worked out by hand. The program prints each
+//! line that is answered otherwise, and how many lines each case has.
+#![tactic(auto)]
+
+mod bench;
+mod books;
+mod certificates;
+mod octets;
+mod pieces;
+mod promises;
+mod replays;
+mod run;
+mod said;
+mod sessions;
+mod streams;
+mod talks;
+mod truth;
+mod words;
+
+use run::run_all;
+use std::io;
+
+fn main(rt: HostRuntime) -> io::Result<()> {
+    run_all(&rt)
+}

@@ -1,0 +1,211 @@
+//! Two replicas that talk over a connection which breaks at any octet.
+//!
+//! | Command | Does and answers |
+//! |---|---|
+//! | `talk P Q` | replicas of two partitions talk until both have taken Bye, without a break: the events of both |
+//! | `breaks P Q` | the same, with one break at each octet of either direction: `alike` where both always do as many events, and are done |
+
+use crate::bench::{Bench, book_of};
+use crate::words::Words;
+use nm_base::PartNo;
+use nm_book::Book;
+use nm_frames::{Frame, Reader, Session, Taken, write_frame};
+use nm_topology::Topology;
+use std::alloc::Global;
+use std::io;
+use std::sync::Arc;
+
+/// One end of a connection.
+#[derive(Drop)]
+struct End {
+    book: Book,
+    session: Session,
+    reader: Reader,
+    ended: bool,
+    /// How many octets it gave.
+    octets: usize,
+}
+
+impl End {
+    fn new(alloc: Global, topology: &Arc<Topology>, me: u32, peer: u32) -> io::Result<End> {
+        let (me_no, peer_no) = (PartNo::new(me), PartNo::new(peer));
+        Ok(End {
+            book: book_of(alloc, topology, me, 0)?,
+            session: Session::new(alloc, topology, me_no, 0, peer_no)?,
+            reader: Reader::new(alloc),
+            ended: false,
+            octets: 0,
+        })
+    }
+
+    /// Does what is safe, and gives all that is owed.
+    fn give(&mut self, alloc: Global) -> io::Result<Vec<u8>> {
+        let _ran = self.book.run_safe(alloc, 1000);
+        let mut out = Vec::new(alloc);
+        for _ in 0..1000 {
+            match self.session.next_out(&self.book)? {
+                None => break,
+                Some(frame) => write_frame(&frame, &mut out)?,
+            }
+        }
+        Ok(out)
+    }
+
+    /// Takes a frame of the peer: whether it was right.
+    fn take_one(&mut self, frame: Frame) -> bool {
+        match self.session.take(frame) {
+            Ok(Taken::ForBook(message)) => self.book.accept(&message).is_ok(),
+            Ok(Taken::Ended) => {
+                self.ended = true;
+                true
+            }
+            Ok(Taken::Greeted | Taken::Cursor) => true,
+            Err(_) => false,
+        }
+    }
+
+    /// Takes octets of the peer.
+    fn take(&mut self, alloc: Global, octets: &[u8]) -> io::Result<()> {
+        let mut frames = Vec::new(alloc);
+        if self.reader.feed(alloc, octets, &mut frames).is_err() {
+            return Err(io::Error::other("octets that are no frame"));
+        }
+        for frame in frames {
+            if !self.take_one(frame) {
+                return Err(io::Error::other("a frame that is refused"));
+            }
+        }
+        Ok(())
+    }
+
+    /// The connection broke.
+    fn broke(&mut self, alloc: Global) {
+        self.session.broken();
+        self.reader = Reader::new(alloc);
+        self.ended = false;
+    }
+}
+
+/// One end gives all that it owes, and the other takes at most so many octets of it. Whether some
+/// were left: the connection breaks there.
+fn pass(alloc: Global, from: &mut End, to: &mut End, left: &mut usize) -> io::Result<bool> {
+    let sent = from.give(alloc)?;
+    let count = sent.len().min(*left);
+    let (came, lost) = sent.split_at(count);
+    from.octets = from.octets.saturating_add(count);
+    *left -= count;
+    to.take(alloc, came)?;
+    Ok(!lost.is_empty())
+}
+
+/// How many octets each end may give before the connection breaks.
+#[derive(Clone, Copy)]
+struct Left {
+    of_zero: usize,
+    of_one: usize,
+}
+
+/// Each end gives all that it owes, until the connection breaks. It breaks once.
+fn turn(alloc: Global, zero: &mut End, one: &mut End, left: &mut Left) -> io::Result<()> {
+    let mut breaks = pass(alloc, zero, one, &mut left.of_zero)?;
+    if !breaks {
+        breaks = pass(alloc, one, zero, &mut left.of_one)?;
+    }
+    if breaks {
+        zero.broke(alloc);
+        one.broke(alloc);
+        left.of_zero = usize::MAX;
+        left.of_one = usize::MAX;
+    }
+    Ok(())
+}
+
+/// Both ends talk until they have taken Bye.
+fn until_bye(alloc: Global, zero: &mut End, one: &mut End, left: &mut Left) -> io::Result<()> {
+    for _ in 0..1000 {
+        if zero.ended && one.ended {
+            break;
+        }
+        turn(alloc, zero, one, left)?;
+    }
+    if zero.ended && one.ended && zero.book.done() && one.book.done() {
+        return Ok(());
+    }
+    Err(io::Error::other("they talk for ever"))
+}
+
+/// What both did: the octets that each gave, and its events.
+#[derive(Clone, Copy)]
+struct Outcome {
+    octets: (usize, usize),
+    events: (u64, u64),
+}
+
+/// Both ends of a talk.
+fn talk(alloc: Global, zero: &mut End, one: &mut End, left: Left) -> io::Result<Outcome> {
+    let mut left = left;
+    until_bye(alloc, zero, one, &mut left)?;
+    Ok(Outcome {
+        octets: (zero.octets, one.octets),
+        events: (zero.book.events(), one.book.events()),
+    })
+}
+
+/// A talk of two partitions that breaks once, where one of them has given so many octets.
+fn talk_of(
+    alloc: Global,
+    topology: &Arc<Topology>,
+    who: (u32, u32),
+    left: Left,
+) -> io::Result<Outcome> {
+    let mut zero = End::new(alloc, topology, who.0, who.1)?;
+    let mut one = End::new(alloc, topology, who.1, who.0)?;
+    talk(alloc, &mut zero, &mut one, left)
+}
+
+/// No break.
+const WHOLE: Left = Left {
+    of_zero: usize::MAX,
+    of_one: usize::MAX,
+};
+
+/// Whether all talks with one break do as many events as the one without.
+fn are_alike(alloc: Global, topology: &Arc<Topology>, who: (u32, u32)) -> io::Result<bool> {
+    let whole = talk_of(alloc, topology, who, WHOLE)?;
+    for of_zero in 0..whole.octets.0 {
+        let left = Left { of_zero, ..WHOLE };
+        if talk_of(alloc, topology, who, left)?.events != whole.events {
+            return Ok(false);
+        }
+    }
+    for of_one in 0..whole.octets.1 {
+        let left = Left { of_one, ..WHOLE };
+        if talk_of(alloc, topology, who, left)?.events != whole.events {
+            return Ok(false);
+        }
+    }
+    Ok(true)
+}
+
+/// What two replicas did in a talk without a break.
+fn talk_text(bench: &Bench, alloc: Global, who: (u32, u32)) -> io::Result<String> {
+    let found = talk_of(alloc, &bench.topology, who, WHOLE)?;
+    Ok(format!(in alloc; "{} {}", found.events.0, found.events.1)?)
+}
+
+/// Whether talks with a break do the same.
+fn breaks_text(bench: &Bench, alloc: Global, who: (u32, u32)) -> io::Result<String> {
+    let alike = are_alike(alloc, &bench.topology, who)?;
+    Ok(String::from_str(alloc, if alike { "alike" } else { "unlike" })?)
+}
+
+/// What a line about talks answers, or None where it is about something else.
+pub fn answer(bench: &Bench, alloc: Global, words: Words) -> io::Result<Option<String>> {
+    if words.is("talk") {
+        return Ok(Some(talk_text(bench, alloc, (words.short(1)?, words.short(2)?))?));
+    }
+    if words.is("breaks") {
+        return Ok(Some(breaks_text(bench, alloc, (words.short(1)?, words.short(2)?))?));
+    }
+    Ok(None)
+}

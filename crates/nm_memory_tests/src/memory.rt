@@ -1,0 +1,5 @@
+//! The tests, by layers.
+
+mod books;
+mod frames;
+mod replays;

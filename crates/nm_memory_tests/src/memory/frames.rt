@@ -1,0 +1,101 @@
+//! Frames and sessions.
+
+use crate::same::{eq_number, holds};
+use crate::split::{either, network};
+use nm_base::{ChanNo, PartNo, Time};
+use nm_book::{Book, ChannelMessage, Null};
+use nm_frames::{Frame, FrameFault, Have, Hello, Reader, Session};
+use nm_topology::Topology;
+use std::alloc::Global;
+use std::sync::Arc;
+use std::test::Fail;
+
+/// Have(2, 4), a message, and the first octets of another frame.
+const STREAM: &[u8] = b"\x00\x00\x00\x0d\x02\x00\x00\x00\x02\x00\x00\x00\x00\x00\x00\x00\x04\
+\x00\x00\x00\x17\x03\x00\x00\x00\x00\x00\x00\x00\x00\x00\x00\x00\x01\x00\x00\x00\x00\x00\x10\xc8\xe0\x45\x00\
+\x00\x00\x00";
+
+#[test]
+fn reader_feed(rt: HostRuntime) {
+    let mut reader = Reader::new(rt.alloc());
+    let mut frames = Vec::new(rt.alloc());
+    for piece in STREAM.chunks(11) {
+        let before = frames.len();
+        let mut answer = reader.feed(rt.alloc(), piece, &mut frames);
+        if answer == Err(FrameFault::Memory) {
+            holds(&rt, "as it was", frames.len() == before);
+            answer = reader.feed(rt.alloc(), piece, &mut frames);
+        }
+        holds(&rt, "fed", answer == Ok(()));
+    }
+    eq_number(&rt, "frames", frames.len() as u64, 2);
+    let answer = reader.feed(rt.alloc(), &[0], &mut frames);
+    holds(
+        &rt,
+        "what was held is still there",
+        answer == Err(FrameFault::BadLength),
+    );
+}
+
+/// Replica 0 of partition 0, which did its two events: it sent a message.
+fn book_of(alloc: Global, topology: &Arc<Topology>) -> Result<Book, Fail> {
+    let shared = either(topology.clone(), topology.clone())?;
+    let again = either(topology.clone(), topology.clone())?;
+    let first = Book::new(alloc, shared, PartNo::new(0), 0);
+    let mut book = either(first, Book::new(alloc, again, PartNo::new(0), 0))?;
+    book.accept(&ChannelMessage::Null(Null {
+        channel: ChanNo::new(0),
+        count: 0,
+        clock: Time::from_nanoseconds(1_000_000),
+    }))?;
+    let _ran = book.run_safe(alloc, 1000);
+    let _ran_again = book.run_safe(alloc, 1000);
+    Ok(book)
+}
+
+/// A session that took the peer's Hello and Have.
+fn session_of(alloc: Global, topology: &Topology) -> Result<Session, Fail> {
+    let first = Session::new(alloc, topology, PartNo::new(0), 0, PartNo::new(1));
+    let second = Session::new(alloc, topology, PartNo::new(0), 0, PartNo::new(1));
+    let mut session = either(first, second)?;
+    let digest = topology.digest();
+    let _greeted = session.take(Frame::Hello(Hello {
+        version: 2,
+        partition: PartNo::new(1),
+        replica: 0,
+        digest,
+    }))?;
+    let _cursor = session.take(Frame::Have(Have {
+        channel: ChanNo::new(1),
+        count: 0,
+    }))?;
+    Ok(session)
+}
+
+/// The number of a frame's kind.
+fn kind_of(frame: &Option<Frame>) -> u64 {
+    match frame {
+        None => 0,
+        Some(Frame::Hello(_)) => 1,
+        Some(Frame::Have(_)) => 2,
+        Some(Frame::Data(_)) => 3,
+        Some(Frame::Null(_)) => 4,
+        Some(Frame::Bye) => 5,
+    }
+}
+
+#[test]
+fn session_next_out(rt: HostRuntime) -> Result<(), Fail> {
+    let topology = network(rt.alloc())?;
+    let book = book_of(rt.alloc(), &topology)?;
+    let mut session = session_of(rt.alloc(), &topology)?;
+    for kind in [1, 2, 3, 4, 0, 0] {
+        let first = session.next_out(&book);
+        let frame = match first {
+            Ok(frame) => frame,
+            Err(_) => session.next_out(&book)?,
+        };
+        eq_number(&rt, "kind", kind_of(&frame), kind);
+    }
+    Ok(())
+}
