@@ -1,19 +1,22 @@
 # `make help` lists the targets.
 
-.PHONY: all help try run bench cases run-cases check-frames check-links check-pcap cut-connections deep tutorial trust test gate-times clean toolchain
+.PHONY: all help try run bench cases run-cases check-frames check-links check-pcap cut-connections deep tutorial trust test gate-times install uninstall clean toolchain
 
-# The topology and the interface of `make try` and `make run`; the folder of `make cases`; how many jobs `make` proves with; which steps of `make deep`.
+# The topology and the interface of `make try` and `make run`; the folder of `make cases`; how many jobs `make` proves with; which steps of `make deep`;
+# where `make install` puts the program, its manual page and its completion for bash (DESTDIR stands before it, for who makes packages).
 TOPO = examples/duo.toml
 IFACE =
 CASES =
 JOBS =
 STEPS =
+PREFIX = /usr/local
+DESTDIR =
 
 all: bin/nullsim
 
 help:
-	@echo 'make             proves what the program needs, and builds bin/nullsim (the first time 10 to 25 minutes; JOBS=N: N crates at a time)'
-	@echo 'make try         runs the program before it is proved, in a minute: TOPO=FILE and IFACE=NAME choose what it shows'
+	@echo 'make             proves what the program needs, and builds bin/nullsim; the first time 90 to 130 processor minutes, and it says what is left (JOBS=N: N jobs at a time)'
+	@echo 'make try         runs the program before it is proved, in some 5 processor minutes: TOPO=FILE and IFACE=NAME choose what it shows'
 	@echo 'make run         builds it and shows a trace in hexadecimal; TOPO and IFACE as for make try'
 	@echo 'make bench       times it on generated topologies, and event lists and knowledge alone (docs/BENCH.md)'
 	@echo 'make cases       compares it with cases of an independent model; CASES=FOLDER: with those of a folder'
@@ -26,13 +29,14 @@ help:
 	@echo 'make deep        all that is too long for the gate: refused memory, frames, links, connections, runs and planted bugs; STEPS=WORD: some of it'
 	@echo 'make test        the gate: proves everything from nothing and runs every test; the last line is N passed, M failed'
 	@echo 'make gate-times  the gate, with the processor minutes of each crate (docs/GATE.md)'
+	@echo 'make install     puts bin/nullsim, its manual page and its completion for bash below PREFIX (/usr/local); make uninstall removes them'
 	@echo 'make clean       removes what was built'
 	@echo 'All need the Rattle toolchain (rt) on PATH and python3, check-pcap python3 of 3.11 or later; none needs a network.'
 
 toolchain:
 	@command -v rt >/dev/null 2>&1 || { echo "nullsim: the Rattle toolchain is missing: put its command rt on PATH" >&2; exit 1; }
 
-SOURCES := crates.txt $(shell find crates -name out -prune -o -name '*_tests' -prune -o -name nullsim_cases -prune -o \
+SOURCES := crates.txt $(shell find crates -name out -prune -o -name '*_tests' -prune -o -name '*_cases' -prune -o \
   \( -name '*.rt' -o -name '*.antt' \) -print)
 
 bin/nullsim: $(SOURCES) | toolchain
@@ -116,6 +120,18 @@ test: toolchain
 
 gate-times: toolchain
 	@tools/gate-times --write
+
+MANUAL = $(DESTDIR)$(PREFIX)/share/man/man1/nullsim.1
+COMPLETION = $(DESTDIR)$(PREFIX)/share/bash-completion/completions/nullsim
+
+install: bin/nullsim
+	@install -D -m 755 bin/nullsim '$(DESTDIR)$(PREFIX)/bin/nullsim'
+	@install -D -m 644 docs/nullsim.1 '$(MANUAL)'
+	@install -D -m 644 tools/completion/nullsim '$(COMPLETION)'
+	@echo 'installed $(DESTDIR)$(PREFIX)/bin/nullsim'
+
+uninstall:
+	@rm -f '$(DESTDIR)$(PREFIX)/bin/nullsim' '$(MANUAL)' '$(COMPLETION)'
 
 clean:
 	@rm -rf bin crates/*/out

@@ -20,15 +20,20 @@
 //! | `records B` | how many records were handed out, how many there are, and how many are kept |
 //! | `totals B IFACE` | how many records an interface has, and the octets of its trace file |
 //! | `knows B C` | how many messages it knows, and the clock |
+//! | `message B C N` | the time and the octets of a message that it knows, or `none` |
+//! | `fill B C COUNT` | B is told so many messages, of the times 1, 2, .. and an octet 7 |
+//! | `equal B S C` | `equal` where both know the same messages of this channel, and the same clock |
 //! | `alike B S C` | `alike` where both are as far and say the same of this channel |
 
 use crate::bench::{Bench, book, book_mut, book_of};
+use crate::octets::hexadecimal;
 use crate::promises::promises;
 use crate::said::{Word, accepted, merged, ran, text};
 use crate::words::Words;
 use bytes::Bytes;
 use nm_base::{ChanNo, Dir, IfaceNo, Packet, Time};
 use nm_book::{Book, ChannelMessage, Data, Null};
+use nm_knowledge::Know;
 use std::alloc::Global;
 use std::io;
 
@@ -140,6 +145,7 @@ enum Change {
     Late,
     Again,
     Promise,
+    Fill,
     Run,
     Merge,
 }
@@ -153,6 +159,7 @@ const CHANGES: &[(&str, Change)] = &[
     ("late", Change::Late),
     ("again", Change::Again),
     ("promise", Change::Promise),
+    ("fill", Change::Fill),
     ("run", Change::Run),
     ("merge", Change::Merge),
 ];
@@ -194,6 +201,7 @@ fn make_change(
         Change::Late => tell_sent(books, words, words.number(5)?),
         Change::Again => tell_again(books, words),
         Change::Promise => tell_promise(books, words),
+        Change::Fill => fill(alloc, books, words),
         Change::Run => run(alloc, books, words),
         Change::Merge => merge(alloc, books, words),
     }
@@ -237,6 +245,60 @@ fn knows(alloc: Global, book: &Book, channel: u32) -> io::Result<String> {
     }
 }
 
+/// A message that a replica knows.
+fn known_message(alloc: Global, book: &Book, channel: u32, at: u64) -> io::Result<String> {
+    let Some(know) = book.know(ChanNo::new(channel)) else {
+        return Ok(String::from_str(alloc, "stranger")?);
+    };
+    match know.message(at) {
+        Some((time, packet)) => {
+            let octets = hexadecimal(alloc, packet.octets())?;
+            Ok(format!(in alloc; "{} {octets}", time.nanoseconds())?)
+        }
+        None => Ok(String::from_str(alloc, "none")?),
+    }
+}
+
+/// Whether two know the same of a channel.
+fn are_equal(one: &Know, other: &Know) -> bool {
+    for number in 0..one.len() as u64 {
+        if one.message(number) != other.message(number) {
+            return false;
+        }
+    }
+    one.len() == other.len() && one.clock() == other.clock()
+}
+
+/// Whether two replicas know the same of a channel.
+fn equal(alloc: Global, books: &[Book], words: Words) -> io::Result<String> {
+    let channel = ChanNo::new(words.short(3)?);
+    let one = book(books, words.index(1)?)?.know(channel);
+    let other = book(books, words.index(2)?)?.know(channel);
+    let (Some(one), Some(other)) = (one, other) else {
+        return Ok(String::from_str(alloc, "stranger")?);
+    };
+    let word = if are_equal(one, other) {
+        "equal"
+    } else {
+        "unequal"
+    };
+    Ok(String::from_str(alloc, word)?)
+}
+
+/// `fill`: a replica is told so many messages.
+fn fill(alloc: Global, books: &mut [Book], words: Words) -> io::Result<Word> {
+    let channel = words.short(2)?;
+    let packet = packet_of(alloc, 1, 7)?;
+    let book = book_mut(books, words.index(1)?)?;
+    for number in 0..words.number(3)? {
+        let told = message(channel, number, number.saturating_add(1), packet.clone()?);
+        if book.accept(&told).is_err() {
+            return Ok(("refused", Some(number)));
+        }
+    }
+    Ok(("ok", None))
+}
+
 /// Whether two replicas are as far, and say the same of a channel.
 fn are_alike(one: &Book, other: &Book, channel: ChanNo) -> bool {
     one.safe() == other.safe()
@@ -257,7 +319,9 @@ enum Look {
     Records,
     Totals,
     Knows,
+    Message,
     Alike,
+    Equal,
 }
 
 /// Their names.
@@ -269,6 +333,8 @@ const LOOKS: &[(&str, Look)] = &[
     ("records", Look::Records),
     ("totals", Look::Totals),
     ("knows", Look::Knows),
+    ("message", Look::Message),
+    ("equal", Look::Equal),
     ("alike", Look::Alike),
 ];
 
@@ -322,6 +388,8 @@ fn take_look(alloc: Global, books: &[Book], words: Words, look: Look) -> io::Res
         Look::Records => records(alloc, book),
         Look::Totals => totals(alloc, book, words.short(2)?),
         Look::Knows => knows(alloc, book, words.short(2)?),
+        Look::Message => known_message(alloc, book, words.short(2)?, words.number(3)?),
+        Look::Equal => equal(alloc, books, words),
         Look::Alike => alike(alloc, books, words),
     }
 }

@@ -9,10 +9,11 @@
 //! | `other B OLD / NEW` | B merges what a new replica of its partition in that text knows |
 
 use crate::bench::{Bench, book, book_mut, book_of, network};
+use crate::drains::are_part;
 use crate::said::{certified, merged, text as said_as};
 use crate::truth::{channels_of, do_round};
 use crate::words::{Words, number};
-use nm_base::{IfaceNo, PartNo, Record};
+use nm_base::{IfaceNo, PartNo};
 use nm_book::Book;
 use nm_rounds::certify::certify;
 use nm_sim::one_list;
@@ -99,31 +100,17 @@ fn merge_other(
 }
 
 /// The partition of an interface.
-fn partition_of(topology: &Topology, iface: IfaceNo) -> Option<PartNo> {
+pub fn partition_of(topology: &Topology, iface: IfaceNo) -> Option<PartNo> {
     let described = topology.ifaces().get(iface.index())?;
     let node = topology.nodes().get(described.node().index())?;
     Some(node.partition())
-}
-
-/// Whether a replica's trace is its partition's part of the whole one.
-fn is_part(topology: &Topology, whole: &[Record], book: &Book) -> bool {
-    let mut own = book.trace().iter();
-    for record in whole {
-        if partition_of(topology, record.iface) == Some(book.partition()) {
-            match own.next() {
-                Some(found) if found == record => {}
-                _ => return false,
-            }
-        }
-    }
-    own.next().is_none()
 }
 
 /// A replica's trace beside the one event list's.
 fn part(bench: &Bench, alloc: Global, of: usize) -> io::Result<String> {
     let book = book(bench.books.as_slice(), of)?;
     let whole = one_list(alloc, &bench.topology, bench.topology.stop())?;
-    let same = is_part(&bench.topology, &whole, book);
+    let same = are_part(&bench.topology, &whole, book.partition(), book.trace());
     Ok(String::from_str(alloc, if same { "same" } else { "other" })?)
 }
 

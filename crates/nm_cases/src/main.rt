@@ -1,4 +1,4 @@
-//! Compares the layers from replicas up to certificates with the cases in `data/cases/`.
+//! Compares the layers from replicas up to certificates and links with the cases in `data/cases/`.
 //!
 //! A case is a file `NAME.case` of lines. A line is a command, ` -> ` and what it answers; where the
 //! answer is left out it is `ok`. Empty lines, and lines that begin with `#`, say nothing.
@@ -15,11 +15,13 @@
 //! |---|---|
 //! | `text NAME` | begins anew with the network of `data/texts/NAME` |
 //! | module `books` | replicas, by their numbers in the order in which they were made |
+//! | module `drains` | records that replicas hand out |
 //! | module `certificates` | certificates of some of these replicas |
 //! | module `replays` | replays of steps, and rounds |
 //! | module `streams` | octets to frames, and back |
 //! | module `sessions` | sessions, by their numbers, over one of these replicas |
 //! | module `talks` | two replicas that talk over a connection which breaks |
+//! | module `links` | links of shared replicas over wires in memory, cut at each octet |
 //!
 //! Answers come from outside: from the rules in docs/, worked out by hand. The program prints each
 //! line that is answered otherwise, and how many lines each case has.
@@ -28,6 +30,10 @@
 mod bench;
 mod books;
 mod certificates;
+mod cuts;
+mod drains;
+mod ends;
+mod links;
 mod octets;
 mod pieces;
 mod promises;

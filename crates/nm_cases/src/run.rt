@@ -2,10 +2,11 @@
 
 use crate::bench::Bench;
 use crate::words::Words;
-use crate::{books, certificates, replays, sessions, streams, talks};
+use crate::{books, certificates, drains, links, replays, sessions, streams, talks};
 use std::alloc::Global;
 use std::fs::DirEntry;
 use std::rt::Files;
+use std::sync::Wait;
 use std::{fs, io};
 
 /// How many lines were run, and how many were answered otherwise.
@@ -21,11 +22,19 @@ fn words_of<'t>(alloc: Global, text: &'t str) -> io::Result<Vec<&'t str>> {
 }
 
 /// The first answer that there is.
-fn first_answer(bench: &mut Bench, alloc: Global, words: Words) -> io::Result<String> {
+fn first_answer<R: AllocGlobal + Wait>(
+    rt: &R,
+    bench: &mut Bench,
+    words: Words,
+) -> io::Result<String> {
+    let alloc = rt.alloc();
     if let Some(said) = books::answer(bench, alloc, words)? {
         return Ok(said);
     }
     if let Some(said) = certificates::answer(bench, alloc, words)? {
+        return Ok(said);
+    }
+    if let Some(said) = drains::answer(bench, alloc, words)? {
         return Ok(said);
     }
     if let Some(said) = replays::answer(bench, alloc, words)? {
@@ -37,6 +46,9 @@ fn first_answer(bench: &mut Bench, alloc: Global, words: Words) -> io::Result<St
     if let Some(said) = sessions::answer(bench, alloc, words)? {
         return Ok(said);
     }
+    if let Some(said) = links::answer(rt, bench, alloc, words)? {
+        return Ok(said);
+    }
     match talks::answer(bench, alloc, words)? {
         Some(said) => Ok(said),
         None => Err(io::Error::other("no command")),
@@ -44,7 +56,8 @@ fn first_answer(bench: &mut Bench, alloc: Global, words: Words) -> io::Result<St
 }
 
 /// What a command answers.
-fn answer(bench: &mut Bench, alloc: Global, command: &str) -> io::Result<String> {
+fn answer<R: AllocGlobal + Wait>(rt: &R, bench: &mut Bench, command: &str) -> io::Result<String> {
+    let alloc = rt.alloc();
     if let Some(rest) = command.strip_prefix("change ") {
         return certificates::change(bench, alloc, rest);
     }
@@ -58,7 +71,7 @@ fn answer(bench: &mut Bench, alloc: Global, command: &str) -> io::Result<String>
         return certificates::other(bench, alloc, rest);
     }
     let words = words_of(alloc, command)?;
-    first_answer(bench, alloc, Words::new(&words))
+    first_answer(rt, bench, Words::new(&words))
 }
 
 /// A line's command, and what it is to answer.
@@ -70,7 +83,7 @@ fn parts_of(line: &str) -> (&str, &str) {
 }
 
 /// Runs a line, and prints what it answers otherwise than it should: whether it does.
-fn differs<R: AllocGlobal + Print>(
+fn differs<R: AllocGlobal + Print + Wait>(
     rt: &R,
     bench: &mut Bench,
     place: (&str, usize),
@@ -78,7 +91,7 @@ fn differs<R: AllocGlobal + Print>(
 ) -> io::Result<bool> {
     let (command, want) = parts_of(line);
     let (name, number) = place;
-    let found = match answer(bench, rt.alloc(), command) {
+    let found = match answer(rt, bench, command) {
         Ok(found) => found,
         Err(error) => format!(in rt.alloc(); "error: {error}")?,
     };
@@ -100,7 +113,7 @@ fn begun<R: Files + AllocGlobal>(rt: &R, line: &str) -> io::Result<Option<Bench>
 }
 
 /// Runs the lines of a case.
-fn run_lines<R: Files + AllocGlobal + Print>(
+fn run_lines<R: Files + AllocGlobal + Print + Wait>(
     rt: &R,
     name: &str,
     text: &str,
@@ -127,7 +140,7 @@ fn run_lines<R: Files + AllocGlobal + Print>(
 }
 
 /// Runs the case of a name: how many of its lines differ.
-fn run_case<R: Files + AllocGlobal + Print>(rt: &R, name: &str) -> io::Result<u64> {
+fn run_case<R: Files + AllocGlobal + Print + Wait>(rt: &R, name: &str) -> io::Result<u64> {
     let path = format!(in rt.alloc(); "cases/{name}")?;
     let text = fs::read_to_string(rt, path.as_str())?;
     let mut bench = Bench::new(rt.alloc(), String::from_str(rt.alloc(), NO_NETWORK)?)?;
@@ -162,7 +175,7 @@ fn names<R: Files + AllocGlobal + Clone + Drop>(rt: &R) -> io::Result<Vec<String
 /// # Errors
 ///
 /// Where a line is answered otherwise than it should be, or a file cannot be read.
-pub fn run_all<R: Files + AllocGlobal + Print + Clone + Drop>(rt: &R) -> io::Result<()> {
+pub fn run_all<R: Files + AllocGlobal + Print + Wait + Clone + Drop>(rt: &R) -> io::Result<()> {
     let mut differing = 0u64;
     for name in names(rt)?.iter() {
         differing = differing.saturating_add(run_case(rt, name.as_str())?);

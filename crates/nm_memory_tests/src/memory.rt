@@ -2,4 +2,5 @@
 
 mod books;
 mod frames;
+mod parts;
 mod replays;

@@ -21,11 +21,10 @@ fn call<R: Net + Wait + Drop + Copy>(
     rt: &R,
     alloc: Global,
     topology: &Arc<Topology>,
-    listener: TcpListener,
     peers: &[SocketAddr],
     cuts: &[usize],
 ) -> io::Result<Served> {
-    let network = over_tcp(rt, alloc, listener, peers)?;
+    let network = over_tcp(rt, alloc, listen(rt)?, peers)?;
     let mut network = CutNetwork::new(network, cuts.to_vec(alloc)?);
     let peers = [PartNo::new(1)];
     let company = Company {
@@ -37,14 +36,14 @@ fn call<R: Net + Wait + Drop + Copy>(
     serve(rt, alloc, topology, &company, &mut network, &Open)
 }
 
-/// Serves the replica that is called.
+/// Serves the replica that is called at this address.
 fn answer<R: Net + Wait + Drop + Copy>(
     rt: &R,
     alloc: Global,
     topology: &Arc<Topology>,
-    listener: TcpListener,
+    address: SocketAddr,
 ) -> io::Result<Served> {
-    let mut network = over_tcp(rt, alloc, listener, &[])?;
+    let mut network = over_tcp(rt, alloc, TcpListener::bind(rt, address)?, &[])?;
     let company = Company {
         partition: PartNo::new(1),
         peers: &[],
@@ -52,6 +51,11 @@ fn answer<R: Net + Wait + Drop + Copy>(
         idle_limit: 100,
     };
     serve(rt, alloc, topology, &company, &mut network, &Open)
+}
+
+/// An address of 127.0.0.1 at a port that is free.
+fn free_address<R: Net>(rt: &R) -> io::Result<SocketAddr> {
+    listen(rt)?.local_addr()
 }
 
 /// Both end, and their books are certified: their traces are those of the one event list.
@@ -66,12 +70,12 @@ where
         + Copy,
 {
     let topology = network(alloc, text)?;
-    let (here, there) = (listen(rt)?, listen(rt)?);
-    let peers = [there.local_addr()?];
+    let address = free_address(rt)?;
+    let peers = [address];
     let (one, two) = join(
         rt,
-        || call(rt, alloc, &topology, here, &peers, cuts),
-        || answer(rt, alloc, &topology, there),
+        || call(rt, alloc, &topology, &peers, cuts),
+        || answer(rt, alloc, &topology, address),
     );
     let (near, far) = (one?, two?);
     assert!(rt; near.ending == Ending::Ended && far.ending == Ending::Ended);
@@ -96,9 +100,7 @@ fn two_threads_meet_again(rt: HostRuntime) -> Result<(), Fail> {
 #[test]
 fn a_peer_that_never_listens_stalls(rt: HostRuntime) -> Result<(), Fail> {
     let alloc = rt.alloc();
-    let gone = listen(&rt)?;
-    let peers = [gone.local_addr()?];
-    drop(gone);
+    let peers = [free_address(&rt)?];
     let topology = network(alloc, SPLIT)?;
     let listener = listen(&rt)?;
     let mut network = over_tcp(&rt, alloc, listener, &peers)?;

@@ -39,7 +39,7 @@ fn rubbish_before_hello_costs_the_connection(rt: HostRuntime) -> Result<(), Fail
 fn rubbish_after_hello_ends_the_replica(rt: HostRuntime) -> Result<(), Fail> {
     let alloc = rt.alloc();
     let mut sources = Vec::new(alloc);
-    sources.push(rubbish_behind_hello(alloc, 0)?)?;
+    sources.push(rubbish_behind_hello(alloc)?)?;
     assert!(rt; called_by(&rt, alloc, sources)? == Ending::Net);
     Ok(())
 }

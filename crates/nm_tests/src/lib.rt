@@ -10,11 +10,11 @@ mod base;
 #[cfg(test)]
 mod events;
 #[cfg(test)]
+mod faults;
+#[cfg(test)]
 mod forward;
 #[cfg(test)]
 mod iface;
-#[cfg(test)]
-mod knowledge;
 #[cfg(test)]
 mod memory;
 #[cfg(test)]

@@ -5,13 +5,11 @@
 //! What a test only needs is asked for twice, so that it is there even where memory was refused.
 
 use crate::forward::Bench;
-use crate::knowledge::is_known;
 use crate::same::{eq_number, eq_numbers, eq_octets, holds};
 use crate::texts::{DUO, TRIO};
 use bytes::Bytes;
 use nm_base::{IfaceNo, Packet, SourceNo, Time};
 use nm_forward::{Counter, Origin, Reaction};
-use nm_knowledge::{Accepted, Know, KnowFault};
 use nm_packet::{Icmp, MessageKind};
 use nm_topology::{Refusal, TopoFault, Topology};
 use nm_traffic::{Source, SourcePacket};
@@ -199,69 +197,5 @@ fn source_next(rt: HostRuntime) -> Result<(), Fail> {
     eq_number(&rt, "time", time.nanoseconds(), 0);
     let want = b"\x08\x00\xf7\xfe\x00\x01\x00\x00";
     eq_octets(&rt, "a request", packet.packet().octets(), want);
-    Ok(())
-}
-
-/// The messages that a channel is told.
-const MESSAGES: &[(u64, u8)] = &[(10, 0), (11, 1), (12, 2), (13, 3), (14, 4)];
-
-/// A channel that knows nothing yet is told a message for each of its numbers. A refused one
-/// changes nothing.
-fn tell(
-    rt: &(impl Abort + AllocGlobal),
-    know: &mut Know,
-    number: usize,
-    message: (u64, u8),
-) -> Result<(), Fail> {
-    let (time, octet) = message;
-    let packet = packet_of(rt.alloc(), &[1, 2, octet])?;
-    let at = Time::from_nanoseconds(time);
-    let clock = know.clock().nanoseconds();
-    let mut answer = know.accept_data(number as u64, at, &packet);
-    if answer == Err(KnowFault::Memory) {
-        assert!(rt; number <= MESSAGES.len());
-        holds(rt, "as it was", is_known(know, &MESSAGES[..number], clock));
-        answer = know.accept_data(number as u64, at, &packet);
-    }
-    assert!(rt; answer == Ok(Accepted::New), "message {number}");
-    Ok(())
-}
-
-/// A channel that was told them all.
-fn told(rt: &(impl Abort + AllocGlobal)) -> Result<Know, Fail> {
-    let mut know = Know::new(rt.alloc());
-    for (number, message) in MESSAGES.iter().enumerate() {
-        tell(rt, &mut know, number, *message)?;
-    }
-    Ok(know)
-}
-
-#[test]
-fn know_accept_data(rt: HostRuntime) -> Result<(), Fail> {
-    let know = told(&rt)?;
-    holds(&rt, "all are known", is_known(&know, MESSAGES, 14));
-    Ok(())
-}
-
-#[test]
-fn know_copy(rt: HostRuntime) -> Result<(), Fail> {
-    let know = told(&rt)?;
-    let first = know.copy(rt.alloc());
-    let copy = either(first, know.copy(rt.alloc()))?;
-    holds(&rt, "all are known", is_known(&copy, MESSAGES, 14));
-    Ok(())
-}
-
-#[test]
-fn know_merge(rt: HostRuntime) -> Result<(), Fail> {
-    let know = told(&rt)?;
-    let mut late = Know::new(rt.alloc());
-    let mut merged = late.merge(&know);
-    if merged == Err(KnowFault::Memory) {
-        holds(&rt, "as it was", is_known(&late, &[], 0));
-        merged = late.merge(&know);
-    }
-    holds(&rt, "merged", merged == Ok(()));
-    holds(&rt, "all are known", is_known(&late, MESSAGES, 14));
     Ok(())
 }

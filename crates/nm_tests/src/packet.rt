@@ -127,13 +127,6 @@ fn faults_are_numbered(rt: HostRuntime) {
     eq_numbers(&rt, "of messages", &icmp, &[1, 2]);
 }
 
-#[test]
-fn faults_say_what_is_wrong(rt: HostRuntime) -> Result<(), Fail> {
-    eq_shown(&rt, HeaderFault::Checksum, "the header checksum is wrong")?;
-    eq_shown(&rt, UdpFault::Short, "fewer than 8 octets")?;
-    eq_shown(&rt, IcmpFault::Checksum, "the checksum is wrong")
-}
-
 /// These octets and then so many zeros.
 fn padded(alloc: Global, text: &str, zeros: usize) -> Result<Vec<u8>, Fail> {
     let mut octets = hex::decode(alloc, text)?;

@@ -1,22 +1,13 @@
 //! `nm_topology`: as many members as the limits allow and one more, parts by their numbers, and
 //! messages.
 
-use crate::same::{eq_number, eq_shown, eq_text};
+use crate::same::{eq_number, eq_text};
 use crate::texts::{DUO, PARTITIONS};
 use nm_base::{ChanNo, IfaceNo, NodeNo};
-use nm_topology::{Refusal, TopoFault, Topology};
+use nm_topology::Topology;
 use std::alloc::Global;
 use std::process::Abort;
 use std::test::Fail;
-
-#[test]
-fn faults_say_what_is_wrong(rt: HostRuntime) -> Result<(), Fail> {
-    let double = TopoFault::Refused(Refusal::DoubleName);
-    let text = "topology refused: two nodes or two interfaces with one name";
-    eq_number(&rt, "memory", u64::from(TopoFault::Memory.number()), 14);
-    eq_shown(&rt, TopoFault::Memory, "out of memory")?;
-    eq_shown(&rt, double, text)
-}
 
 /// What is read of a text: the number of its fault, or 0 where it is accepted.
 fn answer(alloc: Global, text: &[u8]) -> u64 {

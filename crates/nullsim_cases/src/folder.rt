@@ -1,5 +1,6 @@
 //! The files of a folder of cases.
 
+use crate::called::run_called_case;
 use crate::pair::run_pair;
 use crate::reported::report_differs;
 use crate::table::run_table;
@@ -49,6 +50,7 @@ fn run_text<
         + std::thread::Threads
         + Wait
         + Sync
+        + Clone
         + Drop
         + Copy,
 >(rt: &R, stem: &str) -> io::Result<Tally> {
@@ -63,6 +65,9 @@ fn run_text<
     }
     if stem.starts_with("cases/runs/") || stem.starts_with("cases/shown/") {
         return run_words_case(rt, stem);
+    }
+    if stem.starts_with("cases/words/") {
+        return run_called_case(rt, stem);
     }
     let tally = run_pair(rt, stem)?;
     if stem.starts_with("cases/networks/") && report_differs(rt, stem)? {
@@ -80,6 +85,7 @@ fn run_file<
         + std::thread::Threads
         + Wait
         + Sync
+        + Clone
         + Drop
         + Copy,
 >(rt: &R, path: &str) -> io::Result<Tally> {
@@ -107,6 +113,7 @@ fn run_named<
         + std::thread::Threads
         + Wait
         + Sync
+        + Clone
         + Drop
         + Copy,
 >(rt: &R, folder: &str, name: &str) -> io::Result<Tally> {
@@ -127,6 +134,7 @@ fn run_all<
         + std::thread::Threads
         + Wait
         + Sync
+        + Clone
         + Drop
         + Copy,
 >(rt: &R, folder: &str, names: &[String]) -> io::Result<Tally> {

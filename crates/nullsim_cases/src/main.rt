@@ -11,7 +11,7 @@
 //!
 //! - A *pair* is a topology text `NAME.toml` and what it shows, `NAME.expect` (module `pair`), or in
 //!   the folders `check`, `rounds`, `runs`, `script` and `shown` what the program's words do with
-//!   it (module `words`).
+//!   it (module `words`), in the folder `words` with files beside it (module `called`).
 //! - A *table* `NAME.cases` has many cases, each some changes of one text of `data/texts/` (module
 //!   `table`).
 //!
@@ -19,6 +19,7 @@
 //! differs it ends with an error, and where a file is not in its form it ends there and then.
 #![tactic(auto)]
 
+mod called;
 mod change;
 mod compare;
 mod counted;

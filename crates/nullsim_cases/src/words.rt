@@ -15,6 +15,7 @@ use crate::compare::{differs, push_line};
 use crate::tally::Tally;
 use nm_base::MemSink;
 use nm_files::MemOutputs;
+use nm_files::mem_outputs::MemFile;
 use nm_program::{MemInputs, NamedInputs, run};
 use nm_progress::Progress;
 use std::net::Net;
@@ -23,22 +24,34 @@ use std::sync::Wait;
 use std::{fs, io};
 
 /// The greatest number of octets that a case writes.
-const MAX_OUTPUT_OCTETS: usize = 1_048_576;
+pub const MAX_OUTPUT_OCTETS: usize = 1_048_576;
 
 /// The most files that a case makes, and the greatest number of octets of one.
-const MAX_FILES: usize = 64;
+pub const MAX_FILES: usize = 64;
 
 const MAX_FILE_OCTETS: usize = 65_536;
 
 /// The greatest number of octets on standard error.
 const MAX_ERROR_OCTETS: usize = 64;
 
-/// What a run of the program did: its exit status, what it wrote, and its line on standard error.
+/// What a run of the program is given: standard input, the files by their names, how many octets
+/// standard output takes, and how many files can be made.
+#[derive(Clone, Copy)]
+pub struct Given<'a> {
+    pub standard: &'a [u8],
+    pub files: &'a [(&'a str, &'a [u8])],
+    pub room: usize,
+    pub makes: usize,
+}
+
+/// What a run of the program did: its exit status, what it wrote, its line on standard error, and
+/// the files that it made.
 #[derive(Drop)]
 pub struct Ended {
     pub code: u8,
     pub out: MemSink,
     pub errors: MemSink,
+    pub files: Vec<MemFile>,
 }
 
 /// The text that a sink took.
@@ -46,9 +59,8 @@ pub fn text_in(sink: &MemSink) -> io::Result<&str> {
     str::from_utf8(sink.octets()).map_err(|_| io::Error::other("what was written is no text"))
 }
 
-/// Runs the program with these words. Standard input has the topology, and the file `steps` has the
-/// script.
-pub fn run_words<
+/// Runs the program with these words.
+pub fn run_given<
     R: AllocGlobal
         + Net<Stream = std::net::TcpStream, Listener = std::net::TcpListener>
         + std::thread::Threads
@@ -56,24 +68,23 @@ pub fn run_words<
         + Sync
         + Drop
         + Copy,
->(rt: &R, words: &[&str], topology: &[u8], steps: &[u8]) -> io::Result<Ended> {
+>(rt: &R, words: &[&str], given: Given) -> io::Result<Ended> {
     let alloc = rt.alloc();
     let mut owned = Vec::new(alloc);
     for word in words {
         owned.push(String::from_str(alloc, word)?)?;
     }
-    let files = [("steps", steps)];
     let mut inputs = NamedInputs::new(MemInputs {
-        standard: topology,
-        files: &files,
+        standard: given.standard,
+        files: given.files,
     });
     let mut outputs = MemOutputs {
         alloc,
         file_octets: MAX_FILE_OCTETS,
-        room: MAX_FILES,
+        room: given.makes,
         files: Vec::new(alloc),
     };
-    let out = MemSink::new(alloc, MAX_OUTPUT_OCTETS)?;
+    let out = MemSink::new(alloc, given.room)?;
     let mut errors = MemSink::new(alloc, MAX_ERROR_OCTETS)?;
     let (status, out) = run(
         rt,
@@ -89,7 +100,29 @@ pub fn run_words<
         code: status.code(),
         out,
         errors,
+        files: outputs.files,
     })
+}
+
+/// Runs the program with these words. Standard input has the topology, and the file `steps` has the
+/// script.
+pub fn run_words<
+    R: AllocGlobal
+        + Net<Stream = std::net::TcpStream, Listener = std::net::TcpListener>
+        + std::thread::Threads
+        + Wait
+        + Sync
+        + Drop
+        + Copy,
+>(rt: &R, words: &[&str], topology: &[u8], steps: &[u8]) -> io::Result<Ended> {
+    let files = [("steps", steps)];
+    let given = Given {
+        standard: topology,
+        files: &files,
+        room: MAX_OUTPUT_OCTETS,
+        makes: MAX_FILES,
+    };
+    run_given(rt, words, given)
 }
 
 /// The number of a line `max MAX status STATUS`.

@@ -1,22 +1,11 @@
-//! Tests of the program: its words, its ways to end, and its one function over words, inputs and
-//! sinks.
+//! Tests of the program: what no case of `nullsim_cases` can show.
 #![tactic(auto)]
 
 #[cfg(test)]
-mod commands;
-#[cfg(test)]
 mod fixtures;
 #[cfg(test)]
-mod names;
+mod inputs;
 #[cfg(test)]
 mod nodes;
 #[cfg(test)]
-mod partitions;
-#[cfg(test)]
 mod progress;
-#[cfg(test)]
-mod runs;
-#[cfg(test)]
-mod statuses;
-#[cfg(test)]
-mod trace_files;

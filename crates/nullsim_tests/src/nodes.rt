@@ -1,14 +1,9 @@
 //! The word `node`: replicas of two partitions over loopback.
 
-use crate::fixtures::{line_of, words_of, written_by};
-use crate::runs::RING;
+use crate::fixtures::{Ended, run_line};
 use mio::net::TcpListener;
-use nm_base::MemSink;
 use nm_command::Status;
-use nm_files::MemOutputs;
-use nm_files::mem_outputs::MemFile;
-use nm_program::{MemInputs, NamedInputs, run};
-use nm_progress::Progress;
+use nm_program::MemInputs;
 use std::alloc::Global;
 use std::net::{Ipv4Addr, Net, SocketAddr};
 use std::process::Abort;
@@ -31,18 +26,9 @@ source = [
   {kind = "cbr", node = "a", to = "10.0.0.2", sport = 1000, dport = 9, size = 72, start = 0, interval = 1000000, count = 1} ]
 "#;
 
-/// How a node or a run ended: its status, what it said, its line on standard error, and its files.
-#[derive(Drop)]
-pub struct Ended {
-    pub status: Status,
-    pub out: MemSink,
-    pub errors: MemSink,
-    pub files: Vec<MemFile>,
-}
-
-/// Runs the program on the words of a line. The input `split.toml` is SPLIT, `ring.toml` RING,
-/// and `addresses` has these lines. So many files can be made.
-pub fn run_line<
+/// Runs the program on the words of a line. The input `split.toml` is SPLIT, and `addresses` has
+/// these lines. One file can be made.
+fn run_split<
     R: AllocGlobal
         + Net<Stream = std::net::TcpStream, Listener = std::net::TcpListener>
         + std::thread::Threads
@@ -50,43 +36,16 @@ pub fn run_line<
         + Sync
         + Drop
         + Copy,
->(rt: &R, line: &str, addresses: &str, room: usize) -> io::Result<Ended> {
-    let alloc = rt.alloc();
-    let words = words_of(alloc, line)?;
+>(rt: &R, line: &str, addresses: &str) -> io::Result<Ended> {
     let files = [
         ("split.toml", SPLIT.as_bytes()),
-        ("ring.toml", RING.as_bytes()),
-        ("bad.toml", b"format".as_slice()),
         ("addresses", addresses.as_bytes()),
     ];
-    let mut inputs = NamedInputs::new(MemInputs {
+    let inputs = MemInputs {
         standard: b"".as_slice(),
         files: &files,
-    });
-    let mut outputs = MemOutputs {
-        alloc,
-        file_octets: 1_000,
-        room,
-        files: Vec::new(alloc),
     };
-    let out = MemSink::new(alloc, 400)?;
-    let mut errors = MemSink::new(alloc, 64)?;
-    let (status, out) = run(
-        rt,
-        alloc,
-        words.as_slice(),
-        &mut inputs,
-        &mut outputs,
-        out,
-        &mut errors,
-        &Progress::new(),
-    );
-    Ok(Ended {
-        status,
-        out,
-        errors,
-        files: outputs.files,
-    })
+    run_line(rt, line, inputs, 1)
 }
 
 /// Addresses of both partitions at ports of 127.0.0.1 that were free.
@@ -115,10 +74,11 @@ fn is_done<
     assert!(rt; ended.errors.octets().is_empty());
     assert!(rt; ended.files.len() == 1);
     let name = format!(in rt.alloc(); "out/{iface}.pcap")?;
-    let wanted = written_by(rt, iface, SPLIT)?;
+    let line = format!(in rt.alloc(); "one split.toml {iface}")?;
+    let wanted = run_split(rt, line.as_str(), "")?;
     for file in &ended.files {
         assert!(rt; file.name.as_str() == name.as_str());
-        assert!(rt; file.octets.as_slice() == wanted.octets());
+        assert!(rt; file.octets.as_slice() == wanted.out.octets());
     }
     Ok(())
 }
@@ -137,8 +97,8 @@ where
 {
     let (zero, one) = join(
         rt,
-        || run_line(rt, "node split.toml out 0 0 addresses", addresses, 1),
-        || run_line(rt, "node split.toml out 1 0 addresses", addresses, 1),
+        || run_split(rt, "node split.toml out 0 0 addresses", addresses),
+        || run_split(rt, "node split.toml out 1 0 addresses", addresses),
     );
     is_done(rt, &zero?, "a0")?;
     is_done(rt, &one?, "b0")
@@ -149,56 +109,4 @@ where
 fn two_nodes_write_what_one_writes(rt: HostRuntime) -> Result<(), Fail> {
     let addresses = free_addresses(&rt, rt.alloc())?;
     both(&rt, addresses.as_str())
-}
-
-/// The program ends with this status and its line, says nothing, and makes no file.
-fn ends_with<
-    R: Abort
-        + AllocGlobal
-        + Net<Stream = std::net::TcpStream, Listener = std::net::TcpListener>
-        + std::thread::Threads
-        + Wait
-        + Sync
-        + Drop
-        + Copy,
->(rt: &R, (line, addresses, status): (&str, &str, Status)) -> Result<(), Fail> {
-    let ended = run_line(rt, line, addresses, 1)?;
-    assert!(rt; ended.status == status, "{line}, {addresses}");
-    let said = line_of(rt.alloc(), status)?;
-    assert!(rt; ended.errors.octets() == said.octets(), "{line}");
-    assert!(rt;
-        ended.out.octets().is_empty() && ended.files.is_empty(),
-        "{line}"
-    );
-    Ok(())
-}
-
-/// Addresses that say nothing of this replica.
-#[test]
-fn addresses_that_are_refused(rt: HostRuntime) -> Result<(), Fail> {
-    let line = "node split.toml out 0 0 addresses";
-    for addresses in [
-        "",
-        "0 0 127.0.0.1:0\n\n1 0 127.0.0.1:1\n",
-        "0 0 127.0.0.1:0\n0 0 127.0.0.1:1\n",
-        "1 0 127.0.0.1:0\n",
-        "0 1 127.0.0.1:0\n",
-        "0 0 127.0.0.1:0",
-        "0 0 127.0.0.1:65536\n",
-        "0 0 127.0.0.1:0\n2 0 127.0.0.1:1\n",
-        "0 0 127.0.0.01:0\n",
-    ] {
-        ends_with(&rt, (line, addresses, Status::Usage))?;
-    }
-    let absent = "node split.toml out 2 0 addresses";
-    ends_with(&rt, (absent, "2 0 127.0.0.1:0\n", Status::Usage))
-}
-
-/// The inputs come before the topology, and that before the addresses.
-#[test]
-fn inputs_that_are_refused(rt: HostRuntime) -> Result<(), Fail> {
-    ends_with(&rt, ("node none out 0 0 addresses", "", Status::File))?;
-    ends_with(&rt, ("node bad.toml out 0 0 none", "", Status::File))?;
-    let text = Status::Topology(nm_topology::Refusal::Text);
-    ends_with(&rt, ("node bad.toml out 0 0 addresses", "", text))
 }

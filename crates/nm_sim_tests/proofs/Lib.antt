@@ -1,2 +1,0 @@
-pub mod Feeding
-pub mod Rows

@@ -1,9 +1,0 @@
-use Rattle.std.proofs.Common.{ℕ, List, None}
-use Rattle.nm_model.specs.Run.{State}
-use Rattle.nm_forward.specs.State.{NodeStateValue}
-use Rattle.nm_events.specs.Held.{pending_of}
-use Rattle.nm_sim.specs.Part.{Represents}
-use Rattle.nm_sim_tests.proofs.handed.run_handing_out.Given as goal
-
-abbrev pub invariant-loop-done : goal.invariant-loop-done
-invariant-loop-done l = (s : State (List ℕ) NodeStateValue) × Represents pending_of l.topology None l.run.part s

@@ -1,6 +1,0 @@
-use Rattle.nm_events.specs.Held.{pending_of}
-use Rattle.nm_sim_tests.specs.Fed.{IsFed}
-use Rattle.nm_sim_tests.proofs.memory.run_at_last.Given as goal
-
-abbrev pub invariant-loop : goal.invariant-loop
-invariant-loop g l = IsFed pending_of l.topology l.fed.of l.fed.part l.fed.told.items

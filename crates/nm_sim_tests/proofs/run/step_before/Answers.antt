@@ -1,9 +1,0 @@
-use Rattle.std.proofs.Common.{None}
-use Rattle.nm_sim.proofs.Stepping.{represents_stepped}
-use Rattle.nm_sim_tests.proofs.run.step_before.Goals as goal
-
-pub returns : goal.returns
-returns g c =
-    let z = c.requires in
-    represents_stepped g.L.EventList.pending c.args.topology.now None _ z.0 c.args.part.now c.step.new.self c.step.result z.1
-    (c.step.ensures.step None z.0 z.1)

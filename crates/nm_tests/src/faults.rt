@@ -1,0 +1,58 @@
+//! The texts of faults: no contract has them.
+
+use crate::same::{eq_number, eq_shown};
+use nm_knowledge::KnowFault;
+use nm_packet::{HeaderFault, IcmpFault, UdpFault};
+use nm_topology::{Refusal, TopoFault};
+use std::process::Abort;
+use std::test::Fail;
+
+#[test]
+fn faults_of_packets(rt: HostRuntime) -> Result<(), Fail> {
+    eq_shown(&rt, HeaderFault::Checksum, "the header checksum is wrong")?;
+    eq_shown(&rt, UdpFault::Short, "fewer than 8 octets")?;
+    eq_shown(&rt, IcmpFault::Checksum, "the checksum is wrong")
+}
+
+#[test]
+fn faults_of_topologies(rt: HostRuntime) -> Result<(), Fail> {
+    let double = TopoFault::Refused(Refusal::DoubleName);
+    let text = "topology refused: two nodes or two interfaces with one name";
+    eq_number(&rt, "memory", u64::from(TopoFault::Memory.number()), 14);
+    eq_shown(&rt, TopoFault::Memory, "out of memory")?;
+    eq_shown(&rt, double, text)
+}
+
+fn say(rt: &(impl Abort + AllocGlobal), rows: &[(KnowFault, &str)]) -> Result<(), Fail> {
+    for (fault, text) in rows {
+        eq_shown(rt, fault, text)?;
+    }
+    Ok(())
+}
+
+#[test]
+fn faults_of_knowledge(rt: HostRuntime) -> Result<(), Fail> {
+    say(
+        &rt,
+        &[
+            (
+                KnowFault::Gap { have: 2 },
+                "a gap: only 2 messages are known",
+            ),
+            (
+                KnowFault::Differs { number: 7 },
+                "message 7 differs from the one that is known",
+            ),
+            (
+                KnowFault::Late { clock: 50 },
+                "a message is before the channel clock 50",
+            ),
+            (KnowFault::NotRising, "a message is not after the last one"),
+            (KnowFault::Memory, "out of memory for messages"),
+            (
+                KnowFault::Contrary { count: 1 },
+                "a null message contradicts message 1",
+            ),
+        ],
+    )
+}
