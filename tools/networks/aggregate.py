@@ -1,0 +1,66 @@
+"""Few prefixes for many addresses: the least table of which the longest prefix decides as asked.
+
+The manner is that of Draves, King, Venkatachary and Zill, "Constructing Optimal IP Routing Tables" (1999), with one difference: what no interface has
+is left open, and a prefix is no shorter than what it stands for.
+"""
+
+
+class Tree:
+    """The addresses as a binary tree: a leaf for each, and an inner place where two of them part. Each place has a prefix."""
+
+    def __init__(self, addresses):
+        """`addresses` are numbers, rising."""
+        self.prefixes, self.children = [], []
+        self.leaf_of = [0] * len(addresses)
+        self.root = self.grow(addresses, 0, len(addresses)) if addresses else None
+
+    def grow(self, addresses, first, past):
+        """The place of some addresses in turn; its parts have lesser numbers than it."""
+        low, high = addresses[first], addresses[past - 1]
+        length = 32 - (low ^ high).bit_length()
+        pair = None
+        if first + 1 < past:
+            bit = 1 << 31 - length
+            middle = next(number for number in range(first, past) if addresses[number] & bit)
+            pair = (self.grow(addresses, first, middle), self.grow(addresses, middle, past))
+        self.prefixes.append((low >> 32 - length << 32 - length if length else 0, length))
+        self.children.append(pair)
+        if pair is None:
+            self.leaf_of[first] = len(self.children) - 1
+        return len(self.children) - 1
+
+    def wanted(self, asked):
+        """For each place the answers that are cheapest for it; None where all are open."""
+        held = [None] * len(self.children)
+        for number, leaf in enumerate(self.leaf_of):
+            held[leaf] = None if asked[number] is None else frozenset((asked[number],))
+        for place, pair in enumerate(self.children):
+            if pair:
+                left, right = held[pair[0]], held[pair[1]]
+                if left is None or right is None:
+                    held[place] = right if left is None else left
+                else:
+                    held[place] = left & right or left | right
+        return held
+
+    def table(self, asked):
+        """Prefixes, each with an answer: the longest that holds address number i has the answer asked[i], where that is not None."""
+        if self.root is None:
+            return []
+        held, found = self.wanted(asked), []
+        waiting = [(self.root, None)]
+        while waiting:
+            place, given = waiting.pop()
+            pair = self.children[place]
+            # Where one side is open the prefix of the other does: it is the longer one.
+            while pair and (held[pair[0]] is None or held[pair[1]] is None) and held[place] is not None:
+                place = pair[1] if held[pair[0]] is None else pair[0]
+                pair = self.children[place]
+            if held[place] is None:
+                continue
+            if given not in held[place]:
+                given = min(held[place])
+                found.append((*self.prefixes[place], given))
+            if pair:
+                waiting += [(pair[1], given), (pair[0], given)]
+        return found

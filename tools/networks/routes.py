@@ -1,0 +1,94 @@
+"""The static routes of a network, by shortest paths, in as few prefixes as they need."""
+
+from networks import aggregate, errors, limits, paths
+from networks.topology import Route
+
+
+def computed(network, weight, spread=False, name=""):
+    """The routes of all nodes. A node with one interface has a default route, the others what they need."""
+    ends = network.ends()
+    costs = [paths.cost(link, weight) for link in network.links]
+    chosen = [paths.next_ifaces(network, ends, costs, goal, spread) for goal in range(len(network.nodes))]
+    order = sorted(network.ifaces, key=lambda iface: iface.address)
+    tree = aggregate.Tree([iface.address for iface in order])
+    routes = []
+    for node, own in enumerate(ends):
+        if len(own) == 1 and network.nodes[node].kind == "host":
+            routes.append(Route(node, 0, 0, own[0][0]))
+            continue
+        asked = [chosen[iface.node][node] for iface in order]
+        found = sorted(tree.table(asked))
+        if len(found) > limits.NODE_ROUTES:
+            raise errors.Refused(name, f'node "{network.nodes[node].name}" would need {len(found):,} routes{advice()}')
+        routes += [Route(node, *line) for line in found]
+    if len(routes) > limits.ROUTES:
+        raise errors.Refused(name, f"the network would need {len(routes):,} routes, and at most {limits.ROUTES:,} may be{advice(False)}")
+    return routes
+
+
+def advice(is_of_node=True):
+    """What helps against too many routes."""
+    most = f", and at most {limits.NODE_ROUTES:,} may be" if is_of_node else ""
+    return f"{most}: leave out spread, or give the nodes of one part of the network addresses of one prefix, as `network make` does"
+
+
+def unaggregated(network):
+    """How many routes there would be with one for each address of each other node."""
+    return sum(len(network.ifaces) - len(own) for own in network.ends())
+
+
+def via_of(routes, address):
+    """The interface of the longest prefix that holds an address, or None."""
+    best = None
+    for route in routes:
+        if (address ^ route.prefix) >> 32 - route.length == 0 and (best is None or route.length > best.length):
+            best = route
+    return None if best is None else best.via
+
+
+def way(network, node_routes, links_of, start, address, most=256):
+    """The nodes and links that a packet passes from a node to an address: [(node, own interface, link)], and the node where it ends or None."""
+    owner = {iface.address: iface.node for iface in network.ifaces}.get(address)
+    node, passed = start, []
+    while node != owner:
+        via = via_of(node_routes[node], address) if node == start or network.nodes[node].kind == "router" else None
+        if via is None or len(passed) >= most:
+            return passed, None
+        link, far = links_of[via]
+        passed.append((node, via, link))
+        node = network.ifaces[far].node
+    return passed, owner
+
+
+def far_ends(network):
+    """For each interface its link and the interface at the far end."""
+    found = {}
+    for number, link in enumerate(network.links):
+        found[link.a], found[link.b] = (number, link.b), (number, link.a)
+    return found
+
+
+def check_joined(network, name, place_of=None):
+    """Refuses a network in several pieces."""
+    pieces = paths.parts(network)
+    if len(pieces) > 1:
+        one, other = (network.nodes[piece[0]].name for piece in pieces[:2])
+        place = place_of(pieces[1][0]) if place_of else name
+        raise errors.Refused(place, f'the network is in {len(pieces)} pieces: no links lead from node "{one}" to node "{other}"')
+
+
+def check_flows(network, place_of):
+    """Refuses a source whose packets have no way to their destination, or whose echo replies have none back."""
+    node_routes, links_of = network.node_routes(), far_ends(network)
+    owners = network.node_of_address()
+    for number, source in enumerate(network.sources):
+        if source.kind == "raw" or source.to not in owners:
+            continue
+        passed, end = way(network, node_routes, links_of, source.node, source.to)
+        begin, goal = network.nodes[source.node].name, network.nodes[owners[source.to]].name
+        if end is None:
+            raise errors.Refused(place_of(number), f'there is no way by routers from node "{begin}" to node "{goal}"')
+        if source.kind == "echo" and passed:
+            back = network.ifaces[passed[0][1]].address
+            if way(network, node_routes, links_of, end, back)[1] is None:
+                raise errors.Refused(place_of(number), f'there is no way by routers back from node "{goal}" to node "{begin}"')
