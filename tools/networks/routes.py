@@ -2,6 +2,7 @@
 
 from networks import aggregate, errors, limits, paths
 from networks.topology import Route
+from networks.ways import Ways
 
 
 def computed(network, weight, spread=False, name=""):
@@ -37,37 +38,6 @@ def unaggregated(network):
     return sum(len(network.ifaces) - len(own) for own in network.ends())
 
 
-def via_of(routes, address):
-    """The interface of the longest prefix that holds an address, or None."""
-    best = None
-    for route in routes:
-        if (address ^ route.prefix) >> 32 - route.length == 0 and (best is None or route.length > best.length):
-            best = route
-    return None if best is None else best.via
-
-
-def way(network, node_routes, links_of, start, address, most=256):
-    """The nodes and links that a packet passes from a node to an address: [(node, own interface, link)], and the node where it ends or None."""
-    owner = {iface.address: iface.node for iface in network.ifaces}.get(address)
-    node, passed = start, []
-    while node != owner:
-        via = via_of(node_routes[node], address) if node == start or network.nodes[node].kind == "router" else None
-        if via is None or len(passed) >= most:
-            return passed, None
-        link, far = links_of[via]
-        passed.append((node, via, link))
-        node = network.ifaces[far].node
-    return passed, owner
-
-
-def far_ends(network):
-    """For each interface its link and the interface at the far end."""
-    found = {}
-    for number, link in enumerate(network.links):
-        found[link.a], found[link.b] = (number, link.b), (number, link.a)
-    return found
-
-
 def check_joined(network, name, place_of=None):
     """Refuses a network in several pieces."""
     pieces = paths.parts(network)
@@ -79,16 +49,15 @@ def check_joined(network, name, place_of=None):
 
 def check_flows(network, place_of):
     """Refuses a source whose packets have no way to their destination, or whose echo replies have none back."""
-    node_routes, links_of = network.node_routes(), far_ends(network)
-    owners = network.node_of_address()
+    ways = Ways(network)
     for number, source in enumerate(network.sources):
-        if source.kind == "raw" or source.to not in owners:
+        if source.kind == "raw" or source.to not in ways.owners:
             continue
-        passed, end = way(network, node_routes, links_of, source.node, source.to)
-        begin, goal = network.nodes[source.node].name, network.nodes[owners[source.to]].name
+        passed, end = ways.way(source.node, source.to)
+        begin, goal = network.nodes[source.node].name, network.nodes[ways.owners[source.to]].name
         if end is None:
             raise errors.Refused(place_of(number), f'there is no way by routers from node "{begin}" to node "{goal}"')
         if source.kind == "echo" and passed:
             back = network.ifaces[passed[0][1]].address
-            if way(network, node_routes, links_of, end, back)[1] is None:
+            if ways.way(end, back)[1] is None:
                 raise errors.Refused(place_of(number), f'there is no way by routers back from node "{goal}" to node "{begin}"')
