@@ -50,8 +50,9 @@ def blocks(network):
 def give(network, prefix, place):
     """Gives each interface an address of the prefix; says how many blocks there are and how many addresses they take."""
     base, length = prefix
-    if fields.is_martian(base) or length < 4 or (length < 8 and fields.is_martian(base | 127 << 24 - (length > 7))):
-        raise errors.Refused(place, f"of the prefix {fields.prefix_said(*prefix)} no addresses can be given: nothing may be sent to some of them")
+    last = base + (1 << 32 - length) - 1
+    if any(base <= high and low <= last for low, high in fields.MARTIANS):
+        raise errors.Refused(place, f"of the prefix {fields.prefix_said(*prefix)} no addresses are given: nothing may be sent to some of them")
     ifaces_of = [[] for _ in network.nodes]
     for number, iface in enumerate(network.ifaces):
         ifaces_of[iface.node].append(number)

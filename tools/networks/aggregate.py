@@ -51,16 +51,22 @@ class Tree:
         waiting = [(self.root, None)]
         while waiting:
             place, given = waiting.pop()
-            pair = self.children[place]
-            # Where one side is open the prefix of the other does: it is the longer one.
-            while pair and (held[pair[0]] is None or held[pair[1]] is None) and held[place] is not None:
-                place = pair[1] if held[pair[0]] is None else pair[0]
-                pair = self.children[place]
             if held[place] is None:
                 continue
-            if given not in held[place]:
+            pair = self.children[place]
+            if pair and self.is_parted(held, pair):
+                # An answer here would save a prefix on one side and cost this one: the two sides have their own, which reads more easily.
+                waiting += [(pair[1], given), (pair[0], given)]
+                continue
+            if given not in held[place] and not (pair and None in (held[pair[0]], held[pair[1]])):
                 given = min(held[place])
                 found.append((*self.prefixes[place], given))
             if pair:
                 waiting += [(pair[1], given), (pair[0], given)]
         return found
+
+    @staticmethod
+    def is_parted(held, pair):
+        """Whether the two sides have no answer in common."""
+        left, right = held[pair[0]], held[pair[1]]
+        return left is not None and right is not None and not left & right

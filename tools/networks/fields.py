@@ -109,9 +109,13 @@ def address(value):
     return first << 24 | second << 16 | third << 8 | fourth
 
 
+# Nothing may be sent to these addresses: 0/8, 127/8, 224/4 and 240/4.
+MARTIANS = ((0, (1 << 24) - 1), (127 << 24, (128 << 24) - 1), (224 << 24, (1 << 32) - 1))
+
+
 def is_martian(number):
-    """Whether nothing may be sent to an address: 0/8, 127/8, 224/4, 240/4."""
-    return number >> 24 in (0, 127) or number >> 28 in (14, 15)
+    """Whether nothing may be sent to an address."""
+    return any(low <= number <= high for low, high in MARTIANS)
 
 
 def real_address(value):
