@@ -1,6 +1,6 @@
 """Partitions for a topology text, and what each cut link costs."""
 
-from networks import cutting, editing, errors, limits, making, paths, tables, topology, traffic, units, weights
+from networks import coarse, editing, errors, limits, making, paths, tables, topology, traffic, units
 
 
 def chosen(text, count, by=None):
@@ -25,7 +25,7 @@ def chosen(text, count, by=None):
 
 def split(network, found, count, by):
     """The partition of each node, numbered in the order of the nodes."""
-    parts, how = cutting.cut(*weights.graph(network, found), count, by)
+    parts, how = coarse.cut(network, found, count, by)
     parts = filled(network, found, parts, count)
     number_of = {}
     for part in parts:

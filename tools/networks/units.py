@@ -19,12 +19,12 @@ def quantity(text, units):
 
 
 def said(number, units):
-    """A number with the greatest unit in which it is whole or has at most three decimals, as "2.5 ms"."""
+    """A number with the greatest unit in which it is at least 1, as "2.5 ms"; all its digits are there."""
     for unit, size in sorted(units.items(), key=lambda pair: -pair[1]):
-        thousandths = Fraction(number * 1000, size)
-        if number >= size and thousandths.denominator == 1:
-            whole, rest = divmod(int(thousandths), 1000)
-            return f"{whole}{f'.{rest:03d}'.rstrip('0') if rest else ''} {unit}"
+        if number >= size:
+            whole, rest = divmod(number, size)
+            digits = str(rest).rjust(len(str(size)) - 1, "0").rstrip("0") if rest else ""
+            return f"{whole}{f'.{digits}' if digits else ''} {unit}"
     return f"{number} {min(units, key=units.get)}"
 
 
