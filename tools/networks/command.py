@@ -59,7 +59,7 @@ def do_show(words):
     """A page about a network."""
     from networks import page
 
-    sys.stdout.write(page.html(toml.load(words.file)))
+    sys.stdout.write(page.html_text(toml.load(words.file)))
 
 
 def parser():

@@ -83,8 +83,13 @@ def named(made):
     """The new name of each node; with each goes the name that a host behind it would have."""
     given, found_names = names.Names(), {}
     for key, node in made.nodes.items():
-        found_names[key] = given.give(node.label, longest=LONGEST)
-        given.taken.add(f"{found_names[key]}-h1")
+        # A label without a letter or number of a name is called after the node's id.
+        word = names.plain(node.label) or f"n-{key}"
+        name = given.give(word, longest=LONGEST)
+        while f"{name}-h1" in given.taken:
+            name = given.give(word, longest=LONGEST)
+        found_names[key] = name
+        given.taken.add(f"{name}-h1")
     return found_names
 
 
@@ -94,11 +99,11 @@ def comment(text):
 
 
 def node_lines(made, name_of):
-    """The nodes as an array of tables; behind each its old name and its place."""
+    """The nodes as an array of tables; behind each its place."""
     lines = []
     for key, node in made.nodes.items():
-        place = f", {node.place[0]:.2f} {node.place[1]:.2f}" if node.place else ""
-        lines.append(f'  {{name = "{name_of[key]}"}},  # {comment(node.label)}{place}')
+        place = f"  # latitude {node.place[0]:.2f}, longitude {node.place[1]:.2f}" if node.place else ""
+        lines.append(f'  {{name = "{name_of[key]}"}},{place}')
     return ["node = [", *lines, "]"]
 
 
@@ -134,6 +139,14 @@ def ending(made, weight):
     return [f'weight = "{weight}"', "", *lines]
 
 
+def unsaid(made):
+    """How many links say no rate, and how many no delay."""
+    for key in ("rate", "delay"):
+        count = sum(getattr(link, key) is None for link in made.links)
+        if count:
+            yield f"{count} of {len(made.links)} links say no {key}: the default holds for them"
+
+
 def spec_text(words):
     """The SPEC, and what is said of it, in lines."""
     made = read(words)
@@ -141,12 +154,7 @@ def spec_text(words):
     found.delays_by_distance(made)
     name_of = named(made)
     weight = "cost" if any(link.cost is not None for link in made.links) else "delay"
-    unsaid = [sum(getattr(link, key) is None for link in made.links) for key in ("rate", "delay")]
-    said = [
-        f"{len(made.nodes)} nodes, {len(made.links)} links, read as {made.kind}",
-        f"{unsaid[0]} links say no rate, {unsaid[1]} no delay: the defaults hold for them",
-        *made.remarks,
-    ]
+    said = [f"{len(made.nodes)} nodes, {len(made.links)} links, read as {made.kind}", *unsaid(made), *made.remarks]
     tail = ending(made, weight)
     title = comment(os.path.basename(words.file)).replace("\\", "?").replace('"', "?")
     lines = [f"# A SPEC for `network make`, imported from {title}.", *(f"# {comment(line)}" for line in said), "#", *renamed_lines(made, name_of), ""]
