@@ -17,14 +17,14 @@ RADIUS_A_NODE = 26
 
 
 def colour(load):
-    """From green, nothing to do, to red, always busy; the load is in thousandths."""
-    share = min(1000, load)
+    """From green, nothing to do, to red, always busy; the load is in millionths."""
+    share = min(1000, load // 1000)
     return f"#{min(255, 40 + share * 215 * 2 // 1000):02x}{max(0, 150 - share * 130 // 1000):02x}30"
 
 
 def width(load):
     """How thick a link is drawn."""
-    return 1.2 + min(1000, load) / 250
+    return 1.2 + min(10**6, load) / 250_000
 
 
 def dot_text(network, loads):
@@ -36,7 +36,7 @@ def dot_text(network, loads):
         lines.append(f'n{number} [label="{node.name}", shape={shape}, fillcolor="{FILLS[node.partition % len(FILLS)]}", tooltip="{node.name}: partition {node.partition}"];')
     for number, link in enumerate(network.links):
         one, other = network.link_nodes(number)
-        says = f"{units.rate_said(link.rate)}, {units.time_said(link.delay)}, busy {loads[number] / 10:.1f}%"
+        says = f"{units.rate_said(link.rate)}, {units.time_said(link.delay)}, busy {loads[number] / 10**4:.2f}%"
         style = ', style="dashed"' if network.nodes[one].partition != network.nodes[other].partition else ""
         far = 1.6 if "host" not in (network.nodes[one].kind, network.nodes[other].kind) else 0.9
         lines.append(f'n{one} -- n{other} [color="{colour(loads[number])}", penwidth={width(loads[number]):.2f}, len={far}, tooltip="{says}"{style}];')

@@ -41,7 +41,7 @@ def links_table(network, found, loads):
                 network.ifaces[link.a].queue,
                 f"{found.packets[link.a]:,}",
                 f"{found.packets[link.b]:,}",
-                f"{loads[number] / 10:.1f}%",
+                f"{loads[number] / 10**4:.2f}%",
                 " and ".join(f"{part}" for part in sorted(cut)) if len(cut) > 1 else "",
             )
         )
@@ -78,7 +78,7 @@ def key_of_colours(network):
     """What the colours mean."""
     parts = sorted({node.partition for node in network.nodes})[: len(drawing.FILLS)]
     pieces = [f'<span><i style="background:{drawing.FILLS[part % len(drawing.FILLS)]}"></i>partition {part}</span>' for part in parts]
-    pieces += [f'<span><i style="background:{drawing.colour(load)}"></i>{load // 10}% busy</span>' for load in (0, 500, 1000)]
+    pieces += [f'<span><i style="background:{drawing.colour(load)}"></i>{load // 10**4}% busy</span>' for load in (0, 500_000, 1_000_000)]
     return f"<p class=key>{''.join(pieces)}<span>boxes: routers; ellipses: hosts; dashed: between partitions</span></p>"
 
 

@@ -105,6 +105,8 @@ class Reading:
         self.spec = Spec()
         self.defaults = {key: dict(value) for key, value in BUILT_IN.items()}
         self.chance = None
+        # They stand behind the other links.
+        self.host_links = []
 
     def place(self, array, number, said=""):
         """How places in a member of an array are said."""
@@ -125,6 +127,7 @@ class Reading:
             self.link(number, table)
         if not self.spec.nodes:
             raise errors.Refused(self.text.name, "there is no node: write `node = [..]` or `[[group]]`")
+        self.spec.links += self.host_links
         self.counts()
         for number, table in self.tables("flow"):
             self.flow(number, table)
@@ -169,12 +172,12 @@ class Reading:
         """The hosts behind a router: ROUTER-h1 and so on."""
         for number in range(1, count + 1):
             self.add(f"{router}-h{number}", "host", partition, place)
-            self.join(router, f"{router}-h{number}", {}, "host_link", place)
+            self.host_links.append(self.joined(router, f"{router}-h{number}", {}, "host_link", place))
 
-    def join(self, one, other, table, defaults, place):
+    def joined(self, one, other, table, defaults, place):
         """A link, with the defaults for what its table does not say."""
         held = {**self.defaults[defaults], **table}
-        self.spec.links.append(SpecLink(one, other, held["rate"], held["delay"], held["queue"], held.get("queue_octets"), held.get("cost"), place))
+        return SpecLink(one, other, held["rate"], held["delay"], held["queue"], held.get("queue_octets"), held.get("cost"), place)
 
     def node(self, number, value):
         named = errors.shown(value["name"]) if isinstance(value, dict) and "name" in value else ""
@@ -199,7 +202,7 @@ class Reading:
         for name in shape.nodes:
             self.add(name, "router", partition, place)
         for one, other in shape.links:
-            self.join(one, other, {key: table[key] for key in (*LINK, *COST) if key in table}, "link", place)
+            self.spec.links.append(self.joined(one, other, {key: table[key] for key in (*LINK, *COST) if key in table}, "link", place))
         count = table.get("hosts", shape.hosts or self.defaults["node"]["hosts"])
         for name in shape.leaves:
             self.hosts(name, count, partition, place)
@@ -216,7 +219,7 @@ class Reading:
         if table["a"] == table["b"]:
             raise errors.Refused(place(), "a link joins two nodes, and both ends of this are one")
         kinds = {self.spec.nodes[table[key]].kind for key in ("a", "b")}
-        self.join(table["a"], table["b"], table, "host_link" if "host" in kinds else "link", place)
+        self.spec.links.append(self.joined(table["a"], table["b"], table, "host_link" if "host" in kinds else "link", place))
 
     def counts(self):
         """Refuses more nodes, links or interfaces than a topology has."""

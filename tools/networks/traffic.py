@@ -55,9 +55,9 @@ def expected(network):
 
 
 def load(network, traffic, iface, link):
-    """The share of the run, in thousandths, in which an interface would transmit what is expected of it."""
+    """The share of the run, in millionths, in which an interface would transmit what is expected of it."""
     nanoseconds = traffic.octets[iface] * 8 * 10**9 // network.links[link].rate
-    return nanoseconds * 1000 // network.stop
+    return nanoseconds * 10**6 // network.stop
 
 
 def lookahead(link):
