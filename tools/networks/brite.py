@@ -40,7 +40,7 @@ def link_of(words, line, at):
     return FoundLink(
         words[1],
         words[2],
-        found.checked_rate(rate, at, f"{words[5]} Mbit/s") if rate > 0 or words[5] == "0" else None,
+        found.checked_rate(rate, at, f"{words[5]} Mbit/s") if rate >= 0 else None,
         found.checked_delay(delay, at, f"{words[4]} ms") if delay >= 0 else None,
         None,
         f"length {words[3]}",

@@ -75,7 +75,7 @@ class Found:
             known[pair] = link
             kept.append(link)
         if len(kept) < len(self.links):
-            self.remarks.append(f"{len(self.links) - len(kept)} lines were left out: they join nodes that an earlier line joins")
+            self.remarks.append(f"lines left out, for an earlier one joins the same nodes: {len(self.links) - len(kept)}")
         self.links = kept
 
 
@@ -133,7 +133,7 @@ def delays_by_distance(found):
             link.remark = ", ".join(part for part in (f"{distance / 1000:.0f} km", link.remark) if part)
             count += 1
     if count:
-        found.remarks.append(f"{count} delays are the distance of the places, at {limits.FIBRE_NANOSECONDS_A_METRE} ns a metre, in steps of {units.time_said(LEAST_DELAY)}")
+        found.remarks.append(f"delays that are the distance of the places: {count}, at {limits.FIBRE_NANOSECONDS_A_METRE} ns a metre, in steps of {units.time_said(LEAST_DELAY)}")
 
 
 def place_of(latitude, longitude, at):

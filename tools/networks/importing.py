@@ -144,7 +144,7 @@ def unsaid(made):
     for key in ("rate", "delay"):
         count = sum(getattr(link, key) is None for link in made.links)
         if count:
-            yield f"{count} of {len(made.links)} links say no {key}: the default holds for them"
+            yield f"{key}s that the file does not say: {count} of {len(made.links)}; the default holds for these links"
 
 
 def spec_text(words):
