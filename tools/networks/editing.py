@@ -32,34 +32,41 @@ def set_keys(text, array, key, values):
     return spliced(text, changes)
 
 
-def comments_between(text, start, end, tables):
-    """Comments of an array that stand on no table's line, and for each table the comment behind it."""
-    own, behind = [], {}
-    place, last = start, None
+def comments_of(text, start, end, tables):
+    """The comments of an array: for each table those before it, the last list of those behind all; and for each table the one on its line."""
+    before, behind = [[] for _ in range(len(tables) + 1)], {}
+    place = start
     for number, table in enumerate([*tables, None]):
         stop = table.start if table else end
         for found in re.finditer(r"#[^\n]*", text[place:stop]):
-            is_behind = last is not None and "\n" not in text[place : place + found.start()]
-            if is_behind:
-                behind[last] = found[0][1:].strip()
+            if number and "\n" not in text[place : place + found.start()]:
+                behind[number - 1] = found[0][1:].strip()
             else:
-                own.append(found[0])
-        if table:
-            place, last = table.end, number
-    return own, behind
+                before[number].append(found[0])
+        place = table.end if table else stop
+    return before, behind
 
 
-def route_lines(network, own, behind, old):
-    """The lines of the new array; comments of routes that are no more stand at its end."""
-    remark_of = {(route.node, route.prefix, route.length, route.via): behind[number] for number, route in enumerate(old) if number in behind}
-    lines = [f"  {comment}" for comment in own]
+def route_lines(network, before, behind, old):
+    """The lines of the new array. A comment before a route that is no more goes to the next one that is; that on its line, to the end."""
+    held = {(route.node, route.prefix, route.length, route.via) for route in network.routes}
+    kept = [(route.node, route.prefix, route.length, route.via) for route in old]
+    above, waiting, gone = {}, [], []
+    for number, key in enumerate(kept):
+        waiting += before[number]
+        if key in held:
+            above[key], waiting = waiting, []
+        elif number in behind:
+            node, prefix, length, via = key
+            to = fields.prefix_said(prefix, length)
+            gone.append(f"# no more, {network.nodes[node].name} to {to} via {network.ifaces[via].name}: {behind[number]}")
+    remark_of = {key: behind[number] for number, key in enumerate(kept) if number in behind}
+    lines = []
     for route in network.routes:
-        remark = remark_of.pop((route.node, route.prefix, route.length, route.via), "")
-        lines.append(f"  {writing.route_line(network, route)},{f'  # {remark}' if remark else ''}")
-    for (node, prefix, length, via), remark in remark_of.items():
-        gone = f"{network.nodes[node].name} to {fields.prefix_said(prefix, length)} via {network.ifaces[via].name}"
-        lines.append(f"  # no more, {gone}: {remark}")
-    return lines
+        key = (route.node, route.prefix, route.length, route.via)
+        lines += [f"  {comment}" for comment in above.get(key, [])]
+        lines.append(f"  {writing.route_line(network, route)},{f'  # {remark_of[key]}' if key in remark_of else ''}")
+    return lines + [f"  {comment}" for comment in [*waiting, *before[-1], *gone]]
 
 
 def with_routes(text, network, old):
@@ -69,10 +76,9 @@ def with_routes(text, network, old):
     if item is not None and item.is_block:
         return with_blocks(text, network, item.members)
     if item is not None:
-        own, behind = comments_between(text, item.start, item.end, item.members)
-        lines = route_lines(network, own, behind, old)
+        lines = route_lines(network, *comments_of(text, item.start, item.end, item.members), old)
         return spliced(text, [(item.start, item.end, "\n".join(["[", *lines, "]"]))])
-    lines = "\n".join(["route = [", *route_lines(network, [], {}, []), "]"])
+    lines = "\n".join(["route = [", *route_lines(network, [[]], {}, []), "]"])
     blocks = [member.start for found in root.keys.values() if found.is_block for member in (found.members or [found])]
     after = [root.keys[key].end for key in ("link", "iface", "node") if key in root.keys and not root.keys[key].is_block]
     if after:
@@ -92,7 +98,10 @@ def with_blocks(text, network, members):
         blocks.append("[[route]]\n" + "\n".join(line.split(", ")))
     changes = []
     for number, table in enumerate(members):
-        pieces = re.findall(r"#[^\n]*", text[table.start : last_end(table)])
-        kept = "\n".join(piece for piece in pieces)
-        changes.append((table.start, last_end(table), kept + ("\n" if kept and not number else "") + ("\n\n".join(blocks) if not number else "")))
+        end = last_end(table)
+        kept = "\n".join(re.findall(r"#[^\n]*", text[table.start : end]))
+        new = "\n".join(part for part in (kept, "" if number else "\n\n".join(blocks)) if part)
+        # Of a table of which nothing stays its line ends go too.
+        start = table.start if new else len(text[: table.start].rstrip())
+        changes.append((start, end, new))
     return spliced(text, changes)
