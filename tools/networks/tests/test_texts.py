@@ -37,7 +37,7 @@ class Texts(unittest.TestCase):
         self.assertEqual(TEXT[second.start : second.end], "[]")
         self.assertEqual(TEXT[root.at("table", "inner").start], "2")
         self.assertEqual([TEXT[table.at("name").start + 1] for table in root.at("block").members], ["c", "d"])
-        self.assertEqual(spans.line_of(TEXT, root.at("block", 1).start), 14)
+        self.assertEqual(spans.line_of(TEXT, root.at("block", 1).start), 15)
         self.assertEqual(toml.Text("t", TEXT).means["block"][1]["below"]["x"], 1)
 
     def test_a_text_that_is_no_toml_is_refused_with_its_line(self):
