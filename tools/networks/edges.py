@@ -6,7 +6,7 @@ from networks import errors, found, units
 from networks.found import Found, FoundLink, FoundNode
 
 COMMENTS = ("#", "%", "//")
-HEADS = ({"source", "target"}, {"from", "to"}, {"a", "b"})
+HEADS = ({"source", "target"}, {"from", "to"})
 # What networkx writes behind the names.
 DATA = re.compile(r"\{.*\}\s*$")
 

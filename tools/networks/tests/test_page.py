@@ -1,5 +1,6 @@
 """The page: one file with everything in it, by Graphviz and without."""
 
+import html
 import os
 import re
 from html.parser import HTMLParser
@@ -47,7 +48,7 @@ class Pages(tool.Folder):
         with open(os.path.join(tool.EXAMPLES, f"{name}.toml"), encoding="utf-8") as file:
             network = tool.network_of(file.read())
         for node in network.nodes:
-            self.assertGreaterEqual(said.count(f">{node.name}<"), 2, node.name)
+            self.assertGreaterEqual(html.unescape(said).count(f">{node.name}<"), 2, node.name)
 
     @tool.needs_program("dot")
     def test_by_graphviz(self):
