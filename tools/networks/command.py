@@ -29,7 +29,7 @@ def do_routes(words):
     network = topology.read(text)
     routes.check_joined(network, words.file, lambda number: text.place("node", number))
     old = network.routes
-    network.routes = routes.computed(network, words.weight, words.spread, words.file)
+    network.routes = routes.computed(network, words.weight, words.spread, words.file, words.only_flows)
     routes.check_flows(network, lambda number: f"{text.place('source', number)}: source {number}")
     sys.stdout.write(editing.with_routes(text.text, network, old))
     say(f"routes      {len(network.routes):,} in place of {len(old):,}, by least {words.weight}")
@@ -78,6 +78,7 @@ def parser():
     one = some.add_parser("routes", help="x.toml > y.toml: the routes anew, by shortest paths")
     one.add_argument("--weight", choices=[weight for weight in paths.WEIGHTS if weight != "cost"], default="delay", help="what is least (delay)")
     one.add_argument("--spread", action="store_true", help="of equal paths another one for each destination")
+    one.add_argument("--only-flows", action="store_true", help="only to nodes at the ends of flows")
     one.set_defaults(do=do_routes)
     one = some.add_parser("partition", help="x.toml N > y.toml: N partitions")
     one.add_argument("--by", choices=("metis", "kernighan-lin"), help="what cuts (METIS where it is installed)")

@@ -62,10 +62,10 @@ def make(spec, name):
     network, numbers, raised = joined(spec)
     check_limits(network, name)
     routes.check_joined(network, name, lambda number: spec.nodes[network.nodes[number].name].place())
-    blocks, taken = addresses.give(network, spec.prefix, name)
+    blocks, taken = addresses.give(network, spec.prefix, spec.prefix_place)
     chance = None if spec.seed is None else Chance(spec.seed ^ FLOWS_SEED)
     place_of = flows.add(spec, network, numbers, chance)
-    network.routes = routes.computed(network, spec.weight, spec.spread, name)
+    network.routes = routes.computed(network, spec.weight, spec.spread, name, spec.only_flows)
     routes.check_flows(network, lambda number: place_of[number])
     first = "No seed: nothing here was chosen by chance." if spec.seed is None else f"Seed {spec.seed}: what was chosen by chance follows from it."
     return Made(network, chosen_lines(spec, network, blocks, taken, raised), first)
@@ -75,11 +75,12 @@ def chosen_lines(spec, network, blocks, taken, raised):
     """What was chosen, a line each."""
     packets = sum(source.count for source in network.sources)
     before, partitions = routes.unaggregated(network), max(node.partition for node in network.nodes) + 1
+    to = " to the ends of flows" if spec.only_flows else ""
     spread = "; of equal ones another for each destination" if spec.spread else "; of equal ones the first"
     lines = [
         f"nodes       {kinds_said(network)}, {len(network.links)} links; an interface is named after its node and the node at the far end",
         f"addresses   {taken:,} of {fields.prefix_said(*spec.prefix)}, in {blocks} blocks: a router and the hosts behind it have one",
-        f"routes      {len(network.routes):,}, by least {spec.weight}{spread}; one for each address would be {before:,}",
+        f"routes      {len(network.routes):,}{to}, by least {spec.weight}{spread}; one for each address would be {before:,}",
         f"flows       {len(network.sources)} with {packets:,} packets; where a cbr flow ends its port is open",
         f"stop        {units.time_said(spec.stop)}; a flow that says no other end ends at {units.time_said(spec.stop * flows.TENTHS // 10)}",
         f"partitions  {partitions}, with {channels(network)} channels",

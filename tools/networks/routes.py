@@ -5,19 +5,21 @@ from networks.topology import Route
 from networks.ways import Ways
 
 
-def computed(network, weight, spread=False, name=""):
-    """The routes of all nodes. A node with one interface has a default route, the others what they need."""
+def computed(network, weight, spread=False, name="", only_flows=False):
+    """The routes of all nodes. A host with one link has a default route, the others what they need: to all nodes, or to those at the ends of flows."""
     ends = network.ends()
     costs = [paths.cost(link, weight) for link in network.links]
     chosen = [paths.next_ifaces(network, ends, costs, goal, spread) for goal in range(len(network.nodes))]
     order = sorted(network.ifaces, key=lambda iface: iface.address)
     tree = aggregate.Tree([iface.address for iface in order])
+    goals = flow_ends(network) if only_flows else range(len(network.nodes))
+    order = [iface if iface.node in goals else None for iface in order]
     routes = []
     for node, own in enumerate(ends):
         if len(own) == 1 and network.nodes[node].kind == "host":
             routes.append(Route(node, 0, 0, own[0][0]))
             continue
-        asked = [chosen[iface.node][node] for iface in order]
+        asked = [chosen[iface.node][node] if iface else None for iface in order]
         found = sorted(tree.table(asked))
         if len(found) > limits.NODE_ROUTES:
             raise errors.Refused(name, f'node "{network.nodes[node].name}" would need {len(found):,} routes{advice()}')
@@ -30,7 +32,13 @@ def computed(network, weight, spread=False, name=""):
 def advice(is_of_node=True):
     """What helps against too many routes."""
     most = f", and at most {limits.NODE_ROUTES:,} may be" if is_of_node else ""
-    return f"{most}: leave out spread, or give the nodes of one part of the network addresses of one prefix, as `network make` does"
+    return f"{most}: route only to the ends of flows (`only_flows = true` in a SPEC, `routes --only-flows`), leave out spread, or have fewer routers"
+
+
+def flow_ends(network):
+    """The nodes that send or take a flow's packets: others get none, but for raw packets."""
+    owners = network.node_of_address()
+    return {source.node for source in network.sources} | {owners[source.to] for source in network.sources if source.to in owners}
 
 
 def unaggregated(network):

@@ -40,6 +40,9 @@ class Spec:
     prefix: tuple = (10 << 24, 8)
     weight: str = "delay"
     spread: bool = False
+    only_flows: bool = False
+    # Where the prefix stands.
+    prefix_place: str = ""
     nodes: dict = field(default_factory=dict)
     links: list = field(default_factory=list)
     flows: list = field(default_factory=list)
@@ -85,6 +88,7 @@ TOP = {
     "prefix": fields.prefix,
     "weight": fields.choice(*paths.WEIGHTS),
     "spread": fields.flag,
+    "only_flows": fields.flag,
 }
 DEFAULTS = {"node": NODE, "link": LINK, "host_link": LINK, "flow": FLOW}
 ARRAYS = ("node", "link", "group", "flow")
@@ -137,7 +141,10 @@ class Reading:
         """What stands before the arrays, and the defaults."""
         means = self.text.means
         keys = {**TOP, **{key: lambda value: value for key in (*ARRAYS, "defaults")}}
+        if "format" in means and "iface" in means:
+            raise errors.Refused(self.text.name, "this is a topology, not a SPEC: `network routes`, `partition` and `show` take it")
         read = fields.table(means, keys, self.text.place)
+        self.spec.prefix_place = self.text.place("prefix") if "prefix" in means else self.text.name
         for key in TOP:
             if key in read:
                 setattr(self.spec, key, read[key])

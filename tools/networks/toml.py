@@ -20,7 +20,8 @@ class Text:
         try:
             self.means = tomllib.loads(text)
         except tomllib.TOMLDecodeError as why:
-            raise errors.Refused(name, f"this is no TOML text: {why}") from None
+            other = "; it looks like XML, which `network import` takes" if text.lstrip().startswith("<") else ""
+            raise errors.Refused(name, f"this is no TOML text: {why}{other}") from None
         except RecursionError:
             raise errors.Refused(name, "this is no TOML text that can be read: its arrays or tables are nested too deep") from None
         self.spans = spans.read(text)

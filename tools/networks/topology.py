@@ -136,6 +136,8 @@ TOP = {
     "stop": fields.whole(*limits.STOP, "nanoseconds"),
     "mtu": fields.whole(*limits.MTU, "octets"),
 }
+# Keys that a SPEC has, and a topology has not.
+ARE_OF_SPECS = {"title", "group", "flow", "defaults", "weight", "prefix", "seed"}
 ARRAYS = ("node", "iface", "link", "route", "source")
 MOST = {"node": limits.NODES, "iface": limits.IFACES, "link": limits.LINKS, "route": limits.ROUTES, "source": limits.SOURCES}
 TIMED = ("to", "size", "start", "interval", "count")
@@ -179,6 +181,8 @@ class Reading:
 
     def read(self):
         """The whole network."""
+        if "format" not in self.text.means and ARE_OF_SPECS & set(self.text.means):
+            raise errors.Refused(self.text.name, "this is a SPEC, not a topology: `network make` makes one of it")
         top = {key: value for key, value in self.text.means.items() if key not in ARRAYS}
         head = fields.table(top, TOP, lambda *keys: self.text.place(*keys), tuple(TOP))
         network = Network(head["stop"], head["mtu"])

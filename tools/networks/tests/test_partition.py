@@ -124,7 +124,7 @@ class Texts(tool.Folder):
             ('a = "gw-wan", b', 'a = "gw-pc1", b', 'x.toml:26: iface 1 ("gw-pc1"): it is at 2 ends of links, and has to be at one'),
             ("rate = 2000000,", "rate = 0,", 'x.toml:44: link 4: key "rate" has to be a whole number 1,000 to'),
             ('via = "pc2-eth0"', 'via = "pc1-eth0"', 'route 1: "pc1-eth0" is no interface of node "pc2"'),
-            ("stop =", "stopp =", 'x.toml:9: key "stopp" is unknown; did you mean "stop"?'),
+            ("stop =", "stopp =", 'x.toml:11: key "stopp" is unknown; did you mean "stop"?'),
             ("queue = 5}, ", "queu = 5}, ", 'key "queu" is unknown; did you mean "queue"?'),
         ):
             self.assertIn(old, text)

@@ -172,6 +172,19 @@ def by_networkx(network, weight):
     return found
 
 
+class OnlyFlows(unittest.TestCase):
+    def test_routes_to_the_ends_of_flows_are_fewer_and_as_short(self):
+        text = spec_of("random").replace('among = "*"', 'from = "x-1-h1"\nto = ["x-9-h1", "x-20-h1"]').replace('pairs = "across"\n', "")
+        every = tool.network_of(tool.made(text))
+        few = tool.network_of(tool.made("only_flows = true\n" + text))
+        self.assertLess(len(few.routes), len(every.routes) / 2)
+        for source in every.sources:
+            back = next(iface.address for iface in every.ifaces if iface.node == source.node)
+            goal = every.node_of_address()[source.to]
+            self.assertEqual(Ways(every).way(source.node, source.to), Ways(few).way(source.node, source.to))
+            self.assertEqual(Ways(every).way(goal, back), Ways(few).way(goal, back))
+
+
 class Limits(unittest.TestCase):
     def test_too_many_routes_are_refused_with_advice(self):
         from networks import errors, limits
@@ -180,10 +193,10 @@ class Limits(unittest.TestCase):
         held = limits.NODE_ROUTES, limits.ROUTES
         try:
             limits.NODE_ROUTES = 5
-            with self.assertRaisesRegex(errors.Refused, r'node "x-\d+" would need \d+ routes, and at most 5 may be: leave out spread, or'):
+            with self.assertRaisesRegex(errors.Refused, r'node "x-\d+" would need \d+ routes, and at most 5 may be: route only to the ends of flows'):
                 routes.computed(network, "hops", True, "x.toml")
             limits.NODE_ROUTES, limits.ROUTES = held[0], 20
-            with self.assertRaisesRegex(errors.Refused, r"the network would need \d+ routes, and at most 20 may be: leave out spread, or"):
+            with self.assertRaisesRegex(errors.Refused, r"the network would need \d+ routes, and at most 20 may be: route only to the ends of flows"):
                 routes.computed(network, "hops", True, "x.toml")
         finally:
             limits.NODE_ROUTES, limits.ROUTES = held

@@ -20,7 +20,7 @@ REFUSED = [
     ("seed = true\n" + PAIR, 'key "seed" has to be a whole number'),
     ('prefix = "10.0.0.1/8"\n' + PAIR, "x.spec.toml:1: key \"prefix\" has to be a prefix whose bits past the first 8 are 0"),
     ('prefix = "10.0.0.0"\n' + PAIR, 'has to be a prefix such as "10.0.0.0/8"'),
-    ('prefix = "127.0.0.0/8"\n' + PAIR, "of the prefix 127.0.0.0/8 no addresses are given"),
+    ('prefix = "127.0.0.0/8"\n' + PAIR, "x.spec.toml:1: of the prefix 127.0.0.0/8 no addresses are given"),
     ('prefix = "0.0.0.0/0"\n' + PAIR, "of the prefix 0.0.0.0/0 no addresses are given"),
     ('prefix = "10.0.0.0/31"\n' + PAIR, "the prefix 10.0.0.0/31 is too small for 4 addresses: one of length 30 or less is needed"),
     ('weight = "hop"\n' + PAIR, 'key "weight" has to be one of hops, delay, rate, cost; did you mean "hops"?'),
@@ -75,6 +75,8 @@ REFUSED = [
         '[[node]]\nname = "m"\nkind = "host"\n' + TWO + '[[link]]\na = "a"\nb = "m"\n[[link]]\na = "b"\nb = "m"\n[[flow]]\nfrom = "a"\nto = "b"\n',
         'x.spec.toml:14: flow 0: there is no way by routers from node "a" to node "b"',
     ),
+    ("format = 1\niface = []\n", "x.spec.toml: this is a topology, not a SPEC: `network routes`, `partition` and `show` take it"),
+    ("<?xml", "it looks like XML, which `network import` takes"),
     (PAIR + "x = {", "x.spec.toml: this is no TOML text: "),
 ]
 
