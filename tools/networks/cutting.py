@@ -29,7 +29,7 @@ def cut(weights, costs, count, by=None):
     if by in (None, "metis"):
         program = shutil.which("gpmetis")
         if program:
-            return by_program(program, weights, costs, count), f"METIS ({program})"
+            return by_program(program, weights, costs, count), "METIS (gpmetis)"
         if module("pymetis"):
             return by_pymetis(weights, costs, count), "METIS (pymetis)"
     if by in (None, "kernighan-lin") and module("networkx"):
