@@ -28,10 +28,14 @@ def tree_order(network):
     return order + [node for node in range(len(network.nodes)) if node not in seen]
 
 
-def blocks(network):
+def orders(network):
+    """Orders of the nodes in which addresses may be given: as in a tree, and as they are written. Which needs fewer routes depends on the network."""
+    return [tree_order(network), list(range(len(network.nodes)))]
+
+
+def blocks(network, order):
     """Nodes that share a prefix, in order: each router with the hosts whose one link leads to it; other hosts alone."""
     ends, found, block_of = network.ends(), [], {}
-    order = tree_order(network)
     for node in order:
         if network.nodes[node].kind == "router":
             block_of[node] = len(found)
@@ -47,7 +51,7 @@ def blocks(network):
     return found
 
 
-def give(network, prefix, place):
+def give(network, order, prefix, place):
     """Gives each interface an address of the prefix; says how many blocks there are and how many addresses they take."""
     base, length = prefix
     last = base + (1 << 32 - length) - 1
@@ -56,7 +60,7 @@ def give(network, prefix, place):
     ifaces_of = [[] for _ in network.nodes]
     for number, iface in enumerate(network.ifaces):
         ifaces_of[iface.node].append(number)
-    past, found = 0, blocks(network)
+    past, found = 0, blocks(network, order)
     for block in found:
         numbers = [number for node in block for number in ifaces_of[node]]
         # One more than there are: the first address of a block is nobody's, as people expect.

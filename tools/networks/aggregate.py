@@ -6,12 +6,14 @@ is left open, and a prefix is no shorter than what it stands for.
 
 
 class Tree:
-    """The addresses as a binary tree: a leaf for each, and an inner place where two of them part. Each place has a prefix."""
+    """The addresses as a binary tree: a leaf for those of one owner that stand together, and an inner place where two parts part. Each place has a prefix."""
 
-    def __init__(self, addresses):
-        """`addresses` are numbers, rising."""
+    def __init__(self, addresses, owners):
+        """`addresses` are numbers, rising; `owners` has a number for each."""
         self.prefixes, self.children = [], []
-        self.leaf_of = [0] * len(addresses)
+        # The owner of each leaf, by its place.
+        self.owner_at = {}
+        self.owners = owners
         self.root = self.grow(addresses, 0, len(addresses)) if addresses else None
 
     def grow(self, addresses, first, past):
@@ -19,32 +21,33 @@ class Tree:
         low, high = addresses[first], addresses[past - 1]
         length = 32 - (low ^ high).bit_length()
         pair = None
-        if first + 1 < past:
+        if any(self.owners[number] != self.owners[first] for number in range(first + 1, past)):
             bit = 1 << 31 - length
             middle = next(number for number in range(first, past) if addresses[number] & bit)
             pair = (self.grow(addresses, first, middle), self.grow(addresses, middle, past))
         self.prefixes.append((low >> 32 - length << 32 - length if length else 0, length))
         self.children.append(pair)
         if pair is None:
-            self.leaf_of[first] = len(self.children) - 1
+            self.owner_at[len(self.children) - 1] = self.owners[first]
         return len(self.children) - 1
 
     def wanted(self, asked):
         """For each place the answers that are cheapest for it; None where all are open."""
         held = [None] * len(self.children)
-        for number, leaf in enumerate(self.leaf_of):
-            held[leaf] = None if asked[number] is None else frozenset((asked[number],))
         for place, pair in enumerate(self.children):
-            if pair:
-                left, right = held[pair[0]], held[pair[1]]
-                if left is None or right is None:
-                    held[place] = right if left is None else left
-                else:
-                    held[place] = left & right or left | right
+            if not pair:
+                answer = asked[self.owner_at[place]]
+                held[place] = None if answer is None else frozenset((answer,))
+                continue
+            left, right = held[pair[0]], held[pair[1]]
+            if left is None or right is None:
+                held[place] = right if left is None else left
+            else:
+                held[place] = left & right or left | right
         return held
 
     def table(self, asked):
-        """Prefixes, each with an answer: the longest that holds address number i has the answer asked[i], where that is not None."""
+        """Prefixes, each with an answer: the longest that holds an address has asked[its owner], where that is not None."""
         if self.root is None:
             return []
         held, found = self.wanted(asked), []

@@ -33,7 +33,8 @@ def dot_text(network, loads):
     lines += ['node [style=filled, fontname="Helvetica", fontsize=10, color="#475569", margin="0.08,0.04", height=0.3];']
     for number, node in enumerate(network.nodes):
         shape = "box" if node.kind == "router" else "ellipse"
-        lines.append(f'n{number} [label="{node.name}", shape={shape}, fillcolor="{FILLS[node.partition % len(FILLS)]}", tooltip="{node.name}: partition {node.partition}"];')
+        look = f'shape={shape}, fillcolor="{FILLS[node.partition % len(FILLS)]}", tooltip="{node.name}: partition {node.partition}"'
+        lines.append(f'n{number} [label="{node.name}", {look}];')
     for number, link in enumerate(network.links):
         one, other = network.link_nodes(number)
         says = f"{units.rate_said(link.rate)}, {units.time_said(link.delay)}, busy {loads[number] / 10**4:.2f}%"
@@ -50,9 +51,9 @@ def by_graphviz(network, loads):
         return None
     way = "sfdp" if len(network.nodes) > MANY else "neato"
     try:
-        ended = subprocess.run(
-            [program, f"-K{way}", "-Tsvg"], input=dot_text(network, loads).encode(), stdout=subprocess.PIPE, stderr=subprocess.DEVNULL, timeout=SECONDS, check=False
-        )
+        text, pipe = dot_text(network, loads).encode(), subprocess.PIPE
+        words = [program, f"-K{way}", "-Tsvg"]
+        ended = subprocess.run(words, input=text, stdout=pipe, stderr=subprocess.DEVNULL, timeout=SECONDS, check=False)
     except subprocess.TimeoutExpired:
         return None
     found = re.search(r"<svg.*</svg>", ended.stdout.decode(errors="replace"), re.DOTALL)

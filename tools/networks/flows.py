@@ -57,7 +57,8 @@ def interval_of(table, size, place):
     rate = table.get("rate", CBR_RATE)
     interval = max(1, (16 * 10**9 * (size + limits.HEADERS) + rate) // (2 * rate))
     if interval > limits.INTERVAL[1]:
-        raise errors.Refused(place("rate"), f"at {units.rate_said(rate)} a packet of {size + limits.HEADERS} octets goes each {units.time_said(interval)}: at most 1,000 s may be")
+        each = f"a packet of {size + limits.HEADERS} octets goes each {units.time_said(interval)}"
+        raise errors.Refused(place("rate"), f"at {units.rate_said(rate)} {each}: at most 1,000 s may be")
     return interval
 
 
@@ -96,13 +97,11 @@ def sources_of(spec, table, chance, place, first):
 def add(spec, network, numbers, chance):
     """Puts the sources of all flows into a network, and the ports where they end; gives the place of each source."""
     place_of = []
-    first_iface = {}
-    for iface in network.ifaces:
-        first_iface.setdefault(iface.node, iface.address)
     for table, place in spec.flows:
         for source, one, other in sources_of(spec, table, chance, place, len(network.sources)):
             source.node, goal = numbers[one], numbers[other]
-            source.to = first_iface[goal]
+            # The node, until addresses are given.
+            source.to = goal
             network.sources.append(source)
             place_of.append(place())
             ports = network.nodes[goal].ports

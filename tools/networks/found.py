@@ -133,7 +133,8 @@ def delays_by_distance(found):
             link.remark = ", ".join(part for part in (f"{distance / 1000:.0f} km", link.remark) if part)
             count += 1
     if count:
-        found.remarks.append(f"delays that are the distance of the places: {count}, at {limits.FIBRE_NANOSECONDS_A_METRE} ns a metre, in steps of {units.time_said(LEAST_DELAY)}")
+        scale = f"at {limits.FIBRE_NANOSECONDS_A_METRE} ns a metre, in steps of {units.time_said(LEAST_DELAY)}"
+        found.remarks.append(f"delays that are the distance of the places: {count}, {scale}")
 
 
 def place_of(latitude, longitude, at):

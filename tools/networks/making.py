@@ -62,13 +62,39 @@ def make(spec, name):
     network, numbers, raised = joined(spec)
     check_limits(network, name)
     routes.check_joined(network, name, lambda number: spec.nodes[network.nodes[number].name].place())
-    blocks, taken = addresses.give(network, spec.prefix, spec.prefix_place)
     chance = None if spec.seed is None else Chance(spec.seed ^ FLOWS_SEED)
     place_of = flows.add(spec, network, numbers, chance)
-    network.routes = routes.computed(network, spec.weight, spec.spread, name, spec.only_flows)
+    blocks, taken = routed(spec, network)
+    routes.check_counts(network, network.routes, name)
     routes.check_flows(network, lambda number: place_of[number])
     first = "No seed: nothing here was chosen by chance." if spec.seed is None else f"Seed {spec.seed}: what was chosen by chance follows from it."
     return Made(network, chosen_lines(spec, network, blocks, taken, raised), first)
+
+
+def routed(spec, network):
+    """Gives addresses and routes in the order of nodes that needs fewer routes; says how many blocks and addresses there are."""
+    chosen, goals = routes.choices(network, spec.weight, spec.spread), [source.to for source in network.sources]
+    best = None
+    for order in addresses.orders(network):
+        addressed(spec, network, order, goals)
+        found = routes.tables(network, chosen, spec.only_flows)
+        size = (routes.most_of_a_node(found)[1] > limits.NODE_ROUTES, len(found))
+        if best is None or size < best[0]:
+            best = (size, order, found)
+    counts = addressed(spec, network, best[1], goals)
+    network.routes = best[2]
+    return counts
+
+
+def addressed(spec, network, order, goals):
+    """Gives addresses in an order, those of the flows' goals to the sources too."""
+    counts = addresses.give(network, order, spec.prefix, spec.prefix_place)
+    first = {}
+    for iface in network.ifaces:
+        first.setdefault(iface.node, iface.address)
+    for source, goal in zip(network.sources, goals):
+        source.to = first[goal]
+    return counts
 
 
 def chosen_lines(spec, network, blocks, taken, raised):

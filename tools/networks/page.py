@@ -11,7 +11,8 @@ body { font: 15px/1.45 system-ui, Helvetica, Arial, sans-serif; margin: 2rem aut
 h1 { font-size: 1.5rem; margin-bottom: .2rem; } h2 { font-size: 1.15rem; margin-top: 2rem; }
 .picture { border: 1px solid #cbd5e1; border-radius: .5rem; padding: .5rem; background: #f8fafc; overflow: auto; text-align: center; }
 .picture svg { max-width: 100%; height: auto; max-height: 80vh; }
-.key span { display: inline-block; margin-right: 1.2rem; } .key i { display: inline-block; width: 1rem; height: .7rem; border: 1px solid #64748b; margin-right: .3rem; }
+.key span { display: inline-block; margin-right: 1.2rem; }
+.key i { display: inline-block; width: 1rem; height: .7rem; border: 1px solid #64748b; margin-right: .3rem; }
 .table { overflow-x: auto; } table { border-collapse: collapse; font-size: .9rem; }
 th, td { padding: .2rem .7rem; border-bottom: 1px solid #e2e8f0; text-align: right; white-space: nowrap; font-variant-numeric: tabular-nums; }
 th { background: #f1f5f9; position: sticky; top: 0; } th:first-child, td:first-child, .left { text-align: left; }
@@ -23,7 +24,8 @@ def table(heads, rows):
     """A table; the texts of rows are escaped."""
     lines = ["<div class=table><table>", "<thead><tr>" + "".join(f"<th>{html.escape(head)}</th>" for head in heads) + "</tr></thead><tbody>"]
     for row in rows:
-        lines.append("<tr>" + "".join(f"<td{' class=left' if isinstance(cell, str) and cell[:1].isalpha() else ''}>{html.escape(str(cell))}</td>" for cell in row) + "</tr>")
+        sides = [" class=left" if isinstance(cell, str) and cell[:1].isalpha() else "" for cell in row]
+        lines.append("<tr>" + "".join(f"<td{side}>{html.escape(str(cell))}</td>" for side, cell in zip(sides, row)) + "</tr>")
     return "\n".join([*lines, "</tbody></table></div>"])
 
 
@@ -92,7 +94,8 @@ def html_text(text):
     partitions = max((node.partition for node in network.nodes), default=-1) + 1
     counts = f"{topology.kinds_said(network)}, {len(network.links)} links, {len(network.routes):,} routes, {len(network.sources)} flows, {partitions} partitions"
     parts = [
-        f"<!doctype html>\n<html lang=en><head><meta charset=utf-8><meta name=viewport content='width=device-width'><title>{title}</title><style>{STYLE}</style></head><body>",
+        "<!doctype html>\n<html lang=en><head><meta charset=utf-8><meta name=viewport content='width=device-width'>",
+        f"<title>{title}</title><style>{STYLE}</style></head><body>",
         f"<h1>{title}</h1><p>{counts}. The run stops at {units.time_said(network.stop)}.</p>",
         f"<div class=picture>{picture}</div>{key_of_colours(network)}",
         "<p class=small>Packets and busy shares are what the sources send, followed along the routes. Nothing was simulated for this page: queues and drops are"

@@ -1,31 +1,52 @@
 """The static routes of a network, by shortest paths, in as few prefixes as they need."""
 
+from collections import Counter
+
 from networks import aggregate, errors, limits, paths
 from networks.topology import Route
 from networks.ways import Ways
 
 
-def computed(network, weight, spread=False, name="", only_flows=False):
-    """The routes of all nodes. A host with one link has a default route, the others what they need: to all nodes, or to those at the ends of flows."""
+def choices(network, weight, spread=False):
+    """For each node as a goal the interface by which each other node sends to it."""
     ends = network.ends()
     costs = [paths.cost(link, weight) for link in network.links]
-    chosen = [paths.next_ifaces(network, ends, costs, goal, spread) for goal in range(len(network.nodes))]
+    return [paths.next_ifaces(network, ends, costs, goal, spread) for goal in range(len(network.nodes))]
+
+
+def tables(network, chosen, only_flows=False):
+    """The routes of all nodes. A host with one link has a default route, the others what they need: to all nodes, or to those at the ends of flows."""
     order = sorted(network.ifaces, key=lambda iface: iface.address)
-    tree = aggregate.Tree([iface.address for iface in order])
+    tree = aggregate.Tree([iface.address for iface in order], [iface.node for iface in order])
     goals = flow_ends(network) if only_flows else range(len(network.nodes))
-    order = [iface if iface.node in goals else None for iface in order]
     routes = []
-    for node, own in enumerate(ends):
+    for node, own in enumerate(network.ends()):
         if len(own) == 1 and network.nodes[node].kind == "host":
             routes.append(Route(node, 0, 0, own[0][0]))
             continue
-        asked = [chosen[iface.node][node] if iface else None for iface in order]
-        found = sorted(tree.table(asked))
-        if len(found) > limits.NODE_ROUTES:
-            raise errors.Refused(name, f'node "{network.nodes[node].name}" would need {len(found):,} routes{advice()}')
-        routes += [Route(node, *line) for line in found]
+        asked = [chosen[goal][node] if goal in goals else None for goal in range(len(network.nodes))]
+        routes += [Route(node, *line) for line in sorted(tree.table(asked))]
+    return routes
+
+
+def most_of_a_node(routes):
+    """The node with most routes, and how many it has."""
+    return Counter(route.node for route in routes).most_common(1)[0] if routes else (0, 0)
+
+
+def check_counts(network, routes, name):
+    """Refuses more routes than a topology has."""
+    node, count = most_of_a_node(routes)
+    if count > limits.NODE_ROUTES:
+        raise errors.Refused(name, f'node "{network.nodes[node].name}" would need {count:,} routes{advice()}')
     if len(routes) > limits.ROUTES:
         raise errors.Refused(name, f"the network would need {len(routes):,} routes, and at most {limits.ROUTES:,} may be{advice(False)}")
+
+
+def computed(network, weight, spread=False, name="", only_flows=False):
+    """The routes of a network whose addresses are given."""
+    routes = tables(network, choices(network, weight, spread), only_flows)
+    check_counts(network, routes, name)
     return routes
 
 

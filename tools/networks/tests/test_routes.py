@@ -43,7 +43,7 @@ class Tables(unittest.TestCase):
         for size in range(1, 60):
             addresses = sorted({some.below(1 << 12) for _ in range(size)})
             asked = [None if some.below(6) == 0 else some.below(3) for _ in addresses]
-            found = aggregate.Tree(addresses).table(asked)
+            found = aggregate.Tree(addresses, range(len(addresses))).table(asked)
             table = [topology.Route(0, prefix, length, via) for prefix, length, via in found]
             self.assertEqual(len({(route.prefix, route.length) for route in table}), len(table))
             self.assertLessEqual(len(table), sum(via is not None for via in asked))
@@ -57,12 +57,12 @@ class Tables(unittest.TestCase):
         for _ in range(60):
             addresses = sorted({some.below(16) for _ in range(4)})
             asked = [some.below(2) for _ in addresses]
-            tree = aggregate.Tree(addresses)
+            tree = aggregate.Tree(addresses, range(len(addresses)))
             self.assertEqual(len(tree.table(asked)), least_table(tree, addresses, asked))
 
     def test_none_is_asked(self):
-        self.assertEqual(aggregate.Tree([]).table([]), [])
-        self.assertEqual(aggregate.Tree([5, 9]).table([None, None]), [])
+        self.assertEqual(aggregate.Tree([], []).table([]), [])
+        self.assertEqual(aggregate.Tree([5, 9], [0, 1]).table([None, None]), [])
 
 
 def longest(table, address):
