@@ -14,6 +14,7 @@ FILLS = ("#dbeafe", "#dcfce7", "#fef3c7", "#fae8ff", "#fee2e2", "#e0e7ff", "#ccf
 # More nodes than this are drawn by the way of Graphviz that is made for many.
 MANY = 300
 RADIUS_A_NODE = 26
+WIDER = 1.7
 
 
 def colour(load):
@@ -71,15 +72,20 @@ def on_a_circle(network, loads):
             order += [other for other, held in enumerate(anchors) if held is not None and network.ifaces[held].node == number]
     order += [number for number in range(len(network.nodes)) if number not in set(order)]
     radius = max(160, len(order) * RADIUS_A_NODE / (2 * math.pi))
+    # Wider than high, as names are.
+    wide, high = 2 * (WIDER * radius + 200), 2 * (radius + 100)
     places = {}
     for step, number in enumerate(order):
         angle, far = 2 * math.pi * step / len(order), radius + (60 if anchors[number] is not None else 0)
-        places[number] = (far * math.sin(angle), -far * math.cos(angle))
-    size = 2 * (radius + 140)
-    lines = [f'<svg xmlns="http://www.w3.org/2000/svg" width="{size:.0f}" height="{size:.0f}" viewBox="{-size / 2:.0f} {-size / 2:.0f} {size:.0f} {size:.0f}">']
+        places[number] = (WIDER * far * math.sin(angle), -far * math.cos(angle))
+    view = f"{-wide / 2:.0f} {-high / 2:.0f} {wide:.0f} {high:.0f}"
+    lines = [f'<svg xmlns="http://www.w3.org/2000/svg" width="{wide:.0f}" height="{high:.0f}" viewBox="{view}">']
     for number in range(len(network.links)):
-        (x, y), (u, v) = (places[node] for node in network.link_nodes(number))
-        lines.append(f'<line x1="{x:.1f}" y1="{y:.1f}" x2="{u:.1f}" y2="{v:.1f}" stroke="{colour(loads[number])}" stroke-width="{width(loads[number]):.2f}"/>')
+        one, other = network.link_nodes(number)
+        (x, y), (u, v) = places[one], places[other]
+        dashes = ' stroke-dasharray="5 3"' if network.nodes[one].partition != network.nodes[other].partition else ""
+        stroke = f'stroke="{colour(loads[number])}" stroke-width="{width(loads[number]):.2f}"{dashes}'
+        lines.append(f'<line x1="{x:.1f}" y1="{y:.1f}" x2="{u:.1f}" y2="{v:.1f}" {stroke}/>')
     for number, node in enumerate(network.nodes):
         x, y = places[number]
         fill, corner = FILLS[node.partition % len(FILLS)], 2 if node.kind == "router" else 9
