@@ -83,6 +83,35 @@ class Partitions(tool.Folder):
         finally:
             cutting.shutil.which, cutting.module = held
 
+    def test_pymetis_is_called_as_it_wants(self):
+        # The package itself may not be there: what is handed to it has its form, and is the graph.
+        class Fake:
+            def Options(self, **words):
+                return words
+
+            def part_graph(self, count, xadj, adjncy, eweights, vweights, options):
+                self.seen = (count, xadj, adjncy, eweights, vweights, options)
+                return 0, [number % count for number in range(len(vweights))]
+
+        fake, held = Fake(), (cutting.shutil.which, cutting.module)
+        cutting.shutil.which, cutting.module = lambda name: None, lambda name: fake if name == "pymetis" else None
+        try:
+            parts, how = cutting.cut([1, 2, 3], {(0, 1): 5, (1, 2): 7}, 2)
+        finally:
+            cutting.shutil.which, cutting.module = held
+        self.assertEqual((parts, how), ([0, 1, 0], "METIS (pymetis)"))
+        self.assertEqual(fake.seen, (2, [0, 1, 3, 4], [1, 0, 2, 1], [5, 5, 7, 7], [1, 2, 3], {"seed": cutting.SEED, "ufactor": cutting.UNEVEN}))
+
+    def test_raw_sources_are_left_as_they_are(self):
+        raw = '{kind = "raw", node = "n0", via = "n0a", packet = [{at = 5, data = "45"}]}, '
+        text = self.example("ring").replace("source = [\n  ", f"source = [\n  {raw}")
+        self.assertIn(raw, text)
+        path = self.file("x.toml", text)
+        for words in (("routes",), ("show",)):
+            status, said, beside = tool.call(*words, path)
+            self.assertEqual(status, 0, beside)
+            self.assertIn("raw", said)
+
     def test_long_links_are_cut(self):
         network = tool.network_of(self.example("campus"))
         group_of = coarse.groups_below(network, 2_000_008)
