@@ -104,7 +104,7 @@ def checked_delay(delay, at, said):
 
 
 def number(text, at, said):
-    """A number that is neither negative nor without end."""
+    """A number in decimal, exactly."""
     try:
         value = Fraction(text) if len(text) <= 40 and re.fullmatch(r"[+-]?[0-9]*\.?[0-9]+(?:[eE][+-]?[0-9]{1,3})?|[0-9]+\.", text) else None
     except (ValueError, ZeroDivisionError):

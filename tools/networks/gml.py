@@ -67,6 +67,9 @@ def read(name, text):
             if not isinstance(held, list):
                 raise errors.Refused(at, f'"{key}" has to be a list in brackets')
             add(found, key, {name: value for name, value, _ in held if isinstance(value, str)}, at)
+    if any(key == "directed" and held == "1" for key, held, _ in graphs[0][0]):
+        # Each direction of a link has an edge of its own.
+        found.once()
     return found
 
 

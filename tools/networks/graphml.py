@@ -17,7 +17,7 @@ class Reading:
     def __init__(self, name):
         self.name, self.found = name, Found("GraphML")
         self.keys = {}
-        self.seen_graph = False
+        self.seen_graph = self.is_directed = False
         # The node or edge that is open: its kind, its attributes of XML, its data, its line.
         self.open = None
         self.data_key, self.data_text = None, ""
@@ -40,6 +40,7 @@ class Reading:
         tag = plain(tag)
         if tag == "graph":
             self.seen_graph = True
+            self.is_directed = held.get("edgedefault") == "directed"
         elif tag == "key" and "id" in held:
             self.keys[held["id"]] = held.get("attr.name", held["id"])
         elif tag in ("node", "edge"):
@@ -83,6 +84,9 @@ class Reading:
             raise errors.Refused(self.name, "it has no element <graph>: this is no GraphML")
         for one, other, data, at in self.edges:
             self.found.add_link(attributes.link_of(one, other, data, at))
+        if self.is_directed:
+            # Each direction of a link has an edge of its own.
+            self.found.once()
         return self.found
 
 

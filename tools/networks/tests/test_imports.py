@@ -77,6 +77,14 @@ class Imports(tool.Folder):
         self.assertIn("#   none-2                     None\n", said)
         self.assertIn("#   die-universitat-der-stadt  Die Universität der Stadt Genève am See\n", said)
 
+    def test_a_directed_graph_has_each_link_once(self):
+        edges = '<edge source="0" target="1"/><edge source="1" target="0"/>'
+        for kind, count in (("directed", 1), ("undirected", 2)):
+            path = self.file("a.graphml", GRAPH.format(NODES + edges).replace("<graph>", f'<graph edgedefault="{kind}">'))
+            self.assertEqual(len(tomllib.loads(tool.call("import", path)[1])["link"]), count)
+        path = self.file("a.gml", "graph [ directed 1 node [ id 0 ] node [ id 1 ] edge [ source 0 target 1 ] edge [ source 1 target 0 ] ]")
+        self.assertEqual(len(tomllib.loads(tool.call("import", path)[1])["link"]), 1)
+
     def test_gml_says_the_same(self):
         links = tomllib.loads(self.imported("towns.gml"))["link"]
         self.assertEqual((links[0]["rate"], links[1]["rate"], links[1]["delay"]), ("10 Gbit/s", "1 Gbit/s", "2 ms"))
