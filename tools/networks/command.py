@@ -1,6 +1,7 @@
 """The words of tools/network, and how its faults are said."""
 
 import argparse
+import os
 import sys
 
 from networks import editing, errors, making, paths, routes, spec, toml, topology, writing
@@ -97,6 +98,7 @@ def main(arguments):
     words = parser().parse_args(arguments)
     try:
         words.do(words)
+        sys.stdout.flush()
     except errors.Refused as why:
         say(f"network: {why}")
         return REFUSED
@@ -104,6 +106,6 @@ def main(arguments):
         say(f"network: {why}")
         return LACKING
     except BrokenPipeError:
-        # Who read the text has had enough of it.
-        sys.stderr.close()
+        # Who read the text has had enough of it; what is left of it goes nowhere.
+        os.dup2(os.open(os.devnull, os.O_WRONLY), sys.stdout.fileno())
     return DONE

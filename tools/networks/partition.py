@@ -59,6 +59,9 @@ def said(network, found, parts, cut, how, raised):
     for number in raised:
         one, other = (network.nodes[node].name for node in network.link_nodes(number))
         lines.append(f"the delay of {one} to {other} is now {limits.CUT_DELAY} ns: a link between partitions has one, and what is simulated changes by it")
+    lost = sum(end is None and source.kind != "raw" for source, end in zip(network.sources, found.ends))
+    if lost:
+        lines.append(f"{lost} of {len(network.sources)} flows do not arrive by the routes of this text, and count for little: `network routes` computes routes")
     if len(paths.parts(network)) > 1:
         lines.append("the network is in pieces that no link joins")
     return lines
