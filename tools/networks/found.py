@@ -14,6 +14,8 @@ CARRIER = 51_840_000
 SCALES = {"k": 10**3, "m": 10**6, "g": 10**9, "t": 10**12}
 # A delay that a distance gives is at least this long (nanoseconds): two places of one city.
 LEAST_DELAY = 10_000
+# No number in a file is larger than this.
+LARGEST = 10**18
 
 
 @dataclass
@@ -109,8 +111,8 @@ def number(text, at, said):
         value = Fraction(text) if len(text) <= 40 and re.fullmatch(r"[+-]?[0-9]*\.?[0-9]+(?:[eE][+-]?[0-9]{1,3})?|[0-9]+\.", text) else None
     except (ValueError, ZeroDivisionError):
         value = None
-    if value is None:
-        raise errors.Refused(at, f"{said} is {errors.shown(text)}, and has to be a number")
+    if value is None or abs(value) > LARGEST:
+        raise errors.Refused(at, f"{said} is {errors.shown(text)}, and has to be a number of a usual size")
     return value
 
 

@@ -22,7 +22,8 @@ class Reading:
         self.open = None
         self.data_key, self.data_text = None, ""
         self.edges = []
-        self.parser = expat.ParserCreate()
+        # The text was decoded already, whatever its first line says of an encoding.
+        self.parser = expat.ParserCreate("UTF-8")
         self.parser.StartElementHandler = self.start
         self.parser.EndElementHandler = self.end
         self.parser.CharacterDataHandler = self.characters
