@@ -176,7 +176,7 @@ class Program(tool.Folder):
         for kind in GROUPS:
             with self.subTest(kind=kind):
                 self.assertGreater(self.arrives(self.accepted(tool.made(spec_of(kind)))), 0)
-        echo = spec_of("fat-tree").replace('among = "*"', 'kind = "echo"\namong = "*"')
+        echo = spec_of("fat-tree").replace('among = "*"', 'kind = "echo"\ninterval = "1 ms"\namong = "*"')
         self.assertGreater(self.arrives(self.accepted(tool.made(echo))), 0)
 
     @tool.needs_nullsim
