@@ -5,7 +5,7 @@ The least lookahead of the cut links decides how far partitions run ahead of eac
 
 from networks import cutting, traffic, weights
 
-# A partition has at most so many hundredths of its fair share of the packet-hops, if that can be.
+# A partition has at most so many hundredths of its fair share of the packets in and out, if that can be.
 FAIR = 130
 # How many bounds are tried.
 TRIES = 8

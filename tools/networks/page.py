@@ -73,7 +73,7 @@ def nodes_table(network, found):
     for number, node in enumerate(network.nodes):
         first = fields.address_said(network.ifaces[ends[number][0][0]].address) if ends[number] else ""
         rows.append((node.name, node.kind, node.partition, len(ends[number]), first, len(routes[number]), f"{found.hops[number]:,}"))
-    return table(("node", "kind", "partition", "links", "first address", "routes", "packet-hops"), rows)
+    return table(("node", "kind", "partition", "links", "first address", "routes", "packets in and out"), rows)
 
 
 def key_of_colours(network):

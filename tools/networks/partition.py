@@ -34,7 +34,7 @@ def split(network, found, count, by):
 
 
 def filled(network, found, parts, count):
-    """Gives an empty partition the busiest node of the one with most packet-hops that has another node."""
+    """Gives an empty partition the busiest node of the one with most packets that has another node."""
     parts = list(parts)
     for empty in sorted(set(range(count)) - set(parts)):
         shares = {part: sum(found.hops[node] for node, held in enumerate(parts) if held == part) for part in set(parts) if parts.count(part) > 1}
@@ -46,7 +46,7 @@ def filled(network, found, parts, count):
 def said(network, found, parts, cut, how, raised):
     """The partitions, the cut links and what follows from them."""
     total = sum(found.hops) or 1
-    rows = [("partition", "nodes", "packet-hops", "share")]
+    rows = [("partition", "nodes", "packets in and out", "share")]
     for part in range(max(parts) + 1):
         nodes = [node for node, held in enumerate(parts) if held == part]
         hops = sum(found.hops[node] for node in nodes)

@@ -8,7 +8,7 @@ from networks.ways import Ways
 
 @dataclass
 class Traffic:
-    """For each interface the packets and octets that it sends in the whole run; for each node its packet-hops: packets that it takes or sends."""
+    """For each interface the packets and octets that it sends in the whole run; for each node the packets that it takes and those that it sends."""
 
     packets: list
     octets: list

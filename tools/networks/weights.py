@@ -9,7 +9,7 @@ MOST_SUM = 2**28
 
 
 def node_weights(found):
-    """Expected packet-hops; a node without any weighs a little too, so that all nodes are shared out."""
+    """Expected packets in and out; a node without any weighs a little too, so that all nodes are shared out."""
     return scaled([hops + 1 for hops in found.hops])
 
 
