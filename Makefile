@@ -1,6 +1,6 @@
 # `make help` lists the targets.
 
-.PHONY: all help try run bench cases run-cases check-frames check-links check-pcap cut-connections deep tutorial trust test gate-times install uninstall clean toolchain
+.PHONY: all help try run bench cases run-cases check-frames check-links check-network check-pcap cut-connections deep tutorial trust test gate-times install uninstall clean toolchain
 
 # The topology and the interface of `make try` and `make run`; the folder of `make cases`; how many jobs `make` proves with; which steps of `make deep`;
 # where `make install` puts the program, its manual page and its completion for bash (DESTDIR stands before it, for who makes packages).
@@ -24,14 +24,15 @@ help:
 	@echo 'make tutorial    runs the commands of docs/TUTORIAL.md, and compares what they print; make trust writes the list of docs/TRUST.md anew'
 	@echo 'make check-frames compares the reader of frames with a model of its own over generated streams'
 	@echo 'make check-links breaks the connections of replicas at random octets, with ten thousand seeds, and certifies what they come to'
+	@echo 'make check-network runs the tests of tools/network, which wants networkx, METIS and Graphviz (docs/NETWORKS.md); a test passed over is no pass'
 	@echo 'make check-pcap  reads the traces of the examples with tshark, or else tcpdump, one of which it needs'
 	@echo 'make cut-connections cuts the connection of two nodes a thousand times, and compares their files with those of the one event list'
-	@echo 'make deep        all that is too long for the gate: refused memory, frames, links, connections, runs and planted bugs; STEPS=WORD: some of it'
+	@echo 'make deep        all that is too long for the gate: refused memory, frames, links, connections, networks, runs and planted bugs; STEPS=WORD: some of it'
 	@echo 'make test        the gate: proves everything from nothing and runs every test; the last line is N passed, M failed'
 	@echo 'make gate-times  the gate, with the processor minutes of each crate (docs/GATE.md)'
 	@echo 'make install     puts bin/nullsim, its manual page and its completion for bash below PREFIX (/usr/local); make uninstall removes them'
 	@echo 'make clean       removes what was built'
-	@echo 'All need the Rattle toolchain (rt) on PATH and python3, check-pcap python3 of 3.11 or later; none needs a network.'
+	@echo 'All need the Rattle toolchain (rt) on PATH and python3, check-pcap and check-network python3 of 3.11 or later; none needs a network.'
 
 toolchain:
 	@command -v rt >/dev/null 2>&1 || { echo "nullsim: the Rattle toolchain is missing: put its command rt on PATH" >&2; exit 1; }
@@ -105,6 +106,9 @@ check-frames: bin/nm_bench
 
 check-links: bin/nm_bench
 	@tools/check-links
+
+check-network: bin/nullsim
+	@tools/check-network bin/nullsim
 
 check-pcap: bin/nullsim
 	@tools/check-pcap bin/nullsim examples/*.toml

@@ -1,0 +1,1 @@
+"""What tools/network is made of: a module for each idea."""

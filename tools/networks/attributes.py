@@ -1,0 +1,56 @@
+"""What GraphML and GML files say of nodes and links in attributes, the Internet Topology Zoo's first."""
+
+from networks import errors, found, units
+from networks.found import FoundLink, FoundNode
+
+LABELS = ("label", "name")
+PLACES = (("latitude", "longitude"), ("lat", "lon"), ("lat", "lng"), ("lat", "long"))
+# Texts that may say a rate, such as "10 Gbps", in the order in which they are looked at.
+RATE_TEXTS = ("linklabel", "linkspeedtext", "bandwidth", "capacity", "rate", "speed")
+DELAY_TEXTS = ("delay", "latency")
+
+
+def lowered(attributes):
+    """The attributes by names in small letters."""
+    return {str(key).lower(): str(value).strip() for key, value in attributes.items()}
+
+
+def node_of(key, attributes, at):
+    """A node of a file."""
+    held = lowered(attributes)
+    label = next((held[name] for name in LABELS if held.get(name)), str(key))
+    for north, east in PLACES:
+        if held.get(north) and held.get(east):
+            return FoundNode(label, found.place_of(held[north], held[east], at), at)
+    return FoundNode(label, None, at)
+
+
+def rate_of(held, at):
+    """The rate that attributes of a link say: exactly, by a number with its unit, or in a text."""
+    if held.get("linkspeedraw"):
+        return found.checked_rate(round(found.number(held["linkspeedraw"], at, "LinkSpeedRaw")), at, f"LinkSpeedRaw {held['linkspeedraw']}")
+    if held.get("linkspeed") and held.get("linkspeedunits", "")[:1].lower() in found.SCALES:
+        scale = found.SCALES[held["linkspeedunits"][0].lower()]
+        said = f"LinkSpeed {held['linkspeed']} {held['linkspeedunits']}"
+        return found.checked_rate(round(found.number(held["linkspeed"], at, "LinkSpeed") * scale), at, said)
+    for name in RATE_TEXTS:
+        rate = found.rate_of(held.get(name, ""))
+        if rate is not None:
+            return found.checked_rate(rate, at, errors.shown(held[name]))
+    return None
+
+
+def delay_of(held, at):
+    """The delay that attributes of a link say, where they say its unit."""
+    for name in DELAY_TEXTS:
+        delay = units.quantity(held.get(name, ""), units.TIMES)
+        if delay is not None:
+            return found.checked_delay(delay, at, errors.shown(held[name]))
+    return None
+
+
+def link_of(one, other, attributes, at):
+    """A link of a file."""
+    held = lowered(attributes)
+    remark = held.get("linklabel") or held.get("label") or ""
+    return FoundLink(one, other, rate_of(held, at), delay_of(held, at), None, "".join(letter for letter in remark[:60] if letter.isprintable()), at)

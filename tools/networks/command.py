@@ -1,0 +1,111 @@
+"""The words of tools/network, and how its faults are said."""
+
+import argparse
+import os
+import sys
+
+from networks import editing, errors, making, paths, routes, spec, toml, topology, writing
+
+# Exit statuses: done, words that are no command, an input that is refused, a package that is missing.
+DONE, USAGE, REFUSED, LACKING = 0, 2, 3, 4
+
+
+def say(line):
+    """A line for the person, beside the text on standard output."""
+    print(line, file=sys.stderr)
+
+
+def do_make(words):
+    """A topology from a SPEC."""
+    found = spec.read(toml.load(words.file))
+    made = making.make(found, words.file)
+    sys.stdout.write(writing.text(made, found.title))
+    for line in made.chosen:
+        say(line)
+
+
+def do_routes(words):
+    """The same text with other routes."""
+    text = toml.load(words.file)
+    network = topology.read(text)
+    routes.check_joined(network, words.file, lambda number: text.place("node", number))
+    old = network.routes
+    network.routes = routes.computed(network, words.weight, words.spread, words.file, words.only_flows)
+    routes.check_flows(network, lambda number: f"{text.place('source', number)}: source {number}")
+    sys.stdout.write(editing.with_routes(text.text, network, old))
+    say(f"routes      {len(network.routes):,} in place of {len(old):,}, by least {words.weight}")
+
+
+def do_import(words):
+    """A SPEC from a file of another maker's."""
+    from networks import importing
+
+    text, lines = importing.spec_text(words)
+    sys.stdout.write(text)
+    for line in lines:
+        say(line)
+
+
+def do_partition(words):
+    """The same text with other partitions."""
+    from networks import partition
+
+    text, lines = partition.chosen(toml.load(words.file), words.count, words.by)
+    sys.stdout.write(text)
+    for line in lines:
+        say(line)
+
+
+def do_show(words):
+    """A page about a network."""
+    from networks import page
+
+    sys.stdout.write(page.html_text(toml.load(words.file)))
+
+
+def parser():
+    """What the words mean."""
+    top = argparse.ArgumentParser(
+        prog="network", description="Makes topology texts for nullsim; docs/NETWORKS.md says more. What was chosen is said on standard error.", allow_abbrev=False
+    )
+    some = top.add_subparsers(dest="word", required=True, metavar="WORD")
+    one = some.add_parser("make", help="SPEC.toml > x.toml: a whole topology from a short description")
+    one.set_defaults(do=do_make)
+    one = some.add_parser("import", help="FILE > SPEC.toml: a SPEC from GraphML, GML, an edge list, Rocketfuel weights or BRITE")
+    one.add_argument("--format", choices=("graphml", "gml", "edges", "rocketfuel", "brite"), help="where the file's name and text do not tell")
+    one.add_argument("--latencies", metavar="FILE", help="Rocketfuel's latencies (milliseconds) beside its weights")
+    one.add_argument("--largest", action="store_true", help="of a network in pieces take the largest")
+    one.set_defaults(do=do_import)
+    one = some.add_parser("routes", help="x.toml > y.toml: the routes anew, by shortest paths")
+    one.add_argument("--weight", choices=[weight for weight in paths.WEIGHTS if weight != "cost"], default="delay", help="what is least (delay)")
+    one.add_argument("--spread", action="store_true", help="of equal paths another one for each destination")
+    one.add_argument("--only-flows", action="store_true", help="only to nodes at the ends of flows")
+    one.set_defaults(do=do_routes)
+    one = some.add_parser("partition", help="x.toml N > y.toml: N partitions")
+    one.add_argument("--by", choices=("metis", "kernighan-lin"), help="what cuts (METIS where it is installed)")
+    one.set_defaults(do=do_partition)
+    one = some.add_parser("show", help="x.toml > x.html: a page with the drawn network, its links and flows")
+    one.set_defaults(do=do_show)
+    for name, found in some.choices.items():
+        found.add_argument("file", metavar="FILE", help="a file, or - for standard input")
+        if name == "partition":
+            found.add_argument("count", metavar="N", type=int, help="how many partitions: 1 to 64")
+    return top
+
+
+def main(arguments):
+    """Runs a command: its exit status."""
+    words = parser().parse_args(arguments)
+    try:
+        words.do(words)
+        sys.stdout.flush()
+    except errors.Refused as why:
+        say(f"network: {why}")
+        return REFUSED
+    except errors.Lacking as why:
+        say(f"network: {why}")
+        return LACKING
+    except BrokenPipeError:
+        # Who read the text has had enough of it; what is left of it goes nowhere.
+        os.dup2(os.open(os.devnull, os.O_WRONLY), sys.stdout.fileno())
+    return DONE

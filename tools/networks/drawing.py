@@ -1,0 +1,103 @@
+"""The network as a drawing in SVG: by Graphviz where it is installed, or else its nodes on a circle."""
+
+import html
+import math
+import re
+import shutil
+import subprocess
+
+from networks import units
+
+SECONDS = 60
+# Fills of partitions, pale, so that names can be read on them; they begin anew after the last.
+FILLS = ("#dbeafe", "#dcfce7", "#fef3c7", "#fae8ff", "#fee2e2", "#e0e7ff", "#ccfbf1", "#f1f5f9")
+# More nodes than this are drawn by the way of Graphviz that is made for many.
+MANY = 300
+RADIUS_A_NODE = 26
+WIDER = 1.7
+
+
+def colour(load):
+    """From green, nothing to do, to red, always busy; the load is in millionths."""
+    share = min(1000, load // 1000)
+    return f"#{min(255, 40 + share * 215 * 2 // 1000):02x}{max(0, 150 - share * 130 // 1000):02x}30"
+
+
+def width(load):
+    """How thick a link is drawn."""
+    return 1.2 + min(10**6, load) / 250_000
+
+
+def dot_text(network, loads):
+    """The network for Graphviz."""
+    lines = ["graph network {", "overlap=prism; splines=true; outputorder=edgesfirst; bgcolor=transparent; sep=0.1;"]
+    lines += ['node [style=filled, fontname="Helvetica", fontsize=10, color="#475569", margin="0.08,0.04", height=0.3];']
+    for number, node in enumerate(network.nodes):
+        shape = "box" if node.kind == "router" else "ellipse"
+        look = f'shape={shape}, fillcolor="{FILLS[node.partition % len(FILLS)]}", tooltip="{node.name}: partition {node.partition}"'
+        lines.append(f'n{number} [label="{node.name}", {look}];')
+    for number, link in enumerate(network.links):
+        one, other = network.link_nodes(number)
+        says = f"{units.rate_said(link.rate)}, {units.time_said(link.delay)}, busy {loads[number] / 10**4:.2f}%"
+        style = ', style="dashed"' if network.nodes[one].partition != network.nodes[other].partition else ""
+        far = 1.6 if "host" not in (network.nodes[one].kind, network.nodes[other].kind) else 0.9
+        lines.append(f'n{one} -- n{other} [color="{colour(loads[number])}", penwidth={width(loads[number]):.2f}, len={far}, tooltip="{says}"{style}];')
+    return "\n".join([*lines, "}"]) + "\n"
+
+
+def by_graphviz(network, loads):
+    """The drawing of Graphviz, or None where it is not installed or fails."""
+    program = shutil.which("dot")
+    if not program:
+        return None
+    way = "sfdp" if len(network.nodes) > MANY else "neato"
+    try:
+        text, pipe = dot_text(network, loads).encode(), subprocess.PIPE
+        words = [program, f"-K{way}", "-Tsvg"]
+        ended = subprocess.run(words, input=text, stdout=pipe, stderr=subprocess.DEVNULL, timeout=SECONDS, check=False)
+    except subprocess.TimeoutExpired:
+        return None
+    found = re.search(r"<svg.*</svg>", ended.stdout.decode(errors="replace"), re.DOTALL)
+    return found[0] if found and ended.returncode == 0 else None
+
+
+def on_a_circle(network, loads):
+    """Routers on a circle, and each host outside of it beside the node that it hangs on."""
+    ends = network.ends()
+    anchors = [ends[number][0][1] if node.kind == "host" and len(ends[number]) == 1 else None for number, node in enumerate(network.nodes)]
+    order = []
+    for number, anchor in enumerate(anchors):
+        if anchor is None:
+            order.append(number)
+            order += [other for other, held in enumerate(anchors) if held is not None and network.ifaces[held].node == number]
+    order += [number for number in range(len(network.nodes)) if number not in set(order)]
+    radius = max(160, len(order) * RADIUS_A_NODE / (2 * math.pi))
+    # Wider than high, as names are.
+    wide, high = 2 * (WIDER * radius + 200), 2 * (radius + 100)
+    places = {}
+    for step, number in enumerate(order):
+        angle, far = 2 * math.pi * step / len(order), radius + (60 if anchors[number] is not None else 0)
+        places[number] = (WIDER * far * math.sin(angle), -far * math.cos(angle))
+    view = f"{-wide / 2:.0f} {-high / 2:.0f} {wide:.0f} {high:.0f}"
+    lines = [f'<svg xmlns="http://www.w3.org/2000/svg" width="{wide:.0f}" height="{high:.0f}" viewBox="{view}">']
+    for number in range(len(network.links)):
+        one, other = network.link_nodes(number)
+        (x, y), (u, v) = places[one], places[other]
+        dashes = ' stroke-dasharray="5 3"' if network.nodes[one].partition != network.nodes[other].partition else ""
+        stroke = f'stroke="{colour(loads[number])}" stroke-width="{width(loads[number]):.2f}"{dashes}'
+        lines.append(f'<line x1="{x:.1f}" y1="{y:.1f}" x2="{u:.1f}" y2="{v:.1f}" {stroke}/>')
+    for number, node in enumerate(network.nodes):
+        x, y = places[number]
+        fill, corner = FILLS[node.partition % len(FILLS)], 2 if node.kind == "router" else 9
+        wide = 10 + 6.2 * len(node.name)
+        lines.append(f'<rect x="{x - wide / 2:.1f}" y="{y - 9:.1f}" width="{wide:.1f}" height="18" rx="{corner}" fill="{fill}" stroke="#475569"/>')
+        lines.append(f'<text x="{x:.1f}" y="{y + 4:.1f}" text-anchor="middle" font-family="Helvetica, sans-serif" font-size="10">{html.escape(node.name)}</text>')
+    return "\n".join([*lines, "</svg>"])
+
+
+def drawn(network, loads):
+    """The drawing, and what drew it."""
+    picture = by_graphviz(network, loads)
+    if picture:
+        return picture, "Graphviz"
+    return on_a_circle(network, loads), "tools/network, on a circle: Graphviz is not installed, or took too long (apt-get install graphviz)"

@@ -1,0 +1,152 @@
+"""Groups of nodes in a known shape: each maker gives the names of its nodes, which of them have hosts, and its links by names."""
+
+from dataclasses import dataclass, field
+
+from networks import errors, fields, limits
+
+
+@dataclass
+class Shape:
+    """`nodes` in order; `leaves` are those that the key `hosts` gives hosts to."""
+
+    nodes: list = field(default_factory=list)
+    leaves: list = field(default_factory=list)
+    links: list = field(default_factory=list)
+    hosts: int = 0
+
+
+def numbered(name, count):
+    """NAME-1, NAME-2 and so on."""
+    return [f"{name}-{number}" for number in range(1, count + 1)]
+
+
+def flat(nodes, links):
+    """A shape each of whose nodes may have hosts."""
+    return Shape(nodes, list(nodes), links)
+
+
+def line(table, _):
+    """Each node is joined to the next."""
+    nodes = numbered(table["name"], table["nodes"])
+    return flat(nodes, list(zip(nodes, nodes[1:])))
+
+
+def ring(table, _):
+    """A line whose ends are joined."""
+    nodes = numbered(table["name"], table["nodes"])
+    return flat(nodes, list(zip(nodes, nodes[1:] + nodes[:1])))
+
+
+def full(table, _):
+    """Each node is joined to each."""
+    nodes = numbered(table["name"], table["nodes"])
+    return flat(nodes, [(one, other) for number, one in enumerate(nodes) for other in nodes[number + 1 :]])
+
+
+def star(table, _):
+    """NAME in the middle, and NAME-1 and so on around it."""
+    nodes = numbered(table["name"], table["nodes"])
+    return Shape([table["name"], *nodes], nodes, [(table["name"], node) for node in nodes])
+
+
+def grid(table, _):
+    """NAME-ROW-COLUMN, each joined to those beside and below it."""
+    rows, columns = table["rows"], table["columns"]
+    name = [[f"{table['name']}-{row}-{column}" for column in range(1, columns + 1)] for row in range(1, rows + 1)]
+    links = []
+    for row in range(rows):
+        for column in range(columns):
+            links += [(name[row][column], name[row][column + 1])] if column + 1 < columns else []
+            links += [(name[row][column], name[row + 1][column])] if row + 1 < rows else []
+    return flat([node for line_of in name for node in line_of], links)
+
+
+def tree(table, _):
+    """NAME is the root; each node of a level has `branches` below it, NAME-1, then NAME-1-1 and so on."""
+    shape, level = Shape([table["name"]]), [table["name"]]
+    for _ in range(table["levels"]):
+        below = [(node, f"{node}-{number}") for node in level for number in range(1, table["branches"] + 1)]
+        shape.links += below
+        level = [child for _, child in below]
+        shape.nodes += level
+        if len(shape.nodes) > limits.GROUP_NODES:
+            break
+    shape.leaves = level
+    return shape
+
+
+def fat_tree(table, _):
+    """Of Al-Fares, Loukissas and Vahdat (2008): k pods of k/2 upper and k/2 lower routers, (k/2)^2 core routers, k/2 hosts a lower router."""
+    k, name = table["k"], table["name"]
+    half = k // 2
+    core = [f"{name}-core-{number}" for number in range(1, half * half + 1)]
+    shape = Shape(list(core), hosts=half)
+    for pod in range(1, k + 1):
+        upper = [f"{name}-p{pod}-up-{number}" for number in range(1, half + 1)]
+        lower = [f"{name}-p{pod}-low-{number}" for number in range(1, half + 1)]
+        shape.nodes += upper + lower
+        shape.leaves += lower
+        shape.links += [(core[number * half + port], upper[number]) for number in range(half) for port in range(half)]
+        shape.links += [(above, below) for above in upper for below in lower]
+    return shape
+
+
+def random(table, chance):
+    """A tree by chance, and further links by chance between nodes that have none."""
+    nodes, count = numbered(table["name"], table["nodes"]), table["nodes"]
+    pairs = [(chance.below(number), number) for number in range(1, count)]
+    known = set(pairs)
+    while len(pairs) < table["links"]:
+        one, other = sorted((chance.below(count), chance.below(count)))
+        if one != other and (one, other) not in known:
+            known.add((one, other))
+            pairs.append((one, other))
+    return flat(nodes, [(nodes[one], nodes[other]) for one, other in pairs])
+
+
+def counted(least):
+    """The key `nodes` of most groups."""
+    return {"nodes": fields.whole(least, limits.GROUP_NODES, "nodes")}
+
+
+def even(value):
+    """The k of a fat tree."""
+    number = fields.whole(*limits.FAT_TREE, "ports of a router")(value)
+    if number % 2:
+        raise fields.Wrong(f"has to be even, and {number} is odd")
+    return number
+
+
+SIDE = fields.whole(1, limits.GROUP_NODES, "nodes")
+# For each kind its maker and the keys that it has beside those of all groups.
+KINDS = {
+    "line": (line, counted(2)),
+    "ring": (ring, counted(3)),
+    "full": (full, counted(2)),
+    "star": (star, counted(1)),
+    "grid": (grid, {"rows": SIDE, "columns": SIDE}),
+    "tree": (tree, {"branches": fields.whole(1, 64, "nodes"), "levels": fields.whole(1, 10, "levels")}),
+    "fat-tree": (fat_tree, {"k": even}),
+    "random": (random, {**counted(2), "links": fields.whole(1, limits.LINKS, "links")}),
+}
+
+
+def make(table, chance, place):
+    """The shape of a group, whose keys were read."""
+    kind = table["kind"]
+    if kind == "random":
+        count = table["nodes"]
+        if chance is None:
+            raise errors.Refused(place(), "a random group needs `seed = NUMBER` at the top of the SPEC")
+        if not count - 1 <= table["links"] <= count * (count - 1) // 2:
+            least, most = count - 1, count * (count - 1) // 2
+            raise errors.Refused(place("links"), f"{count} nodes are joined by {least:,} links at least and {most:,} at most, not {table['links']:,}")
+    shape = KINDS[kind][0](table, chance)
+    if len(shape.nodes) > limits.NODES or len(shape.links) > limits.LINKS:
+        raise errors.Refused(place(), f"the group has {len(shape.nodes):,} nodes and {len(shape.links):,} links; {most_said()}")
+    return shape
+
+
+def most_said():
+    """The limits of nodes and links, for a sentence."""
+    return f"a topology has at most {limits.NODES:,} nodes and {limits.LINKS:,} links: leave hosts or nodes out"

@@ -1,0 +1,162 @@
+"""A SPEC from a file of another maker's, which says what it took and from where."""
+
+import os
+import re
+
+from networks import brite, edges, errors, found, gml, graphml, limits, names, rocketfuel, toml, units
+
+READERS = {"graphml": graphml.read, "gml": gml.read, "edges": edges.read, "rocketfuel": rocketfuel.read, "brite": brite.read}
+# So many letters leave room for -h1 to -h1023 behind them.
+LONGEST = limits.NAME_LENGTH - 6
+# With more routers than this there is no room for a host behind each.
+MOST_WITH_HOSTS = limits.NODES // 2
+
+
+def format_of(name, text):
+    """Which format a file has, by its text and then by its name."""
+    begin = text.lstrip("\ufeff \t\r\n")[:4000]
+    if begin.startswith("<"):
+        return "graphml"
+    if begin.startswith("Topology:"):
+        return "brite"
+    if name.lower().endswith(".gml") or re.search(r"^\s*graph\s*(?:#.*)?\s*\[", begin, re.MULTILINE):
+        return "gml"
+    if name.lower().endswith((".intra", ".weights")) or re.match(r"[^\s,]+,\+?\S* +[^\s,]+,\+?\S* +[0-9.]+\s", begin):
+        return "rocketfuel"
+    if name.lower().endswith((".graphml", ".xml")):
+        return "graphml"
+    return "edges"
+
+
+def read(words):
+    """What the file has."""
+    text = toml.octets(words.file)
+    kind = words.format or format_of(words.file, text)
+    if words.latencies and kind != "rocketfuel":
+        raise errors.Refused("", "--latencies stands with Rocketfuel weights: for other files say --format rocketfuel, or leave it out")
+    if kind == "rocketfuel" and words.latencies:
+        latencies = rocketfuel.latencies_of(words.latencies, toml.octets(words.latencies))
+        return rocketfuel.read(words.file, text, latencies)
+    return READERS[kind](words.file, text)
+
+
+def pieces(made):
+    """The keys of nodes that links join, the largest piece first."""
+    near = {key: [] for key in made.nodes}
+    for link in made.links:
+        near[link.a].append(link.b)
+        near[link.b].append(link.a)
+    seen, found_pieces = set(), []
+    for start in made.nodes:
+        piece, waiting = [], [] if start in seen else [start]
+        seen.add(start)
+        while waiting:
+            key = waiting.pop()
+            piece.append(key)
+            fresh = [other for other in near[key] if other not in seen]
+            seen.update(fresh)
+            waiting += dict.fromkeys(fresh)
+        if piece:
+            found_pieces.append(piece)
+    return sorted(found_pieces, key=len, reverse=True)
+
+
+def joined(made, name, is_largest):
+    """Refuses a network in pieces, or leaves its largest piece."""
+    if not made.nodes:
+        raise errors.Refused(name, f"there is no node in it (read as {made.kind})")
+    several = pieces(made)
+    if len(several) == 1:
+        return
+    one, other = (made.nodes[piece[0]] for piece in several[:2])
+    if not is_largest:
+        sizes = ", ".join(f"{len(piece)}" for piece in several[:5]) + (", .." if len(several) > 5 else "")
+        sentence = f"the network is in {len(several)} pieces of {sizes} nodes: no links lead from {errors.shown(one.label)} to {errors.shown(other.label)}"
+        raise errors.Refused(other.at, f"{sentence}; --largest takes the largest piece")
+    kept = set(several[0])
+    made.remarks.append(f"{len(made.nodes) - len(kept)} nodes outside the largest piece were left out")
+    made.nodes = {key: node for key, node in made.nodes.items() if key in kept}
+    made.links = [link for link in made.links if link.a in kept]
+
+
+def named(made):
+    """The new name of each node; with each goes the name that a host behind it would have."""
+    given, found_names = names.Names(), {}
+    for key, node in made.nodes.items():
+        # A label without a letter or number of a name is called after the node's id.
+        word = names.plain(node.label) or f"n-{key}"
+        name = given.give(word, longest=LONGEST)
+        while f"{name}-h1" in given.taken:
+            name = given.give(word, longest=LONGEST)
+        found_names[key] = name
+        given.taken.add(f"{name}-h1")
+    return found_names
+
+
+def comment(text):
+    """A text that may stand in a comment."""
+    return "".join(letter if letter.isprintable() else "?" for letter in str(text)[:120])
+
+
+def node_lines(made, name_of):
+    """The nodes as an array of tables; behind each its place."""
+    lines = []
+    for key, node in made.nodes.items():
+        place = f"  # latitude {node.place[0]:.2f}, longitude {node.place[1]:.2f}" if node.place else ""
+        lines.append(f'  {{name = "{name_of[key]}"}},{place}')
+    return ["node = [", *lines, "]"]
+
+
+def link_lines(made, name_of):
+    """The links as an array of tables."""
+    lines = []
+    for link in made.links:
+        parts = [f'a = "{name_of[link.a]}"', f'b = "{name_of[link.b]}"']
+        parts += [f'rate = "{units.rate_said(link.rate)}"'] if link.rate is not None else []
+        parts += [f'delay = "{units.time_said(link.delay)}"'] if link.delay is not None else []
+        parts += [f"cost = {link.cost}"] if link.cost is not None else []
+        lines.append(f"  {{{', '.join(parts)}}},{f'  # {comment(link.remark)}' if link.remark else ''}")
+    return ["link = [", *lines, "]"]
+
+
+def renamed_lines(made, name_of):
+    """The table of old and new names, of nodes whose name had to change."""
+    changed = [(name_of[key], node.label) for key, node in made.nodes.items() if name_of[key] != node.label]
+    width = max((len(new) for new, _ in changed), default=0)
+    if not changed:
+        return ["# Names are those of the file."]
+    return [f"# {len(changed)} of {len(made.nodes)} names were changed; new name, old name:", *(f"#   {new.ljust(width)}  {comment(old)}" for new, old in changed)]
+
+
+def ending(made, weight):
+    """Traffic to begin with, and the defaults, to be edited."""
+    has_hosts = len(made.nodes) <= MOST_WITH_HOSTS and len(made.nodes) + len(made.links) <= limits.LINKS
+    lines = ["# Traffic to begin with: each sends to the one half the list away. Write your own."]
+    lines += ["[[flow]]", f'among = "{"*-h1" if has_hosts else "*"}"', 'pairs = "across"', 'rate = "1 Mbit/s"', 'stagger = "50 us"', ""]
+    lines += ["[defaults]", f"node = {{hosts = {1 if has_hosts else 0}}}{'   # hosts behind each router' if has_hosts else ''}"]
+    lines += ['link = {rate = "1 Gbit/s", delay = "1 ms", queue = 100}   # what holds where a link says nothing else']
+    lines += ['host_link = {rate = "1 Gbit/s", delay = "10 us"}'] if has_hosts else []
+    return [f'weight = "{weight}"', "", *lines]
+
+
+def unsaid(made):
+    """How many links say no rate, and how many no delay."""
+    for key in ("rate", "delay"):
+        count = sum(getattr(link, key) is None for link in made.links)
+        if count:
+            yield f"{key}s that the file does not say: {count} of {len(made.links)}; the default holds for these links"
+
+
+def spec_text(words):
+    """The SPEC, and what is said of it, in lines."""
+    made = read(words)
+    joined(made, words.file, words.largest)
+    found.delays_by_distance(made)
+    name_of = named(made)
+    weight = "cost" if any(link.cost is not None for link in made.links) else "delay"
+    said = [f"{len(made.nodes)} nodes, {len(made.links)} links, read as {made.kind}", *unsaid(made), *made.remarks]
+    tail = ending(made, weight)
+    title = comment(os.path.basename(words.file)).replace("\\", "?").replace('"', "?")
+    lines = [f"# A SPEC for `network make`, imported from {title}.", *(f"# {comment(line)}" for line in said), "#", *renamed_lines(made, name_of), ""]
+    lines += [f'title = "Imported from {title}"', 'stop = "1 s"', tail[0], "", *node_lines(made, name_of), "", *link_lines(made, name_of), *tail[1:]]
+    return "\n".join(lines) + "\n", said

@@ -1,0 +1,117 @@
+"""A network from a SPEC: interfaces named after both ends, addresses, routes, sources."""
+
+from networks import addresses, errors, fields, flows, limits, names, routes, units
+from networks.chance import Chance
+from networks.topology import Iface, Link, Network, Node, kinds_said
+
+# Chance for flows does not depend on how much of it the groups took.
+FLOWS_SEED = 0x466C6F7773
+
+
+class Made:
+    """A network, and what was chosen for it, in lines."""
+
+    def __init__(self, network, chosen, first_line):
+        self.network, self.chosen, self.first_line = network, chosen, first_line
+
+
+def joined(spec):
+    """The nodes, interfaces and links, and what is said of delays that had to be raised."""
+    network = Network(spec.stop, spec.mtu)
+    numbers, given, raised = {}, names.Names(), []
+    for number, node in enumerate(spec.nodes.values()):
+        numbers[node.name] = number
+        network.nodes.append(Node(node.name, node.kind, node.partition, list(node.ports)))
+    for link in spec.links:
+        ends = []
+        for own, far in ((link.a, link.b), (link.b, link.a)):
+            ends.append(len(network.ifaces))
+            network.ifaces.append(Iface(given.between(own, far), numbers[own], 0, link.queue, link.queue_octets))
+        delay = link.delay
+        if delay < limits.CUT_DELAY and spec.nodes[link.a].partition != spec.nodes[link.b].partition:
+            delay = limits.CUT_DELAY
+            raised.append(f"{link.a} to {link.b}")
+        network.links.append(Link(*ends, link.rate, delay, link.cost))
+    return network, numbers, raised
+
+
+def check_limits(network, name):
+    """Refuses more interfaces or channels than a topology has."""
+    if len(network.ifaces) > limits.IFACES:
+        raise errors.Refused(name, f"there are {len(network.ifaces):,} interfaces, and at most {limits.IFACES:,} may be")
+    cut = channels(network)
+    if cut > limits.CHANNELS:
+        raise errors.Refused(
+            name, f"the partitions are joined by {cut:,} channels (two for each link between them), and at most {limits.CHANNELS} may be: {channel_advice()}"
+        )
+
+
+def channels(network):
+    """How many channels the partitions of a network have."""
+    nodes = network.nodes
+    return 2 * sum(nodes[one].partition != nodes[other].partition for one, other in map(network.link_nodes, range(len(network.links))))
+
+
+def channel_advice():
+    """What helps against too many channels."""
+    return "put nodes that many links join into one partition, or choose fewer partitions"
+
+
+def make(spec, name):
+    """The network of a SPEC; `name` is said where a fault has no line."""
+    network, numbers, raised = joined(spec)
+    check_limits(network, name)
+    routes.check_joined(network, name, lambda number: spec.nodes[network.nodes[number].name].place())
+    chance = None if spec.seed is None else Chance(spec.seed ^ FLOWS_SEED)
+    place_of = flows.add(spec, network, numbers, chance)
+    blocks, taken = routed(spec, network)
+    routes.check_counts(network, network.routes, name)
+    routes.check_flows(network, lambda number: place_of[number])
+    first = "No seed: nothing here was chosen by chance." if spec.seed is None else f"Seed {spec.seed}: what was chosen by chance follows from it."
+    return Made(network, chosen_lines(spec, network, blocks, taken, raised), first)
+
+
+def routed(spec, network):
+    """Gives addresses and routes in the order of nodes that needs fewer routes; says how many blocks and addresses there are."""
+    chosen, goals = routes.choices(network, spec.weight, spec.spread), [source.to for source in network.sources]
+    best = None
+    for order in addresses.orders(network):
+        addressed(spec, network, order, goals)
+        found = routes.tables(network, chosen, spec.only_flows)
+        size = (routes.most_of_a_node(found)[1] > limits.NODE_ROUTES, len(found))
+        if best is None or size < best[0]:
+            best = (size, order, found)
+    counts = addressed(spec, network, best[1], goals)
+    network.routes = best[2]
+    return counts
+
+
+def addressed(spec, network, order, goals):
+    """Gives addresses in an order, those of the flows' goals to the sources too."""
+    counts = addresses.give(network, order, spec.prefix, spec.prefix_place)
+    first = {}
+    for iface in network.ifaces:
+        first.setdefault(iface.node, iface.address)
+    for source, goal in zip(network.sources, goals):
+        source.to = first[goal]
+    return counts
+
+
+def chosen_lines(spec, network, blocks, taken, raised):
+    """What was chosen, a line each."""
+    packets = sum(source.count for source in network.sources)
+    before, partitions = routes.unaggregated(network), max(node.partition for node in network.nodes) + 1
+    to = " to the ends of flows" if spec.only_flows else ""
+    spread = "; of equal ones another for each destination" if spec.spread else "; of equal ones the first"
+    lines = [
+        f"nodes       {kinds_said(network)}, {len(network.links)} links; an interface is named after its node and the node at the far end",
+        f"addresses   {taken:,} of {fields.prefix_said(*spec.prefix)}, in {blocks} blocks: a router and the hosts behind it have one",
+        f"routes      {len(network.routes):,}{to}, by least {spec.weight}{spread}; one for each address would be {before:,}",
+        f"flows       {len(network.sources)} with {packets:,} packets; where a cbr flow ends its port is open",
+        f"stop        {units.time_said(spec.stop)}; a flow that says no other end ends at {units.time_said(spec.stop * flows.TENTHS // 10)}",
+        f"partitions  {partitions}, with {channels(network)} channels",
+    ]
+    if raised:
+        shown = ", ".join(raised[:4]) + (f" and {len(raised) - 4} more" if len(raised) > 4 else "")
+        lines.append(f"raised      the delay of links between partitions to {limits.CUT_DELAY} ns: {shown}")
+    return lines

@@ -1,0 +1,84 @@
+"""Shortest paths: hosts are ends of paths and never inside one, for they forward nothing."""
+
+import heapq
+
+# Each cost is at least 1, so that no loop is free: of paths of one delay the one of fewer links is shorter.
+LINK_SHARE = 1 << 20
+RATE_SCALE = 10**15
+WEIGHTS = ("hops", "delay", "rate", "cost")
+
+
+def cost(link, weight):
+    """What a link costs, by the weight; it costs the same both ways."""
+    if weight == "hops":
+        return 1
+    if weight == "delay":
+        return link.delay * LINK_SHARE + 1
+    if weight == "rate":
+        return -(-RATE_SCALE // link.rate)
+    return link.cost if link.cost is not None else 1
+
+
+def distances(network, ends, costs, goal):
+    """What the shortest path from each node to the goal costs; None where there is none."""
+    found = [None] * len(network.nodes)
+    best = {goal: 0}
+    waiting = [(0, goal)]
+    while waiting:
+        past, node = heapq.heappop(waiting)
+        if found[node] is not None:
+            continue
+        found[node] = past
+        # A path to the goal may not pass through a host.
+        if network.nodes[node].kind == "host" and node != goal:
+            continue
+        for _, far, link in ends[node]:
+            other, total = network.ifaces[far].node, past + costs[link]
+            if found[other] is None and total < best.get(other, total + 1):
+                best[other] = total
+                heapq.heappush(waiting, (total, other))
+    return found
+
+
+def next_ifaces(network, ends, costs, goal, spread):
+    """The interface by which each node sends to the goal: on a shortest path the first, or, spread, one that the goal's number chooses."""
+    found = distances(network, ends, costs, goal)
+    hops = distances(network, ends, [1] * len(costs), goal) if spread else None
+    chosen = [None] * len(network.nodes)
+    for node, past in enumerate(found):
+        if past is None or node == goal:
+            continue
+        equal = [own for own, far, link in ends[node] if leads(network, found, far, goal) and found[network.ifaces[far].node] + costs[link] == past]
+        chosen[node] = equal[digit(goal, len(equal), hops[node])] if spread else equal[0]
+    return chosen
+
+
+def digit(goal, count, hops):
+    """Which of equal ways a goal takes: a digit of its number, another one at the next node, so that all ways of a tree are taken."""
+    return goal // count ** (hops % 3) % count
+
+
+def leads(network, found, far, goal):
+    """Whether a packet that is sent to an interface may go on to the goal, or is there."""
+    node = network.ifaces[far].node
+    return found[node] is not None and (node == goal or network.nodes[node].kind == "router")
+
+
+def parts(network):
+    """The nodes that are joined by links, in groups, each with its nodes in order."""
+    ends, seen, found = network.ends(), set(), []
+    for start in range(len(network.nodes)):
+        if start in seen:
+            continue
+        group, waiting = [], [start]
+        seen.add(start)
+        while waiting:
+            node = waiting.pop()
+            group.append(node)
+            for _, far, _ in ends[node]:
+                other = network.ifaces[far].node
+                if other not in seen:
+                    seen.add(other)
+                    waiting.append(other)
+        found.append(sorted(group))
+    return found

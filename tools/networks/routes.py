@@ -1,0 +1,92 @@
+"""The static routes of a network, by shortest paths, in as few prefixes as they need."""
+
+from collections import Counter
+
+from networks import aggregate, errors, limits, paths
+from networks.topology import Route
+from networks.ways import Ways
+
+
+def choices(network, weight, spread=False):
+    """For each node as a goal the interface by which each other node sends to it."""
+    ends = network.ends()
+    costs = [paths.cost(link, weight) for link in network.links]
+    return [paths.next_ifaces(network, ends, costs, goal, spread) for goal in range(len(network.nodes))]
+
+
+def tables(network, chosen, only_flows=False):
+    """The routes of all nodes. A host with one link has a default route, the others what they need: to all nodes, or to those at the ends of flows."""
+    order = sorted(network.ifaces, key=lambda iface: iface.address)
+    tree = aggregate.Tree([iface.address for iface in order], [iface.node for iface in order])
+    goals = flow_ends(network) if only_flows else range(len(network.nodes))
+    routes = []
+    for node, own in enumerate(network.ends()):
+        if len(own) == 1 and network.nodes[node].kind == "host":
+            routes.append(Route(node, 0, 0, own[0][0]))
+            continue
+        asked = [chosen[goal][node] if goal in goals else None for goal in range(len(network.nodes))]
+        routes += [Route(node, *line) for line in sorted(tree.table(asked))]
+    return routes
+
+
+def most_of_a_node(routes):
+    """The node with most routes, and how many it has."""
+    return Counter(route.node for route in routes).most_common(1)[0] if routes else (0, 0)
+
+
+def check_counts(network, routes, name):
+    """Refuses more routes than a topology has."""
+    node, count = most_of_a_node(routes)
+    if count > limits.NODE_ROUTES:
+        raise errors.Refused(name, f'node "{network.nodes[node].name}" would need {count:,} routes{advice()}')
+    if len(routes) > limits.ROUTES:
+        raise errors.Refused(name, f"the network would need {len(routes):,} routes, and at most {limits.ROUTES:,} may be{advice(False)}")
+
+
+def computed(network, weight, spread=False, name="", only_flows=False):
+    """The routes of a network whose addresses are given."""
+    routes = tables(network, choices(network, weight, spread), only_flows)
+    check_counts(network, routes, name)
+    return routes
+
+
+def advice(is_of_node=True):
+    """What helps against too many routes."""
+    most = f", and at most {limits.NODE_ROUTES:,} may be" if is_of_node else ""
+    return f"{most}: route only to the ends of flows (`only_flows = true` in a SPEC, `routes --only-flows`), leave out spread, or have fewer routers"
+
+
+def flow_ends(network):
+    """The nodes that send or take a flow's packets: others get none, but for raw packets."""
+    owners = network.node_of_address()
+    return {source.node for source in network.sources} | {owners[source.to] for source in network.sources if source.to in owners}
+
+
+def unaggregated(network):
+    """How many routes there would be with one for each address of each other node."""
+    return sum(len(network.ifaces) - len(own) for own in network.ends())
+
+
+def check_joined(network, name, place_of=None):
+    """Refuses a network in several pieces."""
+    pieces = paths.parts(network)
+    if len(pieces) > 1:
+        one, other = (network.nodes[piece[0]].name for piece in pieces[:2])
+        place = place_of(pieces[1][0]) if place_of else name
+        raise errors.Refused(place, f'the network is in {len(pieces)} pieces: no links lead from node "{one}" to node "{other}"')
+
+
+def check_flows(network, place_of):
+    """Refuses a source whose packets have no way to their destination, or whose echo replies have none back."""
+    ways = Ways(network)
+    for number, source in enumerate(network.sources):
+        if source.kind == "raw" or source.to not in ways.owners:
+            continue
+        passed, end = ways.way(source.node, source.to)
+        begin, goal = network.nodes[source.node].name, network.nodes[ways.owners[source.to]].name
+        if end is None:
+            raise errors.Refused(place_of(number), f'there is no way by routers from node "{begin}" to node "{goal}"')
+        if source.kind == "echo" and passed:
+            back = network.ifaces[passed[0][1]].address
+            if ways.way(end, back)[1] is None:
+                raise errors.Refused(place_of(number), f'there is no way by routers back from node "{goal}" to node "{begin}"')

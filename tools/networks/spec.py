@@ -1,0 +1,256 @@
+"""Reads a SPEC, the short description of a network: docs/NETWORKS.md has each key."""
+
+from dataclasses import dataclass, field
+
+from networks import errors, fields, groups, limits, names, paths
+from networks.chance import Chance
+
+
+@dataclass
+class SpecNode:
+    name: str
+    kind: str
+    partition: int
+    ports: list
+    place: object
+
+
+@dataclass
+class SpecLink:
+    """`a` and `b` are names of nodes."""
+
+    a: str
+    b: str
+    rate: int
+    delay: int
+    queue: int
+    queue_octets: int | None
+    cost: int | None
+    place: object
+
+
+@dataclass
+class Spec:
+    """What a SPEC says, its groups and hosts written out. A flow is its table of keys, with its place."""
+
+    title: str = ""
+    seed: int | None = None
+    stop: int = 10**9
+    mtu: int = 1500
+    prefix: tuple = (10 << 24, 8)
+    weight: str = "delay"
+    spread: bool = False
+    only_flows: bool = False
+    # Where the prefix stands.
+    prefix_place: str = ""
+    nodes: dict = field(default_factory=dict)
+    links: list = field(default_factory=list)
+    flows: list = field(default_factory=list)
+
+
+PARTITION = fields.whole(0, limits.PARTITIONS - 1, "partitions count from 0")
+HOSTS = fields.whole(0, limits.HOSTS, "hosts")
+PORTS = fields.several(fields.whole(*limits.PORT, "a port"), limits.NODE_PORTS)
+NODE = {"kind": fields.choice("router", "host"), "partition": PARTITION, "hosts": HOSTS}
+LINK = {
+    "rate": fields.rate(),
+    "delay": fields.time(limits.DELAY),
+    "queue": fields.whole(*limits.QUEUE, "packets"),
+    "queue_octets": fields.whole(*limits.QUEUE_OCTETS, "octets"),
+}
+COST = {"cost": fields.whole(1, 10**9, "what a path pays for the link")}
+FLOW = {
+    "kind": fields.choice("cbr", "echo"),
+    "rate": fields.rate((1, limits.RATE[1])),
+    "interval": fields.time(limits.INTERVAL),
+    "size": fields.whole(0, limits.MTU[1] - limits.HEADERS, "octets of data"),
+    "start": fields.time(limits.START),
+    "until": fields.time(limits.STOP),
+    "stagger": fields.time(limits.START),
+    "count": fields.whole(1, limits.COUNT[1], "packets"),
+    "sport": fields.whole(*limits.PORT, "a port"),
+    "dport": fields.whole(*limits.PORT, "a port"),
+    "ident": fields.whole(0, 65_535, "an identifier"),
+    "ttl": fields.whole(*limits.TTL, "links"),
+    "fill": fields.whole(*limits.FILL, "an octet"),
+}
+ENDS = {
+    "from": fields.one_or_several(fields.pattern, limits.NODES),
+    "to": fields.one_or_several(fields.pattern, limits.NODES),
+    "among": fields.one_or_several(fields.pattern, limits.NODES),
+    "pairs": fields.choice("all", "next", "across", "first", "random"),
+}
+TOP = {
+    "title": fields.line,
+    "seed": fields.whole(*limits.SEED, "a seed"),
+    "stop": fields.time(limits.STOP),
+    "mtu": fields.whole(*limits.MTU, "octets"),
+    "prefix": fields.prefix,
+    "weight": fields.choice(*paths.WEIGHTS),
+    "spread": fields.flag,
+    "only_flows": fields.flag,
+}
+DEFAULTS = {"node": NODE, "link": LINK, "host_link": LINK, "flow": FLOW}
+ARRAYS = ("node", "link", "group", "flow")
+# What holds where neither a table nor `defaults` says it: delays in nanoseconds, rates in bits per second, queues in packets.
+BUILT_IN = {
+    "node": {"kind": "router", "partition": 0, "hosts": 0},
+    "link": {"rate": 10**9, "delay": 10**6, "queue": 100},
+    "host_link": {"delay": 10**4},
+    "flow": {"kind": "cbr", "start": 0, "stagger": 0, "dport": 9, "ttl": 64, "fill": 0},
+}
+
+
+class Reading:
+    """Reads the SPEC of a TOML text."""
+
+    def __init__(self, text):
+        self.text = text
+        self.spec = Spec()
+        self.defaults = {key: dict(value) for key, value in BUILT_IN.items()}
+        self.chance = None
+        # They stand behind the other links.
+        self.host_links = []
+
+    def place(self, array, number, said=""):
+        """How places in a member of an array are said."""
+
+        def place(*keys):
+            return f"{self.text.place(array, number, *keys)}: {array} {number}{f' ({said})' if said else ''}"
+
+        return place
+
+    def read(self):
+        """The whole SPEC."""
+        self.top()
+        for number, table in self.tables("node"):
+            self.node(number, table)
+        for number, table in self.tables("group"):
+            self.group(number, table)
+        for number, table in self.tables("link"):
+            self.link(number, table)
+        if not self.spec.nodes:
+            raise errors.Refused(self.text.name, "there is no node: write `node = [..]` or `[[group]]`")
+        self.spec.links += self.host_links
+        self.counts()
+        for number, table in self.tables("flow"):
+            self.flow(number, table)
+        return self.spec
+
+    def top(self):
+        """What stands before the arrays, and the defaults."""
+        means = self.text.means
+        keys = {**TOP, **{key: lambda value: value for key in (*ARRAYS, "defaults")}}
+        if "format" in means and "iface" in means:
+            raise errors.Refused(self.text.name, "this is a topology, not a SPEC: `network routes`, `partition` and `show` take it")
+        read = fields.table(means, keys, self.text.place)
+        self.spec.prefix_place = self.text.place("prefix") if "prefix" in means else self.text.name
+        for key in TOP:
+            if key in read:
+                setattr(self.spec, key, read[key])
+        self.chance = None if self.spec.seed is None else Chance(self.spec.seed)
+        defaults = means.get("defaults", {})
+        fields.table(defaults, {key: lambda value: value for key in DEFAULTS}, lambda *way: f"{self.text.place('defaults', *way)}: defaults")
+        for key, members in DEFAULTS.items():
+            place = self.place_of_defaults(key)
+            self.defaults[key].update(fields.table(defaults.get(key, {}), members, place))
+        self.defaults["host_link"] = {**self.defaults["link"], **self.defaults["host_link"]}
+
+    def place_of_defaults(self, key):
+        """How places in the defaults are said."""
+        return lambda *way: f"{self.text.place('defaults', key, *way)}: defaults.{key}"
+
+    def tables(self, array):
+        """The members of an array, each with its number."""
+        members = self.text.means.get(array, [])
+        if not isinstance(members, list):
+            raise errors.Refused(self.text.place(array), f'key "{array}" has to be an array of tables: [[{array}]]')
+        return enumerate(members)
+
+    def add(self, name, kind, partition, place, ports=()):
+        """A node."""
+        if not names.is_name(name):
+            raise errors.Refused(place(), f"the name {errors.shown(name)} would be longer than {limits.NAME_LENGTH} letters: shorten that of the node or group")
+        if name in self.spec.nodes:
+            raise errors.Refused(place(), f'two nodes have the name "{name}": the other one is at {self.spec.nodes[name].place()}')
+        self.spec.nodes[name] = SpecNode(name, kind, partition, list(ports), place)
+
+    def hosts(self, router, count, partition, place):
+        """The hosts behind a router: ROUTER-h1 and so on."""
+        for number in range(1, count + 1):
+            self.add(f"{router}-h{number}", "host", partition, place)
+            self.host_links.append(self.joined(router, f"{router}-h{number}", {}, "host_link", place))
+
+    def joined(self, one, other, table, defaults, place):
+        """A link, with the defaults for what its table does not say."""
+        held = {**self.defaults[defaults], **table}
+        return SpecLink(one, other, held["rate"], held["delay"], held["queue"], held.get("queue_octets"), held.get("cost"), place)
+
+    def node(self, number, value):
+        named = errors.shown(value["name"]) if isinstance(value, dict) and "name" in value else ""
+        place = self.place("node", number, named)
+        table = {**self.defaults["node"], **fields.table(value, {"name": fields.name, **NODE, "ports": PORTS}, place, ("name",))}
+        # A host has no hosts, unless its own table says so: then that is a mistake.
+        count = value.get("hosts", 0) if table["kind"] == "host" else table["hosts"]
+        if table["kind"] == "host" and count:
+            raise errors.Refused(place("hosts"), "a host has no hosts behind it: only routers do")
+        self.add(table["name"], table["kind"], table["partition"], place, table.get("ports", ()))
+        self.hosts(table["name"], count, table["partition"], place)
+
+    def group(self, number, value):
+        kind = value.get("kind") if isinstance(value, dict) else None
+        named = f"{kind} {errors.shown(value['name'])}" if kind in groups.KINDS and "name" in value else ""
+        place = self.place("group", number, named)
+        own = groups.KINDS[kind][1] if kind in groups.KINDS else {key: lambda value: value for _, keys in groups.KINDS.values() for key in keys}
+        keys = {"kind": fields.choice(*groups.KINDS), "name": fields.name, **own, "hosts": HOSTS, "partition": PARTITION, **LINK, **COST}
+        table = fields.table(value, keys, place, ("kind", "name", *(own if kind in groups.KINDS else ())))
+        shape = groups.make(table, self.chance, place)
+        partition = table.get("partition", self.defaults["node"]["partition"])
+        for name in shape.nodes:
+            self.add(name, "router", partition, place)
+        for one, other in shape.links:
+            self.spec.links.append(self.joined(one, other, {key: table[key] for key in (*LINK, *COST) if key in table}, "link", place))
+        count = table.get("hosts", shape.hosts or self.defaults["node"]["hosts"])
+        for name in shape.leaves:
+            self.hosts(name, count, partition, place)
+
+    def link(self, number, value):
+        ends = [value.get(key) for key in ("a", "b")] if isinstance(value, dict) else []
+        named = " to ".join(errors.shown(end) for end in ends) if all(isinstance(end, str) for end in ends) and ends else ""
+        place = self.place("link", number, named)
+        table = fields.table(value, {"a": fields.name, "b": fields.name, **LINK, **COST}, place, ("a", "b"))
+        for key in ("a", "b"):
+            if table[key] not in self.spec.nodes:
+                near = errors.meant(table[key], self.spec.nodes)
+                raise errors.Refused(place(key), f'key "{key}": there is no node {errors.shown(table[key])}{near}')
+        if table["a"] == table["b"]:
+            raise errors.Refused(place(), "a link joins two nodes, and both ends of this are one")
+        kinds = {self.spec.nodes[table[key]].kind for key in ("a", "b")}
+        self.spec.links.append(self.joined(table["a"], table["b"], table, "host_link" if "host" in kinds else "link", place))
+
+    def counts(self):
+        """Refuses more nodes, links or interfaces than a topology has."""
+        for count, most, what in ((len(self.spec.nodes), limits.NODES, "nodes"), (len(self.spec.links), limits.LINKS, "links")):
+            if count > most:
+                raise errors.Refused(self.text.name, f"there are {count:,} {what}, hosts and groups written out; {groups.most_said()}")
+
+    def flow(self, number, value):
+        place = self.place("flow", number)
+        table = fields.table(value, {**ENDS, **FLOW}, place)
+        if ("among" in table) == ("from" in table or "to" in table) or ("from" in table) != ("to" in table):
+            raise errors.Refused(place(), 'it has either "from" and "to", or "among" with "pairs"')
+        if ("among" in table) != ("pairs" in table):
+            raise errors.Refused(place(), 'the keys "among" and "pairs" stand together')
+        if "rate" in table and "interval" in table:
+            raise errors.Refused(place("interval"), 'of "rate" and "interval" one is said: the other follows from it')
+        held = dict(self.defaults["flow"])
+        # What a flow says itself stands in for the other of the two in the defaults.
+        for one, other in (("rate", "interval"), ("interval", "rate"), ("count", "until"), ("until", "count")):
+            if one in table:
+                held.pop(other, None)
+        self.spec.flows.append(({**held, **table}, place))
+
+
+def read(text):
+    """The SPEC of a TOML text."""
+    return Reading(text).read()

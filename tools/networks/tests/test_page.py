@@ -1,0 +1,74 @@
+"""The page: one file with everything in it, by Graphviz and without."""
+
+import html
+import os
+import re
+from html.parser import HTMLParser
+
+from networks import drawing
+from networks.tests import tool
+
+EMPTY = ("meta", "br", "hr", "img", "input", "link")
+
+
+class Balanced(HTMLParser):
+    """Whether each element that begins also ends."""
+
+    def __init__(self):
+        super().__init__()
+        self.open, self.faults = [], []
+
+    def handle_starttag(self, tag, attrs):
+        if tag not in EMPTY:
+            self.open.append(tag)
+
+    def handle_startendtag(self, tag, attrs):
+        pass
+
+    def handle_endtag(self, tag):
+        if not self.open or self.open.pop() != tag:
+            self.faults.append((tag, self.getpos()))
+
+
+class Pages(tool.Folder):
+    def page(self, name):
+        status, said, beside = tool.call("show", os.path.join(tool.EXAMPLES, f"{name}.toml"))
+        self.assertEqual(status, 0, beside)
+        checked = Balanced()
+        checked.feed(said)
+        self.assertEqual((checked.open, checked.faults), ([], []))
+        return said
+
+    def check(self, said, name):
+        """It loads nothing, and has every node."""
+        addresses = set(re.findall(r"https?://[^\"'<> ]*", said))
+        self.assertLessEqual(addresses, {"http://www.w3.org/2000/svg", "http://www.w3.org/1999/xlink"})
+        for word in ("<script", " src=", "@import", "url("):
+            self.assertNotIn(word, said)
+        with open(os.path.join(tool.EXAMPLES, f"{name}.toml"), encoding="utf-8") as file:
+            network = tool.network_of(file.read())
+        for node in network.nodes:
+            self.assertGreaterEqual(html.unescape(said).count(f">{node.name}<"), 2, node.name)
+
+    @tool.needs_program("dot")
+    def test_by_graphviz(self):
+        for name in ("abilene", "fat-tree", "campus", "office"):
+            said = self.page(name)
+            self.assertIn("Drawn by Graphviz.", said)
+            self.check(said, name)
+
+    def test_without_graphviz(self):
+        held = drawing.shutil.which
+        drawing.shutil.which = lambda name: None
+        try:
+            for name in ("abilene", "campus", "ring"):
+                said = self.page(name)
+                self.assertIn("Graphviz is not installed", said)
+                self.check(said, name)
+        finally:
+            drawing.shutil.which = held
+
+    def test_names_of_files_are_escaped(self):
+        with open(os.path.join(tool.EXAMPLES, "ring.toml"), encoding="utf-8") as file:
+            path = self.file("<b>&.toml", file.read())
+        self.assertIn("<h1>&lt;b&gt;&amp;.toml</h1>", tool.call("show", path)[1])

@@ -1,0 +1,202 @@
+"""Routes: the tables decide as asked, paths are shortest, and comments stay."""
+
+import unittest
+
+from networks import aggregate, chance, paths, routes, topology
+from networks.tests import tool
+from networks.ways import Ways
+
+GROUPS = {
+    "ring": 'kind = "ring"\nname = "r"\nnodes = 7\nhosts = 1',
+    "grid": 'kind = "grid"\nname = "g"\nrows = 3\ncolumns = 4',
+    "star": 'kind = "star"\nname = "s"\nnodes = 5\nhosts = 2',
+    "line": 'kind = "line"\nname = "l"\nnodes = 4\nhosts = 1',
+    "full": 'kind = "full"\nname = "f"\nnodes = 5',
+    "tree": 'kind = "tree"\nname = "t"\nbranches = 3\nlevels = 2\nhosts = 1',
+    "fat-tree": 'kind = "fat-tree"\nname = "ft"\nk = 4',
+    "random": 'kind = "random"\nname = "x"\nnodes = 25\nlinks = 45\nhosts = 1',
+}
+
+
+def spec_of(kind, head=""):
+    """A SPEC of one group, with flows among all its nodes."""
+    return f'seed = 7\nstop = "100 ms"\n{head}\n[[group]]\n{GROUPS[kind]}\n[[flow]]\namong = "*"\npairs = "across"\ncount = 3\nstagger = "100 us"\n'
+
+
+def mixed(weight, spread):
+    """A network by chance whose links differ, and in which hosts have several links."""
+    lines = [spec_of("random", f'weight = "{weight}"\nspread = {spread}')]
+    some = chance.Chance(3)
+    for number in range(12):
+        lines.append(f'[[node]]\nname = "h{number}"\nkind = "host"')
+        for other in {1 + some.below(25), 1 + some.below(25)}:
+            rate, delay = 10 ** (6 + some.below(4)), some.below(4) * 1000
+            lines.append(f'[[link]]\na = "h{number}"\nb = "x-{other}"\nrate = {rate}\ndelay = {delay}\ncost = {1 + some.below(3)}')
+    for number in range(20):
+        lines.append(f'[[link]]\na = "x-{1 + some.below(12)}"\nb = "x-{13 + some.below(13)}"\nrate = {10 ** (6 + some.below(4))}\ndelay = {some.below(3) * 10**6}')
+    return "\n".join(lines)
+
+
+class Tables(unittest.TestCase):
+    def test_the_longest_prefix_decides_as_asked(self):
+        some = chance.Chance(1)
+        for size in range(1, 60):
+            addresses = sorted({some.below(1 << 12) for _ in range(size)})
+            asked = [None if some.below(6) == 0 else some.below(3) for _ in addresses]
+            found = aggregate.Tree(addresses, range(len(addresses))).table(asked)
+            table = [topology.Route(0, prefix, length, via) for prefix, length, via in found]
+            self.assertEqual(len({(route.prefix, route.length) for route in table}), len(table))
+            self.assertLessEqual(len(table), sum(via is not None for via in asked))
+            for address, via in zip(addresses, asked):
+                if via is not None:
+                    self.assertEqual(longest(table, address), via)
+
+    def test_no_table_is_smaller(self):
+        # All tables of few addresses are tried: prefixes of the addresses' tree, with each answer or none.
+        some = chance.Chance(2)
+        for _ in range(60):
+            addresses = sorted({some.below(16) for _ in range(4)})
+            asked = [some.below(2) for _ in addresses]
+            tree = aggregate.Tree(addresses, range(len(addresses)))
+            self.assertEqual(len(tree.table(asked)), least_table(tree, addresses, asked))
+
+    def test_none_is_asked(self):
+        self.assertEqual(aggregate.Tree([], []).table([]), [])
+        self.assertEqual(aggregate.Tree([5, 9], [0, 1]).table([None, None]), [])
+
+
+def longest(table, address):
+    """What the longest prefix says."""
+    held = [route for route in table if (address ^ route.prefix) >> 32 - route.length == 0]
+    return max(held, key=lambda route: route.length).via if held else None
+
+
+def least_table(tree, addresses, asked):
+    """How many prefixes the smallest table has, by trying all."""
+    places = tree.prefixes
+    best = len(asked)
+    for code in range(3 ** len(places)):
+        chosen = [(code // 3**number) % 3 for number in range(len(places))]
+        table = [topology.Route(0, *place, via - 1) for place, via in zip(places, chosen) if via]
+        if len(table) < best and all(longest(table, address) == via for address, via in zip(addresses, asked)):
+            best = len(table)
+    return best
+
+
+class Paths(unittest.TestCase):
+    def lengths(self, network, weight):
+        """The cost of the way that packets go, for each two nodes; None where there is none."""
+        ways, found = Ways(network), {}
+        first = {}
+        for iface in network.ifaces:
+            first.setdefault(iface.node, iface.address)
+        for start in range(len(network.nodes)):
+            for goal, address in first.items():
+                passed, end = ways.way(start, address)
+                found[start, goal] = sum(paths.cost(network.links[link], weight) for _, _, link in passed) if end is not None else None
+        return found
+
+    def test_shortest_by_all_pairs(self):
+        for weight in ("hops", "delay", "rate"):
+            network = tool.network_of(tool.made(mixed(weight, "false")))
+            self.assertEqual(self.lengths(network, weight), floyd(network, weight))
+
+    @tool.needs_module("networkx")
+    def test_networkx_finds_none_shorter(self):
+        for weight, spread in (("hops", "true"), ("delay", "false"), ("delay", "true"), ("rate", "true")):
+            network = tool.network_of(tool.made(mixed(weight, spread)))
+            self.assertEqual(self.lengths(network, weight), by_networkx(network, weight))
+        for kind in GROUPS:
+            network = tool.network_of(tool.made(spec_of(kind)))
+            self.assertEqual(self.lengths(network, "delay"), by_networkx(network, "delay"))
+
+    def test_costs_of_a_spec_decide(self):
+        text = 'weight = "cost"\nnode = [{name = "a"}, {name = "b"}, {name = "c"}]\n'
+        text += 'link = [{a = "a", b = "b", cost = 9}, {a = "a", b = "c", cost = 2}, {a = "c", b = "b", cost = 3}]\n'
+        network = tool.network_of(tool.made(text))
+        passed, _ = Ways(network).way(0, network.ifaces[1].address)
+        self.assertEqual([network.nodes[node].name for node, _, _ in passed], ["a", "c"])
+
+    def test_a_host_with_one_link_has_a_default_route(self):
+        network = tool.network_of(tool.made(spec_of("star")))
+        for number, own in enumerate(network.node_routes()):
+            if network.nodes[number].kind == "host":
+                self.assertEqual([(route.prefix, route.length) for route in own], [(0, 0)])
+
+    def test_spread_uses_every_core(self):
+        for spread, least in (("false", 1), ("true", 4)):
+            network = tool.network_of(tool.made(spec_of("fat-tree", f'weight = "hops"\nspread = {spread}')))
+            ways, used = Ways(network), set()
+            for iface in network.ifaces:
+                if network.nodes[iface.node].kind == "host":
+                    used |= {network.nodes[node].name for node, _, _ in ways.way(network.nodes.index(network.nodes[-1]), iface.address)[0]}
+            self.assertGreaterEqual(sum("core" in name for name in used), least)
+
+
+def floyd(network, weight):
+    """Shortest paths between all nodes, hosts only at their ends: Floyd and Warshall's way."""
+    count = len(network.nodes)
+    found = {(one, other): 0 if one == other else None for one in range(count) for other in range(count)}
+    for number, link in enumerate(network.links):
+        one, other = network.link_nodes(number)
+        price = paths.cost(link, weight)
+        for pair in ((one, other), (other, one)):
+            if found[pair] is None or price < found[pair]:
+                found[pair] = price
+    for middle in (number for number, node in enumerate(network.nodes) if node.kind == "router"):
+        for one in range(count):
+            for other in range(count):
+                left, right = found[one, middle], found[middle, other]
+                if left is not None and right is not None and (found[one, other] is None or left + right < found[one, other]):
+                    found[one, other] = left + right
+    return found
+
+
+def by_networkx(network, weight):
+    """The same by networkx: links that leave a host only where the path begins."""
+    import networkx
+
+    graph, found = networkx.DiGraph(), {}
+    for number, link in enumerate(network.links):
+        one, other = network.link_nodes(number)
+        for left, right in ((one, other), (other, one)):
+            # A host is two nodes: where paths begin, and where they end.
+            begin = ("from", left) if network.nodes[left].kind == "host" else left
+            price = min(paths.cost(link, weight), graph.get_edge_data(begin, right, {}).get("weight", 1 << 80))
+            graph.add_edge(begin, right, weight=price)
+    for start, node in enumerate(network.nodes):
+        begin = ("from", start) if node.kind == "host" else start
+        lengths = networkx.single_source_dijkstra_path_length(graph, begin)
+        for goal in range(len(network.nodes)):
+            found[start, goal] = 0 if start == goal else lengths.get(goal)
+    return found
+
+
+class OnlyFlows(unittest.TestCase):
+    def test_routes_to_the_ends_of_flows_are_fewer_and_as_short(self):
+        text = spec_of("random").replace('among = "*"', 'from = "x-1-h1"\nto = ["x-9-h1", "x-20-h1"]').replace('pairs = "across"\n', "")
+        every = tool.network_of(tool.made(text))
+        few = tool.network_of(tool.made("only_flows = true\n" + text))
+        self.assertLess(len(few.routes), len(every.routes) / 2)
+        for source in every.sources:
+            back = next(iface.address for iface in every.ifaces if iface.node == source.node)
+            goal = every.node_of_address()[source.to]
+            self.assertEqual(Ways(every).way(source.node, source.to), Ways(few).way(source.node, source.to))
+            self.assertEqual(Ways(every).way(goal, back), Ways(few).way(goal, back))
+
+
+class Limits(unittest.TestCase):
+    def test_too_many_routes_are_refused_with_advice(self):
+        from networks import errors, limits
+
+        network = tool.network_of(tool.made(spec_of("random")))
+        held = limits.NODE_ROUTES, limits.ROUTES
+        try:
+            limits.NODE_ROUTES = 5
+            with self.assertRaisesRegex(errors.Refused, r'node "x-\d+" would need \d+ routes, and at most 5 may be: route only to the ends of flows'):
+                routes.computed(network, "hops", True, "x.toml")
+            limits.NODE_ROUTES, limits.ROUTES = held[0], 20
+            with self.assertRaisesRegex(errors.Refused, r"the network would need \d+ routes, and at most 20 may be: route only to the ends of flows"):
+                routes.computed(network, "hops", True, "x.toml")
+        finally:
+            limits.NODE_ROUTES, limits.ROUTES = held

@@ -1,0 +1,58 @@
+"""TOML texts: read with the standard library, each mistake with its line."""
+
+import sys
+
+from networks import errors, limits, spans
+
+try:
+    import tomllib
+except ImportError:  # Python before 3.11
+    tomllib = None
+
+
+class Text:
+    """A TOML text: its name, its octets as text, what it means, and where its parts stand."""
+
+    def __init__(self, name, text):
+        if tomllib is None:
+            raise errors.Lacking(f"this needs Python 3.11 or later, and {sys.executable} is {sys.version.split()[0]}")
+        self.name, self.text = name, text
+        try:
+            self.means = tomllib.loads(text)
+        except tomllib.TOMLDecodeError as why:
+            other = "; it looks like XML, which `network import` takes" if text.lstrip().startswith("<") else ""
+            raise errors.Refused(name, f"this is no TOML text: {why}{other}") from None
+        except RecursionError:
+            raise errors.Refused(name, "this is no TOML text that can be read: its arrays or tables are nested too deep") from None
+        self.spans = spans.read(text)
+
+    def place(self, *way):
+        """The line of what a way of keys and numbers leads to, with the text's name."""
+        item = self.spans.at(*way)
+        start = item.key_start if way and isinstance(way[-1], str) and item.key_start else item.start
+        return f"{self.name}:{spans.line_of(self.text, start)}"
+
+
+def load(name):
+    """A file, or standard input where the name is -."""
+    return Text(name, octets(name))
+
+
+def octets(name):
+    """The text of a file."""
+    try:
+        if name == "-":
+            held = sys.stdin.buffer.read(limits.TEXT_OCTETS + 1)
+        else:
+            with open(name, "rb") as file:
+                held = file.read(limits.TEXT_OCTETS + 1)
+    except OSError as why:
+        raise errors.Refused(name, f"it cannot be read: {why.strerror}") from None
+    if len(held) > limits.TEXT_OCTETS:
+        raise errors.Refused(name, f"it has more than {limits.TEXT_OCTETS:,} octets")
+    if not held.strip():
+        raise errors.Refused(name, "it is empty; a shell empties FILE before `.. FILE > FILE` runs: write to another file")
+    try:
+        return held.decode("utf-8-sig")
+    except UnicodeDecodeError as why:
+        raise errors.Refused(name, f"octet {why.start} is not UTF-8") from None

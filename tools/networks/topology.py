@@ -1,0 +1,253 @@
+"""A network as its topology text has it: nodes, interfaces, links, routes and sources, each known by its number."""
+
+from collections import Counter
+from dataclasses import dataclass, field
+
+from networks import errors, fields, limits
+
+
+@dataclass
+class Node:
+    name: str
+    kind: str = "router"
+    partition: int = 0
+    ports: list = field(default_factory=list)
+
+
+@dataclass
+class Iface:
+    name: str
+    node: int
+    address: int
+    queue: int = 100
+    queue_octets: int | None = None
+
+
+@dataclass
+class Link:
+    """Between two interfaces; `rate` in bits per second, `delay` in nanoseconds, `cost` a number that a SPEC may give."""
+
+    a: int
+    b: int
+    rate: int
+    delay: int
+    cost: int | None = None
+
+
+@dataclass
+class Route:
+    node: int
+    prefix: int
+    length: int
+    via: int
+
+
+@dataclass
+class Source:
+    """`to` is an address, `size` octets of data, `start` and `interval` nanoseconds. A raw source has neither."""
+
+    kind: str
+    node: int
+    to: int = 0
+    sport: int = 0
+    dport: int = 0
+    ident: int = 0
+    size: int = 0
+    start: int = 0
+    interval: int = 1
+    count: int = 0
+    ttl: int = 64
+    fill: int = 0
+
+
+@dataclass
+class Network:
+    stop: int
+    mtu: int
+    nodes: list = field(default_factory=list)
+    ifaces: list = field(default_factory=list)
+    links: list = field(default_factory=list)
+    routes: list = field(default_factory=list)
+    sources: list = field(default_factory=list)
+
+    def ends(self):
+        """For each node its links: (own interface, interface at the far end, link), in the order of its interfaces."""
+        found = [[] for _ in self.nodes]
+        for number, link in enumerate(self.links):
+            for own, far in ((link.a, link.b), (link.b, link.a)):
+                found[self.ifaces[own].node].append((own, far, number))
+        return [sorted(ends) for ends in found]
+
+    def link_nodes(self, number):
+        """The two nodes of a link."""
+        link = self.links[number]
+        return self.ifaces[link.a].node, self.ifaces[link.b].node
+
+    def node_of_address(self):
+        """Which node has an address."""
+        return {iface.address: iface.node for iface in self.ifaces}
+
+    def node_routes(self):
+        """The routes of each node."""
+        found = [[] for _ in self.nodes]
+        for route in self.routes:
+            found[route.node].append(route)
+        return found
+
+
+NODE = {
+    "name": fields.name,
+    "kind": fields.choice("host", "router"),
+    "partition": fields.whole(0, limits.PARTITIONS - 1, "partitions count from 0"),
+    "ports": fields.several(fields.whole(*limits.PORT, "a port"), limits.NODE_PORTS),
+}
+IFACE = {
+    "name": fields.name,
+    "node": fields.name,
+    "address": fields.real_address,
+    "queue": fields.whole(*limits.QUEUE, "packets"),
+    "queue_octets": fields.whole(*limits.QUEUE_OCTETS, "octets"),
+}
+LINK = {
+    "a": fields.name,
+    "b": fields.name,
+    "rate": fields.whole(*limits.RATE, "bits per second"),
+    "delay": fields.whole(*limits.DELAY, "nanoseconds"),
+}
+ROUTE = {"node": fields.name, "to": fields.prefix, "via": fields.name}
+SOURCE = {
+    "kind": fields.choice("cbr", "echo", "raw"),
+    "node": fields.name,
+    "to": fields.real_address,
+    "sport": fields.whole(*limits.PORT, "a port"),
+    "dport": fields.whole(*limits.PORT, "a port"),
+    "ident": fields.whole(0, 65_535, "an identifier"),
+    "size": fields.whole(0, limits.MTU[1] - limits.HEADERS, "octets"),
+    "fill": fields.whole(*limits.FILL, "an octet"),
+    "start": fields.whole(*limits.START, "nanoseconds"),
+    "interval": fields.whole(*limits.INTERVAL, "nanoseconds"),
+    "count": fields.whole(*limits.COUNT, "packets"),
+    "ttl": fields.whole(*limits.TTL, "links"),
+    "via": fields.name,
+    "packet": lambda value: value,
+}
+TOP = {
+    "format": fields.whole(1, 2, "the format"),
+    "stop": fields.whole(*limits.STOP, "nanoseconds"),
+    "mtu": fields.whole(*limits.MTU, "octets"),
+}
+# Keys that a SPEC has, and a topology has not.
+ARE_OF_SPECS = {"title", "group", "flow", "defaults", "weight", "prefix", "seed"}
+ARRAYS = ("node", "iface", "link", "route", "source")
+MOST = {"node": limits.NODES, "iface": limits.IFACES, "link": limits.LINKS, "route": limits.ROUTES, "source": limits.SOURCES}
+TIMED = ("to", "size", "start", "interval", "count")
+
+
+class Reading:
+    """Reads the network of a topology text. `nullsim check` tests more: this reads what the tool needs."""
+
+    def __init__(self, text):
+        self.text = text
+        self.nodes, self.ifaces = {}, {}
+
+    def place(self, array, number, name=""):
+        """How places in a member of an array are said."""
+
+        def said(*keys):
+            return f"{self.text.place(array, number, *keys)}: {array} {number}{f' ({errors.shown(name)})' if name else ''}"
+
+        return said
+
+    def tables(self, array):
+        """The members of an array, each with its number."""
+        members = self.text.means.get(array, [])
+        if not isinstance(members, list):
+            raise errors.Refused(self.text.place(array), f'key "{array}" has to be an array of tables')
+        if len(members) > MOST[array]:
+            raise errors.Refused(self.text.place(array), f'"{array}" has {len(members):,} members, and at most {MOST[array]:,} may be')
+        return enumerate(members)
+
+    def named(self, known, word, place, key, what):
+        """The number of what has a name."""
+        if word not in known:
+            raise errors.Refused(place(key), f'key "{key}": there is no {what} {errors.shown(word)}{errors.meant(word, known)}')
+        return known[word]
+
+    def new(self, known, word, number, place, what):
+        """Gives a name to a number, once."""
+        if word in known:
+            raise errors.Refused(place("name"), f"two {what}s have the name {errors.shown(word)}: {what} {known[word]} too")
+        known[word] = number
+
+    def read(self):
+        """The whole network."""
+        if "format" not in self.text.means and ARE_OF_SPECS & set(self.text.means):
+            raise errors.Refused(self.text.name, "this is a SPEC, not a topology: `network make` makes one of it")
+        top = {key: value for key, value in self.text.means.items() if key not in ARRAYS}
+        head = fields.table(top, TOP, lambda *keys: self.text.place(*keys), tuple(TOP))
+        network = Network(head["stop"], head["mtu"])
+        network.nodes = [self.node(number, table) for number, table in self.tables("node")]
+        network.ifaces = [self.iface(number, table) for number, table in self.tables("iface")]
+        network.links = [self.link(number, table) for number, table in self.tables("link")]
+        network.routes = [self.route(number, table, network) for number, table in self.tables("route")]
+        network.sources = [self.source(number, table) for number, table in self.tables("source")]
+        self.once(network)
+        return network
+
+    def once(self, network):
+        """Each interface is at one end of one link, and has an address of its own."""
+        uses = Counter(end for link in network.links for end in (link.a, link.b))
+        for number, iface in enumerate(network.ifaces):
+            if uses[number] != 1:
+                raise errors.Refused(self.place("iface", number, iface.name)(), f"it is at {uses[number]} ends of links, and has to be at one")
+        held = {}
+        for number, iface in enumerate(network.ifaces):
+            if iface.address in held:
+                raise errors.Refused(self.place("iface", number, iface.name)("address"), f"interface {held[iface.address]} has this address too")
+            held[iface.address] = number
+
+    def node(self, number, value):
+        place = self.place("node", number, value.get("name", "") if isinstance(value, dict) else "")
+        table = fields.table(value, NODE, place, ("name", "kind"))
+        self.new(self.nodes, table["name"], number, place, "node")
+        return Node(table["name"], table["kind"], table.get("partition", 0), table.get("ports", []))
+
+    def iface(self, number, value):
+        place = self.place("iface", number, value.get("name", "") if isinstance(value, dict) else "")
+        table = fields.table(value, IFACE, place, ("name", "node", "address", "queue"))
+        self.new(self.ifaces, table["name"], number, place, "interface")
+        table["node"] = self.named(self.nodes, table["node"], place, "node", "node")
+        return Iface(**table)
+
+    def link(self, number, value):
+        place = self.place("link", number)
+        table = fields.table(value, LINK, place, tuple(LINK))
+        ends = [self.named(self.ifaces, table[key], place, key, "interface") for key in ("a", "b")]
+        return Link(*ends, table["rate"], table["delay"])
+
+    def route(self, number, value, network):
+        place = self.place("route", number)
+        table = fields.table(value, ROUTE, place, tuple(ROUTE))
+        node = self.named(self.nodes, table["node"], place, "node", "node")
+        via = self.named(self.ifaces, table["via"], place, "via", "interface")
+        if network.ifaces[via].node != node:
+            raise errors.Refused(place("via"), f"{errors.shown(table['via'])} is no interface of node {errors.shown(table['node'])}")
+        return Route(node, *table["to"], via)
+
+    def source(self, number, value):
+        place = self.place("source", number)
+        required = ("kind", "node", *(TIMED if isinstance(value, dict) and value.get("kind") != "raw" else ()))
+        table = fields.table(value, SOURCE, place, required)
+        table["node"] = self.named(self.nodes, table["node"], place, "node", "node")
+        return Source(**{key: found for key, found in table.items() if key not in ("via", "packet")})
+
+
+def read(text):
+    """The network of a topology text."""
+    return Reading(text).read()
+
+
+def kinds_said(network):
+    """As "40 nodes (0 hosts, 40 routers)"."""
+    hosts = sum(node.kind == "host" for node in network.nodes)
+    return f"{len(network.nodes)} nodes ({hosts} hosts, {len(network.nodes) - hosts} routers)"

@@ -1,0 +1,38 @@
+"""Times in nanoseconds and rates in bits per second: how they are read, and how they are said."""
+
+import re
+from fractions import Fraction
+
+TIMES = {"ns": 1, "us": 10**3, "ms": 10**6, "s": 10**9}
+RATES = {"bit/s": 1, "kbit/s": 10**3, "Mbit/s": 10**6, "Gbit/s": 10**9, "Tbit/s": 10**12}
+QUANTITY = re.compile(r"([0-9]+(?:\.[0-9]+)?) ?([A-Za-z/]+)")
+# Numbers of more letters are none that anybody means, and would take long.
+LONGEST = 40
+
+
+def quantity(text, units):
+    """What a text such as "2.5 ms" is in the least of the units, rounded; nothing where it is no such text."""
+    found = QUANTITY.fullmatch(text.strip()) if len(text) <= LONGEST else None
+    if not found or found[2] not in units:
+        return None
+    return round(Fraction(found[1]) * units[found[2]])
+
+
+def said(number, units):
+    """A number with the greatest unit in which it is at least 1, as "2.5 ms"; all its digits are there."""
+    for unit, size in sorted(units.items(), key=lambda pair: -pair[1]):
+        if number >= size:
+            whole, rest = divmod(number, size)
+            digits = str(rest).rjust(len(str(size)) - 1, "0").rstrip("0") if rest else ""
+            return f"{whole}{f'.{digits}' if digits else ''} {unit}"
+    return f"{number} {min(units, key=units.get)}"
+
+
+def time_said(nanoseconds):
+    """As "2.5 ms"."""
+    return said(nanoseconds, TIMES)
+
+
+def rate_said(bits):
+    """As "10 Gbit/s"."""
+    return said(bits, RATES)

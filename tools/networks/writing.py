@@ -1,0 +1,66 @@
+"""The text of a topology."""
+
+from networks import fields, units
+
+
+def node_line(node):
+    """A node as a table."""
+    ports = f", ports = [{', '.join(map(str, node.ports))}]" if node.ports else ""
+    return f'{{name = "{node.name}", kind = "{node.kind}", partition = {node.partition}{ports}}}'
+
+
+def iface_line(network, iface):
+    """An interface as a table."""
+    octets = "" if iface.queue_octets is None else f", queue_octets = {iface.queue_octets}"
+    place = f'name = "{iface.name}", node = "{network.nodes[iface.node].name}", address = "{fields.address_said(iface.address)}"'
+    return f"{{{place}, queue = {iface.queue}{octets}}}"
+
+
+def link_line(network, link):
+    """A link as a table."""
+    return f'{{a = "{network.ifaces[link.a].name}", b = "{network.ifaces[link.b].name}", rate = {link.rate}, delay = {link.delay}}}'
+
+
+def route_line(network, route):
+    """A route as a table."""
+    to = fields.prefix_said(route.prefix, route.length)
+    return f'{{node = "{network.nodes[route.node].name}", to = "{to}", via = "{network.ifaces[route.via].name}"}}'
+
+
+def source_line(network, source):
+    """A source as a table."""
+    ends = f'kind = "{source.kind}", node = "{network.nodes[source.node].name}", to = "{fields.address_said(source.to)}"'
+    ports = f"sport = {source.sport}, dport = {source.dport}" if source.kind == "cbr" else f"ident = {source.ident}"
+    when = f"start = {source.start}, interval = {source.interval}, count = {source.count}"
+    more = (f", ttl = {source.ttl}" if source.ttl != 64 else "") + (f", fill = {source.fill}" if source.fill else "")
+    return f"{{{ends}, {ports}, size = {source.size}, {when}{more}}}"
+
+
+def array(key, lines):
+    """An array of tables, one a line; a line is a table and what is said of it."""
+    said = [f"  {table},{f'  # {remark}' if remark else ''}" for table, remark in lines]
+    return "\n".join([f"{key} = [", *said, "]"])
+
+
+def link_remark(network, number):
+    """What people read of a link."""
+    link = network.links[number]
+    return f"{units.rate_said(link.rate)}, {units.time_said(link.delay)}"
+
+
+def text(made, title=""):
+    """The whole text."""
+    network = made.network
+    is_second = any(iface.queue_octets is not None for iface in network.ifaces)
+    owners = network.node_of_address()
+    head = [f"# {made.first_line}", *([f"# {title}"] if title else []), "# Made by tools/network from a SPEC. What it chose:", "#"]
+    parts = [
+        "\n".join([*head, *[f"#   {line}" for line in made.chosen]]),
+        "\n".join([f"format = {2 if is_second else 1}", f"stop = {network.stop}   # nanoseconds: {units.time_said(network.stop)}", f"mtu = {network.mtu}"]),
+        array("node", [(node_line(node), "") for node in network.nodes]),
+        array("iface", [(iface_line(network, iface), "") for iface in network.ifaces]),
+        array("link", [(link_line(network, link), link_remark(network, number)) for number, link in enumerate(network.links)]),
+        array("route", [(route_line(network, route), "") for route in network.routes]),
+        array("source", [(source_line(network, source), f"to {network.nodes[owners[source.to]].name}") for source in network.sources]),
+    ]
+    return "\n\n".join(parts) + "\n"
