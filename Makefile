@@ -1,6 +1,6 @@
 # `make help` lists the targets.
 
-.PHONY: all help try run bench cases run-cases check-frames check-links check-network check-pcap cut-connections deep tutorial trust test gate-times install uninstall clean toolchain
+.PHONY: all help try run bench cases run-cases check-frames check-links check-network check-pcap cut-connections deep tutorial trust words test gate-times install uninstall clean toolchain
 
 # The topology and the interface of `make try` and `make run`; the folder of `make cases`; how many jobs `make` proves with; which steps of `make deep`;
 # where `make install` puts the program, its manual page and its completion for bash (DESTDIR stands before it, for who makes packages).
@@ -28,6 +28,7 @@ help:
 	@echo 'make check-pcap  reads the traces of the examples with tshark, or else tcpdump, one of which it needs'
 	@echo 'make cut-connections cuts the connection of two nodes a thousand times, and compares their files with those of the one event list'
 	@echo 'make deep        all that is too long for the gate: refused memory, frames, links, connections, networks, runs and planted bugs; STEPS=WORD: some of it'
+	@echo 'make words       lists names that two crates define, one of which sees the other; the gate refuses a new one'
 	@echo 'make test        the gate: proves everything from nothing and runs every test; the last line is N passed, M failed'
 	@echo 'make gate-times  the gate, with the processor minutes of each crate (docs/GATE.md)'
 	@echo 'make install     puts bin/nullsim, its manual page and its completion for bash below PREFIX (/usr/local); make uninstall removes them'
@@ -101,6 +102,9 @@ tutorial: bin/nullsim
 trust:
 	@tools/trust --write
 
+words:
+	@tools/words --all
+
 check-frames: bin/nm_bench
 	@tools/check-frames
 
@@ -120,6 +124,7 @@ deep: bin/nullsim bin/nm_bench
 	@tools/deep $(STEPS)
 
 test: toolchain
+	@tools/words
 	@rt ci
 
 gate-times: toolchain
