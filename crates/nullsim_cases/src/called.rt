@@ -1,7 +1,8 @@
-//! Cases of the program's words over files in memory.
+//! Cases of the program's words over files in memory, in the folders `check`, `rounds`, `runs`,
+//! `script`, `shown` and `words`.
 //!
-//! In the folder `words` `NAME.expect` has blocks of lines. Standard input is `NAME.toml`, and the
-//! files are those in `data/files/`. A block has
+//! `NAME.expect` has blocks of lines. Standard input is `NAME.toml`, and the files are those in
+//! `data/files/`; a script `NAME.steps` beside it is the file `steps`. A block has
 //!
 //! - a line `words WORDS`; before `words` may stand `room N`, how many octets standard output takes,
 //!   and `makes N`, how many files can be made;
@@ -32,9 +33,25 @@ struct Input {
     octets: Vec<u8>,
 }
 
-/// All files in `files/`.
-fn inputs_in<R: Files + AllocGlobal + Clone + Drop>(rt: &R) -> io::Result<Vec<Input>> {
+/// The script of a case, if it has one.
+fn push_script<R: Files + AllocGlobal>(
+    rt: &R,
+    stem: &str,
+    inputs: &mut Vec<Input>,
+) -> io::Result<()> {
+    let path = format!(in rt.alloc(); "{stem}.steps")?;
+    if fs::metadata(rt, path.as_str()).is_ok() {
+        let name = String::from_str(rt.alloc(), "steps")?;
+        let octets = fs::read(rt, path.as_str())?;
+        inputs.push(Input { name, octets })?;
+    }
+    Ok(())
+}
+
+/// The files that a case reads: its script, and all in `files/`.
+fn inputs_of<R: Files + AllocGlobal + Clone + Drop>(rt: &R, stem: &str) -> io::Result<Vec<Input>> {
     let mut inputs = Vec::new(rt.alloc());
+    push_script(rt, stem, &mut inputs)?;
     for name in names_in(rt, "files")? {
         let path = format!(in rt.alloc(); "files/{name}")?;
         let octets = fs::read(rt, path.as_str())?;
@@ -160,6 +177,14 @@ fn push_block<
     push_ended(rt, found, topology, given, &ended)
 }
 
+/// What stands before and behind `words` in the first line of a block.
+fn head_of(line: &str) -> Option<(&str, &str)> {
+    if line.starts_with("words") || line.starts_with("room ") || line.starts_with("makes ") {
+        return line.split_once("words");
+    }
+    None
+}
+
 /// What the words do that a case has.
 fn blocks_found<
     R: AllocGlobal
@@ -172,7 +197,7 @@ fn blocks_found<
 >(rt: &R, given: Given, expected: &str) -> io::Result<String> {
     let mut found = String::new(rt.alloc());
     for line in expected.lines() {
-        if let Some((before, words)) = line.split_once("words") {
+        if let Some((before, words)) = head_of(line) {
             let given = Given {
                 room: number_after(before, "room", given.room),
                 makes: number_after(before, "makes", given.makes),
@@ -220,7 +245,7 @@ pub fn run_called_case<
         + Drop
         + Copy,
 >(rt: &R, stem: &str) -> io::Result<Tally> {
-    let inputs = inputs_in(rt)?;
+    let inputs = inputs_of(rt, stem)?;
     let expected = expected_of(rt, stem)?;
     let standard = file_of(rt, stem, ".toml")?;
     let found = found_of(

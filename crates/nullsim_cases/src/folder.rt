@@ -5,7 +5,6 @@ use crate::pair::run_pair;
 use crate::reported::report_differs;
 use crate::table::run_table;
 use crate::tally::Tally;
-use crate::words::{run_check_case, run_rounds_case, run_script_case, run_words_case};
 use std::alloc::Global;
 use std::fs::DirEntry;
 use std::net::Net;
@@ -41,6 +40,20 @@ fn run_half<R: Files + AllocGlobal>(rt: &R, stem: &str) -> io::Result<Tally> {
     Ok(Tally::new())
 }
 
+/// The folders whose cases are of the program's words.
+const OF_WORDS: &[&str] = &["check", "rounds", "runs", "script", "shown", "words"];
+
+/// Whether the case at a path is of the program's words.
+fn is_of_words(stem: &str) -> bool {
+    let folder = stem
+        .strip_prefix("cases/")
+        .and_then(|rest| rest.split_once('/'));
+    match folder {
+        Some((folder, _)) => OF_WORDS.contains(&folder),
+        None => false,
+    }
+}
+
 /// Runs the case of the topology text at a path, which is without its end.
 fn run_text<
     R: Files
@@ -54,19 +67,7 @@ fn run_text<
         + Drop
         + Copy,
 >(rt: &R, stem: &str) -> io::Result<Tally> {
-    if stem.starts_with("cases/rounds/") {
-        return run_rounds_case(rt, stem);
-    }
-    if stem.starts_with("cases/script/") {
-        return run_script_case(rt, stem);
-    }
-    if stem.starts_with("cases/check/") {
-        return run_check_case(rt, stem);
-    }
-    if stem.starts_with("cases/runs/") || stem.starts_with("cases/shown/") {
-        return run_words_case(rt, stem);
-    }
-    if stem.starts_with("cases/words/") {
+    if is_of_words(stem) {
         return run_called_case(rt, stem);
     }
     let tally = run_pair(rt, stem)?;

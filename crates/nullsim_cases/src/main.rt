@@ -9,9 +9,8 @@
 //!
 //! A folder has files of two forms:
 //!
-//! - A *pair* is a topology text `NAME.toml` and what it shows, `NAME.expect` (module `pair`), or in
-//!   the folders `check`, `rounds`, `runs`, `script` and `shown` what the program's words do with
-//!   it (module `words`), in the folder `words` with files beside it (module `called`).
+//! - A *pair* is a topology text `NAME.toml` and what it shows, `NAME.expect` (module `pair`), or what
+//!   the program's words do with it (module `called`).
 //! - A *table* `NAME.cases` has many cases, each some changes of one text of `data/texts/` (module
 //!   `table`).
 //!

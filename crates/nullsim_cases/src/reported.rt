@@ -65,7 +65,7 @@ pub fn report_differs<
         + Copy,
 >(rt: &R, stem: &str) -> io::Result<bool> {
     let topology = file_of(rt, stem, ".toml")?;
-    let ended = run_words(rt, &["report", "-", "csv"], topology.as_slice(), b"")?;
+    let ended = run_words(rt, &["report", "-", "csv"], topology.as_slice())?;
     let found = reported(rt.alloc(), text_in(&ended.out)?)?;
     let expected = counted(rt.alloc(), expected_of(rt, stem)?.as_str())?;
     differs(rt, stem, expected.as_str(), found.as_str())
