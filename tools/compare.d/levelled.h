@@ -212,6 +212,7 @@ class CountingIpv4 : public Ipv4L3Protocol
         {
             return;
         }
+        packet = protocol == Icmpv4L4Protocol::PROT_NUMBER ? WithTtlAsItCame(packet) : packet;
         SocketIpTtlTag ttl;
         Ipv4Header header;
         header.SetTtl(packet->RemovePacketTag(ttl) ? ttl.GetTtl() : 64);
@@ -233,6 +234,26 @@ class CountingIpv4 : public Ipv4L3Protocol
     }
 
   private:
+    // A time exceeded quotes the header with the TTL that ns-3 lowered to 0: here it is 1 again, as it came. With it the quoted checksum goes down by
+    // as much as the TTL's word goes up, so that the message's checksum stays.
+    static Ptr<Packet> WithTtlAsItCame(Ptr<Packet> message)
+    {
+        const uint32_t quote = 8, ttl = quote + 8, checksum = quote + 10;
+        std::vector<uint8_t> octets(message->GetSize());
+        message->CopyData(octets.data(), octets.size());
+        if (octets.size() < quote + 20 || octets[0] != Icmpv4Header::ICMPV4_TIME_EXCEEDED || octets[ttl] != 0)
+        {
+            return message;
+        }
+        octets[ttl] = 1;
+        // one's complement: what goes below 0 comes around
+        int32_t sum = (octets[checksum] << 8 | octets[checksum + 1]) - 0x100;
+        sum = sum < 0 ? sum + 0xffff : sum;
+        octets[checksum] = static_cast<uint8_t>(sum >> 8);
+        octets[checksum + 1] = static_cast<uint8_t>(sum);
+        return Create<Packet>(octets.data(), octets.size());
+    }
+
     uint16_t m_identification = 0;
 };
 

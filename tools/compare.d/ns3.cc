@@ -63,7 +63,7 @@ SetQueue(Ptr<PointToPointNetDevice> device, const Iface& iface)
         device->SetQueue(queue);
         return;
     }
-    Ptr<WaitQueue> queue(new WaitQueue(iface.queue, iface.queueOctets), false);
+    Ptr<WaitQueue> queue = CreateObject<WaitQueue>(iface.queue, iface.queueOctets);
     device->SetQueue(queue);
     device->TraceConnectWithoutContext("PhyTxBegin", MakeCallback(&WaitQueue::OnBegin, queue));
     device->TraceConnectWithoutContext("PhyTxEnd", MakeCallback(&WaitQueue::OnEnd, queue));
@@ -112,7 +112,7 @@ AddLink(const Network& net, const Link& link, bool hasPlaces, bool isOne, Built&
     Ptr<PointToPointChannel> channel;
     if (!isOne || hasPlaces)
     {
-        exact = Ptr<ExactChannel>(new ExactChannel(link.rate, !isOne), false);
+        exact = CreateObject<ExactChannel>(link.rate, !isOne);
         channel = exact;
     }
     else
