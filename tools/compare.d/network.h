@@ -11,10 +11,12 @@
 // NODE and IFACE are numbers from 0, in the order of the lines; ADDRESS and TO are numbers of 32 bits.
 #pragma once
 
+#include <algorithm>
 #include <cstdint>
 #include <fstream>
 #include <iostream>
 #include <string>
+#include <sys/resource.h>
 #include <utility>
 #include <vector>
 
@@ -195,4 +197,14 @@ ReadNetwork(const char* path)
         std::exit(2);
     }
     return net;
+}
+
+// As many open files as there are interfaces.
+inline void
+AllowFiles(size_t count)
+{
+    rlimit limit;
+    getrlimit(RLIMIT_NOFILE, &limit);
+    limit.rlim_cur = std::min<rlim_t>(limit.rlim_max, std::max<rlim_t>(limit.rlim_cur, count + 64));
+    setrlimit(RLIMIT_NOFILE, &limit);
 }

@@ -7,8 +7,8 @@
 #include "levelled.h"
 
 #include <cstring>
+#include <map>
 #include <memory>
-#include <sys/resource.h>
 
 using namespace ns3;
 
@@ -248,16 +248,6 @@ class Traffic
     Ptr<PointToPointNetDevice> m_device;
     uint64_t m_number = 0;
 };
-
-// As many open files as there are interfaces.
-void
-AllowFiles(size_t count)
-{
-    rlimit limit;
-    getrlimit(RLIMIT_NOFILE, &limit);
-    limit.rlim_cur = std::min<rlim_t>(limit.rlim_max, std::max<rlim_t>(limit.rlim_cur, count + 64));
-    setrlimit(RLIMIT_NOFILE, &limit);
-}
 
 void
 AddTraces(const Network& net, const std::string& folder, Built& built)
