@@ -257,10 +257,10 @@ class CountingIpv4 : public Ipv4L3Protocol
     uint16_t m_identification = 0;
 };
 
-// Whether ns-3 can read a packet's header: it does not test what comes before it reads on. Martian destinations are held back here too. Used where
-// there are raw packets.
+// Whether ns-3 can read a packet: it does not test the lengths of headers before it reads on, which may end the program. Martian destinations are held
+// back here too. Used where there are raw packets.
 inline bool
-IsReadable(Ptr<const Packet> packet)
+IsReadable(const Ipv4L3Protocol& ipv4, Ptr<const Packet> packet)
 {
     uint8_t head[20];
     uint32_t size = packet->GetSize();
@@ -269,15 +269,21 @@ IsReadable(Ptr<const Packet> packet)
         return false;
     }
     packet->CopyData(head, 20);
-    uint32_t words = head[0] & 15, total = head[2] << 8 | head[3];
+    uint32_t length = 4 * (head[0] & 15), total = head[2] << 8 | head[3];
     uint32_t to = static_cast<uint32_t>(head[16]) << 24 | head[17] << 16 | head[18] << 8 | head[19];
-    return head[0] >> 4 == 4 && words >= 5 && 4 * words <= size && total >= 4 * words && total <= size && !IsMartian(to);
+    if (head[0] >> 4 != 4 || length < 20 || length > size || total < length || total > size || IsMartian(to))
+    {
+        return false;
+    }
+    // a message of ICMP or UDP for the node itself without a whole header of its own
+    bool isMessage = head[9] == Icmpv4L4Protocol::PROT_NUMBER || head[9] == UdpL4Protocol::PROT_NUMBER;
+    return !(isMessage && total - length < 8 && ipv4.GetInterfaceForAddress(Ipv4Address(to)) >= 0);
 }
 
 inline bool
 ReceiveIfReadable(Ptr<CountingIpv4> ipv4, Ptr<NetDevice> device, Ptr<const Packet> packet, uint16_t protocol, const Address& from)
 {
-    if (IsReadable(packet))
+    if (IsReadable(*ipv4, packet))
     {
         ipv4->Receive(device, packet, protocol, from, device->GetAddress(), NetDevice::PACKET_HOST);
     }

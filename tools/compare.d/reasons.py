@@ -85,7 +85,7 @@ def extra(theirs, arrived):
     quote, message = theirs.quote(), theirs.message()
     if message == (EXCEEDED, 1):
         return "reassembly"
-    if quote and (quote.offset or (quote.protocol == ICMP and is_withheld(quote))):
+    if quote and is_withheld(as_it_came(quote, arrived)):
         return "not withheld"
     if message and message[0] == REPLY:
         return reply(theirs, arrived)
@@ -96,9 +96,14 @@ def extra(theirs, arrived):
     return None
 
 
-def is_withheld(quote):
-    """Whether an ICMP packet that is quoted is one about which we send no error."""
-    return quote.total == quote.length or quote.octets[quote.length] in ERRORS
+def as_it_came(quote, arrived):
+    """The packet that is quoted, which may have had options, where it is among those that came."""
+    return next((come for come in arrived if come.identification == quote.identification and come.octets[12:20] == quote.octets[12:20]), quote)
+
+
+def is_withheld(packet):
+    """Whether a packet is one about which we send no error."""
+    return packet.offset > 0 or (packet.protocol == ICMP and (packet.total == packet.length or packet.octets[packet.length] in ERRORS))
 
 
 def reply(theirs, arrived):

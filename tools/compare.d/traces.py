@@ -1,0 +1,142 @@
+"""The comparison of traces: each set of topologies through nullsim and ns-3, interface by interface and packet by packet."""
+
+import collections
+import os
+import tempfile
+
+import pcaps
+import plain
+import programs
+import reasons
+import sets
+
+
+class Tally:
+    """What was found in a set."""
+
+    def __init__(self, name, what):
+        self.name, self.what = name, what
+        self.topologies = self.equal = self.ifaces = self.equal_ifaces = self.records = 0
+        self.reasons, self.unknown, self.ties, self.tied = collections.Counter(), [], 0, 0
+
+    def add(self, compared, found):
+        self.topologies += 1
+        self.equal += not compared.differences
+        self.ifaces += len(compared.ours)
+        self.equal_ifaces += compared.equal
+        self.records += compared.records
+        self.reasons.update(found)
+
+
+def simulate(topology, folder, words):
+    """Both programs' traces of a topology, in two folders below `folder`, compared."""
+    ours, theirs = (os.path.join(folder, name) for name in ("ours", "theirs"))
+    for path in (ours, theirs):
+        os.mkdir(path)
+    text, lines = os.path.join(folder, "topology.toml"), os.path.join(folder, "topology.plain")
+    plain.write_toml(plain.in_one_partition(topology), text)
+    plain.write_plain(topology, lines)
+    programs.call([programs.NULLSIM, "run", text, ours, "1", "1"])
+    programs.call([words[0], lines, "--traces", theirs, *words[1:]])
+    return pcaps.Compared([iface["name"] for iface in topology["iface"]], ours, theirs)
+
+
+def reasons_of(topology, compared):
+    """The reasons of the earliest differences, and those that have none."""
+    node_of = {iface["name"]: iface["node"] for iface in topology["iface"]}
+    found, unknown = set(), []
+    for difference in compared.earliest() if compared.differences else []:
+        node = node_of[difference.iface]
+        arrived = [packet for name, records in compared.ours.items() if node_of[name] == node
+                   for time, packet in records if time <= difference.at]
+        why = reasons.reason(difference, arrived)
+        if why:
+            found.add(why)
+        else:
+            unknown.append(difference)
+    return found, unknown
+
+
+def packet_words(packet):
+    return packet.hex() if packet else "none"
+
+
+def try_topology(name, topology, tally):
+    """Compares one topology, and counts and prints what is found."""
+    with tempfile.TemporaryDirectory(prefix="compare.") as folder:
+        try:
+            compared = simulate(topology, folder, [programs.NS3, "--places"])
+        except programs.Failed as failed:
+            tally.topologies += 1
+            tally.unknown.append(name)
+            print(f"{tally.name}: {name}: {failed}: UNKNOWN", flush=True)
+            return None
+    found, unknown = reasons_of(topology, compared)
+    tally.add(compared, found)
+    if compared.differences:
+        first = compared.differences[0]
+        print(f"{tally.name}: {name}: {compared.equal} of {len(compared.ours)} interfaces are equal; the first difference is at {first.at} ns, "
+              f"{first.iface}: {', '.join(sorted(found))}", flush=True)
+    for one in unknown:
+        tally.unknown.append(name)
+        print(f"  UNKNOWN at {one.at} ns, {one.iface}, record {one.number}: ours {packet_words(one.our_packet)}, theirs {packet_words(one.their_packet)}")
+    return compared
+
+
+def try_ties(topology, tally):
+    """Whether ns-3's own order of the events of one nanosecond gives other traces."""
+    with tempfile.TemporaryDirectory(prefix="compare.") as folder:
+        compared = simulate(topology, folder, [programs.NS3])
+    tally.tied += 1
+    tally.ties += bool(compared.differences)
+
+
+def try_loop(topology, tally):
+    """Whether the bare loop's traces are equal too."""
+    with tempfile.TemporaryDirectory(prefix="compare.") as folder:
+        if simulate(topology, folder, [programs.LOOP]).differences:
+            tally.unknown.append("the bare loop")
+            print(f"{tally.name}: the traces of the bare loop differ", flush=True)
+
+
+def is_plain(topology):
+    """Whether the bare loop simulates a topology whole."""
+    return all(source["kind"] == "cbr" for source in topology["source"])
+
+
+def try_set(name, what, topologies):
+    tally = Tally(name, what)
+    for label, topology in topologies:
+        compared = try_topology(label, topology, tally)
+        is_equal = compared and not compared.differences
+        if is_equal and name != "by source":
+            try_ties(topology, tally)
+        if is_equal and name == "generated" and is_plain(topology):
+            try_loop(topology, tally)
+    return tally
+
+
+def set_row(tally):
+    return (f"| {tally.what} | {tally.topologies:,} | {tally.equal:,} | {tally.ifaces:,} | {tally.equal_ifaces:,} | {tally.records:,} | "
+            f"{tally.ties if tally.tied else ''} |")
+
+
+def tables(tallies):
+    """The two tables of what was compared, as lines."""
+    yield "| Topologies | Number | Equal | Interfaces | Equal | Packets in our traces | Of the equal ones, other with ns-3's order of ties |"
+    yield "|---|---|---|---|---|---|---|"
+    yield from map(set_row, tallies)
+    yield ""
+    yield "| First difference | " + " | ".join(tally.name for tally in tallies) + " |"
+    yield "|---|" + "---|" * len(tallies)
+    for name, words in reasons.REASONS.items():
+        counts = [tally.reasons[name] for tally in tallies]
+        if any(counts):
+            yield f"| {name}: {words} | " + " | ".join(str(count or "") for count in counts) + " |"
+
+
+def every(paths):
+    """Compares all sets, or the topologies of these files: the tallies."""
+    with tempfile.TemporaryDirectory(prefix="compare.") as folder:
+        chosen = [("files", "the files named", sets.of_files(paths))] if paths else sets.every(folder)
+        return [try_set(*one) for one in chosen]
