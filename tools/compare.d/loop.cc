@@ -2,10 +2,10 @@
 //
 //   compare-loop NETWORK [--traces FOLDER]
 //
-// NETWORK is a text as network.h says, with sources of kind cbr alone. It makes whole packets, looks up the longest prefix, lowers the time to live,
-// computes the header's checksum anew, and keeps drop-tail queues and counters. It tests no checksum of UDP and sends no ICMP errors, but counts where they
-// would be. Its events have nullsim's order. With --traces each interface has a pcap file FOLDER/NAME.pcap, raw IP with nanosecond times. It prints
-// the packet-hops and each counter.
+// NETWORK is a text as network.h says. It makes whole packets, looks up the longest prefix, lowers the time to live, computes the header's checksum
+// anew, and keeps drop-tail queues and counters. Its events have nullsim's order. With --traces each interface has a pcap file FOLDER/NAME.pcap, raw IP with
+// nanosecond times. It prints the packet-hops and each counter. It tests no checksum of UDP, which it made itself. Where a source is not of kind cbr, or
+// where an ICMP error would be due, it ends with status 3.
 #include "network.h"
 
 #include <algorithm>
@@ -83,6 +83,13 @@ WriteHalf(uint8_t* at, uint32_t half)
 {
     at[0] = static_cast<uint8_t>(half >> 8);
     at[1] = static_cast<uint8_t>(half);
+}
+
+[[noreturn]] void
+EndNotSimulated(const std::string& what)
+{
+    std::cerr << "compare-loop: " << what << " is not simulated\n";
+    std::exit(3);
 }
 
 // The one's complement sum of 16-bit words, to which `sum` is added.
@@ -271,19 +278,33 @@ class Simulation
         uint32_t to = ReadWord(head + 16);
         if (IsOwn(place, to))
         {
-            m_counters.delivered++;
+            Deliver(m_net.nodes[port.node], head);
             return;
         }
-        const Prefix* route = place.isRouter ? Find(place, to) : nullptr;
-        if (!route || head[8] <= 1)
+        if (!place.isRouter)
         {
             m_counters.refused++;
             return;
+        }
+        const Prefix* route = Find(place, to);
+        if (!route || head[8] <= 1)
+        {
+            EndNotSimulated("an ICMP error");
         }
         Octets next = std::make_shared<std::vector<uint8_t>>(*packet);
         next->data()[8]--;
         SetChecksum(next->data());
         Offer(route->port, next);
+    }
+
+    void Deliver(const NodeLine& node, const uint8_t* head)
+    {
+        uint16_t port = static_cast<uint16_t>(head[22] << 8 | head[23]);
+        if (std::find(node.ports.begin(), node.ports.end(), port) == node.ports.end())
+        {
+            EndNotSimulated("an ICMP error");
+        }
+        m_counters.delivered++;
     }
 
     void Offer(uint32_t number, const Octets& packet)
@@ -364,8 +385,7 @@ main(int argc, char** argv)
     {
         if (source.kind != "cbr")
         {
-            std::cerr << "compare-loop: a source of kind " << source.kind << " is not simulated\n";
-            return 3;
+            EndNotSimulated("a source of kind " + source.kind);
         }
     }
     AllowFiles(net.ifaces.size());

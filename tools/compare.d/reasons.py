@@ -83,16 +83,14 @@ def missing(ours):
 def extra(theirs, arrived):
     """Why ns-3 may send a packet that we do not; `arrived` are the packets that came to the node until then."""
     quote, message = theirs.quote(), theirs.message()
+    if theirs.ttl == 255 and any(come.ttl == 0 and come.identification == theirs.identification for come in arrived):
+        return "time to live 0"
     if message == (EXCEEDED, 1):
         return "reassembly"
     if quote and is_withheld(as_it_came(quote, arrived)):
         return "not withheld"
     if message and message[0] == REPLY:
         return reply(theirs, arrived)
-    if theirs.ttl == 255 and any(come.ttl == 0 and come.identification == theirs.identification for come in arrived):
-        return "time to live 0"
-    if any(come.has_more or come.offset for come in arrived):
-        return "reassembly" if message else None
     return None
 
 
@@ -114,8 +112,6 @@ def reply(theirs, arrived):
                 return "echo code"
             if one_sum(come.payload) != 0xFFFF:
                 return "ICMP checksum"
-    if any(come.has_more or come.offset for come in arrived):
-        return "reassembly"
     return None
 
 
