@@ -56,11 +56,16 @@ def is_there():
 
 def call(words):
     """Runs a program to its end, and gives what it prints."""
+    return octets_of(words).decode()
+
+
+def octets_of(words):
+    """Runs a program to its end, and gives the octets that it prints."""
     ended = subprocess.run(words, stdout=subprocess.PIPE, stderr=subprocess.PIPE, timeout=SECONDS, check=False)
     if ended.returncode:
         how = f"signal {-ended.returncode}" if ended.returncode < 0 else f"status {ended.returncode}"
         raise Failed(f"{os.path.basename(words[0])} ended with {how}: {ended.stderr.decode(errors='replace').strip()[:200]}")
-    return ended.stdout.decode()
+    return ended.stdout
 
 
 def allow_files():
