@@ -32,17 +32,24 @@ class Tally:
         self.reasons.update(found)
 
 
+def write_traces(topology, folder, name, words):
+    """The traces of a topology by a program, nullsim or another, in the new folder `name` of `folder`."""
+    made, text = os.path.join(folder, name), os.path.join(folder, name + ".text")
+    os.mkdir(made)
+    if words[0] == programs.NULLSIM:
+        plain.write_toml(plain.in_one_partition(topology), text)
+        programs.call([*words, text, made, "1", "1"])
+    else:
+        plain.write_plain(topology, text)
+        programs.call([words[0], text, "--traces", made, *words[1:]])
+
+
 def simulate(topology, folder, words):
-    """Both programs' traces of a topology, in two folders below `folder`, compared."""
-    ours, theirs = (os.path.join(folder, name) for name in ("ours", "theirs"))
-    for path in (ours, theirs):
-        os.mkdir(path)
-    text, lines = os.path.join(folder, "topology.toml"), os.path.join(folder, "topology.plain")
-    plain.write_toml(plain.in_one_partition(topology), text)
-    plain.write_plain(topology, lines)
-    programs.call([programs.NULLSIM, "run", text, ours, "1", "1"])
-    programs.call([words[0], lines, "--traces", theirs, *words[1:]])
-    return pcaps.Compared([iface["name"] for iface in topology["iface"]], ours, theirs)
+    """nullsim's traces of a topology and those of another program, compared."""
+    write_traces(topology, folder, "ours", [programs.NULLSIM, "run"])
+    write_traces(topology, folder, "theirs", words)
+    names = [iface["name"] for iface in topology["iface"]]
+    return pcaps.Compared(names, os.path.join(folder, "ours"), os.path.join(folder, "theirs"))
 
 
 def reasons_of(topology, compared):
