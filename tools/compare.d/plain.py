@@ -88,11 +88,17 @@ def without_raw(topology):
     return topology | {"source": [source for source in topology["source"] if source["kind"] != "raw"]}
 
 
-def single_sources(topology):
-    """For each source the network with it alone, a raw source with one packet each."""
-    for source in topology["source"]:
-        if source["kind"] != "raw":
-            yield topology | {"source": [source]}
-            continue
-        for packet in source["packet"]:
-            yield topology | {"source": [source | {"packet": [packet]}]}
+def source_parts(topology):
+    """The number of each source, with each of its packets where it is raw, or nothing."""
+    for number, source in enumerate(topology["source"]):
+        yield from ((number, packet) for packet in (range(len(source["packet"])) if source["kind"] == "raw" else [None]))
+
+
+def with_parts(topology, parts):
+    """The same network with these parts of its sources alone; a source of which nothing is left goes."""
+    sources = []
+    for number, source in enumerate(topology["source"]):
+        packets = [packet for part, packet in parts if part == number]
+        if packets:
+            sources.append(source | {"packet": [source["packet"][at] for at in packets]} if source["kind"] == "raw" else source)
+    return topology | {"source": sources}

@@ -15,11 +15,10 @@ REASONS = {
     "not withheld": "ns-3 sends an error about an ICMP error, an empty ICMP message or a later fragment",
     "reassembly": "ns-3 puts fragments together at their destination, and sends the error 11, 1 where some do not come in 30 s",
     "UDP length": "ns-3 sums all octets after the header, where the UDP length says fewer",
-    "UDP checksum": "ns-3 takes a UDP checksum of 0 for a wrong one, or sends one",
+    "UDP checksum": "ns-3 takes a UDP checksum of 0, which says that there is none, for a wrong one",
     "echo code": "ns-3 answers an echo request whose code is not 0",
     "ICMP checksum": "ns-3 does not test the checksum of an ICMP message",
     "reserved flag": "ns-3 clears the reserved flag of a header that it forwards or quotes",
-    "identification": "a packet that one of both made before, for one of these reasons, took a number and was dropped at a full queue",
 }
 ICMP, UDP = 1, 17
 UNREACHABLE, EXCEEDED, ECHO, REPLY = 3, 11, 8, 0
@@ -123,8 +122,6 @@ def changed(ours, theirs):
         return "reserved flag"
     if ours.message() and ours.message() == theirs.message() and ours.quote() and theirs.quote():
         return quoted(ours.quote(), theirs.quote())
-    if ours.octets[12:] == theirs.octets[12:] and ours.identification != theirs.identification:
-        return "identification"
     return None
 
 

@@ -42,10 +42,10 @@ def networks_without_raw():
         yield name, plain.without_raw(topology)
 
 
-def networks_by_source():
-    for name, topology in networks():
-        for number, single in enumerate(plain.single_sources(topology)):
-            yield f"{name} source {number}", single
+def by_source(topology):
+    """The parts of a network's sources, and for each the network with it alone."""
+    for part in plain.source_parts(topology):
+        yield part, plain.with_parts(topology, [part])
 
 
 def of_files(paths):
@@ -58,5 +58,4 @@ def every(folder):
     yield "examples", "`examples/*.toml`", examples()
     yield "generated", "`bench/topology.py`, few packets", generated(folder)
     yield "without raw", "the 90 networks of the stored cases, without their raw packets", networks_without_raw()
-    yield "networks", "the same, whole", networks()
-    yield "by source", "the same, one source or one raw packet at a time", networks_by_source()
+    yield "whole", "the same, whole", networks()

@@ -120,13 +120,31 @@ def try_loop(topology, tally):
 def try_set(name, what, topologies):
     tally = Tally(name, what)
     for label, topology in topologies:
-        compared = try_topology(label, topology, tally)
-        is_equal = compared and not compared.differences
-        if is_equal and name != "by source":
-            try_ties(topology, tally)
-        if is_equal and name == "generated":
-            try_loop(topology, tally)
+        try_whole(label, topology, tally)
     return tally
+
+
+def try_whole(label, topology, tally):
+    """Compares a topology, and where it is equal also what ns-3's own order of ties and the bare loop make of it."""
+    compared = try_topology(label, topology, tally)
+    if compared and not compared.differences:
+        try_ties(topology, tally)
+        if tally.name == "generated":
+            try_loop(topology, tally)
+
+
+def try_parts():
+    """Each source of the stored networks alone, each raw packet alone; then each network with all sources and packets that are equal alone."""
+    alone = Tally("alone", "the same, one source or one raw packet at a time")
+    rest = Tally("rest", "the same, with all sources and raw packets that are equal alone")
+    for name, topology in sets.networks():
+        equal = []
+        for part, single in sets.by_source(topology):
+            compared = try_topology(f"{name} source {part[0]} packet {part[1]}", single, alone)
+            if compared and not compared.differences:
+                equal.append(part)
+        try_whole(name, plain.with_parts(topology, equal), rest)
+    return [alone, rest]
 
 
 def set_row(tally):
@@ -150,6 +168,7 @@ def tables(tallies):
 
 def every(paths):
     """Compares all sets, or the topologies of these files: the tallies."""
+    if paths:
+        return [try_set("files", "the files named", sets.of_files(paths))]
     with tempfile.TemporaryDirectory(prefix="compare.") as folder:
-        chosen = [("files", "the files named", sets.of_files(paths))] if paths else sets.every(folder)
-        return [try_set(*one) for one in chosen]
+        return [try_set(*one) for one in sets.every(folder)] + try_parts()
