@@ -1,7 +1,7 @@
 """The comparison of speed: ns-3, nullsim and a bare loop over the same networks, in turn."""
 
 import os
-import subprocess
+import sys
 import tempfile
 
 import plain
@@ -12,6 +12,14 @@ import sets
 NETWORKS = (("line-1000", "a line of 64 routers", 7_940, 8), ("grid-1000", "a grid of 16 by 16 routers", 708, 8),
             ("ring-1000", "a ring of 64 routers", 245, 8), ("star-1000", "32 hosts around one whose link is too slow", 10_400, 8))
 RUNS = 3
+# Runs a command, and prints its processor seconds and its greatest memory in MiB. It is a process of its own: the system counts the memory of the one
+# that starts a program as the program's least.
+TIMED = """
+import resource, subprocess, sys
+subprocess.run(sys.argv[1:], stdout=subprocess.DEVNULL, check=True)
+used = resource.getrusage(resource.RUSAGE_CHILDREN)
+print(used.ru_utime + used.ru_stime, used.ru_maxrss / 1024)
+"""
 # Trace files of a whole run would fill a disk: with them there is this part of ns-3's packets, for all three.
 TRACED_PART = 2
 
@@ -29,12 +37,8 @@ class Network:
 
 def timed(words):
     """The processor seconds and the peak of memory in MiB of a run."""
-    child = subprocess.Popen(words, stdout=subprocess.DEVNULL)
-    _, status, used = os.wait4(child.pid, 0)
-    child.returncode = os.waitstatus_to_exitcode(status)
-    if child.returncode:
-        raise programs.Failed(f"{words[0]} ended with {child.returncode}")
-    return used.ru_utime + used.ru_stime, used.ru_maxrss / 1024
+    seconds, memory = programs.call([sys.executable, "-c", TIMED, *words]).split()
+    return float(seconds), float(memory)
 
 
 def timed_with_traces(words, folder_at):
