@@ -114,42 +114,72 @@ ReadSource(const std::string& kind, std::istream& in)
     return source;
 }
 
-// Reads what belongs to the network's shape; whether the word was one of those.
+inline NodeLine
+ReadNode(std::istream& in)
+{
+    NodeLine node;
+    std::string kind;
+    in >> node.name >> kind;
+    node.isRouter = kind == "router";
+    return node;
+}
+
+inline void
+ReadPort(std::istream& in, Network& net)
+{
+    uint32_t node;
+    uint16_t port;
+    in >> node >> port;
+    net.nodes.at(node).ports.push_back(port);
+}
+
+inline Iface
+ReadIface(std::istream& in)
+{
+    Iface iface;
+    in >> iface.name >> iface.node >> iface.address >> iface.queue >> iface.queueOctets;
+    return iface;
+}
+
+inline Link
+ReadLink(std::istream& in)
+{
+    Link link;
+    in >> link.a >> link.b >> link.rate >> link.delay;
+    return link;
+}
+
+inline Route
+ReadRoute(std::istream& in)
+{
+    Route route;
+    in >> route.node >> route.to >> route.length >> route.iface;
+    return route;
+}
+
+// Reads a line that belongs to the network's shape; whether its first word was of that kind.
 inline bool
 ReadShape(const std::string& word, std::istream& in, Network& net)
 {
     if (word == "node")
     {
-        NodeLine node;
-        std::string kind;
-        in >> node.name >> kind;
-        node.isRouter = kind == "router";
-        net.nodes.push_back(node);
+        net.nodes.push_back(ReadNode(in));
     }
     else if (word == "port")
     {
-        uint32_t node;
-        uint16_t port;
-        in >> node >> port;
-        net.nodes.at(node).ports.push_back(port);
+        ReadPort(in, net);
     }
     else if (word == "iface")
     {
-        Iface iface;
-        in >> iface.name >> iface.node >> iface.address >> iface.queue >> iface.queueOctets;
-        net.ifaces.push_back(iface);
+        net.ifaces.push_back(ReadIface(in));
     }
     else if (word == "link")
     {
-        Link link;
-        in >> link.a >> link.b >> link.rate >> link.delay;
-        net.links.push_back(link);
+        net.links.push_back(ReadLink(in));
     }
     else if (word == "route")
     {
-        Route route;
-        in >> route.node >> route.to >> route.length >> route.iface;
-        net.routes.push_back(route);
+        net.routes.push_back(ReadRoute(in));
     }
     else
     {

@@ -135,8 +135,8 @@ def try_whole(label, topology, tally):
 
 def try_parts():
     """Each source of the stored networks alone, each raw packet alone; then each network with all sources and packets that are equal alone."""
-    alone = Tally("alone", "the same, one source or one raw packet at a time")
-    rest = Tally("rest", "the same, with all sources and raw packets that are equal alone")
+    alone = Tally("alone", "the same, of each network one source or one raw packet at a time")
+    rest = Tally("rest", "the same, of each network all sources and raw packets that are equal alone")
     for name, topology in sets.networks():
         equal = []
         for part, single in sets.by_source(topology):
@@ -148,17 +148,17 @@ def try_parts():
 
 
 def set_row(tally):
-    return (f"| {tally.what} | {tally.topologies:,} | {tally.equal:,} | {tally.ifaces:,} | {tally.equal_ifaces:,} | {tally.records:,} | "
+    return (f"| *{tally.name}*: {tally.what} | {tally.topologies:,} | {tally.equal:,} | {tally.ifaces:,} | {tally.equal_ifaces:,} | {tally.records:,} | "
             f"{tally.ties if tally.tied else ''} |")
 
 
 def tables(tallies):
     """The two tables of what was compared, as lines."""
-    yield "| Topologies | Number | Equal | Interfaces | Equal | Packets in our traces | Of the equal ones, other with ns-3's order of ties |"
+    yield "| Topologies | Number | Equal | Interfaces | Equal | Records in our traces | Equal, but not with ns-3's own order of ties |"
     yield "|---|---|---|---|---|---|---|"
     yield from map(set_row, tallies)
     yield ""
-    yield "| First difference | " + " | ".join(tally.name for tally in tallies) + " |"
+    yield "| First difference | " + " | ".join(f"*{tally.name}*" for tally in tallies) + " |"
     yield "|---|" + "---|" * len(tallies)
     for name, words in reasons.REASONS.items():
         counts = [tally.reasons[name] for tally in tallies]
