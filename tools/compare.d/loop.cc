@@ -13,13 +13,13 @@
 #include <cstring>
 #include <deque>
 #include <memory>
-#include <queue>
 #include <tuple>
 
 namespace
 {
 
-using Octets = std::shared_ptr<std::vector<uint8_t>>;
+// A packet has one owner at any time: an event, a queue, or who is at it.
+using Octets = std::unique_ptr<std::vector<uint8_t>>;
 
 // An event: an arrival of a packet at interface i has place 2i, a completion of its transmission 2i + 1, source j has 2I + j of I interfaces.
 struct Event
@@ -36,10 +36,10 @@ struct Event
 
 struct Port
 {
-    uint32_t node, far;
-    uint64_t rate, delay, arrivals = 0, completions = 0;
-    size_t limit;
-    int64_t octetLimit, waitingOctets = 0;
+    uint32_t node = 0, far = 0;
+    uint64_t rate = 1, delay = 0, arrivals = 0, completions = 0;
+    size_t limit = 0;
+    int64_t octetLimit = -1, waitingOctets = 0;
     bool isBusy = false;
     std::deque<Octets> waiting;
     std::FILE* trace = nullptr;
@@ -113,6 +113,7 @@ class Simulation
   public:
     Simulation(const Network& net, const char* traces)
         : m_net(net),
+          m_ports(net.ifaces.size()),
           m_sent(net.sources.size())
     {
         AddPorts(traces);
@@ -145,10 +146,9 @@ class Simulation
     const Counters& Run()
     {
         uint64_t twice = 2 * m_ports.size();
-        while (!m_events.empty() && m_events.top().time < m_net.stop)
+        while (!m_events.empty() && m_events.front().time < m_net.stop)
         {
-            Event event = m_events.top();
-            m_events.pop();
+            Event event = Take();
             m_now = event.time;
             if (event.place >= twice)
             {
@@ -160,25 +160,41 @@ class Simulation
             }
             else
             {
-                Arrive(m_ports[event.place / 2], event.packet);
+                Arrive(m_ports[event.place / 2], std::move(event.packet));
             }
         }
         return m_counters;
     }
 
   private:
+    void Put(uint64_t time, uint64_t place, uint64_t number, Octets packet)
+    {
+        m_events.push_back(Event{time, place, number, std::move(packet)});
+        std::push_heap(m_events.begin(), m_events.end());
+    }
+
+    Event Take()
+    {
+        std::pop_heap(m_events.begin(), m_events.end());
+        Event event = std::move(m_events.back());
+        m_events.pop_back();
+        return event;
+    }
+
     void AddPorts(const char* traces)
     {
-        for (const Iface& iface : m_net.ifaces)
+        for (size_t i = 0; i < m_ports.size(); i++)
         {
-            Port port{iface.node, 0, 1, 0, 0, 0, static_cast<size_t>(iface.queue), iface.queueOctets, 0, false, {}, nullptr};
+            const Iface& iface = m_net.ifaces[i];
+            m_ports[i].node = iface.node;
+            m_ports[i].limit = static_cast<size_t>(iface.queue);
+            m_ports[i].octetLimit = iface.queueOctets;
             if (traces)
             {
-                port.trace = std::fopen((std::string(traces) + "/" + iface.name + ".pcap").c_str(), "wb");
+                m_ports[i].trace = std::fopen((std::string(traces) + "/" + iface.name + ".pcap").c_str(), "wb");
                 const uint32_t head[6] = {0xa1b23c4d, 0x00040002, 0, 0, 65535, 101};
-                std::fwrite(head, 1, sizeof head, port.trace);
+                std::fwrite(head, 1, sizeof head, m_ports[i].trace);
             }
-            m_ports.push_back(port);
         }
         for (const Link& link : m_net.links)
         {
@@ -209,7 +225,7 @@ class Simulation
         const Source& source = m_net.sources[j];
         if (m_sent[j] < source.count)
         {
-            m_events.push(Event{source.start + m_sent[j] * source.interval, 2 * m_ports.size() + j, m_sent[j], nullptr});
+            Put(source.start + m_sent[j] * source.interval, 2 * m_ports.size() + j, m_sent[j], nullptr);
         }
     }
 
@@ -243,7 +259,7 @@ class Simulation
         const Prefix* route = IsOwn(place, source.to) ? nullptr : Find(place, source.to);
         if (route)
         {
-            Octets packet = std::make_shared<std::vector<uint8_t>>(28 + source.size, static_cast<uint8_t>(source.fill));
+            Octets packet = std::make_unique<std::vector<uint8_t>>(28 + source.size, static_cast<uint8_t>(source.fill));
             uint8_t* head = packet->data();
             std::fill_n(head, 28, 0);
             head[0] = 0x45;
@@ -259,17 +275,17 @@ class Simulation
             WriteHalf(head + 24, 8 + source.size);
             uint32_t sum = ~Sum(head + 12, packet->size() - 12, 17 + 8 + source.size) & 0xffff;
             WriteHalf(head + 26, sum ? sum : 0xffff);
-            Offer(route->port, packet);
+            Offer(route->port, std::move(packet));
         }
         m_sent[j]++;
         Plan(j);
     }
 
-    void Arrive(Port& port, const Octets& packet)
+    void Arrive(Port& port, Octets packet)
     {
         Record(port, *packet);
         Place& place = m_places[port.node];
-        const uint8_t* head = packet->data();
+        uint8_t* head = packet->data();
         if (packet->size() < 20 || head[0] != 0x45 || Sum(head, 20, 0) != 0xffff)
         {
             m_counters.refused++;
@@ -291,10 +307,9 @@ class Simulation
         {
             EndNotSimulated("an ICMP error");
         }
-        Octets next = std::make_shared<std::vector<uint8_t>>(*packet);
-        next->data()[8]--;
-        SetChecksum(next->data());
-        Offer(route->port, next);
+        head[8]--;
+        SetChecksum(head);
+        Offer(route->port, std::move(packet));
     }
 
     void Deliver(const NodeLine& node, const uint8_t* head)
@@ -307,18 +322,18 @@ class Simulation
         m_counters.delivered++;
     }
 
-    void Offer(uint32_t number, const Octets& packet)
+    void Offer(uint32_t number, Octets packet)
     {
         Port& port = m_ports[number];
         int64_t octets = packet->size();
         if (!port.isBusy)
         {
-            Start(port, number, packet);
+            Start(port, number, std::move(packet));
         }
         else if (port.waiting.size() < port.limit && (port.octetLimit < 0 || port.waitingOctets + octets <= port.octetLimit))
         {
             port.waitingOctets += octets;
-            port.waiting.push_back(packet);
+            port.waiting.push_back(std::move(packet));
         }
         else
         {
@@ -326,14 +341,14 @@ class Simulation
         }
     }
 
-    void Start(Port& port, uint32_t number, const Octets& packet)
+    void Start(Port& port, uint32_t number, Octets packet)
     {
         Record(port, *packet);
         m_counters.hops++;
         port.isBusy = true;
         uint64_t done = m_now + TransmissionTime(packet->size(), port.rate);
-        m_events.push(Event{done, 2 * static_cast<uint64_t>(number) + 1, port.completions++, nullptr});
-        m_events.push(Event{done + port.delay, 2 * static_cast<uint64_t>(port.far), port.arrivals++, packet});
+        Put(done, 2 * static_cast<uint64_t>(number) + 1, port.completions++, nullptr);
+        Put(done + port.delay, 2 * static_cast<uint64_t>(port.far), port.arrivals++, std::move(packet));
     }
 
     void Complete(Port& port, uint64_t place)
@@ -341,10 +356,10 @@ class Simulation
         port.isBusy = false;
         if (!port.waiting.empty())
         {
-            Octets packet = port.waiting.front();
+            Octets packet = std::move(port.waiting.front());
             port.waiting.pop_front();
             port.waitingOctets -= packet->size();
-            Start(port, static_cast<uint32_t>(place / 2), packet);
+            Start(port, static_cast<uint32_t>(place / 2), std::move(packet));
         }
     }
 
@@ -364,7 +379,7 @@ class Simulation
     std::vector<Port> m_ports;
     std::vector<Place> m_places;
     std::vector<uint64_t> m_sent;
-    std::priority_queue<Event> m_events;
+    std::vector<Event> m_events; // a binary heap
     uint64_t m_now = 0;
     Counters m_counters;
 };

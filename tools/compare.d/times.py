@@ -9,8 +9,8 @@ import programs
 import sets
 
 # Each network, the packets of a source for ns-3, and for the other two, which are faster: so that each run takes about two seconds or more.
-NETWORKS = (("line-1000", "a line of 64 routers", 7_940, 16), ("grid-1000", "a grid of 16 by 16 routers", 708, 8),
-            ("ring-1000", "a ring of 64 routers", 245, 8), ("star-1000", "32 hosts around one whose link is too slow", 10_400, 8))
+NETWORKS = (("line-1000", "a line of 64 routers", 7_940, 16), ("grid-1000", "a grid of 16 by 16 routers", 708, 12),
+            ("ring-1000", "a ring of 64 routers", 245, 16), ("star-1000", "32 hosts around one whose link is too slow", 10_400, 12))
 RUNS = 3
 # Runs a command, and prints its processor seconds and its greatest memory in MiB. It is a process of its own: the system counts the memory of the one
 # that starts a program as the program's least.

@@ -13,6 +13,8 @@ import sets
 
 # What the bare loop says of a network that it does not simulate.
 NOT_SIMULATED = "is not simulated"
+# The name of the set of networks with one source.
+ALONE = "alone"
 
 
 class Tally:
@@ -21,15 +23,16 @@ class Tally:
     def __init__(self, name, what):
         self.name, self.what = name, what
         self.topologies = self.equal = self.ifaces = self.equal_ifaces = self.records = 0
-        self.reasons, self.unknown, self.ties, self.tied, self.loops = collections.Counter(), [], 0, 0, 0
+        self.names, self.unknown, self.ties, self.tied, self.loops = collections.defaultdict(list), [], 0, 0, 0
 
-    def add(self, compared, found):
+    def add(self, name, compared, found):
         self.topologies += 1
         self.equal += not compared.differences
         self.ifaces += len(compared.ours)
         self.equal_ifaces += compared.equal
         self.records += compared.records
-        self.reasons.update(found)
+        for why in found:
+            self.names[why].append(name)
 
 
 def write_traces(topology, folder, name, words):
@@ -83,7 +86,7 @@ def try_topology(name, topology, tally):
             print(f"{tally.name}: {name}: {failed}: UNKNOWN", flush=True)
             return None
     found, unknown = reasons_of(topology, compared)
-    tally.add(compared, found)
+    tally.add(name, compared, found)
     if compared.differences:
         first = compared.differences[0]
         print(f"{tally.name}: {name}: {compared.equal} of {len(compared.ours)} interfaces are equal; the first difference is at {first.at} ns, "
@@ -135,7 +138,7 @@ def try_whole(label, topology, tally):
 
 def try_parts():
     """Each source of the stored networks alone, each raw packet alone; then each network with all sources and packets that are equal alone."""
-    alone = Tally("alone", "the same, of each network one source or one raw packet at a time")
+    alone = Tally(ALONE, "the same, of each network one source or one raw packet at a time")
     rest = Tally("rest", "the same, of each network all sources and raw packets that are equal alone")
     for name, topology in sets.networks():
         equal = []
@@ -152,18 +155,45 @@ def set_row(tally):
             f"{tally.ties if tally.tied else ''} |")
 
 
-def tables(tallies):
-    """The two tables of what was compared, as lines."""
+def set_table(tallies):
     yield "| Topologies | Number | Equal | Interfaces | Equal | Records in our traces | Equal, but not with ns-3's own order of ties |"
     yield "|---|---|---|---|---|---|---|"
     yield from map(set_row, tallies)
-    yield ""
-    yield "| First difference | " + " | ".join(f"*{tally.name}*" for tally in tallies) + " |"
+    loops = sum(tally.loops for tally in tallies)
+    if loops:
+        yield ""
+        yield f"The bare loop's traces of {loops} of the generated topologies are equal too; the others need ICMP errors, which it has not."
+
+
+def reason_table(tallies):
+    yield "| Earliest difference | " + " | ".join(f"*{tally.name}*" for tally in tallies) + " |"
     yield "|---|" + "---|" * len(tallies)
     for name, words in reasons.REASONS.items():
-        counts = [tally.reasons[name] for tally in tallies]
+        counts = [len(tally.names[name]) for tally in tallies]
         if any(counts):
-            yield f"| {name}: {words} | " + " | ".join(str(count or "") for count in counts) + " |"
+            yield f"| **{name}**: {words} | " + " | ".join(str(count or "") for count in counts) + " |"
+
+
+def name_table(tallies):
+    """Which networks differ, but for those with one source: they are told as they are compared."""
+    yield "| Earliest difference | Networks |"
+    yield "|---|---|"
+    for tally in tallies:
+        if tally.name != ALONE:
+            for why in reasons.REASONS:
+                if tally.names[why]:
+                    names = ", ".join(name.removesuffix(".toml") for name in tally.names[why])
+                    yield f"| {why}, *{tally.name}* | {names} |"
+
+
+def tables(tallies):
+    """The tables of what was compared, as lines."""
+    yield from set_table(tallies)
+    if any(tally.equal < tally.topologies for tally in tallies):
+        yield ""
+        yield from reason_table(tallies)
+        yield ""
+        yield from name_table(tallies)
 
 
 def every(paths):
