@@ -1,14 +1,16 @@
 # `make help` lists the targets.
 
-.PHONY: all help try run bench cases run-cases check-docs check-frames check-links check-network check-pcap cut-connections deep tutorial trust words test gate-times install uninstall clean toolchain
+.PHONY: all help try run bench compare cases run-cases check-docs check-frames check-links check-network check-pcap cut-connections deep tutorial trust words test gate-times install uninstall clean toolchain
 
 # The topology and the interface of `make try` and `make run`; the folder of `make cases`; how many jobs `make` proves with; which steps of `make deep`;
-# where `make install` puts the program, its manual page and its completion for bash (DESTDIR stands before it, for who makes packages).
+# whether `make compare` writes the times of a busy host; where `make install` puts the program, its manual page and its completion for bash (DESTDIR stands
+# before it, for who makes packages).
 TOPO = examples/duo.toml
 IFACE =
 CASES =
 JOBS =
 STEPS =
+ANYWAY =
 PREFIX = /usr/local
 DESTDIR =
 
@@ -19,6 +21,7 @@ help:
 	@echo 'make try         runs the program before it is proved, in some 2 processor minutes: TOPO=FILE and IFACE=NAME choose what it shows'
 	@echo 'make run         builds it and shows a trace in hexadecimal; TOPO and IFACE as for make try'
 	@echo 'make bench       times it on generated topologies, and event lists and knowledge alone (docs/BENCH.md)'
+	@echo 'make compare     compares traces, speed and memory with ns-3 (docs/COMPARED.md); needs Debian'"'"'s ns3, libns3-dev and g++; ANYWAY=1: on a busy host too'
 	@echo 'make cases       compares it with cases of an independent model; CASES=FOLDER: with those of a folder'
 	@echo 'make run-cases   runs the partitions of many topologies at once, and compares each file with what one writes'
 	@echo 'make tutorial    runs the commands of docs/TUTORIAL.md, and compares what they print; make trust writes the list of docs/TRUST.md anew'
@@ -34,7 +37,7 @@ help:
 	@echo 'make gate-times  the gate, with the processor minutes of each crate (docs/GATE.md)'
 	@echo 'make install     puts bin/nullsim, its manual page and its completion for bash below PREFIX (/usr/local); make uninstall removes them'
 	@echo 'make clean       removes what was built'
-	@echo 'All need the Rattle toolchain (rt) on PATH and python3, check-pcap and check-network python3 of 3.11 or later; none needs a network.'
+	@echo 'All need the Rattle toolchain (rt) on PATH and python3; check-network, check-pcap and compare python3 of 3.11 or later; none needs a network.'
 
 toolchain:
 	@command -v rt >/dev/null 2>&1 || { echo "nullsim: the Rattle toolchain is missing: put its command rt on PATH" >&2; exit 1; }
@@ -90,6 +93,9 @@ bench: bin/nullsim bin/nm_bench
 	done
 	@python3 bench/nodes.py bin/nullsim nulls=1000 nulls=10000 one-way=10000 one-way=100000
 	@python3 bench/runs.py bin/nullsim grid-cut=4:1x1,2x1,4x1,2x2 grid-cut=16:1x1,2x1,4x1,2x2 line-cut=4:1x1,2x1,2x2 line-cut=16:2x1 nulls=1000 ring-cut=64:2x1
+
+compare: bin/nullsim
+	@tools/compare $(if $(ANYWAY),--anyway)
 
 cases: bin/nullsim
 	@tools/cases.sh bin/nullsim $(if $(CASES),'$(CASES)',crates/nullsim_cases/data/cases/networks crates/nullsim_cases/data/cases/readings)
