@@ -1,0 +1,68 @@
+"""Where the processes and the proxy listen: over loopback, or in network namespaces."""
+
+import socket
+
+import spaces
+
+
+class Loopback:
+    """All at 127.0.0.1, at free ports."""
+    title = "over loopback"
+    proxy_host = "127.0.0.1"
+
+    def __init__(self, keys):
+        self.ports = {}
+        held = [socket.create_server((self.proxy_host, 0)) for _ in keys]
+        for key, door in zip(keys, held):
+            self.ports[key] = door.getsockname()[1]
+            door.close()
+
+    def address(self, key):
+        return self.proxy_host, self.ports[key]
+
+    def entrance(self, key):
+        """What a child does to be in its network."""
+        return None
+
+    def resent_segments(self, processes):
+        return None
+
+    def close(self):
+        pass
+
+
+class Namespaces:
+    """Each process in a network namespace, and the proxy in that of the bridge."""
+    proxy_host = spaces.SWITCH
+    PORT = 7000
+
+    def __init__(self, keys, has_netem):
+        self.title = "over network namespaces" + (", 5 ms and 2 % loss a link end" if has_netem else " without netem")
+        self.spaces = spaces.Spaces(keys, has_netem)
+        try:
+            self.spaces.make()
+        except (spaces.Refused, OSError):
+            self.spaces.close()
+            raise
+
+    def address(self, key):
+        return self.spaces.address(key), self.PORT
+
+    def entrance(self, key):
+        name = self.spaces.name(key)
+        return lambda: spaces.enter(name)
+
+    def resent_segments(self, processes):
+        """How many TCP segments the systems of all processes sent again, as far as they still run."""
+        total = 0
+        for process in processes:
+            try:
+                with open(f"/proc/{process.child.pid}/net/snmp", encoding="ascii") as file:
+                    names, values = [line.split() for line in file if line.startswith("Tcp:")]
+                total += int(values[names.index("RetransSegs")])
+            except (OSError, ValueError):
+                pass
+        return total
+
+    def close(self):
+        self.spaces.close()
