@@ -2,14 +2,15 @@
 
 import asyncio
 import random
+import time
 from collections import deque
 
 from frames import BYE, Frames
 
 # A piece is held back so many seconds: the least, and what chance adds.
 HELD_LEAST, HELD_MORE = 0.025, 0.035
-# A connection is cut after so many octets of both directions: the least, and what chance adds.
-CUT_LEAST, CUT_MORE = 60, 60_000
+# A connection is cut within so many seconds: at a random octet of the piece that is handed on then.
+CUT_SECONDS = 1.8
 # One piece of so many is trickled: at most so many octets at a time, with so long a pause, so many times; then comes the rest.
 TRICKLED_ONE_OF, TRICKLE_OCTETS, TRICKLE_PAUSE, TRICKLE_TIMES = 16, 24, 0.001, 20
 PIECE = 65_536
@@ -35,11 +36,11 @@ class Connection:
 
     def __init__(self, ways, chance, counts):
         self.ways, self.chance, self.counts = ways, chance, counts
-        self.left = CUT_LEAST + chance.randrange(CUT_MORE)
+        self.cut_at = time.monotonic() + chance.random() * CUT_SECONDS
 
-    def may_be_cut(self):
-        """Not once a Bye came: who has taken it may have ended, and would not answer another call."""
-        return not any(way.has_bye for way in self.ways)
+    def is_to_be_cut(self):
+        """Whether its time has come; never once a Bye came: who has taken it may have ended, and would not answer another call."""
+        return time.monotonic() >= self.cut_at and not any(way.has_bye for way in self.ways)
 
     async def hear(self, way):
         """Reads what a sender says, and notes when it is to be handed on."""
@@ -77,16 +78,16 @@ class Connection:
         return octets
 
     async def hand_on(self, way, octets):
-        """Hands on octets, up to the one where the connection is cut."""
-        if self.may_be_cut():
-            octets = octets[:self.left]
-            self.left -= len(octets)
+        """Hands on octets; where the time has come, up to a random one, and the connection is cut there."""
+        is_cut = self.is_to_be_cut()
+        if is_cut:
+            octets = octets[:self.chance.randrange(len(octets) + 1)]
         way.writer.write(octets)
         way.handed += len(octets)
         while way.whole and way.whole[0].end <= way.handed:
             self.counts.note_handed(way.whole.popleft(), way.receiver)
         await way.writer.drain()
-        if self.left == 0 and self.may_be_cut():
+        if is_cut:
             raise Cut
 
     async def carry(self):
