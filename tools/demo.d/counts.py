@@ -13,7 +13,8 @@ class Counts:
         self.nulls = Counter()
         self.again = Counter()
         self.broken = Counter()
-        self.hellos = self.connections = self.cuts = self.trickles = 0
+        self.hellos = Counter()
+        self.cuts = 0
         self.faults = []
         # The numbers of the messages that a sender began to send to a receiver on a channel.
         self.sent = defaultdict(set)
@@ -32,7 +33,7 @@ class Counts:
         elif frame.kind == frames.NULL:
             self.nulls[sender] += 1
         elif frame.kind == frames.HELLO:
-            self.hellos += 1
+            self.hellos[sender] += 1
 
     def note_handed(self, frame, receiver):
         """A frame was handed to its receiver to its last octet."""

@@ -8,6 +8,7 @@ import spaces
 class Loopback:
     """All at 127.0.0.1, at free ports."""
     title = "over loopback"
+    max_seconds = 60
     proxy_host = "127.0.0.1"
 
     def __init__(self, keys):
@@ -34,10 +35,12 @@ class Loopback:
 class Namespaces:
     """Each process in a network namespace, and the proxy in that of the bridge."""
     proxy_host = spaces.SWITCH
+    # What is lost is sent again after some tenths of a second.
+    max_seconds = 120
     PORT = 7000
 
     def __init__(self, keys, has_netem):
-        self.title = "over network namespaces" + (", 5 ms and 2 % loss a link end" if has_netem else " without netem")
+        self.title = "in namespaces, " + ("5 ms, 2 % lost" if has_netem else "no netem")
         self.spaces = spaces.Spaces(keys, has_netem)
         try:
             self.spaces.make()

@@ -65,4 +65,6 @@ class Process:
         if self.child.poll() is None:
             self.child.send_signal(signal.SIGKILL)
         self.child.wait()
-        os.close(self.terminal)
+        if self.terminal is not None:
+            os.close(self.terminal)
+        self.terminal = None

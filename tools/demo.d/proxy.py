@@ -69,7 +69,6 @@ class Connection:
 
     async def trickle(self, way, octets):
         """Hands on some octets at a time: what is left of them."""
-        self.counts.trickles += 1
         for _ in range(TRICKLE_TIMES):
             some = 1 + self.chance.randrange(TRICKLE_OCTETS)
             await self.hand_on(way, octets[:some])
@@ -116,13 +115,20 @@ class Proxy:
 
     def __init__(self, host, seed, counts):
         self.host, self.seed, self.counts = host, seed, counts
-        self.servers = []
+        self.servers, self.carriers = [], set()
         self.called = {}
 
     async def open(self, caller, answerer, address):
         """The port at which this caller reaches the process that answers at an address."""
         async def take(reader, writer):
-            await self.take((caller, answerer), address, reader, writer)
+            carrier = asyncio.current_task()
+            self.carriers.add(carrier)
+            try:
+                await self.take((caller, answerer), address, reader, writer)
+            except asyncio.CancelledError:
+                pass
+            finally:
+                self.carriers.discard(carrier)
         server = await asyncio.start_server(take, self.host, 0)
         self.servers.append(server)
         return server.sockets[0].getsockname()[1]
@@ -133,7 +139,6 @@ class Proxy:
         far = None
         try:
             far_reader, far = await asyncio.open_connection(*address)
-            self.counts.connections += 1
             ways = [Way(*pair, reader, far), Way(*reversed(pair), far_reader, writer)]
             if not await Connection(ways, random.Random(f"{self.seed} {pair} {number}"), self.counts).carry():
                 self.counts.broken[pair] += 1
@@ -144,8 +149,13 @@ class Proxy:
         finally:
             for end in (writer, far):
                 if end is not None:
-                    end.transport.abort() if self.counts.connections % 2 else end.close()
+                    end.transport.abort() if number % 2 else end.close()
 
-    def close(self):
+    async def close(self):
+        """Ends all connections."""
         for server in self.servers:
             server.close()
+        carriers = list(self.carriers)
+        for carrier in carriers:
+            carrier.cancel()
+        await asyncio.gather(*carriers, return_exceptions=True)

@@ -9,7 +9,6 @@ from counts import Counts
 from processes import Process, bound
 from proxy import Proxy
 
-MAX_SECONDS = 60
 KILLED = (1, 0)
 KILLED_AT_SHARE = 33
 AWAY_SECONDS = 1.0
@@ -49,7 +48,7 @@ class Run:
     def __init__(self, program, network, places, seed, folder):
         self.program, self.network, self.places, self.folder = program, network, places, folder
         self.names = network.names
-        self.title = f"nullsim, a campus in {len(self.names)} partitions, 2 replicas each: {len(network.keys())} processes {places.title}"
+        self.title = f"a campus in {len(self.names)} partitions, 2 replicas each: {len(network.keys())} processes {places.title}"
         self.counts = Counts()
         self.proxy = Proxy(places.proxy_host, seed, self.counts)
         self.processes, self.away, self.said = {}, {}, []
@@ -115,8 +114,8 @@ class Run:
 
     async def until_all_ended(self, view):
         while not self.look():
-            if self.seconds() > MAX_SECONDS:
-                raise Failed(f"not all processes ended within {MAX_SECONDS} s")
+            if self.seconds() > self.places.max_seconds:
+                raise Failed(f"not all processes ended within {self.places.max_seconds} s")
             self.kill_and_begin_anew()
             resent = self.places.resent_segments(self.processes.values())
             self.resent = resent if not self.resent else max(resent, self.resent)
@@ -170,8 +169,8 @@ class Run:
     def last_lines(self, files, least):
         counts = self.counts
         anew = sum(process.times_begun - 1 for process in self.processes.values())
-        lines = [f"{len(self.processes)} processes ended with status 0; {anew} was killed and begun anew while all others ran",
-                 f"{counts.broken.total():,} connections broken, each of the {len(self.network.pairs())} pairs' at least {least} times",
+        lines = [f"{len(self.processes)} processes ended with status 0; {anew} was killed and begun anew in the midst",
+                 f"{counts.broken.total():,} connections broken, {counts.cuts:,} of them cut; each of {len(self.network.pairs())} at least {least} times",
                  f"{counts.packets.total():,} messages carried, {counts.again.total():,} of them sent again, {counts.lost()} lost"]
         if self.resent is not None:
             lines.append(f"{self.resent:,} TCP segments sent again by the systems of the {len(self.processes)} namespaces")
@@ -190,7 +189,7 @@ class Run:
         finally:
             wanted.cancel()
             await asyncio.gather(wanted, return_exceptions=True)
-            self.proxy.close()
+            await self.proxy.close()
             for process in self.processes.values():
                 process.kill()
         self.say("")

@@ -1,10 +1,12 @@
 """The screen: one line a partition, and what happened; live in a terminal, or a line now and then."""
 
+import shutil
 import sys
 import time
 
-WIDTH = 100
-BAR = 14
+BAR = 8
+NUMBERS = ("packets", "nulls", "hellos", "broken", "again")
+COLUMN = 7
 REFRESH_SECONDS = {True: 0.2, False: 2.0}
 COLOURS = {"": "", "bold": "\033[1m", "dim": "\033[2m", "good": "\033[32m", "bad": "\033[31m", "bar": "\033[36m"}
 PLAIN = "\033[0m"
@@ -23,15 +25,15 @@ def partition_line(name, partition, processes, away, counts):
     line = [(f"{partition} {name:<9}", "bold")]
     for process in processes:
         line += [*bar(process, process.key in away), ("  ", "")]
-    numbers = [counts.of_partition(counts.packets, partition), counts.of_partition(counts.nulls, partition),
-               counts.broken_of(partition), counts.of_partition(counts.again, partition)]
-    return line + [("".join(f"{number:>10,}" for number in numbers), "")]
+    numbers = [counts.of_partition(counter, partition) for counter in (counts.packets, counts.nulls, counts.hellos)]
+    numbers += [counts.broken_of(partition), counts.of_partition(counts.again, partition)]
+    return line + [("".join(f"{number:>{COLUMN},}" for number in numbers), "")]
 
 
 def screen(run, seconds):
     """All lines: each a list of pieces of text with their styles."""
     head = f"{run.title}; {seconds:.0f} s"
-    table = f"{'partition':<11}{'replica 0':<{BAR + 8}}{'replica 1':<{BAR + 8}}{'packets':>10}{'nulls':>10}{'broken':>10}{'again':>10}"
+    table = f"{'partition':<11}{'replica 0':<{BAR + 8}}{'replica 1':<{BAR + 8}}" + "".join(f"{name:>{COLUMN}}" for name in NUMBERS)
     lines = [[(head, "bold")], [], [(table, "dim")]]
     for partition, name in enumerate(run.names):
         processes = [run.processes[partition, replica] for replica in (0, 1)]
@@ -39,8 +41,13 @@ def screen(run, seconds):
     return lines + [[]] + [[(text, style)] for text, style in run.said]
 
 
-def coloured(line):
-    return "".join(f"{COLOURS[style]}{text}{PLAIN}" if style else text for text, style in line)
+def coloured(line, width):
+    """A line with its colours, no longer than the terminal is wide."""
+    made = ""
+    for text, style in line:
+        text, width = text[:width], width - len(text[:width])
+        made += f"{COLOURS[style]}{text}{PLAIN}" if style else text
+    return made
 
 
 class View:
@@ -62,7 +69,8 @@ class View:
 
     def show_live(self):
         up = f"\033[{self.height}A" if self.height else "\033[?25l"
-        sys.stdout.write(up + "".join(coloured(line) + "\033[K\n" for line in self.lines))
+        width = shutil.get_terminal_size().columns
+        sys.stdout.write(up + "".join(coloured(line, width) + "\033[K\n" for line in self.lines))
         sys.stdout.flush()
         self.height = len(self.lines)
 
