@@ -1,6 +1,6 @@
 # `make help` lists the targets.
 
-.PHONY: all help try run bench compare cases run-cases check-docs check-frames check-links check-network check-pcap cut-connections deep tutorial trust words test gate-times install uninstall clean toolchain
+.PHONY: all help try run bench compare cases run-cases check-docs check-frames check-links check-network check-pcap cut-connections deep demo tutorial trust words test gate-times install uninstall clean toolchain
 
 # The topology and the interface of `make try` and `make run`; the folder of `make cases`; how many jobs `make` proves with; which steps of `make deep`;
 # whether `make compare` writes the times of a busy host; where `make install` puts the program, its manual page and its completion for bash (DESTDIR stands
@@ -31,13 +31,14 @@ help:
 	@echo 'make check-network runs the tests of tools/network, which wants networkx, METIS and Graphviz (docs/NETWORKS.md); a test passed over is no pass'
 	@echo 'make check-pcap  reads the traces of the examples with tshark, or else tcpdump, one of which it needs'
 	@echo 'make cut-connections cuts the connection of two nodes a thousand times, and compares their files with those of the one event list'
+	@echo 'make demo        eight processes whose connections are cut again and again, one of which is killed and begun anew; half a minute'
 	@echo 'make deep        all that is too long for the gate: refused memory, frames, links, connections, networks, runs and planted bugs; STEPS=WORD: some of it'
 	@echo 'make words       lists names that two crates define, one of which sees the other; the gate refuses a new one'
 	@echo 'make test        the gate: proves everything from nothing and runs every test; the last line is N passed, M failed'
 	@echo 'make gate-times  the gate, with the processor minutes of each crate (docs/GATE.md)'
 	@echo 'make install     puts bin/nullsim, its manual page and its completion for bash below PREFIX (/usr/local); make uninstall removes them'
 	@echo 'make clean       removes what was built'
-	@echo 'All need the Rattle toolchain (rt) on PATH and python3; check-network, check-pcap and compare python3 of 3.11 or later; none needs a network.'
+	@echo 'All need the Rattle toolchain (rt) on PATH and python3; check-network, check-pcap, compare and demo python3 of 3.11 or later; none needs a network.'
 
 toolchain:
 	@command -v rt >/dev/null 2>&1 || { echo "nullsim: the Rattle toolchain is missing: put its command rt on PATH" >&2; exit 1; }
@@ -129,6 +130,9 @@ check-pcap: bin/nullsim
 
 cut-connections: bin/nullsim
 	@tools/cut-connections
+
+demo: bin/nullsim
+	@tools/demo
 
 deep: bin/nullsim bin/nm_bench
 	@tools/deep $(STEPS)

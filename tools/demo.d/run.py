@@ -115,7 +115,8 @@ class Run:
     async def until_all_ended(self, view):
         while not self.look():
             if self.seconds() > self.places.max_seconds:
-                raise Failed(f"not all processes ended within {self.places.max_seconds} s")
+                left = "; ".join(f"{self.name(key)} at {process.share} %" for key, process in self.processes.items() if process.status() is None)
+                raise Failed(f"after {self.places.max_seconds} s these had not ended: {left}")
             self.kill_and_begin_anew()
             resent = self.places.resent_segments(self.processes.values())
             self.resent = resent if not self.resent else max(resent, self.resent)
@@ -170,7 +171,7 @@ class Run:
         counts = self.counts
         anew = sum(process.times_begun - 1 for process in self.processes.values())
         lines = [f"{len(self.processes)} processes ended with status 0; {anew} was killed and begun anew in the midst",
-                 f"{counts.broken.total():,} connections broken, {counts.cuts:,} of them cut; each of {len(self.network.pairs())} at least {least} times",
+                 f"{counts.broken.total():,} connections broken, {counts.cuts:,} of them cut; each of the {len(self.network.pairs())} at least {least} times",
                  f"{counts.packets.total():,} messages carried, {counts.again.total():,} of them sent again, {counts.lost()} lost"]
         if self.resent is not None:
             lines.append(f"{self.resent:,} TCP segments sent again by the systems of the {len(self.processes)} namespaces")
