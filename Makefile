@@ -1,6 +1,6 @@
 # `make help` lists the targets.
 
-.PHONY: all help try run bench compare cases run-cases check-docs check-frames check-links check-network check-pcap cut-connections deep demo tutorial trust words test gate-times install uninstall clean toolchain
+.PHONY: all help try run bench compare cases run-cases check-docs check-edge check-frames check-links check-network check-pcap cut-connections deep demo tutorial trust words test gate-times install uninstall clean toolchain
 
 # The topology and the interface of `make try` and `make run`; the folder of `make cases`; how many jobs `make` proves with; which steps of `make deep`;
 # whether `make compare` writes the times of a busy host; where `make install` puts the program, its manual page and its completion for bash (DESTDIR stands
@@ -26,6 +26,7 @@ help:
 	@echo 'make run-cases   runs the partitions of many topologies at once, and compares each file with what one writes'
 	@echo 'make tutorial    runs the commands of docs/TUTORIAL.md, and compares what they print; make trust writes the list of docs/TRUST.md anew'
 	@echo 'make check-docs  checks that links and names in the documents are right, and runs the commands of README'
+	@echo 'make check-edge  checks the help, and what is said of faults on a terminal'
 	@echo 'make check-frames compares the reader of frames with a model of its own over generated streams'
 	@echo 'make check-links breaks the connections of replicas at random octets, with ten thousand seeds, and certifies what they come to'
 	@echo 'make check-network runs the tests of tools/network, which wants networkx, METIS and Graphviz (docs/NETWORKS.md); a test passed over is no pass'
@@ -112,6 +113,9 @@ trust:
 
 words:
 	@tools/words --all
+
+check-edge: bin/nullsim
+	@tools/check-edge
 
 check-docs: bin/nullsim
 	@tools/check-docs

@@ -2,6 +2,7 @@
 
 ghost use Rattle.std.specs.Prelude.{None};
 
+use crate::noted::Noted;
 use nm_base::StdSink;
 use nm_files::Outputs;
 use nm_program::Inputs;
@@ -13,6 +14,7 @@ use std::{fs, io};
 #[derive(Drop)]
 pub struct HostInputs<'a> {
     pub runtime: &'a HostRuntime,
+    pub noted: &'a Noted,
 }
 
 impl<'a> Inputs for HostInputs<'a> {
@@ -29,7 +31,11 @@ impl<'a> Inputs for HostInputs<'a> {
     }
 
     fn open(&self, name: &str) -> io::Result<File> {
-        fs::open(self.runtime, name)
+        let file = fs::open(self.runtime, name);
+        if let Err(error) = &file {
+            self.noted.file(self.runtime.alloc(), name, error);
+        }
+        file
     }
 }
 
@@ -37,6 +43,7 @@ impl<'a> Inputs for HostInputs<'a> {
 #[derive(Drop)]
 pub struct HostOutputs<'a> {
     pub runtime: &'a HostRuntime,
+    pub noted: &'a Noted,
 }
 
 impl<'a> Outputs for HostOutputs<'a> {
@@ -45,9 +52,16 @@ impl<'a> Outputs for HostOutputs<'a> {
     ghost made = { λ _. None };
 
     fn create(&mut self, name: &str) -> Option<StdSink<BufWriter<File>>> {
-        let file = fs::create(self.runtime, name).ok()?;
-        let writer = BufWriter::new(self.runtime.alloc(), file).ok()?;
-        Some(StdSink::new(writer))
+        match fs::create(self.runtime, name) {
+            Ok(file) => {
+                let writer = BufWriter::new(self.runtime.alloc(), file).ok()?;
+                Some(StdSink::new(writer))
+            }
+            Err(error) => {
+                self.noted.file(self.runtime.alloc(), name, &error);
+                None
+            }
+        }
     }
 
     fn close(&mut self, _name: &str, file: StdSink<BufWriter<File>>) -> bool {

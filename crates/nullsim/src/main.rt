@@ -3,17 +3,23 @@
 //! This is its edge: the words, the files and the exit status. All else is `nm_program::run`.
 #![tactic(auto)]
 
+mod help;
+mod hints;
 mod host;
+mod noted;
 mod watching;
 
+use help::{HELP, asked};
+use hints::say_more;
 use host::{HostInputs, HostOutputs};
 use nm_base::sink::write_all;
 use nm_base::{MemSink, Sink, StdSink};
 use nm_command::Status;
 use nm_program::{NamedInputs, conclude, report, run};
 use nm_progress::Progress;
+use noted::{Noted, Watched};
 use std::env::Env;
-use std::io::{BufWriter, ErrorKind, IsTerminal, Stderr};
+use std::io::{BufWriter, ErrorKind, IsTerminal, Stderr, Write};
 use std::net::Net;
 use std::process::ExitCode;
 use std::sync::Wait;
@@ -22,8 +28,8 @@ use std::time::Clock;
 use std::{env, io, net, thread};
 use watching::{Over, watch};
 
-/// The octets of the lines that are said of errors, at most: two of them.
-const MAX_ERROR_OCTETS: usize = 1_024;
+/// The octets of the lines that are said of errors, at most.
+const MAX_ERROR_OCTETS: usize = 8_192;
 
 /// The words after the program's name.
 fn words<R: Env + Alloc>(rt: &R) -> io::Result<Vec<String<R::A>, R::A>> {
@@ -34,13 +40,49 @@ fn words<R: Env + Alloc>(rt: &R) -> io::Result<Vec<String<R::A>, R::A>> {
     Ok(words)
 }
 
-/// The program over the host's files and network, up to its exit status.
+/// How the program ended, and whether nothing is said of it: nobody reads its output any more.
+#[derive(Clone, Copy)]
+struct Ended {
+    status: Status,
+    is_silent: bool,
+}
+
+/// The program over the host's files and network, up to its exit status. On a terminal more is said
+/// of a fault.
 fn perform<N, E: Sink>(
     rt: &HostRuntime,
     network: &N,
     words: &[String],
     errors: &mut E,
     progress: &Progress,
+) -> Ended
+where
+    N: Net<Stream = net::TcpStream, Listener = net::TcpListener>
+        + Threads
+        + Wait
+        + Sync
+        + Drop
+        + Copy,
+{
+    let noted = Noted::new();
+    let status = perform_noted(rt, network, words, errors, progress, &noted);
+    if rt.stderr().is_terminal() {
+        say_more(status, &noted, errors);
+    }
+    Ended {
+        status,
+        is_silent: status == Status::File && noted.is_closed(),
+    }
+}
+
+/// As `perform`, and notes what went wrong at the system.
+fn perform_noted<N, E: Sink>(
+    rt: &HostRuntime,
+    network: &N,
+    words: &[String],
+    errors: &mut E,
+    progress: &Progress,
+    noted: &Noted,
 ) -> Status
 where
     N: Net<Stream = net::TcpStream, Listener = net::TcpListener>
@@ -50,11 +92,12 @@ where
         + Drop
         + Copy,
 {
-    let Ok(writer) = BufWriter::new(rt.alloc(), rt.stdout()) else {
+    let writer = rt.stdout();
+    let Ok(writer) = BufWriter::new(rt.alloc(), Watched { writer, noted }) else {
         return report(Status::Memory, errors);
     };
-    let mut inputs = NamedInputs::new(HostInputs { runtime: rt });
-    let mut outputs = HostOutputs { runtime: rt };
+    let mut inputs = NamedInputs::new(HostInputs { runtime: rt, noted });
+    let mut outputs = HostOutputs { runtime: rt, noted };
     let (status, mut out) = run(
         network,
         rt.alloc(),
@@ -68,15 +111,8 @@ where
     conclude(status, out.flush().is_ok(), errors)
 }
 
-/// As `perform`, while a line on the terminal says how far it is. What is said of errors follows
-/// when the line is gone.
-fn perform_watched<N>(
-    rt: &HostRuntime,
-    network: &N,
-    words: &[String],
-    said: &mut MemSink,
-    terminal: &mut StdSink<Stderr>,
-) -> Status
+/// As `perform`, while a line on the terminal says how far it is.
+fn perform_watched<N>(rt: &HostRuntime, network: &N, words: &[String], said: &mut MemSink) -> Ended
 where
     N: Net<Stream = net::TcpStream, Listener = net::TcpListener>
         + Threads
@@ -87,17 +123,62 @@ where
         + Copy,
 {
     let (progress, over) = (Progress::new(), Over::new());
-    let (_, status) = thread::join(
+    let (_, ended) = thread::join(
         network,
         || watch(network, rt.alloc(), &progress, &over, &mut rt.stderr()),
         || {
-            let status = perform(rt, network, words, said, &progress);
+            let ended = perform(rt, network, words, said, &progress);
             over.tell(network);
-            status
+            ended
         },
     );
-    let _ = write_all(terminal, said.octets());
-    status
+    ended
+}
+
+/// As `perform`. What is said of errors follows at the end, when a line on the terminal is gone; it
+/// does not where nobody reads the output any more.
+fn perform_quietly<N>(
+    rt: &HostRuntime,
+    network: &N,
+    words: &[String],
+    said: &mut MemSink,
+    errors: &mut StdSink<Stderr>,
+) -> Status
+where
+    N: Net<Stream = net::TcpStream, Listener = net::TcpListener>
+        + Threads
+        + Wait
+        + Clock
+        + Sync
+        + Drop
+        + Copy,
+{
+    let ended = if rt.stderr().is_terminal() {
+        perform_watched(rt, network, words, said)
+    } else {
+        perform(rt, network, words, said, &Progress::new())
+    };
+    if !ended.is_silent {
+        let _ = write_all(errors, said.octets());
+    }
+    ended.status
+}
+
+/// Says something of the program itself.
+fn say(rt: &HostRuntime, text: &str) -> Status {
+    match rt.stdout().write_all(text.as_bytes()) {
+        Ok(()) => Status::Done,
+        Err(_) => Status::File,
+    }
+}
+
+/// What the program says of itself: where it is asked to, and where there are no words and nobody
+/// but a terminal gives a topology.
+fn said_of_itself(rt: &HostRuntime, words: &[String]) -> Option<&'static str> {
+    if words.is_empty() && rt.reader().is_terminal() {
+        return Some(HELP);
+    }
+    asked(words)
 }
 
 /// The program, up to its exit status. `network` is the runtime too, with what `main` alone may hand
@@ -121,12 +202,13 @@ where
         // a word that is not UTF-8
         Err(_) => return report(Status::Usage, &mut errors),
     };
-    if rt.stderr().is_terminal() {
-        if let Ok(mut said) = MemSink::new(rt.alloc(), MAX_ERROR_OCTETS) {
-            return perform_watched(rt, network, words.as_slice(), &mut said, &mut errors);
-        }
+    if let Some(text) = said_of_itself(rt, words.as_slice()) {
+        return say(rt, text);
     }
-    perform(rt, network, words.as_slice(), &mut errors, &Progress::new())
+    match MemSink::new(rt.alloc(), MAX_ERROR_OCTETS) {
+        Ok(mut said) => perform_quietly(rt, network, words.as_slice(), &mut said, &mut errors),
+        Err(_) => report(Status::Memory, &mut errors),
+    }
 }
 
 fn main(rt: HostRuntime) -> ExitCode {

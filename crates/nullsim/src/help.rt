@@ -1,0 +1,99 @@
+//! What the program says of itself.
+
+/// All words.
+pub const HELP: &str = "\
+nullsim simulates an IPv4 network; its traces are proved to be those of one event list.
+
+  nullsim one TOPO [IFACE]        the trace of an interface as a pcap file; onehex: in hexadecimal
+  nullsim check TOPO              what is in a topology, or where its first mistake is
+  nullsim report TOPO [csv]       drops, queues, use and delays as tables
+  nullsim text TOPO IFACE         the packets of an interface, a line each
+  nullsim dot TOPO [load]         the network as a graph for Graphviz, coloured by use
+  nullsim run TOPO DIR WORKERS REPLICAS
+                                  all partitions at once, certified, with their trace files in DIR
+  nullsim node TOPO DIR PARTITION REPLICA ADDRESSES
+                                  one replica of a partition as a process of its own
+  nullsim rounds TOPO MAX         all partitions in at most MAX rounds
+  nullsim script TOPO STEPS       what replicas do step by step
+  nullsim help [WORD]             this, or more of a word
+
+TOPO is a file, or - for standard input. The manual page is nullsim(1).
+";
+
+/// More of each word.
+const MORE: &[(&str, &str)] = &[
+    (
+        "one",
+        "nullsim one TOPO [IFACE]\nWrites the trace of an interface, or of the first one, to standard output: a pcap file with nanosecond times\nand link type raw IP, for tcpdump, tshark or Wireshark.\n",
+    ),
+    (
+        "onehex",
+        "nullsim onehex TOPO [IFACE]\nWrites the trace file of an interface in hexadecimal and a line feed. No words at all are: onehex -\n",
+    ),
+    (
+        "check",
+        "nullsim check TOPO\nPrints how much there is in a topology, and what may be a mistake. Where it is refused: status 3, and where the\nfirst mistake is.\n",
+    ),
+    (
+        "report",
+        "nullsim report TOPO [csv]\nRuns the network and prints what nodes counted, what interfaces carried and dropped, and what became of the\npackets of each source. csv: as comma-separated values.\n",
+    ),
+    (
+        "text",
+        "nullsim text TOPO IFACE\nPrints a line for each packet of an interface, in the manner of tcpdump. Times are nanoseconds.\n",
+    ),
+    (
+        "dot",
+        "nullsim dot TOPO [load]\nPrints the network as a graph: nullsim dot TOPO load | dot -Tsvg > network.svg. load: coloured by use.\n",
+    ),
+    (
+        "run",
+        "nullsim run TOPO DIR WORKERS REPLICAS\nSimulates all partitions at once, 1 or 2 REPLICAS of each; 1 to 64 WORKERS do events at the same time. Writes\nDIR/NAME.pcap for each interface, and prints certified where all came to the trace of the one event list.\n",
+    ),
+    (
+        "node",
+        "nullsim node TOPO DIR PARTITION REPLICA ADDRESSES\nRuns one replica (0 or 1) of a partition as a process. ADDRESSES is a file with a line P R A.B.C.D:PORT for each\nreplica. It certifies nothing.\n",
+    ),
+    (
+        "rounds",
+        "nullsim rounds TOPO MAX\nSimulates all partitions in at most MAX rounds, one after another, and prints a line for each interface.\n",
+    ),
+    (
+        "script",
+        "nullsim script TOPO STEPS\nDoes what the lines of the file STEPS say: runs, lost and repeated frames, merges, restarts.\n",
+    ),
+];
+
+/// The version: what the program reads.
+const VERSION: &str = "nullsim: topologies of formats 1 and 2, sessions of versions 1 and 2\n";
+
+/// More of a word, if there is such a word.
+fn more_of(word: &str) -> Option<&'static str> {
+    for (name, text) in MORE {
+        if *name == word {
+            return Some(*text);
+        }
+    }
+    None
+}
+
+/// Whether a word asks for help.
+fn asks(word: &str) -> bool {
+    ["help", "--help", "-h"].contains(&word)
+}
+
+/// What these words ask the program to say of itself, if they do.
+pub fn asked(words: &[String]) -> Option<&'static str> {
+    let first = words.first()?;
+    if words.len() == 1 && first.as_str() == "--version" {
+        return Some(VERSION);
+    }
+    if !asks(first.as_str()) {
+        return None;
+    }
+    match words.get(1) {
+        None => Some(HELP),
+        Some(word) if words.len() == 2 => more_of(word.as_str()),
+        Some(_) => None,
+    }
+}

@@ -1,0 +1,65 @@
+//! What went wrong at the system, for a further line on a terminal.
+
+use std::alloc::{AllocError, Global};
+use std::cell::Cell;
+use std::io::{self, ErrorKind, Write};
+
+/// The file that failed last and why, and whether standard output was closed at its other end.
+#[derive(Drop)]
+pub struct Noted {
+    file: Cell<Option<String>>,
+    is_closed: Cell<bool>,
+}
+
+/// What is said of a file.
+fn text_of(alloc: Global, name: &str, error: &io::Error) -> Result<String, AllocError> {
+    format!(in alloc; "{name}: {error}")
+}
+
+impl Noted {
+    /// Nothing.
+    pub fn new() -> Self {
+        Noted {
+            file: Cell::new(None),
+            is_closed: Cell::new(false),
+        }
+    }
+
+    /// Notes that a file failed. Where memory is refused nothing is noted.
+    pub fn file(&self, alloc: Global, name: &str, error: &io::Error) {
+        self.file.set(text_of(alloc, name, error).ok());
+    }
+
+    /// What was noted of a file.
+    pub fn take_file(&self) -> Option<String> {
+        self.file.take()
+    }
+
+    /// Whether nobody reads standard output any more.
+    pub fn is_closed(&self) -> bool {
+        self.is_closed.get()
+    }
+}
+
+/// A writer that notes that its other end was closed, as by `head`.
+#[derive(Drop)]
+pub struct Watched<'a, W> {
+    pub writer: W,
+    pub noted: &'a Noted,
+}
+
+impl<'a, W: Write> Write for Watched<'a, W> {
+    fn write(&mut self, octets: &[u8]) -> io::Result<usize> {
+        let answer = self.writer.write(octets);
+        if let Err(error) = &answer {
+            if error.kind() == ErrorKind::BrokenPipe {
+                self.noted.is_closed.set(true);
+            }
+        }
+        answer
+    }
+
+    fn flush(&mut self) -> io::Result<()> {
+        self.writer.flush()
+    }
+}
