@@ -4,7 +4,7 @@
 pub const HELP: &str = "\
 nullsim simulates an IPv4 network; its traces are proved to be those of one event list.
 
-  nullsim one TOPO [IFACE]        the trace of an interface as a pcap file; onehex: in hexadecimal
+  nullsim one TOPO [IFACE]        the trace of an interface as a pcap file; onehex: hexadecimal
   nullsim check TOPO              what is in a topology, or where its first mistake is
   nullsim report TOPO [csv]       drops, queues, use and delays as tables
   nullsim text TOPO IFACE         the packets of an interface, a line each
@@ -24,43 +24,84 @@ TOPO is a file, or - for standard input. The manual page is nullsim(1).
 const MORE: &[(&str, &str)] = &[
     (
         "one",
-        "nullsim one TOPO [IFACE]\nWrites the trace of an interface, or of the first one, to standard output: a pcap file with nanosecond times\nand link type raw IP, for tcpdump, tshark or Wireshark.\n",
+        "\
+nullsim one TOPO [IFACE]
+Writes the trace of an interface, or of the first one, to standard output: a pcap file
+with nanosecond times and link type raw IP, for tcpdump, tshark or Wireshark.
+",
     ),
     (
         "onehex",
-        "nullsim onehex TOPO [IFACE]\nWrites the trace file of an interface in hexadecimal and a line feed. No words at all are: onehex -\n",
+        "\
+nullsim onehex TOPO [IFACE]
+Writes the trace file of an interface in hexadecimal and a line feed. No words at all
+are: onehex -
+",
     ),
     (
         "check",
-        "nullsim check TOPO\nPrints how much there is in a topology, and what may be a mistake. Where it is refused: status 3, and where the\nfirst mistake is.\n",
+        "\
+nullsim check TOPO
+Prints how much there is in a topology, and what may be a mistake. Where it is refused:
+status 3, and where the first mistake is.
+",
     ),
     (
         "report",
-        "nullsim report TOPO [csv]\nRuns the network and prints what nodes counted, what interfaces carried and dropped, and what became of the\npackets of each source. csv: as comma-separated values.\n",
+        "\
+nullsim report TOPO [csv]
+Runs the network and prints what nodes counted, what interfaces carried and dropped, and
+what became of the packets of each source. csv: as comma-separated values.
+",
     ),
     (
         "text",
-        "nullsim text TOPO IFACE\nPrints a line for each packet of an interface, in the manner of tcpdump. Times are nanoseconds.\n",
+        "\
+nullsim text TOPO IFACE
+Prints a line for each packet of an interface, in the manner of tcpdump. Times are
+nanoseconds.
+",
     ),
     (
         "dot",
-        "nullsim dot TOPO [load]\nPrints the network as a graph: nullsim dot TOPO load | dot -Tsvg > network.svg. load: coloured by use.\n",
+        "\
+nullsim dot TOPO [load]
+Prints the network as a graph: nullsim dot TOPO load | dot -Tsvg > network.svg. load:
+coloured by use.
+",
     ),
     (
         "run",
-        "nullsim run TOPO DIR WORKERS REPLICAS\nSimulates all partitions at once, 1 or 2 REPLICAS of each; 1 to 64 WORKERS do events at the same time. Writes\nDIR/NAME.pcap for each interface, and prints certified where all came to the trace of the one event list.\n",
+        "\
+nullsim run TOPO DIR WORKERS REPLICAS
+Simulates all partitions at once, 1 or 2 REPLICAS of each; 1 to 64 WORKERS do events at
+the same time. Writes DIR/NAME.pcap for each interface, and prints certified where all
+came to the trace of the one event list.
+",
     ),
     (
         "node",
-        "nullsim node TOPO DIR PARTITION REPLICA ADDRESSES\nRuns one replica (0 or 1) of a partition as a process. ADDRESSES is a file with a line P R A.B.C.D:PORT for each\nreplica. It certifies nothing.\n",
+        "\
+nullsim node TOPO DIR PARTITION REPLICA ADDRESSES
+Runs one replica (0 or 1) of a partition as a process. ADDRESSES is a file with a line P
+R A.B.C.D:PORT for each replica. It certifies nothing.
+",
     ),
     (
         "rounds",
-        "nullsim rounds TOPO MAX\nSimulates all partitions in at most MAX rounds, one after another, and prints a line for each interface.\n",
+        "\
+nullsim rounds TOPO MAX
+Simulates all partitions in at most MAX rounds, one after another, and prints a line for
+each interface.
+",
     ),
     (
         "script",
-        "nullsim script TOPO STEPS\nDoes what the lines of the file STEPS say: runs, lost and repeated frames, merges, restarts.\n",
+        "\
+nullsim script TOPO STEPS
+Does what the lines of the file STEPS say: runs, lost and repeated frames, merges,
+restarts.
+",
     ),
 ];
 

@@ -3,6 +3,9 @@
 //! This is its edge: the words, the files and the exit status. All else is `nm_program::run`.
 #![tactic(auto)]
 
+ghost use Rattle.std.specs.Prelude.{◌≡◌, ◌⊎◌, IfSome, None, length, map, string_bytes};
+ghost use Rattle.nm_command.specs.Command.{command_of};
+
 mod help;
 mod hints;
 mod host;
@@ -14,7 +17,7 @@ use hints::say_more;
 use host::{HostInputs, HostOutputs};
 use nm_base::sink::write_all;
 use nm_base::{MemSink, Sink, StdSink};
-use nm_command::Status;
+use nm_command::{Command, Status};
 use nm_program::{NamedInputs, conclude, report, run};
 use nm_progress::Progress;
 use noted::{Noted, Watched};
@@ -172,17 +175,27 @@ fn say(rt: &HostRuntime, text: &str) -> Status {
     }
 }
 
-/// What the program says of itself: where it is asked to, and where there are no words and nobody
-/// but a terminal gives a topology.
-fn said_of_itself(rt: &HostRuntime, words: &[String]) -> Option<&'static str> {
-    if words.is_empty() && rt.reader().is_terminal() {
-        return Some(HELP);
+/// What the program says of itself: where it is asked to by words that are no command, and where
+/// there are no words and nobody but a terminal gives a topology.
+fn said_of_itself(rt: &HostRuntime, words: &[String]) -> Option<&'static str>
+    ensures words { IfSome result (λ _. (length words.now ≡ 0)
+        ⊎ (command_of (map (λ w. string_bytes w) words.now) ≡ None)) }
+{
+    if words.is_empty() {
+        return if rt.reader().is_terminal() {
+            Some(HELP)
+        } else {
+            None
+        };
     }
-    asked(words)
+    match Command::of(words) {
+        Some(_) => None,
+        None => asked(words),
+    }
 }
 
-/// The program, up to its exit status. `network` is the runtime too, with what `main` alone may hand
-/// on: the network, and waiting.
+/// The program, up to its exit status. `network` is the runtime too, with what `main` alone may
+/// hand on: the network, and waiting.
 fn status<N>(rt: &HostRuntime, network: &N) -> Status
 where
     N: Net<Stream = net::TcpStream, Listener = net::TcpListener>

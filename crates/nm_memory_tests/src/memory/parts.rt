@@ -8,7 +8,7 @@ ghost use Rattle.nm_sim.specs.Part.{Represents};
 
 use crate::same::{eq_number, holds};
 use crate::split::{either, network};
-use nm_base::{Key, NodeNo, Time};
+use nm_base::{IfaceNo, Key, NodeNo, Time};
 use nm_events::SortedList;
 use nm_forward::Counter;
 use nm_sim::{Part, one_list};
@@ -18,10 +18,34 @@ use std::process::Abort;
 use std::test::Fail;
 
 /// What a refused step leaves as it was: the least time, how many events were done, how many
-/// records there are, and what was counted at the nodes and dropped at the first interface.
-fn seen(part: &Part<SortedList>) -> (Option<Time>, u64, usize, Option<u64>) {
-    let originated = part.counter(NodeNo::new(0), Counter::Originated);
-    (part.least(), part.steps(), part.trace().len(), originated)
+/// records there are, and the sums of what is counted at both nodes and dropped at both interfaces.
+#[derive(Clone, Copy, PartialEq, Eq)]
+struct Shown {
+    least: Option<Time>,
+    events: u64,
+    records: usize,
+    counted: u64,
+    dropped: u64,
+}
+
+/// What is seen of a part.
+fn seen(part: &Part<SortedList>) -> Shown {
+    let mut shown = Shown {
+        least: part.least(),
+        events: part.steps(),
+        records: part.trace().len(),
+        counted: 0,
+        dropped: 0,
+    };
+    for number in 0..2u32 {
+        for counter in Counter::ALL {
+            let count = part.counter(NodeNo::new(number), counter);
+            shown.counted = shown.counted.saturating_add(count.unwrap_or(0));
+        }
+        let count = part.dropped(IfaceNo::new(number));
+        shown.dropped = shown.dropped.saturating_add(count.unwrap_or(0));
+    }
+    shown
 }
 
 /// Does the first event of the whole network.
