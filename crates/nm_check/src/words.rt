@@ -8,7 +8,7 @@ use std::alloc::AllocError;
 const MAX_SHOWN: usize = 40;
 
 /// A piece of a sentence.
-#[derive(Drop)]
+#[derive(Clone, Copy)]
 pub enum Piece<'a> {
     /// As it is.
     Text(&'a str),

@@ -56,6 +56,13 @@ word_sum-next zero [] long = absurd (omega arith)
 word_sum-next (suc n) (first ∷ rest) long = word_sum-next n rest (omega arith)
 word_sum-next (suc n) [] long = absurd (omega arith)
 
+-- A sum with its next word, and what follows it.
+pub folded-next : (sum next word : ℕ) (octets : List ℕ) → 2 ≤ length octets → word ≡ word_at octets 0 → next ≡ folded (sum + word)
+    → folded (next + word_sum (drop 2 octets)) ≡ folded (sum + word_sum octets)
+folded-next sum next word octets long is added =
+    let rest = word_sum (drop 2 octets) in
+    ap (λ (s : ℕ). folded (s + rest)) added ∙ folded-add (sum + word) rest ∙ ap folded (omega (arith, word_sum-next 0 octets long))
+
 -- what is written completes the sum
 pub folded-checksum_of : (sum : ℕ) → folded (sum + checksum_of sum) ≡ 65535
 folded-checksum_of zero = refl

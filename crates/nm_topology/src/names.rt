@@ -1,6 +1,6 @@
 //! Names and their numbers.
 
-ghost use Rattle.std.specs.Prelude.{◌≡◌, ℕ, ◌≤◌, ◌<◌, List, true, false, map, length, IfOk};
+ghost use Rattle.std.specs.Prelude.{◌≡◌, ℕ, ◌≤◌, ◌<◌, List, [], true, false, map, length, IfOk};
 ghost use Rattle.std.specs.Prelude.{MatchOption};
 ghost use Rattle.nm_topology.specs.Fault.{Gives};
 ghost use Rattle.nm_base.specs.declared.limits.TheConstants.{MAX_IFACES};
@@ -23,13 +23,29 @@ pub fn distinct<T: Eq + Hash + Copy>(
         (λ s. (has_double T.eq items.now ≡ false) × (s.keys ≡ items.now))) }
 {
     let mut set = IndexSet::new(alloc);
+    if insert_all(&mut set, items)? {
+        Ok(Some(set))
+    } else {
+        Ok(None)
+    }
+}
+
+/// Puts the items into an empty set, in their order, up to the first that stands there already.
+/// Whether each is in it.
+// A function of its own, since a `?` is dear to prove where the set is owned.
+fn insert_all<T: Eq + Hash + Copy>(set: &mut IndexSet<T>, items: &[T]) -> Result<bool, AllocError>
+    requires { set.old.keys ≡ [] }
+    ensures { IfOk result (λ all.
+        (all ≡ true → (has_double T.eq items.now ≡ false) × (set.new.keys ≡ items.now))
+        × (all ≡ false → has_double T.eq items.now ≡ true)) }
+{
     for item in items {
         let fresh = set.insert(*item)?;
         if !fresh {
-            return Ok(None);
+            return Ok(false);
         }
     }
-    Ok(Some(set))
+    Ok(true)
 }
 
 /// What has a name.

@@ -1,7 +1,7 @@
 //! Kinds of nodes.
 
 /// What a node does with a packet for another node.
-#[derive(Clone, Copy, Debug, PartialEq, Eq)]
+#[derive(Clone, Copy, PartialEq, Eq)]
 pub enum NodeKind {
     /// It drops the packet.
     Host,

@@ -11,7 +11,7 @@ use std::alloc::{AllocError, Global};
 use std::marker::Model;
 
 /// A link between two interfaces.
-#[derive(Clone, Copy, Debug, PartialEq, Eq)]
+#[derive(Clone, Copy, PartialEq, Eq)]
 pub struct Link {
     pub a: IfaceNo,
     pub b: IfaceNo,
@@ -22,7 +22,7 @@ pub struct Link {
 }
 
 /// A route of a node: packets to this prefix leave by this interface.
-#[derive(Clone, Copy, Debug, PartialEq, Eq)]
+#[derive(Clone, Copy, PartialEq, Eq)]
 pub struct Route {
     pub to: Prefix,
     pub via: IfaceNo,
@@ -36,7 +36,7 @@ pub struct PlacedRoute {
 }
 
 /// What an interface is linked to.
-#[derive(Clone, Copy, Debug, PartialEq, Eq)]
+#[derive(Clone, Copy, PartialEq, Eq)]
 pub struct Far {
     pub peer: IfaceNo,
     /// Bits per second.

@@ -7,7 +7,7 @@ use nm_packet::Address;
 use std::marker::Model;
 
 /// Packet n of a source, for n from 0 below `count`, is at `start` + n * `interval` nanoseconds.
-#[derive(Clone, Copy, Debug, PartialEq, Eq)]
+#[derive(Clone, Copy, PartialEq, Eq)]
 pub struct Flow {
     /// Octets of data in each packet.
     pub size: u16,
@@ -23,7 +23,7 @@ pub struct Flow {
 }
 
 /// UDP datagrams at a constant bit rate.
-#[derive(Clone, Copy, Debug, PartialEq, Eq)]
+#[derive(Clone, Copy, PartialEq, Eq)]
 pub struct Cbr {
     pub to: Address,
     pub source_port: u16,
@@ -32,7 +32,7 @@ pub struct Cbr {
 }
 
 /// Echo requests (RFC 792).
-#[derive(Clone, Copy, Debug, PartialEq, Eq)]
+#[derive(Clone, Copy, PartialEq, Eq)]
 pub struct Echo {
     pub to: Address,
     pub identifier: u16,

@@ -1,7 +1,7 @@
 //! What the head of a topology text says, on which the reading of its tables depends.
 
 /// The formats of topology texts.
-#[derive(Clone, Copy, Debug, PartialEq, Eq)]
+#[derive(Clone, Copy)]
 pub enum Format {
     /// Queues have a limit in packets.
     One,

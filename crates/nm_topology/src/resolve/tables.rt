@@ -16,6 +16,14 @@ use crate::traffic::{Raw, Source, Traffic};
 use nm_base::{IfaceNo, NodeNo};
 use std::alloc::Global;
 
+/// The owner of an interface.
+fn owner(nodes: &Names, table: &IfaceTable) -> Result<NodeNo, TopoFault>
+    ensures within { IfOk result (λ n. n < length nodes.now) }
+    ensures value { Gives (λ n. n) result (owner_of nodes.now table.now) }
+{
+    Ok(NodeNo::new(nodes.number(table.node.as_str())?))
+}
+
 /// The owner of each interface.
 pub fn owners(alloc: Global, nodes: &Names, tables: &[IfaceTable]) -> Result<Vec<NodeNo>, TopoFault>
     ensures len { IfOk result (λ v. length v.items ≡ length tables.now) }
@@ -24,8 +32,8 @@ pub fn owners(alloc: Global, nodes: &Names, tables: &[IfaceTable]) -> Result<Vec
 {
     let mut owners = Vec::new(alloc);
     for table in tables {
-        let owner = nodes.number(table.node.as_str())?;
-        owners.push(NodeNo::new(owner))?;
+        let owner = owner(nodes, table)?;
+        owners.push(owner)?;
     }
     Ok(owners)
 }

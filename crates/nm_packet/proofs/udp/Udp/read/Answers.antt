@@ -1,7 +1,10 @@
-use Rattle.std.proofs.Common.{ap, ◌∙◌}
+use Rattle.std.proofs.Common.{arith, ap, ◌∙◌}
 use Rattle.nm_packet.specs.Udp.{udp_fault, udp_cut_of}
-use Rattle.nm_packet.proofs.Datagrams.{udp_fault-append, udp_cut_of-append, datagram_read}
+use Rattle.nm_packet.proofs.Datagrams.{udp_fault-append, udp_cut_of-append, datagram_found, datagram_read}
 use Rattle.nm_packet.proofs.udp.Udp.read.Goals as goal
+
+pub returns-clause-found : goal.returns-clause-found
+returns-clause-found c = datagram_found _ _ _ c.args.octets.now (λ i. omega (arith, c.type_inv.octets i)) c.tested.ensures.exact c.tested.ensures.whole
 
 pub returns-clause-only : goal.returns-clause-only
 returns-clause-only c = λ h payload datagram rest is e.

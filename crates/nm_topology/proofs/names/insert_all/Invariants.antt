@@ -1,6 +1,6 @@
 use Rattle.std.proofs.Common.{◌≡◌, drop, take, []}
 use Rattle.nm_topology.specs.Names.{repeats}
-use Rattle.nm_topology.proofs.names.distinct.Given as goal
+use Rattle.nm_topology.proofs.names.insert_all.Given as goal
 
 abbrev pub invariant-loop-item : goal.invariant-loop-item
 invariant-loop-item g l = record {
