@@ -6,7 +6,7 @@ use crate::cut_wire::{CutWire, cut_pipe};
 use crate::network::topology_at;
 use nm_base::PartNo;
 use nm_book::Book;
-use nm_engine::{Host, Link, ReadBuffer, Turn};
+use nm_engine::{Acceptor, Link, ReadBuffer, Turn};
 use nm_frames::Session;
 use nm_rounds::CertFault;
 use nm_rounds::certify::certify;
@@ -107,10 +107,10 @@ fn connect(
     session: Session,
 ) -> Result<Links, Error> {
     let (there, back) = cut_pipe(alloc, chance)?;
-    let host = Host::new(Arc::try_clone(topology)?, PartNo::new(1), 0);
+    let acceptor = Acceptor::new(Arc::try_clone(topology)?, PartNo::new(1), 0);
     Ok(Links {
         zero: Link::connected(alloc, there, session),
-        one: Link::accepted(alloc, back, host),
+        one: Link::accepted(alloc, back, acceptor),
     })
 }
 

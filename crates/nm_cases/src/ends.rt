@@ -3,7 +3,7 @@
 use crate::books::null;
 use nm_base::mem_wire::Ending;
 use nm_base::{ChanNo, MemWire, PartNo};
-use nm_engine::{Cause, Host, Link, ReadBuffer, Turn};
+use nm_engine::{Acceptor, Cause, Link, ReadBuffer, Turn};
 use nm_frames::Session;
 use nm_shared::{Pass, Plain, SharedBook};
 use nm_topology::Topology;
@@ -154,10 +154,10 @@ pub fn drive_accepted<R: Wait>(
     rt: &R,
     alloc: Global,
     end: &mut End,
-    host: Host,
+    acceptor: Acceptor,
     script: Script,
 ) -> io::Result<Came> {
-    let link = Link::accepted(alloc, wire_of(alloc, script)?, host);
+    let link = Link::accepted(alloc, wire_of(alloc, script)?, acceptor);
     outcome(rt, alloc, end, link)
 }
 

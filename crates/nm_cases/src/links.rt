@@ -23,7 +23,7 @@ use crate::octets::octets_of;
 use crate::words::Words;
 use nm_base::PartNo;
 use nm_base::mem_wire::Ending;
-use nm_engine::{Host, Link, ReadBuffer};
+use nm_engine::{Acceptor, Link, ReadBuffer};
 use std::alloc::Global;
 use std::io;
 use std::sync::Wait;
@@ -61,8 +61,8 @@ fn greet<R: Wait>(
     octets: &[u8],
 ) -> io::Result<String> {
     let mut end = end_of(rt, alloc, &bench.topology, me)?;
-    let host = Host::new(bench.topology.clone()?, PartNo::new(me), 0);
-    let came = drive_accepted(rt, alloc, &mut end, host, open(octets))?;
+    let acceptor = Acceptor::new(bench.topology.clone()?, PartNo::new(me), 0);
+    let came = drive_accepted(rt, alloc, &mut end, acceptor, open(octets))?;
     let (turn, count) = (turn_word(came.turn), came.octets.len());
     let session = if came.session.is_some() {
         "session"

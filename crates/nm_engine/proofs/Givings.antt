@@ -11,17 +11,14 @@ use Rattle.nm_frames.specs.Owed.{given, given_maybe, owed}
 use Rattle.nm_frames.specs.Session.{SessionValue}
 use Rattle.nm_engine.specs.declared.answer.Cause.{Cause}
 use Rattle.nm_engine.specs.declared.answer.Cause.TheVariants.{End, Fault, Frame as BadFrame, Session as BadSession, Book, Memory}
-use Rattle.nm_engine.specs.Giving.{Gives, GivesOr}
-use Rattle.nm_engine.specs.Host.{HostValue}
-use Rattle.nm_engine.specs.Lives.{Lives}
+use Rattle.nm_engine.specs.Giving.{GivesFrames, GivesOr}
+use Rattle.nm_engine.specs.Acceptor.{AcceptorValue}
+use Rattle.nm_engine.specs.Lives.{LinkLives}
 use Rattle.nm_engine.proofs.Steps.{lives_append}
 
-module _ (h : Option HostValue) where
-  pub gives_none : (s : Option SessionValue) (out : List ℕ) → Gives h s s out out []
-  gives_none s out = record { outs = []; gave = refl; put = refl }
-
+module _ (h : Option AcceptorValue) where
   -- one frame was given: it stands in the buffer, or its octets are lost
-  pub gives_one : {E : Type 0} (s t : SessionValue) (b : BookValue) (f : Frame) (o : Result (Option Frame) E) → o ≡ Ok (Some f) → IfOk o (λ x. x ≡ owed s b) → IfOk o (λ x. t ≡ given_maybe s x) → IsFrame f → (before after lost : List ℕ) → after ++ lost ≡ before ++ frame_octets f → Gives h (Some s) (Some t) before after lost
+  pub gives_one : {E : Type 0} (s t : SessionValue) (b : BookValue) (f : Frame) (o : Result (Option Frame) E) → o ≡ Ok (Some f) → IfOk o (λ x. x ≡ owed s b) → IfOk o (λ x. t ≡ given_maybe s x) → IsFrame f → (before after lost : List ℕ) → after ++ lost ≡ before ++ frame_octets f → GivesFrames h (Some s) (Some t) before after lost
   gives_one {E} s t b f o e is then fits before after lost put =
       let owes : Some f ≡ owed s b = subst (λ (x : Result (Option Frame) E). IfOk x (λ y. y ≡ owed s b)) e is in
       let last : t ≡ given s f = subst (λ (x : Result (Option Frame) E). IfOk x (λ y. t ≡ given_maybe s y)) e then in
@@ -32,17 +29,17 @@ module _ (h : Option HostValue) where
       }
 
   -- frames were given, and then more
-  pub gives_more : (s m t : Option SessionValue) (a b c lost : List ℕ) → Gives h s m a b [] → Gives h m t b c lost → Gives h s t a c lost
+  pub gives_more : (s m t : Option SessionValue) (a b c lost : List ℕ) → GivesFrames h s m a b [] → GivesFrames h m t b c lost → GivesFrames h s t a c lost
   gives_more s m t a b c lost one two = record {
     outs = one.outs ++ two.outs;
-    gave = subst (λ (l : List SessionStep). Lives h s l t) (sym (map-append Gave one.outs two.outs)) (lives_append h s m t (map Gave one.outs) (map Gave two.outs) one.gave two.gave);
+    gave = subst (λ (l : List SessionStep). LinkLives h s l t) (sym (map-append Gave one.outs two.outs)) (lives_append h s m t (map Gave one.outs) (map Gave two.outs) one.gave two.gave);
     put =
         two.put ∙ ap (λ l. l ++ stream_octets two.outs) (sym (append-nil b) ∙ one.put)
         ∙ append_assoc a (stream_octets one.outs) (stream_octets two.outs)
         ∙ ap (λ l. a ++ l) (sym (flat_map-append frame_octets one.outs two.outs));
   }
 
-  pub gives_then : (A B : Type 0) (s m t : Option SessionValue) (a b c : List ℕ) (cause : Cause) → Gives h s m a b [] → GivesOr {A = A} h m t b c (Err cause) → GivesOr {A = B} h s t a c (Err cause)
+  pub gives_then : (A B : Type 0) (s m t : Option SessionValue) (a b c : List ℕ) (cause : Cause) → GivesFrames h s m a b [] → GivesOr {A = A} h m t b c (Err cause) → GivesOr {A = B} h s t a c (Err cause)
   gives_then A B s m t a b c End one two = absurd two
   gives_then A B s m t a b c Fault one two = absurd two
   gives_then A B s m t a b c BadFrame one two = absurd two

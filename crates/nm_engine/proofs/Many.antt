@@ -14,9 +14,9 @@ use Rattle.nm_book.specs.Book.{BookValue}
 use Rattle.nm_engine.specs.declared.answer.Cause.{Cause}
 use Rattle.nm_engine.specs.declared.answer.Turn.{Turn}
 use Rattle.nm_engine.specs.declared.answer.Turn.TheVariants.{Progress, Idle, Ended, Broken, Failed}
-use Rattle.nm_engine.specs.Host.{HostValue, session_with, taken_at}
+use Rattle.nm_engine.specs.Acceptor.{AcceptorValue, session_with, taken_at}
 use Rattle.nm_engine.specs.Link.{LinkValue}
-use Rattle.nm_engine.specs.Lives.{Lives, frames_in, frames_out}
+use Rattle.nm_engine.specs.Lives.{LinkLives, frames_in, frames_out}
 use Rattle.nm_engine.specs.Many.{Accounts, GoesOn, HasDue}
 use Rattle.nm_engine.specs.Turn.{Breaks, Moves, Turns, Went}
 use Rattle.nm_engine.proofs.Steps.{lives_append}
@@ -91,10 +91,10 @@ module _ {W : Type 0} (given taken : W → List ℕ) (ends failures : W → ℕ)
     left = left;
     came_in = m.came_in;
     framed = m.framed ∙ ap (λ fs. stream_octets fs ++ rest) (sym (turn_in m.ins m.outs));
-    lived = lives_append old.host old.session m.mid new.session (map Took m.ins) (map Gave m.outs) m.took m.gave;
+    lived = lives_append old.acceptor old.session m.mid new.session (map Took m.ins) (map Gave m.outs) m.took m.gave;
     went_out = m.went_out;
     sent = m.sent ∙ ap (λ fs. old.out ++ stream_octets fs) (sym (turn_out m.ins m.outs));
-    host = m.host;
+    acceptor = m.acceptor;
     whole = whole;
   }
 
@@ -110,7 +110,7 @@ module _ {W : Type 0} (given taken : W → List ℕ) (ends failures : W → ℕ)
     lived = refl;
     went_out = sym (append-nil (taken old.wire));
     sent = sym (append-nil old.out);
-    host = refl;
+    acceptor = refl;
     whole = λ e. (refl, refl);
   }
 
@@ -129,13 +129,13 @@ module _ {W : Type 0} (given taken : W → List ℕ) (ends failures : W → ℕ)
             join_in first.rest a.came b.came mid.rest b.rest (frames_in a.steps) (frames_in b.steps) (a.framed ∙ ap (λ l. stream_octets (frames_in a.steps) ++ l) held.0) b.framed
             ∙ ap (λ fs. stream_octets fs ++ b.rest) (sym (in-append a.steps b.steps));
         lived =
-            lives_append first.host first.session mid.session last.session a.steps b.steps a.lived
-            (subst (λ (h : Option HostValue). Lives h mid.session b.steps last.session) a.host b.lived);
+            lives_append first.acceptor first.session mid.session last.session a.steps b.steps a.lived
+            (subst (λ (h : Option AcceptorValue). LinkLives h mid.session b.steps last.session) a.acceptor b.lived);
         went_out = b.went_out ∙ ap (λ l. l ++ b.went) a.went_out ∙ append_assoc (taken first.wire) a.went b.went;
         sent =
             join_out a.went b.went first.out mid.out b.left (frames_out a.steps) (frames_out b.steps) (ap (λ l. a.went ++ l) (sym held.1) ∙ a.sent) b.sent
             ∙ ap (λ fs. first.out ++ stream_octets fs) (sym (out-append a.steps b.steps));
-        host = b.host ∙ a.host;
+        acceptor = b.acceptor ∙ a.acceptor;
         whole = b.whole;
       }
 
@@ -172,13 +172,13 @@ module _ {W : Type 0} (given taken : W → List ℕ) (ends failures : W → ℕ)
   accounts (p ∷ path) first last g = go_on path first p.1 last (of_turn p.0 first p.1 g.0) g.1 (accounts path p.1 last g.1)
 
 -- ---- the numbers of messages
-session_lives : (h : Option HostValue) (steps : List SessionStep) (s : SessionValue) (t : Option SessionValue) → Lives h (Some s) steps t → (u : SessionValue) × (t ≡ Some u) × SessionLives s steps u
+session_lives : (h : Option AcceptorValue) (steps : List SessionStep) (s : SessionValue) (t : Option SessionValue) → LinkLives h (Some s) steps t → (u : SessionValue) × (t ≡ Some u) × SessionLives s steps u
 session_lives h [] s t lives = (s, lives, refl)
 session_lives h (Took f ∷ r) s t lives = let more = session_lives h r lives.0 t lives.4 in (more.0, more.1, (lives.0, lives.1, more.2))
 session_lives h (Gave f ∷ r) s t lives =
     let same : s ≡ lives.0 = some_same s lives.0 lives.2 in
     let owes : owed s lives.1 ≡ Some f = ap (λ (x : SessionValue). owed x lives.1) same ∙ lives.3 in
-    let after = subst (λ (x : SessionValue). Lives h (Some (given x f)) r t) (sym same) lives.5 in
+    let after = subst (λ (x : SessionValue). LinkLives h (Some (given x f)) r t) (sym same) lives.5 in
     let more = session_lives h r (given s f) t after in (more.0, more.1, (lives.1, owes, more.2))
 session_lives h (Broke ∷ r) s t lives = absurd lives
 
@@ -186,18 +186,18 @@ none_yet : (c : ℕ) (ds : List ℕ) → HasCursor c None (map new_outgoing ds)
 none_yet c [] = tt
 none_yet c (d ∷ ds) = (λ e. refl, none_yet c ds)
 
-of_session : (h : Option HostValue) (s : SessionValue) (t : Option SessionValue) (steps : List SessionStep) (c : ℕ) (due : Option ℕ) → HasCursor c due s.outgoing → Lives h (Some s) steps t → AreConsecutive c due steps × HasDue c (due_after c due steps) t
+of_session : (h : Option AcceptorValue) (s : SessionValue) (t : Option SessionValue) (steps : List SessionStep) (c : ℕ) (due : Option ℕ) → HasCursor c due s.outgoing → LinkLives h (Some s) steps t → AreConsecutive c due steps × HasDue c (due_after c due steps) t
 of_session h s t steps c due cursor lives =
     let l = session_lives h steps s t lives in
     let n = from_cursor s l.0 steps c due cursor l.2 in
     (n.0, subst (λ (x : Option SessionValue). HasDue c (due_after c due steps) x) (sym l.1) n.1)
 
 -- the first frame makes the session: it is a new one that takes this frame
-made_by : (b : Bool) (h : HostValue) (p : ℕ) (f : Frame) (m : SessionValue) → (if b then taken (session_with h p) f else Err Peer) ≡ Ok m → taken (session_with h p) f ≡ Ok m
+made_by : (b : Bool) (h : AcceptorValue) (p : ℕ) (f : Frame) (m : SessionValue) → (if b then taken (session_with h p) f else Err Peer) ≡ Ok m → taken (session_with h p) f ≡ Ok m
 made_by true h p f m e = e
 made_by false h p f m e = cc
 
-first_made : (h : Option HostValue) (f : Frame) (m : SessionValue) → taken_at h None f ≡ Ok m → (n : HostValue) × (p : ℕ) × (taken (session_with n p) f ≡ Ok m)
+first_made : (h : Option AcceptorValue) (f : Frame) (m : SessionValue) → taken_at h None f ≡ Ok m → (n : AcceptorValue) × (p : ℕ) × (taken (session_with n p) f ≡ Ok m)
 first_made None f m e = cc
 first_made (Some h) (Hello x) m e = (h, x.partition, made_by (nat_lt x.partition h.me && nat_lt 0 (length (channels_between h.topology x.partition h.me))) h x.partition (Hello x) m e)
 first_made (Some h) (Have x) m e = cc
@@ -205,7 +205,7 @@ first_made (Some h) (Data x) m e = cc
 first_made (Some h) (Null x) m e = cc
 first_made (Some h) Bye m e = cc
 
-pub numbers : (h : Option HostValue) (s t : Option SessionValue) (steps : List SessionStep) (c : ℕ) (due : Option ℕ) → HasDue c due s → Lives h s steps t → AreConsecutive c due steps × HasDue c (due_after c due steps) t
+pub numbers : (h : Option AcceptorValue) (s t : Option SessionValue) (steps : List SessionStep) (c : ℕ) (due : Option ℕ) → HasDue c due s → LinkLives h s steps t → AreConsecutive c due steps × HasDue c (due_after c due steps) t
 numbers h (Some s) t steps c due cursor lives = of_session h s t steps c due cursor lives
 numbers h None t [] c due none lives = (tt, subst (λ (x : Option SessionValue). HasDue c due x) (sym lives) none)
 numbers h None t (Took f ∷ r) c due none lives =

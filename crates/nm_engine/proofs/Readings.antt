@@ -11,7 +11,7 @@ use Rattle.nm_frames.specs.Stream.{fault_shown}
 use Rattle.nm_engine.specs.declared.answer.Cause.{Cause}
 use Rattle.nm_engine.specs.declared.answer.Cause.TheVariants.{End, Fault, Frame as BadFrame, Session as BadSession, Book, Memory}
 use Rattle.nm_engine.specs.declared.limits.TheConstants.{MAX_FRAME_OCTETS, MAX_READ_OCTETS}
-use Rattle.nm_engine.specs.Reading.{Came, Feeds, IsFramed, Reads}
+use Rattle.nm_engine.specs.Reading.{Came, FeedsReader, IsFramed, Reads}
 
 -- no octets, no frames
 none_framed : (held : List ℕ) → IsFramed (held ++ []) [] held
@@ -35,7 +35,7 @@ module _ {W : Type 0} (given : W → List ℕ) (ends failures : W → ℕ) (old 
   taken_within n octets e = grind (arith, common_steps, e)
 
   -- octets came and were fed
-  pub read_some : (n : ℕ) (octets : List ℕ) (r q : ReaderValue) (frames : List Frame) (result : Result ℕ Cause) → length octets ≡ MAX_READ_OCTETS → Goes given failures old new n octets → Feeds r (take n octets) frames q result → Reads given ends failures old new r frames q result
+  pub read_some : (n : ℕ) (octets : List ℕ) (r q : ReaderValue) (frames : List Frame) (result : Result ℕ Cause) → length octets ≡ MAX_READ_OCTETS → Goes given failures old new n octets → FeedsReader r (take n octets) frames q result → Reads given ends failures old new r frames q result
   read_some n octets r q frames (Ok m) size goes fed = (record { came = take n octets; most = taken_within n octets size; came_in = goes.2; framed = fed.1 }, sym fed.0, goes.3, fed.2)
   read_some n octets r q frames (Err End) size goes fed = absurd fed
   read_some n octets r q frames (Err Fault) size goes fed = absurd fed

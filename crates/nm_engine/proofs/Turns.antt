@@ -12,9 +12,9 @@ use Rattle.nm_engine.specs.declared.answer.Cause.{Cause}
 use Rattle.nm_engine.specs.declared.answer.Cause.TheVariants.{End, Fault, Frame as BadFrame, Session as BadSession, Book, Memory}
 use Rattle.nm_engine.specs.declared.answer.Turn.TheVariants.{Progress, Idle}
 use Rattle.nm_engine.specs.declared.limits.TheConstants.{MAX_READ_OCTETS}
-use Rattle.nm_engine.specs.Giving.{Gives, GivesOr}
-use Rattle.nm_engine.specs.Host.{HostValue}
-use Rattle.nm_engine.specs.Lives.{Lives}
+use Rattle.nm_engine.specs.Giving.{GivesFrames, GivesOr}
+use Rattle.nm_engine.specs.Acceptor.{AcceptorValue}
+use Rattle.nm_engine.specs.Lives.{LinkLives}
 use Rattle.nm_engine.specs.Reading.{Came, Reads}
 use Rattle.nm_engine.specs.Taking.{Stops, TakesAll}
 use Rattle.nm_engine.specs.Turn.{Breaks, HasEnded, IsReason, Moves, Turns, Went, answer_of, faults_of, link_of}
@@ -34,7 +34,7 @@ each_mid : (front back : List Frame) (f : Frame) → AllByRecursion IsFrame (fro
 each_mid [] back f each = each.0
 each_mid (x ∷ front) back f each = each_mid front back f each.1
 
-module _ {W : Type 0} (given taken : W → List ℕ) (ends failures : W → ℕ) (v w : W) (h : Option HostValue) (s t : Option SessionValue) (r q : ReaderValue) (o : List ℕ) (frames : List Frame) where
+module _ {W : Type 0} (given taken : W → List ℕ) (ends failures : W → ℕ) (v w : W) (h : Option AcceptorValue) (s t : Option SessionValue) (r q : ReaderValue) (o : List ℕ) (frames : List Frame) where
   -- what came, whatever the read's answer, and that the wire has not failed if there are frames
   read_came : (read : Result ℕ Cause) → Reads given ends failures v w r frames q read → (rest : List ℕ) × Came given ends failures v w r.rest frames rest × ((failures w ≡ failures v) ⊎ (frames ≡ []))
   read_came (Ok n) c = (q.rest, c.0, inl c.2)
@@ -50,7 +50,7 @@ module _ {W : Type 0} (given taken : W → List ℕ) (ends failures : W → ℕ)
   sound_if front back f split (inr e) = absurd (not_none front back f (sym split ∙ e))
 
   -- the same with no session's step after the frames, and no octet that went
-  abbrev still : (came rest left : List ℕ) (t' : Option SessionValue) (ins : List Frame) (b : Bool) → length came ≤ MAX_READ_OCTETS → given w ≡ given v ++ came → r.rest ++ came ≡ stream_octets ins ++ rest → Lives h s (map Took ins) t' → taken w ≡ taken v → left ≡ o → Moves given taken ends failures (link_of v h s r.rest o false) (link_of w h t' q.rest left b) rest left
+  abbrev still : (came rest left : List ℕ) (t' : Option SessionValue) (ins : List Frame) (b : Bool) → length came ≤ MAX_READ_OCTETS → given w ≡ given v ++ came → r.rest ++ came ≡ stream_octets ins ++ rest → LinkLives h s (map Took ins) t' → taken w ≡ taken v → left ≡ o → Moves given taken ends failures (link_of v h s r.rest o false) (link_of w h t' q.rest left b) rest left
   still came rest left t' ins b most came_in framed took kept same = record {
     was_whole = refl;
     came = came;
@@ -65,11 +65,11 @@ module _ {W : Type 0} (given taken : W → List ℕ) (ends failures : W → ℕ)
     gave = refl;
     went_out = kept ∙ sym (append-nil (taken v));
     sent = same ∙ sym (append-nil o);
-    host = refl;
+    acceptor = refl;
   }
 
   -- a frame was not taken
-  stopped_by : (cause : Cause) (rest : List ℕ) (c : Came given ends failures v w r.rest frames rest) (front back : List Frame) (f : Frame) → faults_of cause ≡ 0 → failures w ≡ failures v + 0 → (IsFrame f → IsReason given taken ends failures (link_of v h s r.rest o false) (link_of w h t q.rest o true) cause (frame_octets f ++ (stream_octets back ++ rest)) t) → frames ≡ front ++ f ∷ back → Lives h s (map Took front) t → taken w ≡ taken v → Breaks given taken ends failures (link_of v h s r.rest o false) (link_of w h t q.rest o true) cause
+  stopped_by : (cause : Cause) (rest : List ℕ) (c : Came given ends failures v w r.rest frames rest) (front back : List Frame) (f : Frame) → faults_of cause ≡ 0 → failures w ≡ failures v + 0 → (IsFrame f → IsReason given taken ends failures (link_of v h s r.rest o false) (link_of w h t q.rest o true) cause (frame_octets f ++ (stream_octets back ++ rest)) t) → frames ≡ front ++ f ∷ back → LinkLives h s (map Took front) t → taken w ≡ taken v → Breaks given taken ends failures (link_of v h s r.rest o false) (link_of w h t q.rest o true) cause
   stopped_by cause rest c front back f none sound reason split took kept = record {
     rest = frame_octets f ++ (stream_octets back ++ rest);
     left = o;
@@ -88,7 +88,7 @@ module _ {W : Type 0} (given taken : W → List ℕ) (ends failures : W → ℕ)
   breaks_take read Memory reads takes kept = let c = read_came read reads in stopped_by Memory c.0 c.1 takes.0 takes.2 takes.1 refl (sound_if takes.0 takes.2 takes.1 takes.3 c.2) (λ fits. tt) takes.3 takes.4 kept
 
   -- the read ended
-  pub breaks_read : (cause : Cause) → Reads given ends failures v w r frames q (Err cause) → Lives h s (map Took frames) t → taken w ≡ taken v → Breaks given taken ends failures (link_of v h s r.rest o false) (link_of w h t q.rest o true) cause
+  pub breaks_read : (cause : Cause) → Reads given ends failures v w r frames q (Err cause) → LinkLives h s (map Took frames) t → taken w ≡ taken v → Breaks given taken ends failures (link_of v h s r.rest o false) (link_of w h t q.rest o true) cause
   breaks_read End c took kept = record {
     rest = c.0;
     left = o;
@@ -125,8 +125,8 @@ module _ {W : Type 0} (given taken : W → List ℕ) (ends failures : W → ℕ)
   }
 
   -- what was given, after the frames were taken
-  module _ (z : Option SessionValue) (x : W) (p : List ℕ) (n : ℕ) (c : Came given ends failures v w r.rest frames q.rest) (took : Lives h s (map Took frames) t) (sound : failures w ≡ failures v) (kept : taken w ≡ taken v) where
-    abbrev gave_moves : (went left lost out y : List ℕ) (b : Bool) → Gives h t z o p lost → given x ≡ given w → taken x ≡ taken w ++ went → went ++ y ≡ p ++ lost → Moves given taken ends failures (link_of v h s r.rest o false) (link_of x h z q.rest out b) q.rest y
+  module _ (z : Option SessionValue) (x : W) (p : List ℕ) (n : ℕ) (c : Came given ends failures v w r.rest frames q.rest) (took : LinkLives h s (map Took frames) t) (sound : failures w ≡ failures v) (kept : taken w ≡ taken v) where
+    abbrev gave_moves : (went left lost out y : List ℕ) (b : Bool) → GivesFrames h t z o p lost → given x ≡ given w → taken x ≡ taken w ++ went → went ++ y ≡ p ++ lost → Moves given taken ends failures (link_of v h s r.rest o false) (link_of x h z q.rest out b) q.rest y
     gave_moves went left lost out y b g same went_out sent = record {
       was_whole = refl;
       came = c.came;
@@ -141,7 +141,7 @@ module _ {W : Type 0} (given taken : W → List ℕ) (ends failures : W → ℕ)
       gave = g.gave;
       went_out = went_out ∙ ap (λ l. l ++ went) kept;
       sent = sent ∙ g.put;
-      host = refl;
+      acceptor = refl;
     }
 
     -- memory for a frame was refused
@@ -162,7 +162,7 @@ module _ {W : Type 0} (given taken : W → List ℕ) (ends failures : W → ℕ)
           over = refl;
         }
 
-    module _ (y : List ℕ) (gives : Gives h t z o p []) (same : given x ≡ given w) where
+    module _ (y : List ℕ) (gives : GivesFrames h t z o p []) (same : given x ≡ given w) where
       -- the wire failed as it took octets
       pub breaks_write : (cause : Cause) → Writes taken failures w x p y (Err cause) → Breaks given taken ends failures (link_of v h s r.rest o false) (link_of x h z q.rest y true) cause
       breaks_write End l = absurd l

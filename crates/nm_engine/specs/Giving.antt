@@ -9,21 +9,21 @@ use Rattle.nm_frames.specs.Owed.{given_maybe, owed}
 use Rattle.nm_frames.specs.Session.{SessionValue}
 use Rattle.nm_engine.specs.declared.answer.Cause.{Cause}
 use Rattle.nm_engine.specs.declared.answer.Cause.TheVariants.{End, Fault, Frame as BadFrame, Session as BadSession, Book, Memory}
-use Rattle.nm_engine.specs.Host.{HostValue}
-use Rattle.nm_engine.specs.Lives.{Lives}
+use Rattle.nm_engine.specs.Acceptor.{AcceptorValue}
+use Rattle.nm_engine.specs.Lives.{LinkLives}
 
 -- frames were given, and stand at the end of the buffer but for the lost octets
-pub record Gives (h : Option HostValue) (s t : Option SessionValue) (before after lost : List ℕ) : Type 0 where
+pub record GivesFrames (h : Option AcceptorValue) (s t : Option SessionValue) (before after lost : List ℕ) : Type 0 where
   pub outs : List Frame
-  pub gave : Lives h s (map Gave outs) t
+  pub gave : LinkLives h s (map Gave outs) t
   pub put : after ++ lost ≡ before ++ stream_octets outs
 
 -- the same of a call that is refused for memory alone
-abbrev pub GivesOr : {A : Type 0} → Option HostValue → Option SessionValue → Option SessionValue → List ℕ → List ℕ → Result A Cause → Type 0
-GivesOr h s t before after (Ok x) = Gives h s t before after []
+abbrev pub GivesOr : {A : Type 0} → Option AcceptorValue → Option SessionValue → Option SessionValue → List ℕ → List ℕ → Result A Cause → Type 0
+GivesOr h s t before after (Ok x) = GivesFrames h s t before after []
 GivesOr h s t before after (Err End) = ⊥
 GivesOr h s t before after (Err Fault) = ⊥
 GivesOr h s t before after (Err BadFrame) = ⊥
 GivesOr h s t before after (Err BadSession) = ⊥
 GivesOr h s t before after (Err Book) = ⊥
-GivesOr h s t before after (Err Memory) = (lost : List ℕ) × Gives h s t before after lost
+GivesOr h s t before after (Err Memory) = (lost : List ℕ) × GivesFrames h s t before after lost

@@ -1,4 +1,4 @@
-pub mod Host
+pub mod Acceptor
 pub mod Lives
 pub mod Link
 pub mod Reading

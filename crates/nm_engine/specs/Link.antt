@@ -1,13 +1,13 @@
 -- What contracts see of a link.
 use Rattle.std.specs.Prelude.{ℕ, ◌+◌, ◌<◌, ◌≤◌, Bool, List, length, Option}
 use Rattle.nm_frames.specs.Session.{SessionValue}
-use Rattle.nm_engine.specs.Host.{HostValue}
+use Rattle.nm_engine.specs.Acceptor.{AcceptorValue}
 use Rattle.nm_engine.specs.declared.limits.TheConstants.{MAX_FRAME_OCTETS, MAX_OUT_OCTETS}
 
 pub record LinkValue (W : Type 0) : Type 0 where
   pub wire : W
   -- who awaits a session, where the peer connected
-  pub host : Option HostValue
+  pub acceptor : Option AcceptorValue
   -- None up to the peer's first frame, where the peer connected
   pub session : Option SessionValue
   -- the octets of a frame that has not come whole

@@ -13,7 +13,7 @@ use Rattle.nm_frames.specs.Frame.{IsFrame}
 use Rattle.nm_frames.specs.Lives.{SessionStep, Took, Gave, Broke}
 use Rattle.nm_frames.specs.Owed.{given, owed}
 use Rattle.nm_frames.specs.Session.{SessionValue, purpose}
-use Rattle.nm_engine.specs.Host.{HostValue, taken_at}
+use Rattle.nm_engine.specs.Acceptor.{AcceptorValue, taken_at}
 
 -- a book took the message in: what it then was is not known, since others may act on it before and after
 abbrev pub IsTold : ChannelMessage → Type 0
@@ -34,13 +34,13 @@ IsServed Ended = Unit {0}
 
 -- Step by step: each frame taken is one that the session takes, and what it was for was done; each frame given is what the session owes of
 -- a book as it then was.
-abbrev pub Lives : Option HostValue → Option SessionValue → List SessionStep → Option SessionValue → Type 0
-Lives h s [] t = t ≡ s
-Lives h s (Took f ∷ r) t =
-    (m : SessionValue) × (taken_at h s f ≡ Ok m) × IsFrame f × IsServed (purpose f) × Lives h (Some m) r t
-Lives h s (Gave f ∷ r) t =
-    (m : SessionValue) × (b : BookValue) × (s ≡ Some m) × (owed m b ≡ Some f) × IsFrame f × Lives h (Some (given m f)) r t
-Lives h s (Broke ∷ r) t = ⊥
+abbrev pub LinkLives : Option AcceptorValue → Option SessionValue → List SessionStep → Option SessionValue → Type 0
+LinkLives h s [] t = t ≡ s
+LinkLives h s (Took f ∷ r) t =
+    (m : SessionValue) × (taken_at h s f ≡ Ok m) × IsFrame f × IsServed (purpose f) × LinkLives h (Some m) r t
+LinkLives h s (Gave f ∷ r) t =
+    (m : SessionValue) × (b : BookValue) × (s ≡ Some m) × (owed m b ≡ Some f) × IsFrame f × LinkLives h (Some (given m f)) r t
+LinkLives h s (Broke ∷ r) t = ⊥
 
 -- the frames that were taken, in order, and those that were given
 abbrev pub frames_in : List SessionStep → List Frame

@@ -5,7 +5,7 @@ use Rattle.nm_frames.specs.Lives.{HasCursor, SessionStep}
 use Rattle.nm_frames.specs.Session.{SessionValue}
 use Rattle.nm_engine.specs.declared.answer.Turn.{Turn}
 use Rattle.nm_engine.specs.Link.{LinkValue}
-use Rattle.nm_engine.specs.Lives.{Lives, frames_in, frames_out}
+use Rattle.nm_engine.specs.Lives.{LinkLives, frames_in, frames_out}
 use Rattle.nm_engine.specs.Turn.{Turns}
 
 -- turn by turn: each answer, and the link after it
@@ -25,10 +25,10 @@ pub record Accounts {W : Type 0} (given taken : W → List ℕ) (first last : Li
   pub left : List ℕ
   pub came_in : given last.wire ≡ given first.wire ++ came
   pub framed : first.rest ++ came ≡ stream_octets (frames_in steps) ++ rest
-  pub lived : Lives first.host first.session steps last.session
+  pub lived : LinkLives first.acceptor first.session steps last.session
   pub went_out : taken last.wire ≡ taken first.wire ++ went
   pub sent : went ++ left ≡ first.out ++ stream_octets (frames_out steps)
-  pub host : last.host ≡ first.host
+  pub acceptor : last.acceptor ≡ first.acceptor
   pub whole : last.failed ≡ false → (rest ≡ last.rest) × (left ≡ last.out)
 
 -- the number of the next message on channel c, which is none before there is a session

@@ -16,15 +16,15 @@ pub record IsFramed (octets : List ℕ) (frames : List Frame) (rest : List ℕ) 
   pub each : AllByRecursion IsFrame frames
 
 -- the reader took a piece of so many octets, which completed these frames; or it took none of it, or found a fault
-abbrev pub Feeds : ReaderValue → List ℕ → List Frame → ReaderValue → Result ℕ Cause → Type 0
-Feeds r piece frames q (Ok n) = (n ≡ length piece) × IsFramed (r.rest ++ piece) frames q.rest × (q.failed ≡ false)
-Feeds r piece frames q (Err End) = ⊥
-Feeds r piece frames q (Err Fault) = ⊥
-Feeds r piece frames q (Err BadFrame) =
+abbrev pub FeedsReader : ReaderValue → List ℕ → List Frame → ReaderValue → Result ℕ Cause → Type 0
+FeedsReader r piece frames q (Ok n) = (n ≡ length piece) × IsFramed (r.rest ++ piece) frames q.rest × (q.failed ≡ false)
+FeedsReader r piece frames q (Err End) = ⊥
+FeedsReader r piece frames q (Err Fault) = ⊥
+FeedsReader r piece frames q (Err BadFrame) =
     (rest : List ℕ) × IsFramed (r.rest ++ piece) frames rest × ((e : FrameFault) × (fault_shown rest ≡ Some e))
-Feeds r piece frames q (Err BadSession) = ⊥
-Feeds r piece frames q (Err Book) = ⊥
-Feeds r piece frames q (Err Memory) = frames ≡ []
+FeedsReader r piece frames q (Err BadSession) = ⊥
+FeedsReader r piece frames q (Err Book) = ⊥
+FeedsReader r piece frames q (Err Memory) = frames ≡ []
 
 module _ {W : Type 0} (given : W → List ℕ) (ends failures : W → ℕ) (old new : W) where
   -- these octets came; with those that were held before they are the frames, and then the rest

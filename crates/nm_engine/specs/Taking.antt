@@ -8,8 +8,8 @@ use Rattle.nm_frames.specs.Lives.{Took}
 use Rattle.nm_frames.specs.Session.{SessionValue, purpose, taken}
 use Rattle.nm_engine.specs.declared.answer.Cause.{Cause}
 use Rattle.nm_engine.specs.declared.answer.Cause.TheVariants.{End, Fault, Frame as BadFrame, Session as BadSession, Book, Memory}
-use Rattle.nm_engine.specs.Host.{HostValue, first_taken, taken_at}
-use Rattle.nm_engine.specs.Lives.{IsRefused, IsServed, IsTold, Lives}
+use Rattle.nm_engine.specs.Acceptor.{AcceptorValue, first_taken, taken_at}
+use Rattle.nm_engine.specs.Lives.{IsRefused, IsServed, IsTold, LinkLives}
 
 -- a book took a message in, or why not
 abbrev pub Tells : ChannelMessage → Result Unit Cause → Type 0
@@ -22,7 +22,7 @@ Tells m (Err Book) = IsRefused m
 Tells m (Err Memory) = Unit {0}
 
 -- why a frame is not taken: the session refuses it, or a book refuses what it is for
-abbrev pub Stops : Cause → Option HostValue → Option SessionValue → Frame → Type 0
+abbrev pub Stops : Cause → Option AcceptorValue → Option SessionValue → Frame → Type 0
 Stops End h s f = ⊥
 Stops Fault h s f = ⊥
 Stops BadFrame h s f = ⊥
@@ -31,19 +31,19 @@ Stops Book h s f = (m : ChannelMessage) × (purpose f ≡ ForBook m) × IsRefuse
 Stops Memory h s f = Unit {0}
 
 -- a frame was taken, or changed nothing
-abbrev pub TakesOne : Option HostValue → Option SessionValue → Frame → Option SessionValue → Result Unit Cause → Type 0
+abbrev pub TakesOne : Option AcceptorValue → Option SessionValue → Frame → Option SessionValue → Result Unit Cause → Type 0
 TakesOne h s f t (Ok u) = (m : SessionValue) × (taken_at h s f ≡ Ok m) × IsServed (purpose f) × (t ≡ Some m)
 TakesOne h s f t (Err cause) = (t ≡ s) × Stops cause h s f
 
 -- all frames were taken, or those before the first that is not
-abbrev pub TakesAll : Option HostValue → Option SessionValue → List Frame → Option SessionValue → Result Unit Cause → Type 0
-TakesAll h s frames t (Ok u) = Lives h s (map Took frames) t
+abbrev pub TakesAll : Option AcceptorValue → Option SessionValue → List Frame → Option SessionValue → Result Unit Cause → Type 0
+TakesAll h s frames t (Ok u) = LinkLives h s (map Took frames) t
 TakesAll h s frames t (Err cause) =
     (front : List Frame) × (f : Frame) × (back : List Frame)
-    × (frames ≡ front ++ f ∷ back) × Lives h s (map Took front) t × Stops cause h t f
+    × (frames ≡ front ++ f ∷ back) × LinkLives h s (map Took front) t × Stops cause h t f
 
 -- a peer's first frame made a session, or did not
-abbrev pub Greets : HostValue → Frame → Result SessionValue Cause → Type 0
+abbrev pub Greets : AcceptorValue → Frame → Result SessionValue Cause → Type 0
 Greets h f (Ok s) = (first_taken h f ≡ Ok s) × IsServed (purpose f)
 Greets h f (Err End) = ⊥
 Greets h f (Err Fault) = ⊥

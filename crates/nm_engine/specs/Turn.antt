@@ -11,9 +11,9 @@ use Rattle.nm_engine.specs.declared.answer.Cause.TheVariants.{End, Fault, Frame 
 use Rattle.nm_engine.specs.declared.answer.Turn.{Turn}
 use Rattle.nm_engine.specs.declared.answer.Turn.TheVariants.{Progress, Idle, Ended, Broken, Failed}
 use Rattle.nm_engine.specs.declared.limits.TheConstants.{MAX_READ_OCTETS}
-use Rattle.nm_engine.specs.Host.{HostValue}
+use Rattle.nm_engine.specs.Acceptor.{AcceptorValue}
 use Rattle.nm_engine.specs.Link.{LinkValue}
-use Rattle.nm_engine.specs.Lives.{Lives}
+use Rattle.nm_engine.specs.Lives.{LinkLives}
 use Rattle.nm_engine.specs.Taking.{Stops}
 
 -- the faults of a wire that a cause tells of
@@ -50,11 +50,11 @@ module _ {W : Type 0} (given taken : W → List ℕ) (ends failures : W → ℕ)
     pub most : length came ≤ MAX_READ_OCTETS
     pub came_in : given new.wire ≡ given old.wire ++ came
     pub framed : old.rest ++ came ≡ stream_octets ins ++ rest
-    pub took : Lives old.host old.session (map Took ins) mid
-    pub gave : Lives old.host mid (map Gave outs) new.session
+    pub took : LinkLives old.acceptor old.session (map Took ins) mid
+    pub gave : LinkLives old.acceptor mid (map Gave outs) new.session
     pub went_out : taken new.wire ≡ taken old.wire ++ went
     pub sent : went ++ left ≡ old.out ++ stream_octets outs
-    pub host : new.host ≡ old.host
+    pub acceptor : new.acceptor ≡ old.acceptor
 
   -- a turn that went well: the link holds the rest and what is left
   pub record Went : Type 0 where
@@ -65,7 +65,7 @@ module _ {W : Type 0} (given taken : W → List ℕ) (ends failures : W → ℕ)
   -- the rest begins with a frame that was not taken, for this cause
   abbrev pub StopsAt : Cause → List ℕ → Option SessionValue → Type 0
   StopsAt cause rest mid =
-      (f : Frame) × (more : List ℕ) × IsFrame f × (rest ≡ frame_octets f ++ more) × Stops cause old.host mid f
+      (f : Frame) × (more : List ℕ) × IsFrame f × (rest ≡ frame_octets f ++ more) × Stops cause old.acceptor mid f
 
   -- the reason of a cause
   abbrev pub IsReason : Cause → List ℕ → Option SessionValue → Type 0
@@ -93,11 +93,11 @@ module _ {W : Type 0} (given taken : W → List ℕ) (ends failures : W → ℕ)
   Turns Failed = (old.failed ≡ true) × (new ≡ old)
 
 -- the link of these parts
-abbrev pub link_of : {W : Type 0} → W → Option HostValue → Option SessionValue → List ℕ → List ℕ → Bool → LinkValue W
-link_of wire host session rest out failed = record { wire = wire; host = host; session = session; rest = rest; out = out; failed = failed }
+abbrev pub link_of : {W : Type 0} → W → Option AcceptorValue → Option SessionValue → List ℕ → List ℕ → Bool → LinkValue W
+link_of wire acceptor session rest out failed = record { wire = wire; acceptor = acceptor; session = session; rest = rest; out = out; failed = failed }
 
 -- the same of a turn's work on the parts of a link that has not failed
-abbrev pub Works : {W : Type 0} → (W → List ℕ) → (W → List ℕ) → (W → ℕ) → (W → ℕ) → W → W → Option HostValue → Option SessionValue → Option SessionValue → List ℕ → List ℕ → List ℕ → List ℕ → Result Turn Cause → Type 0
+abbrev pub Works : {W : Type 0} → (W → List ℕ) → (W → List ℕ) → (W → ℕ) → (W → ℕ) → W → W → Option AcceptorValue → Option SessionValue → Option SessionValue → List ℕ → List ℕ → List ℕ → List ℕ → Result Turn Cause → Type 0
 Works given taken ends failures v w h s t r q o p (Ok turn) =
     Turns given taken ends failures (link_of v h s r o false) (link_of w h t q p false) turn
 Works given taken ends failures v w h s t r q o p (Err cause) =

@@ -2,7 +2,7 @@
 
 ghost use Rattle.std.specs.Prelude.{◌≡◌, ◌+◌, ◌<◌, ◌≤◌, true, Ok, vec_len};
 ghost use Rattle.nm_engine.specs.Giving.{GivesOr};
-ghost use Rattle.nm_engine.specs.Host.{HostValue};
+ghost use Rattle.nm_engine.specs.Acceptor.{AcceptorValue};
 ghost use Rattle.std.specs.Prelude.{Option};
 
 use crate::acts::NextOut;
@@ -20,7 +20,7 @@ fn give_one<C: Counts, R: Wait>(
     pass: &mut Pass<C>,
     out: &mut Vec<u8>,
 ) -> Result<bool, Cause>
-    ensures gives { (h : Option HostValue) → GivesOr h session.old session.new out.old.items
+    ensures gives { (h : Option AcceptorValue) → GivesOr h session.old session.new out.old.items
         out.new.items result }
     ensures more { result ≡ Ok true → vec_len out.old < vec_len out.new }
     ensures most { vec_len out.new ≤ vec_len out.old + MAX_FRAME_OCTETS }
@@ -49,7 +49,7 @@ pub(crate) fn give_all<C: Counts, R: Wait>(
     out: &mut Vec<u8>,
 ) -> Result<(), Cause>
     requires { vec_len out.old ≤ MAX_OUT_OCTETS }
-    ensures gives { (h : Option HostValue) → GivesOr h session.old session.new out.old.items
+    ensures gives { (h : Option AcceptorValue) → GivesOr h session.old session.new out.old.items
         out.new.items result }
     ensures most { vec_len out.new ≤ MAX_OUT_OCTETS }
 {

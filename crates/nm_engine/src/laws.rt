@@ -2,9 +2,9 @@
 
 ghost use Rattle.std.specs.Prelude.{ℕ, List, Option};
 ghost use Rattle.nm_engine.specs.declared.answer.Turn.{Turn};
-ghost use Rattle.nm_engine.specs.Host.{HostValue};
+ghost use Rattle.nm_engine.specs.Acceptor.{AcceptorValue};
 ghost use Rattle.nm_engine.specs.Link.{LinkValue};
-ghost use Rattle.nm_engine.specs.Lives.{Lives};
+ghost use Rattle.nm_engine.specs.Lives.{LinkLives};
 ghost use Rattle.nm_engine.specs.Many.{Accounts, GoesOn, HasDue};
 ghost use Rattle.nm_frames.specs.Lives.{AreConsecutive, SessionStep, due_after};
 ghost use Rattle.nm_frames.specs.Session.{SessionValue};
@@ -22,7 +22,7 @@ pub fn nothing_is_lost<W>()
 /// is due there: that of the session's cursor or of the peer's last Have, and then one more each
 /// time.
 pub fn messages_are_consecutive()
-    ensures { (h : Option HostValue) (s t : Option SessionValue) (steps : List SessionStep) (c : ℕ)
-        (due : Option ℕ) → HasDue c due s → Lives h s steps t
+    ensures { (h : Option AcceptorValue) (s t : Option SessionValue) (steps : List SessionStep) (c : ℕ)
+        (due : Option ℕ) → HasDue c due s → LinkLives h s steps t
         → AreConsecutive c due steps × HasDue c (due_after c due steps) t }
 {}

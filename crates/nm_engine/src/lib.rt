@@ -1,10 +1,10 @@
 //! Links: a session over a wire that may break at any octet.
 #![tactic(auto)]
 
+pub mod acceptor;
 pub mod acts;
 pub mod answer;
 mod giving;
-pub mod host;
 pub mod laws;
 pub mod limits;
 pub mod link;
@@ -13,7 +13,7 @@ mod taking;
 mod turning;
 mod writing;
 
+pub use acceptor::Acceptor;
 pub use answer::{Cause, Turn};
-pub use host::Host;
 pub use link::Link;
 pub use reading::ReadBuffer;

@@ -4,8 +4,8 @@ ghost use Rattle.std.specs.Prelude.{◌≡◌, Some, None, [], false};
 ghost use Rattle.nm_engine.specs.Link.{IsBounded};
 ghost use Rattle.nm_engine.specs.Turn.{Turns};
 
+use crate::acceptor::Acceptor;
 use crate::answer::Turn;
-use crate::host::Host;
 use crate::reading::ReadBuffer;
 use crate::turning::work;
 use nm_base::Wire;
@@ -20,7 +20,7 @@ use std::sync::Wait;
 #[derive(Drop)]
 pub struct Link<W> {
     wire: W,
-    host: Option<Host>,
+    acceptor: Option<Acceptor>,
     session: Option<Session>,
     reader: Reader,
     /// The octets that the wire has not taken.
@@ -36,7 +36,7 @@ impl<W> Model for Link<W> {
 
     ghost view = { λ l. record {
       wire = l.wire;
-      host = l.host;
+      acceptor = l.acceptor;
       session = l.session;
       rest = l.reader.rest;
       out = l.out.items;
@@ -52,7 +52,7 @@ impl<W> Link<W> {
     pub fn connected(alloc: Global, wire: W, session: Session) -> Self
         ensures { result ≡ record {
           wire = wire;
-          host = None;
+          acceptor = None;
           session = Some session;
           rest = [];
           out = [];
@@ -61,7 +61,7 @@ impl<W> Link<W> {
     {
         Link {
             wire,
-            host: None,
+            acceptor: None,
             session: Some(session),
             reader: Reader::new(alloc),
             out: Vec::new(alloc),
@@ -70,10 +70,10 @@ impl<W> Link<W> {
     }
 
     /// A link over a wire that a peer connected, which says who it is by its first frame.
-    pub fn accepted(alloc: Global, wire: W, host: Host) -> Self
+    pub fn accepted(alloc: Global, wire: W, acceptor: Acceptor) -> Self
         ensures { result ≡ record {
           wire = wire;
-          host = Some host;
+          acceptor = Some acceptor;
           session = None;
           rest = [];
           out = [];
@@ -82,7 +82,7 @@ impl<W> Link<W> {
     {
         Link {
             wire,
-            host: Some(host),
+            acceptor: Some(acceptor),
             session: None,
             reader: Reader::new(alloc),
             out: Vec::new(alloc),
@@ -104,7 +104,7 @@ impl<W> Link<W> {
     {
         let Link {
             wire,
-            host: _,
+            acceptor: _,
             session,
             reader: _,
             out: _,
@@ -136,7 +136,7 @@ impl<W: Wire> Link<W> {
             rt,
             alloc,
             &mut self.wire,
-            &self.host,
+            &self.acceptor,
             &mut self.session,
             &mut self.reader,
             &mut self.out,

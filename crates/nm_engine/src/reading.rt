@@ -2,7 +2,7 @@
 
 ghost use Rattle.std.specs.Prelude.{◌≡◌, ◌+◌, ◌<◌, [], true, false, length, IfOk};
 ghost use Rattle.nm_engine.specs.declared.limits.TheConstants.{MAX_READ_OCTETS};
-ghost use Rattle.nm_engine.specs.Reading.{Feeds, Reads};
+ghost use Rattle.nm_engine.specs.Reading.{FeedsReader, Reads};
 
 use crate::answer::Cause;
 use crate::limits::{MAX_FRAME_OCTETS, MAX_READ_OCTETS};
@@ -41,7 +41,7 @@ fn feed(
     requires sound { reader.old.failed ≡ false }
     requires none { frames.old.items ≡ [] }
     requires rest { length reader.old.rest < MAX_FRAME_OCTETS }
-    ensures feeds { Feeds reader.old octets.now frames.new.items reader.new result }
+    ensures feeds { FeedsReader reader.old octets.now frames.new.items reader.new result }
     ensures rest { length reader.new.rest < MAX_FRAME_OCTETS }
 {
     match reader.feed(alloc, octets, frames) {

@@ -3,11 +3,11 @@
 ghost use Rattle.std.specs.Prelude.{◌≡◌, Option, Some};
 ghost use Rattle.std.specs.List.{AllByRecursion};
 ghost use Rattle.nm_frames.specs.Frame.{IsFrame};
-ghost use Rattle.nm_engine.specs.Host.{HostValue};
+ghost use Rattle.nm_engine.specs.Acceptor.{AcceptorValue};
 ghost use Rattle.nm_engine.specs.Taking.{TakesAll, TakesOne, Tells};
 
+use crate::acceptor::Acceptor;
 use crate::answer::Cause;
-use crate::host::Host;
 use nm_book::{AcceptFault, ChannelMessage};
 use nm_frames::{Frame, Session, Taken};
 use nm_knowledge::KnowFault;
@@ -39,7 +39,7 @@ fn take_later<C: Counts, R: Wait>(
     pass: &mut Pass<C>,
     frame: Frame,
 ) -> Result<(), Cause>
-    ensures { (h : Option HostValue)
+    ensures { (h : Option AcceptorValue)
         → TakesOne h (Some session.old) frame (Some session.new) result }
 {
     match session.take(frame) {
@@ -53,21 +53,21 @@ fn take_later<C: Counts, R: Wait>(
 fn take_one<C: Counts, R: Wait>(
     rt: &R,
     alloc: Global,
-    host: &Option<Host>,
+    acceptor: &Option<Acceptor>,
     session: &mut Option<Session>,
     book: &SharedBook<C>,
     pass: &mut Pass<C>,
     frame: Frame,
 ) -> Result<(), Cause>
-    ensures { TakesOne host.now session.old frame session.new result }
+    ensures { TakesOne acceptor.now session.old frame session.new result }
 {
     if let Some(session) = session {
         return take_later(rt, session, book, pass, frame);
     }
-    let Some(host) = host else {
+    let Some(acceptor) = acceptor else {
         return Err(Cause::Session);
     };
-    match host.greet(alloc, frame) {
+    match acceptor.greet(alloc, frame) {
         Ok(greeted) => {
             *session = Some(greeted);
             Ok(())
@@ -80,17 +80,17 @@ fn take_one<C: Counts, R: Wait>(
 pub(crate) fn take_all<C: Counts, R: Wait>(
     rt: &R,
     alloc: Global,
-    host: &Option<Host>,
+    acceptor: &Option<Acceptor>,
     session: &mut Option<Session>,
     book: &SharedBook<C>,
     pass: &mut Pass<C>,
     frames: Vec<Frame>,
 ) -> Result<(), Cause>
     requires { AllByRecursion IsFrame frames.items }
-    ensures { TakesAll host.now session.old frames.items session.new result }
+    ensures { TakesAll acceptor.now session.old frames.items session.new result }
 {
     for frame in frames {
-        if let Err(cause) = take_one(rt, alloc, host, session, book, pass, frame) {
+        if let Err(cause) = take_one(rt, alloc, acceptor, session, book, pass, frame) {
             return Err(cause);
         }
     }

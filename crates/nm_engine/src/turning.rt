@@ -4,9 +4,9 @@ ghost use Rattle.std.specs.Prelude.{◌≡◌, ◌<◌, false, true, length, vec
 ghost use Rattle.nm_engine.specs.Turn.{HasEnded, Works, answer_of};
 ghost use Rattle.nm_engine.specs.Link.{IsBounded};
 
+use crate::acceptor::Acceptor;
 use crate::answer::{Cause, Turn};
 use crate::giving::give_all;
-use crate::host::Host;
 use crate::reading::{ReadBuffer, read_in};
 use crate::taking::take_all;
 use crate::writing::write_out;
@@ -53,7 +53,7 @@ pub(crate) fn work<W: Wire, C: Counts, R: Wait>(
     rt: &R,
     alloc: Global,
     wire: &mut W,
-    host: &Option<Host>,
+    acceptor: &Option<Acceptor>,
     session: &mut Option<Session>,
     reader: &mut Reader,
     out: &mut Vec<u8>,
@@ -63,7 +63,7 @@ pub(crate) fn work<W: Wire, C: Counts, R: Wait>(
 ) -> Result<Turn, Cause>
     requires sound { reader.old.failed ≡ false }
     requires bounded { IsBounded reader.old.rest out.old.items }
-    ensures works { Works W.given W.taken W.ends W.failures wire.old wire.new host.now session.old
+    ensures works { Works W.given W.taken W.ends W.failures wire.old wire.new acceptor.now session.old
         session.new reader.old.rest reader.new.rest out.old.items out.new.items result }
     ensures bounded { IsBounded reader.new.rest out.new.items }
     ensures sound { IfOk result (λ _. reader.new.failed ≡ false) }
@@ -71,7 +71,7 @@ pub(crate) fn work<W: Wire, C: Counts, R: Wait>(
     let may_end = bye_taken(session);
     let mut frames = Vec::new(alloc);
     let read = read_in(alloc, wire, reader, may_end, buffer, &mut frames);
-    if let Err(cause) = take_all(rt, alloc, host, session, book, pass, frames) {
+    if let Err(cause) = take_all(rt, alloc, acceptor, session, book, pass, frames) {
         return Err(cause);
     }
     let came = match read {

@@ -1,5 +1,5 @@
 -- Sessions after a break.
-use Rattle.std.proofs.Common.{◌≡◌, map, refl, sym}
+use Rattle.std.proofs.Common.{◌≡◌, refl, sym}
 use Rattle.std.proofs.lemmas.Simd.{map-map}
 use Rattle.nm_frames.specs.Session.{SessionValue, broken, new_incoming, new_outgoing}
 use Rattle.nm_net.specs.Dialing.{IsAtGreeting}

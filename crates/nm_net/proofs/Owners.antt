@@ -1,5 +1,5 @@
 -- Seats that own words of a board.
-use Rattle.std.proofs.Common.{◌≡◌, ℕ, zero, suc, ◌<◌, List, [], ◌∷◌, ◌++◌, All, length, refl, sym, subst, arith}
+use Rattle.std.proofs.Common.{◌≡◌, ℕ, zero, suc, List, [], ◌∷◌, ◌++◌, All, refl, sym, subst, arith}
 use Rattle.std.proofs.lemmas.List.Elements.{All-cons, All-nil, All-push, All-rest}
 use Rattle.nm_shared.specs.declared.board.ClockBoard.{ClockBoard}
 use Rattle.nm_shared.specs.declared.board.OwnerSeat.{OwnerSeat}

@@ -1,12 +1,12 @@
 -- Records that a replica hands out, and the trace files to which they go.
-use Rattle.std.proofs.Common.{◌≡◌, ℕ, ◌+◌, ◌<◌, ◌≤◌, All, List, [], ◌∷◌, ◌++◌, take, drop, slice_get, slice_index_or, get_or, Option, Some, is_some, if◌then◌else◌, length, length-drop, refl, sym, ◌∙◌, ap, subst, arith, append-nil}
+use Rattle.std.proofs.Common.{◌≡◌, ℕ, ◌+◌, ◌≤◌, All, List, [], ◌∷◌, ◌++◌, take, drop, slice_get, Option, Some, is_some, if◌then◌else◌, length-drop, refl, sym, ◌∙◌, ap, subst, arith, append-nil}
 use Rattle.std.proofs.lemmas.List.{append_assoc, get_or-drop}
 use Rattle.std.proofs.lemmas.List.Elements.{All-drop, All-take}
 use Rattle.std.proofs.lemmas.Option.{slice_get_within, get_or_from_slice_get, slice_get-get_or}
 use Rattle.nm_base.specs.declared.limits.TheConstants.{MAX_TIME}
 use Rattle.nm_base.specs.declared.record.Record.{Record}
 use Rattle.nm_pcap.specs.Writer.{Writer}
-use Rattle.nm_files.specs.Files.{FilesTook, IsSound}
+use Rattle.nm_files.specs.Files.{IsSound}
 use Rattle.nm_files.proofs.Files.{more_records, no_records}
 use Rattle.nm_files.proofs.Records.{one_more}
 use Rattle.nm_book.specs.Book.{BookValue, state_of}

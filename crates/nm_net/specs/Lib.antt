@@ -1,4 +1,4 @@
-pub mod Network
+pub mod Transport
 pub mod Dialing
-pub mod Ending
+pub mod Served
 pub mod Recording

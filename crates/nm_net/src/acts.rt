@@ -13,46 +13,36 @@ use nm_book::Book;
 use nm_book::laws::records_have_times_of_a_file;
 use nm_shared::Act;
 
-/// `Book::done`: whether nothing is left to do.
-#[derive(Drop)]
-pub struct IsDone;
-
-impl Act for IsDone {
-    type Out = bool;
-
-    ghost does = { λ a b r c. (c ≡ b)
-        × (r ≡ is_done (net_of b.topology) b.partition (replica_of b)) };
-
-    fn act(self, book: &mut Book) -> bool {
-        book.done()
-    }
-
-    ghost grows = { λ a b r c h. same_grows b c h.0 };
-}
-
-/// How far a book is: the events that were done, the records of its trace, and how far it may run.
+/// How far a book is.
 #[derive(Clone, Copy, Drop)]
-pub struct Far {
-    pub events: u64,
-    pub records: u64,
+pub struct Standing {
+    /// It may run what is before this time.
     pub safe: Time,
+    /// How many events were done.
+    pub events: u64,
+    /// How many records its trace has, those that were handed out among them.
+    pub records: u64,
+    /// Nothing is left to do.
+    pub is_done: bool,
 }
 
-/// `Book::events`, `Book::records` and `Book::safe`.
+/// `Book::safe`, `Book::events`, `Book::records` and `Book::done`.
 #[derive(Drop)]
-pub struct HowFar;
+pub struct Stand;
 
-impl Act for HowFar {
-    type Out = Far;
+impl Act for Stand {
+    type Out = Standing;
 
-    ghost does = { λ a b r c. (c ≡ b) × (r.events ≡ b.events)
-        × (r.records ≡ length (state_of b).records) × (r.safe ≡ safe_of b) };
+    ghost does = { λ a b r c. (c ≡ b) × (r.safe ≡ safe_of b) × (r.events ≡ b.events)
+        × (r.records ≡ length (state_of b).records)
+        × (r.is_done ≡ is_done (net_of b.topology) b.partition (replica_of b)) };
 
-    fn act(self, book: &mut Book) -> Far {
-        Far {
+    fn act(self, book: &mut Book) -> Standing {
+        Standing {
+            safe: book.safe(),
             events: book.events(),
             records: book.records(),
-            safe: book.safe(),
+            is_done: book.done(),
         }
     }
 

@@ -1,24 +1,24 @@
-//! One replica over a network: its connections, and the loop that serves them.
+//! One replica over a transport: its connections, and the loop that serves them.
 #![tactic(auto)]
 
 pub mod acts;
 mod connections;
 mod dialing;
-pub mod ending;
 pub mod limits;
-pub mod mio_network;
 mod moved;
-pub mod net_wire;
-pub mod network;
 mod recording;
 pub mod replica;
 pub mod seats;
+pub mod served;
 mod serving;
 mod sisters;
+pub mod tcp_transport;
+pub mod tcp_wire;
 mod telling;
+pub mod transport;
 
-pub use ending::Ending;
-pub use mio_network::MioNetwork;
-pub use net_wire::NetWire;
-pub use network::{Network, Waited};
-pub use replica::{Holdings, Replica, run_replica};
+pub use replica::{Holdings, Service, run_replica};
+pub use served::Served;
+pub use tcp_transport::TcpTransport;
+pub use tcp_wire::TcpWire;
+pub use transport::{Transport, Waited};

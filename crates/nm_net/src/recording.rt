@@ -6,31 +6,41 @@ ghost use Rattle.nm_net.specs.Recording.{Streams};
 
 use crate::acts::HandOutSome;
 use crate::limits::{MAX_HAND_OUTS, MAX_HANDED};
-use crate::replica::{Holdings, Replica};
+use crate::replica::Service;
 use nm_base::Sink;
 use nm_files::{FilesFault, TraceFiles};
 use nm_shared::{Counts, Pass};
 use std::alloc::Global;
 use std::sync::Wait;
 
-/// Hands records out under the lock, and writes them outside it: whether there may be more.
+/// What writing came to: whether records were written, and whether there may be more.
+#[derive(Clone, Copy)]
+pub(crate) struct Recorded {
+    pub has_written: bool,
+    pub has_more: bool,
+}
+
+/// Hands records out under the lock, and writes them outside it.
 fn write_some<C: Counts, S: Sink, R: Wait>(
     rt: &R,
     alloc: Global,
-    replica: &Replica<'_, C>,
+    service: &Service<'_, C>,
     pass: &mut Pass<C>,
     files: &mut TraceFiles<S>,
-) -> Result<bool, FilesFault>
+) -> Result<Recorded, FilesFault>
     requires { All IsSound files.old.files.items }
     ensures { OnOk result (Streams S.taken S.failures files.old.files.items files.new.files.items) }
 {
     let room = Vec::with_capacity(alloc, MAX_HANDED)?;
-    let records = replica.book.act(rt, pass, HandOutSome { room });
+    let records = service.book.act(rt, pass, HandOutSome { room });
     files.put_all(records.as_slice())?;
-    Ok(records.len() >= MAX_HANDED)
+    Ok(Recorded {
+        has_written: !records.is_empty(),
+        has_more: records.len() >= MAX_HANDED,
+    })
 }
 
-/// Writes the records that are kept, if there are trace files: whether there may be more.
+/// Writes the records that are kept, if there are trace files.
 ///
 /// # Errors
 ///
@@ -38,20 +48,27 @@ fn write_some<C: Counts, S: Sink, R: Wait>(
 pub(crate) fn write_records<C: Counts, S: Sink, R: Wait>(
     rt: &R,
     alloc: Global,
-    replica: &Replica<'_, C>,
+    service: &Service<'_, C>,
     pass: &mut Pass<C>,
     files: &mut TraceFiles<S>,
-) -> Result<bool, FilesFault>
+) -> Result<Recorded, FilesFault>
     requires { All IsSound files.old.files.items }
     ensures { OnOk result (Streams S.taken S.failures files.old.files.items files.new.files.items) }
 {
+    let mut all = Recorded {
+        has_written: false,
+        has_more: false,
+    };
     if files.is_empty() {
-        return Ok(false);
+        return Ok(all);
     }
     for _ in 0..MAX_HAND_OUTS {
-        if !write_some(rt, alloc, replica, pass, files)? {
-            return Ok(false);
+        let some = write_some(rt, alloc, service, pass, files)?;
+        all.has_written = all.has_written || some.has_written;
+        all.has_more = some.has_more;
+        if !some.has_more {
+            return Ok(all);
         }
     }
-    Ok(true)
+    Ok(all)
 }

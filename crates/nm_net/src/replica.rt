@@ -1,16 +1,16 @@
-//! A replica over a network, until it ends.
+//! A replica over a transport, until it ends.
 
-ghost use Rattle.std.specs.Prelude.{◌≡◌, ◌+◌, ◌≤◌, All, length};
+ghost use Rattle.std.specs.Prelude.{◌≡◌, ◌+◌, ◌≤◌, All, if◌then◌else◌, length};
 ghost use Rattle.nm_shared.specs.Board.{IsOwnerOf};
 ghost use Rattle.nm_files.specs.Files.{IsSound};
-ghost use Rattle.nm_net.specs.Ending.{EndsWith, ending_of};
+ghost use Rattle.nm_net.specs.Served.{EndsWith};
 ghost use Rattle.nm_net.specs.Recording.{Streams};
-ghost use Rattle.nm_net.specs.declared.ending.Ending.TheVariants.{Ended};
+ghost use Rattle.nm_net.specs.declared.served.Served.TheVariants.{Ended};
 
-use crate::ending::Ending;
-use crate::limits::{MAX_POLLS, WAIT_MILLISECONDS};
-use crate::network::Network;
+use crate::limits::MAX_POLLS;
+use crate::served::Served;
 use crate::serving::{Polled, Serving, poll};
+use crate::transport::Transport;
 use nm_base::{PartNo, Sink};
 use nm_files::TraceFiles;
 use nm_progress::Progress;
@@ -21,7 +21,7 @@ use std::sync::{Arc, Wait};
 
 /// A replica, those with which it speaks, and its limits.
 #[derive(Clone, Copy)]
-pub struct Replica<'a, C: Counts> {
+pub struct Service<'a, C: Counts> {
     pub topology: &'a Arc<Topology>,
     pub partition: PartNo,
     /// 0 or 1.
@@ -62,26 +62,15 @@ pub struct Holdings<C: Counts, S> {
 
 /// How many polls in a row ran out and nothing was moved or done, after one more.
 fn idle_polls(before: u64, polled: Polled) -> u64
-    ensures { result ≤ before + polled.idle }
+    ensures { result ≤ before + (if polled.ran_out then 1 else 0) }
 {
     if polled.was_active {
-        0
-    } else {
-        before.saturating_add(polled.idle)
+        return 0;
     }
-}
-
-/// How a replica ends after a poll, if it does.
-fn ending_of(polled: Polled, idle: u64, limit: u64, polls: u64) -> Option<Ending>
-    ensures { result ≡ ending_of polled.is_done idle limit polls }
-{
-    if polled.is_done {
-        return Some(Ending::Ended);
+    if polled.ran_out {
+        return before.saturating_add(1);
     }
-    if idle >= limit {
-        return Some(Ending::Stalled { polls });
-    }
-    None
+    before
 }
 
 /// Serves the connections of a replica, and runs its book if it is to, until the replica is done
@@ -93,52 +82,46 @@ fn ending_of(polled: Polled, idle: u64, limit: u64, polls: u64) -> Option<Ending
 /// each outgoing channel stands on the board before a poll ends. Before each poll the gate is asked,
 /// and told how many octets have moved.
 ///
-/// `Ended` where the replica was seen to be done. `File` where a trace file failed. `Stalled` after no fewer polls with nothing ready
-/// than its limit, or after 10^9 polls. `Net` where a peer broke the rules, a message was refused,
-/// or the gate said so. `Memory` where memory was refused.
-pub fn run_replica<C: Counts, S: Sink, N: Network, G: Gate, R: Wait>(
+/// `Ended` where the replica was seen to be done. `File` where a trace file failed. `Stalled` after
+/// no fewer polls with nothing ready than its limit, or after 10^9 polls. `Net` where a peer broke
+/// the rules, a message was refused, or the gate said so. `Memory` where memory was refused.
+pub fn run_replica<C: Counts, S: Sink, T: Transport, G: Gate, R: Wait>(
     rt: &R,
     alloc: Global,
-    replica: &Replica<'_, C>,
+    service: &Service<'_, C>,
     holdings: &mut Holdings<C, S>,
-    network: &mut N,
+    transport: &mut T,
     gate: &G,
-) -> Ending
-    requires owners { All (IsOwnerOf replica.now.board.now) holdings.old.seats.items }
+) -> Served
+    requires owners { All (IsOwnerOf service.now.board.now) holdings.old.seats.items }
     requires files { All IsSound holdings.old.files.files.items }
     ensures streams { result ≡ Ended → Streams S.taken S.failures
         holdings.old.files.files.items holdings.new.files.files.items }
-    ensures ends { EndsWith C.exact C.home replica.now.idle_limit (N.idle_waits network.old)
-        (N.idle_waits network.new) result }
-    ensures owners { All (IsOwnerOf replica.now.board.now) holdings.new.seats.items }
+    ensures ends { EndsWith C.exact C.home service.now.idle_limit (T.idle_waits transport.old)
+        (T.idle_waits transport.new) result }
+    ensures owners { All (IsOwnerOf service.now.board.now) holdings.new.seats.items }
     ensures seats { length holdings.new.seats.items ≡ length holdings.old.seats.items }
     ensures passes { length holdings.new.passes.items ≡ length holdings.old.passes.items }
 {
-    let Ok(mut serving) = Serving::new(alloc, replica) else {
-        return Ending::Memory;
+    let Ok(mut serving) = Serving::new(alloc, service) else {
+        return Served::Memory;
     };
     let mut idle = 0u64;
-    let mut milliseconds = 0u64;
     for polls in 0..MAX_POLLS {
-        let polled = match poll(
-            rt,
-            alloc,
-            replica,
-            holdings,
-            network,
-            gate,
-            &mut serving,
-            polls,
-            milliseconds,
-        ) {
-            Ok(polled) => polled,
-            Err(ending) => return ending,
-        };
-        idle = idle_polls(idle, polled);
-        if let Some(ending) = ending_of(polled, idle, replica.idle_limit, polls + 1) {
-            return ending;
+        if !gate.poll(serving.moved) {
+            return Served::Net;
         }
-        milliseconds = if polled.is_busy { 0 } else { WAIT_MILLISECONDS };
+        let polled = match poll(rt, alloc, service, holdings, transport, &mut serving) {
+            Ok(polled) => polled,
+            Err(served) => return served,
+        };
+        if polled.is_done {
+            return Served::Ended;
+        }
+        idle = idle_polls(idle, polled);
+        if idle >= service.idle_limit {
+            return Served::Stalled { polls: polls + 1 };
+        }
     }
-    Ending::Stalled { polls: MAX_POLLS }
+    Served::Stalled { polls: MAX_POLLS }
 }

@@ -1,103 +1,94 @@
 //! One poll of a replica, and what follows it.
 
-ghost use Rattle.std.specs.Prelude.{◌≡◌, ◌+◌, true, All, IfErr, IfOk, OnOk, length};
+ghost use Rattle.std.specs.Prelude.{◌≡◌, ◌+◌, ◌≤◌, true, All, IfErr, IfOk, OnOk, if◌then◌else◌, length};
 ghost use Rattle.nm_shared.specs.Board.{IsOwnerOf};
 ghost use Rattle.nm_files.specs.Files.{IsSound};
-ghost use Rattle.nm_net.specs.Ending.{EndsEarly, WasFinished};
+ghost use Rattle.nm_net.specs.Served.{EndsEarly, WasFinished};
 ghost use Rattle.nm_net.specs.Recording.{Streams};
 
-use crate::acts::{HowFar, IsDone};
-use crate::connections::{Connection, accept_all, dial_all, end, let_go};
-use crate::dialing::Dialing;
-use crate::ending::{Ending, file_ending};
-use crate::limits::{MAX_TURNS, MERGE_POLLS};
-use crate::network::{Network, Waited};
+use crate::acts::{Stand, Standing};
+use crate::connections::Connections;
+use crate::limits::{MAX_TURNS, MERGE_POLLS, WAIT_MILLISECONDS};
 use crate::recording::write_records;
-use crate::replica::{Holdings, Replica};
+use crate::replica::{Holdings, Service};
+use crate::served::{Served, file_served};
 use crate::sisters::{all_are_done, merge_sister};
 use crate::telling::tell_all;
+use crate::transport::{Transport, Waited};
 use nm_base::{Sink, Wire};
 use nm_book::Ran;
 use nm_engine::{ReadBuffer, Turn};
-use nm_shared::{Counts, Gate, Pass, SharedBook};
-use slab::Slab;
+use nm_shared::{Counts, Pass, SharedBook};
 use std::alloc::{AllocError, Global};
 use std::sync::Wait;
 
-/// The connections of a replica, and what is left of those that are gone.
+/// What a replica keeps while it is served.
 #[derive(Drop)]
 pub(crate) struct Serving<W> {
-    connections: Slab<Connection<W>>,
-    dialing: Vec<Dialing>,
-    /// How many connections that peers began have ended.
-    callers_ended: usize,
+    connections: Connections<W>,
     /// How many octets have moved, which stops at the greatest `u64`.
-    moved: u64,
+    pub moved: u64,
     /// How many events the book had done when it was looked at last.
     events: u64,
+    /// How many polls were made.
+    polls: u64,
+    /// More may be left to do that no connection tells of: the next poll does not wait.
+    is_busy: bool,
     buffer: ReadBuffer,
 }
 
 /// What a poll came to.
 #[derive(Clone, Copy)]
 pub(crate) struct Polled {
-    /// 1 where nothing was ready, else 0.
-    pub idle: u64,
-    /// Octets moved, or the book did an event.
+    /// It waited, and nothing was ready.
+    pub ran_out: bool,
+    /// Octets moved, the book did an event, or records were written.
     pub was_active: bool,
-    /// More may be left to do that no connection tells of.
-    pub is_busy: bool,
     /// The replica is done, so are its links or all replicas, and its trace files are written.
     pub is_done: bool,
 }
 
 impl<W> Serving<W> {
     /// No connection so far.
+    ///
+    /// # Errors
+    ///
+    /// Where memory was refused.
     pub(crate) fn new<C: Counts>(
         alloc: Global,
-        replica: &Replica<'_, C>,
+        service: &Service<'_, C>,
     ) -> Result<Self, AllocError> {
         let buffer = ReadBuffer::new(alloc)?;
-        let mut dialing = Vec::with_capacity(alloc, replica.peers.len())?;
-        for peer in replica.peers {
-            let calls = Dialing::new(
-                alloc,
-                replica.topology,
-                replica.partition,
-                replica.replica,
-                *peer,
-            )?;
-            dialing.push(calls)?;
-        }
         Ok(Serving {
-            connections: Slab::new(alloc),
-            dialing,
-            callers_ended: 0,
+            connections: Connections::new(alloc, service)?,
             moved: 0,
             events: 0,
+            polls: 0,
+            is_busy: true,
             buffer,
         })
     }
-
-    /// Whether all links have ended.
-    fn has_ended(&self, callers: usize) -> bool {
-        self.callers_ended >= callers && self.dialing.iter().all(|calls| calls.has_ended())
-    }
 }
 
-/// Gives a connection its turns: how many octets moved, and what the last turn came to.
+/// Gives the connection with this key its turns, if it is there: how many octets moved, and what
+/// the last turn came to.
 fn turns<W: Wire, C: Counts, R: Wait>(
     rt: &R,
     alloc: Global,
     book: &SharedBook<C>,
     pass: &mut Pass<C>,
-    connection: &mut Connection<W>,
-    buffer: &mut ReadBuffer,
+    serving: &mut Serving<W>,
+    key: usize,
 ) -> (u64, Turn) {
+    let Some(connection) = serving.connections.open.get_mut(key) else {
+        return (0, Turn::Idle);
+    };
     let before = connection.link.wire().moved();
     let mut last = Turn::Progress;
     for _ in 0..MAX_TURNS {
-        last = connection.link.turn(rt, alloc, book, pass, buffer);
+        last = connection
+            .link
+            .turn(rt, alloc, book, pass, &mut serving.buffer);
         if last != Turn::Progress {
             break;
         }
@@ -107,61 +98,57 @@ fn turns<W: Wire, C: Counts, R: Wait>(
 }
 
 /// Gives each connection its turns, and lets go of those that ended or broke: how many octets
-/// moved, or how the replica ends.
-fn serve_all<N: Network, C: Counts, R: Wait>(
+/// moved, or how serving ends.
+fn serve_all<T: Transport, C: Counts, R: Wait>(
     rt: &R,
     alloc: Global,
-    replica: &Replica<'_, C>,
+    service: &Service<'_, C>,
     pass: &mut Pass<C>,
-    network: &mut N,
-    serving: &mut Serving<N::Connection>,
-) -> Result<u64, Ending>
-    ensures idle { N.idle_waits network.new ≡ N.idle_waits network.old }
+    transport: &mut T,
+    serving: &mut Serving<T::Connection>,
+) -> Result<u64, Served>
+    ensures idle { T.idle_waits transport.new ≡ T.idle_waits transport.old }
     ensures early { IfErr result EndsEarly }
 {
     let mut moved = 0u64;
-    for key in 0..serving.connections.capacity() {
-        let (count, turn) = match serving.connections.get_mut(key) {
-            None => continue,
-            Some(connection) => turns(
-                rt,
-                alloc,
-                replica.book,
-                pass,
-                connection,
-                &mut serving.buffer,
-            ),
-        };
+    for key in 0..serving.connections.open.capacity() {
+        let (count, turn) = turns(rt, alloc, service.book, pass, serving, key);
+        serving.connections.settle(transport, key, turn)?;
         moved = moved.saturating_add(count);
-        match turn {
-            Turn::Progress | Turn::Idle => {}
-            Turn::Ended => end(
-                network,
-                &mut serving.connections,
-                key,
-                &mut serving.dialing,
-                &mut serving.callers_ended,
-            ),
-            Turn::Broken(cause) => {
-                let broken = let_go(
-                    network,
-                    &mut serving.connections,
-                    key,
-                    &mut serving.dialing,
-                    cause,
-                );
-                if let Err(ending) = broken {
-                    return Err(ending);
-                }
-            }
-            Turn::Failed => return Err(Ending::Net),
-        }
     }
+    serving.moved = serving.moved.saturating_add(moved);
     Ok(moved)
 }
 
-/// Runs the book, if the replica is to, and notes how far it is: whether events were done since it
-/// was looked at last, whoever ran it.
+/// Waits, and takes what came: whether it waited and nothing was ready. Where more is left to do it
+/// only looks, which tells nothing of how long nothing moved.
+fn await_transport<T: Transport, C: Counts>(
+    alloc: Global,
+    service: &Service<'_, C>,
+    transport: &mut T,
+    serving: &mut Serving<T::Connection>,
+) -> Result<bool, AllocError>
+    ensures { IfOk result (λ ran_out. T.idle_waits transport.old
+        + (if ran_out then 1 else 0) ≤ T.idle_waits transport.new) }
+{
+    serving.connections.dial_all(alloc, transport)?;
+    let milliseconds = if serving.is_busy {
+        0
+    } else {
+        WAIT_MILLISECONDS
+    };
+    let waited = transport.wait(milliseconds);
+    let ran_out = match waited {
+        Waited::Ready => false,
+        Waited::RanOut => !serving.is_busy,
+        Waited::Fault => true,
+    };
+    serving.connections.pass_poll(ran_out);
+    serving.connections.accept_all(alloc, service, transport)?;
+    Ok(ran_out)
+}
+
+/// Runs the book, if the replica is to, and looks how far it is.
 ///
 /// # Errors
 ///
@@ -169,173 +156,122 @@ fn serve_all<N: Network, C: Counts, R: Wait>(
 fn run_book<C: Counts, R: Wait>(
     rt: &R,
     alloc: Global,
-    replica: &Replica<'_, C>,
+    service: &Service<'_, C>,
     pass: &mut Pass<C>,
-    events: &mut u64,
-) -> Result<bool, AllocError> {
-    if replica.run_limit > 0 {
-        if let Ran::Memory(_) = replica.book.run(rt, pass, alloc, replica.run_limit) {
+) -> Result<Standing, AllocError>
+    ensures { IfOk result (λ s. s.is_done ≡ true → WasFinished C.exact C.home) }
+{
+    if service.run_limit > 0 {
+        if let Ran::Memory(_) = service.book.run(rt, pass, alloc, service.run_limit) {
             return Err(AllocError);
         }
     }
-    let before = *events;
-    let far = replica.book.act(rt, pass, HowFar);
-    if let Some(progress) = replica.progress {
-        progress.note(far.safe, far.records);
+    let standing = service.book.act(rt, pass, Stand);
+    if let Some(progress) = service.progress {
+        progress.note(standing.safe, standing.records);
     }
-    *events = far.events;
-    Ok(*events != before)
-}
-
-/// Whether the replica is done, and its links or all replicas of the run are.
-fn is_done<W, C: Counts, S, R: Wait>(
-    rt: &R,
-    replica: &Replica<'_, C>,
-    holdings: &mut Holdings<C, S>,
-    serving: &Serving<W>,
-) -> bool
-    ensures done { result ≡ true → WasFinished C.exact C.home }
-    ensures same { (holdings.new.seats ≡ holdings.old.seats)
-        × (holdings.new.files ≡ holdings.old.files)
-        × (length holdings.new.passes.items ≡ length holdings.old.passes.items) }
-{
-    if !replica.book.act(rt, &mut holdings.pass, IsDone) {
-        return false;
-    }
-    serving.has_ended(replica.callers) || all_are_done(rt, replica, &mut holdings.passes)
-}
-
-/// Waits, and takes what came: whether the wait ran out.
-fn await_network<N: Network, C: Counts>(
-    alloc: Global,
-    replica: &Replica<'_, C>,
-    network: &mut N,
-    serving: &mut Serving<N::Connection>,
-    milliseconds: u64,
-) -> Result<u64, AllocError>
-    ensures { IfOk result
-        (λ idle. N.idle_waits network.new ≡ N.idle_waits network.old + idle) }
-{
-    dial_all(
-        alloc,
-        network,
-        &mut serving.connections,
-        &mut serving.dialing,
-    )?;
-    let idle = match network.wait(milliseconds) {
-        Waited::Ready => 0,
-        Waited::RanOut | Waited::Fault => 1,
-    };
-    for number in 0..serving.dialing.len() {
-        serving.dialing[number].pass_poll(idle > 0);
-    }
-    accept_all(alloc, replica, network, &mut serving.connections)?;
-    Ok(idle)
+    Ok(standing)
 }
 
 /// What the replica does by itself after a poll: its events, what its sister knows, and what the
-/// board is told. It answers whether events were done.
+/// board is told. It answers how far the book is.
+///
+/// # Errors
+///
+/// Where memory was refused.
 fn act_alone<C: Counts, S, R: Wait>(
     rt: &R,
     alloc: Global,
-    replica: &Replica<'_, C>,
+    service: &Service<'_, C>,
     holdings: &mut Holdings<C, S>,
     polls: u64,
-    events: &mut u64,
-) -> Result<bool, AllocError>
-    requires { All (IsOwnerOf replica.now.board.now) holdings.old.seats.items }
+) -> Result<Standing, AllocError>
+    requires { All (IsOwnerOf service.now.board.now) holdings.old.seats.items }
+    ensures done { IfOk result (λ s. s.is_done ≡ true → WasFinished C.exact C.home) }
     ensures files { holdings.new.files ≡ holdings.old.files }
-    ensures owners { All (IsOwnerOf replica.now.board.now) holdings.new.seats.items }
+    ensures owners { All (IsOwnerOf service.now.board.now) holdings.new.seats.items }
     ensures seats { length holdings.new.seats.items ≡ length holdings.old.seats.items }
     ensures passes { length holdings.new.passes.items ≡ length holdings.old.passes.items }
 {
     if polls % MERGE_POLLS == MERGE_POLLS - 1 {
-        merge_sister(rt, alloc, replica, holdings)?;
+        merge_sister(rt, alloc, service, holdings)?;
     }
-    let was_run = run_book(rt, alloc, replica, &mut holdings.pass, events)?;
+    let standing = run_book(rt, alloc, service, &mut holdings.pass)?;
     tell_all(
         rt,
-        replica.book,
+        service.book,
         &mut holdings.pass,
-        replica.board,
+        service.board,
         &mut holdings.seats,
     );
-    Ok(was_run)
+    Ok(standing)
 }
 
-/// Writes the trace files on, and tells whether the replica has ended: what a poll came to.
-fn conclude<W, C: Counts, S: Sink, R: Wait>(
+/// Whether all links of a replica that is done have ended, or all replicas of the run are done.
+fn may_end<W, C: Counts, R: Wait>(
     rt: &R,
-    alloc: Global,
-    replica: &Replica<'_, C>,
-    holdings: &mut Holdings<C, S>,
-    serving: &Serving<W>,
-    idle: u64,
-    moved: u64,
-    was_run: bool,
-) -> Result<Polled, Ending>
-    requires { All IsSound holdings.old.files.files.items }
-    ensures seats { holdings.new.seats ≡ holdings.old.seats }
-    ensures passes { length holdings.new.passes.items ≡ length holdings.old.passes.items }
-    ensures streams { OnOk result (Streams S.taken S.failures
-        holdings.old.files.files.items holdings.new.files.files.items) }
-    ensures idle { IfOk result (λ p. p.idle ≡ idle) }
-    ensures done { IfOk result (λ p. p.is_done ≡ true → WasFinished C.exact C.home) }
-    ensures early { IfErr result EndsEarly }
+    service: &Service<'_, C>,
+    passes: &mut Vec<Pass<C>>,
+    connections: &Connections<W>,
+) -> bool
+    ensures { length passes.new.items ≡ length passes.old.items }
 {
-    // A replica that is done makes no records any more: those that it has are written after this.
-    let is_done = is_done(rt, replica, holdings, serving);
-    let more = match write_records(rt, alloc, replica, &mut holdings.pass, &mut holdings.files) {
-        Ok(more) => more,
-        Err(fault) => return Err(file_ending(fault)),
-    };
-    Ok(Polled {
-        idle,
-        was_active: moved > 0 || was_run,
-        is_busy: more || moved > 0 || (was_run && replica.run_limit > 0),
-        is_done: is_done && !more,
-    })
+    connections.have_ended(service.callers) || all_are_done(rt, service, passes)
 }
 
-/// One poll, after the gate was asked, and what follows it.
+/// One poll, after the gate was asked, and what follows it: the connections have their turns, the
+/// replica does its own part, and its records are written.
 ///
 /// # Errors
 ///
-/// How the replica ends, where it does by itself.
-pub(crate) fn poll<C: Counts, S: Sink, N: Network, G: Gate, R: Wait>(
+/// How serving ends, where it does by itself.
+pub(crate) fn poll<C: Counts, S: Sink, T: Transport, R: Wait>(
     rt: &R,
     alloc: Global,
-    replica: &Replica<'_, C>,
+    service: &Service<'_, C>,
     holdings: &mut Holdings<C, S>,
-    network: &mut N,
-    gate: &G,
-    serving: &mut Serving<N::Connection>,
-    polls: u64,
-    milliseconds: u64,
-) -> Result<Polled, Ending>
-    requires owners { All (IsOwnerOf replica.now.board.now) holdings.old.seats.items }
+    transport: &mut T,
+    serving: &mut Serving<T::Connection>,
+) -> Result<Polled, Served>
+    requires owners { All (IsOwnerOf service.now.board.now) holdings.old.seats.items }
     requires files { All IsSound holdings.old.files.files.items }
-    ensures owners { All (IsOwnerOf replica.now.board.now) holdings.new.seats.items }
+    ensures owners { All (IsOwnerOf service.now.board.now) holdings.new.seats.items }
     ensures seats { length holdings.new.seats.items ≡ length holdings.old.seats.items }
     ensures passes { length holdings.new.passes.items ≡ length holdings.old.passes.items }
     ensures streams { OnOk result (Streams S.taken S.failures
         holdings.old.files.files.items holdings.new.files.files.items) }
-    ensures idle { IfOk result
-        (λ p. N.idle_waits network.new ≡ N.idle_waits network.old + p.idle) }
+    ensures idle { IfOk result (λ p. T.idle_waits transport.old
+        + (if p.ran_out then 1 else 0) ≤ T.idle_waits transport.new) }
     ensures done { IfOk result (λ p. p.is_done ≡ true → WasFinished C.exact C.home) }
     ensures early { IfErr result EndsEarly }
 {
-    if !gate.poll(serving.moved) {
-        return Err(Ending::Net);
-    }
-    let Ok(idle) = await_network(alloc, replica, network, serving, milliseconds) else {
-        return Err(Ending::Memory);
+    let Ok(ran_out) = await_transport(alloc, service, transport, serving) else {
+        return Err(Served::Memory);
     };
-    let moved = serve_all(rt, alloc, replica, &mut holdings.pass, network, serving)?;
-    serving.moved = serving.moved.saturating_add(moved);
-    let alone = act_alone(rt, alloc, replica, holdings, polls, &mut serving.events);
-    let Ok(was_run) = alone else {
-        return Err(Ending::Memory);
+    let moved = serve_all(rt, alloc, service, &mut holdings.pass, transport, serving)?;
+    let Ok(standing) = act_alone(rt, alloc, service, holdings, serving.polls) else {
+        return Err(Served::Memory);
     };
-    conclude(rt, alloc, replica, holdings, serving, idle, moved, was_run)
+    let was_run = standing.events != serving.events;
+    serving.events = standing.events;
+    serving.polls = serving.polls.saturating_add(1);
+    let may_end = standing.is_done
+        && may_end(rt, service, &mut holdings.passes, &serving.connections);
+    // A replica that is done makes no records any more: those that it has are written now.
+    let recorded = match write_records(
+        rt,
+        alloc,
+        service,
+        &mut holdings.pass,
+        &mut holdings.files,
+    ) {
+        Ok(recorded) => recorded,
+        Err(fault) => return Err(file_served(fault)),
+    };
+    serving.is_busy = recorded.has_more || moved > 0 || (was_run && service.run_limit > 0);
+    Ok(Polled {
+        ran_out,
+        was_active: recorded.has_written || moved > 0 || was_run,
+        is_done: may_end && !recorded.has_more,
+    })
 }

@@ -2,8 +2,8 @@
 
 ghost use Rattle.std.specs.Prelude.{◌≡◌, length};
 
-use crate::acts::IsDone;
-use crate::replica::{Holdings, Replica};
+use crate::acts::Stand;
+use crate::replica::{Holdings, Service};
 use nm_shared::acts::{CopyKnowledge, Merge};
 use nm_shared::{Counts, Pass};
 use std::alloc::{AllocError, Global};
@@ -18,22 +18,22 @@ use std::sync::Wait;
 pub(crate) fn merge_sister<C: Counts, S, R: Wait>(
     rt: &R,
     alloc: Global,
-    replica: &Replica<'_, C>,
+    service: &Service<'_, C>,
     holdings: &mut Holdings<C, S>,
 ) -> Result<(), AllocError>
     ensures { (holdings.new.seats ≡ holdings.old.seats)
         × (holdings.new.files ≡ holdings.old.files)
         × (length holdings.new.passes.items ≡ length holdings.old.passes.items) }
 {
-    let Some(sister) = replica.sister else {
+    let Some(sister) = service.sister else {
         return Ok(());
     };
-    if sister >= replica.books.len() || sister >= holdings.passes.len() {
+    if sister >= service.books.len() || sister >= holdings.passes.len() {
         return Ok(());
     }
-    let book = &replica.books[sister];
+    let book = &service.books[sister];
     let knowledge = book.act(rt, &mut holdings.passes[sister], CopyKnowledge { alloc })?;
-    let _merged = replica.book.act(
+    let _merged = service.book.act(
         rt,
         &mut holdings.pass,
         Merge {
@@ -47,16 +47,19 @@ pub(crate) fn merge_sister<C: Counts, S, R: Wait>(
 /// Whether there are other replicas in the run, and all are done.
 pub(crate) fn all_are_done<C: Counts, R: Wait>(
     rt: &R,
-    replica: &Replica<'_, C>,
+    service: &Service<'_, C>,
     passes: &mut Vec<Pass<C>>,
 ) -> bool
     ensures { length passes.new.items ≡ length passes.old.items }
 {
-    if replica.books.is_empty() || replica.books.len() > passes.len() {
+    if service.books.is_empty() || service.books.len() > passes.len() {
         return false;
     }
-    for number in 0..replica.books.len() {
-        if !replica.books[number].act(rt, &mut passes[number], IsDone) {
+    for number in 0..service.books.len() {
+        if !service.books[number]
+            .act(rt, &mut passes[number], Stand)
+            .is_done
+        {
             return false;
         }
     }

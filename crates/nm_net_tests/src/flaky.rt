@@ -1,11 +1,11 @@
-//! Replicas over networks that fail at one call, and for good.
+//! Replicas over transports that fail at one call, and for good.
 
 use crate::scripted::{Fails, NEVER, Scripted};
-use crate::sides::{Company, Open, network, serve};
+use crate::sides::{Company, Open, serve, topology_of};
 use crate::talks::said_by;
 use crate::texts::SPLIT;
 use nm_base::PartNo;
-use nm_net::Ending;
+use nm_net::Served;
 use std::alloc::Global;
 use std::process::Abort;
 use std::sync::Wait;
@@ -13,14 +13,14 @@ use std::test::Fail;
 
 /// Serves a replica of SPLIT whose only peer says all at once, over two connections if it has to:
 /// partition 0 calls it, partition 1 is called.
-fn ending_of<R: Wait>(rt: &R, alloc: Global, me: u32, fails: Fails) -> Result<Ending, Fail> {
-    let topology = network(alloc, SPLIT)?;
+fn ending_of<R: Wait>(rt: &R, alloc: Global, me: u32, fails: Fails) -> Result<Served, Fail> {
+    let topology = topology_of(alloc, SPLIT)?;
     let mut sources = Vec::new(alloc);
     for _ in 0..2 {
         sources.push(said_by(alloc, 1 - me.min(1))?)?;
     }
     let called = me != 0;
-    let mut network = Scripted::new(alloc, sources, called, fails);
+    let mut transport = Scripted::new(alloc, sources, called, fails);
     let peers = [PartNo::new(1)];
     let company = Company {
         partition: PartNo::new(me),
@@ -28,14 +28,14 @@ fn ending_of<R: Wait>(rt: &R, alloc: Global, me: u32, fails: Fails) -> Result<En
         callers: if called { 1 } else { 0 },
         idle_limit: 4,
     };
-    Ok(serve(rt, alloc, &topology, &company, &mut network, &Open)?.ending)
+    Ok(serve(rt, alloc, &topology, &company, &mut transport, &Open)?.served)
 }
 
 /// A replica ends as it should.
 fn ends<R: Wait + Abort>(rt: &R, alloc: Global, me: u32, fails: Fails) -> Result<(), Fail> {
-    let ending = ending_of(rt, alloc, me, fails)?;
+    let served = ending_of(rt, alloc, me, fails)?;
     assert!(rt;
-        ending == Ending::Ended,
+        served == Served::Ended,
         "partition {me}, call {}",
         fails.at
     );
@@ -72,8 +72,8 @@ fn calls_that_fail_for_good_stall(rt: HostRuntime) -> Result<(), Fail> {
             at: 1,
             for_good: true,
         };
-        let ending = ending_of(&rt, rt.alloc(), me, fails)?;
-        assert!(rt; ending == Ending::Stalled { polls: 4 });
+        let served = ending_of(&rt, rt.alloc(), me, fails)?;
+        assert!(rt; served == Served::Stalled { polls: 4 });
     }
     Ok(())
 }

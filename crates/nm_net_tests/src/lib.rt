@@ -1,12 +1,25 @@
-//! Tests of `nm_net`: replicas over networks that fail, and over loopback.
+//! Tests of what threads share, and of replicas over transports that fail and over loopback: what no
+//! contract says, and each call once.
+//!
+//! Values come from outside. Several threads take part, and every schedule gives the same answers.
 #![tactic(auto)]
 
 #[cfg(test)]
-mod cut_network;
+mod boards;
+#[cfg(test)]
+mod callers;
+#[cfg(test)]
+mod cut_transport;
 #[cfg(test)]
 mod flaky;
 #[cfg(test)]
+mod latecomers;
+#[cfg(test)]
 mod loopback;
+#[cfg(test)]
+mod messages;
+#[cfg(test)]
+mod pools;
 #[cfg(test)]
 mod rubbish;
 #[cfg(test)]

@@ -1,11 +1,11 @@
 //! Two replicas in two threads, over loopback.
 
-use crate::cut_network::CutNetwork;
-use crate::sides::{Company, Open, Served, listen, network, over_tcp, serve};
+use crate::cut_transport::CutTransport;
+use crate::sides::{Closed, Company, Open, listen, over_tcp, serve, topology_of};
 use crate::texts::{SHIFT, SPLIT};
 use mio::net::TcpListener;
 use nm_base::PartNo;
-use nm_net::Ending;
+use nm_net::Served;
 use nm_rounds::certify::certify;
 use nm_topology::Topology;
 use std::alloc::Global;
@@ -23,9 +23,9 @@ fn call<R: Net + Wait + Drop + Copy>(
     topology: &Arc<Topology>,
     peers: &[SocketAddr],
     cuts: &[usize],
-) -> io::Result<Served> {
-    let network = over_tcp(rt, alloc, listen(rt)?, peers)?;
-    let mut network = CutNetwork::new(network, cuts.to_vec(alloc)?);
+) -> io::Result<Closed> {
+    let transport = over_tcp(rt, alloc, listen(rt)?, peers)?;
+    let mut transport = CutTransport::new(transport, cuts.to_vec(alloc)?);
     let peers = [PartNo::new(1)];
     let company = Company {
         partition: PartNo::new(0),
@@ -33,7 +33,7 @@ fn call<R: Net + Wait + Drop + Copy>(
         callers: 0,
         idle_limit: 100,
     };
-    serve(rt, alloc, topology, &company, &mut network, &Open)
+    serve(rt, alloc, topology, &company, &mut transport, &Open)
 }
 
 /// Serves the replica that is called at this address.
@@ -42,15 +42,15 @@ fn answer<R: Net + Wait + Drop + Copy>(
     alloc: Global,
     topology: &Arc<Topology>,
     address: SocketAddr,
-) -> io::Result<Served> {
-    let mut network = over_tcp(rt, alloc, TcpListener::bind(rt, address)?, &[])?;
+) -> io::Result<Closed> {
+    let mut transport = over_tcp(rt, alloc, TcpListener::bind(rt, address)?, &[])?;
     let company = Company {
         partition: PartNo::new(1),
         peers: &[],
         callers: 1,
         idle_limit: 100,
     };
-    serve(rt, alloc, topology, &company, &mut network, &Open)
+    serve(rt, alloc, topology, &company, &mut transport, &Open)
 }
 
 /// An address of 127.0.0.1 at a port that is free.
@@ -69,7 +69,7 @@ where
         + Drop
         + Copy,
 {
-    let topology = network(alloc, text)?;
+    let topology = topology_of(alloc, text)?;
     let address = free_address(rt)?;
     let peers = [address];
     let (one, two) = join(
@@ -78,7 +78,7 @@ where
         || answer(rt, alloc, &topology, address),
     );
     let (near, far) = (one?, two?);
-    assert!(rt; near.ending == Ending::Ended && far.ending == Ending::Ended);
+    assert!(rt; near.served == Served::Ended && far.served == Served::Ended);
     assert!(rt; certify(&topology, &[&near.book, &far.book]).is_ok());
     Ok(())
 }
@@ -101,9 +101,9 @@ fn two_threads_meet_again(rt: HostRuntime) -> Result<(), Fail> {
 fn a_peer_that_never_listens_stalls(rt: HostRuntime) -> Result<(), Fail> {
     let alloc = rt.alloc();
     let peers = [free_address(&rt)?];
-    let topology = network(alloc, SPLIT)?;
+    let topology = topology_of(alloc, SPLIT)?;
     let listener = listen(&rt)?;
-    let mut network = over_tcp(&rt, alloc, listener, &peers)?;
+    let mut transport = over_tcp(&rt, alloc, listener, &peers)?;
     let numbers = [PartNo::new(1)];
     let company = Company {
         partition: PartNo::new(0),
@@ -111,7 +111,7 @@ fn a_peer_that_never_listens_stalls(rt: HostRuntime) -> Result<(), Fail> {
         callers: 0,
         idle_limit: 4,
     };
-    let served = serve(&rt, alloc, &topology, &company, &mut network, &Open)?;
-    assert!(rt; matches!(served.ending, Ending::Stalled { .. }));
+    let served = serve(&rt, alloc, &topology, &company, &mut transport, &Open)?;
+    assert!(rt; matches!(served.served, Served::Stalled { .. }));
     Ok(())
 }

@@ -1,26 +1,26 @@
 //! What a replica does where somebody speaks no frames.
 
 use crate::scripted::{NEVER, Scripted};
-use crate::sides::{Company, Open, network, serve};
+use crate::sides::{Company, Open, serve, topology_of};
 use crate::talks::{RUBBISH, rubbish_behind_hello, said_by};
 use crate::texts::SPLIT;
 use nm_base::PartNo;
-use nm_net::Ending;
+use nm_net::Served;
 use std::alloc::Global;
 use std::sync::Wait;
 use std::test::Fail;
 
 /// Serves the replica of partition 1 of SPLIT, to which these say something, from the last on.
-fn called_by<R: Wait>(rt: &R, alloc: Global, sources: Vec<Vec<u8>>) -> Result<Ending, Fail> {
-    let topology = network(alloc, SPLIT)?;
-    let mut network = Scripted::new(alloc, sources, true, NEVER);
+fn called_by<R: Wait>(rt: &R, alloc: Global, sources: Vec<Vec<u8>>) -> Result<Served, Fail> {
+    let topology = topology_of(alloc, SPLIT)?;
+    let mut transport = Scripted::new(alloc, sources, true, NEVER);
     let company = Company {
         partition: PartNo::new(1),
         peers: &[],
         callers: 1,
         idle_limit: 4,
     };
-    Ok(serve(rt, alloc, &topology, &company, &mut network, &Open)?.ending)
+    Ok(serve(rt, alloc, &topology, &company, &mut transport, &Open)?.served)
 }
 
 /// Rubbish before a Hello costs that connection alone.
@@ -30,7 +30,7 @@ fn rubbish_before_hello_costs_the_connection(rt: HostRuntime) -> Result<(), Fail
     let mut sources = Vec::new(alloc);
     sources.push(said_by(alloc, 0)?)?;
     sources.push(RUBBISH.to_vec(alloc)?)?;
-    assert!(rt; called_by(&rt, alloc, sources)? == Ending::Ended);
+    assert!(rt; called_by(&rt, alloc, sources)? == Served::Ended);
     Ok(())
 }
 
@@ -40,6 +40,6 @@ fn rubbish_after_hello_ends_the_replica(rt: HostRuntime) -> Result<(), Fail> {
     let alloc = rt.alloc();
     let mut sources = Vec::new(alloc);
     sources.push(rubbish_behind_hello(alloc)?)?;
-    assert!(rt; called_by(&rt, alloc, sources)? == Ending::Net);
+    assert!(rt; called_by(&rt, alloc, sources)? == Served::Net);
     Ok(())
 }

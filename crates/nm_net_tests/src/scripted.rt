@@ -1,14 +1,14 @@
-//! A network in memory that does what a script says, and fails at some calls.
+//! A transport in memory that does what a script says, and fails at some calls.
 
 ghost use Rattle.std.specs.Prelude.{◌≡◌, ◌+◌, [], IfSome};
 
 use nm_base::MemWire;
 use nm_base::failures::FailureCount;
 use nm_base::mem_wire::Ending;
-use nm_net::{Network, Waited};
+use nm_net::{Transport, Waited};
 use std::alloc::Global;
 
-/// Which calls of a network fail: one, or all from it on. Calls are counted from 1.
+/// Which calls of a transport fail: one, or all from it on. Calls are counted from 1.
 #[derive(Clone, Copy)]
 pub struct Fails {
     pub at: u64,
@@ -21,7 +21,7 @@ pub const NEVER: Fails = Fails {
     for_good: false,
 };
 
-/// A network whose connections give these octets, one after the other from the last on, and then
+/// A transport whose connections give these octets, one after the other from the last on, and then
 /// nothing. They are the peers' that the replica calls, or of those who call.
 #[derive(Drop)]
 pub struct Scripted {
@@ -65,7 +65,7 @@ impl Scripted {
     }
 }
 
-impl Network for Scripted {
+impl Transport for Scripted {
     type Connection = MemWire;
 
     ghost idle_waits = { λ n. n.idle.count };

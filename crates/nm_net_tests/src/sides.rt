@@ -10,7 +10,7 @@ use nm_base::{MemSink, PartNo};
 use nm_book::Book;
 use nm_files::TraceFiles;
 use nm_net::seats::own_seats;
-use nm_net::{Ending, Holdings, MioNetwork, Network, Replica, run_replica};
+use nm_net::{Holdings, Served, Service, TcpTransport, Transport, run_replica};
 use nm_shared::{ClockBoard, Gate, Plain, SharedBook};
 use nm_topology::Topology;
 use std::alloc::Global;
@@ -19,10 +19,10 @@ use std::net::{Ipv4Addr, Net, SocketAddr};
 use std::sync::{Arc, Wait};
 use std::test::Fail;
 
-/// What serving a replica came to: how it ended, and its book.
+/// A replica that was served: what that came to, and its book.
 #[derive(Drop)]
-pub struct Served {
-    pub ending: Ending,
+pub struct Closed {
+    pub served: Served,
     pub book: Book,
 }
 
@@ -48,14 +48,14 @@ impl Gate for Open {
     }
 }
 
-/// A network, which has to be accepted.
-pub fn network(alloc: Global, text: &str) -> Result<Arc<Topology>, Fail> {
+/// The network of a text, which has to be accepted.
+pub fn topology_of(alloc: Global, text: &str) -> Result<Arc<Topology>, Fail> {
     let topology = Topology::read(alloc, text.as_bytes())?;
     Ok(Arc::new(alloc, topology)?)
 }
 
 /// Serves a replica with what it holds. It does its events itself.
-fn serve_held<'x, N: Network, G: Gate, R: Wait>(
+fn serve_held<'x, N: Transport, G: Gate, R: Wait>(
     rt: &R,
     alloc: Global,
     topology: &'x Arc<Topology>,
@@ -64,13 +64,13 @@ fn serve_held<'x, N: Network, G: Gate, R: Wait>(
     peers: &'x [PartNo],
     holdings: &mut Holdings<Plain, MemSink>,
     company: &Company<'_>,
-    network: &mut N,
+    transport: &mut N,
     gate: &G,
-) -> Ending
+) -> Served
     requires owners { All (IsOwnerOf board.now) holdings.old.seats.items }
     requires files { All IsSound holdings.old.files.files.items }
 {
-    let replica = Replica {
+    let replica = Service {
         topology,
         partition: company.partition,
         replica: 0,
@@ -84,18 +84,18 @@ fn serve_held<'x, N: Network, G: Gate, R: Wait>(
         run_limit: 4_096,
         progress: None,
     };
-    run_replica(rt, alloc, &replica, holdings, network, gate)
+    run_replica(rt, alloc, &replica, holdings, transport, gate)
 }
 
 /// Serves a replica that knows nothing at first, and closes its book.
-pub fn serve<N: Network, G: Gate, R: Wait>(
+pub fn serve<N: Transport, G: Gate, R: Wait>(
     rt: &R,
     alloc: Global,
     topology: &Arc<Topology>,
     company: &Company<'_>,
-    network: &mut N,
+    transport: &mut N,
     gate: &G,
-) -> io::Result<Served> {
+) -> io::Result<Closed> {
     let (counts, whole) = Plain::open();
     let shared = Arc::try_clone(topology)?;
     let Ok(book) = SharedBook::new(alloc, shared, company.partition, 0, counts, whole) else {
@@ -110,7 +110,7 @@ pub fn serve<N: Network, G: Gate, R: Wait>(
         seats,
         files: TraceFiles::new(alloc),
     };
-    let ending = serve_held(
+    let served = serve_held(
         rt,
         alloc,
         topology,
@@ -119,14 +119,14 @@ pub fn serve<N: Network, G: Gate, R: Wait>(
         company.peers,
         &mut holdings,
         company,
-        network,
+        transport,
         gate,
     );
     let mut passes = Vec::new(alloc);
     passes.push(holdings.pass)?;
     match book.close(passes) {
-        Ok(closed) => Ok(Served {
-            ending,
+        Ok(closed) => Ok(Closed {
+            served,
             book: closed.book,
         }),
         Err(_) => Err(ErrorKind::Other.into()),
@@ -138,13 +138,13 @@ pub fn listen<R: Net>(net: &R) -> io::Result<TcpListener> {
     TcpListener::bind(net, SocketAddr::from((Ipv4Addr::LOCALHOST, 0)))
 }
 
-/// A network over TCP with these peers.
+/// A transport over TCP with these peers.
 pub fn over_tcp<R: Net + Drop + Copy>(
     net: &R,
     alloc: Global,
     listener: TcpListener,
     peers: &[SocketAddr],
-) -> io::Result<MioNetwork<R>> {
+) -> io::Result<TcpTransport<R>> {
     let poll = Poll::new(net)?;
-    MioNetwork::new(*net, alloc, poll, listener, peers.to_vec(alloc)?)
+    TcpTransport::new(*net, alloc, poll, listener, peers.to_vec(alloc)?)
 }

@@ -5,13 +5,13 @@ ghost use Rattle.nm_files.specs.Files.{IsSound};
 ghost use Rattle.nm_shared.specs.Board.{IsOwnerOf};
 
 use crate::scripted::{NEVER, Scripted};
-use crate::sides::{Open, network};
+use crate::sides::{Open, topology_of};
 use crate::texts::SPLIT;
 use nm_base::{ChanNo, MemSink, PartNo, Time};
 use nm_book::{ChannelMessage, Null};
 use nm_files::TraceFiles;
 use nm_net::seats::own_seats;
-use nm_net::{Ending, Holdings, Replica, run_replica};
+use nm_net::{Holdings, Served, Service, run_replica};
 use nm_shared::{ClockBoard, Pass, Plain, SharedBook};
 use nm_topology::Topology;
 use std::alloc::Global;
@@ -51,12 +51,12 @@ fn serve_sister<'x, R: Wait>(
     own: &'x SharedBook<Plain>,
     board: &'x ClockBoard,
     holdings: &mut Holdings<Plain, MemSink>,
-) -> Ending
+) -> Served
     requires owners { All (IsOwnerOf board.now) holdings.old.seats.items }
     requires files { All IsSound holdings.old.files.files.items }
 {
-    let mut network = Scripted::new(alloc, Vec::new(alloc), true, NEVER);
-    let replica = Replica {
+    let mut transport = Scripted::new(alloc, Vec::new(alloc), true, NEVER);
+    let replica = Service {
         topology,
         partition: PartNo::new(1),
         replica: 1,
@@ -70,14 +70,14 @@ fn serve_sister<'x, R: Wait>(
         run_limit: 4_096,
         progress: None,
     };
-    run_replica(rt, alloc, &replica, holdings, &mut network, &Open)
+    run_replica(rt, alloc, &replica, holdings, &mut transport, &Open)
 }
 
 /// It merges what its sister knows, and ends once all replicas are done, without a link.
 #[test]
 fn a_sister_is_merged(rt: HostRuntime) -> Result<(), Fail> {
     let alloc = rt.alloc();
-    let topology = network(alloc, SPLIT)?;
+    let topology = topology_of(alloc, SPLIT)?;
     let mut books = Vec::new(alloc);
     books.push(book_of(alloc, &topology, 0)?)?;
     books.push(book_of(alloc, &topology, 1)?)?;
@@ -93,7 +93,7 @@ fn a_sister_is_merged(rt: HostRuntime) -> Result<(), Fail> {
         seats,
         files: TraceFiles::new(alloc),
     };
-    let ending = serve_sister(
+    let served = serve_sister(
         &rt,
         alloc,
         &topology,
@@ -102,6 +102,6 @@ fn a_sister_is_merged(rt: HostRuntime) -> Result<(), Fail> {
         &board,
         &mut holdings,
     );
-    assert!(rt; ending == Ending::Ended);
+    assert!(rt; served == Served::Ended);
     Ok(())
 }

@@ -1,6 +1,2 @@
-pub mod InterfaceLines
-pub mod Texts
-pub mod Times
-pub mod Endings
 pub mod NodeEndings
 pub mod RunEndings

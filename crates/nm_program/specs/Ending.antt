@@ -5,27 +5,27 @@ use Rattle.nm_command.specs.declared.status.Status.TheVariants.{Done, Usage, Fil
 use Rattle.nm_command.specs.Command.{CommandValue, Trace, Rounds, Script, Check, Report, Dot, Text, Run, Node}
 use Rattle.nm_program.specs.Node.{EndsNode}
 use Rattle.nm_files.specs.Outputs.{Files}
-use Rattle.nm_program.specs.Rounds.{EndsRounds}
+use Rattle.nm_words.specs.Rounds.{EndsRounds}
 use Rattle.nm_program.specs.Run.{EndsRun}
-use Rattle.nm_program.specs.Check.{EndsCheck}
-use Rattle.nm_program.specs.Script.{EndsScript}
-use Rattle.nm_program.specs.Shown.{EndsShown, EndsText}
-use Rattle.nm_program.specs.Traces.{EndsTrace}
+use Rattle.nm_words.specs.Check.{EndsCheck}
+use Rattle.nm_words.specs.Script.{EndsScript}
+use Rattle.nm_words.specs.Shown.{EndsShown, EndsText}
+use Rattle.nm_words.specs.Traces.{EndsTrace}
 
 -- What each status says of words. The inputs tell what the input of a name has, if they do, and failed so often before and after; the sink was old and is
 -- new; these files were closed before and after, if that is told. Words that are no command are `Usage`. Only `run` and `node` make files.
 module _ {S : Type 0} (taken : S → Option (List ℕ)) (failures : S → ℕ) (told : List ℕ → Option (List ℕ)) (failed_before failed : ℕ) (old new : S) (made_before made : Option Files) where
-  abbrev pub Ends : Option CommandValue → Status → Type 0
-  Ends None status = (status ≡ Usage) × (failed ≡ failed_before) × (new ≡ old) × (made ≡ made_before)
-  Ends (Some (Trace form topology iface)) status = EndsTrace taken failures told failed_before failed old new form topology iface status × (made ≡ made_before)
-  Ends (Some (Rounds topology max)) status = EndsRounds taken failures told failed_before failed old new topology max status × (made ≡ made_before)
-  Ends (Some (Script topology steps)) status = EndsScript taken failures told failed_before failed old new topology steps status × (made ≡ made_before)
-  Ends (Some (Check topology)) status = EndsCheck taken failures told failed_before failed old new topology status × (made ≡ made_before)
-  Ends (Some (Report topology is_csv)) status = EndsShown taken failures told failed_before failed old new topology status × (made ≡ made_before)
-  Ends (Some (Dot topology has_load)) status = EndsShown taken failures told failed_before failed old new topology status × (made ≡ made_before)
-  Ends (Some (Text topology iface)) status = EndsText taken failures told failed_before failed old new topology iface status × (made ≡ made_before)
-  Ends (Some (Run topology folder workers replicas)) status = EndsRun taken failures told failed_before failed old new made_before made topology status
-  Ends (Some (Node topology folder partition replica addresses)) status =
+  abbrev pub ProgramEnds : Option CommandValue → Status → Type 0
+  ProgramEnds None status = (status ≡ Usage) × (failed ≡ failed_before) × (new ≡ old) × (made ≡ made_before)
+  ProgramEnds (Some (Trace form topology iface)) status = EndsTrace taken failures told failed_before failed old new form topology iface status × (made ≡ made_before)
+  ProgramEnds (Some (Rounds topology max)) status = EndsRounds taken failures told failed_before failed old new topology max status × (made ≡ made_before)
+  ProgramEnds (Some (Script topology steps)) status = EndsScript taken failures told failed_before failed old new topology steps status × (made ≡ made_before)
+  ProgramEnds (Some (Check topology)) status = EndsCheck taken failures told failed_before failed old new topology status × (made ≡ made_before)
+  ProgramEnds (Some (Report topology is_csv)) status = EndsShown taken failures told failed_before failed old new topology status × (made ≡ made_before)
+  ProgramEnds (Some (Dot topology has_load)) status = EndsShown taken failures told failed_before failed old new topology status × (made ≡ made_before)
+  ProgramEnds (Some (Text topology iface)) status = EndsText taken failures told failed_before failed old new topology iface status × (made ≡ made_before)
+  ProgramEnds (Some (Run topology folder workers replicas)) status = EndsRun taken failures told failed_before failed old new made_before made topology status
+  ProgramEnds (Some (Node topology folder partition replica addresses)) status =
       EndsNode taken failures told failed_before failed old new made_before made topology folder partition replica addresses status
 
 -- the status once the output was handed on, or was not: what was written is no more than held back then

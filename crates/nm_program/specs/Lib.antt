@@ -1,11 +1,3 @@
-pub mod Input
-pub mod Traces
-pub mod Lines
-pub mod Output
-pub mod Rounds
-pub mod Script
-pub mod Shown
 pub mod Node
 pub mod Run
 pub mod Ending
-pub mod Check

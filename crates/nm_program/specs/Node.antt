@@ -1,5 +1,5 @@
 -- The word `node`: one replica of a partition.
-use Rattle.std.specs.Prelude.{◌≡◌, ◌⊎◌, ℕ, ◌==◌, if◌then◌else◌, List, [], ◌∷◌, ◌++◌, Option, Ok, Err, codes}
+use Rattle.std.specs.Prelude.{◌≡◌, ◌⊎◌, ℕ, ◌==◌, if◌then◌else◌, List, [], ◌∷◌, Option, Ok, Err}
 use Rattle.std.specs.List.{enumerate_from, flat_map}
 use Rattle.nm_base.specs.declared.record.Record.{Record}
 use Rattle.nm_pcap.specs.declared.form.Form.TheVariants.{Octets}
@@ -10,13 +10,13 @@ use Rattle.nm_topology.specs.TopologyValue.{TopologyValue}
 use Rattle.nm_sim.specs.Network.{net_of}
 use Rattle.nm_sim.specs.Records.{totals_of}
 use Rattle.nm_book.specs.Book.{BookValue, state_of}
-use Rattle.nm_addresses.specs.Addresses.{IsAddresses}
-use Rattle.nm_addresses.specs.declared.address.Address.{Address}
-use Rattle.nm_node.specs.Node.{IsDoneReplica}
+use Rattle.nm_peers.specs.Listeners.{AreListeners}
+use Rattle.nm_peers.specs.declared.listener.Listener.{Listener}
+use Rattle.nm_process.specs.Process.{IsDoneReplica}
 use Rattle.nm_command.specs.declared.status.Status.{Status}
 use Rattle.nm_command.specs.declared.status.Status.TheVariants.{Done, Usage, NoInterface, ScriptLine, Step, Topology, File, Memory, NotCertified, Stalled}
-use Rattle.nm_program.specs.Input.{IsInput, IsNotRead}
-use Rattle.nm_program.specs.Lines.{iface_line}
+use Rattle.nm_words.specs.Input.{IsInput, IsNotRead}
+use Rattle.nm_words.specs.Lines.{iface_line}
 use Rattle.nm_files.specs.Names.{file_name}
 use Rattle.nm_files.specs.Outputs.{Files, HasMade}
 use Rattle.nm_files.specs.TraceFile.{trace_file}
@@ -42,18 +42,18 @@ own_lines t partition records = flat_map (own_line t partition records) (enumera
 pub record SaysNode (text addresses folder : List ℕ) (partition replica : ℕ) (octets : List ℕ) (files : Files) : Type 0 where
   pub network : TopologyValue
   pub read : topology_of text ≡ Ok network
-  pub listeners : List Address
-  pub mean : IsAddresses addresses network.partitions partition replica listeners
+  pub listeners : List Listener
+  pub mean : AreListeners addresses network.partitions partition replica listeners
   pub book : BookValue
   pub done : IsDoneReplica network partition replica book
   pub made : files ≡ own_files network partition folder (state_of book).records
   pub said : octets ≡ own_lines network partition (state_of book).records
 
--- the topology is read, and the other text is not that of addresses for this replica
+-- the topology is read, and the other text is not that of listeners, this replica's among them
 pub record HasNoAddresses (text addresses : List ℕ) (partition replica : ℕ) : Type 0 where
   pub network : TopologyValue
   pub read : topology_of text ≡ Ok network
-  pub none : (listeners : List Address) → IsAddresses addresses network.partitions partition replica listeners → ⊥
+  pub none : (listeners : List Listener) → AreListeners addresses network.partitions partition replica listeners → ⊥
 
 -- why no replica is served: the texts say nothing, or memory was refused
 abbrev pub FailsNode : List ℕ → List ℕ → ℕ → ℕ → Status → Type 0
@@ -85,26 +85,26 @@ StopsNode before after Stalled = after ≡ before
 -- are after a failure is not said, nor where memory was refused.
 module _ {S : Type 0} (taken : S → Option (List ℕ)) (failures : S → ℕ) (told : List ℕ → Option (List ℕ)) (failed_before failed : ℕ) (old new : S) (made_before made : Option Files) where
   module _ (topology folder : List ℕ) (partition replica : ℕ) (addresses : List ℕ) where
-    abbrev pub AreRead : List ℕ → List ℕ → Type 0
-    AreRead text listeners = IsInput (told topology) text × IsInput (told addresses) listeners
+    abbrev pub AreBothRead : List ℕ → List ℕ → Type 0
+    AreBothRead text listeners = IsInput (told topology) text × IsInput (told addresses) listeners
 
     -- nothing was written, and no file made
     abbrev pub IsUntouched : Type 0
     IsUntouched = (new ≡ old) × (made ≡ made_before)
 
     abbrev pub EndsNode : Status → Type 0
-    EndsNode Done = (text : List ℕ) × (listeners : List ℕ) × AreRead text listeners
+    EndsNode Done = (text : List ℕ) × (listeners : List ℕ) × AreBothRead text listeners
         × ((octets : List ℕ) × (files : Files) × SaysNode text listeners folder partition replica octets files
         × WroteAll taken failures old new octets × HasMade made_before made files)
-    EndsNode Usage = (text : List ℕ) × (listeners : List ℕ) × AreRead text listeners × HasNoAddresses text listeners partition replica × IsUntouched
+    EndsNode Usage = (text : List ℕ) × (listeners : List ℕ) × AreBothRead text listeners × HasNoAddresses text listeners partition replica × IsUntouched
     EndsNode NoInterface = ⊥
     EndsNode (ScriptLine n) = ⊥
     EndsNode (Step n) = ⊥
-    EndsNode (Topology refusal) = (text : List ℕ) × (listeners : List ℕ) × AreRead text listeners × (topology_of text ≡ Err refusal) × IsUntouched
+    EndsNode (Topology refusal) = (text : List ℕ) × (listeners : List ℕ) × AreBothRead text listeners × (topology_of text ≡ Err refusal) × IsUntouched
     EndsNode File = ((IsNotRead (told topology) failed_before failed ⊎ IsNotRead (told addresses) failed_before failed) × IsUntouched)
-        ⊎ ((text : List ℕ) × (listeners : List ℕ) × AreRead text listeners × ((new ≡ old)
+        ⊎ ((text : List ℕ) × (listeners : List ℕ) × AreBothRead text listeners × ((new ≡ old)
         ⊎ ((octets : List ℕ) × (files : Files) × SaysNode text listeners folder partition replica octets files
         × WrotePrefix taken failures old new octets × HasMade made_before made files)))
     EndsNode Memory = new ≡ old
     EndsNode (NotCertified n) = ⊥
-    EndsNode Stalled = (text : List ℕ) × (listeners : List ℕ) × AreRead text listeners × IsUntouched
+    EndsNode Stalled = (text : List ℕ) × (listeners : List ℕ) × AreBothRead text listeners × IsUntouched

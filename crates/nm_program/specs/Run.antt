@@ -11,8 +11,8 @@ use Rattle.nm_command.specs.declared.status.Status.{Status}
 use Rattle.nm_command.specs.declared.status.Status.TheVariants.{Done, Usage, NoInterface, ScriptLine, Step, Topology, File, Memory, NotCertified, Stalled}
 use Rattle.nm_files.specs.Outputs.{Files}
 use Rattle.nm_files.specs.Writing.{WroteAll, WrotePrefix}
-use Rattle.nm_program.specs.Input.{IsInput, IsNotRead}
-use Rattle.nm_program.specs.Lines.{iface_lines}
+use Rattle.nm_words.specs.Input.{IsInput, IsNotRead}
+use Rattle.nm_words.specs.Lines.{iface_lines}
 
 -- Books of all partitions were certified. Each interface has what it has in the trace of the one event list, over the whole run.
 pub record SaysCertified (text octets : List ℕ) : Type 0 where

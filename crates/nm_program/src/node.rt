@@ -2,24 +2,19 @@
 
 ghost use Rattle.std.specs.Prelude.{◌≡◌, ℕ, ◌<◌, ◌≤◌, ◌++◌, ◌⊎◌, List, Some, All, IfErr, IfOk, OnOk, Ok, length, slice_get};
 ghost use Rattle.std.specs.Arc.{arc_value};
-ghost use Rattle.nm_addresses.specs.Addresses.{IsAddresses};
+ghost use Rattle.nm_peers.specs.Listeners.{AreListeners};
 ghost use Rattle.nm_base.specs.declared.limits.TheConstants.{MAX_TIME};
 ghost use Rattle.nm_book.specs.Book.{state_of};
-ghost use Rattle.nm_node.specs.Node.{IsDoneReplica};
-ghost use Rattle.nm_program.specs.Input.{text_of};
+ghost use Rattle.nm_process.specs.Process.{IsDoneReplica};
+ghost use Rattle.nm_words.specs.Input.{text_of};
 ghost use Rattle.nm_program.specs.Node.{EndsNode, FailsNode, SaysNode, StopsNode, own_files, own_line, own_lines};
 ghost use Rattle.nm_command.specs.declared.status.Status.TheVariants.{File, Memory, Stalled};
 ghost use Rattle.nm_files.specs.Outputs.{Files, HasMade};
 ghost use Rattle.nm_topology.specs.PartValues.{IfaceValue};
 ghost use Rattle.nm_topology.specs.Topology.{topology_of};
 
-use crate::input::NamedInputs;
-use crate::inputs::Inputs;
-use crate::lines::push_line;
-use crate::output::{Output, put};
-use crate::reading::{read_network, read_text};
+use crate::means::Means;
 use crate::trace_files::make_files;
-use nm_addresses::{Address, AddressFault, read_addresses};
 use nm_base::{IfaceNo, PartNo, Record, Sink};
 use nm_book::Book;
 use nm_book::channels::partition_of;
@@ -27,10 +22,15 @@ use nm_book::laws::records_have_times_of_a_file;
 use nm_command::Status;
 use nm_files::Outputs;
 use nm_net::limits::MAX_IDLE_POLLS;
-use nm_node::{Node, NodeFault, run_node};
-use nm_progress::Progress;
+use nm_peers::{Listener, ListenersFault, read_listeners};
+use nm_process::{Process, ProcessFault, run_process};
 use nm_topology::Topology;
 use nm_topology::topology::accepted_topologies_are_in_order;
+use nm_words::input::NamedInputs;
+use nm_words::inputs::Inputs;
+use nm_words::lines::push_line;
+use nm_words::output::{Output, put};
+use nm_words::reading::{read_network, read_text};
 use std::alloc::{AllocError, Global};
 use std::net::Net;
 use std::sync::{Arc, Wait};
@@ -43,6 +43,17 @@ fn trace_of(book: &Book) -> &[Record]
 {
     records_have_times_of_a_file(book); // law: their times are before `stop`
     book.trace()
+}
+
+/// What the words of `node` name.
+#[derive(Clone, Copy)]
+pub(crate) struct NodeWords<'a> {
+    pub topology: &'a str,
+    pub folder: &'a str,
+    pub partition: PartNo,
+    /// 0 or 1.
+    pub replica: u8,
+    pub addresses: &'a str,
 }
 
 /// Appends the line of an interface, if that is of the partition.
@@ -110,16 +121,16 @@ fn write_book<F: Outputs>(
     }
 }
 
-/// The topology and the addresses of the two texts.
+/// The topology and the listeners of the two texts.
 fn read_both(
     alloc: Global,
     topology: &[u8],
     addresses: &[u8],
     partition: PartNo,
     replica: u8,
-) -> Result<(Arc<Topology>, Vec<Address>), Status>
+) -> Result<(Arc<Topology>, Vec<Listener>), Status>
     ensures read { IfOk result (λ r. (topology_of topology.now ≡ Ok (arc_value r.0))
-        × IsAddresses addresses.now (arc_value r.0).partitions partition replica r.1.items) }
+        × AreListeners addresses.now (arc_value r.0).partitions partition replica r.1.items) }
     ensures fault { IfErr result (FailsNode topology.now addresses.now partition replica) }
 {
     let network = match read_network(alloc, topology) {
@@ -127,72 +138,68 @@ fn read_both(
         Err(status) => return Err(status),
     };
     let count = network.partitions();
-    match read_addresses(alloc, addresses, count, partition, replica) {
+    match read_listeners(alloc, addresses, count, partition, replica) {
         Ok(listeners) => match Arc::new(alloc, network) {
             Ok(network) => Ok((network, listeners)),
             Err(_) => Err(Status::Memory),
         },
-        Err(AddressFault::Refused) => Err(Status::Usage),
-        Err(AddressFault::Memory) => Err(Status::Memory),
+        Err(ListenersFault::Refused) => Err(Status::Usage),
+        Err(ListenersFault::Memory) => Err(Status::Memory),
     }
 }
 
 /// The book of a replica that was served until it was done.
 fn book_of<R: Net + Wait + Drop + Copy>(
-    rt: &R,
-    alloc: Global,
+    means: &Means<'_, R>,
     topology: &Arc<Topology>,
-    addresses: &[Address],
-    partition: PartNo,
-    replica: u8,
-    progress: &Progress,
+    listeners: &[Listener],
+    words: &NodeWords<'_>,
 ) -> Result<Book, Status>
     ensures done { IfOk result
-        (IsDoneReplica (arc_value topology.now) partition replica) }
+        (IsDoneReplica (arc_value topology.now) words.now.partition words.now.replica) }
     ensures fault { IfErr result (λ s. (s ≡ File) ⊎ (s ≡ Memory) ⊎ (s ≡ Stalled)) }
 {
-    let node = Node {
+    let process = Process {
         topology,
-        partition,
-        replica,
-        addresses,
+        partition: words.partition,
+        replica: words.replica,
+        listeners,
         idle_limit: MAX_IDLE_POLLS,
-        progress,
+        progress: means.progress,
     };
-    progress.begin(topology.stop());
-    match run_node(rt, alloc, &node) {
+    means.progress.begin(topology.stop());
+    match run_process(means.rt, means.alloc, &process) {
         Ok(book) => Ok(book),
-        Err(NodeFault::Net) => Err(Status::File),
-        Err(NodeFault::Memory) => Err(Status::Memory),
-        Err(NodeFault::Stalled) => Err(Status::Stalled),
+        Err(ProcessFault::Net) => Err(Status::File),
+        Err(ProcessFault::Memory) => Err(Status::Memory),
+        Err(ProcessFault::Stalled) => Err(Status::Stalled),
     }
 }
 
 /// Serves a replica until it is done, and makes its trace files: the lines of its interfaces.
 fn serve<F: Outputs, R: Net + Wait + Drop + Copy>(
-    rt: &R,
-    alloc: Global,
+    means: &Means<'_, R>,
     topology: &Arc<Topology>,
-    addresses: &[Address],
-    folder: &str,
-    partition: PartNo,
-    replica: u8,
+    listeners: &[Listener],
+    words: &NodeWords<'_>,
     outputs: &mut F,
-    progress: &Progress,
 ) -> Result<Vec<u8>, Status>
     ensures said { (text : List ℕ) → (written : List ℕ)
         → topology_of text ≡ Ok (arc_value topology.now)
-        → IsAddresses written (arc_value topology.now).partitions partition replica addresses.now
+        → AreListeners written (arc_value topology.now).partitions words.now.partition
+        words.now.replica listeners.now
         → IfOk result (λ octets. (files : Files)
-        × SaysNode text written folder.now partition replica octets.items files
+        × SaysNode text written words.now.folder.now words.now.partition words.now.replica
+        octets.items files
         × HasMade (F.made outputs.old) (F.made outputs.new) files) }
     ensures fault { IfErr result (StopsNode (F.made outputs.old) (F.made outputs.new)) }
 {
-    let book = match book_of(rt, alloc, topology, addresses, partition, replica, progress) {
+    let book = match book_of(means, topology, listeners, words) {
         Ok(book) => book,
         Err(status) => return Err(status),
     };
-    match write_book(alloc, topology, partition, folder, &book, outputs) {
+    let (partition, folder) = (words.partition, words.folder);
+    match write_book(means.alloc, topology, partition, folder, &book, outputs) {
         Ok(octets) => Ok(octets),
         Err(status) => Err(status),
     }
@@ -201,54 +208,39 @@ fn serve<F: Outputs, R: Net + Wait + Drop + Copy>(
 /// Serves one replica of a partition over TCP until it is done. Then its trace files are made, and
 /// the lines of its interfaces are said.
 pub(crate) fn say_node<I: Inputs, F: Outputs, O: Sink + Drop, R: Net + Wait + Drop + Copy>(
-    rt: &R,
-    alloc: Global,
-    topology: &str,
-    folder: &str,
-    partition: PartNo,
-    replica: u8,
-    addresses: &str,
+    means: &Means<'_, R>,
+    words: &NodeWords<'_>,
     inputs: &mut NamedInputs<I>,
     outputs: &mut F,
     out: O,
-    progress: &Progress,
 ) -> (Status, O)
     ensures { EndsNode O.taken O.failures
         (text_of I.standard_text I.file_text inputs.old.inputs)
         inputs.old.failures inputs.new.failures
         out result.1 (F.made outputs.old) (F.made outputs.new)
-        topology.entry.now folder.entry.now partition replica addresses.entry.now result.0 }
+        words.now.topology.now words.now.folder.now words.now.partition words.now.replica
+        words.now.addresses.now result.0 }
 {
-    let topology = match read_text(alloc, inputs, topology) {
+    let topology = match read_text(means.alloc, inputs, words.topology) {
         Ok(text) => text,
         Err(status) => return (status, out),
     };
-    let addresses = match read_text(alloc, inputs, addresses) {
+    let addresses = match read_text(means.alloc, inputs, words.addresses) {
         Ok(text) => text,
         Err(status) => return (status, out),
     };
     let read = read_both(
-        alloc,
+        means.alloc,
         topology.as_slice(),
         addresses.as_slice(),
-        partition,
-        replica,
+        words.partition,
+        words.replica,
     );
     let (network, listeners) = match read {
         Ok(both) => both,
         Err(status) => return (status, out),
     };
-    match serve(
-        rt,
-        alloc,
-        &network,
-        listeners.as_slice(),
-        folder,
-        partition,
-        replica,
-        outputs,
-        progress,
-    ) {
+    match serve(means, &network, listeners.as_slice(), words, outputs) {
         Ok(text) => put(
             Output {
                 text,

@@ -4,24 +4,23 @@ ghost use Rattle.std.specs.Prelude.{◌≡◌, IfSome, map, option_map, string_b
 ghost use Rattle.std.specs.Io.KnownBytes.{Appends};
 ghost use Rattle.nm_command.specs.Command.{IsWithinLimits, command_of, command_value};
 ghost use Rattle.nm_command.specs.Status.{line_of};
-ghost use Rattle.nm_program.specs.Ending.{Ends, handed_on};
-ghost use Rattle.nm_program.specs.Input.{text_of};
+ghost use Rattle.nm_program.specs.Ending.{ProgramEnds, handed_on};
+ghost use Rattle.nm_words.specs.Input.{text_of};
 ghost use Rattle.nm_command.specs.declared.status.Status.TheVariants.{Done, File};
 
-use crate::checking::say_check;
-use crate::input::NamedInputs;
-use crate::inputs::Inputs;
-use crate::node::say_node;
-use crate::rounds::say_rounds;
-use crate::runs::say_run;
-use crate::script::say_script;
-use crate::shown::{View, say_text, say_view};
-use crate::traces::write_trace;
+use crate::means::Means;
+use crate::node::{NodeWords, say_node};
+use crate::runs::{RunWords, say_run};
 use nm_base::{PartNo, Sink};
 use nm_command::{Command, Status};
 use nm_files::Outputs;
-use nm_progress::Progress;
-use std::alloc::Global;
+use nm_words::checking::say_check;
+use nm_words::input::NamedInputs;
+use nm_words::inputs::Inputs;
+use nm_words::rounds::say_rounds;
+use nm_words::script::say_script;
+use nm_words::shown::{View, say_text, say_view};
+use nm_words::traces::write_trace;
 use std::net;
 use std::net::Net;
 use std::sync::Wait;
@@ -32,20 +31,18 @@ use std::thread::Threads;
 /// not done; where `errors` fails there is nobody to tell, and the status stays.
 ///
 /// The first of these decides: the words, the inputs in the words' order, the topology, the lines of
-/// a script, all else. How far a run is it notes in `progress`, on which nothing hangs.
-/// Words that are no command open no input. Only `run` makes files, as its replicas run, and `node`,
-/// once its replica is done; only these use the network. Memory may be refused at any place: the sink has a
-/// prefix of the trace file then, which may be empty. Where the sink fails it has a prefix of what
-/// was asked for too; with every other status but `Done` and `Stalled` it took nothing.
+/// a script, all else. Words that are no command open no input. Only `run` makes files, as its
+/// replicas run, and `node`, once its replica is done; only these use the network. Memory may be
+/// refused at any place: the sink has a prefix of the trace file then, which may be empty. Where the
+/// sink fails it has a prefix of what was asked for too; with every other status but `Done` and
+/// `Stalled` it took nothing.
 pub fn run<I: Inputs, F: Outputs, O: Sink + Drop, E: Sink, R>(
-    rt: &R,
-    alloc: Global,
+    means: &Means<'_, R>,
     words: &[String],
     inputs: &mut NamedInputs<I>,
     outputs: &mut F,
     out: O,
     errors: &mut E,
-    progress: &Progress,
 ) -> (Status, O)
 where
     F::File: Send,
@@ -55,7 +52,7 @@ where
         + Sync
         + Drop
         + Copy,
-    ensures ending { Ends O.taken O.failures
+    ensures ending { ProgramEnds O.taken O.failures
         (text_of I.standard_text I.file_text inputs.old.inputs)
         inputs.old.failures inputs.new.failures
         out result.1 (F.made outputs.old) (F.made outputs.new)
@@ -63,27 +60,17 @@ where
     ensures line { E.failures errors.new ≡ E.failures errors.old
         → Appends (E.taken errors.old) (E.taken errors.new) (line_of result.0) }
 {
-    let (status, out) = perform(
-        rt,
-        alloc,
-        Command::of(words),
-        inputs,
-        outputs,
-        out,
-        progress,
-    );
+    let (status, out) = perform(means, Command::of(words), inputs, outputs, out);
     (report(status, errors), out)
 }
 
 /// Does what a command asks for, and gives the sink back.
 fn perform<I: Inputs, F: Outputs, O: Sink + Drop, R>(
-    rt: &R,
-    alloc: Global,
+    means: &Means<'_, R>,
     command: Option<Command<'_>>,
     inputs: &mut NamedInputs<I>,
     outputs: &mut F,
     out: O,
-    progress: &Progress,
 ) -> (Status, O)
 where
     F::File: Send,
@@ -94,12 +81,17 @@ where
         + Drop
         + Copy,
     requires { IfSome command IsWithinLimits }
-    ensures { Ends O.taken O.failures
+    ensures { ProgramEnds O.taken O.failures
         (text_of I.standard_text I.file_text inputs.old.inputs)
         inputs.old.failures inputs.new.failures
         out result.1 (F.made outputs.old) (F.made outputs.new)
         (option_map command_value command.entry) result.0 }
 {
+    let Means {
+        alloc,
+        progress,
+        ..
+    } = *means;
     match command {
         Some(
             Command::Trace {
@@ -131,9 +123,15 @@ where
                 workers,
                 replicas,
             },
-        ) => say_run(
-            rt, alloc, topology, folder, workers, replicas, inputs, outputs, out, progress,
-        ),
+        ) => {
+            let words = RunWords {
+                topology,
+                folder,
+                workers,
+                replicas,
+            };
+            say_run(means, &words, inputs, outputs, out)
+        }
         Some(
             Command::Node {
                 topology,
@@ -142,19 +140,16 @@ where
                 replica,
                 addresses,
             },
-        ) => say_node(
-            rt,
-            alloc,
-            topology,
-            folder,
-            PartNo::new(partition),
-            replica,
-            addresses,
-            inputs,
-            outputs,
-            out,
-            progress,
-        ),
+        ) => {
+            let words = NodeWords {
+                topology,
+                folder,
+                partition: PartNo::new(partition),
+                replica,
+                addresses,
+            };
+            say_node(means, &words, inputs, outputs, out)
+        }
         None => (Status::Usage, out),
     }
 }

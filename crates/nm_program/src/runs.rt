@@ -9,25 +9,25 @@ ghost use Rattle.nm_sim.specs.Records.{totals_of};
 ghost use Rattle.nm_sim.specs.Trace.{IsTraceBefore};
 ghost use Rattle.nm_topology.specs.PartValues.{IfaceValue};
 ghost use Rattle.nm_topology.specs.Topology.{topology_of};
-ghost use Rattle.nm_program.specs.Input.{text_of};
-ghost use Rattle.nm_program.specs.Lines.{iface_line, iface_lines};
+ghost use Rattle.nm_words.specs.Input.{text_of};
+ghost use Rattle.nm_words.specs.Lines.{iface_line, iface_lines};
 ghost use Rattle.nm_program.specs.Run.{EndsRun, SaysCertified, StopsRun};
 
-use crate::input::NamedInputs;
-use crate::inputs::Inputs;
-use crate::lines::push_line;
-use crate::output::{Output, put};
-use crate::reading::read_topology;
+use crate::means::Means;
 use nm_base::{IfaceNo, Sink};
 use nm_command::Status;
 use nm_files::Outputs;
-use nm_progress::Progress;
-use nm_run::{IfaceTotals, Report, Run, RunFault, run_all};
+use nm_run::{IfaceTotals, Report, RunFault, RunPlan, run_all};
 use nm_shared::Gate;
 use nm_sim::trace::every_topology_has_a_trace;
 use nm_text::push_text;
 use nm_topology::Topology;
 use nm_topology::topology::accepted_topologies_are_in_order;
+use nm_words::input::NamedInputs;
+use nm_words::inputs::Inputs;
+use nm_words::lines::push_line;
+use nm_words::output::{Output, put};
+use nm_words::reading::read_topology;
 use std::alloc::{AllocError, Global};
 use std::net;
 use std::net::Net;
@@ -114,16 +114,23 @@ fn report_text(
     run_text(alloc, network, report.totals.as_slice())
 }
 
+/// What the words of `run` name.
+#[derive(Clone, Copy)]
+pub(crate) struct RunWords<'a> {
+    pub topology: &'a str,
+    pub folder: &'a str,
+    /// 1 to 64.
+    pub workers: u8,
+    /// 1 or 2.
+    pub replicas: u8,
+}
+
 /// Runs all partitions at once: what is said of them.
 fn run_network<F: Outputs, R>(
-    rt: &R,
-    alloc: Global,
+    means: &Means<'_, R>,
     network: &Arc<Topology>,
-    folder: &str,
-    workers: u8,
-    replicas: u8,
+    words: &RunWords<'_>,
     outputs: &mut F,
-    progress: &Progress,
 ) -> Result<Vec<u8>, Status>
 where
     F::File: Send,
@@ -133,24 +140,24 @@ where
         + Sync
         + Drop
         + Copy,
-    requires { (1 ≤ workers) × (workers ≤ MAX_WORKERS) }
+    requires { (1 ≤ words.now.workers) × (words.now.workers ≤ MAX_WORKERS) }
     ensures said { (text : List ℕ) → topology_of text ≡ Ok (arc_value network.now)
         → IfOk result (λ octets. SaysCertified text octets.items) }
     ensures fault { IfErr result StopsRun }
 {
-    let run = Run {
+    let plan = RunPlan {
         topology: network,
-        folder,
-        workers: workers as usize,
-        replicas,
-        progress,
+        folder: words.folder,
+        workers: words.workers as usize,
+        replicas: words.replicas,
+        progress: means.progress,
     };
-    progress.begin(network.stop());
-    let report = match run_all(rt, alloc, &run, outputs, &Open) {
+    means.progress.begin(network.stop());
+    let report = match run_all(means.rt, means.alloc, &plan, outputs, &Open) {
         Ok(report) => report,
         Err(fault) => return Err(status_of(fault)),
     };
-    match report_text(alloc, network, &report) {
+    match report_text(means.alloc, network, &report) {
         Ok(text) => Ok(text),
         Err(_) => Err(Status::Memory),
     }
@@ -159,16 +166,11 @@ where
 /// Runs all partitions at once, and says that what they came to is certified, and how many records
 /// each interface has.
 pub(crate) fn say_run<I: Inputs, F: Outputs, O: Sink + Drop, R>(
-    rt: &R,
-    alloc: Global,
-    topology: &str,
-    folder: &str,
-    workers: u8,
-    replicas: u8,
+    means: &Means<'_, R>,
+    words: &RunWords<'_>,
     inputs: &mut NamedInputs<I>,
     outputs: &mut F,
     out: O,
-    progress: &Progress,
 ) -> (Status, O)
 where
     F::File: Send,
@@ -178,22 +180,20 @@ where
         + Sync
         + Drop
         + Copy,
-    requires { (1 ≤ workers) × (workers ≤ MAX_WORKERS) }
+    requires { (1 ≤ words.now.workers) × (words.now.workers ≤ MAX_WORKERS) }
     ensures { EndsRun O.taken O.failures
         (text_of I.standard_text I.file_text inputs.old.inputs)
         inputs.old.failures inputs.new.failures
-        out result.1 (F.made outputs.old) (F.made outputs.new) topology.entry.now result.0 }
+        out result.1 (F.made outputs.old) (F.made outputs.new) words.now.topology.now result.0 }
 {
-    let network = match read_topology(alloc, inputs, topology) {
+    let network = match read_topology(means.alloc, inputs, words.topology) {
         Ok(network) => network,
         Err(status) => return (status, out),
     };
-    let Ok(network) = Arc::new(alloc, network) else {
+    let Ok(network) = Arc::new(means.alloc, network) else {
         return (Status::Memory, out);
     };
-    match run_network(
-        rt, alloc, &network, folder, workers, replicas, outputs, progress,
-    ) {
+    match run_network(means, &network, words, outputs) {
         Ok(text) => put(
             Output {
                 text,

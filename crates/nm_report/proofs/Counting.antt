@@ -10,7 +10,7 @@ use Rattle.nm_topology.specs.TopologyValue.{TopologyValue}
 use Rattle.nm_model.specs.Lists.{keep_where}
 use Rattle.nm_model.proofs.ListLemmas.{kept-append, not_some, some_inj}
 use Rattle.nm_report.specs.declared.amounts.Amount.{Amount}
-use Rattle.nm_report.specs.declared.amounts.Traffic.{Traffic}
+use Rattle.nm_report.specs.declared.amounts.IfaceTraffic.{IfaceTraffic}
 use Rattle.nm_report.specs.Amounts.{AreTraffic, amount_after, amount_of, came_to, is_in, traffic_after, traffic_of, went_from}
 
 -- one more of a list
@@ -69,7 +69,7 @@ traffic_more i l r b h = go b here (is_in r.dir) refl
 
 module _ (t : TopologyValue) where
   -- all are as they are to be with one more record
-  pub traffic_on : (old new : List Traffic) (records : List (Record (List ℕ))) (r : Record (List ℕ)) → length new ≡ length old
+  pub traffic_on : (old new : List IfaceTraffic) (records : List (Record (List ℕ))) (r : Record (List ℕ)) → length new ≡ length old
       → ((i : ℕ) → slice_get new i ≡ option_map (λ x. cond (i == r.iface) (traffic_after x r) x) (slice_get old i))
       → AreTraffic t old records → AreTraffic t new (records ++ r ∷ [])
   traffic_on old new records r count each h = record {
@@ -83,13 +83,13 @@ module _ (t : TopologyValue) where
   }
 
   -- before any record
-  pub traffic_first : (none : Traffic) → none ≡ traffic_of 0 [] → AreTraffic t (replicate (length t.ifaces) none) []
+  pub traffic_first : (none : IfaceTraffic) → none ≡ traffic_of 0 [] → AreTraffic t (replicate (length t.ifaces) none) []
   traffic_first none h = record {
     count = length-replicate (length t.ifaces) none;
     each = λ i y e. all (length t.ifaces) i y e;
   }
     where
-      all : (n i : ℕ) (y : Traffic) → slice_get (replicate n none) i ≡ Some y → y ≡ traffic_of i []
+      all : (n i : ℕ) (y : IfaceTraffic) → slice_get (replicate n none) i ≡ Some y → y ≡ traffic_of i []
       all zero i y e = absurd cc
       all (suc n) zero y e = some_inj y none (sym e) ∙ h
       all (suc n) (suc i) y e = all n i y e

@@ -7,7 +7,7 @@ use Rattle.nm_base.specs.declared.record.Record.{Record}
 use Rattle.nm_model.specs.Lists.{keep_where}
 use Rattle.nm_topology.specs.TopologyValue.{TopologyValue}
 use Rattle.nm_report.specs.declared.amounts.Amount.{Amount}
-use Rattle.nm_report.specs.declared.amounts.Traffic.{Traffic}
+use Rattle.nm_report.specs.declared.amounts.IfaceTraffic.{IfaceTraffic}
 
 abbrev pub is_in : Dir → Bool
 is_in In = true
@@ -27,19 +27,19 @@ amount_of f records = record {
   octets = saturated (sum_by (λ r. length r.packet) (keep_where f records));
 }
 
-abbrev pub traffic_of : ℕ → List (Record (List ℕ)) → Traffic
+abbrev pub traffic_of : ℕ → List (Record (List ℕ)) → IfaceTraffic
 traffic_of i records = record { came = amount_of (came_to i) records; went = amount_of (went_from i) records }
 
 -- with one packet more, and with one record more at the interface
 abbrev pub amount_after : Amount → ℕ → Amount
 amount_after a octets = record { packets = saturated (a.packets + 1); octets = saturated (a.octets + octets) }
 
-abbrev pub traffic_after : Traffic → Record (List ℕ) → Traffic
+abbrev pub traffic_after : IfaceTraffic → Record (List ℕ) → IfaceTraffic
 traffic_after x r = cond (is_in r.dir)
     (record { came = amount_after x.came (length r.packet); went = x.went })
     (record { came = x.came; went = amount_after x.went (length r.packet) })
 
 -- each interface's, by number
-pub record AreTraffic (t : TopologyValue) (found : List Traffic) (records : List (Record (List ℕ))) : Type 0 where
+pub record AreTraffic (t : TopologyValue) (found : List IfaceTraffic) (records : List (Record (List ℕ))) : Type 0 where
   pub count : length found ≡ length t.ifaces
-  pub each : (i : ℕ) (x : Traffic) → slice_get found i ≡ Some x → x ≡ traffic_of i records
+  pub each : (i : ℕ) (x : IfaceTraffic) → slice_get found i ≡ Some x → x ≡ traffic_of i records

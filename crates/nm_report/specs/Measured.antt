@@ -7,11 +7,11 @@ use Rattle.nm_topology.specs.TopologyValue.{TopologyValue}
 use Rattle.nm_sim.specs.Network.{net_of}
 use Rattle.nm_sim.specs.Part.{PartValue, Represents}
 use Rattle.nm_report.specs.Amounts.{AreTraffic}
-use Rattle.nm_report.specs.declared.amounts.Traffic.{Traffic}
+use Rattle.nm_report.specs.declared.amounts.IfaceTraffic.{IfaceTraffic}
 
 pub record MeasuredValue : Type 0 where
   pub part : PartValue Held
-  pub traffic : List Traffic
+  pub traffic : List IfaceTraffic
 
 -- the whole network after all events of its one event list that are before stop
 pub record IsMeasured (t : TopologyValue) (m : MeasuredValue) : Type 0 where

@@ -20,7 +20,7 @@ pub struct Amount {
 
 /// What came to an interface, and what it began to transmit.
 #[derive(Clone, Copy, Drop)]
-pub struct Traffic {
+pub struct IfaceTraffic {
     pub came: Amount,
     pub went: Amount,
 }
@@ -43,16 +43,16 @@ fn one_more(amount: Amount, octets: usize) -> Amount
 }
 
 /// The traffic of an interface with one record more that is there.
-fn with_record(traffic: Traffic, record: &Record) -> Traffic
+fn with_record(traffic: IfaceTraffic, record: &Record) -> IfaceTraffic
     ensures { result ≡ traffic_after traffic «record».now }
 {
     let octets = record.packet.octet_count();
     match record.dir {
-        Dir::In => Traffic {
+        Dir::In => IfaceTraffic {
             came: one_more(traffic.came, octets),
             went: traffic.went,
         },
-        Dir::Out => Traffic {
+        Dir::Out => IfaceTraffic {
             came: traffic.came,
             went: one_more(traffic.went, octets),
         },
@@ -60,7 +60,7 @@ fn with_record(traffic: Traffic, record: &Record) -> Traffic
 }
 
 /// Counts a record at its interface.
-fn count(all: &mut Vec<Traffic>, record: &Record)
+fn count(all: &mut Vec<IfaceTraffic>, record: &Record)
     ensures count { length all.new.items ≡ length all.old.items }
     ensures each { (i : ℕ) → slice_get all.new.items i ≡ option_map
         (λ x. if i == «record».now.iface then traffic_after x «record».now else x)
@@ -77,12 +77,12 @@ fn count(all: &mut Vec<Traffic>, record: &Record)
 /// # Errors
 ///
 /// Where memory was refused.
-pub fn traffic_of_all(alloc: Global, topology: &Topology) -> Result<Vec<Traffic>, AllocError>
+pub fn traffic_of_all(alloc: Global, topology: &Topology) -> Result<Vec<IfaceTraffic>, AllocError>
     ensures { IfOk result (λ all. (records : List (TraceRecord (List ℕ)))
         → IsTraceBefore topology.now topology.now.stop records
         → AreTraffic topology.now all.items records) }
 {
-    let none = Traffic {
+    let none = IfaceTraffic {
         came: NONE,
         went: NONE,
     };

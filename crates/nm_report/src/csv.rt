@@ -3,7 +3,7 @@
 ghost use Rattle.std.specs.Prelude.{IfOk, OnOk};
 ghost use Rattle.nm_report.specs.Lines.{EndsLine};
 
-use crate::amounts::Traffic;
+use crate::amounts::IfaceTraffic;
 use crate::measured::Measured;
 use crate::report::{flow_of, traffic_at};
 use crate::table::end_line;
@@ -77,7 +77,7 @@ fn push_iface(
     ensures { OnOk result (EndsLine text.new.items) }
 {
     let iface = IfaceNo::new(iface);
-    let Traffic { came, went } = traffic_at(measured, iface);
+    let IfaceTraffic { came, went } = traffic_at(measured, iface);
     for (measure, value) in [
         ("packets_in", came.packets),
         ("octets_in", came.octets),

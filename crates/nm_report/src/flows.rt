@@ -7,7 +7,7 @@ use std::collections::BTreeMap;
 /// What became of the packets of a source. Delays are from the source's event to the arrival at a
 /// node that has the destination's address, in nanoseconds.
 #[derive(Clone, Copy, Drop)]
-pub struct Flow {
+pub struct FlowCounts {
     /// How many packets it made.
     pub sent: u64,
     /// How many arrived before `stop`.
@@ -20,9 +20,9 @@ pub struct Flow {
     total: u128,
 }
 
-impl Flow {
+impl FlowCounts {
     /// No packets.
-    pub(crate) const NONE: Flow = Flow {
+    pub(crate) const NONE: FlowCounts = FlowCounts {
         sent: 0,
         delivered: 0,
         least: 0,
@@ -68,7 +68,7 @@ struct Sent {
 /// node until 65,536 others were originated there.
 #[derive(Drop)]
 pub(crate) struct Flows {
-    all: Vec<Flow>,
+    all: Vec<FlowCounts>,
     under_way: BTreeMap<u64, Sent>,
 }
 
@@ -81,13 +81,13 @@ impl Flows {
     /// Of so many sources.
     pub(crate) fn new(alloc: Global, sources: usize) -> Result<Self, AllocError> {
         Ok(Flows {
-            all: vec![in alloc; Flow::NONE; sources]?,
+            all: vec![in alloc; FlowCounts::NONE; sources]?,
             under_way: BTreeMap::new(alloc),
         })
     }
 
     /// What became of the packets of a source.
-    pub(crate) fn flow(&self, source: SourceNo) -> Option<Flow> {
+    pub(crate) fn flow(&self, source: SourceNo) -> Option<FlowCounts> {
         self.all.get(source.index()).copied()
     }
 

@@ -14,10 +14,10 @@ mod table;
 mod units;
 mod watched;
 
-pub use amounts::{Amount, Traffic};
+pub use amounts::{Amount, IfaceTraffic};
 pub use csv::csv_text;
 pub use dot::{dot_text, load_text};
-pub use flows::Flow;
+pub use flows::FlowCounts;
 pub use measured::Measured;
 pub use measuring::measure;
 pub use packet_line::push_packet_line;

@@ -8,8 +8,8 @@ ghost use Rattle.nm_sim.specs.Network.{net_of};
 ghost use Rattle.nm_sim.specs.Part.{count_at, drops_at};
 ghost use Rattle.nm_topology.specs.TopologyValue.{TopologyValue};
 
-use crate::amounts::Traffic;
-use crate::flows::Flow;
+use crate::amounts::IfaceTraffic;
+use crate::flows::FlowCounts;
 use crate::watched::Watched;
 use nm_base::{IfaceNo, NodeNo, SourceNo};
 use nm_events::SortedList;
@@ -22,7 +22,7 @@ use std::marker::Model;
 #[derive(Drop)]
 pub struct Measured {
     part: Part<SortedList>,
-    traffic: Vec<Traffic>,
+    traffic: Vec<IfaceTraffic>,
     watched: Watched,
 }
 
@@ -36,7 +36,7 @@ impl Model for Measured {
 
 impl Measured {
     /// A network after its run, with what was measured.
-    pub(crate) fn new(part: Part<SortedList>, traffic: Vec<Traffic>, watched: Watched) -> Self
+    pub(crate) fn new(part: Part<SortedList>, traffic: Vec<IfaceTraffic>, watched: Watched) -> Self
         ensures part { result.part ≡ part }
         ensures traffic { result.traffic ≡ traffic.items }
     {
@@ -64,7 +64,7 @@ impl Measured {
     }
 
     /// What came to an interface and what it transmitted. `None` where there is no such interface.
-    pub fn traffic(&self, iface: IfaceNo) -> Option<Traffic>
+    pub fn traffic(&self, iface: IfaceNo) -> Option<IfaceTraffic>
         ensures { (t : TopologyValue) (m : IsMeasured t self.now) → iface < length t.ifaces
             → result ≡ Some (traffic_of iface (one_list (net_of t) m.events).records) }
     {
@@ -82,7 +82,7 @@ impl Measured {
     }
 
     /// What became of the packets of a source. `None` where there is no such source.
-    pub fn flow(&self, source: SourceNo) -> Option<Flow> {
+    pub fn flow(&self, source: SourceNo) -> Option<FlowCounts> {
         self.watched.flow(source)
     }
 }

@@ -3,8 +3,8 @@
 ghost use Rattle.std.specs.Prelude.{IfOk};
 ghost use Rattle.nm_report.specs.Lines.{EndsLine};
 
-use crate::amounts::{Amount, Traffic};
-use crate::flows::Flow;
+use crate::amounts::{Amount, IfaceTraffic};
+use crate::flows::FlowCounts;
 use crate::measured::Measured;
 use crate::table::{Table, end_line};
 use crate::units::{push_address, push_percentage, thousandths};
@@ -16,7 +16,7 @@ use nm_topology::traffic::{Source, Traffic as SourceTraffic};
 use std::alloc::{AllocError, Global};
 
 /// Nothing came and nothing went.
-const NO_TRAFFIC: Traffic = Traffic {
+const NO_TRAFFIC: IfaceTraffic = IfaceTraffic {
     came: Amount {
         packets: 0,
         octets: 0,
@@ -28,13 +28,13 @@ const NO_TRAFFIC: Traffic = Traffic {
 };
 
 /// What came to an interface and what it transmitted, which is nothing where it is not there.
-pub(crate) fn traffic_at(measured: &Measured, iface: IfaceNo) -> Traffic {
+pub(crate) fn traffic_at(measured: &Measured, iface: IfaceNo) -> IfaceTraffic {
     measured.traffic(iface).unwrap_or(NO_TRAFFIC)
 }
 
 /// What became of the packets of a source, which is nothing where it is not there.
-pub(crate) fn flow_of(measured: &Measured, source: SourceNo) -> Flow {
-    measured.flow(source).unwrap_or(Flow::NONE)
+pub(crate) fn flow_of(measured: &Measured, source: SourceNo) -> FlowCounts {
+    measured.flow(source).unwrap_or(FlowCounts::NONE)
 }
 
 /// The kind of a source, as the topology's text has it.
@@ -100,7 +100,7 @@ fn add_iface(
     name: &str,
     iface: IfaceNo,
 ) -> Result<(), AllocError> {
-    let Traffic { came, went } = traffic_at(measured, iface);
+    let IfaceTraffic { came, went } = traffic_at(measured, iface);
     table.text(name.as_bytes())?;
     table.number(came.packets)?;
     table.number(came.octets)?;
@@ -179,7 +179,7 @@ fn add_source(
 }
 
 /// The cells of a row that say what became of its packets. Of raw ones it is not known.
-fn add_flow(table: &mut Table, flow: Flow, is_raw: bool) -> Result<(), AllocError> {
+fn add_flow(table: &mut Table, flow: FlowCounts, is_raw: bool) -> Result<(), AllocError> {
     table.number(flow.sent)?;
     if is_raw {
         for _ in 0..5 {

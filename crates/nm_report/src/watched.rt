@@ -1,6 +1,6 @@
 //! What is seen of a run, event by event.
 
-use crate::flows::{Flow, Flows};
+use crate::flows::{FlowCounts, Flows};
 use nm_base::{Dir, IfaceNo, NodeNo, Place, Record, SourceNo, Time};
 use nm_events::SortedList;
 use nm_forward::Counter;
@@ -108,7 +108,7 @@ impl Watched {
     }
 
     /// What became of the packets of a source.
-    pub(crate) fn flow(&self, source: SourceNo) -> Option<Flow> {
+    pub(crate) fn flow(&self, source: SourceNo) -> Option<FlowCounts> {
         self.flows.flow(source)
     }
 

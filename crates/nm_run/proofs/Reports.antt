@@ -1,5 +1,5 @@
 -- The totals of interfaces in certified books.
-use Rattle.std.proofs.Common.{◌≡◌, ℕ, ◌==◌, ◌<◌, min, ltb, true, if◌then◌else◌, length, List, refl, sym, ◌∙◌, ap, subst, arith}
+use Rattle.std.proofs.Common.{◌≡◌, ℕ, ◌==◌, ◌<◌, min, ltb, true, if◌then◌else◌, length, List, sym, ◌∙◌, ap, subst, arith}
 use Rattle.nm_base.specs.Count.{saturated}
 use Rattle.nm_base.specs.declared.record.Record.{Record}
 use Rattle.nm_model.specs.Before.{IsBefore, trace}

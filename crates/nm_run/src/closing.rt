@@ -41,10 +41,8 @@ impl Passes {
 
     /// One of each book, in order.
     fn add_each(&mut self, passes: Vec<Pass<Plain>>) -> Result<(), AllocError> {
-        let mut book = 0usize;
-        for pass in passes {
+        for (book, pass) in passes.into_iter().enumerate() {
             self.add(book, pass)?;
-            book = book.saturating_add(1);
         }
         Ok(())
     }
@@ -69,14 +67,18 @@ where
 {
     let mut files = Vec::new(alloc);
     for end in ends {
-        let SideEnd { book, holdings, .. } = end;
+        let SideEnd {
+            index,
+            holdings,
+            ..
+        } = end;
         let Holdings {
             pass,
             passes: others,
             files: own,
             ..
         } = holdings;
-        passes.add(book, pass)?;
+        passes.add(index, pass)?;
         passes.add_each(others)?;
         files.push(own)?;
     }
@@ -90,10 +92,8 @@ fn gather_jobs(passes: &mut Passes, dispatcher: Dispatcher) -> Result<(), AllocE
         passes: jobs,
         ..
     } = dispatcher;
-    let mut book = 0usize;
-    for watched in watched {
+    for (book, watched) in watched.into_iter().enumerate() {
         passes.add(book, watched.into_pass())?;
-        book = book.saturating_add(1);
     }
     for job in jobs {
         passes.add(job.book, job.pass)?;
@@ -112,13 +112,11 @@ fn close_books(
     passes: &mut Passes,
 ) -> Result<Vec<Book>, RunFault> {
     let mut closed = Vec::new(alloc);
-    let mut number = 0usize;
-    for book in books {
+    for (number, book) in books.into_iter().enumerate() {
         match book.close(passes.take(alloc, number)) {
             Ok(one) => closed.push(one.book)?,
             Err(_) => return Err(RunFault::Net),
         }
-        number = number.saturating_add(1);
     }
     Ok(closed)
 }

@@ -38,15 +38,12 @@ fn note_all<G>(
     ensures { dispatcher.new.seat ≡ dispatcher.old.seat }
 {
     let mut events = 0u64;
-    for number in 0..jobs.len() {
-        if number < answers.len() {
-            let book = jobs[number].book;
-            let count = note_answer(&mut dispatcher.watched, book, answers[number])?;
-            if count > 0 {
-                threaded.wake(book);
-            }
-            events = events.saturating_add(count);
+    for (job, answer) in jobs.iter().zip(answers) {
+        let count = note_answer(&mut dispatcher.watched, job.book, *answer)?;
+        if count > 0 {
+            threaded.wake(job.book);
         }
+        events = events.saturating_add(count);
     }
     Ok(events)
 }
@@ -62,16 +59,15 @@ fn do_in_turn<G: Gate, R: Wait>(
     ensures { dispatcher.new.seat ≡ dispatcher.old.seat }
 {
     let mut events = 0u64;
-    for number in 0..jobs.len() {
-        let Job { book: place, limit } = jobs[number];
-        let watched = dispatcher.watched.get_mut(place);
-        if let (Some(watched), Some(book)) = (watched, threaded.books.get(place)) {
+    for (number, job) in jobs.iter().enumerate() {
+        let watched = dispatcher.watched.get_mut(job.book);
+        if let (Some(watched), Some(book)) = (watched, threaded.books.get(job.book)) {
             threaded.gate.enter(number);
-            let answer = watched.run(rt, alloc, book, limit);
+            let answer = watched.run(rt, alloc, book, job.limit);
             threaded.gate.leave(number);
             let count = watched.note(answer)?;
             if count > 0 {
-                threaded.wake(place);
+                threaded.wake(job.book);
             }
             events = events.saturating_add(count);
         }

@@ -1,17 +1,22 @@
 //! What the endings of replicas are to the run.
 
+ghost use Rattle.std.specs.Prelude.{◌≡◌};
+ghost use Rattle.nm_run.specs.Report.{fault_of};
+
 use crate::fault::RunFault;
 use crate::sides::SideEnd;
-use nm_net::Ending;
+use nm_net::Served;
 
 /// Why a run failed one of whose replicas ended so, if it did.
-fn fault_of(ending: Ending) -> Option<RunFault> {
-    match ending {
-        Ending::Ended => None,
-        Ending::Net => Some(RunFault::Net),
-        Ending::Memory => Some(RunFault::Memory),
-        Ending::File { iface, written } => Some(RunFault::File { iface, written }),
-        Ending::Stalled { polls } => Some(RunFault::Stalled { polls }),
+fn fault_of(served: Served) -> Option<RunFault>
+    ensures { result ≡ fault_of served }
+{
+    match served {
+        Served::Ended => None,
+        Served::Net => Some(RunFault::Net),
+        Served::Memory => Some(RunFault::Memory),
+        Served::File { iface, written } => Some(RunFault::File { iface, written }),
+        Served::Stalled { polls } => Some(RunFault::Stalled { polls }),
     }
 }
 
@@ -24,7 +29,7 @@ fn fault_of(ending: Ending) -> Option<RunFault> {
 pub(crate) fn check_endings<S>(ends: &[SideEnd<S>]) -> Result<(), RunFault> {
     let mut outcome = Ok(());
     for end in ends {
-        if let Some(fault) = fault_of(end.ending) {
+        if let Some(fault) = fault_of(end.served) {
             if fault != RunFault::Net {
                 return Err(fault);
             }

@@ -7,6 +7,7 @@ use nm_base::IfaceNo;
 use nm_files::{FileFault, FilesFault};
 use nm_rounds::certify::CertFault;
 use std::alloc::{AllocError, AllocFailed};
+use std::io::{self, ErrorKind};
 use thiserror::Error;
 
 /// Why a run has no report. Each trace file that was made has a prefix of what its replica handed
@@ -44,6 +45,16 @@ impl<T: Drop> From<AllocFailed<T>> for RunFault {
 
     fn from(_: AllocFailed<T>) -> Self {
         RunFault::Memory
+    }
+}
+
+impl From<io::Error> for RunFault {
+    fn from(error: io::Error) -> Self {
+        if error.kind() == ErrorKind::OutOfMemory {
+            RunFault::Memory
+        } else {
+            RunFault::Net
+        }
     }
 }
 

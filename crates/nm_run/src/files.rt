@@ -13,25 +13,31 @@ use nm_topology::Topology;
 use nm_topology::topology::accepted_topologies_are_in_order;
 use std::alloc::Global;
 
+/// Where the trace files of a network stand.
+#[derive(Clone, Copy)]
+pub(crate) struct TraceFolder<'a> {
+    pub topology: &'a Topology,
+    pub folder: &'a str,
+}
+
 /// Makes the trace file of an interface, if that is of the partition.
 fn open_own<F: Outputs>(
     alloc: Global,
-    topology: &Topology,
+    folder: TraceFolder<'_>,
     partition: PartNo,
-    folder: &str,
     iface: IfaceNo,
     outputs: &mut F,
     files: &mut TraceFiles<F::File>,
 ) -> Result<(), RunFault>
-    requires there { iface < length topology.now.ifaces }
+    requires there { iface < length folder.topology.now.ifaces }
     requires sound { All IsSound files.old.files.items }
     ensures { All IsSound files.new.files.items }
 {
-    if partition_of(topology, iface) != partition {
+    if partition_of(folder.topology, iface) != partition {
         files.skip()?;
         return Ok(());
     }
-    let name = name_of(alloc, folder, topology.iface(iface))?;
+    let name = name_of(alloc, folder.folder, folder.topology.iface(iface))?;
     let Some(sink) = outputs.create(name.as_str()) else {
         return Err(RunFault::File { iface, written: 0 });
     };
@@ -42,20 +48,17 @@ fn open_own<F: Outputs>(
 /// Makes the trace files of the interfaces of a partition, in the order of the topology's text.
 pub(crate) fn open_files<F: Outputs>(
     alloc: Global,
-    topology: &Topology,
+    folder: TraceFolder<'_>,
     partition: PartNo,
-    folder: &str,
     outputs: &mut F,
 ) -> Result<TraceFiles<F::File>, RunFault>
     ensures { IfOk result (λ f. All IsSound f.files.items) }
 {
-    accepted_topologies_are_in_order(topology); // law: there are few interfaces
+    accepted_topologies_are_in_order(folder.topology); // law: there are few interfaces
     let mut files = TraceFiles::new(alloc);
-    for number in 0..topology.ifaces().len() {
+    for number in 0..folder.topology.ifaces().len() {
         let iface = IfaceNo::new(number as u32);
-        open_own(
-            alloc, topology, partition, folder, iface, outputs, &mut files,
-        )?;
+        open_own(alloc, folder, partition, iface, outputs, &mut files)?;
     }
     Ok(files)
 }
@@ -63,19 +66,18 @@ pub(crate) fn open_files<F: Outputs>(
 /// Closes the file of an interface, if it has one.
 fn close_one<F: Outputs>(
     alloc: Global,
-    topology: &Topology,
-    folder: &str,
+    folder: TraceFolder<'_>,
     iface: IfaceNo,
     written: u64,
     outputs: &mut F,
     files: &mut TraceFiles<F::File>,
 ) -> Result<(), RunFault>
-    requires { iface < length topology.now.ifaces }
+    requires { iface < length folder.topology.now.ifaces }
 {
     let Some(file) = files.take(iface) else {
         return Ok(());
     };
-    let name = name_of(alloc, folder, topology.iface(iface))?;
+    let name = name_of(alloc, folder.folder, folder.topology.iface(iface))?;
     if !outputs.close(name.as_str(), file.into_sink()) {
         return Err(RunFault::File { iface, written });
     }
@@ -85,19 +87,18 @@ fn close_one<F: Outputs>(
 /// Closes trace files that have these totals.
 pub(crate) fn close_files<F: Outputs>(
     alloc: Global,
-    topology: &Topology,
-    folder: &str,
+    folder: TraceFolder<'_>,
     totals: &[IfaceTotals],
     outputs: &mut F,
     files: &mut TraceFiles<F::File>,
 ) -> Result<(), RunFault>
-    requires { length totals.now ≡ length topology.now.ifaces }
+    requires { length totals.now ≡ length folder.topology.now.ifaces }
 {
-    accepted_topologies_are_in_order(topology); // law: there are few interfaces
-    for number in 0..topology.ifaces().len() {
+    accepted_topologies_are_in_order(folder.topology); // law: there are few interfaces
+    for number in 0..folder.topology.ifaces().len() {
         let iface = IfaceNo::new(number as u32);
         let written = totals[number].octets;
-        close_one(alloc, topology, folder, iface, written, outputs, files)?;
+        close_one(alloc, folder, iface, written, outputs, files)?;
     }
     Ok(())
 }

@@ -3,11 +3,11 @@
 ghost use Rattle.std.specs.Prelude.{◌<◌, All, IfOk, length};
 ghost use Rattle.nm_shared.specs.Board.{IsSeatOf};
 
-use crate::acts::Stand;
-use nm_addresses::Address;
 use nm_base::{ChanNo, PartNo};
 use nm_book::Ran;
 use nm_book::channels::comes_in;
+use nm_net::acts::Stand;
+use nm_peers::Listener;
 use nm_shared::board::word_of;
 use nm_shared::{ClockBoard, Job, Pass, Plain, Seat, SharedBook};
 use nm_topology::Topology;
@@ -76,19 +76,19 @@ fn has_news(board: &ClockBoard, seat: &mut Seat, words: &[usize], safe: u64) -> 
 }
 
 impl Watched {
-    /// The book of the replica with this address, which has had no job.
+    /// The book of the replica that listens here, which has had no job.
     pub(crate) fn new(
         alloc: Global,
         topology: &Topology,
-        address: &Address,
+        listener: &Listener,
         replicas: u8,
         pass: Pass<Plain>,
     ) -> Result<Self, AllocError> {
         Ok(Watched {
-            words: words_of(alloc, topology, address.partition, replicas)?,
+            words: words_of(alloc, topology, listener.partition, replicas)?,
             pass,
-            replica: address.replica,
-            partition: address.partition,
+            replica: listener.replica,
+            partition: listener.partition,
             safe: 0,
             records: 0,
             is_owed: true,

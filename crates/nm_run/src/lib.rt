@@ -2,7 +2,6 @@
 //! what they come to.
 #![tactic(auto)]
 
-pub mod acts;
 mod closing;
 mod dispatching;
 mod endings;
@@ -19,4 +18,4 @@ mod threads;
 
 pub use fault::RunFault;
 pub use report::{IfaceTotals, Report};
-pub use run::{Run, run_all};
+pub use run::{RunPlan, run_all};

@@ -3,8 +3,8 @@
 use crate::fault::RunFault;
 use mio::net::TcpListener;
 use mio::{Poll, Token, Waker};
-use nm_addresses::Address;
 use nm_base::PartNo;
+use nm_peers::Listener;
 use std::alloc::Global;
 use std::io;
 use std::net::{Ipv4Addr, Net, SocketAddr};
@@ -12,10 +12,10 @@ use std::net::{Ipv4Addr, Net, SocketAddr};
 /// The token of wakers. Connections have their keys, and the listener the greatest token.
 const WOKEN: Token = Token(usize::MAX - 1);
 
-/// A listener, and the poll on which its replica will wait.
+/// A socket that listens, and the poll on which its replica will wait.
 #[derive(Drop)]
 pub(crate) struct Post {
-    pub listener: TcpListener,
+    pub socket: TcpListener,
     pub poll: Poll,
 }
 
@@ -23,7 +23,7 @@ pub(crate) struct Post {
 #[derive(Drop)]
 pub(crate) struct Posts {
     pub posts: Vec<Post>,
-    pub addresses: Vec<Address>,
+    pub listeners: Vec<Listener>,
     pub wakers: Vec<Waker>,
 }
 
@@ -34,16 +34,16 @@ pub(crate) fn woken_poll<R: Net>(net: &R) -> io::Result<(Poll, Waker)> {
     Ok((poll, waker))
 }
 
-/// A listener at a free port of 127.0.0.1, and its address.
-fn listen<R: Net>(net: &R, partition: PartNo, replica: u8) -> io::Result<(TcpListener, Address)> {
-    let listener = TcpListener::bind(net, SocketAddr::from((Ipv4Addr::LOCALHOST, 0)))?;
-    match listener.local_addr()? {
-        SocketAddr::V4(at) => Ok((
-            listener,
-            Address {
+/// A socket that listens at a free port of 127.0.0.1, for this replica.
+fn listen<R: Net>(net: &R, partition: PartNo, replica: u8) -> io::Result<(TcpListener, Listener)> {
+    let socket = TcpListener::bind(net, SocketAddr::from((Ipv4Addr::LOCALHOST, 0)))?;
+    match socket.local_addr()? {
+        SocketAddr::V4(address) => Ok((
+            socket,
+            Listener {
                 partition,
                 replica,
-                listener: at,
+                address,
             },
         )),
         SocketAddr::V6(_) => Err(io::ErrorKind::Other.into()),
@@ -57,19 +57,19 @@ fn open_one<R: Net>(
     partition: PartNo,
     replica: u8,
 ) -> Result<(), RunFault> {
-    let Ok((listener, address)) = listen(net, partition, replica) else {
-        return Err(RunFault::Net);
-    };
-    let Ok((poll, waker)) = woken_poll(net) else {
-        return Err(RunFault::Net);
-    };
-    posts.posts.push(Post { listener, poll })?;
-    posts.addresses.push(address)?;
+    let (socket, listener) = listen(net, partition, replica)?;
+    let (poll, waker) = woken_poll(net)?;
+    posts.posts.push(Post { socket, poll })?;
+    posts.listeners.push(listener)?;
     posts.wakers.push(waker)?;
     Ok(())
 }
 
 /// Opens the posts of all replicas.
+///
+/// # Errors
+///
+/// `Net` where a replica cannot listen or wait. `Memory` where memory was refused.
 pub(crate) fn open_posts<R: Net>(
     net: &R,
     alloc: Global,
@@ -78,7 +78,7 @@ pub(crate) fn open_posts<R: Net>(
 ) -> Result<Posts, RunFault> {
     let mut posts = Posts {
         posts: Vec::new(alloc),
-        addresses: Vec::new(alloc),
+        listeners: Vec::new(alloc),
         wakers: Vec::new(alloc),
     };
     for partition in 0..partitions {

@@ -10,20 +10,19 @@ use crate::closing::{certify_all, close_run};
 use crate::dispatching::{Dispatcher, dispatch};
 use crate::endings::check_endings;
 use crate::fault::RunFault;
-use crate::files::{close_files, open_files};
+use crate::files::{TraceFolder, close_files, open_files};
 use crate::jobs::Watched;
 use crate::posts::{Post, Posts, open_posts, woken_poll};
 use crate::report::{Report, report_of};
 use crate::seats::{Dealt, deal};
-use crate::sides::{Side, SideEnd, run_side};
+use crate::sides::{Role, Side, SideEnd, run_side};
 use crate::threads::Threaded;
 use mio::{Events, Waker};
-use nm_addresses::Address;
 use nm_base::{PartNo, Sink};
 use nm_book::{Book, BookFault};
 use nm_files::{Outputs, TraceFiles};
 use nm_net::Holdings;
-use nm_node::peers::peers_of;
+use nm_peers::{Listener, peers_of};
 use nm_progress::Progress;
 use nm_shared::{ClockBoard, Gate, OwnerSeat, Pass, Plain, Seat, SharedBook};
 use nm_topology::Topology;
@@ -36,7 +35,7 @@ use std::{net, thread};
 
 /// A network whose partitions run at once.
 #[derive(Clone, Copy)]
-pub struct Run<'a> {
+pub struct RunPlan<'a> {
     pub topology: &'a Arc<Topology>,
     /// Where the trace files are made.
     pub folder: &'a str,
@@ -65,11 +64,11 @@ fn share_one(
 }
 
 /// Shares the replicas of all partitions.
-fn share_all(alloc: Global, run: &Run<'_>) -> Result<Vec<SharedBook<Plain>>, RunFault> {
+fn share_all(alloc: Global, plan: &RunPlan<'_>) -> Result<Vec<SharedBook<Plain>>, RunFault> {
     let mut books = Vec::new(alloc);
-    for partition in 0..run.topology.partitions() {
-        for replica in 0..run.replicas {
-            books.push(share_one(alloc, run.topology, PartNo::new(partition), replica)?)?;
+    for partition in 0..plan.topology.partitions() {
+        for replica in 0..plan.replicas {
+            books.push(share_one(alloc, plan.topology, PartNo::new(partition), replica)?)?;
         }
     }
     Ok(books)
@@ -91,45 +90,65 @@ fn passes_of<R: Wait>(
 /// What the replicas of a run begin with.
 #[derive(Clone, Copy)]
 struct Opened<'a> {
-    run: &'a Run<'a>,
+    alloc: Global,
+    plan: &'a RunPlan<'a>,
     /// By partition and replica.
     books: &'a [SharedBook<Plain>],
-    addresses: &'a [Address],
+    listeners: &'a [Listener],
+    board: &'a ClockBoard,
 }
 
-/// What the replica at this place holds.
+/// What the replica that listens here holds.
 fn holdings_of<F: Outputs, R: Wait>(
     rt: &R,
-    alloc: Global,
     opened: &Opened<'_>,
     book: &SharedBook<Plain>,
-    address: &Address,
+    listener: &Listener,
     seats: Vec<OwnerSeat>,
     outputs: &mut F,
 ) -> Result<Holdings<Plain, F::File>, RunFault>
     ensures seats { IfOk result (λ h. h.seats ≡ seats) }
     ensures files { IfOk result (λ h. All IsSound h.files.files.items) }
 {
-    let run = opened.run;
-    let files = if address.replica == 0 {
-        open_files(alloc, run.topology, address.partition, run.folder, outputs)?
+    let folder = TraceFolder {
+        topology: opened.plan.topology,
+        folder: opened.plan.folder,
+    };
+    let files = if listener.replica == 0 {
+        open_files(opened.alloc, folder, listener.partition, outputs)?
     } else {
-        TraceFiles::new(alloc)
+        TraceFiles::new(opened.alloc)
     };
     Ok(Holdings {
         pass: book.pass(rt)?,
-        passes: passes_of(rt, alloc, opened.books)?,
+        passes: passes_of(rt, opened.alloc, opened.books)?,
         seats,
         files,
     })
 }
 
-/// The replica at this place.
+/// Which replica of the run listens here, whose book stands at this index and which so many others
+/// call.
+fn role_of(plan: &RunPlan<'_>, index: usize, listener: &Listener, callers: usize) -> Role {
+    let sister = match (plan.replicas, listener.replica) {
+        (2, 0) => Some(index.saturating_add(1)),
+        (2, _) => Some(index.saturating_sub(1)),
+        _ => None,
+    };
+    Role {
+        index,
+        partition: listener.partition,
+        replica: listener.replica,
+        sister,
+        callers,
+    }
+}
+
+/// The replica whose book stands at this index.
 fn side_of<F: Outputs, R: Wait>(
     rt: &R,
-    alloc: Global,
     opened: &Opened<'_>,
-    place: usize,
+    index: usize,
     post: Post,
     seats: Vec<OwnerSeat>,
     outputs: &mut F,
@@ -137,94 +156,76 @@ fn side_of<F: Outputs, R: Wait>(
     ensures seats { IfOk result (λ s. s.holdings.seats ≡ seats) }
     ensures files { IfOk result (λ s. All IsSound s.holdings.files.files.items) }
 {
-    let (Some(address), Some(book)) = (opened.addresses.get(place), opened.books.get(place)) else {
+    let (Some(listener), Some(book)) = (opened.listeners.get(index), opened.books.get(index)) else {
         return Err(RunFault::Net);
     };
-    let sister = match (opened.run.replicas, address.replica) {
-        (2, 0) => Some(place.saturating_add(1)),
-        (2, _) => Some(place.saturating_sub(1)),
-        _ => None,
-    };
-    let Post { listener, poll } = post;
-    let topology = opened.run.topology;
+    let peers = peers_of(
+        opened.alloc,
+        opened.plan.topology,
+        listener.partition,
+        opened.listeners,
+    )?;
     Ok(Side {
-        book: place,
-        partition: address.partition,
-        replica: address.replica,
-        sister,
-        peers: peers_of(alloc, topology, address.partition, opened.addresses)?,
-        holdings: holdings_of(rt, alloc, opened, book, address, seats, outputs)?,
-        listener,
-        poll,
+        role: role_of(opened.plan, index, listener, peers.callers),
+        holdings: holdings_of(rt, opened, book, listener, seats, outputs)?,
+        post,
+        peers,
     })
 }
 
 /// All replicas.
 fn sides_of<F: Outputs, R: Wait>(
     rt: &R,
-    alloc: Global,
     opened: &Opened<'_>,
-    board: &ClockBoard,
     owners: Vec<OwnerSeat>,
     posts: Vec<Post>,
     outputs: &mut F,
 ) -> Result<Vec<Side<F::File>>, RunFault>
-    requires { All (IsOwnerOf board.now) owners.items }
-    ensures { IfOk result (λ sides. All (λ s. All (IsOwnerOf board.now) s.holdings.seats.items
-        × All IsSound s.holdings.files.files.items) sides.items) }
+    requires { All (IsOwnerOf opened.now.board.now) owners.items }
+    ensures { IfOk result (λ sides. All (λ s. All (IsOwnerOf opened.now.board.now)
+        s.holdings.seats.items × All IsSound s.holdings.files.files.items) sides.items) }
 {
-    let mut sides = Vec::new(alloc);
+    let mut sides = Vec::new(opened.alloc);
     let mut rest = owners;
-    let mut place = 0usize;
-    for post in posts {
-        let (own, others) = own_and_others(alloc, opened, board, place, rest)?;
+    for (index, post) in posts.into_iter().enumerate() {
+        let (own, others) = own_and_others(opened, index, rest)?;
         rest = others;
-        sides.push(side_of(rt, alloc, opened, place, post, own, outputs)?)?;
-        place = place.saturating_add(1);
+        sides.push(side_of(rt, opened, index, post, own, outputs)?)?;
     }
     Ok(sides)
 }
 
-/// The seats of the replica at this place, and the others.
+/// The seats of the replica whose book stands at this index, and the others.
 fn own_and_others(
-    alloc: Global,
     opened: &Opened<'_>,
-    board: &ClockBoard,
-    place: usize,
+    index: usize,
     owners: Vec<OwnerSeat>,
 ) -> Result<(Vec<OwnerSeat>, Vec<OwnerSeat>), RunFault>
-    requires { All (IsOwnerOf board.now) owners.items }
-    ensures own { IfOk result (λ d. All (IsOwnerOf board.now) d.0.items) }
-    ensures others { IfOk result (λ d. All (IsOwnerOf board.now) d.1.items) }
+    requires { All (IsOwnerOf opened.now.board.now) owners.items }
+    ensures own { IfOk result (λ d. All (IsOwnerOf opened.now.board.now) d.0.items) }
+    ensures others { IfOk result (λ d. All (IsOwnerOf opened.now.board.now) d.1.items) }
 {
-    let Some(address) = opened.addresses.get(place) else {
+    let Some(listener) = opened.listeners.get(index) else {
         return Err(RunFault::Net);
     };
     let Dealt { own, others } = deal(
-        alloc,
-        opened.run.topology,
-        board,
-        address.partition,
-        address.replica,
+        opened.alloc,
+        opened.plan.topology,
+        opened.board,
+        listener.partition,
+        listener.replica,
         owners,
     )?;
     Ok((own, others))
 }
 
 /// What the dispatcher remembers of each book at first.
-fn watch_all<R: Wait>(
-    rt: &R,
-    alloc: Global,
-    opened: &Opened<'_>,
-) -> Result<Vec<Watched>, AllocError> {
-    let mut watched = Vec::new(alloc);
-    for place in 0..opened.books.len() {
-        if place < opened.addresses.len() {
-            let pass = opened.books[place].pass(rt)?;
-            let address = &opened.addresses[place];
-            let (topology, replicas) = (opened.run.topology, opened.run.replicas);
-            watched.push(Watched::new(alloc, topology, address, replicas, pass)?)?;
-        }
+fn watch_all<R: Wait>(rt: &R, opened: &Opened<'_>) -> Result<Vec<Watched>, AllocError> {
+    let (topology, replicas) = (opened.plan.topology, opened.plan.replicas);
+    let mut watched = Vec::new(opened.alloc);
+    for (book, listener) in opened.books.iter().zip(opened.listeners) {
+        let pass = book.pass(rt)?;
+        watched.push(Watched::new(opened.alloc, topology, listener, replicas, pass)?)?;
     }
     Ok(watched)
 }
@@ -284,21 +285,18 @@ where
 /// A dispatcher at the beginning of a run, and what wakes it.
 fn dispatcher_of<R: Net + Wait>(
     rt: &R,
-    alloc: Global,
     opened: &Opened<'_>,
     seat: Seat,
 ) -> Result<(Dispatcher, Waker), RunFault>
     ensures { IfOk result (λ d. d.0.seat ≡ seat) }
 {
-    let Ok((poll, waker)) = woken_poll(rt) else {
-        return Err(RunFault::Net);
-    };
+    let (poll, waker) = woken_poll(rt)?;
     let dispatcher = Dispatcher {
-        watched: watch_all(rt, alloc, opened)?,
+        watched: watch_all(rt, opened)?,
         seat,
         poll,
-        events: Events::with_capacity(alloc, 1)?,
-        passes: Vec::new(alloc),
+        events: Events::with_capacity(opened.alloc, 1)?,
+        passes: Vec::new(opened.alloc),
     };
     Ok((dispatcher, waker))
 }
@@ -307,7 +305,7 @@ fn dispatcher_of<R: Net + Wait>(
 fn run_books<'x, F: Outputs, G: Gate + Sync, R>(
     rt: &R,
     alloc: Global,
-    run: &'x Run<'x>,
+    plan: &'x RunPlan<'x>,
     books: &'x [SharedBook<Plain>],
     outputs: &mut F,
     gate: &'x G,
@@ -320,27 +318,29 @@ where
         + Sync
         + Drop
         + Copy,
-    requires { (1 ≤ run.now.workers) × (run.now.workers ≤ 64) }
+    requires { (1 ≤ plan.now.workers) × (plan.now.workers ≤ 64) }
 {
-    let (board, owners, mut seats) = ClockBoard::new(alloc, run.topology)?;
+    let (board, owners, mut seats) = ClockBoard::new(alloc, plan.topology)?;
     let Some(seat) = seats.pop() else {
         return Err(RunFault::Memory);
     };
     let Posts {
         posts,
-        addresses,
+        listeners,
         wakers,
-    } = open_posts(rt, alloc, run.topology.partitions(), run.replicas)?;
+    } = open_posts(rt, alloc, plan.topology.partitions(), plan.replicas)?;
     let opened = Opened {
-        run: &*run,
+        alloc,
+        plan: &*plan,
         books: &*books,
-        addresses: addresses.as_slice(),
+        listeners: listeners.as_slice(),
+        board: &board,
     };
-    let sides = sides_of(rt, alloc, &opened, &board, owners, posts, outputs)?;
-    let (dispatcher, waker) = dispatcher_of(rt, alloc, &opened, seat)?;
+    let sides = sides_of(rt, &opened, owners, posts, outputs)?;
+    let (dispatcher, waker) = dispatcher_of(rt, &opened, seat)?;
     let (ended, has_failed) = (AtomicUsize::new(0), AtomicBool::new(false));
     let threaded = Threaded {
-        topology: &*run.topology,
+        topology: &*plan.topology,
         books: &*books,
         board: &board,
         wakers: wakers.as_slice(),
@@ -348,9 +348,9 @@ where
         ended: &ended,
         has_failed: &has_failed,
         gate: &*gate,
-        progress: run.progress,
+        progress: plan.progress,
     };
-    let (ends, dispatcher) = run_threads(rt, alloc, &threaded, run.workers, sides, dispatcher)?;
+    let (ends, dispatcher) = run_threads(rt, alloc, &threaded, plan.workers, sides, dispatcher)?;
     check_endings(ends.as_slice())?;
     Ok((ends, dispatcher))
 }
@@ -358,23 +358,20 @@ where
 /// Closes the trace files of all replicas that have some.
 fn close_all<F: Outputs>(
     alloc: Global,
-    run: &Run<'_>,
+    plan: &RunPlan<'_>,
     report: &Report,
     outputs: &mut F,
     files: Vec<TraceFiles<F::File>>,
 ) -> Result<(), RunFault>
-    requires { length report.now.totals.items ≡ length (arc_value run.now.topology.now).ifaces }
+    requires { length report.now.totals.items ≡ length (arc_value plan.now.topology.now).ifaces }
 {
+    let folder = TraceFolder {
+        topology: plan.topology,
+        folder: plan.folder,
+    };
     for own in files {
         let mut own = own;
-        close_files(
-            alloc,
-            run.topology,
-            run.folder,
-            report.totals.as_slice(),
-            outputs,
-            &mut own,
-        )?;
+        close_files(alloc, folder, report.totals.as_slice(), outputs, &mut own)?;
     }
     Ok(())
 }
@@ -390,7 +387,7 @@ fn close_all<F: Outputs>(
 pub fn run_all<'x, F: Outputs, G: Gate + Sync, R>(
     rt: &R,
     alloc: Global,
-    run: &'x Run<'x>,
+    plan: &'x RunPlan<'x>,
     outputs: &mut F,
     gate: &'x G,
 ) -> Result<Report, RunFault>
@@ -402,15 +399,15 @@ where
         + Sync
         + Drop
         + Copy,
-    requires { (1 ≤ run.now.workers) × (run.now.workers ≤ 64) }
-    ensures { IfOk result (λ report. IsCertifiedRun (arc_value run.now.topology.now)
+    requires { (1 ≤ plan.now.workers) × (plan.now.workers ≤ 64) }
+    ensures { IfOk result (λ report. IsCertifiedRun (arc_value plan.now.topology.now)
         report.totals.items) }
 {
-    let shared = share_all(alloc, run)?;
-    let (ends, dispatcher) = run_books(rt, alloc, &*run, shared.as_slice(), outputs, &*gate)?;
+    let shared = share_all(alloc, plan)?;
+    let (ends, dispatcher) = run_books(rt, alloc, &*plan, shared.as_slice(), outputs, &*gate)?;
     let (books, files) = close_run(alloc, shared, ends, dispatcher)?;
-    let report = certified_report(alloc, run.topology, books.as_slice())?;
-    close_all(alloc, run, &report, outputs, files)?;
+    let report = certified_report(alloc, plan.topology, books.as_slice())?;
+    close_all(alloc, plan, &report, outputs, files)?;
     Ok(report)
 }
 

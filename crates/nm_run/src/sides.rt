@@ -5,13 +5,12 @@ ghost use Rattle.nm_files.specs.Files.{IsSound};
 ghost use Rattle.nm_shared.specs.Board.{IsOwnerOf};
 
 use crate::gates::SideGate;
+use crate::posts::Post;
 use crate::threads::Threaded;
-use mio::Poll;
-use mio::net::TcpListener;
 use nm_base::{PartNo, Sink};
 use nm_net::limits::MAX_IDLE_POLLS;
-use nm_net::{Ending, Holdings, MioNetwork, Replica, run_replica};
-use nm_node::peers::Peers;
+use nm_net::{Holdings, Served, Service, TcpTransport, run_replica};
+use nm_peers::Peers;
 use nm_shared::{ClockBoard, Gate, Plain, SharedBook};
 use nm_topology::Topology;
 use std::alloc::Global;
@@ -19,40 +18,76 @@ use std::net::Net;
 use std::sync::atomic::AtomicU64;
 use std::sync::{Arc, Wait};
 
-/// A replica that is to run.
-#[derive(Drop)]
-pub(crate) struct Side<S> {
-    /// The place of its book.
-    pub book: usize,
+/// Which replica of a run it is.
+#[derive(Clone, Copy)]
+pub(crate) struct Role {
+    /// Where its book stands among those of the run.
+    pub index: usize,
     pub partition: PartNo,
     /// 0 or 1.
     pub replica: u8,
-    /// The place of its sister's book, if it has one.
+    /// Where its sister's book stands, if it has one.
     pub sister: Option<usize>,
+    /// How many replicas call it.
+    pub callers: usize,
+}
+
+/// A replica that is to run.
+#[derive(Drop)]
+pub(crate) struct Side<S> {
+    pub role: Role,
     pub holdings: Holdings<Plain, S>,
-    pub listener: TcpListener,
-    pub poll: Poll,
+    pub post: Post,
     pub peers: Peers,
 }
 
 /// A replica that has run.
 #[derive(Drop)]
 pub(crate) struct SideEnd<S> {
-    pub book: usize,
-    pub ending: Ending,
+    /// Where its book stands among those of the run.
+    pub index: usize,
+    pub served: Served,
     pub holdings: Holdings<Plain, S>,
 }
 
-/// Serves a replica over its network until it ends.
+/// A replica with its book, and with the partitions that it calls. The dispatcher runs its book, and
+/// notes how far it is.
+fn service_of<'x>(
+    topology: &'x Arc<Topology>,
+    board: &'x ClockBoard,
+    books: &'x [SharedBook<Plain>],
+    book: &'x SharedBook<Plain>,
+    peers: &'x [PartNo],
+    role: Role,
+) -> Service<'x, Plain>
+    ensures { result.board.now ≡ board.now }
+{
+    Service {
+        topology,
+        partition: role.partition,
+        replica: role.replica,
+        book,
+        board,
+        peers,
+        callers: role.callers,
+        books,
+        sister: role.sister,
+        idle_limit: MAX_IDLE_POLLS,
+        run_limit: 0,
+        progress: None,
+    }
+}
+
+/// Serves a replica over its connections until it ends.
 fn serve<S: Sink, G: Gate, R: Net + Wait + Drop + Copy>(
     rt: &R,
     alloc: Global,
     threaded: &Threaded<'_, G>,
-    replica: &Replica<'_, Plain>,
+    service: &Service<'_, Plain>,
     holdings: &mut Holdings<Plain, S>,
-    network: &mut MioNetwork<R>,
-) -> Ending
-    requires owners { All (IsOwnerOf replica.now.board.now) holdings.old.seats.items }
+    transport: &mut TcpTransport<R>,
+) -> Served
+    requires owners { All (IsOwnerOf service.now.board.now) holdings.old.seats.items }
     requires files { All IsSound holdings.old.files.files.items }
 {
     let gate = SideGate {
@@ -61,38 +96,7 @@ fn serve<S: Sink, G: Gate, R: Net + Wait + Drop + Copy>(
         dispatcher: threaded.dispatcher,
         moved: AtomicU64::new(0),
     };
-    run_replica(rt, alloc, replica, holdings, network, &gate)
-}
-
-/// A replica of a partition, with its number and the place of its sister's book, and those with
-/// which it speaks. The dispatcher runs its book, and notes how far it is.
-fn replica_of<'x>(
-    topology: &'x Arc<Topology>,
-    board: &'x ClockBoard,
-    books: &'x [SharedBook<Plain>],
-    book: &'x SharedBook<Plain>,
-    peers: &'x [PartNo],
-    callers: usize,
-    partition: PartNo,
-    replica: u8,
-    sister: Option<usize>,
-) -> Replica<'x, Plain>
-    ensures { result.board.now ≡ board.now }
-{
-    Replica {
-        topology,
-        partition,
-        replica,
-        book,
-        board,
-        peers,
-        callers,
-        books,
-        sister,
-        idle_limit: MAX_IDLE_POLLS,
-        run_limit: 0,
-        progress: None,
-    }
+    run_replica(rt, alloc, service, holdings, transport, &gate)
 }
 
 /// Runs a replica until it ends. Where it was not done, all others are told to end too.
@@ -106,47 +110,42 @@ pub(crate) fn run_side<S: Sink, G: Gate, R: Net + Wait + Drop + Copy>(
     requires files { All IsSound side.holdings.files.files.items }
 {
     let Side {
-        book,
-        partition,
-        replica,
-        sister,
+        role,
         mut holdings,
-        listener,
-        poll,
+        post,
         peers,
     } = side;
+    let index = role.index;
+    let Post { socket, poll } = post;
     let Peers {
         partitions,
-        listeners,
-        callers,
+        addresses,
+        callers: _,
     } = peers;
-    let ending = match (
-        threaded.books.get(book),
-        MioNetwork::new(*rt, alloc, poll, listener, listeners),
+    let served = match (
+        threaded.books.get(index),
+        TcpTransport::new(*rt, alloc, poll, socket, addresses),
     ) {
-        (Some(own), Ok(mut network)) => {
-            let replica = replica_of(
+        (Some(own), Ok(mut transport)) => {
+            let service = service_of(
                 threaded.topology,
                 threaded.board,
                 threaded.books,
                 own,
                 partitions.as_slice(),
-                callers,
-                partition,
-                replica,
-                sister,
+                role,
             );
-            serve(rt, alloc, threaded, &replica, &mut holdings, &mut network)
+            serve(rt, alloc, threaded, &service, &mut holdings, &mut transport)
         }
-        _ => Ending::Net,
+        _ => Served::Net,
     };
-    if ending != Ending::Ended {
+    if served != Served::Ended {
         threaded.fail();
     }
     threaded.count_end();
     SideEnd {
-        book,
-        ending,
+        index,
+        served,
         holdings,
     }
 }

@@ -6,7 +6,7 @@ use lib.ListN.{get_elem?}
 use Rattle.atomic_table.specs.Table.{State, keeps, Allows, Splits, Joins}
 use Rattle.atomic_table.proofs.Lists.{at_set, at_snoc, set_again}
 use Rattle.nm_shared.specs.declared.word.View.{View}
-use Rattle.nm_shared.specs.Clock.{looker, all_max, raised, looked, joined, AllAre, Fits, EachFits, OneOwns, IsKept}
+use Rattle.nm_shared.specs.Clock.{looker, all_max, raised_view, looked, joined_view, AllAre, Fits, EachFits, OneOwns, IsKept}
 
 abbrev holds : State ℕ View → Type 0
 holds s = IsKept s.words s.views
@@ -28,7 +28,7 @@ all_are_back n [] ys h = h
 all_are_back n (x ∷ xs) ys h = all_are_back n xs ys h.1
 
 -- what fits a joined view fits both
-pub joined_fits : (n : ℕ) (v w : View) → Fits n (joined v w) → Fits n v × Fits n w
+pub joined_fits : (n : ℕ) (v w : View) → Fits n (joined_view v w) → Fits n v × Fits n w
 joined_fits n v w h = ((all_are_front n v.owned w.owned h.0, omega arith), (all_are_back n v.owned w.owned h.0, omega arith))
 
 nothing : (n : ℕ) (xs : List ℕ) → (xs ≢ [] → ⊥) → AllAre n xs
@@ -59,15 +59,15 @@ each_set n views id w others mine j u e =
     (λ (a : (j ≢ id) × (get_elem? views j ≡ some u)). others j u a.0 a.1)
     (at_set views id j w u e)
 
-pub raises : (slots id : ℕ) (v : View) (c : List (ℕ × ℕ)) (k : ℕ) → v.owned ≢ [] → Allows holds slots id (v, c) 0 (λ n. max n k) (λ n after. (after.0 ≡ raised k v) × (after.1 ≡ c))
+pub raises : (slots id : ℕ) (v : View) (c : List (ℕ × ℕ)) (k : ℕ) → v.owned ≢ [] → Allows holds slots id (v, c) 0 (λ n. max n k) (λ n after. (after.0 ≡ raised_view k v) × (after.1 ≡ c))
 raises slots id v c k owns s h homes at bound =
-    let P : List ℕ → Type 0 = λ ws. IsKept (slice_set ws 0 (max (slice_index ws 0) k)) (set s.views id (raised k v)) in
-    let fits : EachFits (max h.word k) (set s.views id (raised k v)) =
-    each_set (max h.word k) s.views id (raised k v)
+    let P : List ℕ → Type 0 = λ ws. IsKept (slice_set ws 0 (max (slice_index ws 0) k)) (set s.views id (raised_view k v)) in
+    let fits : EachFits (max h.word k) (set s.views id (raised_view k v)) =
+    each_set (max h.word k) s.views id (raised_view k v)
     (λ j u apart e. let f = h.fits j u e in (nothing (max h.word k) u.owned (λ o. apart (h.one j id u v e at o owns)), omega arith))
     (let f = h.fits id v at in (all_are_max h.word k v.owned f.0, omega arith)) in
-    let one : OneOwns (set s.views id (raised k v)) = one_set s.views id v (raised k v) h.one at (λ _. owns) in
-    (raised k v, keeps, tt, subst P (sym h.is) (record { word = max h.word k; is = refl; fits = fits; one = one }), (refl, refl))
+    let one : OneOwns (set s.views id (raised_view k v)) = one_set s.views id v (raised_view k v) h.one at (λ _. owns) in
+    (raised_view k v, keeps, tt, subst P (sym h.is) (record { word = max h.word k; is = refl; fits = fits; one = one }), (refl, refl))
 
 pub looks : (slots id : ℕ) (v : View) (c : List (ℕ × ℕ)) → Allows holds slots id (v, c) 0 (λ n. n) (λ n after. (after.0 ≡ looked n v) × Fits n v × (after.1 ≡ c))
 looks slots id v c s h homes at bound =
@@ -89,9 +89,9 @@ splits id v s h at =
     (at_snoc s.views looker u i eu) in
     subst P (sym (set_again s.views id v at)) (record { word = h.word; is = h.is; fits = fits; one = one })
 
-pub joins : (id : ℕ) (v : View) (other : ℕ) (w : View) → Joins holds id v other w (joined v w) looker
+pub joins : (id : ℕ) (v : View) (other : ℕ) (w : View) → Joins holds id v other w (joined_view v w) looker
 joins id v other w s h at apart there =
-    let b : View = joined v w in
+    let b : View = joined_view v w in
     let at' : get_elem? s.views other ≡ some w = ⊎_elim (λ (t : (other ≡ id) × (b ≡ w)). absurd (apart t.0)) (λ (t : (other ≢ id) × (get_elem? s.views other ≡ some w)). t.1) (at_set s.views id other b w there) in
     let fv : Fits h.word v = h.fits id v at in
     let fw : Fits h.word w = h.fits other w at' in

@@ -221,12 +221,3 @@ less x y d e = omega arith
 
 pub messages_rise : (exact : Bool) (own : Home) (m e m' e' : ℕ) (b c : BookValue) (d : ℕ) → Meets exact own m e m' e' b c → exact ≡ true → messages_known c ≡ messages_known b + d → m' ≡ m + d
 messages_rise exact own m e m' e' b c d h is more = rises_by exact m (messages_known c - messages_known b) d m' is h.messages (less (messages_known b) (messages_known c) d more)
-
-pub events_rise : (exact : Bool) (own : Home) (m e m' e' : ℕ) (b c : BookValue) (d : ℕ) → Meets exact own m e m' e' b c → exact ≡ true → c.events ≡ b.events + d → e' ≡ e + d
-events_rise exact own m e m' e' b c d h is more = rises_by exact e (c.events - b.events) d e' is h.events (less b.events c.events d more)
-
-pub told_runs_none : (b c : BookValue) → c ≡ record b { knows = c.knows } → c.events ≡ b.events + 0
-told_runs_none b c e = let same = ap (λ (x : BookValue). x.events) e in omega (arith, same)
-
-pub run_tells_none : (b c : BookValue) → c ≡ record b { events = c.events } → messages_known c ≡ messages_known b + 0
-run_tells_none b c e = let same = ap messages_known e in omega (arith, same)

@@ -7,7 +7,7 @@ use Rattle.nm_shared.specs.declared.board.ClockBoard.{ClockBoard}
 use Rattle.nm_shared.specs.declared.board.OwnerSeat.{OwnerSeat}
 use Rattle.nm_shared.specs.declared.board.Seat.{Seat}
 use Rattle.nm_shared.specs.declared.word.View.{View}
-use Rattle.nm_shared.specs.declared.word.Place.{Place}
+use Rattle.nm_shared.specs.declared.word.WordSeat.{WordSeat}
 use Rattle.nm_shared.specs.declared.word.Word.{Word}
 use Rattle.nm_shared.specs.Clock.{Fits, looked, owner}
 
@@ -22,18 +22,18 @@ owned_word o = o.word
 abbrev pub word_id : Word → TableId
 word_id w = w.table.shared.table_id
 
-abbrev pub id_of : Place → TableId
+abbrev pub id_of : WordSeat → TableId
 id_of p = p.seat.table_id
 
-abbrev pub view_of : Place → View
+abbrev pub view_of : WordSeat → View
 view_of p = p.seat.me.0
 
 -- the seat is at the word k
-abbrev pub SitsAt : List Word → ℕ → Place → Type 0
+abbrev pub SitsAt : List Word → ℕ → WordSeat → Type 0
 SitsAt ws k p = get_elem? (map word_id ws) k ≡ some (id_of p)
 
 -- a seat at each word, in order
-abbrev pub Sit : List Word → List Place → Type 0
+abbrev pub Sit : List Word → List WordSeat → Type 0
 Sit ws ps = map id_of ps ≡ map word_id ws
 
 -- P holds of each element and its place
@@ -65,14 +65,14 @@ abbrev pub AreFirstOwners : ClockBoard → List OwnerSeat → Type 0
 AreFirstOwners board os = AreOwners board.words.items os
 
 -- the word is what the seat owns, if it owns the word, and the seat found no more
-abbrev pub FitsAt : List ℕ → ℕ → Place → Type 0
+abbrev pub FitsAt : List ℕ → ℕ → WordSeat → Type 0
 FitsAt ns k p = Fits (slice_index ns k) (view_of p)
 
-abbrev pub FitAll : List ℕ → List Place → Type 0
+abbrev pub FitAll : List ℕ → List WordSeat → Type 0
 FitAll ns ps = Each (FitsAt ns) ps
 
 -- the seat found n at the word k, which is no less than it had found there, and looked once more; it is as it was but for that
-abbrev pub FindsAt : List Place → ℕ → ℕ → List Place → Type 0
+abbrev pub FindsAt : List WordSeat → ℕ → ℕ → List WordSeat → Type 0
 FindsAt ps k n qs =
     (v : View) × (get_elem? (map view_of ps) k ≡ some v)
     × (map view_of qs ≡ lib.ListN.set (map view_of ps) k (looked n v)) × Fits n v

@@ -16,14 +16,14 @@ all_max k [] = []
 all_max k (x ∷ xs) = max x k ∷ all_max k xs
 
 -- the views after a raise, a look and a join
-abbrev pub raised : ℕ → View → View
-raised k v = record v { owned = all_max k v.owned }
+abbrev pub raised_view : ℕ → View → View
+raised_view k v = record v { owned = all_max k v.owned }
 
 abbrev pub looked : ℕ → View → View
 looked n v = record v { found = n; looks = v.looks + 1 }
 
-abbrev pub joined : View → View → View
-joined v w = record { owned = v.owned ++ w.owned; found = max v.found w.found; looks = v.looks + w.looks }
+abbrev pub joined_view : View → View → View
+joined_view v w = record { owned = v.owned ++ w.owned; found = max v.found w.found; looks = v.looks + w.looks }
 
 abbrev pub AllAre : ℕ → List ℕ → Type 0
 AllAre n [] = Unit {0}

@@ -4,7 +4,7 @@ use mathlib.Core.Option.{some}
 use lib.ListN.{get_elem?}
 use Rattle.nm_shared.specs.declared.board.OwnerSeat.{OwnerSeat}
 use Rattle.nm_shared.specs.declared.board.Seat.{Seat}
-use Rattle.nm_shared.specs.declared.word.Place.{Place}
+use Rattle.nm_shared.specs.declared.word.WordSeat.{WordSeat}
 use Rattle.nm_shared.specs.declared.word.Word.{Word}
 use Rattle.nm_shared.specs.Board.{Each, FitsAt, Sit, SitsAt}
 
@@ -13,11 +13,11 @@ abbrev pub From : {A : Type 0} → (ℕ → A → Type 0) → ℕ → List A →
 From {A} P m xs = (w : ℕ) (a : A) → m ≤ w → get_elem? xs w ≡ some a → P w a
 
 -- a seat at each word, or none, in order
-abbrev pub SitIf : List Word → List (Option Place) → Type 0
+abbrev pub SitIf : List Word → List (Option WordSeat) → Type 0
 SitIf ws cs = (length cs ≡ length ws) × Each (λ k c. IfSome c (SitsAt ws k)) cs
 
 -- each word is what the seat there owns, if there is one and it owns the word, and it found no more
-abbrev pub FitIf : List ℕ → List (Option Place) → Type 0
+abbrev pub FitIf : List ℕ → List (Option WordSeat) → Type 0
 FitIf ns cs = Each (λ k c. IfSome c (FitsAt ns k)) cs
 
 abbrev pub OwnersSit : List Word → List OwnerSeat → Type 0

@@ -134,7 +134,7 @@ impl Act for CopyKnowledge {
 
 /// How much a book knows and did.
 #[derive(Clone, Copy, Drop)]
-pub struct Progress {
+pub struct Amounts {
     pub messages: u64,
     pub events: u64,
 }
@@ -144,13 +144,13 @@ pub struct Progress {
 pub struct Look;
 
 impl Act for Look {
-    type Out = Progress;
+    type Out = Amounts;
 
     ghost does = { λ a b r c. (c ≡ b) × (r.messages ≡ messages_known b)
         × (r.events ≡ b.events) };
 
-    fn act(self, book: &mut Book) -> Progress {
-        Progress {
+    fn act(self, book: &mut Book) -> Amounts {
+        Amounts {
             messages: messages(book),
             events: book.events(),
         }

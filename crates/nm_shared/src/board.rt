@@ -6,7 +6,7 @@ ghost use Rattle.std.specs.Prelude.{◌≡◌, ◌+◌, ◌*◌, ◌/◌, ◌%�
 mod closing;
 mod opening;
 
-use crate::word::{Place, Word};
+use crate::word::{Word, WordSeat};
 use nm_base::ChanNo;
 use nm_book::message::Null;
 use std::sync::Mutex;
@@ -29,7 +29,7 @@ pub fn word_of(channel: ChanNo, replica: u8) -> usize
 #[derive(Drop)]
 pub struct OwnerSeat {
     word: usize,
-    place: Place,
+    place: WordSeat,
     ghost few: { word < 1024 },
     ghost one: { length place.seat.me.0.owned ≡ 1 },
 }
@@ -37,13 +37,13 @@ pub struct OwnerSeat {
 /// The right to look at each word of a board.
 #[derive(Drop)]
 pub struct Seat {
-    places: Vec<Place>,
+    places: Vec<WordSeat>,
 }
 
 // Room for a seat at each word, which `close` fills.
 #[derive(Drop)]
 struct Closers {
-    places: Vec<Option<Place>>,
+    places: Vec<Option<WordSeat>>,
     ghost empty: { places.items ≡ [] },
     ghost room: { 1024 ≤ vec_capacity places },
 }

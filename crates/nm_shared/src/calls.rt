@@ -6,7 +6,7 @@ ghost use Rattle.nm_book.specs.Running.{Runs};
 ghost use Rattle.nm_shared.specs.Counted.{Meets};
 ghost use Rattle.nm_shared.specs.Known.{home_of, messages_known, news, ran};
 
-use crate::acts::{Accept, Look, Progress, Run};
+use crate::acts::{Accept, Amounts, Look, Run};
 use crate::counts::Counts;
 use crate::shared_book::{Pass, SharedBook};
 use nm_book::{AcceptFault, ChannelMessage, Ran};
@@ -54,7 +54,7 @@ impl<C: Counts> SharedBook<C> {
     }
 
     /// How many messages the book knows and how many events it did: no less than the pass counted.
-    pub fn look<R: Wait>(&self, rt: &R, pass: &mut Pass<C>) -> Progress
+    pub fn look<R: Wait>(&self, rt: &R, pass: &mut Pass<C>) -> Amounts
         ensures value { (b : BookValue) × (C.exact ≡ true → home_of b ≡ C.home)
             × (result.messages ≡ messages_known b) × (result.events ≡ b.events) }
         ensures at_least { C.exact ≡ true

@@ -31,9 +31,9 @@ impl TableRule<u64, View, ()> for Clock {
 pub struct Raise;
 
 impl Play<u64, View> for Raise {
-    ghost use Rattle.nm_shared.specs.Clock.{raised};
+    ghost use Rattle.nm_shared.specs.Clock.{raised_view};
 
-    ghost then = { λ s before n after. (after.0 ≡ raised s.first before.0)
+    ghost then = { λ s before n after. (after.0 ≡ raised_view s.first before.0)
         × (after.1 ≡ before.1) };
 }
 
@@ -63,16 +63,16 @@ impl Split<View> for Newcomer {
 pub struct Together;
 
 impl Join<View> for Together {
-    ghost use Rattle.nm_shared.specs.Clock.{looker, joined};
+    ghost use Rattle.nm_shared.specs.Clock.{looker, joined_view};
 
-    ghost both = { joined };
+    ghost both = { joined_view };
 
     ghost spent = { looker };
 }
 
 /// A seat at one word.
 #[derive(Drop)]
-pub struct Place {
+pub struct WordSeat {
     pub seat: atomic_table::Seat<u64, View>,
     pub ghost bare: { seat.me.1 ≡ [] },
 }
@@ -85,23 +85,23 @@ pub struct Word {
 }
 
 impl Word {
-    ghost use Rattle.nm_shared.specs.Clock.{owner, looker, raised, looked, joined, Fits};
+    ghost use Rattle.nm_shared.specs.Clock.{owner, looker, raised_view, looked, joined_view, Fits};
 
     /// A word at 0, and the seat that owns it.
-    pub(crate) fn new(alloc: Global) -> Result<(Word, Place), AllocError>
+    pub(crate) fn new(alloc: Global) -> Result<(Word, WordSeat), AllocError>
         ensures { IfOk result (λ r. (r.1.seat.table_id ≡ r.0.table.shared.table_id)
             × (r.1.seat.me.0 ≡ owner)) }
     {
         let (table, seat) = Table::of_words(alloc, &[0], &())?;
-        Ok((Word { table }, Place { seat }))
+        Ok((Word { table }, WordSeat { seat }))
     }
 
     /// Raises the word to this clock, by its owner.
-    pub(crate) fn raise(&self, place: &mut Place, clock: u64)
+    pub(crate) fn raise(&self, place: &mut WordSeat, clock: u64)
         requires word { place.old.seat.table_id ≡ self.now.table.shared.table_id }
         requires owns { place.old.seat.me.0.owned ≢ [] }
         ensures word { place.new.seat.table_id ≡ place.old.seat.table_id }
-        ensures view { place.new.seat.me.0 ≡ raised clock place.old.seat.me.0 }
+        ensures view { place.new.seat.me.0 ≡ raised_view clock place.old.seat.me.0 }
     {
         self.table
             .shared
@@ -109,7 +109,7 @@ impl Word {
     }
 
     /// Looks at the word.
-    pub(crate) fn look(&self, place: &mut Place) -> u64
+    pub(crate) fn look(&self, place: &mut WordSeat) -> u64
         requires { place.old.seat.table_id ≡ self.now.table.shared.table_id }
         ensures word { place.new.seat.table_id ≡ place.old.seat.table_id }
         ensures view { place.new.seat.me.0 ≡ looked result place.old.seat.me.0 }
@@ -119,7 +119,7 @@ impl Word {
     }
 
     /// One more seat at the word, which found nothing yet.
-    pub(crate) fn split(&self, place: &mut Place) -> Place
+    pub(crate) fn split(&self, place: &mut WordSeat) -> WordSeat
         requires { place.old.seat.table_id ≡ self.now.table.shared.table_id }
         ensures same { (place.new.seat.table_id ≡ place.old.seat.table_id)
             × (place.new.seat.me.0 ≡ place.old.seat.me.0) }
@@ -127,29 +127,29 @@ impl Word {
             × (result.seat.me.0 ≡ looker) }
     {
         let seat = self.table.shared.split_seat::<Newcomer>(&mut place.seat);
-        Place { seat }
+        WordSeat { seat }
     }
 
     /// Takes another seat in.
-    pub(crate) fn join(&self, place: &mut Place, other: Place)
+    pub(crate) fn join(&self, place: &mut WordSeat, other: WordSeat)
         requires place { place.old.seat.table_id ≡ self.now.table.shared.table_id }
         requires other { other.seat.table_id ≡ self.now.table.shared.table_id }
         ensures word { place.new.seat.table_id ≡ place.old.seat.table_id }
-        ensures view { place.new.seat.me.0 ≡ joined place.old.seat.me.0 other.seat.me.0 }
+        ensures view { place.new.seat.me.0 ≡ joined_view place.old.seat.me.0 other.seat.me.0 }
     {
-        let Place { seat } = other;
+        let WordSeat { seat } = other;
         self.table
             .shared
             .join_seat::<Together>(&mut place.seat, seat);
     }
 
     /// The word in the end, by the seat that took in the others.
-    pub(crate) fn close(self, place: Place) -> u64
+    pub(crate) fn close(self, place: WordSeat) -> u64
         requires { place.seat.table_id ≡ self.table.shared.table_id }
         ensures { Fits result place.seat.me.0 }
     {
         let Word { table } = self;
-        let Place { seat } = place;
+        let WordSeat { seat } = place;
         let closed = table.close_with(seat);
         let clock = closed.word(0);
         closed.free();

@@ -18,7 +18,7 @@ use host::{HostInputs, HostOutputs};
 use nm_base::sink::write_all;
 use nm_base::{MemSink, Sink, StdSink};
 use nm_command::{Command, Status};
-use nm_program::{NamedInputs, conclude, report, run};
+use nm_program::{Means, NamedInputs, conclude, report, run};
 use nm_progress::Progress;
 use noted::{Noted, Watched};
 use std::env::Env;
@@ -101,16 +101,13 @@ where
     };
     let mut inputs = NamedInputs::new(HostInputs { runtime: rt, noted });
     let mut outputs = HostOutputs { runtime: rt, noted };
-    let (status, mut out) = run(
-        network,
-        rt.alloc(),
-        words,
-        &mut inputs,
-        &mut outputs,
-        StdSink::new(writer),
-        errors,
+    let means = Means {
+        rt: network,
+        alloc: rt.alloc(),
         progress,
-    );
+    };
+    let out = StdSink::new(writer);
+    let (status, mut out) = run(&means, words, &mut inputs, &mut outputs, out, errors);
     conclude(status, out.flush().is_ok(), errors)
 }
 

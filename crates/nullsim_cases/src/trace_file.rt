@@ -2,9 +2,9 @@
 
 use nm_base::{IfaceNo, MemSink};
 use nm_command::Form;
-use nm_program::trace_file::write_trace_file;
 use nm_progress::Progress;
 use nm_topology::Topology;
+use nm_words::trace_file::write_trace_file;
 use std::alloc::Global;
 use std::fmt::Write;
 use std::io::{self, ErrorKind};

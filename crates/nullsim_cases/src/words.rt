@@ -3,7 +3,7 @@
 use nm_base::MemSink;
 use nm_files::MemOutputs;
 use nm_files::mem_outputs::MemFile;
-use nm_program::{MemInputs, NamedInputs, run};
+use nm_program::{Means, MemInputs, NamedInputs, run};
 use nm_progress::Progress;
 use std::net::Net;
 use std::rt::Files;
@@ -76,15 +76,19 @@ pub fn run_given<
     };
     let out = MemSink::new(alloc, given.room)?;
     let mut errors = MemSink::new(alloc, MAX_ERROR_OCTETS)?;
-    let (status, out) = run(
+    let progress = Progress::new();
+    let means = Means {
         rt,
         alloc,
+        progress: &progress,
+    };
+    let (status, out) = run(
+        &means,
         owned.as_slice(),
         &mut inputs,
         &mut outputs,
         out,
         &mut errors,
-        &Progress::new(),
     );
     Ok(Ended {
         code: status.code(),

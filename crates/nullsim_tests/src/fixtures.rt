@@ -4,7 +4,7 @@ use nm_base::MemSink;
 use nm_command::Status;
 use nm_files::MemOutputs;
 use nm_files::mem_outputs::MemFile;
-use nm_program::{Inputs, NamedInputs, run};
+use nm_program::{Inputs, Means, NamedInputs, run};
 use nm_progress::Progress;
 use std::alloc::{AllocError, Global};
 use std::io;
@@ -52,15 +52,19 @@ pub fn run_line<
     };
     let out = MemSink::new(alloc, 1_000)?;
     let mut errors = MemSink::new(alloc, 64)?;
-    let (status, out) = run(
+    let progress = Progress::new();
+    let means = Means {
         rt,
         alloc,
+        progress: &progress,
+    };
+    let (status, out) = run(
+        &means,
         words.as_slice(),
         &mut inputs,
         &mut outputs,
         out,
         &mut errors,
-        &Progress::new(),
     );
     Ok(Ended {
         status,

@@ -6,10 +6,10 @@ ghost use Rattle.nm_shared.specs.Clock.{Fits};
 ghost use Rattle.nm_shared.specs.Closing.{FitIf, OwnersSit, SeatsSit, SitIf};
 
 use super::{ClockBoard, Closers, OwnerSeat, Seat};
-use crate::word::{Place, Word};
+use crate::word::{Word, WordSeat};
 
 /// No seat came back yet to any of these words.
-fn none_yet(words: &Vec<Word>, closers: Closers) -> Vec<Option<Place>>
+fn none_yet(words: &Vec<Word>, closers: Closers) -> Vec<Option<WordSeat>>
     requires { vec_len words.now ≤ 1024 }
     ensures { SitIf words.now.items result.items }
 {
@@ -22,7 +22,7 @@ fn none_yet(words: &Vec<Word>, closers: Closers) -> Vec<Option<Place>>
 
 /// Two seats at one word become one, where there are two.
 #[tactic(auto, using(crate::proofs::Closings::both_fit))]
-fn both(word: &Word, closer: Option<Place>, place: Place) -> Place
+fn both(word: &Word, closer: Option<WordSeat>, place: WordSeat) -> WordSeat
     requires place { id_of place ≡ word_id word.now }
     requires closer { IfSome closer (λ p. id_of p ≡ word_id word.now) }
     ensures word { id_of result ≡ word_id word.now }
@@ -39,7 +39,7 @@ fn both(word: &Word, closer: Option<Place>, place: Place) -> Place
 }
 
 /// Takes in a seat at one word.
-fn take_place(words: &Vec<Word>, closers: &mut Vec<Option<Place>>, word: usize, place: Place)
+fn take_place(words: &Vec<Word>, closers: &mut Vec<Option<WordSeat>>, word: usize, place: WordSeat)
     requires sit { SitIf words.now.items closers.old.items }
     requires place { SitsAt words.now.items word place }
     ensures sit { SitIf words.now.items closers.new.items }
@@ -51,7 +51,7 @@ fn take_place(words: &Vec<Word>, closers: &mut Vec<Option<Place>>, word: usize, 
 }
 
 /// Takes in an owner's seat.
-fn take_owner(words: &Vec<Word>, closers: &mut Vec<Option<Place>>, owner: OwnerSeat)
+fn take_owner(words: &Vec<Word>, closers: &mut Vec<Option<WordSeat>>, owner: OwnerSeat)
     requires sit { SitIf words.now.items closers.old.items }
     requires owner { SitsAt words.now.items owner.word owner.place }
     ensures sit { SitIf words.now.items closers.new.items }
@@ -62,7 +62,7 @@ fn take_owner(words: &Vec<Word>, closers: &mut Vec<Option<Place>>, owner: OwnerS
     take_place(words, closers, word, place);
 }
 
-fn take_owners(words: &Vec<Word>, closers: &mut Vec<Option<Place>>, owners: Vec<OwnerSeat>)
+fn take_owners(words: &Vec<Word>, closers: &mut Vec<Option<WordSeat>>, owners: Vec<OwnerSeat>)
     requires sit { SitIf words.now.items closers.old.items }
     requires owners { OwnersSit words.now.items owners.items }
     ensures sit { SitIf words.now.items closers.new.items }
@@ -76,7 +76,7 @@ fn take_owners(words: &Vec<Word>, closers: &mut Vec<Option<Place>>, owners: Vec<
 }
 
 /// Takes in a seat at each word.
-fn take_seat(words: &Vec<Word>, closers: &mut Vec<Option<Place>>, seat: Seat)
+fn take_seat(words: &Vec<Word>, closers: &mut Vec<Option<WordSeat>>, seat: Seat)
     requires sit { SitIf words.now.items closers.old.items }
     requires seat { Sit words.now.items seat.places.items }
     ensures sit { SitIf words.now.items closers.new.items }
@@ -89,7 +89,7 @@ fn take_seat(words: &Vec<Word>, closers: &mut Vec<Option<Place>>, seat: Seat)
     }
 }
 
-fn take_seats(words: &Vec<Word>, closers: &mut Vec<Option<Place>>, seats: Vec<Seat>)
+fn take_seats(words: &Vec<Word>, closers: &mut Vec<Option<WordSeat>>, seats: Vec<Seat>)
     requires sit { SitIf words.now.items closers.old.items }
     requires seats { SeatsSit words.now.items seats.items }
     ensures sit { SitIf words.now.items closers.new.items }
@@ -103,7 +103,7 @@ fn take_seats(words: &Vec<Word>, closers: &mut Vec<Option<Place>>, seats: Vec<Se
 }
 
 /// A word in the end, by the seat that took in the others, if one came back.
-fn close_word(word: Word, closer: Option<Place>) -> u64
+fn close_word(word: Word, closer: Option<WordSeat>) -> u64
     requires { IfSome closer (λ p. id_of p ≡ word_id word) }
     ensures { IfSome closer (λ p. Fits result (view_of p)) }
 {
@@ -114,7 +114,7 @@ fn close_word(word: Word, closer: Option<Place>) -> u64
 }
 
 /// The words in the end.
-fn close_words(words: Vec<Word>, closers: Vec<Option<Place>>, clocks: Vec<u64>) -> Vec<u64>
+fn close_words(words: Vec<Word>, closers: Vec<Option<WordSeat>>, clocks: Vec<u64>) -> Vec<u64>
     requires sit { SitIf words.items closers.items }
     requires clocks { vec_len clocks ≡ vec_len words }
     ensures len { vec_len result ≡ vec_len words }

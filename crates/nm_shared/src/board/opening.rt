@@ -6,13 +6,13 @@ ghost use Rattle.nm_shared.specs.Clock.{owner};
 ghost use Rattle.nm_shared.specs.Closing.{SeatsSit};
 
 use super::{ClockBoard, Closers, MAX_WORDS, OwnerSeat, SEATS, Seat};
-use crate::word::{Place, Word};
+use crate::word::{Word, WordSeat};
 use nm_topology::Topology;
 use nm_topology::topology::accepted_topologies_are_in_order;
 use std::alloc::{AllocError, Global};
 use std::sync::Mutex;
 
-fn owner_seat(word: usize, place: Place) -> OwnerSeat
+fn owner_seat(word: usize, place: WordSeat) -> OwnerSeat
     requires few { word < 1024 }
     requires view { view_of place ≡ owner }
     ensures { (result.word ≡ word) × (result.place ≡ place) }
@@ -24,7 +24,7 @@ fn owner_seat(word: usize, place: Place) -> OwnerSeat
 fn words_of(
     alloc: Global,
     count: usize,
-) -> Result<(Vec<Word>, Vec<OwnerSeat>, Vec<Place>), AllocError>
+) -> Result<(Vec<Word>, Vec<OwnerSeat>, Vec<WordSeat>), AllocError>
     requires { count ≤ 1024 }
     ensures len { IfOk result (λ r. (vec_len r.0 ≡ count) × (vec_len r.1 ≡ count)) }
     ensures owners { IfOk result (λ r. AreOwners r.0.items r.1.items) }
@@ -44,7 +44,7 @@ fn words_of(
 }
 
 /// One more seat at each word, split off from these.
-fn seat_of(alloc: Global, words: &Vec<Word>, places: &mut Vec<Place>) -> Result<Seat, AllocError>
+fn seat_of(alloc: Global, words: &Vec<Word>, places: &mut Vec<WordSeat>) -> Result<Seat, AllocError>
     requires { Sit words.now.items places.old.items }
     ensures places { IfOk result (λ _. Sit words.now.items places.new.items) }
     ensures seat { IfOk result (λ s. Sit words.now.items s.places.items) }
@@ -58,7 +58,11 @@ fn seat_of(alloc: Global, words: &Vec<Word>, places: &mut Vec<Place>) -> Result<
 }
 
 /// All seats that look.
-fn seats_of(alloc: Global, words: &Vec<Word>, places: Vec<Place>) -> Result<Vec<Seat>, AllocError>
+fn seats_of(
+    alloc: Global,
+    words: &Vec<Word>,
+    places: Vec<WordSeat>,
+) -> Result<Vec<Seat>, AllocError>
     requires { Sit words.now.items places.items }
     ensures len { IfOk result (λ s. vec_len s ≡ 64) }
     ensures seats { IfOk result (λ s. SeatsSit words.now.items s.items) }

@@ -1,12 +1,12 @@
 use Rattle.std.proofs.Common.{◌≡◌, ◌-◌, ◌≤◌, List, [], vec_len, Option}
-use Rattle.nm_engine.specs.Giving.{Gives}
-use Rattle.nm_engine.specs.Host.{HostValue}
+use Rattle.nm_engine.specs.Giving.{GivesFrames}
+use Rattle.nm_engine.specs.Acceptor.{AcceptorValue}
 use Rattle.nm_engine.specs.declared.limits.TheConstants.{FULL_OUT_OCTETS, MAX_OUT_OCTETS}
 use Rattle.nm_engine.proofs.giving.give_all.Given as goal
 
 abbrev pub invariant-loop-session : goal.invariant-loop-session
 invariant-loop-session g l = record {
-  gives : (h : Option HostValue) → Gives h l.initial.session l.session l.initial.out.items l.out.items [];
+  gives : (h : Option AcceptorValue) → GivesFrames h l.initial.session l.session l.initial.out.items l.out.items [];
   most : vec_len l.out ≤ MAX_OUT_OCTETS;
 }
 

@@ -1,7 +1,7 @@
 use Rattle.std.proofs.Common.{◌≡◌, ◌++◌, ℕ, List, [], Option, Some, None, Ok, ◌∙◌, ap, refl, sym, subst, append-nil}
 use Rattle.nm_frames.specs.Frame.{frame_octets}
 use Rattle.nm_frames.specs.Session.{SessionValue}
-use Rattle.nm_engine.specs.Giving.{Gives}
+use Rattle.nm_engine.specs.Giving.{GivesFrames}
 use Rattle.nm_engine.proofs.Givings.{gives_one}
 use Rattle.nm_engine.proofs.giving.give_one.Goals as goal
 
@@ -13,7 +13,7 @@ returns-in-Ok-clause-gives g c =
     let after = c.write_frame.new.out.items in
     let f = c.in-Ok-Some.frame in
     λ h.
-    subst (λ (s : Option SessionValue). Gives h s (Some c.act-back.result.0) before after []) (sym (sym c.take.ensures.value ∙ c.in-Some.is))
+    subst (λ (s : Option SessionValue). GivesFrames h s (Some c.act-back.result.0) before after []) (sym (sym c.take.ensures.value ∙ c.in-Some.is))
     (gives_one h c.in-Some.asked c.act-back.result.0 b f c.act-back.result.1 (c.in-Ok-Some.is ∙ ap Ok c.in-Ok-Some.field-0-is) does.1 does.2 c.in-Ok.ensures.fits before after [] (append-nil after ∙ c.in-Ok.ensures.ok))
 
 pub returns-clause-gives : goal.returns-clause-gives
@@ -25,6 +25,6 @@ returns-clause-gives g c =
     let f = c.in-Ok-Some.frame in
     λ h. (
       frame_octets f,
-      subst (λ (s : Option SessionValue). Gives h s (Some c.act-back.result.0) before after (frame_octets f)) (sym (sym c.take.ensures.value ∙ c.in-Some.is))
+      subst (λ (s : Option SessionValue). GivesFrames h s (Some c.act-back.result.0) before after (frame_octets f)) (sym (sym c.take.ensures.value ∙ c.in-Some.is))
           (gives_one h c.in-Some.asked c.act-back.result.0 b f c.act-back.result.1 (c.in-Ok-Some.is ∙ ap Ok c.in-Ok-Some.field-0-is) does.1 does.2 c.in-Err-write_frame.ensures.fits before after (frame_octets f) (ap (λ l. l ++ frame_octets f) c.in-Err-write_frame.ensures.err)),
     )

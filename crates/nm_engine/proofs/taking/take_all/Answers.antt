@@ -4,7 +4,7 @@ use Rattle.std.proofs.lemmas.Iterator.Consumers.{YieldsList-turn}
 use Rattle.std.proofs.lemmas.Iterator.Adapters.{YieldsList-from_vec}
 use Rattle.nm_frames.specs.Lives.{Took}
 use Rattle.nm_frames.specs.Session.{SessionValue}
-use Rattle.nm_engine.specs.Lives.{Lives}
+use Rattle.nm_engine.specs.Lives.{LinkLives}
 use Rattle.nm_engine.specs.Taking.{Stops}
 use Rattle.nm_engine.proofs.Steps.{cut_at, took_next}
 use Rattle.nm_engine.proofs.taking.take_all.Goals as goal
@@ -20,8 +20,8 @@ returns-in-Err g c =
       f,
       drop (suc n) fs,
       cut_at fs n f turn.0 turn.1,
-      subst (λ (x : Option SessionValue). Lives c.args.host.now c.args.session.now (map Took (take n fs)) x) (sym e.0) c.loop-frame.invariant,
-      subst (λ (x : Option SessionValue). Stops c.in-Err.cause c.args.host.now x f) (sym e.0) e.1,
+      subst (λ (x : Option SessionValue). LinkLives c.args.acceptor.now c.args.session.now (map Took (take n fs)) x) (sym e.0) c.loop-frame.invariant,
+      subst (λ (x : Option SessionValue). Stops c.in-Err.cause c.args.acceptor.now x f) (sym e.0) e.1,
     )
 
 pub loop-frame-preserved : goal.loop-frame-preserved
@@ -30,5 +30,5 @@ loop-frame-preserved g c =
     let n = length c.loop-frame.yielded in
     let f = c.in-Some.frame in
     let turn = YieldsList-turn (YieldsList-from_vec {s = c.into_iter-frame-iterator.result} fs (search rules) (search rules)) c.loop-frame.yielded c.loop-frame.frame-iterator c.loop-frame.yielded_by c.next.result c.next.new.self c.in-Some.frame c.in-Some.is c.next.ensures.steps in
-    let step = took_next c.args.host.now c.args.session.now c.loop-frame.session c.take_one.new.session fs n f c.requires turn c.loop-frame.invariant c.in_default.ensures in
-    subst (λ (k : ℕ). Lives c.args.host.now c.args.session.now (map Took (take k fs)) c.take_one.new.session) (sym (length_push c.loop-frame.yielded f)) step
+    let step = took_next c.args.acceptor.now c.args.session.now c.loop-frame.session c.take_one.new.session fs n f c.requires turn c.loop-frame.invariant c.in_default.ensures in
+    subst (λ (k : ℕ). LinkLives c.args.acceptor.now c.args.session.now (map Took (take k fs)) c.take_one.new.session) (sym (length_push c.loop-frame.yielded f)) step

@@ -1,7 +1,7 @@
 use Rattle.std.proofs.Common.{◌≡◌, length, map, take}
 use Rattle.nm_frames.specs.Lives.{Took}
-use Rattle.nm_engine.specs.Lives.{Lives}
+use Rattle.nm_engine.specs.Lives.{LinkLives}
 use Rattle.nm_engine.proofs.taking.take_all.Given as goal
 
 abbrev pub invariant-loop-frame : goal.invariant-loop-frame
-invariant-loop-frame g l = Lives l.host l.initial.session (map Took (take (length l.yielded) l.fn.frames.items)) l.session
+invariant-loop-frame g l = LinkLives l.acceptor l.initial.session (map Took (take (length l.yielded) l.fn.frames.items)) l.session

@@ -5,4 +5,4 @@ use Rattle.nm_engine.proofs.taking.take_one.Goals as goal
 
 pub returns-in-Some : goal.returns-in-Some
 returns-in-Some g c =
-    subst (λ (x : Option SessionValue). TakesOne c.args.host.now x c.args.frame (Some c.take_later.new.session) c.take_later.result) (sym c.in-Some.is) (c.take_later.ensures c.args.host.now)
+    subst (λ (x : Option SessionValue). TakesOne c.args.acceptor.now x c.args.frame (Some c.take_later.new.session) c.take_later.result) (sym c.in-Some.is) (c.take_later.ensures c.args.acceptor.now)

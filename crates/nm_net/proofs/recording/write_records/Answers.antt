@@ -7,10 +7,10 @@ returns-then-is_empty g c = streams_none g.S.Sink.taken g.S.Sink.failures c.args
 pub loop-init : goal.loop-init
 loop-init g c = streams_none g.S.Sink.taken g.S.Sink.failures c.args.files.now.files.items c.requires
 
-pub returns-then-not-branch : goal.returns-then-not-branch
-returns-then-not-branch g c =
-    streams_more g.S.Sink.taken g.S.Sink.failures c.args.files.now.files.items c.loop.files.files.items c.write_some.new.files.files.items c.loop.invariant c.in_ok-write_some.ensures
+pub returns-then-not-some : goal.returns-then-not-some
+returns-then-not-some g c =
+    streams_more g.S.Sink.taken g.S.Sink.failures c.args.files.now.files.items c.loop.files.files.items c.write_some.new.files.files.items c.loop.invariant c.in_ok-some.ensures
 
 pub loop-preserved : goal.loop-preserved
 loop-preserved g c =
-    streams_more g.S.Sink.taken g.S.Sink.failures c.args.files.now.files.items c.loop.files.files.items c.write_some.new.files.files.items c.loop.invariant c.in_ok-write_some.ensures
+    streams_more g.S.Sink.taken g.S.Sink.failures c.args.files.now.files.items c.loop.files.files.items c.write_some.new.files.files.items c.loop.invariant c.in_ok-some.ensures

@@ -1,5 +1,3 @@
-use Rattle.std.proofs.Common.{All}
-use Rattle.nm_files.specs.Files.{IsSound}
 use Rattle.nm_net.specs.Recording.{Streams}
 use Rattle.nm_net.proofs.recording.write_records.Given as goal
 

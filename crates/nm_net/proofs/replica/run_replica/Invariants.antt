@@ -5,9 +5,9 @@ use Rattle.nm_net.proofs.replica.run_replica.Given as goal
 
 abbrev pub invariant-loop-polls : goal.invariant-loop-polls
 invariant-loop-polls g l = record {
-  owners : All (IsOwnerOf l.replica.board.now) l.holdings.seats.items;
+  owners : All (IsOwnerOf l.service.board.now) l.holdings.seats.items;
   seats : length l.holdings.seats.items ≡ length l.fn.holdings.seats.items;
   passes : length l.holdings.passes.items ≡ length l.fn.holdings.passes.items;
-  idle : g.N.Network.idle_waits l.fn.network + l.idle ≤ g.N.Network.idle_waits l.network;
+  idle : g.T.Transport.idle_waits l.fn.transport + l.idle ≤ g.T.Transport.idle_waits l.transport;
   streams : Streams g.S.Sink.taken g.S.Sink.failures l.fn.holdings.files.files.items l.holdings.files.files.items;
 }

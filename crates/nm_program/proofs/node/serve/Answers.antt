@@ -9,8 +9,8 @@ pub returns-in-Ok-write_book-clause-said : goal.returns-in-Ok-write_book-clause-
 returns-in-Ok-write_book-clause-said g c =
     let t = arc_value c.args.topology.now in
     let b = c.in-Ok.book in
-    let p = c.args.partition in
-    let folder = c.args.folder.now in
+    let p = c.args.words.now.partition in
+    let folder = c.args.words.now.folder.now in
     let before = g.F.Outputs.made c.args.outputs.now in
     let after = g.F.Outputs.made c.write_book.new.outputs in
     let made = subst (λ z. HasMade before after (own_files z p folder (state_of b).records)) c.deref.ensures c.in-Ok-write_book.ensures.made in
@@ -20,7 +20,7 @@ returns-in-Ok-write_book-clause-said g c =
       record {
         network = t;
         read = read;
-        listeners = c.args.addresses.now;
+        listeners = c.args.listeners.now;
         mean = mean;
         book = b;
         done = c.in-Ok.ensures.done;

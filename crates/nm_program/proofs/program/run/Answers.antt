@@ -1,7 +1,7 @@
 use Rattle.std.proofs.Common.{option_map, sym, subst}
 use Rattle.nm_command.specs.Command.{command_value}
-use Rattle.nm_program.specs.Ending.{Ends}
-use Rattle.nm_program.specs.Input.{text_of}
+use Rattle.nm_program.specs.Ending.{ProgramEnds}
+use Rattle.nm_words.specs.Input.{text_of}
 use Rattle.nm_program.proofs.program.run.Goals as goal
 
 pub returns-clause-ending : goal.returns-clause-ending
@@ -14,6 +14,6 @@ returns-clause-ending g c =
     let out = c.perform-status.result.1 in
     let made_before = g.F.Outputs.made c.args.outputs.now in
     let made = g.F.Outputs.made c.perform-status.new.outputs in
-    subst (λ command. Ends taken failures told before after c.args.out out made_before made command c.report.result) c.of.ensures.value
-    (subst (λ status. Ends taken failures told before after c.args.out out made_before made (option_map command_value c.of.result) status) (sym c.report.ensures.status)
+    subst (λ command. ProgramEnds taken failures told before after c.args.out out made_before made command c.report.result) c.of.ensures.value
+    (subst (λ status. ProgramEnds taken failures told before after c.args.out out made_before made (option_map command_value c.of.result) status) (sym c.report.ensures.status)
     c.perform-status.ensures)

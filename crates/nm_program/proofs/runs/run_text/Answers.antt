@@ -1,7 +1,7 @@
 use Rattle.std.proofs.Common.{◌<◌, ◌≤◌, length, codes, arith, rules}
 use Rattle.nm_sim.specs.Records.{totals_of}
-use Rattle.nm_program.specs.Lines.{iface_line}
-use Rattle.nm_program.proofs.InterfaceLines.{all_given, element, next_given, none_given}
+use Rattle.nm_words.specs.Lines.{iface_line}
+use Rattle.nm_words.proofs.InterfaceLines.{all_given, element, next_given}
 use Rattle.nm_program.proofs.runs.run_text.Goals as goal
 
 pub loop-number-preserved : goal.loop-number-preserved

@@ -1,5 +1,5 @@
-use Rattle.std.proofs.Common.{◌<◌, ◌≤◌, length, arith, rules}
-use Rattle.nm_program.proofs.InterfaceLines.{element}
+use Rattle.std.proofs.Common.{◌<◌, length, arith, rules}
+use Rattle.nm_words.proofs.InterfaceLines.{element}
 use Rattle.nm_files.proofs.Made.{made_more}
 use Rattle.nm_program.proofs.trace_files.make_files.Goals as goal
 

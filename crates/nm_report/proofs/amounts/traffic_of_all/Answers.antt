@@ -3,11 +3,11 @@ use Rattle.std.proofs.lemmas.List.{take_all}
 use Rattle.nm_base.specs.declared.record.Record.{Record}
 use Rattle.nm_sim.specs.Trace.{Hands}
 use Rattle.nm_report.specs.Amounts.{AreTraffic}
-use Rattle.nm_report.specs.declared.amounts.Traffic.{Traffic}
+use Rattle.nm_report.specs.declared.amounts.IfaceTraffic.{IfaceTraffic}
 use Rattle.nm_report.proofs.Counting.{take_one_more, traffic_first, traffic_on}
 use Rattle.nm_report.proofs.amounts.traffic_of_all.Goals as goal
 
-abbrev none : Traffic
+abbrev none : IfaceTraffic
 none = record { came = record { packets = 0; octets = 0 }; went = record { packets = 0; octets = 0 } }
 
 pub loop-init : goal.loop-init

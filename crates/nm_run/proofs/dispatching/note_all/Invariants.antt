@@ -1,5 +1,5 @@
 use Rattle.std.proofs.Common.{◌≡◌}
 use Rattle.nm_run.proofs.dispatching.note_all.Given as goal
 
-abbrev pub invariant-loop-number : goal.invariant-loop-number
-invariant-loop-number g l = l.dispatcher.seat ≡ l.fn.dispatcher.seat
+abbrev pub invariant-loop-job : goal.invariant-loop-job
+invariant-loop-job g l = l.dispatcher.seat ≡ l.fn.dispatcher.seat

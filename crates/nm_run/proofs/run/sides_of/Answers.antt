@@ -4,13 +4,14 @@ use Rattle.nm_files.specs.Files.{IsSound}
 use Rattle.nm_shared.specs.Board.{IsOwnerOf}
 use Rattle.nm_run.proofs.run.sides_of.Goals as goal
 
-pub loop-post-preserved : goal.loop-post-preserved
-loop-post-preserved g c =
-    let last : c.push.new.self.items ≡ c.loop-post.sides.items ++ c.in_ok-side_of.field-0 ∷ [] = search rules in
+pub loop-index-preserved : goal.loop-index-preserved
+loop-index-preserved g c =
+    let board = c.args.opened.now.board.now in
+    let last : c.push.new.self.items ≡ c.loop-index.sides.items ++ c.in_ok-side_of.field-0 ∷ [] = search rules in
     record {
       rest = c.in_ok-own.ensures.others;
-      sides = subst (All (λ s. All (IsOwnerOf c.args.board.now) s.holdings.seats.items × All IsSound s.holdings.files.files.items)) (sym last)
-          (All-push (λ s. All (IsOwnerOf c.args.board.now) s.holdings.seats.items × All IsSound s.holdings.files.files.items) c.loop-post.sides.items c.in_ok-side_of.field-0
-          c.loop-post.invariant.sides
-          (subst (λ z. All (IsOwnerOf c.args.board.now) z.items) (sym c.in_ok-side_of.ensures.seats) c.in_ok-own.ensures.own, c.in_ok-side_of.ensures.files));
+      sides = subst (All (λ s. All (IsOwnerOf board) s.holdings.seats.items × All IsSound s.holdings.files.files.items)) (sym last)
+          (All-push (λ s. All (IsOwnerOf board) s.holdings.seats.items × All IsSound s.holdings.files.files.items) c.loop-index.sides.items c.in_ok-side_of.field-0
+          c.loop-index.invariant.sides
+          (subst (λ z. All (IsOwnerOf board) z.items) (sym c.in_ok-side_of.ensures.seats) c.in_ok-own.ensures.own, c.in_ok-side_of.ensures.files));
     }

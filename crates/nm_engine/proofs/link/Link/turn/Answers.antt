@@ -7,6 +7,6 @@ pub returns-in-Ok-clause-turns : goal.returns-in-Ok-clause-turns
 returns-in-Ok-clause-turns g c =
     let i = c.self.inside in
     let n = c.work-done.new in
-    let new : Bool → LinkValue g.row.W.Denot = λ b. link_of n.wire i.host n.session n.reader.rest n.out.items b in
+    let new : Bool → LinkValue g.row.W.Denot = λ b. link_of n.wire i.acceptor n.session n.reader.rest n.out.items b in
     subst (λ (x : LinkValue g.row.W.Denot). Turns g.W.Wire.given g.W.Wire.taken g.W.Wire.ends g.W.Wire.failures x (new i.failed) c.in-Ok.turn) c.self.view_is
-    (subst (λ (b : Bool). Turns g.W.Wire.given g.W.Wire.taken g.W.Wire.ends g.W.Wire.failures (link_of i.wire i.host i.session i.reader.rest i.out.items b) (new b) c.in-Ok.turn) (sym c.if-self.false) c.in-Ok.ensures.works)
+    (subst (λ (b : Bool). Turns g.W.Wire.given g.W.Wire.taken g.W.Wire.ends g.W.Wire.failures (link_of i.wire i.acceptor i.session i.reader.rest i.out.items b) (new b) c.in-Ok.turn) (sym c.if-self.false) c.in-Ok.ensures.works)

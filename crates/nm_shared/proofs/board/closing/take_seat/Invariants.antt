@@ -1,5 +1,5 @@
 use Rattle.std.proofs.Common.{◌≡◌, ℕ, List, ◌++◌, length}
-use Rattle.nm_shared.specs.declared.word.Place.{Place}
+use Rattle.nm_shared.specs.declared.word.WordSeat.{WordSeat}
 use Rattle.nm_shared.specs.Board.{FitsAt}
 use Rattle.nm_shared.specs.Closing.{FitIf, From, SitIf}
 use Rattle.nm_shared.proofs.board.closing.take_seat.Given as goal
@@ -7,7 +7,7 @@ use Rattle.nm_shared.proofs.board.closing.take_seat.Given as goal
 abbrev pub invariant-loop-place : goal.invariant-loop-place
 invariant-loop-place l = record {
   sit : SitIf l.words.items l.closers.items;
-  rest : (rs : List Place) × (l.initial.places.items ≡ l.places.items ++ rs);
+  rest : (rs : List WordSeat) × (l.initial.places.items ≡ l.places.items ++ rs);
   fits : (ns : List ℕ) → FitIf ns l.closers.items → FitIf ns l.initial.closers.items × From (FitsAt ns) (length l.places.items) l.initial.places.items;
 }
 

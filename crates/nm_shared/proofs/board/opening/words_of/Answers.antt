@@ -1,7 +1,7 @@
 use Rattle.std.proofs.Common.{rules, ◌≡◌, List, [], ◌∷◌, ◌++◌, length, sym, ap, ◌∙◌, subst}
 use Rattle.nm_shared.specs.declared.board.OwnerSeat.{OwnerSeat}
 use Rattle.nm_shared.specs.declared.word.Word.{Word}
-use Rattle.nm_shared.specs.declared.word.Place.{Place}
+use Rattle.nm_shared.specs.declared.word.WordSeat.{WordSeat}
 use Rattle.nm_shared.specs.Clock.{owner}
 use Rattle.nm_shared.specs.Board.{Sit, id_of, view_of, word_id}
 use Rattle.nm_shared.specs.Board.{AreOwners}
@@ -27,5 +27,5 @@ loop-number-preserved c =
       words = search rules;
       owners = search rules;
       are = subst (λ (l : List OwnerSeat). AreOwners c.push.new.self.items l) (sym owners) (subst (λ (l : List Word). AreOwners l (os ++ o ∷ [])) (sym words) (owners_more ws os word o i.are (olen ∙ sym wlen) (c.owner_seat.ensures.0 ∙ sym wlen) same view));
-      sit = subst (λ (l : List Place). Sit c.push.new.self.items l) (sym closers) (subst (λ (l : List Word). Sit l (c.loop-number.places.items ++ c.split-place.result ∷ [])) (sym words) (sit_more ws c.loop-number.places.items word c.split-place.result i.sit (c.split-place.ensures.other.0 ∙ c.in_ok-word.ensures.0)));
+      sit = subst (λ (l : List WordSeat). Sit c.push.new.self.items l) (sym closers) (subst (λ (l : List Word). Sit l (c.loop-number.places.items ++ c.split-place.result ∷ [])) (sym words) (sit_more ws c.loop-number.places.items word c.split-place.result i.sit (c.split-place.ensures.other.0 ∙ c.in_ok-word.ensures.0)));
     }

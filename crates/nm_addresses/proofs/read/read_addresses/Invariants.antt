@@ -1,9 +1,0 @@
-use Rattle.std.proofs.Common.{length}
-use Rattle.nm_addresses.proofs.Lines.{IsReadTo}
-use Rattle.nm_addresses.proofs.read.read_addresses.Given as goal
-
-abbrev pub invariant-loop-line : goal.invariant-loop-line
-invariant-loop-line l = IsReadTo l.partitions l.text l.rest l.addresses.items
-
-abbrev pub decreases-loop-line : goal.decreases-loop-line
-decreases-loop-line l = length l.rest

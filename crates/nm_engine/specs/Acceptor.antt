@@ -1,0 +1,36 @@
+-- A peer that connected says who it is by its first frame, which makes the session.
+use Rattle.std.specs.Prelude.{ℕ, nat_lt, ◌&&◌, length, Option, Some, None, Result, Ok, Err, if◌then◌else◌}
+use Rattle.nm_topology.specs.TopologyValue.{TopologyValue}
+use Rattle.nm_frames.specs.declared.frame.Frame.{Frame}
+use Rattle.nm_frames.specs.declared.frame.Frame.TheVariants.{Hello, Have, Data, Null, Bye}
+use Rattle.nm_frames.specs.declared.session_fault.SessionFault.{SessionFault}
+use Rattle.nm_frames.specs.declared.session_fault.SessionFault.TheVariants.{Order, Peer}
+use Rattle.nm_frames.specs.Channels.{channels_between}
+use Rattle.nm_frames.specs.Session.{SessionValue, new_session, taken}
+
+-- the replica that is connected to: of this topology and partition, with this number
+pub record AcceptorValue : Type 0 where
+  pub topology : TopologyValue
+  pub me : ℕ
+  pub replica : ℕ
+
+-- its session with a replica of another partition
+abbrev pub session_with : AcceptorValue → ℕ → SessionValue
+session_with h peer = new_session h.topology h.me h.replica peer
+
+-- the session after the first frame, or why that is refused: it has to be a Hello of a partition below its own from which a channel comes
+abbrev pub first_taken : AcceptorValue → Frame → Result SessionValue SessionFault
+first_taken h (Hello hello) =
+    if nat_lt hello.partition h.me && nat_lt 0 (length (channels_between h.topology hello.partition h.me))
+    then taken (session_with h hello.partition) (Hello hello)
+    else Err Peer
+first_taken h (Have count) = Err Order
+first_taken h (Data message) = Err Order
+first_taken h (Null promise) = Err Order
+first_taken h Bye = Err Order
+
+-- the session after a frame, or why it is refused; a link has a session or a acceptor that awaits one
+abbrev pub taken_at : Option AcceptorValue → Option SessionValue → Frame → Result SessionValue SessionFault
+taken_at acceptor (Some s) f = taken s f
+taken_at (Some h) None f = first_taken h f
+taken_at None None f = Err Order

@@ -1,0 +1,81 @@
+//! Links that peers connect: the first frame says with whom the session is.
+
+ghost use Rattle.std.specs.Prelude.{◌≡◌};
+ghost use Rattle.std.specs.Arc.{arc_value};
+ghost use Rattle.nm_engine.specs.Taking.{Greets};
+
+use crate::answer::Cause;
+use nm_base::PartNo;
+use nm_frames::{Frame, Session};
+use nm_topology::Topology;
+use std::alloc::Global;
+use std::marker::Model;
+use std::sync::Arc;
+
+/// A replica that peers connect to, and which learns by their first frame who they are.
+#[derive(Drop)]
+pub struct Acceptor {
+    topology: Arc<Topology>,
+    me: PartNo,
+    replica: u8,
+}
+
+impl Model for Acceptor {
+    ghost use Rattle.std.specs.Arc.{arc_value};
+    ghost use Rattle.nm_engine.specs.Acceptor.{AcceptorValue};
+
+    ghost Value = { AcceptorValue };
+
+    ghost view = { λ h. record {
+      topology = arc_value h.topology;
+      me = h.me;
+      replica = h.replica;
+    } };
+}
+
+impl Acceptor {
+    /// This replica of partition `me`.
+    pub fn new(topology: Arc<Topology>, me: PartNo, replica: u8) -> Self
+        ensures { result ≡ record {
+          topology = arc_value topology;
+          me = me;
+          replica = replica;
+        } }
+    {
+        Acceptor {
+            topology,
+            me,
+            replica,
+        }
+    }
+
+    /// The session that a peer's first frame makes: a Hello of a partition below this one from
+    /// which a channel comes.
+    ///
+    /// # Errors
+    ///
+    /// `Session` where the frame is no such Hello, or the session refuses it. `Memory` where memory
+    /// was refused.
+    pub(crate) fn greet(&self, alloc: Global, frame: Frame) -> Result<Session, Cause>
+        ensures { Greets self.now frame result }
+    {
+        let Frame::Hello(hello) = frame else {
+            return Err(Cause::Session);
+        };
+        let peer = hello.partition;
+        if peer.number() >= self.me.number() {
+            return Err(Cause::Session);
+        }
+        let Ok(mut session) = Session::new(alloc, &self.topology, self.me, self.replica, peer)
+        else {
+            return Err(Cause::Memory);
+        };
+        if !session.has_channels() {
+            return Err(Cause::Session);
+        }
+        match session.take(Frame::Hello(hello)) {
+            Ok(_) => Ok(session),
+            Err(_) => Err(Cause::Session),
+        }
+    }
+}

@@ -1,0 +1,5 @@
+use Rattle.std.proofs.Common.{◌≡◌}
+use Rattle.nm_net.proofs.connections.Connections.accept_all.Given as goal
+
+abbrev pub invariant-loop : goal.invariant-loop
+invariant-loop g l = g.T.Transport.idle_waits l.transport ≡ g.T.Transport.idle_waits l.initial.transport

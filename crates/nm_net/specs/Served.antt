@@ -1,0 +1,52 @@
+-- How the serving of a replica ends.
+use Rattle.std.specs.Prelude.{◌≡◌, ◌⊎◌, ℕ, ◌+◌, ◌≤◌, Bool, true, Option, Some, None, if◌then◌else◌}
+use Rattle.nm_engine.specs.declared.answer.Cause.{Cause}
+use Rattle.nm_engine.specs.declared.answer.Cause.TheVariants as cause
+use Rattle.nm_files.specs.declared.trace_files.FilesFault.{FilesFault}
+use Rattle.nm_files.specs.declared.trace_files.FilesFault.TheVariants as fault
+use Rattle.nm_book.specs.Book.{BookValue, replica_of}
+use Rattle.nm_model.specs.Certificate.{is_done}
+use Rattle.nm_shared.specs.Known.{Home, home_of}
+use Rattle.nm_sim.specs.Network.{net_of}
+use Rattle.nm_net.specs.declared.served.Served.{Served}
+use Rattle.nm_net.specs.declared.served.Served.TheVariants.{Ended, Net, Memory, File, Stalled}
+use Rattle.nm_net.specs.declared.limits.TheConstants.{MAX_POLLS}
+
+-- how serving ends because a link broke: not, where its wire did, or where who said no Hello spoke nonsense
+abbrev pub break_served : Cause → Bool → Option Served
+break_served cause.End is_peer = None
+break_served cause.Fault is_peer = None
+break_served cause.Frame is_peer = if is_peer then Some Net else None
+break_served cause.Session is_peer = if is_peer then Some Net else None
+break_served cause.Book is_peer = Some Net
+break_served cause.Memory is_peer = Some Memory
+
+-- how serving ends where trace files were not written on
+abbrev pub file_served : FilesFault → Served
+file_served (fault.File f) = File f.iface f.written
+file_served fault.Memory = Memory
+
+-- nothing is left to do for the replica
+abbrev pub IsFinished : BookValue → Type 0
+IsFinished b = is_done (net_of b.topology) b.partition (replica_of b) ≡ true
+
+-- a book of this replica, if the counts are exact, was seen to be done
+abbrev pub WasFinished : Bool → Home → Type 0
+WasFinished exact own = (b : BookValue) × (exact ≡ true → home_of b ≡ own) × IsFinished b
+
+-- Why serving ends: the replica was done; or no less polls with nothing ready than the limit were made since the transport had had `before`, and it
+-- has had `after`, or no more polls may be made.
+abbrev pub EndsWith : Bool → Home → (limit before after : ℕ) → Served → Type 0
+EndsWith exact own limit before after Ended = WasFinished exact own
+EndsWith exact own limit before after Net = Unit {0}
+EndsWith exact own limit before after Memory = Unit {0}
+EndsWith exact own limit before after (File iface written) = Unit {0}
+EndsWith exact own limit before after (Stalled polls) = (before + limit ≤ after) ⊎ (MAX_POLLS ≤ polls)
+
+-- how serving ends where the replica was not seen to be done, and is not stalled
+abbrev pub EndsEarly : Served → Type 0
+EndsEarly Ended = ⊥
+EndsEarly Net = Unit {0}
+EndsEarly Memory = Unit {0}
+EndsEarly (File iface written) = Unit {0}
+EndsEarly (Stalled polls) = ⊥

@@ -1,0 +1,122 @@
+//! A wire over a TCP connection that does not wait.
+
+ghost use Rattle.std.specs.Prelude.{◌≡◌, ℕ, ◌+◌, ◌<◌, ◌≤◌, ◌++◌, List, [], take, length};
+
+use mio::net::TcpStream;
+use mio::{Interest, Registry, Token};
+use nm_base::failures::FailureCount;
+use nm_base::wire::{Read as WireRead, Written};
+use nm_base::{Octets, Wire};
+use std::io;
+use std::io::{ErrorKind, Read, Write};
+use std::marker::Model;
+
+/// A TCP connection. A clause sees the octets that came and went, as the system answered, how often
+/// a read found the end, and how often a call failed.
+#[derive(Drop)]
+pub struct TcpWire {
+    stream: TcpStream,
+    got: Octets,
+    sent: Octets,
+    ended: FailureCount,
+    failed: FailureCount,
+}
+
+impl Model for TcpWire {
+    ghost use Rattle.nm_net.specs.Transport.{WireValue};
+
+    ghost Value = { WireValue };
+
+    ghost view = { λ s. record {
+      given = s.got.list;
+      taken = s.sent.list;
+      ends = s.ended.count;
+      failures = s.failed.count;
+    } };
+}
+
+impl TcpWire {
+    /// A connection on which nothing has moved. What is written is sent at once: a conservative
+    /// simulation is a chain of null messages, and all wait for one that the system holds back until
+    /// the last was acknowledged (RFC 896). A connection that cannot be told so is slower.
+    pub fn new(stream: TcpStream) -> Self
+        ensures { result ≡ record { given = []; taken = []; ends = 0; failures = 0 } }
+    {
+        let _ = stream.set_nodelay(true);
+        TcpWire {
+            stream,
+            got: Octets::new(),
+            sent: Octets::new(),
+            ended: FailureCount::new(),
+            failed: FailureCount::new(),
+        }
+    }
+
+    /// Has a poll report the connection under this token.
+    pub fn register(&mut self, registry: &Registry, token: Token) -> io::Result<()>
+        ensures { self.new ≡ self.old }
+    {
+        registry.register(
+            &mut self.stream,
+            token,
+            Interest::READABLE | Interest::WRITABLE,
+        )
+    }
+
+    /// Ends the reports of the connection.
+    pub fn deregister(&mut self, registry: &Registry) -> io::Result<()>
+        ensures { self.new ≡ self.old }
+    {
+        registry.deregister(&mut self.stream)
+    }
+}
+
+impl Wire for TcpWire {
+    ghost given = { λ s. s.given };
+
+    ghost taken = { λ s. s.taken };
+
+    ghost ends = { λ s. s.ends };
+
+    ghost failures = { λ s. s.failures };
+
+    fn read_some(&mut self, buffer: &mut [u8]) -> WireRead {
+        match self.stream.read(buffer) {
+            Ok(0) => {
+                self.ended.rise();
+                WireRead::End
+            }
+            Ok(count) => {
+                self.got.add(&buffer[..count]);
+                WireRead::Got(count)
+            }
+            Err(error) if waits(&error) => WireRead::Later,
+            Err(_) => {
+                self.failed.rise();
+                WireRead::Fault
+            }
+        }
+    }
+
+    fn write_some(&mut self, octets: &[u8]) -> Written {
+        match self.stream.write(octets) {
+            Ok(count) if count > 0 => {
+                self.sent.add(&octets[..count]);
+                Written::Took(count)
+            }
+            Err(error) if waits(&error) => Written::Later,
+            Ok(_) | Err(_) => {
+                self.failed.rise();
+                Written::Fault
+            }
+        }
+    }
+}
+
+/// Whether the call is to be made again once the connection is ready.
+fn waits(error: &io::Error) -> bool {
+    matches!(
+        error.kind(),
+        ErrorKind::WouldBlock | ErrorKind::Interrupted | ErrorKind::NotConnected
+    )
+}

@@ -1,0 +1,54 @@
+//! What the loop asks of what carries its octets. Each call may fail, and is then made again at a
+//! later poll.
+
+ghost use Rattle.std.specs.Prelude.{◌≡◌, ℕ, [], ◌+◌, IfSome};
+
+use nm_base::Wire;
+
+/// What a wait came to.
+#[derive(Clone, Copy, Debug, PartialEq, Eq)]
+pub enum Waited {
+    /// A connection may be ready, or somebody asked the wait to end.
+    Ready,
+    /// The time was over.
+    RanOut,
+    /// It could not wait.
+    Fault,
+}
+
+/// Connections with other replicas, and a wait for them. No call waits but `wait`. A clause sees how
+/// many waits ended with nothing ready.
+pub trait Transport {
+    ghost use Rattle.nm_net.specs.Transport.{IsFresh, one_if_idle};
+
+    type Connection: Wire + Drop;
+
+    // How many waits ended because the time was over, or because it could not wait.
+    ghost idle_waits: { Self → ℕ };
+
+    /// Begins a connection to the peer with this number, if it can. It may not be made yet.
+    fn connect(&mut self, peer: usize) -> Option<Self::Connection>
+        ensures fresh { IfSome result (IsFresh Self.Connection.given Self.Connection.taken
+            Self.Connection.ends Self.Connection.failures) }
+        ensures idle { idle_waits self.new ≡ idle_waits self.old };
+
+    /// The next connection that a peer began, if there is one.
+    fn accept(&mut self) -> Option<Self::Connection>
+        ensures fresh { IfSome result (IsFresh Self.Connection.given Self.Connection.taken
+            Self.Connection.ends Self.Connection.failures) }
+        ensures idle { idle_waits self.new ≡ idle_waits self.old };
+
+    /// Has `wait` end when the connection with this key is ready. It answers whether it will.
+    fn watch(&mut self, connection: &mut Self::Connection, key: usize) -> bool
+        ensures same { connection.new ≡ connection.old }
+        ensures idle { idle_waits self.new ≡ idle_waits self.old };
+
+    /// Ends that.
+    fn unwatch(&mut self, connection: &mut Self::Connection)
+        ensures same { connection.new ≡ connection.old }
+        ensures idle { idle_waits self.new ≡ idle_waits self.old };
+
+    /// Waits until a connection is ready, or until so many milliseconds are over.
+    fn wait(&mut self, milliseconds: u64) -> Waited
+        ensures { idle_waits self.new ≡ idle_waits self.old + one_if_idle result };
+}

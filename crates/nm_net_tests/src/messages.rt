@@ -1,0 +1,45 @@
+//! Messages.
+
+ghost use Rattle.std.specs.Prelude.{◌≡◌};
+
+use bytes::Bytes;
+use nm_base::{ChanNo, Packet, Time};
+use nm_book::{ChannelMessage, Data, Null};
+use std::alloc::Global;
+use std::test::Fail;
+
+/// A null message.
+pub fn null(channel: u32, count: u64, clock: u64) -> Null
+    ensures { result.channel ≡ channel }
+{
+    Null {
+        channel: ChanNo::new(channel),
+        count,
+        clock: Time::from_nanoseconds(clock),
+    }
+}
+
+/// A message whose packet is its number.
+pub fn message(
+    alloc: Global,
+    channel: u32,
+    number: u64,
+    time: u64,
+) -> Result<ChannelMessage, Fail> {
+    let octets = Bytes::copy_from_slice(alloc, &number.to_be_bytes())?;
+    Ok(ChannelMessage::Data(Data {
+        channel: ChanNo::new(channel),
+        number,
+        time: Time::from_nanoseconds(time),
+        packet: Packet::new(octets).ok_or("eight octets fit")?,
+    }))
+}
+
+/// The first messages of a channel, at 1, 2, 3 and so on nanoseconds.
+pub fn messages(alloc: Global, channel: u32, count: u64) -> Result<Vec<ChannelMessage>, Fail> {
+    let mut all = Vec::new(alloc);
+    for number in 0..count {
+        all.push(message(alloc, channel, number, number + 1)?)?;
+    }
+    Ok(all)
+}

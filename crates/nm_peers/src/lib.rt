@@ -1,0 +1,14 @@
+//! Where the replicas of a network listen, as a text, and which of them speak with each other.
+#![tactic(auto)]
+
+pub mod fault;
+pub mod laws;
+mod line;
+pub mod listener;
+pub mod peers;
+pub mod read;
+
+pub use fault::ListenersFault;
+pub use listener::Listener;
+pub use peers::{Peers, peers_of};
+pub use read::read_listeners;

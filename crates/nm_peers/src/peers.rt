@@ -1,0 +1,71 @@
+//! The peers of a replica.
+
+use crate::listener::Listener;
+use nm_base::PartNo;
+use nm_frames::channels::channels_between;
+use nm_topology::Topology;
+use std::alloc::{AllocError, Global};
+use std::net::SocketAddr;
+
+/// The replicas with which a replica speaks: those of the partitions with which its own shares a
+/// channel.
+#[derive(Drop)]
+pub struct Peers {
+    /// The partition of each replica that it calls, and where that listens.
+    pub partitions: Vec<PartNo>,
+    pub addresses: Vec<SocketAddr>,
+    /// How many replicas call it.
+    pub callers: usize,
+}
+
+/// Whether a channel goes from one partition to another.
+fn is_near(
+    alloc: Global,
+    topology: &Topology,
+    from: PartNo,
+    to: PartNo,
+) -> Result<bool, AllocError> {
+    let channels = channels_between(alloc, topology, from, to)?;
+    Ok(!channels.is_empty())
+}
+
+/// The peers among these listeners. Of two partitions that share a channel the replicas of the one
+/// with the lesser number call those of the other.
+///
+/// # Errors
+///
+/// Where memory was refused.
+pub fn peers_of(
+    alloc: Global,
+    topology: &Topology,
+    partition: PartNo,
+    listeners: &[Listener],
+) -> Result<Peers, AllocError> {
+    let mut partitions = Vec::new(alloc);
+    let mut addresses = Vec::new(alloc);
+    let mut callers = 0usize;
+    for listener in listeners {
+        let peer = listener.partition;
+        if !is_near(alloc, topology, partition, peer)? {
+            continue;
+        }
+        if peer.number() > partition.number() {
+            partitions.push(peer)?;
+            addresses.push(SocketAddr::V4(listener.address))?;
+        } else if peer.number() < partition.number() {
+            callers = callers.saturating_add(1);
+        }
+    }
+    Ok(Peers {
+        partitions,
+        addresses,
+        callers,
+    })
+}
+
+/// Where a replica itself listens, if it is one of these.
+pub fn own_address(listeners: &[Listener], partition: PartNo, replica: u8) -> Option<SocketAddr> {
+    let own = listeners.iter().find(|listener| listener.partition == partition
+        && listener.replica == replica)?;
+    Some(SocketAddr::V4(own.address))
+}

@@ -1,0 +1,11 @@
+use Rattle.std.specs.Arc.{arc_value}
+use Rattle.nm_process.proofs.process.run_process.Given as goal
+
+abbrev pub ghosts-run_named-M-Naming : goal.ghosts-run_named-M-Naming
+ghosts-run_named-M-Naming g a = record { home = record { topology = arc_value a.process.now.topology.now; partition = a.process.now.partition; replica = a.process.now.replica } }
+
+abbrev pub ghosts-run_named-M-Ledger : goal.ghosts-run_named-M-Ledger
+ghosts-run_named-M-Ledger g a = record { name = a.messages.name; parts = a.messages.parts }
+
+abbrev pub ghosts-run_named-E-Ledger : goal.ghosts-run_named-E-Ledger
+ghosts-run_named-E-Ledger g a = record { name = a.events.name; parts = a.events.parts }

@@ -1,0 +1,48 @@
+//! Why the replica of a process is not done.
+
+ghost use Rattle.std.specs.Prelude.{◌≡◌};
+ghost use Rattle.nm_process.specs.declared.fault.ProcessFault.TheVariants.{Memory};
+
+use std::alloc::{AllocError, AllocFailed};
+use std::io::{self, ErrorKind};
+use thiserror::Error;
+
+/// Why the replica of a process is not done. Nothing of it is left.
+#[derive(Clone, Copy, Debug, PartialEq, Eq, Error)]
+pub enum ProcessFault {
+    /// It cannot listen at its address, or a peer broke the rules.
+    #[error("the network failed")]
+    Net,
+    /// Memory was refused.
+    #[error("out of memory")]
+    Memory,
+    /// Nothing moved for a minute: a peer is missing, or does not go on.
+    #[error("stalled")]
+    Stalled,
+}
+
+impl From<AllocError> for ProcessFault {
+    ghost from_gives = { λ _ f. f ≡ Memory };
+
+    fn from(_: AllocError) -> Self {
+        ProcessFault::Memory
+    }
+}
+
+impl<T: Drop> From<AllocFailed<T>> for ProcessFault {
+    ghost from_gives = { λ _ f. f ≡ Memory };
+
+    fn from(_: AllocFailed<T>) -> Self {
+        ProcessFault::Memory
+    }
+}
+
+impl From<io::Error> for ProcessFault {
+    fn from(error: io::Error) -> Self {
+        if error.kind() == ErrorKind::OutOfMemory {
+            ProcessFault::Memory
+        } else {
+            ProcessFault::Net
+        }
+    }
+}

@@ -1,0 +1,8 @@
+//! One replica of a partition as a process of its own, over TCP.
+#![tactic(auto)]
+
+pub mod fault;
+pub mod process;
+
+pub use fault::ProcessFault;
+pub use process::{Process, run_process};

@@ -1,0 +1,244 @@
+//! One replica over TCP, until it is done.
+
+ghost use Rattle.std.specs.Prelude.{◌≡◌, ◌^◌, All, IfOk};
+ghost use Rattle.std.specs.Arc.{arc_value};
+ghost use Rattle.nm_files.specs.Files.{IsSound};
+ghost use Rattle.nm_net.specs.Served.{IsFinished};
+ghost use Rattle.nm_process.specs.Process.{IsDoneReplica};
+ghost use Rattle.nm_shared.specs.Board.{IsOwnerOf};
+ghost use Rattle.nm_shared.specs.Known.{home_of};
+
+use crate::fault::ProcessFault;
+use mio::Poll;
+use mio::net::TcpListener;
+use nm_base::{MemSink, PartNo};
+use nm_book::{Book, BookFault};
+use nm_files::TraceFiles;
+use nm_net::seats::own_seats;
+use nm_net::{Holdings, Served, Service, TcpTransport, run_replica};
+use nm_peers::peers::own_address;
+use nm_peers::{Listener, Peers, peers_of};
+use nm_progress::Progress;
+use nm_shared::counts::PARTS;
+use nm_shared::{ClockBoard, Counts, Gate, Ledgers, Naming, Pass, SharedBook};
+use nm_topology::Topology;
+use std::alloc::Global;
+use std::io::{self, ErrorKind};
+use std::marker::Brand;
+use std::net::Net;
+use std::sync::ledger::{Blank, Ledger};
+use std::sync::{Arc, Wait};
+
+/// How many events a process does at most after each poll.
+const RUN_EVENTS: u64 = 4_096;
+
+/// A replica of a partition that is a process of its own, and where the replicas of the network
+/// listen.
+#[derive(Clone, Copy)]
+pub struct Process<'a> {
+    pub topology: &'a Arc<Topology>,
+    pub partition: PartNo,
+    /// 0 or 1.
+    pub replica: u8,
+    /// Those of all replicas that take part, its own among them.
+    pub listeners: &'a [Listener],
+    /// After so many polls of 50 ms in a row at which nothing moved it is stalled.
+    pub idle_limit: u64,
+    /// Where it notes how far it is.
+    pub progress: &'a Progress,
+}
+
+/// A gate that lets all go on.
+struct Open;
+
+impl Gate for Open {
+    fn enter(&self, _job: usize) {}
+
+    fn leave(&self, _job: usize) {}
+
+    fn poll(&self, _moved: u64) -> bool {
+        true
+    }
+}
+
+/// Listens at the process's own address, and calls its peers.
+fn open_transport<R: Net + Drop + Copy>(
+    rt: &R,
+    alloc: Global,
+    process: &Process<'_>,
+    peers: &Peers,
+) -> io::Result<TcpTransport<R>> {
+    let own = own_address(process.listeners, process.partition, process.replica);
+    let own = own.ok_or(ErrorKind::AddrNotAvailable)?;
+    let listener = TcpListener::bind(rt, own)?;
+    let addresses = peers.addresses.as_slice().to_vec(alloc)?;
+    TcpTransport::new(*rt, alloc, Poll::new(rt)?, listener, addresses)
+}
+
+/// Serves a replica that is shared with nobody else.
+fn serve<C: Counts, R: Net + Wait + Drop + Copy>(
+    rt: &R,
+    alloc: Global,
+    process: &Process<'_>,
+    book: &SharedBook<C>,
+    board: &ClockBoard,
+    holdings: &mut Holdings<C, MemSink>,
+) -> Result<(), ProcessFault>
+    requires owners { All (IsOwnerOf board.now) holdings.old.seats.items }
+    requires files { All IsSound holdings.old.files.files.items }
+{
+    let peers = peers_of(
+        alloc,
+        process.topology,
+        process.partition,
+        process.listeners,
+    )?;
+    let mut transport = open_transport(rt, alloc, process, &peers)?;
+    let service = Service {
+        topology: process.topology,
+        partition: process.partition,
+        replica: process.replica,
+        book,
+        board,
+        peers: peers.partitions.as_slice(),
+        callers: peers.callers,
+        books: &[],
+        sister: None,
+        idle_limit: process.idle_limit,
+        run_limit: RUN_EVENTS,
+        progress: Some(process.progress),
+    };
+    match run_replica(rt, alloc, &service, holdings, &mut transport, &Open) {
+        Served::Ended => Ok(()),
+        Served::Net | Served::File { .. } => Err(ProcessFault::Net),
+        Served::Memory => Err(ProcessFault::Memory),
+        Served::Stalled { .. } => Err(ProcessFault::Stalled),
+    }
+}
+
+/// A shared book of a replica, which no other one is.
+fn shared_of<M: Naming + Send + Sync, E: Ledger + Send + Sync>(
+    alloc: Global,
+    process: &Process<'_>,
+    messages: Blank,
+    events: Blank,
+) -> Result<SharedBook<Ledgers<M, E>>, ProcessFault>
+    requires messages { (messages.name ≡ M.name) × (messages.parts ≡ M.parts)
+        × (messages.parts ≡ 2 ^ 32) }
+    requires events { (events.name ≡ E.name) × (events.parts ≡ E.parts)
+        × (events.parts ≡ 2 ^ 32) }
+    requires home { M.home ≡ record {
+      topology = arc_value process.now.topology.now;
+      partition = process.now.partition;
+      replica = process.now.replica;
+    } }
+{
+    let topology = Arc::try_clone(process.topology)?;
+    let (counts, whole) = Ledgers::<M, E>::open(messages, events);
+    let (partition, replica) = (process.partition, process.replica);
+    match SharedBook::new(alloc, topology, partition, replica, counts, whole) {
+        Ok(book) => Ok(book),
+        Err(BookFault::Memory) => Err(ProcessFault::Memory),
+        Err(BookFault::NoSuch) => Err(ProcessFault::Net),
+    }
+}
+
+/// Serves a replica with this pass of its book, and gives the pass back.
+fn serve_with<C: Counts, R: Net + Wait + Drop + Copy>(
+    rt: &R,
+    alloc: Global,
+    process: &Process<'_>,
+    book: &SharedBook<C>,
+    pass: Pass<C>,
+) -> Result<Pass<C>, ProcessFault> {
+    let (board, owners, _) = ClockBoard::new(alloc, process.topology)?;
+    let seats = own_seats(
+        alloc,
+        process.topology,
+        &board,
+        process.partition,
+        process.replica,
+        owners,
+    )?;
+    let mut holdings = Holdings {
+        pass,
+        passes: Vec::new(alloc),
+        seats,
+        // The book keeps its trace: files are made of it once it is done.
+        files: TraceFiles::new(alloc),
+    };
+    serve(rt, alloc, process, book, &board, &mut holdings)?;
+    Ok(holdings.pass)
+}
+
+/// The book of a replica that was served with this one pass.
+///
+/// # Errors
+///
+/// `Stalled` where it is not done: it was seen to be done while it was shared, and no contract ties
+/// that to what is closed.
+fn close<M: Naming + Send + Sync, E: Ledger + Send + Sync>(
+    alloc: Global,
+    shared: SharedBook<Ledgers<M, E>>,
+    pass: Pass<Ledgers<M, E>>,
+) -> Result<Book, ProcessFault>
+    requires { (M.parts ≡ 2 ^ 32) × (E.parts ≡ 2 ^ 32) }
+    ensures { IfOk result
+        (λ b. (home_of b ≡ M.home) × IsFinished b × (b.handed ≡ 0)) }
+{
+    let mut passes = Vec::new(alloc);
+    passes.push(pass)?;
+    let Ok(closed) = shared.close(passes) else {
+        return Err(ProcessFault::Net);
+    };
+    if !closed.book.done() || closed.book.handed() > 0 {
+        return Err(ProcessFault::Stalled);
+    }
+    Ok(closed.book)
+}
+
+/// Serves a replica whose book and passes types name, and gives its book.
+fn run_named<M: Naming + Send + Sync, E: Ledger + Send + Sync, R: Net + Wait + Drop + Copy>(
+    rt: &R,
+    alloc: Global,
+    process: &Process<'_>,
+    messages: Blank,
+    events: Blank,
+) -> Result<Book, ProcessFault>
+    requires messages { (messages.name ≡ M.name) × (messages.parts ≡ M.parts)
+        × (messages.parts ≡ 2 ^ 32) }
+    requires events { (events.name ≡ E.name) × (events.parts ≡ E.parts)
+        × (events.parts ≡ 2 ^ 32) }
+    requires home { M.home ≡ record {
+      topology = arc_value process.now.topology.now;
+      partition = process.now.partition;
+      replica = process.now.replica;
+    } }
+    ensures { IfOk result (IsDoneReplica (arc_value process.now.topology.now)
+        process.now.partition process.now.replica) }
+{
+    let shared = shared_of::<M, E>(alloc, process, messages, events)?;
+    let pass = shared.pass(rt)?;
+    let pass = serve_with(rt, alloc, process, &shared, pass)?;
+    close(alloc, shared, pass)
+}
+
+/// Serves one replica of a partition over TCP until it is done and all its links have ended, and
+/// gives its book, which knows all and did all of its events. It merges with nobody, and nothing is
+/// certified.
+///
+/// # Errors
+///
+/// `Net` where it cannot listen at its address, a peer broke the rules or told what cannot be.
+/// `Stalled` where nothing moved for so many polls of 50 ms in a row. `Memory` where memory was
+/// refused. The book is let go then.
+pub fn run_process<R: Net + Wait + Drop + Copy>(
+    rt: &R,
+    alloc: Global,
+    process: &Process<'_>,
+) -> Result<Book, ProcessFault>
+    ensures { IfOk result (IsDoneReplica (arc_value process.now.topology.now)
+        process.now.partition process.now.replica) }
+{
+    run_named::<Brand, Brand, R>(rt, alloc, process, Blank::new(PARTS), Blank::new(PARTS))
+}

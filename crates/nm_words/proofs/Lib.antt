@@ -1,0 +1,4 @@
+pub mod InterfaceLines
+pub mod Texts
+pub mod Times
+pub mod Endings

@@ -1,0 +1,15 @@
+use Rattle.std.proofs.Common.{◌≡◌, ℕ, false, List, take}
+use Rattle.nm_base.specs.declared.record.Record.{Record}
+use Rattle.nm_events.specs.Held.{pending_of}
+use Rattle.nm_sim.specs.Trace.{IsTraceBefore, IsTracing}
+use Rattle.nm_files.specs.Writing.{WroteOn}
+use Rattle.nm_files.specs.TraceFile.{written_at}
+use Rattle.nm_words.proofs.trace_file.write_all_of.Given as goal
+
+abbrev pub invariant-loop-number : goal.invariant-loop-number
+invariant-loop-number g l = record {
+  tracing : IsTracing pending_of l.topology l.tracer;
+  sound : l.file.failed ≡ false;
+  front : (records : List (Record (List ℕ))) → IsTraceBefore l.topology l.topology.stop records
+      → WroteOn g.S.Sink.taken g.S.Sink.failures l.initial.file l.file (written_at l.initial.file.form l.iface (take l.tracer.records.handed records));
+}

@@ -1,0 +1,25 @@
+use Rattle.std.proofs.Common.{option_map, sym, subst, refl, ◌∙◌}
+use Rattle.nm_words.specs.Traces.{EndsTrace}
+use Rattle.nm_words.specs.Input.{text_of}
+use Rattle.nm_words.proofs.Endings.{ends_written}
+use Rattle.nm_words.proofs.traces.write_trace.Goals as goal
+
+-- the trace of the topology is there, also where it was not written to its end
+pub returns : goal.returns
+returns g c =
+    let read = c.in-Ok.ensures in
+    let there = c.every_topology_has_a_trace.ensures.there c.in-Ok.topology.stop in
+    let told = text_of g.I.Inputs.standard_text g.I.Inputs.file_text c.args.inputs.now.inputs in
+    let name = option_map (λ n. n.now) c.args.iface in
+    subst (EndsTrace g.O.Sink.taken g.O.Sink.failures told _ _ _ _ c.args.form c.args.topology.now name) (sym c.status_of.ensures)
+    (ends_written g.O.Sink.taken g.O.Sink.failures told _ _ _ _ c.args.form c.args.topology.now name read.0 _ _ read.1
+    (record {
+      network = c.in-Ok.topology;
+      read = read.2;
+      iface = c.in-Some.iface;
+      named = sym c.find_iface.ensures ∙ c.in-Some.is;
+      records = there.0;
+      trace = there.1;
+      file = refl;
+    })
+    (c.write_trace_file-outcome.ensures there.0 there.1))

@@ -1,0 +1,78 @@
+-- The word `script`: the steps of a script.
+use Rattle.std.specs.Prelude.{◌≡◌, ◌⊎◌, ℕ, List, Option, Ok, Err}
+use Rattle.nm_topology.specs.Topology.{topology_of}
+use Rattle.nm_topology.specs.TopologyValue.{TopologyValue}
+use Rattle.nm_book.specs.Book.{BookValue}
+use Rattle.nm_rounds.specs.Headline.{Headline}
+use Rattle.nm_rounds.specs.Replay.{IsReplay}
+use Rattle.nm_rounds.specs.declared.replay.Ending.TheVariants.{Ended, NoSuch}
+use Rattle.nm_rounds.specs.declared.step.StepAnswer.{StepAnswer}
+use Rattle.nm_rounds.specs.declared.step.WorldStep.{WorldStep}
+use Rattle.nm_script.specs.Printed.{report_text}
+use Rattle.nm_script.specs.Script.{IsFirstFault, IsScript}
+use Rattle.nm_command.specs.declared.status.Status.{Status}
+use Rattle.nm_command.specs.declared.status.Status.TheVariants.{Done, Usage, NoInterface, ScriptLine, Step, Topology, File, Memory, NotCertified, Stalled}
+use Rattle.nm_words.specs.Input.{IsInput, IsNotRead}
+use Rattle.nm_files.specs.Writing.{WroteAll, WrotePrefix}
+
+-- What is said are the answers to all steps of the script, and the books that they left, as the model's world has them. So the headline holds of them.
+pub record SaysReport (text script octets : List ℕ) : Type 0 where
+  pub network : TopologyValue
+  pub read : topology_of text ≡ Ok network
+  pub steps : List WorldStep
+  pub means : IsScript script steps
+  pub answers : List StepAnswer
+  pub books : List BookValue
+  pub replay : IsReplay network steps answers books Ended
+  pub headline : Headline network answers books
+  pub said : octets ≡ report_text answers books
+
+-- this step of the script, counted from 0, names what is not there
+pub record StopsAt (text script : List ℕ) (step : ℕ) : Type 0 where
+  pub network : TopologyValue
+  pub read : topology_of text ≡ Ok network
+  pub steps : List WorldStep
+  pub means : IsScript script steps
+  pub answers : List StepAnswer
+  pub books : List BookValue
+  pub replay : IsReplay network steps answers books (NoSuch step)
+
+-- the topology is read, and this line of the script, counted from 1, is its first bad one
+pub record HasBadLine (text script : List ℕ) (line : ℕ) : Type 0 where
+  pub network : TopologyValue
+  pub read : topology_of text ≡ Ok network
+  pub bad : IsFirstFault script line
+
+-- why nothing is said
+abbrev pub FailsScript : List ℕ → List ℕ → Status → Type 0
+FailsScript text script Done = ⊥
+FailsScript text script Usage = ⊥
+FailsScript text script NoInterface = ⊥
+FailsScript text script (ScriptLine line) = HasBadLine text script line
+FailsScript text script (Step step) = StopsAt text script step
+FailsScript text script (Topology refusal) = topology_of text ≡ Err refusal
+FailsScript text script File = ⊥
+FailsScript text script Memory = Unit {0}
+FailsScript text script (NotCertified n) = ⊥
+FailsScript text script Stalled = ⊥
+
+-- What each status says. Both inputs are read before anything else is looked at; where the first is not read, the second is not opened.
+module _ {S : Type 0} (taken : S → Option (List ℕ)) (failures : S → ℕ) (told : List ℕ → Option (List ℕ)) (failed_before failed : ℕ) (old new : S) where
+  module _ (topology steps : List ℕ) where
+    abbrev pub AreBothRead : List ℕ → List ℕ → Type 0
+    AreBothRead text script = IsInput (told topology) text × IsInput (told steps) script
+
+    abbrev pub EndsScript : Status → Type 0
+    EndsScript Done = (text : List ℕ) × (script : List ℕ) × AreBothRead text script
+        × ((octets : List ℕ) × SaysReport text script octets × WroteAll taken failures old new octets)
+    EndsScript Usage = ⊥
+    EndsScript NoInterface = ⊥
+    EndsScript (ScriptLine line) = (text : List ℕ) × (script : List ℕ) × AreBothRead text script × HasBadLine text script line × (new ≡ old)
+    EndsScript (Step step) = (text : List ℕ) × (script : List ℕ) × AreBothRead text script × StopsAt text script step × (new ≡ old)
+    EndsScript (Topology refusal) = (text : List ℕ) × (script : List ℕ) × AreBothRead text script × (topology_of text ≡ Err refusal) × (new ≡ old)
+    EndsScript File = ((IsNotRead (told topology) failed_before failed ⊎ IsNotRead (told steps) failed_before failed) × (new ≡ old))
+        ⊎ ((text : List ℕ) × (script : List ℕ) × AreBothRead text script
+        × ((octets : List ℕ) × SaysReport text script octets × WrotePrefix taken failures old new octets))
+    EndsScript Memory = new ≡ old
+    EndsScript (NotCertified n) = ⊥
+    EndsScript Stalled = ⊥

@@ -1,0 +1,19 @@
+//! The words of nullsim that need no network of the host: each as a function over inputs and a sink.
+#![tactic(auto)]
+
+pub mod checking;
+pub mod input;
+pub mod inputs;
+pub mod lines;
+pub mod mem_inputs;
+pub mod output;
+pub mod reading;
+pub mod rounds;
+pub mod script;
+pub mod shown;
+pub mod trace_file;
+pub mod traces;
+
+pub use input::NamedInputs;
+pub use inputs::Inputs;
+pub use mem_inputs::MemInputs;

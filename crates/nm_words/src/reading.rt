@@ -1,0 +1,60 @@
+//! What the inputs of a command have.
+
+ghost use Rattle.std.specs.Prelude.{◌≡◌, IfErr, IfOk, Ok};
+ghost use Rattle.nm_topology.specs.Topology.{topology_of};
+ghost use Rattle.nm_words.specs.Input.{IsInput, IsRefused, IsUnread, ReadsTopology, text_of};
+
+use crate::input::{InputFault, NamedInputs};
+use crate::inputs::Inputs;
+use nm_command::Status;
+use nm_topology::{TopoFault, Topology};
+use std::alloc::Global;
+
+/// The text that the input of a name has.
+pub fn read_text<I: Inputs>(
+    alloc: Global,
+    inputs: &mut NamedInputs<I>,
+    name: &str,
+) -> Result<Vec<u8>, Status>
+    ensures text { IfOk result (λ text. IsInput
+        (text_of I.standard_text I.file_text inputs.old.inputs name.now) text.items) }
+    ensures fault { IfErr result (λ status. IsUnread
+        (text_of I.standard_text I.file_text inputs.old.inputs name.now)
+        inputs.old.failures inputs.new.failures status) }
+    ensures kept { IfOk result (λ _. inputs.new.failures ≡ inputs.old.failures) }
+    ensures same { inputs.new.inputs ≡ inputs.old.inputs }
+{
+    match inputs.read(alloc, name) {
+        Ok(text) => Ok(text),
+        Err(InputFault::Failed | InputFault::TooLong) => Err(Status::File),
+        Err(InputFault::Memory) => Err(Status::Memory),
+    }
+}
+
+/// The topology of a text.
+pub fn read_network(alloc: Global, text: &[u8]) -> Result<Topology, Status>
+    ensures network { IfOk result (λ network. topology_of text.now ≡ Ok network) }
+    ensures refused { IfErr result (λ status. IsRefused text.now status) }
+{
+    match Topology::read(alloc, text) {
+        Ok(topology) => Ok(topology),
+        Err(TopoFault::Refused(refusal)) => Err(Status::Topology(refusal)),
+        Err(TopoFault::Memory) => Err(Status::Memory),
+    }
+}
+
+/// The topology whose text the input of a name has. The text is let go.
+pub fn read_topology<I: Inputs>(
+    alloc: Global,
+    inputs: &mut NamedInputs<I>,
+    name: &str,
+) -> Result<Topology, Status>
+    ensures { ReadsTopology (text_of I.standard_text I.file_text inputs.old.inputs name.now)
+        inputs.old.failures inputs.new.failures result }
+{
+    let text = match read_text(alloc, inputs, name) {
+        Ok(text) => text,
+        Err(status) => return Err(status),
+    };
+    read_network(alloc, text.as_slice())
+}

@@ -1,0 +1,109 @@
+//! The word `rounds`: all partitions in rounds.
+
+ghost use Rattle.std.specs.Prelude.{◌≡◌, ℕ, ◌≤◌, ◌++◌, List, IfOk, Ok, codes, decimal};
+ghost use Rattle.std.specs.Arc.{arc_value};
+ghost use Rattle.nm_rounds.specs.declared.rounds.TheConstants.{MAX_ROUNDS};
+ghost use Rattle.nm_topology.specs.Topology.{topology_of};
+ghost use Rattle.nm_words.specs.Input.{text_of};
+ghost use Rattle.nm_words.specs.Lines.{AreOfPartitions, AreTotals, iface_lines};
+ghost use Rattle.nm_words.specs.Rounds.{EndsRounds, SaysRounds};
+
+use crate::input::NamedInputs;
+use crate::inputs::Inputs;
+use crate::lines::push_lines;
+use crate::output::{Output, put};
+use crate::reading::read_topology;
+use nm_base::{Packet, Sink};
+use nm_book::Book;
+use nm_command::Status;
+use nm_forward::NodeState;
+use nm_model::trace::interfaces_have_their_records;
+use nm_progress::Progress;
+use nm_rounds::rounds::{Rounds, run_rounds_over};
+use nm_sim::trace::every_topology_has_a_trace;
+use nm_text::{push_number, push_text};
+use nm_topology::Topology;
+use std::alloc::{AllocError, Global};
+use std::sync::Arc;
+
+/// A word with a number, and then the lines of all interfaces.
+fn rounds_text(
+    alloc: Global,
+    word: &[u8],
+    number: u64,
+    topology: &Topology,
+    books: &[Book],
+) -> Result<Vec<u8>, AllocError>
+    requires books { AreOfPartitions topology.now books.now }
+    ensures { (totals : ℕ → ℕ × ℕ) → AreTotals topology.now books.now totals
+        → IfOk result (λ text. text.items
+        ≡ word.now ++ codes " " ++ decimal number ++ codes "\n" ++ iface_lines totals topology.now) }
+{
+    let mut text = Vec::new(alloc);
+    push_text(&mut text, word)?;
+    push_text(&mut text, b" ")?;
+    push_number(&mut text, number)?;
+    push_text(&mut text, b"\n")?;
+    push_lines(&mut text, topology, books)?;
+    Ok(text)
+}
+
+/// Lets all partitions run in rounds, and tells what came of it.
+fn rounds_output(
+    alloc: Global,
+    topology: &Arc<Topology>,
+    max: u64,
+    progress: &Progress,
+) -> Result<Output, AllocError>
+    requires some { 1 ≤ max }
+    requires few { max ≤ MAX_ROUNDS }
+    ensures { IfOk result (λ output. (text : List ℕ)
+        → topology_of text ≡ Ok (arc_value topology.now)
+        → SaysRounds max text output.status output.text.items) }
+{
+    every_topology_has_a_trace(topology); // law: there is a trace of the whole run
+    interfaces_have_their_records::<Packet, NodeState>(); // law: they are in their partition's too
+    match run_rounds_over(alloc, topology, max, progress) {
+        Rounds::Done { rounds, books } => Ok(Output {
+            text: rounds_text(alloc, b"done", rounds, topology, books.as_slice())?,
+            status: Status::Done,
+        }),
+        Rounds::Unfinished { rounds, books } => Ok(Output {
+            text: rounds_text(alloc, b"unfinished", rounds, topology, books.as_slice())?,
+            status: Status::Stalled,
+        }),
+        Rounds::Memory => Err(AllocError),
+        Rounds::Topo(_) => unreachable!(),
+    }
+}
+
+/// Lets all partitions run in at most so many rounds, and says what came of it: whether all was
+/// done, in how many rounds, and how many records each interface has.
+pub fn say_rounds<I: Inputs, O: Sink + Drop>(
+    alloc: Global,
+    topology: &str,
+    max: u64,
+    inputs: &mut NamedInputs<I>,
+    out: O,
+    progress: &Progress,
+) -> (Status, O)
+    requires some { 1 ≤ max }
+    requires few { max ≤ MAX_ROUNDS }
+    ensures { EndsRounds O.taken O.failures
+        (text_of I.standard_text I.file_text inputs.old.inputs)
+        inputs.old.failures inputs.new.failures
+        out result.1 topology.entry.now max result.0 }
+{
+    let topology = match read_topology(alloc, inputs, topology) {
+        Ok(topology) => topology,
+        Err(status) => return (status, out),
+    };
+    let Ok(topology) = Arc::new(alloc, topology) else {
+        return (Status::Memory, out);
+    };
+    progress.begin(topology.stop());
+    match rounds_output(alloc, &topology, max, progress) {
+        Ok(output) => put(output, out),
+        Err(_) => (Status::Memory, out),
+    }
+}

@@ -1,0 +1,141 @@
+//! The words `report`, `dot` and `text`: a run or a network in words and pictures.
+
+ghost use Rattle.std.specs.Prelude.{IfOk, OnOk};
+ghost use Rattle.nm_words.specs.Input.{text_of};
+ghost use Rattle.nm_words.specs.Shown.{ArePacketLines, EndsShown, EndsText};
+ghost use Rattle.nm_report.specs.Lines.{EndsLine};
+
+use crate::input::NamedInputs;
+use crate::inputs::Inputs;
+use crate::output::{Output, put};
+use crate::reading::read_topology;
+use crate::traces::find_iface;
+use nm_base::{IfaceNo, Record, Sink};
+use nm_command::Status;
+use nm_progress::Progress;
+use nm_report::{csv_text, dot_text, load_text, measure, push_packet_line, report_text};
+use nm_sim::Tracer;
+use nm_topology::Topology;
+use std::alloc::{AllocError, Global};
+
+/// What is shown of a network.
+#[derive(Clone, Copy)]
+pub enum View {
+    /// The measures of its run as tables.
+    Tables,
+    /// The measures of its run as comma-separated values.
+    Values,
+    /// It as a graph.
+    Graph,
+    /// It as a graph, coloured by the use of its links.
+    Load,
+}
+
+/// A view of a network.
+fn view_text(
+    alloc: Global,
+    network: &Topology,
+    view: View,
+    progress: &Progress,
+) -> Result<Vec<u8>, AllocError>
+    ensures { IfOk result (λ text. EndsLine text.items) }
+{
+    if let View::Graph = view {
+        return dot_text(alloc, network);
+    }
+    progress.begin(network.stop());
+    let measured = measure(alloc, network, progress)?;
+    match view {
+        View::Tables => report_text(alloc, network, &measured),
+        View::Values => csv_text(alloc, network, &measured),
+        View::Graph | View::Load => load_text(alloc, network, &measured),
+    }
+}
+
+/// Says a view of a network.
+pub fn say_view<I: Inputs, O: Sink + Drop>(
+    alloc: Global,
+    topology: &str,
+    view: View,
+    inputs: &mut NamedInputs<I>,
+    out: O,
+    progress: &Progress,
+) -> (Status, O)
+    ensures { EndsShown O.taken O.failures
+        (text_of I.standard_text I.file_text inputs.old.inputs)
+        inputs.old.failures inputs.new.failures
+        out result.1 topology.entry.now result.0 }
+{
+    let network = match read_topology(alloc, inputs, topology) {
+        Ok(network) => network,
+        Err(status) => return (status, out),
+    };
+    match view_text(alloc, &network, view, progress) {
+        Ok(text) => put(
+            Output {
+                text,
+                status: Status::Done,
+            },
+            out,
+        ),
+        Err(_) => (Status::Memory, out),
+    }
+}
+
+/// Appends the line of a record that is at the interface.
+fn push_at(iface: IfaceNo, record: &Record, text: &mut Vec<u8>) -> Result<(), AllocError>
+    requires { ArePacketLines text.old.items }
+    ensures { OnOk result (ArePacketLines text.new.items) }
+{
+    if record.iface != iface {
+        return Ok(());
+    }
+    push_packet_line(text, record)
+}
+
+/// The packets that passed an interface, a line each, in the order of the one event list.
+fn packets_text(alloc: Global, network: &Topology, iface: IfaceNo) -> Result<Vec<u8>, AllocError>
+    ensures { IfOk result (λ text. ArePacketLines text.items) }
+{
+    let mut text = Vec::new(alloc);
+    let mut tracer = Tracer::start(alloc, network)?;
+    for _ in 0..u64::MAX {
+        let Some(record) = tracer.next(alloc, network)? else {
+            return Ok(text);
+        };
+        push_at(iface, &record, &mut text)?;
+    }
+    Err(AllocError)
+}
+
+/// Says what passed the interface of this name.
+pub fn say_text<I: Inputs, O: Sink + Drop>(
+    alloc: Global,
+    topology: &str,
+    iface: &str,
+    inputs: &mut NamedInputs<I>,
+    out: O,
+) -> (Status, O)
+    ensures { EndsText O.taken O.failures
+        (text_of I.standard_text I.file_text inputs.old.inputs)
+        inputs.old.failures inputs.new.failures
+        out result.1 topology.entry.now iface.entry.now result.0 }
+{
+    let network = match read_topology(alloc, inputs, topology) {
+        Ok(network) => network,
+        Err(status) => return (status, out),
+    };
+    let Some(iface) = find_iface(&network, Some(iface)) else {
+        return (Status::NoInterface, out);
+    };
+    match packets_text(alloc, &network, iface) {
+        Ok(text) => put(
+            Output {
+                text,
+                status: Status::Done,
+            },
+            out,
+        ),
+        Err(_) => (Status::Memory, out),
+    }
+}

@@ -1,0 +1,88 @@
+//! The words `one` and `onehex`: the trace file of one interface.
+
+ghost use Rattle.std.specs.Prelude.{◌≡◌, ◌<◌, IfSome, length, option_map, position};
+ghost use Rattle.std.specs.Str.{bytes_eq};
+ghost use Rattle.nm_words.specs.Input.{text_of};
+ghost use Rattle.nm_words.specs.Traces.{EndsTrace, iface_named, outcome_status};
+
+use crate::input::NamedInputs;
+use crate::inputs::Inputs;
+use crate::reading::read_topology;
+use crate::trace_file::write_trace_file;
+use nm_base::{IfaceNo, Sink};
+use nm_command::{Form, Status};
+use nm_files::trace_file::TraceFault;
+use nm_progress::Progress;
+use nm_sim::trace::every_topology_has_a_trace;
+use nm_topology::Topology;
+use nm_topology::parts::Iface;
+use nm_topology::topology::accepted_topologies_are_in_order;
+use std::alloc::Global;
+
+/// Writes the trace file of an interface in a form: of the one that has this name, or of interface
+/// 0 where there is no name.
+pub fn write_trace<I: Inputs, O: Sink + Drop>(
+    alloc: Global,
+    form: Form,
+    topology: &str,
+    iface: Option<&str>,
+    inputs: &mut NamedInputs<I>,
+    out: O,
+    progress: &Progress,
+) -> (Status, O)
+    ensures { EndsTrace O.taken O.failures
+        (text_of I.standard_text I.file_text inputs.old.inputs)
+        inputs.old.failures inputs.new.failures
+        out result.1 form topology.entry.now (option_map (λ n. n.now) iface.entry) result.0 }
+{
+    let topology = match read_topology(alloc, inputs, topology) {
+        Ok(topology) => topology,
+        Err(status) => return (status, out),
+    };
+    let Some(iface) = find_iface(&topology, iface) else {
+        return (Status::NoInterface, out);
+    };
+    every_topology_has_a_trace(&topology); // law: there is an answer, also where it is not written
+    progress.begin(topology.stop());
+    let (outcome, out) = write_trace_file(alloc, &topology, form, iface, out, progress);
+    (status_of(outcome), out)
+}
+
+/// The status of a command whose trace file was written, or was not.
+fn status_of(outcome: Result<(), TraceFault>) -> Status
+    ensures { result ≡ outcome_status outcome }
+{
+    match outcome {
+        Ok(()) => Status::Done,
+        Err(TraceFault::Sink) => Status::File,
+        Err(TraceFault::Memory) => Status::Memory,
+    }
+}
+
+/// The interface of this name, or interface 0 where there is no name.
+pub(crate) fn find_iface(topology: &Topology, name: Option<&str>) -> Option<IfaceNo>
+    ensures { result ≡ iface_named topology.now.ifaces (option_map (λ n. n.now) name.entry) }
+{
+    match name {
+        Some(name) => named_iface(topology, name),
+        None if topology.ifaces().is_empty() => None,
+        None => Some(IfaceNo::new(0)),
+    }
+}
+
+/// The interface of this name.
+fn named_iface(topology: &Topology, name: &str) -> Option<IfaceNo>
+    ensures { result ≡ position (λ i. bytes_eq i.name name.now) topology.now.ifaces }
+{
+    accepted_topologies_are_in_order(topology); // law: interfaces have numbers of 32 bits
+    let index = index_of(topology.ifaces(), name)?;
+    Some(IfaceNo::new(index as u32))
+}
+
+/// Where an interface of this name stands.
+fn index_of(ifaces: &[Iface], name: &str) -> Option<usize>
+    ensures value { result ≡ position (λ i. bytes_eq i.name name.now) ifaces.now }
+    ensures within { IfSome result (λ n. n < length ifaces.now) }
+{
+    ifaces.iter().position(|iface| iface.name() == name)
+}

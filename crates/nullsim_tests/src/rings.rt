@@ -1,0 +1,143 @@
+//! Runs of three routers in a ring.
+
+use crate::gates::Watching;
+use crate::texts::RING;
+use nm_base::IfaceNo;
+use nm_files::MemOutputs;
+use nm_progress::Progress;
+use nm_run::{Report, RunFault, RunPlan, run_all};
+use nm_topology::Topology;
+use std::alloc::Global;
+use std::net::Net;
+use std::process::Abort;
+use std::sync::atomic::Ordering;
+use std::sync::{Arc, Wait};
+use std::test::Fail;
+use std::thread::Threads;
+use std::{io, net};
+
+/// Files in memory: so many, of so many octets at most.
+fn files_of(alloc: Global, room: usize, file_octets: usize) -> MemOutputs {
+    MemOutputs {
+        alloc,
+        file_octets,
+        room,
+        files: Vec::new(alloc),
+    }
+}
+
+/// Runs the ring.
+fn run_ring<R>(
+    rt: &R,
+    alloc: Global,
+    replicas: u8,
+    outputs: &mut MemOutputs,
+    gate: &Watching,
+) -> io::Result<Result<Report, RunFault>>
+where
+    R: Net<Stream = net::TcpStream, Listener = net::TcpListener>
+        + Threads
+        + Wait
+        + Sync
+        + Drop
+        + Copy,
+{
+    let Ok(topology) = Topology::read(alloc, RING.as_bytes()) else {
+        return Err(io::ErrorKind::Other.into());
+    };
+    let topology = Arc::new(alloc, topology)?;
+    let plan = RunPlan {
+        topology: &topology,
+        folder: "out",
+        workers: 2,
+        replicas,
+        progress: &Progress::new(),
+    };
+    Ok(run_all(rt, alloc, &plan, outputs, gate))
+}
+
+/// The octets of all files.
+fn octets_of(outputs: &MemOutputs) -> usize {
+    let mut octets = 0usize;
+    for file in &outputs.files {
+        octets = octets.saturating_add(file.octets.len());
+    }
+    octets
+}
+
+/// The run has the ring's totals, and as many files.
+fn is_whole(rt: &impl Abort, outcome: &Result<Report, RunFault>, outputs: &MemOutputs) {
+    let wanted = [256u64, 256, 256, 256, 24, 24];
+    let Ok(report) = outcome else {
+        assert!(rt; false, "no report");
+        return;
+    };
+    assert!(rt; report.totals.len() == 6 && outputs.files.len() == 6);
+    for number in 0..6 {
+        assert!(rt; report.totals[number].octets == wanted[number]);
+    }
+    assert!(rt; octets_of(outputs) == 4 * 256 + 2 * 24);
+}
+
+/// A run with one replica of each partition, and with two.
+#[test]
+fn a_ring_is_certified(rt: HostRuntime) -> Result<(), Fail> {
+    for replicas in 1..3 {
+        let gate = Watching::new(true, false);
+        let mut outputs = files_of(rt.alloc(), 6, 1_000);
+        let outcome = run_ring(&rt, rt.alloc(), replicas, &mut outputs, &gate)?;
+        is_whole(&rt, &outcome, &outputs);
+        assert!(rt; gate.most.load(Ordering::SeqCst) >= 48);
+    }
+    Ok(())
+}
+
+/// Two workers run two books at once.
+#[test]
+fn run_two_at_once(rt: HostRuntime) -> Result<(), Fail> {
+    let gate = Watching::new(true, true);
+    let mut outputs = files_of(rt.alloc(), 6, 1_000);
+    let outcome = run_ring(&rt, rt.alloc(), 1, &mut outputs, &gate)?;
+    is_whole(&rt, &outcome, &outputs);
+    assert!(rt; gate.first.load(Ordering::SeqCst) && gate.second.load(Ordering::SeqCst));
+    assert!(rt; !gate.was_alone.load(Ordering::SeqCst));
+    Ok(())
+}
+
+/// A gate that lets nobody go on ends the run.
+#[test]
+fn run_asks_its_polls(rt: HostRuntime) -> Result<(), Fail> {
+    let gate = Watching::new(false, false);
+    let mut outputs = files_of(rt.alloc(), 6, 1_000);
+    let outcome = run_ring(&rt, rt.alloc(), 1, &mut outputs, &gate)?;
+    assert!(rt; outcome.err() == Some(RunFault::Net));
+    Ok(())
+}
+
+/// Whether the file of one of these interfaces failed when it had so many octets.
+fn has_failed(fault: &Option<RunFault>, ifaces: &[u32], written: u64) -> bool {
+    for number in ifaces {
+        let iface = IfaceNo::new(*number);
+        if *fault == Some(RunFault::File { iface, written }) {
+            return true;
+        }
+    }
+    false
+}
+
+/// A file that cannot be made, and one that takes less than it is to have. With 200 octets each, any
+/// of the files that are to have 256 may be the first to fail.
+#[test]
+fn files_that_fail(rt: HostRuntime) -> Result<(), Fail> {
+    for (room, octets, ifaces, written) in [
+        (3usize, 1_000usize, [2u32, 2, 2, 2], 0u64),
+        (6, 10, [0, 0, 0, 0], 10),
+        (6, 200, [0, 1, 2, 3], 200),
+    ] {
+        let gate = Watching::new(true, false);
+        let mut outputs = files_of(rt.alloc(), room, octets);
+        let fault = run_ring(&rt, rt.alloc(), 1, &mut outputs, &gate)?.err();
+        assert!(rt; has_failed(&fault, &ifaces, written));
+    }
+    Ok(())
+}
