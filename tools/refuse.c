@@ -1,19 +1,27 @@
-/* Refuses one allocation of a program: the one that the variable REFUSE numbers, from 1. Where it comes to that, it makes the file that the
-   variable REFUSED names. tools/refuse-growths loads it before the C library. */
+/* Refuses calls of a program for what the system may not have: the allocation that the variable REFUSE numbers, from 1, or the thread that REFUSE_THREAD
+   numbers, or every thread where that is `all`. Where it refuses one, it makes the file that the variable REFUSED names. tools/refuse-growths and
+   tools/refuse-threads load it before the C library. */
 #define _GNU_SOURCE
 #include <dlfcn.h>
+#include <errno.h>
 #include <fcntl.h>
+#include <pthread.h>
 #include <stdlib.h>
+#include <string.h>
 #include <unistd.h>
 
-static long count;
+static long allocations;
+static long threads;
 
-/* Whether this allocation is the one to refuse. */
-static int is_refused(void)
+/* Whether this call is one to refuse: the variable numbers it, or says `all`. */
+static int is_refused(const char *variable, long *count)
 {
-    const char *number = getenv("REFUSE");
+    const char *which = getenv(variable);
     const char *mark = getenv("REFUSED");
-    if (!number || !mark || ++count != atol(number))
+    if (!which || !mark)
+        return 0;
+    long number = __atomic_add_fetch(count, 1, __ATOMIC_SEQ_CST);
+    if (strcmp(which, "all") != 0 && number != atol(which))
         return 0;
     int file = open(mark, O_WRONLY | O_CREAT, 0600);
     if (file >= 0)
@@ -26,7 +34,7 @@ void *malloc(size_t octets)
     static void *(*next)(size_t);
     if (!next)
         next = (void *(*)(size_t))dlsym(RTLD_NEXT, "malloc");
-    return is_refused() ? NULL : next(octets);
+    return is_refused("REFUSE", &allocations) ? NULL : next(octets);
 }
 
 void *realloc(void *old, size_t octets)
@@ -34,5 +42,13 @@ void *realloc(void *old, size_t octets)
     static void *(*next)(void *, size_t);
     if (!next)
         next = (void *(*)(void *, size_t))dlsym(RTLD_NEXT, "realloc");
-    return is_refused() ? NULL : next(old, octets);
+    return is_refused("REFUSE", &allocations) ? NULL : next(old, octets);
+}
+
+int pthread_create(pthread_t *thread, const pthread_attr_t *how, void *(*run)(void *), void *given)
+{
+    static int (*next)(pthread_t *, const pthread_attr_t *, void *(*)(void *), void *);
+    if (!next)
+        next = (int (*)(pthread_t *, const pthread_attr_t *, void *(*)(void *), void *))dlsym(RTLD_NEXT, "pthread_create");
+    return is_refused("REFUSE_THREAD", &threads) ? EAGAIN : next(thread, how, run, given);
 }

@@ -1,2 +1,3 @@
+pub mod Numbered
 mod Order
 pub mod Sinks

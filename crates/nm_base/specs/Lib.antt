@@ -1,4 +1,5 @@
 pub mod Count
 pub mod Key
 pub mod Sink
+pub mod Text
 pub mod Wire

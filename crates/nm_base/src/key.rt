@@ -1,7 +1,8 @@
 //! Keys of events: when, where and which.
 
 ghost use Rattle.std.specs.Prelude.{◌≡◌, ◌^◌, refl};
-ghost use Rattle.std.specs.Cmp.{partial_order_from_total, partial_equiv_from_equiv, eq_by_cmp_equiv};
+ghost use Rattle.std.specs.Cmp.{partial_order_from_total, partial_equiv_from_equiv};
+ghost use Rattle.std.specs.Cmp.{eq_by_cmp_equiv};
 ghost use Rattle.std.specs.Ordering.{as_partial_cmp, eq_by_cmp};
 ghost use Rattle.nm_base.specs.Key.{key_cmp, key_cmp_total, place_number, IsPlaceOf};
 

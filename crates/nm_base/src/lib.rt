@@ -14,6 +14,7 @@ pub mod packet;
 pub mod record;
 pub mod sink;
 pub mod std_sink;
+pub mod text;
 pub mod time;
 pub mod wire;
 
@@ -27,5 +28,6 @@ pub use packet::{Packet, Twin};
 pub use record::{Dir, Record};
 pub use sink::{Sink, SinkFault};
 pub use std_sink::StdSink;
+pub use text::{number_of, push_number, push_text, split_once};
 pub use time::Time;
 pub use wire::Wire;

@@ -1,5 +1,6 @@
-//! The limits of a simulation, each stated once. What is past a limit is refused, and the refusal
-//! names it.
+//! The limits of what a user may ask for and of what a peer may send, each stated once. What is
+//! past a limit is refused, and the refusal names it. How often and how long a loop waits and tries
+//! stands with the loop (`nm_net::limits`).
 
 /// The greatest `stop`, 10^15 nanoseconds, which is 11 days and 13 hours. Each record is before it.
 pub const MAX_TIME: u64 = 1_000_000_000_000_000;
@@ -56,3 +57,43 @@ pub const MAX_COUNT: u64 = 1_000_000_000;
 
 /// The greatest number of octets of a topology text.
 pub const MAX_TEXT_OCTETS: usize = 16_777_216;
+
+/// The greatest number of octets of an input: 64 MiB.
+pub const MAX_INPUT_OCTETS: u64 = 67_108_864;
+
+/// The greatest number of steps of a script.
+pub const MAX_SCRIPT_STEPS: usize = 1_000_000;
+
+/// How many rounds may be asked for.
+pub const MAX_ROUNDS: u64 = 1_000_000_000;
+
+/// The greatest number of a partition, and of a replica of one.
+pub const MAX_PARTITION: u64 = 63;
+
+pub const MAX_REPLICA: u64 = 1;
+
+/// How many replicas a partition may have.
+pub const MAX_REPLICAS: u8 = 2;
+
+/// The most threads that run books.
+pub const MAX_WORKERS: u64 = 64;
+
+/// The greatest number of events of a part. One more is refused as if its memory were.
+pub const MAX_PART_STEPS: u64 = 1 << 62;
+
+/// The most messages of a channel. One more is refused as if its memory were.
+pub const MAX_MESSAGES: usize = 1 << 50;
+
+/// The most octets of a frame behind its length, and with it.
+pub const MAX_BODY_OCTETS: usize = 65_556;
+
+pub const MAX_FRAME_OCTETS: usize = 65_560;
+
+/// The most octets that one read of a link asks for.
+pub const MAX_READ_OCTETS: usize = 65_536;
+
+/// A link takes no new frame into its buffer while so many octets or more wait there.
+pub const FULL_OUT_OCTETS: usize = 131_072;
+
+/// The most octets that wait in it: one less than full, and a frame.
+pub const MAX_OUT_OCTETS: usize = 196_631;

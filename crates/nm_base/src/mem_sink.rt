@@ -1,6 +1,7 @@
 //! A sink in memory, with a budget.
 
-ghost use Rattle.std.specs.Prelude.{◌≡◌, ℕ, ◌+◌, ◌-◌, ◌<◌, ◌≤◌, ◌++◌, List, [], Some, min, take, length, vec_len, vec_capacity, IfOk, IsOk, OnErr, ◌↔◌};
+ghost use Rattle.std.specs.Prelude.{◌≡◌, ℕ, ◌+◌, ◌-◌, ◌<◌, ◌≤◌, ◌++◌, List, [], Some, min, take};
+ghost use Rattle.std.specs.Prelude.{length, vec_len, vec_capacity, IfOk, IsOk, OnErr, ◌↔◌};
 
 use crate::failures::FailureCount;
 use crate::sink::{Sink, SinkFault};

@@ -97,7 +97,9 @@ impl MemWire {
 
 impl Wire for MemWire {
     ghost use Rattle.std.specs.Prelude.{drop, take};
-    ghost use Rattle.nm_base.specs.Wire.{ReadDoes, after_copy, after_read, after_write, given_octets, read_answer, read_count, write_answer, write_count};
+    ghost use Rattle.nm_base.specs.Wire.{ReadDoes, after_copy, after_read, after_write};
+    ghost use Rattle.nm_base.specs.Wire.{given_octets, read_answer, read_count, write_answer};
+    ghost use Rattle.nm_base.specs.Wire.{write_count};
 
     ghost given = { given_octets };
 

@@ -1,6 +1,7 @@
 //! Sinks: where octets go. A sink may take a part of what it is given, and may fail.
 
-ghost use Rattle.std.specs.Prelude.{◌≡◌, ℕ, ◌+◌, ◌<◌, ◌≤◌, List, Option, length, take, is_ok, if◌then◌else◌, OnOk, IfOk, IfErr};
+ghost use Rattle.std.specs.Prelude.{◌≡◌, ℕ, ◌+◌, ◌<◌, ◌≤◌, List, Option, length, take, is_ok};
+ghost use Rattle.std.specs.Prelude.{if◌then◌else◌, OnOk, IfOk, IfErr};
 ghost use Rattle.std.specs.Io.KnownBytes.{Appends, WriteAppends};
 
 use thiserror::Error;

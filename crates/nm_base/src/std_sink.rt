@@ -1,6 +1,7 @@
 //! A sink over a writer of the standard library.
 
-ghost use Rattle.std.specs.Prelude.{◌≡◌, ℕ, ◌+◌, if◌then◌else◌, is_ok, nat_lt, MatchResult, None, Some};
+ghost use Rattle.std.specs.Prelude.{◌≡◌, ℕ, ◌+◌, if◌then◌else◌, is_ok, nat_lt, MatchResult, None};
+ghost use Rattle.std.specs.Prelude.{Some};
 ghost use Rattle.std.specs.Io.KnownBytes.{Keeps};
 
 use crate::failures::FailureCount;

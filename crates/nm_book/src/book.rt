@@ -1,6 +1,7 @@
 //! A replica of a partition.
 
-ghost use Rattle.std.specs.Prelude.{◌≡◌, ◌+◌, true, false, Err, IfOk, drop, if◌then◌else◌, is_some, length, replicate, slice_get, slice_index_or};
+ghost use Rattle.std.specs.Prelude.{◌≡◌, ◌+◌, true, false, Err, IfOk, drop, if◌then◌else◌, is_some};
+ghost use Rattle.std.specs.Prelude.{length, replicate, slice_get, slice_index_or};
 ghost use Rattle.std.specs.Arc.{arc_value};
 ghost use Rattle.std.specs.Option.{option_and_then, option_map};
 ghost use Rattle.nm_model.specs.Certificate.{is_done};
@@ -10,8 +11,10 @@ ghost use Rattle.nm_model.specs.Promise.{Plain, Tight};
 ghost use Rattle.nm_model.specs.Replica.{IsWithin};
 ghost use Rattle.nm_sim.specs.Network.{net_of};
 ghost use Rattle.nm_sim.specs.Records.{totals_at};
-ghost use Rattle.nm_book.specs.Book.{IsBook, Takes, data_taken, is_replica, message_channel, message_taken, null_taken};
-ghost use Rattle.nm_book.specs.Book.{data_from, knowledge, is_incoming, is_outgoing, null_on, only_if, promise_on, replica_of, safe_of, sent_on, state_of};
+ghost use Rattle.nm_book.specs.Book.{IsBook, Takes, data_taken, is_replica, message_channel};
+ghost use Rattle.nm_book.specs.Book.{message_taken, null_taken};
+ghost use Rattle.nm_book.specs.Book.{data_from, knowledge, is_incoming, is_outgoing, null_on};
+ghost use Rattle.nm_book.specs.Book.{only_if, promise_on, replica_of, safe_of, sent_on, state_of};
 ghost use Rattle.nm_book.specs.Merging.{BookMerges};
 ghost use Rattle.nm_book.specs.Running.{Runs};
 ghost use Rattle.nm_book.specs.declared.fault.BookFault.TheVariants.{NoSuch};
@@ -25,6 +28,7 @@ use crate::message::{ChannelMessage, Data, Null};
 use crate::promise::{plain_promise, tight_promise};
 use crate::running::{Ran, is_finished, run_part};
 use crate::safe::{safe_time, safe_time_after};
+use nm_base::limits::MAX_REPLICAS;
 use nm_base::{ChanNo, IfaceNo, Packet, PartNo, Record, Time};
 use nm_events::HeapList;
 use nm_forward::NodeState;
@@ -35,9 +39,6 @@ use nm_topology::Topology;
 use std::alloc::{AllocError, Global};
 use std::marker::Model;
 use std::sync::Arc;
-
-/// How many replicas a partition may have.
-pub const MAX_REPLICAS: u8 = 2;
 
 /// A replica of a partition: what it knows of each channel that comes in, and the part of the
 /// simulation that it did with that. Its state is a function of what it knows and of how many

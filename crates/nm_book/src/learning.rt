@@ -1,6 +1,7 @@
 //! What a replica learns of a channel.
 
-ghost use Rattle.std.specs.Prelude.{◌≡◌, ℕ, ◌+◌, ◌<◌, ◌≤◌, true, List, IfErr, OnErr, OnOk, length, slice_set};
+ghost use Rattle.std.specs.Prelude.{◌≡◌, ℕ, ◌+◌, ◌<◌, ◌≤◌, true, List, IfErr, OnErr, OnOk, length};
+ghost use Rattle.std.specs.Prelude.{slice_set};
 ghost use Rattle.nm_model.specs.Knowledge.{Know as Knowledge};
 ghost use Rattle.nm_model.specs.Accept.{New as IsNew};
 ghost use Rattle.nm_model.specs.Partition.{comes_in};

@@ -10,7 +10,8 @@ ghost use Rattle.nm_sim.specs.Network.{net_of};
 ghost use Rattle.nm_topology.specs.Topology.{receiving_iface};
 ghost use Rattle.nm_topology.specs.TopologyValue.{TopologyValue};
 ghost use Rattle.nm_book.specs.Book.{IsBook};
-ghost use Rattle.nm_book.specs.Merging.{AreGains, AreJoinable, AreJoined, AreTold, Checks, IsGainOf, IsGrown, IsTurnOf, Merges, with_gain};
+ghost use Rattle.nm_book.specs.Merging.{AreGains, AreJoinable, AreJoined, AreTold, Checks};
+ghost use Rattle.nm_book.specs.Merging.{IsGainOf, IsGrown, IsTurnOf, Merges, with_gain};
 ghost use Rattle.nm_book.specs.Telling.{Follow, told};
 
 use crate::channels::comes_in;

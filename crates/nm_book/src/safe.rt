@@ -1,6 +1,7 @@
 //! The safe time.
 
-ghost use Rattle.std.specs.Prelude.{◌≡◌, ℕ, ◌<◌, ◌≤◌, if◌then◌else◌, List, length, slice_index_or, slice_set};
+ghost use Rattle.std.specs.Prelude.{◌≡◌, ℕ, ◌<◌, ◌≤◌, if◌then◌else◌, List, length, slice_index_or};
+ghost use Rattle.std.specs.Prelude.{slice_set};
 ghost use Rattle.nm_model.specs.Knowledge.{Know as Knowledge, nothing_known};
 ghost use Rattle.nm_model.specs.Partition.{comes_in};
 ghost use Rattle.nm_model.specs.Replica.{safe_time};
@@ -49,8 +50,8 @@ pub(crate) fn safe_time(topology: &Topology, partition: PartNo, knows: &[Know]) 
     safe
 }
 
-/// The safe time after the clock of a channel rose from this time. It is another one only where that
-/// clock held it back.
+/// The safe time after the clock of a channel rose from this time. It is another one only where
+/// that clock held it back.
 pub(crate) fn safe_time_after(
     topology: &Topology,
     partition: PartNo,

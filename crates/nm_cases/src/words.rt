@@ -1,6 +1,6 @@
 //! The words of a line.
 
-use nm_text::number_of;
+use nm_base::number_of;
 use std::io;
 
 /// The words of a command: its name, and what it is about.

@@ -4,8 +4,7 @@ use Rattle.std.proofs.Common.{Result, Ok, Err, refl, sym, ap, ◌∙◌, subst, 
 use Rattle.std.specs.Prelude.{codes, if◌then◌else◌, unwrap_or, ◌==◌}
 use Rattle.std.specs.Result.{result_ok}
 use Rattle.toml.specs.Data.{Data, Members, get_member}
-use Rattle.nm_base.specs.declared.limits.TheConstants.{MAX_IFACES, MAX_LINKS, MAX_MTU, MAX_NODES}
-use Rattle.nm_base.specs.declared.limits.TheConstants.{MAX_ROUTES, MAX_SOURCES, MAX_TIME, MIN_MTU}
+use Rattle.nm_base.specs.declared.limits.TheConstants.{MAX_IFACES, MAX_LINKS, MAX_MTU, MAX_NODES, MAX_ROUTES, MAX_SOURCES, MAX_TIME, MIN_MTU}
 use Rattle.nm_topology.specs.declared.fault.Refusal.{Refusal}
 use Rattle.nm_topology.specs.declared.fault.Refusal.TheVariants.{UnknownKey}
 use Rattle.nm_topology.specs.declared.parse.head.Format.{Format}

@@ -13,8 +13,7 @@ use Rattle.nm_topology.specs.Parse.Arrays.{all_fit, count, in_table, is_table}
 use Rattle.nm_topology.specs.Parse.Sources.{source_table_of}
 use Rattle.nm_topology.specs.Parse.Tables.{iface_table_of, link_table_of, node_table_of}
 use Rattle.nm_topology.specs.Parse.Tables.{route_table_of}
-use Rattle.nm_base.specs.declared.limits.TheConstants.{MAX_IFACES, MAX_LINKS, MAX_NODES}
-use Rattle.nm_base.specs.declared.limits.TheConstants.{MAX_ROUTES, MAX_SOURCES}
+use Rattle.nm_base.specs.declared.limits.TheConstants.{MAX_IFACES, MAX_LINKS, MAX_NODES, MAX_ROUTES, MAX_SOURCES}
 use Rattle.nm_check.specs.declared.array.Array.{Array}
 use Rattle.nm_check.specs.declared.array.Array.TheVariants as array_of
 use Rattle.nm_check.specs.declared.field.Field.{Field}

@@ -4,10 +4,7 @@ use Rattle.std.proofs.Common.{Ok, Err, refl, sym, ap, ◌∙◌}
 use Rattle.std.specs.Prelude.{codes, if◌then◌else◌}
 use Rattle.std.specs.Str.{bytes_eq}
 use Rattle.toml.specs.Data.{Data, Members, get_member, string, table}
-use Rattle.nm_base.specs.declared.limits.TheConstants.{MAX_COUNT, MAX_DELAY, MAX_INTERVAL}
-use Rattle.nm_base.specs.declared.limits.TheConstants.{MAX_PORTS_OF_NODE, MAX_QUEUE}
-use Rattle.nm_base.specs.declared.limits.TheConstants.{MAX_QUEUE_OCTETS, MAX_RATE, MAX_TIME}
-use Rattle.nm_base.specs.declared.limits.TheConstants.{MIN_RATE}
+use Rattle.nm_base.specs.declared.limits.TheConstants.{MAX_COUNT, MAX_DELAY, MAX_INTERVAL, MAX_PORTS_OF_NODE, MAX_QUEUE, MAX_QUEUE_OCTETS, MAX_RATE, MAX_TIME, MIN_RATE}
 use Rattle.nm_topology.specs.declared.fault.Refusal.{Refusal}
 use Rattle.nm_topology.specs.declared.fault.Refusal.TheVariants.{UnknownKey}
 use Rattle.nm_topology.specs.declared.parse.head.Format.{Format}

@@ -1,7 +1,6 @@
 -- The keys of a topology text, as they stand in one, and its arrays of tables.
 use Rattle.std.specs.Prelude.{ℕ, List, codes}
-use Rattle.nm_base.specs.declared.limits.TheConstants.{MAX_IFACES, MAX_LINKS, MAX_NODES, MAX_ROUTES}
-use Rattle.nm_base.specs.declared.limits.TheConstants.{MAX_SOURCES}
+use Rattle.nm_base.specs.declared.limits.TheConstants.{MAX_IFACES, MAX_LINKS, MAX_NODES, MAX_ROUTES, MAX_SOURCES}
 use Rattle.nm_check.specs.declared.array.Array.{Array}
 use Rattle.nm_check.specs.declared.array.Array.TheVariants as array
 use Rattle.nm_check.specs.declared.key.Key.{Key}

@@ -1,7 +1,7 @@
 //! Text in pieces.
 
+use nm_base::{push_number, push_text};
 use nm_packet::Address;
-use nm_text::{push_number, push_text};
 use std::alloc::AllocError;
 
 /// The most octets of a text that are shown.

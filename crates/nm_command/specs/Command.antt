@@ -3,10 +3,9 @@ use Rattle.std.specs.Prelude.{Bool, true, false, ℕ, ◌+◌, ◌≤◌, ◌&&�
 use Rattle.std.specs.Str.{bytes_eq}
 use Rattle.nm_command.specs.declared.command.Command.{Command}
 use Rattle.nm_command.specs.declared.command.Command.TheVariants as command
-use Rattle.nm_command.specs.declared.command.TheConstants.{MAX_PARTITION, MAX_REPLICA, MAX_REPLICAS, MAX_WORKERS}
+use Rattle.nm_base.specs.declared.limits.TheConstants.{MAX_PARTITION, MAX_REPLICA, MAX_REPLICAS, MAX_ROUNDS, MAX_WORKERS}
 use Rattle.nm_pcap.specs.declared.form.Form.{Form}
 use Rattle.nm_pcap.specs.declared.form.Form.TheVariants.{Octets, Hexadecimal}
-use Rattle.nm_rounds.specs.declared.rounds.TheConstants.{MAX_ROUNDS}
 use Rattle.nm_topology.specs.Parse.Forms.{least_below}
 
 -- what the program is asked to do, with the names of inputs as octets

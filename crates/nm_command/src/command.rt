@@ -1,24 +1,16 @@
 //! The words of the program.
 
-ghost use Rattle.std.specs.Prelude.{◌≡◌, ℕ, ◌≤◌, map, IfSome, Some, decimal, option_map, string_bytes};
-ghost use Rattle.nm_command.specs.Command.{IsWithinLimits, command_of, command_value, form_of, node_of, number_in, of_five, of_six, of_three, of_two, run_of, shown_of, trace_from};
-ghost use Rattle.nm_command.specs.declared.command.TheConstants.{MAX_PARTITION, MAX_REPLICA, MAX_REPLICAS, MAX_WORKERS};
+ghost use Rattle.std.specs.Prelude.{◌≡◌, ℕ, ◌≤◌, map, IfSome, Some, decimal, option_map};
+ghost use Rattle.std.specs.Prelude.{string_bytes};
+ghost use Rattle.nm_command.specs.Command.{IsWithinLimits, command_of, command_value, form_of};
+ghost use Rattle.nm_command.specs.Command.{node_of, number_in, of_five, of_six, of_three, of_two};
+ghost use Rattle.nm_command.specs.Command.{run_of, shown_of, trace_from};
+ghost use Rattle.nm_base.specs.declared.limits.TheConstants.{MAX_PARTITION, MAX_REPLICA};
+ghost use Rattle.nm_base.specs.declared.limits.TheConstants.{MAX_REPLICAS, MAX_WORKERS};
 
+use nm_base::limits::{MAX_PARTITION, MAX_REPLICA, MAX_REPLICAS, MAX_ROUNDS, MAX_WORKERS};
+use nm_base::number_of;
 use nm_pcap::Form;
-use nm_rounds::rounds::MAX_ROUNDS;
-use nm_text::number_of;
-
-/// The greatest number of a partition.
-pub const MAX_PARTITION: u64 = 63;
-
-/// The greatest number of a replica.
-pub const MAX_REPLICA: u64 = 1;
-
-/// The most threads that run books.
-pub const MAX_WORKERS: u64 = 64;
-
-/// The most replicas of a partition.
-pub const MAX_REPLICAS: u64 = 2;
 
 /// What the program is to do. Each input is named by the file that has it, or by `-`, which is
 /// standard input. A clause sees the names as octets.
@@ -72,7 +64,8 @@ pub enum Command<'a> {
         /// The name of the interface.
         iface: &'a str,
     },
-    /// To run all partitions at once, each as one or two replicas, and to certify what they come to.
+    /// To run all partitions at once, each as one or two replicas, and to certify what they come
+    /// to.
     Run {
         /// The input with the topology text.
         topology: &'a str,
@@ -236,7 +229,7 @@ fn run_of<'a>(
     ensures limits { IfSome result IsWithinLimits }
 {
     let workers = number_in(workers, 1, MAX_WORKERS)?;
-    let replicas = number_in(replicas, 1, MAX_REPLICAS)?;
+    let replicas = number_in(replicas, 1, MAX_REPLICAS as u64)?;
     Some(Command::Run {
         topology,
         folder,

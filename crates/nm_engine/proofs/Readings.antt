@@ -10,7 +10,7 @@ use Rattle.nm_frames.specs.Reader.{FedFault, ReaderValue}
 use Rattle.nm_frames.specs.Stream.{fault_shown}
 use Rattle.nm_engine.specs.declared.answer.Cause.{Cause}
 use Rattle.nm_engine.specs.declared.answer.Cause.TheVariants.{End, Fault, Frame as BadFrame, Session as BadSession, Book, Memory}
-use Rattle.nm_engine.specs.declared.limits.TheConstants.{MAX_FRAME_OCTETS, MAX_READ_OCTETS}
+use Rattle.nm_base.specs.declared.limits.TheConstants.{MAX_FRAME_OCTETS, MAX_READ_OCTETS}
 use Rattle.nm_engine.specs.Reading.{Came, FeedsReader, IsFramed, Reads}
 
 -- no octets, no frames

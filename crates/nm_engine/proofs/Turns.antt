@@ -11,7 +11,7 @@ use Rattle.nm_frames.specs.Session.{SessionValue}
 use Rattle.nm_engine.specs.declared.answer.Cause.{Cause}
 use Rattle.nm_engine.specs.declared.answer.Cause.TheVariants.{End, Fault, Frame as BadFrame, Session as BadSession, Book, Memory}
 use Rattle.nm_engine.specs.declared.answer.Turn.TheVariants.{Progress, Idle}
-use Rattle.nm_engine.specs.declared.limits.TheConstants.{MAX_READ_OCTETS}
+use Rattle.nm_base.specs.declared.limits.TheConstants.{MAX_READ_OCTETS}
 use Rattle.nm_engine.specs.Giving.{GivesFrames, GivesOr}
 use Rattle.nm_engine.specs.Acceptor.{AcceptorValue}
 use Rattle.nm_engine.specs.Lives.{LinkLives}

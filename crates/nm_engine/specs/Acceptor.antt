@@ -29,7 +29,7 @@ first_taken h (Data message) = Err Order
 first_taken h (Null promise) = Err Order
 first_taken h Bye = Err Order
 
--- the session after a frame, or why it is refused; a link has a session or a acceptor that awaits one
+-- the session after a frame, or why it is refused; a link has a session or an acceptor that awaits one
 abbrev pub taken_at : Option AcceptorValue → Option SessionValue → Frame → Result SessionValue SessionFault
 taken_at acceptor (Some s) f = taken s f
 taken_at (Some h) None f = first_taken h f

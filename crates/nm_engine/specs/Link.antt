@@ -1,8 +1,8 @@
 -- What contracts see of a link.
-use Rattle.std.specs.Prelude.{ℕ, ◌+◌, ◌<◌, ◌≤◌, Bool, List, length, Option}
+use Rattle.std.specs.Prelude.{ℕ, ◌+◌, ◌<◌, ◌≤◌, Bool, false, List, length, Option, Some, None, is_some}
 use Rattle.nm_frames.specs.Session.{SessionValue}
 use Rattle.nm_engine.specs.Acceptor.{AcceptorValue}
-use Rattle.nm_engine.specs.declared.limits.TheConstants.{MAX_FRAME_OCTETS, MAX_OUT_OCTETS}
+use Rattle.nm_base.specs.declared.limits.TheConstants.{MAX_FRAME_OCTETS, MAX_OUT_OCTETS}
 
 pub record LinkValue (W : Type 0) : Type 0 where
   pub wire : W
@@ -20,3 +20,8 @@ pub record LinkValue (W : Type 0) : Type 0 where
 pub record IsBounded (rest out : List ℕ) : Type 0 where
   pub rest_most : length rest < MAX_FRAME_OCTETS
   pub out_most : length out ≤ MAX_OUT_OCTETS
+
+-- the peer's Hello was taken
+abbrev pub has_greeted : Option SessionValue → Bool
+has_greeted None = false
+has_greeted (Some session) = is_some session.hello_taken

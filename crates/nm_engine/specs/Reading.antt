@@ -8,7 +8,7 @@ use Rattle.nm_frames.specs.Reader.{ReaderValue}
 use Rattle.nm_frames.specs.Stream.{fault_shown}
 use Rattle.nm_engine.specs.declared.answer.Cause.{Cause}
 use Rattle.nm_engine.specs.declared.answer.Cause.TheVariants.{End, Fault, Frame as BadFrame, Session as BadSession, Book, Memory}
-use Rattle.nm_engine.specs.declared.limits.TheConstants.{MAX_READ_OCTETS}
+use Rattle.nm_base.specs.declared.limits.TheConstants.{MAX_READ_OCTETS}
 
 -- octets are those of these frames, and then a rest
 pub record IsFramed (octets : List ℕ) (frames : List Frame) (rest : List ℕ) : Type 0 where

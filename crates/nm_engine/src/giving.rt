@@ -7,7 +7,7 @@ ghost use Rattle.std.specs.Prelude.{Option};
 
 use crate::acts::NextOut;
 use crate::answer::Cause;
-use crate::limits::{FULL_OUT_OCTETS, MAX_FRAME_OCTETS, MAX_OUT_OCTETS};
+use nm_base::limits::{FULL_OUT_OCTETS, MAX_FRAME_OCTETS, MAX_OUT_OCTETS};
 use nm_frames::{Session, write_frame};
 use nm_shared::{Counts, Pass, SharedBook};
 use std::sync::Wait;

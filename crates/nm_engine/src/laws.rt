@@ -22,7 +22,7 @@ pub fn nothing_is_lost<W>()
 /// is due there: that of the session's cursor or of the peer's last Have, and then one more each
 /// time.
 pub fn messages_are_consecutive()
-    ensures { (h : Option AcceptorValue) (s t : Option SessionValue) (steps : List SessionStep) (c : ℕ)
-        (due : Option ℕ) → HasDue c due s → LinkLives h s steps t
+    ensures { (h : Option AcceptorValue) (s t : Option SessionValue) (steps : List SessionStep)
+        (c : ℕ) (due : Option ℕ) → HasDue c due s → LinkLives h s steps t
         → AreConsecutive c due steps × HasDue c (due_after c due steps) t }
 {}

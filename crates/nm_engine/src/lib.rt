@@ -6,7 +6,6 @@ pub mod acts;
 pub mod answer;
 mod giving;
 pub mod laws;
-pub mod limits;
 pub mod link;
 pub mod reading;
 mod taking;

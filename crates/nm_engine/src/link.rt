@@ -1,7 +1,7 @@
 //! A link: one connection of a replica with a replica of another partition.
 
 ghost use Rattle.std.specs.Prelude.{◌≡◌, Some, None, [], false};
-ghost use Rattle.nm_engine.specs.Link.{IsBounded};
+ghost use Rattle.nm_engine.specs.Link.{IsBounded, has_greeted};
 ghost use Rattle.nm_engine.specs.Turn.{Turns};
 
 use crate::acceptor::Acceptor;
@@ -95,6 +95,16 @@ impl<W> Link<W> {
         ensures { result.now ≡ self.now.wire }
     {
         &self.wire
+    }
+
+    /// Whether the peer's Hello was taken.
+    pub fn has_greeted(&self) -> bool
+        ensures { result ≡ has_greeted self.now.session }
+    {
+        match &self.session {
+            Some(session) => session.hello_taken(),
+            None => false,
+        }
     }
 
     /// The wire and the session, if there is one. What waited in the buffer is let go. It takes no

@@ -1,12 +1,12 @@
 //! One read of a link.
 
 ghost use Rattle.std.specs.Prelude.{◌≡◌, ◌+◌, ◌<◌, [], true, false, length, IfOk};
-ghost use Rattle.nm_engine.specs.declared.limits.TheConstants.{MAX_READ_OCTETS};
+ghost use Rattle.nm_base.specs.declared.limits.TheConstants.{MAX_READ_OCTETS};
 ghost use Rattle.nm_engine.specs.Reading.{FeedsReader, Reads};
 
 use crate::answer::Cause;
-use crate::limits::{MAX_FRAME_OCTETS, MAX_READ_OCTETS};
 use nm_base::Wire;
+use nm_base::limits::{MAX_FRAME_OCTETS, MAX_READ_OCTETS};
 use nm_base::wire::Read;
 use nm_frames::{Frame, FrameFault, Reader};
 use std::alloc::{AllocError, Global};

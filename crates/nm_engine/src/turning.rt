@@ -63,8 +63,8 @@ pub(crate) fn work<W: Wire, C: Counts, R: Wait>(
 ) -> Result<Turn, Cause>
     requires sound { reader.old.failed ≡ false }
     requires bounded { IsBounded reader.old.rest out.old.items }
-    ensures works { Works W.given W.taken W.ends W.failures wire.old wire.new acceptor.now session.old
-        session.new reader.old.rest reader.new.rest out.old.items out.new.items result }
+    ensures works { Works W.given W.taken W.ends W.failures wire.old wire.new acceptor.now
+        session.old session.new reader.old.rest reader.new.rest out.old.items out.new.items result }
     ensures bounded { IsBounded reader.new.rest out.new.items }
     ensures sound { IfOk result (λ _. reader.new.failed ≡ false) }
 {

@@ -5,7 +5,7 @@ use Rattle.std.specs.List.{enumerate_from, flat_map}
 use Rattle.std.proofs.lemmas.Bool.{true≢false}
 use Rattle.std.proofs.lemmas.List.{append_assoc, take_all}
 use Rattle.std.proofs.lemmas.Option.{slice_get_within, get_or_from_slice_get}
-use Rattle.nm_text.proofs.Numbered.{numbered_more}
+use Rattle.nm_base.proofs.Numbered.{numbered_more}
 use Rattle.nm_files.specs.Outputs.{Files, HasClosed, HasMade, IsEmpty}
 
 pub none_made : (made : Option Files) → HasMade made made []

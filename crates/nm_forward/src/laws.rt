@@ -1,6 +1,7 @@
 //! Laws of the definitions: each function does nothing, and its contract is the law.
 
-ghost use Rattle.std.specs.Prelude.{◌≡◌, ℕ, ◌≤◌, All, Contains, List, None, Some, length, slice_get};
+ghost use Rattle.std.specs.Prelude.{◌≡◌, ℕ, ◌≤◌, All, Contains, List, None, Some, length};
+ghost use Rattle.std.specs.Prelude.{slice_get};
 ghost use Rattle.nm_base.specs.declared.limits.TheConstants.{MAX_PACKET_OCTETS};
 ghost use Rattle.nm_base.specs.declared.event.Origin.{Origin};
 ghost use Rattle.nm_topology.specs.declared.parts.Route.{Route};

@@ -4,7 +4,8 @@ ghost use Rattle.std.specs.Prelude.{◌≡◌, ◌≤◌, IfOk, length};
 ghost use Rattle.nm_packet.specs.declared.limits.TheConstants.{MAX_PAYLOAD};
 ghost use Rattle.nm_packet.specs.Ipv4.{fields_of};
 ghost use Rattle.nm_forward.specs.State.{Knows};
-ghost use Rattle.nm_forward.specs.Originate.{FitsPacket, error_of, is_error_message, is_quiet, originate, packet_written, protocol_of, reply_of};
+ghost use Rattle.nm_forward.specs.Originate.{FitsPacket, error_of, is_error_message, is_quiet};
+ghost use Rattle.nm_forward.specs.Originate.{originate, packet_written, protocol_of, reply_of};
 ghost use Rattle.nm_forward.specs.Prepared.{body_of, consequence, outgoing_of};
 
 use crate::counter::Counter;

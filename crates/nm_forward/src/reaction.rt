@@ -7,7 +7,8 @@ ghost use Rattle.nm_forward.specs.State.{Knows};
 ghost use Rattle.nm_forward.specs.Row.{IsPossible};
 ghost use Rattle.nm_forward.specs.Originate.{FitsPacket, concluded, consequence_of, originate};
 ghost use Rattle.nm_forward.specs.Prepared.{body_of, consequence, outgoing_of};
-ghost use Rattle.nm_forward.specs.Reaction.{FitsOrigin, FitsSource, FitsHeaders, arrived, datagram_of, handed, handed_by, reaction, sent_of};
+ghost use Rattle.nm_forward.specs.Reaction.{FitsOrigin, FitsSource, FitsHeaders, arrived};
+ghost use Rattle.nm_forward.specs.Reaction.{datagram_of, handed, handed_by, reaction, sent_of};
 
 use crate::counter::Counter;
 use crate::originate::{error, originate, reply};

@@ -3,7 +3,8 @@
 ghost use Rattle.std.specs.Prelude.{◌≡◌, ◌≤◌, ℕ, length};
 ghost use Rattle.nm_packet.specs.declared.limits.TheConstants.{MAX_PAYLOAD};
 ghost use Rattle.nm_packet.specs.Ipv4.{fields_of, payload_of};
-ghost use Rattle.nm_forward.specs.Row.{IsPossible, icmp_row, is_fragment, local_row, packet_row, row_counter, transit_row, udp_row};
+ghost use Rattle.nm_forward.specs.Row.{IsPossible, icmp_row, is_fragment, local_row, packet_row};
+ghost use Rattle.nm_forward.specs.Row.{row_counter, transit_row, udp_row};
 
 use crate::counter::Counter;
 use crate::state::NodeState;

@@ -4,7 +4,8 @@ ghost use Rattle.std.specs.Prelude.{◌≡◌, ◌<◌, ◌≤◌, IfOk, length,
 ghost use Rattle.nm_packet.specs.Ipv4.{fields_of, lowered, packet_octets, payload_of};
 ghost use Rattle.nm_forward.specs.Counter.{counter_number};
 ghost use Rattle.nm_forward.specs.Routes.{route_of};
-ghost use Rattle.nm_forward.specs.State.{Knows, after_originating, first_state, is_own, listens, state_counted};
+ghost use Rattle.nm_forward.specs.State.{Knows, after_originating, first_state, is_own, listens};
+ghost use Rattle.nm_forward.specs.State.{state_counted};
 
 use crate::addresses::Addresses;
 use crate::counter::Counter;

@@ -10,15 +10,13 @@ ghost use Rattle.nm_frames.specs.Reader.{Finds, Found};
 use crate::fault::FrameFault;
 use crate::frame::{Frame, Have, Hello};
 use bytes::Bytes;
+use nm_base::limits::MAX_BODY_OCTETS;
 use nm_base::{ChanNo, Packet, PartNo, Time};
 use nm_book::message::{Data, Null};
 use std::alloc::{AllocError, Global};
 
 /// The octets of a length.
 const LENGTH_OCTETS: usize = 4;
-
-/// The most octets after a length.
-pub const MAX_BODY_OCTETS: usize = 65_556;
 
 /// The number of 16 bits in the two octets from this place.
 fn u16_at(octets: &[u8], place: usize) -> u16

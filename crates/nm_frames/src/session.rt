@@ -1,6 +1,7 @@
 //! One connection between replicas of two partitions that share a channel.
 
-ghost use Rattle.std.specs.Prelude.{◌≡◌, Ok, Err, MatchResult, IfOk, OnErr, length, nat_lt};
+ghost use Rattle.std.specs.Prelude.{◌≡◌, Ok, Err, MatchResult, IfOk, OnErr, is_some, length};
+ghost use Rattle.std.specs.Prelude.{nat_lt};
 ghost use Rattle.nm_frames.specs.Owed.{HasNext, MayHaveNext, given, given_maybe, hello_of, owed};
 ghost use Rattle.nm_frames.specs.Session.{broken, new_session, next_version, purpose};
 ghost use Rattle.nm_frames.specs.Session.{session_version, taken, taken_first, taken_later};
@@ -110,6 +111,13 @@ impl Session {
         ensures { result ≡ nat_lt 0 (length self.now.incoming) }
     {
         !self.incoming.is_empty()
+    }
+
+    /// Whether the peer's Hello was taken since the session was made or last broken.
+    pub fn hello_taken(&self) -> bool
+        ensures { result ≡ is_some self.now.hello_taken }
+    {
+        self.hello_taken.is_some()
     }
 
     /// Whether the peer will say no more.

@@ -1,11 +1,13 @@
 //! Ports: drop-tail queues.
 
-ghost use Rattle.std.specs.Prelude.{◌≡◌, ℕ, ◌+◌, ◌<◌, ◌≤◌, ◌^◌, if◌then◌else◌, List, Option, Some, None, OnOk, IfSome, IsSome, length};
+ghost use Rattle.std.specs.Prelude.{◌≡◌, ℕ, ◌+◌, ◌<◌, ◌≤◌, ◌^◌, if◌then◌else◌, List, Option, Some};
+ghost use Rattle.std.specs.Prelude.{None, OnOk, IfSome, IsSome, length};
 ghost use Rattle.std.specs.Option.{option_map};
 ghost use Rattle.nm_base.specs.declared.limits.TheConstants.{MAX_DELAY, MAX_RATE, MAX_TIME};
 ghost use Rattle.nm_model.specs.Port.{offered, completed, is_refused, waiting_of};
 ghost use Rattle.nm_iface.specs.PortValue.{has_room, takes, with_port};
-ghost use Rattle.nm_iface.specs.Offers.{IsTransmission, handed_back, transmitted_packet, transmission_in};
+ghost use Rattle.nm_iface.specs.Offers.{IsTransmission, handed_back, transmitted_packet};
+ghost use Rattle.nm_iface.specs.Offers.{transmission_in};
 
 use crate::octets::{OctetLimit, may_wait, none_wait, with_fewer, with_more};
 use crate::transmission::transmission_time;
@@ -64,7 +66,8 @@ pub struct Port {
 }
 
 impl Model for Port {
-    ghost use Rattle.std.specs.Prelude.{◌≡◌, ◌<◌, ◌≤◌, ◌-◌, ◌^◌, [], None, IfSome, length, map, option_map, sum_by};
+    ghost use Rattle.std.specs.Prelude.{◌≡◌, ◌<◌, ◌≤◌, ◌-◌, ◌^◌, [], None, IfSome, length, map};
+    ghost use Rattle.std.specs.Prelude.{option_map, sum_by};
     ghost use Rattle.std.specs.VecDeque.{deque_len, deque_capacity};
     ghost use Rattle.std.specs.Option.{IsSome};
     ghost use Rattle.nm_base.specs.declared.limits.TheConstants.{MAX_DELAY, MAX_RATE};

@@ -5,7 +5,7 @@ ghost use Rattle.std.specs.Option.{option_map};
 ghost use Rattle.nm_model.specs.Lists.{nth};
 ghost use Rattle.nm_model.specs.Knowledge.{nothing_known, IsKnow};
 ghost use Rattle.nm_model.specs.Accept.{New, accept_data, accept_null};
-ghost use Rattle.nm_knowledge.specs.declared.messages.TheConstants.{MAX_MESSAGES};
+ghost use Rattle.nm_base.specs.declared.limits.TheConstants.{MAX_MESSAGES};
 ghost use Rattle.nm_knowledge.specs.Answers.{answer};
 ghost use Rattle.nm_knowledge.specs.Octets.{same_octets};
 ghost use Rattle.nm_model.specs.Join.{join, join_fault};
@@ -15,8 +15,8 @@ ghost use Rattle.nm_knowledge.specs.Outcome.{Accepts, Finds, Joins, Merges};
 use crate::answer::{Accepted, KnowFault};
 use crate::gain::Gain;
 use crate::laws::{packets_are_told_apart, what_is_known};
-pub use crate::messages::MAX_MESSAGES;
 use crate::messages::Messages;
+use nm_base::limits::MAX_MESSAGES;
 use nm_base::{Packet, Time};
 use nm_model::knowledge::{accept_laws, join_faults_are_right, join_laws};
 use std::alloc::{AllocError, Global};
@@ -101,8 +101,8 @@ impl Know {
         })
     }
 
-    /// What `accept_data` answers where there is memory: `New` where the message is the next one. It
-    /// takes no memory, and changes nothing.
+    /// What `accept_data` answers where there is memory: `New` where the message is the next one.
+    /// It takes no memory, and changes nothing.
     ///
     /// # Errors
     ///
@@ -145,8 +145,8 @@ impl Know {
     ///
     /// `Gap` where messages before it have not come. `Differs` where another message of this number
     /// is known. For the next message: `Late` where it is before the clock, `NotRising` where it is
-    /// not after the last message, and `Memory` where the memory for it was refused or 2^50 messages
-    /// are known. A refusal changes nothing.
+    /// not after the last message, and `Memory` where the memory for it was refused or 2^50
+    /// messages are known. A refusal changes nothing.
     pub fn accept_data(
         &mut self,
         number: u64,

@@ -4,7 +4,7 @@
 ghost use Rattle.std.specs.Prelude.{◌≡◌, ℕ, ◌≤◌, Bool, List, length, Contains, ◌↔◌};
 ghost use Rattle.nm_model.specs.Knowledge.{Know as Knowledge, IsKnow};
 ghost use Rattle.nm_model.specs.Accept.{IsReflexive, TellsApart};
-ghost use Rattle.nm_knowledge.specs.declared.messages.TheConstants.{MAX_MESSAGES};
+ghost use Rattle.nm_base.specs.declared.limits.TheConstants.{MAX_MESSAGES};
 ghost use Rattle.nm_knowledge.specs.Octets.{same_octets};
 ghost use Rattle.nm_knowledge.specs.Order.{Tidings, AreAccepted, accept_all};
 

@@ -1,11 +1,12 @@
 //! Lists of messages, in blocks that copies share.
 
-ghost use Rattle.std.specs.Prelude.{◌≡◌, ◌<◌, ◌≤◌, [], ◌∷◌, ◌++◌, length, Some, IfOk, OnOk, OnErr, if◌then◌else◌};
+ghost use Rattle.std.specs.Prelude.{◌≡◌, ◌<◌, ◌≤◌, [], ◌∷◌, ◌++◌, length, Some, IfOk, OnOk, OnErr};
+ghost use Rattle.std.specs.Prelude.{if◌then◌else◌};
 ghost use Rattle.std.specs.Option.{option_map};
 ghost use Rattle.nm_model.specs.Lists.{nth};
 ghost use Rattle.nm_model.specs.Accept.{last_from, Late};
 ghost use Rattle.nm_model.specs.Join.{first_differs, late_past};
-ghost use Rattle.nm_knowledge.specs.declared.messages.TheConstants.{MAX_MESSAGES};
+ghost use Rattle.nm_base.specs.declared.limits.TheConstants.{MAX_MESSAGES};
 ghost use Rattle.nm_knowledge.specs.Blocks.{in_blocks, AreBlocks};
 ghost use Rattle.nm_knowledge.specs.Octets.{same_octets};
 
@@ -13,9 +14,6 @@ use nm_base::{Packet, Time};
 use std::alloc::{AllocError, Global};
 use std::marker::Model;
 use std::sync::Arc;
-
-/// The most messages of a channel. One more is refused as if its memory were.
-pub const MAX_MESSAGES: usize = 1 << 50;
 
 /// How many messages a full block has.
 const BLOCK_LEN: usize = 256;

@@ -8,7 +8,8 @@ ghost use Rattle.nm_model.specs.Replica.{IsWithin};
 ghost use Rattle.nm_model.specs.Promise.{Promising};
 ghost use Rattle.nm_model.specs.Before.{IsBefore, trace};
 ghost use Rattle.nm_model.specs.World.{Replica, fresh, state_of};
-ghost use Rattle.nm_model.specs.Certificate.{Book, Fault, FaultShows, AreFinished, IsCertified, is_done, certify};
+ghost use Rattle.nm_model.specs.Certificate.{Book, Fault, FaultShows, AreFinished, IsCertified};
+ghost use Rattle.nm_model.specs.Certificate.{is_done, certify};
 
 /// Finished books whose lists and clocks agree have the whole network's traces, whatever told them
 /// what they know. Nothing is asked of who sent what: the argument goes by time, since a message up

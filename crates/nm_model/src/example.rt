@@ -4,9 +4,11 @@ ghost use Rattle.std.specs.Prelude.{◌≡◌, ℕ, [], ◌∷◌, Option, Some,
 ghost use Rattle.nm_model.specs.EventList.{least};
 ghost use Rattle.nm_model.specs.Network.{IsNet, IsParted};
 ghost use Rattle.nm_model.specs.Run.{one_list};
-ghost use Rattle.nm_model.specs.Accept.{New, Raised, Known, Gap, Differs, Late, NotRising, Contrary, accept_data, accept_null};
+ghost use Rattle.nm_model.specs.Accept.{New, Raised, Known, Gap, Differs, Late, NotRising};
+ghost use Rattle.nm_model.specs.Accept.{Contrary, accept_data, accept_null};
 ghost use Rattle.nm_model.specs.Join.{join, join_fault};
-ghost use Rattle.nm_model.specs.Example.{two_hosts, its_records, same_number, knows, two_messages, three_messages};
+ghost use Rattle.nm_model.specs.Example.{two_hosts, its_records, same_number, knows, two_messages};
+ghost use Rattle.nm_model.specs.Example.{three_messages};
 
 /// Two hosts and one packet: three events are done, the source's at 0, the completion at 5 and the
 /// arrival at 15, and then nothing is pending.

@@ -2,7 +2,8 @@
 
 ghost use Rattle.std.specs.Prelude.{◌≡◌, ℕ, ◌<◌, ◌≤◌, Bool, length, List, Option, Some, None};
 ghost use Rattle.nm_model.specs.Lists.{nth, IsRising};
-ghost use Rattle.nm_model.specs.Knowledge.{Knowledge, Know, IsKnow, nothing_known, IsValid, IsUnder, IsCompatible};
+ghost use Rattle.nm_model.specs.Knowledge.{Knowledge, Know, IsKnow, nothing_known, IsValid};
+ghost use Rattle.nm_model.specs.Knowledge.{IsUnder, IsCompatible};
 ghost use Rattle.nm_model.specs.Accept.{Answer, IsReflexive, TellsApart, accept_data, accept_null};
 ghost use Rattle.nm_model.specs.Join.{join, join_fault, join_faults, Shows};
 ghost use Rattle.nm_model.specs.World.{IsFine};

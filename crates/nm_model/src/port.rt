@@ -1,7 +1,8 @@
 //! Laws of ports.
 
 ghost use Rattle.std.specs.Prelude.{◌≡◌, ℕ, ◌+◌, Bool, List, ◌++◌};
-ghost use Rattle.nm_model.specs.Port.{Port, PortEvent, idle_port, waiting_of, port_after, transmitted_by, taken_by, dropped_by};
+ghost use Rattle.nm_model.specs.Port.{Port, PortEvent, idle_port, waiting_of, port_after};
+ghost use Rattle.nm_model.specs.Port.{transmitted_by, taken_by, dropped_by};
 
 /// A queue is first in, first out, and loses nothing: over any list of offers and completions, the
 /// packets that were not dropped are, in the order of their offers, those whose transmission

@@ -10,7 +10,8 @@ ghost use Rattle.nm_model.specs.Network.{Net, IsNet};
 ghost use Rattle.nm_model.specs.Run.{one_list};
 ghost use Rattle.nm_model.specs.Knowledge.{Knowledge, Know, IsUnder, no_knowledge};
 ghost use Rattle.nm_model.specs.Partition.{in_part, comes_in};
-ghost use Rattle.nm_model.specs.Replica.{from_scratch, inbox_events, safe_time, IsWithin, IsUnderAll, with_new, Agrees};
+ghost use Rattle.nm_model.specs.Replica.{from_scratch, inbox_events, safe_time, IsWithin};
+ghost use Rattle.nm_model.specs.Replica.{IsUnderAll, with_new, Agrees};
 ghost use Rattle.nm_model.specs.Promise.{Promising, promise};
 ghost use Rattle.nm_model.specs.Before.{IsBefore, IsCount, IsKnowledge, events_at, trace};
 

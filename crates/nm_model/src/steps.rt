@@ -1,7 +1,8 @@
 //! Laws of the single steps of the world: what each does, what it answers, and when it names
 //! nothing.
 
-ghost use Rattle.std.specs.Prelude.{◌≡◌, ◌≢◌, ◌⊎◌, ℕ, ◌+◌, ◌-◌, ◌<◌, ◌≤◌, min, ltb, cond, Bool, true, false, length, List, [], ◌∷◌, ◌++◌, Option, Some, None};
+ghost use Rattle.std.specs.Prelude.{◌≡◌, ◌≢◌, ◌⊎◌, ℕ, ◌+◌, ◌-◌, ◌<◌, ◌≤◌, min, ltb, cond, Bool};
+ghost use Rattle.std.specs.Prelude.{true, false, length, List, [], ◌∷◌, ◌++◌, Option, Some, None};
 ghost use Rattle.nm_model.specs.Lists.{nth, set_at};
 ghost use Rattle.nm_model.specs.Network.{Net};
 ghost use Rattle.nm_model.specs.Knowledge.{Knowledge, Know};
@@ -10,7 +11,10 @@ ghost use Rattle.nm_model.specs.Join.{join, join_faults};
 ghost use Rattle.nm_model.specs.Partition.{comes_in, goes_out, sender_of, receiver_of};
 ghost use Rattle.nm_model.specs.Promise.{Promising, promise};
 ghost use Rattle.nm_model.specs.Before.{IsCount};
-ghost use Rattle.nm_model.specs.World.{World, Replica, Step, Frame, DataFrame, NullFrame, Run, Data, Resend, Null, Deliver, Merge, Restart, All, Limit, Frames, Answered, Merged, MergeRefused, Emptied, NoSuch, fresh, put_replica, is_replica, outgoing, happens};
+ghost use Rattle.nm_model.specs.World.{World, Replica, Step, Frame, DataFrame, NullFrame, Run};
+ghost use Rattle.nm_model.specs.World.{Data, Resend, Null, Deliver, Merge, Restart, All, Limit};
+ghost use Rattle.nm_model.specs.World.{Frames, Answered, Merged, MergeRefused, Emptied, NoSuch};
+ghost use Rattle.nm_model.specs.World.{fresh, put_replica, is_replica, outgoing, happens};
 
 /// Each partition that is there has replicas 0 and 1, and no others.
 pub fn two_replicas<P, N>()

@@ -10,7 +10,8 @@ ghost use Rattle.nm_model.specs.Partition.{in_part, comes_in, goes_out};
 ghost use Rattle.nm_model.specs.Promise.{Promising, promise};
 ghost use Rattle.nm_model.specs.Replica.{safe_time, IsWithin, Agrees};
 ghost use Rattle.nm_model.specs.Before.{IsBefore, IsCount, IsKnowledge, events_at, history, trace};
-ghost use Rattle.nm_model.specs.World.{Step, opening, advance, answers, state_of, outgoing, replica_after, AllFine};
+ghost use Rattle.nm_model.specs.World.{Step, opening, advance, answers, state_of, outgoing};
+ghost use Rattle.nm_model.specs.World.{replica_after, AllFine};
 
 /// The prefix theorem. Whatever replicas run, send, hear, merge and restart, whichever promises
 /// they make, and whatever frames are lost, repeated or late: all knowledge is true of the network

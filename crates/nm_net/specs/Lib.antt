@@ -1,4 +1,6 @@
 pub mod Transport
+pub mod Polls
 pub mod Dialing
+pub mod Strangers
 pub mod Served
 pub mod Recording

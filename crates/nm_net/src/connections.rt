@@ -1,15 +1,18 @@
 //! The connections of a replica: begun, accepted, and let go.
 
-ghost use Rattle.std.specs.Prelude.{◌≡◌, IfErr};
+ghost use Rattle.std.specs.Prelude.{◌≡◌, true, false, IfErr};
+ghost use Rattle.nm_engine.specs.Link.{has_greeted};
 ghost use Rattle.nm_net.specs.Served.{EndsEarly};
+ghost use Rattle.nm_net.specs.Strangers.{is_stranger};
 
 use crate::dialing::Dialing;
-use crate::limits::MAX_ACCEPTED;
+use crate::limits::{MAX_ACCEPTED, MAX_STRANGERS, STRANGER_POLLS};
 use crate::moved::CountingWire;
 use crate::replica::Service;
 use crate::served::{Served, break_served};
 use crate::transport::Transport;
 use nm_engine::{Acceptor, Cause, Link, Turn};
+use nm_frames::Session;
 use nm_shared::Counts;
 use slab::Slab;
 use std::alloc::{AllocError, Global};
@@ -19,7 +22,68 @@ use std::sync::Arc;
 #[derive(Drop)]
 pub(crate) struct Connection<W> {
     pub link: Link<CountingWire<W>>,
-    pub peer: Option<usize>,
+    peer: Option<usize>,
+    /// How many octets had moved when they were counted last.
+    counted: u64,
+    /// How many connections had come before it.
+    came: u64,
+    /// How many polls ran out while its Hello did not come.
+    idle: u32,
+}
+
+impl<W> Connection<W> {
+    /// A connection on which nothing has moved.
+    fn new(link: Link<CountingWire<W>>, peer: Option<usize>, came: u64) -> Self {
+        Connection {
+            link,
+            peer,
+            counted: 0,
+            came,
+            idle: 0,
+        }
+    }
+
+    /// How many octets moved since they were counted last. Before the peer's Hello has come none
+    /// count: they may be a stranger's.
+    pub(crate) fn count_moved(&mut self) -> u64
+        ensures { has_greeted self.old.link.session ≡ false → result ≡ 0 }
+    {
+        if !self.link.has_greeted() {
+            return 0;
+        }
+        let all = self.link.wire().moved();
+        let more = all.saturating_sub(self.counted);
+        self.counted = all;
+        more
+    }
+
+    /// Whether someone began it whose Hello did not come.
+    fn is_stranger(&self) -> bool
+        ensures { result ≡ is_stranger self.now.peer self.now.link.session }
+    {
+        self.peer.is_none() && !self.link.has_greeted()
+    }
+
+    /// A poll ran out: whether it is a stranger's, and is to be let go.
+    fn is_overdue(&mut self) -> bool
+        ensures { result ≡ true → is_stranger self.old.peer self.old.link.session ≡ true }
+    {
+        if !self.is_stranger() {
+            return false;
+        }
+        self.idle = self.idle.saturating_add(1);
+        self.idle >= STRANGER_POLLS
+    }
+}
+
+/// What a connection that was let go leaves.
+#[derive(Drop)]
+struct Remains {
+    /// The peer to which it was begun.
+    peer: Option<usize>,
+    session: Option<Session>,
+    /// The peer's Hello had come.
+    has_greeted: bool,
 }
 
 /// The connections that there are, the peers that are called, and how many callers are gone.
@@ -27,6 +91,8 @@ pub(crate) struct Connection<W> {
 pub(crate) struct Connections<W> {
     pub open: Slab<Connection<W>>,
     peers: Vec<Dialing>,
+    /// How many connections were accepted.
+    accepted: u64,
     /// How many connections that peers began have ended.
     callers_ended: usize,
 }
@@ -54,19 +120,18 @@ fn dial<T: Transport>(
     let Some(session) = dialing.give() else {
         return Ok(());
     };
-    open.insert_reserved(Connection {
-        link: Link::connected(alloc, CountingWire::new(wire), session),
-        peer: Some(peer),
-    });
+    let link = Link::connected(alloc, CountingWire::new(wire), session);
+    open.insert_reserved(Connection::new(link, Some(peer), 0));
     Ok(())
 }
 
-/// Keeps a connection that a peer began, if the transport watches it.
+/// Keeps a connection that someone began after so many others, if the transport watches it.
 fn keep<T: Transport, C: Counts>(
     alloc: Global,
     service: &Service<'_, C>,
     transport: &mut T,
     open: &mut Slab<Connection<T::Connection>>,
+    came: u64,
     wire: T::Connection,
 ) -> Result<(), AllocError>
     ensures { T.idle_waits transport.new ≡ T.idle_waits transport.old }
@@ -78,10 +143,8 @@ fn keep<T: Transport, C: Counts>(
         return Ok(());
     }
     let acceptor = Acceptor::new(topology, service.partition, service.replica);
-    open.insert_reserved(Connection {
-        link: Link::accepted(alloc, CountingWire::new(wire), acceptor),
-        peer: None,
-    });
+    let link = Link::accepted(alloc, CountingWire::new(wire), acceptor);
+    open.insert_reserved(Connection::new(link, None, came));
     Ok(())
 }
 
@@ -108,6 +171,7 @@ impl<W> Connections<W> {
         Ok(Connections {
             open: Slab::new(alloc),
             peers,
+            accepted: 0,
             callers_ended: 0,
         })
     }
@@ -118,11 +182,53 @@ impl<W> Connections<W> {
         self.callers_ended >= callers && self.peers.iter().all(|peer| peer.has_ended())
     }
 
-    /// A poll was made, and ran out or not.
-    pub(crate) fn pass_poll(&mut self, ran_out: bool) {
+    /// A poll was made, and ran out or not. Strangers that said no Hello for so many that ran out
+    /// are let go.
+    pub(crate) fn pass_poll<T: Transport<Connection = W>>(
+        &mut self,
+        transport: &mut T,
+        ran_out: bool,
+    )
+        ensures { T.idle_waits transport.new ≡ T.idle_waits transport.old }
+    {
         for number in 0..self.peers.len() {
             self.peers[number].pass_poll(ran_out);
         }
+        if ran_out {
+            self.drop_overdue(transport);
+        }
+    }
+
+    /// Lets strangers go that said no Hello for so many polls that ran out.
+    fn drop_overdue<T: Transport<Connection = W>>(&mut self, transport: &mut T)
+        ensures { T.idle_waits transport.new ≡ T.idle_waits transport.old }
+    {
+        for key in 0..self.open.capacity() {
+            let is_overdue = match self.open.get_mut(key) {
+                Some(connection) => connection.is_overdue(),
+                None => false,
+            };
+            if is_overdue {
+                let _ = self.remove(transport, key);
+            }
+        }
+    }
+
+    /// The key of the stranger that came first, where there are so many or more.
+    fn first_of(&self, strangers: usize) -> Option<usize> {
+        let (mut count, mut least, mut first) = (0usize, u64::MAX, None);
+        for key in 0..self.open.capacity() {
+            if let Some(connection) = self.open.get(key) {
+                if connection.is_stranger() {
+                    count = count.saturating_add(1);
+                    if connection.came < least {
+                        least = connection.came;
+                        first = Some(key);
+                    }
+                }
+            }
+        }
+        if count >= strangers { first } else { None }
     }
 
     /// Calls all peers that are to be called.
@@ -149,7 +255,8 @@ impl<W> Connections<W> {
         Ok(())
     }
 
-    /// Accepts the connections that peers began.
+    /// Accepts the connections that others began. Where there are as many strangers as there may
+    /// be, the one that came first is let go.
     ///
     /// # Errors
     ///
@@ -166,7 +273,11 @@ impl<W> Connections<W> {
             let Some(wire) = transport.accept() else {
                 return Ok(());
             };
-            keep(alloc, service, transport, &mut self.open, wire)?;
+            if let Some(key) = self.first_of(MAX_STRANGERS.saturating_add(service.callers)) {
+                let _ = self.remove(transport, key);
+            }
+            self.accepted = self.accepted.saturating_add(1);
+            keep(alloc, service, transport, &mut self.open, self.accepted, wire)?;
         }
         Ok(())
     }
@@ -196,18 +307,35 @@ impl<W> Connections<W> {
         }
     }
 
+    /// Takes the connection with this key out, if it is there: what it leaves.
+    fn remove<T: Transport<Connection = W>>(
+        &mut self,
+        transport: &mut T,
+        key: usize,
+    ) -> Option<Remains>
+        ensures { T.idle_waits transport.new ≡ T.idle_waits transport.old }
+    {
+        let connection = self.open.try_remove(key)?;
+        let has_greeted = connection.link.has_greeted();
+        let peer = connection.peer;
+        let (wire, session) = connection.link.back();
+        let mut wire = wire.into_wire();
+        transport.unwatch(&mut wire);
+        Some(Remains {
+            peer,
+            session,
+            has_greeted,
+        })
+    }
+
     /// Lets an ended connection go, and counts it: as its peer's, or as one of those who called.
     fn end<T: Transport<Connection = W>>(&mut self, transport: &mut T, key: usize)
         ensures { T.idle_waits transport.new ≡ T.idle_waits transport.old }
     {
-        let Some(connection) = self.open.try_remove(key) else {
+        let Some(remains) = self.remove(transport, key) else {
             return;
         };
-        let Connection { link, peer } = connection;
-        let (wire, _) = link.back();
-        let mut wire = wire.into_wire();
-        transport.unwatch(&mut wire);
-        match peer {
+        match remains.peer {
             Some(peer) if peer < self.peers.len() => self.peers[peer].end(),
             Some(_) => {}
             None => self.callers_ended = self.callers_ended.saturating_add(1),
@@ -228,21 +356,21 @@ impl<W> Connections<W> {
         ensures idle { T.idle_waits transport.new ≡ T.idle_waits transport.old }
         ensures early { IfErr result EndsEarly }
     {
-        let Some(connection) = self.open.try_remove(key) else {
+        let Some(remains) = self.remove(transport, key) else {
             return Ok(());
         };
-        let Connection { link, peer } = connection;
-        let (wire, session) = link.back();
-        let moved = wire.moved() > 0;
-        let mut wire = wire.into_wire();
-        transport.unwatch(&mut wire);
+        let Remains {
+            peer,
+            session,
+            has_greeted,
+        } = remains;
         let is_peer = peer.is_some() || session.is_some();
         if let Some(served) = break_served(cause, is_peer) {
             return Err(served);
         }
         if let (Some(peer), Some(session)) = (peer, session) {
             if peer < self.peers.len() {
-                self.peers[peer].broke(session, moved);
+                self.peers[peer].broke(session, has_greeted);
             }
         }
         Ok(())

@@ -1,9 +1,10 @@
 //! Peers to which the replica connects.
 
-ghost use Rattle.std.specs.Prelude.{◌≡◌, IfSome};
+ghost use Rattle.std.specs.Prelude.{◌≡◌, if◌then◌else◌, IfSome};
 ghost use Rattle.std.proofs.Props.{props};
 ghost use Rattle.nm_frames.specs.Session.{broken};
 ghost use Rattle.nm_net.specs.Dialing.{IsAtGreeting};
+ghost use Rattle.nm_net.specs.declared.limits.TheConstants.{REST_POLLS};
 
 use crate::limits::REST_POLLS;
 use nm_base::PartNo;
@@ -61,10 +62,12 @@ impl Dialing {
         self.session.take()
     }
 
-    /// Its connection broke. Where no octet moved on it, the peer is left alone for a while.
-    pub(crate) fn broke(&mut self, session: Session, moved: bool) {
+    /// Its connection broke. Where the peer's Hello had not come, it is left alone for a while.
+    pub(crate) fn broke(&mut self, session: Session, has_greeted: bool)
+        ensures { self.new.rest ≡ (if has_greeted then 0 else REST_POLLS) }
+    {
         self.session = Some(at_greeting(session));
-        self.rest = if moved { 0 } else { REST_POLLS };
+        self.rest = if has_greeted { 0 } else { REST_POLLS };
     }
 
     /// Its link has ended.

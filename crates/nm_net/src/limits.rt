@@ -12,11 +12,18 @@ pub const MAX_POLLS: u64 = 1_000_000_000;
 /// The most connections that are accepted after one poll.
 pub const MAX_ACCEPTED: usize = 64;
 
+/// The most connections that others began and whose Hello did not come, beside one for each
+/// replica that is to call. The oldest of them is let go when another comes.
+pub const MAX_STRANGERS: usize = 64;
+
+/// After so many polls that ran out such a connection is let go: five seconds.
+pub const STRANGER_POLLS: u32 = 100;
+
 /// The most turns that a link has after one poll.
 pub const MAX_TURNS: usize = 64;
 
-/// After so many polls a connection that broke before an octet moved is begun again, or after one
-/// that ran out.
+/// After so many polls a connection that broke before the peer's Hello came is begun again, or
+/// after one that ran out.
 pub const REST_POLLS: u32 = 64;
 
 /// After so many polls the sister's knowledge is merged.

@@ -1,10 +1,11 @@
 //! A replica over a transport, until it ends.
 
-ghost use Rattle.std.specs.Prelude.{◌≡◌, ◌+◌, ◌≤◌, All, if◌then◌else◌, length};
+ghost use Rattle.std.specs.Prelude.{◌≡◌, All, length};
 ghost use Rattle.nm_shared.specs.Board.{IsOwnerOf};
 ghost use Rattle.nm_files.specs.Files.{IsSound};
-ghost use Rattle.nm_net.specs.Served.{EndsWith};
+ghost use Rattle.nm_net.specs.Polls.{ending_of, idle_after};
 ghost use Rattle.nm_net.specs.Recording.{Streams};
+ghost use Rattle.nm_net.specs.Served.{EndsWith};
 ghost use Rattle.nm_net.specs.declared.served.Served.TheVariants.{Ended};
 
 use crate::limits::MAX_POLLS;
@@ -62,7 +63,7 @@ pub struct Holdings<C: Counts, S> {
 
 /// How many polls in a row ran out and nothing was moved or done, after one more.
 fn idle_polls(before: u64, polled: Polled) -> u64
-    ensures { result ≤ before + (if polled.ran_out then 1 else 0) }
+    ensures { result ≡ idle_after before polled.was_active polled.ran_out }
 {
     if polled.was_active {
         return 0;
@@ -73,14 +74,27 @@ fn idle_polls(before: u64, polled: Polled) -> u64
     before
 }
 
+/// How serving ends after so many polls, the last so many of them idle in a row, if it does.
+fn ending_of(is_done: bool, idle: u64, limit: u64, polls: u64) -> Option<Served>
+    ensures { result ≡ ending_of is_done idle limit polls }
+{
+    if is_done {
+        return Some(Served::Ended);
+    }
+    if idle >= limit {
+        return Some(Served::Stalled { polls });
+    }
+    None
+}
+
 /// Serves the connections of a replica, and runs its book if it is to, until the replica is done
 /// and its links have ended, or it ends for another reason. Passes, seats and files stay where they
 /// are. Records go to the trace files while it runs: what they took is of one list of records, each
 /// at its own interface, and when the replica has ended none is left.
 /// A connection that breaks is begun again by the side that began it; an octet or a Hello that
 /// should not be costs a connection that said no Hello, and after one the replica. The promise of
-/// each outgoing channel stands on the board before a poll ends. Before each poll the gate is asked,
-/// and told how many octets have moved.
+/// each outgoing channel stands on the board before a poll ends. Before each poll the gate is
+/// asked, and told how many octets have moved.
 ///
 /// `Ended` where the replica was seen to be done. `File` where a trace file failed. `Stalled` after
 /// no fewer polls with nothing ready than its limit, or after 10^9 polls. `Net` where a peer broke
@@ -115,12 +129,9 @@ pub fn run_replica<C: Counts, S: Sink, T: Transport, G: Gate, R: Wait>(
             Ok(polled) => polled,
             Err(served) => return served,
         };
-        if polled.is_done {
-            return Served::Ended;
-        }
         idle = idle_polls(idle, polled);
-        if idle >= service.idle_limit {
-            return Served::Stalled { polls: polls + 1 };
+        if let Some(served) = ending_of(polled.is_done, idle, service.idle_limit, polls + 1) {
+            return served;
         }
     }
     Served::Stalled { polls: MAX_POLLS }

@@ -1,10 +1,11 @@
 //! One poll of a replica, and what follows it.
 
-ghost use Rattle.std.specs.Prelude.{◌≡◌, ◌+◌, ◌≤◌, true, All, IfErr, IfOk, OnOk, if◌then◌else◌, length};
+ghost use Rattle.std.specs.Prelude.{◌≡◌, true, All, IfErr, IfOk, OnOk, length};
 ghost use Rattle.nm_shared.specs.Board.{IsOwnerOf};
 ghost use Rattle.nm_files.specs.Files.{IsSound};
-ghost use Rattle.nm_net.specs.Served.{EndsEarly, WasFinished};
+ghost use Rattle.nm_net.specs.Polls.{HasWaited};
 ghost use Rattle.nm_net.specs.Recording.{Streams};
+ghost use Rattle.nm_net.specs.Served.{EndsEarly, WasFinished};
 
 use crate::acts::{Stand, Standing};
 use crate::connections::Connections;
@@ -26,14 +27,15 @@ use std::sync::Wait;
 #[derive(Drop)]
 pub(crate) struct Serving<W> {
     connections: Connections<W>,
-    /// How many octets have moved, which stops at the greatest `u64`.
+    /// How many octets have moved on connections whose peer greeted, which stops at the greatest
+    /// `u64`.
     pub moved: u64,
     /// How many events the book had done when it was looked at last.
     events: u64,
     /// How many polls were made.
     polls: u64,
     /// More may be left to do that no connection tells of: the next poll does not wait.
-    is_busy: bool,
+    pub is_busy: bool,
     buffer: ReadBuffer,
 }
 
@@ -70,8 +72,8 @@ impl<W> Serving<W> {
     }
 }
 
-/// Gives the connection with this key its turns, if it is there: how many octets moved, and what
-/// the last turn came to.
+/// Gives the connection with this key its turns, if it is there: how many octets moved that count,
+/// and what the last turn came to.
 fn turns<W: Wire, C: Counts, R: Wait>(
     rt: &R,
     alloc: Global,
@@ -83,7 +85,6 @@ fn turns<W: Wire, C: Counts, R: Wait>(
     let Some(connection) = serving.connections.open.get_mut(key) else {
         return (0, Turn::Idle);
     };
-    let before = connection.link.wire().moved();
     let mut last = Turn::Progress;
     for _ in 0..MAX_TURNS {
         last = connection
@@ -93,8 +94,7 @@ fn turns<W: Wire, C: Counts, R: Wait>(
             break;
         }
     }
-    let moved = connection.link.wire().moved().saturating_sub(before);
-    (moved, last)
+    (connection.count_moved(), last)
 }
 
 /// Gives each connection its turns, and lets go of those that ended or broke: how many octets
@@ -128,8 +128,8 @@ fn await_transport<T: Transport, C: Counts>(
     transport: &mut T,
     serving: &mut Serving<T::Connection>,
 ) -> Result<bool, AllocError>
-    ensures { IfOk result (λ ran_out. T.idle_waits transport.old
-        + (if ran_out then 1 else 0) ≤ T.idle_waits transport.new) }
+    ensures { IfOk result (λ ran_out. HasWaited serving.old.is_busy
+        (T.idle_waits transport.old) (T.idle_waits transport.new) ran_out) }
 {
     serving.connections.dial_all(alloc, transport)?;
     let milliseconds = if serving.is_busy {
@@ -143,7 +143,7 @@ fn await_transport<T: Transport, C: Counts>(
         Waited::RanOut => !serving.is_busy,
         Waited::Fault => true,
     };
-    serving.connections.pass_poll(ran_out);
+    serving.connections.pass_poll(transport, ran_out);
     serving.connections.accept_all(alloc, service, transport)?;
     Ok(ran_out)
 }
@@ -240,8 +240,8 @@ pub(crate) fn poll<C: Counts, S: Sink, T: Transport, R: Wait>(
     ensures passes { length holdings.new.passes.items ≡ length holdings.old.passes.items }
     ensures streams { OnOk result (Streams S.taken S.failures
         holdings.old.files.files.items holdings.new.files.files.items) }
-    ensures idle { IfOk result (λ p. T.idle_waits transport.old
-        + (if p.ran_out then 1 else 0) ≤ T.idle_waits transport.new) }
+    ensures idle { IfOk result (λ p. HasWaited serving.old.is_busy
+        (T.idle_waits transport.old) (T.idle_waits transport.new) p.ran_out) }
     ensures done { IfOk result (λ p. p.is_done ≡ true → WasFinished C.exact C.home) }
     ensures early { IfErr result EndsEarly }
 {

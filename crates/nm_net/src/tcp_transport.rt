@@ -1,6 +1,6 @@
 //! Connections over TCP.
 
-ghost use Rattle.std.specs.Prelude.{◌≡◌, ◌+◌, [], IfSome};
+ghost use Rattle.std.specs.Prelude.{◌≡◌, ◌↔◌, ◌+◌, [], true, IfSome};
 
 use crate::tcp_wire::TcpWire;
 use crate::transport::{Transport, Waited};
@@ -40,10 +40,12 @@ impl<R> Model for TcpTransport<R> {
 }
 
 /// Whether a connection meets itself: its own end has the address to which it was begun. Where
-/// nobody listens yet at a port from which the system takes the ports of callers, the two may be one
-/// (RFC 9293, section 3.5: both ends open at once). That is no connection with a peer, and it holds
-/// the port at which the peer is to listen.
-pub fn meets_itself(own: SocketAddr, peer: SocketAddr) -> bool {
+/// nobody listens yet at a port from which the system takes the ports of callers, the two may be
+/// one (RFC 9293, section 3.5: both ends open at once). That is no connection with a peer, and it
+/// holds the port at which the peer is to listen.
+pub fn meets_itself(own: SocketAddr, peer: SocketAddr) -> bool
+    ensures { (result ≡ true) ↔ (own ≡ peer) }
+{
     own == peer
 }
 

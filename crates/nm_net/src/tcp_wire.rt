@@ -37,8 +37,8 @@ impl Model for TcpWire {
 
 impl TcpWire {
     /// A connection on which nothing has moved. What is written is sent at once: a conservative
-    /// simulation is a chain of null messages, and all wait for one that the system holds back until
-    /// the last was acknowledged (RFC 896). A connection that cannot be told so is slower.
+    /// simulation is a chain of null messages, and all wait for one that the system holds back
+    /// until the last was acknowledged (RFC 896). A connection that cannot be told so is slower.
     pub fn new(stream: TcpStream) -> Self
         ensures { result ≡ record { given = []; taken = []; ends = 0; failures = 0 } }
     {

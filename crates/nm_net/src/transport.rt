@@ -16,8 +16,8 @@ pub enum Waited {
     Fault,
 }
 
-/// Connections with other replicas, and a wait for them. No call waits but `wait`. A clause sees how
-/// many waits ended with nothing ready.
+/// Connections with other replicas, and a wait for them. No call waits but `wait`. A clause sees
+/// how many waits ended with nothing ready.
 pub trait Transport {
     ghost use Rattle.nm_net.specs.Transport.{IsFresh, one_if_idle};
 

@@ -1,11 +1,12 @@
 //! Replicas over transports that fail at one call, and for good.
 
 use crate::scripted::{Fails, NEVER, Scripted};
-use crate::sides::{Company, Open, serve, topology_of};
+use crate::sides::{Company, serve, topology_of};
 use crate::talks::said_by;
 use crate::texts::SPLIT;
 use nm_base::PartNo;
 use nm_net::Served;
+use nm_shared::OpenGate;
 use std::alloc::Global;
 use std::process::Abort;
 use std::sync::Wait;
@@ -28,7 +29,7 @@ fn ending_of<R: Wait>(rt: &R, alloc: Global, me: u32, fails: Fails) -> Result<Se
         callers: if called { 1 } else { 0 },
         idle_limit: 4,
     };
-    Ok(serve(rt, alloc, &topology, &company, &mut transport, &Open)?.served)
+    Ok(serve(rt, alloc, &topology, &company, &mut transport, &OpenGate)?.served)
 }
 
 /// A replica ends as it should.

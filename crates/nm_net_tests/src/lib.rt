@@ -1,5 +1,5 @@
-//! Tests of what threads share, and of replicas over transports that fail and over loopback: what no
-//! contract says, and each call once.
+//! Tests of what threads share, and of replicas over transports that fail and over loopback: what
+//! no contract says, and each call once.
 //!
 //! Values come from outside. Several threads take part, and every schedule gives the same answers.
 #![tactic(auto)]
@@ -17,6 +17,8 @@ mod latecomers;
 #[cfg(test)]
 mod loopback;
 #[cfg(test)]
+mod meetings;
+#[cfg(test)]
 mod messages;
 #[cfg(test)]
 mod pools;
@@ -28,6 +30,8 @@ mod scripted;
 mod sides;
 #[cfg(test)]
 mod sisters;
+#[cfg(test)]
+mod strangers;
 #[cfg(test)]
 mod talks;
 #[cfg(test)]

@@ -1,12 +1,13 @@
 //! Two replicas in two threads, over loopback.
 
 use crate::cut_transport::CutTransport;
-use crate::sides::{Closed, Company, Open, listen, over_tcp, serve, topology_of};
+use crate::sides::{Closed, Company, listen, over_tcp, serve, topology_of};
 use crate::texts::{SHIFT, SPLIT};
 use mio::net::TcpListener;
 use nm_base::PartNo;
 use nm_net::Served;
 use nm_rounds::certify::certify;
+use nm_shared::OpenGate;
 use nm_topology::Topology;
 use std::alloc::Global;
 use std::net::{Net, SocketAddr};
@@ -33,7 +34,7 @@ fn call<R: Net + Wait + Drop + Copy>(
         callers: 0,
         idle_limit: 100,
     };
-    serve(rt, alloc, topology, &company, &mut transport, &Open)
+    serve(rt, alloc, topology, &company, &mut transport, &OpenGate)
 }
 
 /// Serves the replica that is called at this address.
@@ -50,7 +51,7 @@ fn answer<R: Net + Wait + Drop + Copy>(
         callers: 1,
         idle_limit: 100,
     };
-    serve(rt, alloc, topology, &company, &mut transport, &Open)
+    serve(rt, alloc, topology, &company, &mut transport, &OpenGate)
 }
 
 /// An address of 127.0.0.1 at a port that is free.
@@ -111,7 +112,7 @@ fn a_peer_that_never_listens_stalls(rt: HostRuntime) -> Result<(), Fail> {
         callers: 0,
         idle_limit: 4,
     };
-    let served = serve(&rt, alloc, &topology, &company, &mut transport, &Open)?;
+    let served = serve(&rt, alloc, &topology, &company, &mut transport, &OpenGate)?;
     assert!(rt; matches!(served.served, Served::Stalled { .. }));
     Ok(())
 }

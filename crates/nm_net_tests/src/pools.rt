@@ -83,3 +83,57 @@ fn pool_two_at_once(rt: HostRuntime) -> Result<(), Fail> {
     assert_eq!(rt; books[0].look(&rt, &mut pass).events, 2);
     Ok(())
 }
+
+/// The first job waits until one that no longer fits in the queue has begun.
+#[derive(Drop)]
+struct Holding {
+    far: AtomicBool,
+    late: AtomicBool,
+}
+
+/// More jobs than a worker holds and the queue has room for.
+const MANY: usize = 200;
+
+impl Gate for Holding {
+    fn enter(&self, job: usize) {
+        if job == MANY - 1 {
+            self.far.store(true, Ordering::SeqCst);
+        }
+        if job > 0 {
+            return;
+        }
+        for _ in 0..TURNS {
+            if self.far.load(Ordering::SeqCst) {
+                return;
+            }
+        }
+        self.late.store(true, Ordering::SeqCst);
+    }
+
+    fn leave(&self, _job: usize) {}
+
+    fn poll(&self, _moved: u64) -> bool {
+        true
+    }
+}
+
+/// Who feeds the queue waits for no worker: where it is full it does the jobs itself.
+#[test]
+fn who_feeds_the_queue_waits_for_nobody(rt: HostRuntime) -> Result<(), Fail> {
+    let alloc = rt.alloc();
+    let topology = topology_of(alloc, RING)?;
+    let books = [plain(alloc, &topology, 1)?];
+    let gate = Holding {
+        far: AtomicBool::new(false),
+        late: AtomicBool::new(false),
+    };
+    let mut jobs = Vec::new(alloc);
+    for _ in 0..MANY {
+        jobs.push(Job { book: 0, limit: 10 })?;
+    }
+    let report = pool(&rt, alloc, &books, jobs.as_slice(), 1, &gate)?;
+    assert!(rt; !gate.late.load(Ordering::SeqCst));
+    assert!(rt; report.answers.len() == MANY && report.passes.len() == MANY);
+    assert!(rt; report.answers.iter().all(|answer| is_all(answer, 0)));
+    Ok(())
+}

@@ -1,11 +1,12 @@
 //! What a replica does where somebody speaks no frames.
 
 use crate::scripted::{NEVER, Scripted};
-use crate::sides::{Company, Open, serve, topology_of};
+use crate::sides::{Company, serve, topology_of};
 use crate::talks::{RUBBISH, rubbish_behind_hello, said_by};
 use crate::texts::SPLIT;
 use nm_base::PartNo;
 use nm_net::Served;
+use nm_shared::OpenGate;
 use std::alloc::Global;
 use std::sync::Wait;
 use std::test::Fail;
@@ -20,7 +21,7 @@ fn called_by<R: Wait>(rt: &R, alloc: Global, sources: Vec<Vec<u8>>) -> Result<Se
         callers: 1,
         idle_limit: 4,
     };
-    Ok(serve(rt, alloc, &topology, &company, &mut transport, &Open)?.served)
+    Ok(serve(rt, alloc, &topology, &company, &mut transport, &OpenGate)?.served)
 }
 
 /// Rubbish before a Hello costs that connection alone.

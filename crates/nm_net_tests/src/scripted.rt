@@ -31,6 +31,9 @@ pub struct Scripted {
     calls: u64,
     fails: Fails,
     idle: FailureCount,
+    /// How many connections are watched, and the most that were at one time.
+    pub watched: u64,
+    pub most_watched: u64,
 }
 
 impl Scripted {
@@ -43,6 +46,8 @@ impl Scripted {
             calls: 0,
             fails,
             idle: FailureCount::new(),
+            watched: 0,
+            most_watched: 0,
         }
     }
 
@@ -85,10 +90,17 @@ impl Transport for Scripted {
     }
 
     fn watch(&mut self, _connection: &mut MemWire, _key: usize) -> bool {
-        !self.fails()
+        if self.fails() {
+            return false;
+        }
+        self.watched = self.watched.saturating_add(1);
+        self.most_watched = self.most_watched.max(self.watched);
+        true
     }
 
-    fn unwatch(&mut self, _connection: &mut MemWire) {}
+    fn unwatch(&mut self, _connection: &mut MemWire) {
+        self.watched = self.watched.saturating_sub(1);
+    }
 
     fn wait(&mut self, milliseconds: u64) -> Waited {
         let fails = self.fails();

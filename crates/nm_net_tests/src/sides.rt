@@ -35,19 +35,6 @@ pub struct Company<'a> {
     pub idle_limit: u64,
 }
 
-/// A gate that lets all go on.
-pub struct Open;
-
-impl Gate for Open {
-    fn enter(&self, _job: usize) {}
-
-    fn leave(&self, _job: usize) {}
-
-    fn poll(&self, _moved: u64) -> bool {
-        true
-    }
-}
-
 /// The network of a text, which has to be accepted.
 pub fn topology_of(alloc: Global, text: &str) -> Result<Arc<Topology>, Fail> {
     let topology = Topology::read(alloc, text.as_bytes())?;

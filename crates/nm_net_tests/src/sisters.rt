@@ -5,14 +5,14 @@ ghost use Rattle.nm_files.specs.Files.{IsSound};
 ghost use Rattle.nm_shared.specs.Board.{IsOwnerOf};
 
 use crate::scripted::{NEVER, Scripted};
-use crate::sides::{Open, topology_of};
+use crate::sides::topology_of;
 use crate::texts::SPLIT;
 use nm_base::{ChanNo, MemSink, PartNo, Time};
 use nm_book::{ChannelMessage, Null};
 use nm_files::TraceFiles;
 use nm_net::seats::own_seats;
 use nm_net::{Holdings, Served, Service, run_replica};
-use nm_shared::{ClockBoard, Pass, Plain, SharedBook};
+use nm_shared::{ClockBoard, OpenGate, Pass, Plain, SharedBook};
 use nm_topology::Topology;
 use std::alloc::Global;
 use std::sync::{Arc, Wait};
@@ -70,7 +70,7 @@ fn serve_sister<'x, R: Wait>(
         run_limit: 4_096,
         progress: None,
     };
-    run_replica(rt, alloc, &replica, holdings, &mut transport, &Open)
+    run_replica(rt, alloc, &replica, holdings, &mut transport, &OpenGate)
 }
 
 /// It merges what its sister knows, and ends once all replicas are done, without a link.

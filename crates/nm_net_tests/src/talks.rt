@@ -31,7 +31,8 @@ pub const RUBBISH: [u8; 5] = [0, 0, 0, 1, 77];
 const ZEROS: &str = "000000000000000000000000000000000000000000000000000000000000000000000000\
 000000000000000000000000000000000000000000000000000000000000000000000000";
 
-/// The octets of a text in hexadecimal, with SPLIT's digest for DIGEST, and 72 octets of 0 for ZEROS.
+/// The octets of a text in hexadecimal, with SPLIT's digest for DIGEST, and 72 octets of 0 for
+/// ZEROS.
 fn octets_of(alloc: Global, text: &str) -> Result<Vec<u8>, Fail> {
     let topology = Topology::read(alloc, SPLIT.as_bytes())?;
     let digest = hex::encode(alloc, topology.digest())?;

@@ -1,9 +1,11 @@
 //! ICMP messages (RFC 792).
 
-ghost use Rattle.std.specs.Prelude.{◌≡◌, ◌+◌, ◌≤◌, List, [], ℕ, length, Some, None, Ok, IfOk, MatchResult};
+ghost use Rattle.std.specs.Prelude.{◌≡◌, ◌+◌, ◌≤◌, List, [], ℕ, length, Some, None, Ok, IfOk};
+ghost use Rattle.std.specs.Prelude.{MatchResult};
 ghost use Rattle.nm_packet.specs.declared.limits.TheConstants.{MAX_DATAGRAM_DATA, MAX_PACKET_DATA};
 ghost use Rattle.nm_packet.specs.Ipv4.{IsIpv4, checked, packet_octets, plain_header};
-ghost use Rattle.nm_packet.specs.Icmp.{IcmpHeader, IsIcmp, icmp_checked, icmp_data_of, icmp_fault, icmp_fields_of, icmp_header, icmp_octets, message_octets};
+ghost use Rattle.nm_packet.specs.Icmp.{IcmpHeader, IsIcmp, icmp_checked, icmp_data_of, icmp_fault};
+ghost use Rattle.nm_packet.specs.Icmp.{icmp_fields_of, icmp_header, icmp_octets, message_octets};
 ghost use Rattle.nm_packet.specs.Octets.{word_at};
 
 use crate::checksum::sum_words;

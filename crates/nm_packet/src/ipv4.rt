@@ -1,10 +1,14 @@
 //! IPv4 packets (RFC 791, section 3.1).
 
-ghost use Rattle.std.specs.Prelude.{IfOk, Ok, ◌++◌, ◌≡◌, ◌+◌, ◌==◌, ◌%◌, ◌<◌, ◌≤◌, List, ℕ, length, None, Some, MatchResult};
+ghost use Rattle.std.specs.Prelude.{IfOk, Ok, ◌++◌, ◌≡◌, ◌+◌, ◌==◌, ◌%◌, ◌<◌, ◌≤◌, List, ℕ, length};
+ghost use Rattle.std.specs.Prelude.{None, Some, MatchResult};
 ghost use Rattle.nm_base.specs.declared.limits.TheConstants.{MAX_PACKET_OCTETS};
 ghost use Rattle.nm_packet.specs.declared.limits.TheConstants.{MAX_PAYLOAD};
 ghost use Rattle.nm_packet.specs.Octets.{IsOctets};
-ghost use Rattle.nm_packet.specs.Ipv4.{Header, HeaderFits, IsIpv4, IsPacket, checked, cut_of, fields_of, header_fault, header_length_of, header_octets, header_of, lowered, packet_octets, payload_of, plain_header, quote_of};
+ghost use Rattle.nm_packet.specs.Ipv4.{Header, HeaderFits, IsIpv4, IsPacket, checked, cut_of};
+ghost use Rattle.nm_packet.specs.Ipv4.{fields_of, header_fault, header_length_of, header_octets};
+ghost use Rattle.nm_packet.specs.Ipv4.{header_of, lowered, packet_octets, payload_of, plain_header};
+ghost use Rattle.nm_packet.specs.Ipv4.{quote_of};
 
 use crate::Address;
 use crate::buffer::{MAX_CUT_OCTETS, PacketBuffer};

@@ -5,9 +5,12 @@ ghost use Rattle.nm_packet.specs.declared.icmp.TheConstants as icmp;
 ghost use Rattle.nm_packet.specs.declared.limits.TheConstants as limits;
 ghost use Rattle.nm_packet.specs.declared.udp.TheConstants as udp;
 ghost use Rattle.nm_packet.specs.Checksum.{updated_checksum};
-ghost use Rattle.nm_packet.specs.Ipv4.{Header, HeaderFits, IsIpv4, checked, cut_of, fields_of, header_fault, lowered, packet_octets, payload_of};
-ghost use Rattle.nm_packet.specs.Udp.{IsUdp, UdpFits, UdpHeader, datagram_octets, udp_checked, udp_cut_of, udp_data_of, udp_fault, udp_fields_of};
-ghost use Rattle.nm_packet.specs.Icmp.{IcmpFits, IcmpHeader, IsIcmp, icmp_checked, icmp_data_of, icmp_fault, icmp_fields_of, message_octets};
+ghost use Rattle.nm_packet.specs.Ipv4.{Header, HeaderFits, IsIpv4, checked, cut_of, fields_of};
+ghost use Rattle.nm_packet.specs.Ipv4.{header_fault, lowered, packet_octets, payload_of};
+ghost use Rattle.nm_packet.specs.Udp.{IsUdp, UdpFits, UdpHeader, datagram_octets, udp_checked};
+ghost use Rattle.nm_packet.specs.Udp.{udp_cut_of, udp_data_of, udp_fault, udp_fields_of};
+ghost use Rattle.nm_packet.specs.Icmp.{IcmpFits, IcmpHeader, IsIcmp, icmp_checked, icmp_data_of};
+ghost use Rattle.nm_packet.specs.Icmp.{icmp_fault, icmp_fields_of, message_octets};
 
 /// A packet is read with the fields and the payload that it was made of, whatever follows it. So
 /// octets are a packet with one header and one payload at most.

@@ -1,10 +1,13 @@
 //! UDP datagrams (RFC 768).
 
-ghost use Rattle.std.specs.Prelude.{◌≡◌, ◌+◌, ◌++◌, ◌≤◌, List, [], ℕ, length, Some, None, Ok, IfOk, MatchResult};
+ghost use Rattle.std.specs.Prelude.{◌≡◌, ◌+◌, ◌++◌, ◌≤◌, List, [], ℕ, length, Some, None, Ok, IfOk};
+ghost use Rattle.std.specs.Prelude.{MatchResult};
 ghost use Rattle.nm_packet.specs.declared.limits.TheConstants.{MAX_DATAGRAM_DATA, MAX_PACKET_DATA};
 ghost use Rattle.nm_packet.specs.Checksum.{folded, word_sum};
 ghost use Rattle.nm_packet.specs.Ipv4.{IsIpv4, checked, packet_octets, plain_header};
-ghost use Rattle.nm_packet.specs.Udp.{IsDatagram, IsUdp, UdpHeader, datagram_octets, udp_checked, pseudo_header, udp_cut_of, udp_data_of, udp_fault, udp_fields_of, udp_header, udp_octets};
+ghost use Rattle.nm_packet.specs.Udp.{IsDatagram, IsUdp, UdpHeader, datagram_octets, udp_checked};
+ghost use Rattle.nm_packet.specs.Udp.{pseudo_header, udp_cut_of, udp_data_of, udp_fault};
+ghost use Rattle.nm_packet.specs.Udp.{udp_fields_of, udp_header, udp_octets};
 
 use crate::Address;
 use crate::checksum::sum_words;

@@ -1,6 +1,7 @@
 //! A trace file as it is written.
 
-ghost use Rattle.std.specs.Prelude.{◌≡◌, ◌≤◌, ◌<◌, ◌^◌, ◌++◌, false, length, if◌then◌else◌, Err, Ok};
+ghost use Rattle.std.specs.Prelude.{◌≡◌, ◌≤◌, ◌<◌, ◌^◌, ◌++◌, false, length, if◌then◌else◌, Err};
+ghost use Rattle.std.specs.Prelude.{Ok};
 ghost use Rattle.hex.specs.Hex.{encode_lower};
 ghost use Rattle.nm_base.specs.declared.limits.TheConstants.{MAX_TIME};
 ghost use Rattle.nm_pcap.specs.declared.form.Form.TheVariants.{Octets};

@@ -5,7 +5,7 @@ use Rattle.std.specs.List.{All, IsDistinct, flat_map, list_any}
 use Rattle.std.proofs.lemmas.List.{append-nil}
 use Rattle.std.proofs.lemmas.List.Elements.{All-head, All-nil, All-push, All-tail}
 use Rattle.std.proofs.lemmas.Grind.{flat_map-append}
-use Rattle.nm_text.specs.Split.{HasNo}
+use Rattle.nm_base.specs.Text.{HasNo}
 use Rattle.nm_peers.specs.declared.listener.Listener.{Listener}
 use Rattle.nm_peers.specs.Listeners.{Fits, AreListeners, listener_line, listener_words, is_of, is_same}
 use Rattle.nm_peers.proofs.Apart.{apart_before, apart_more, apart_none}

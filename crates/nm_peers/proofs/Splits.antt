@@ -5,7 +5,7 @@ use Rattle.std.specs.Int.{IsInRange}
 use Rattle.std.proofs.lemmas.Fmt.{decimal_is_IsNumeral}
 use Rattle.std.proofs.lemmas.Str.Parse.{digit_at}
 use Rattle.std.proofs.lemmas.List.Elements.{All-head, All-tail, All-from_get_or}
-use Rattle.nm_text.specs.Split.{HasNo}
+use Rattle.nm_base.specs.Text.{HasNo}
 
 -- this octet is not that one
 abbrev pub IsNot : ℕ → ℕ → Type 0

@@ -13,7 +13,7 @@ use Rattle.std.specs.Net.Text.{ipv4_text, socket_v4_text}
 use Rattle.std.proofs.NetLemmas.Alphabet.{All-ipv4_text, IsDigitOrDot}
 use Rattle.std.proofs.NetLemmas.Texts.{IsDotted-ipv4_text}
 use Rattle.std.proofs.NetLemmas.Theorems.{IsIpv4Text_unique}
-use Rattle.nm_text.specs.Split.{HasNo}
+use Rattle.nm_base.specs.Text.{HasNo}
 use Rattle.nm_peers.specs.declared.listener.Listener.{Listener}
 use Rattle.nm_peers.specs.Listeners.{Fits, listener_words}
 use Rattle.nm_peers.proofs.Splits.{IsNot, has_it, no_digit, one_split}

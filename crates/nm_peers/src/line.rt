@@ -8,12 +8,9 @@ ghost use Rattle.nm_peers.specs.Listeners.{Fits, listener_words};
 ghost use Rattle.nm_peers.specs.declared.listener.Listener.{Listener as ListenerValue};
 
 use crate::listener::Listener;
-use nm_base::PartNo;
-use nm_text::{number_of, split_once};
+use nm_base::limits::MAX_REPLICA;
+use nm_base::{PartNo, number_of, split_once};
 use std::net::{Ipv4Addr, SocketAddrV4};
-
-/// The greatest number of a replica.
-const MAX_REPLICA: u64 = 1;
 
 /// What a word `A.B.C.D:PORT` says, in decimal without leading zeros.
 fn address_of(word: &[u8]) -> Option<SocketAddrV4>

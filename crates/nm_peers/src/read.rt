@@ -7,8 +7,7 @@ ghost use Rattle.nm_peers.specs.Listeners.{ReadsListeners, is_of};
 use crate::fault::ListenersFault;
 use crate::line::listener_of;
 use crate::listener::Listener;
-use nm_base::PartNo;
-use nm_text::split_once;
+use nm_base::{PartNo, split_once};
 use std::alloc::Global;
 
 /// Whether one of the listeners is that of this replica.

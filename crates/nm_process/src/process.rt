@@ -20,7 +20,7 @@ use nm_peers::peers::own_address;
 use nm_peers::{Listener, Peers, peers_of};
 use nm_progress::Progress;
 use nm_shared::counts::PARTS;
-use nm_shared::{ClockBoard, Counts, Gate, Ledgers, Naming, Pass, SharedBook};
+use nm_shared::{ClockBoard, Counts, Ledgers, Naming, OpenGate, Pass, SharedBook};
 use nm_topology::Topology;
 use std::alloc::Global;
 use std::io::{self, ErrorKind};
@@ -46,19 +46,6 @@ pub struct Process<'a> {
     pub idle_limit: u64,
     /// Where it notes how far it is.
     pub progress: &'a Progress,
-}
-
-/// A gate that lets all go on.
-struct Open;
-
-impl Gate for Open {
-    fn enter(&self, _job: usize) {}
-
-    fn leave(&self, _job: usize) {}
-
-    fn poll(&self, _moved: u64) -> bool {
-        true
-    }
 }
 
 /// Listens at the process's own address, and calls its peers.
@@ -108,7 +95,7 @@ fn serve<C: Counts, R: Net + Wait + Drop + Copy>(
         run_limit: RUN_EVENTS,
         progress: Some(process.progress),
     };
-    match run_replica(rt, alloc, &service, holdings, &mut transport, &Open) {
+    match run_replica(rt, alloc, &service, holdings, &mut transport, &OpenGate) {
         Served::Ended => Ok(()),
         Served::Net | Served::File { .. } => Err(ProcessFault::Net),
         Served::Memory => Err(ProcessFault::Memory),

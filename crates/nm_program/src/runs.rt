@@ -3,7 +3,7 @@
 ghost use Rattle.std.specs.Prelude.{◌≡◌, ℕ, ◌<◌, ◌≤◌, ◌++◌, List, Some, IfErr, IfOk, OnOk, Ok, codes, length, slice_get};
 ghost use Rattle.std.specs.Arc.{arc_value};
 ghost use Rattle.nm_base.specs.declared.record.Record.{Record as TraceRecord};
-ghost use Rattle.nm_command.specs.declared.command.TheConstants.{MAX_WORKERS};
+ghost use Rattle.nm_base.specs.declared.limits.TheConstants.{MAX_WORKERS};
 ghost use Rattle.nm_run.specs.Report.{AreTotals, IsCertifiedRun};
 ghost use Rattle.nm_sim.specs.Records.{totals_of};
 ghost use Rattle.nm_sim.specs.Trace.{IsTraceBefore};
@@ -14,13 +14,12 @@ ghost use Rattle.nm_words.specs.Lines.{iface_line, iface_lines};
 ghost use Rattle.nm_program.specs.Run.{EndsRun, SaysCertified, StopsRun};
 
 use crate::means::Means;
-use nm_base::{IfaceNo, Sink};
+use nm_base::{IfaceNo, Sink, push_text};
 use nm_command::Status;
 use nm_files::Outputs;
 use nm_run::{IfaceTotals, Report, RunFault, RunPlan, run_all};
-use nm_shared::Gate;
+use nm_shared::OpenGate;
 use nm_sim::trace::every_topology_has_a_trace;
-use nm_text::push_text;
 use nm_topology::Topology;
 use nm_topology::topology::accepted_topologies_are_in_order;
 use nm_words::input::NamedInputs;
@@ -33,19 +32,6 @@ use std::net;
 use std::net::Net;
 use std::sync::{Arc, Wait};
 use std::thread::Threads;
-
-/// A gate that lets all go on.
-struct Open;
-
-impl Gate for Open {
-    fn enter(&self, _job: usize) {}
-
-    fn leave(&self, _job: usize) {}
-
-    fn poll(&self, _moved: u64) -> bool {
-        true
-    }
-}
 
 /// Appends the line of an interface that has these totals.
 fn push_total(
@@ -153,7 +139,7 @@ where
         progress: means.progress,
     };
     means.progress.begin(network.stop());
-    let report = match run_all(means.rt, means.alloc, &plan, outputs, &Open) {
+    let report = match run_all(means.rt, means.alloc, &plan, outputs, &OpenGate) {
         Ok(report) => report,
         Err(fault) => return Err(status_of(fault)),
     };

@@ -13,11 +13,11 @@ ghost use Rattle.nm_topology.specs.TopologyValue.{TopologyValue};
 use crate::amounts::traffic_of_all;
 use crate::measured::Measured;
 use crate::watched::{Watched, node_at, source_at};
+use nm_base::limits::MAX_PART_STEPS;
 use nm_base::{Place, Time};
 use nm_events::SortedList;
 use nm_progress::Progress;
 use nm_sim::Part;
-use nm_sim::part::MAX_STEPS;
 use nm_topology::Topology;
 use std::alloc::{AllocError, Global};
 
@@ -66,7 +66,7 @@ fn run(
         × Represents pending_of topology.now None part.new (one_list (net_of topology.now) n)) }
 {
     let mut records = 0u64;
-    for done in 0..MAX_STEPS + 1 {
+    for done in 0..MAX_PART_STEPS + 1 {
         match part.step(alloc, topology, topology.stop())? {
             None => return Ok(()),
             Some(key) => {

@@ -5,11 +5,10 @@ ghost use Rattle.nm_report.specs.Lines.{EndsLine};
 
 use crate::table::end_line;
 use crate::units::push_address;
-use nm_base::{Dir, Record};
+use nm_base::{Dir, Record, push_number, push_text};
 use nm_packet::icmp::IcmpView;
 use nm_packet::ipv4::Ipv4View;
 use nm_packet::{HeaderFault, Icmp, Ipv4, Udp};
-use nm_text::{push_number, push_text};
 use std::alloc::AllocError;
 
 /// The numbers of protocols (RFC 790).

@@ -3,7 +3,7 @@
 ghost use Rattle.std.specs.Prelude.{OnOk};
 ghost use Rattle.nm_report.specs.Lines.{EndsLine};
 
-use nm_text::{push_number, push_text};
+use nm_base::{push_number, push_text};
 use std::alloc::{AllocError, Global};
 
 /// A table of cells, row by row. Its first columns are texts, which stand at the left, and all others

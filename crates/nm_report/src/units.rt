@@ -1,7 +1,7 @@
 //! Numbers with the units that people use.
 
+use nm_base::{push_number, push_text};
 use nm_packet::Address;
-use nm_text::{push_number, push_text};
 use std::alloc::AllocError;
 
 /// Units of rates, in bits per second.

@@ -5,7 +5,8 @@ ghost use Rattle.std.specs.Arc.{arc_value};
 ghost use Rattle.nm_book.specs.Book.{is_outgoing, sent_on};
 ghost use Rattle.nm_book.specs.declared.message.ChannelMessage.{ChannelMessage as Message};
 ghost use Rattle.nm_model.specs.World.{World};
-ghost use Rattle.nm_rounds.specs.World.{AreMessages, IsPushed, IsWorld, Steps, merge_answer_of, refusal_of};
+ghost use Rattle.nm_rounds.specs.World.{AreMessages, IsPushed, IsWorld, Steps, merge_answer_of};
+ghost use Rattle.nm_rounds.specs.World.{refusal_of};
 ghost use Rattle.nm_rounds.specs.declared.step.WorldStep.TheVariants as step;
 
 use crate::places::{place_of, sending_place};

@@ -1,21 +1,26 @@
 //! The certificate: whether books, however they came to know what they know, have the traces of
 //! the whole network.
 
-ghost use Rattle.std.specs.Prelude.{◌≡◌, ◌↔◌, ℕ, ◌<◌, true, false, if◌then◌else◌, All, Contains, List, length, map, Some, None, IsOk, OnOk};
+ghost use Rattle.std.specs.Prelude.{◌≡◌, ◌↔◌, ℕ, ◌<◌, true, false, if◌then◌else◌, All, Contains};
+ghost use Rattle.std.specs.Prelude.{List, length, map, Some, None, IsOk, OnOk};
 ghost use Rattle.std.specs.Option.{option_map};
 ghost use Rattle.nm_topology.specs.Topology.{receiving_iface};
 ghost use Rattle.nm_topology.specs.TopologyValue.{TopologyValue};
 ghost use Rattle.nm_model.specs.Accept.{last_from};
-ghost use Rattle.nm_model.specs.Certificate.{Book as ModelBook, IsCertified, PrefixFault, ClockFault};
-ghost use Rattle.nm_model.specs.Certificate.{book_fault, clock_fault, first_below, first_of, has_part, is_done, prefix_fault};
+ghost use Rattle.nm_model.specs.Certificate.{Book as ModelBook, IsCertified, PrefixFault};
+ghost use Rattle.nm_model.specs.Certificate.{ClockFault};
+ghost use Rattle.nm_model.specs.Certificate.{book_fault, clock_fault, first_below, first_of};
+ghost use Rattle.nm_model.specs.Certificate.{has_part, is_done, prefix_fault};
 ghost use Rattle.nm_model.specs.Lists.{nth};
 ghost use Rattle.nm_model.specs.Partition.{comes_in};
 ghost use Rattle.nm_model.specs.Promise.{Tight};
 ghost use Rattle.nm_knowledge.specs.Octets.{same_octets};
 ghost use Rattle.nm_sim.specs.Network.{net_of};
 ghost use Rattle.nm_book.specs.Book.{BookValue, replica_of};
-ghost use Rattle.nm_rounds.specs.Certify.{AreOf, Certifies, Finds, IsWithinSafe, book_of, books_of, cert_fault_number};
-ghost use Rattle.nm_rounds.specs.Certify.{incoming_fault, is_at, list_fault, missing, sender_fault, unfinished};
+ghost use Rattle.nm_rounds.specs.Certify.{AreOf, Certifies, Finds, IsWithinSafe, book_of, books_of};
+ghost use Rattle.nm_rounds.specs.Certify.{cert_fault_number};
+ghost use Rattle.nm_rounds.specs.Certify.{incoming_fault, is_at, list_fault, missing, sender_fault};
+ghost use Rattle.nm_rounds.specs.Certify.{unfinished};
 ghost use Rattle.nm_rounds.specs.SameTopology.{SaysSame};
 
 use crate::same_topology::same_topology;

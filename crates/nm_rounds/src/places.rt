@@ -6,8 +6,8 @@ ghost use Rattle.nm_model.specs.Partition.{goes_out};
 ghost use Rattle.nm_sim.specs.Network.{net_of};
 ghost use Rattle.nm_topology.specs.Topology.{receiving_iface};
 
+use nm_base::limits::MAX_REPLICAS;
 use nm_base::{ChanNo, PartNo};
-use nm_book::book::MAX_REPLICAS;
 use nm_book::channels::goes_out;
 use nm_topology::Topology;
 

@@ -1,6 +1,7 @@
 //! One round: each partition runs all that is safe, and then hears all that the others have for it.
 
-ghost use Rattle.std.specs.Prelude.{◌≡◌, ◌<◌, ℕ, true, IfOk, OnOk, List, length, map, slice_index_or, slice_set};
+ghost use Rattle.std.specs.Prelude.{◌≡◌, ◌<◌, ℕ, true, IfOk, OnOk, List, length, map};
+ghost use Rattle.std.specs.Prelude.{slice_index_or, slice_set};
 ghost use Rattle.nm_model.specs.Before.{IsCount};
 ghost use Rattle.nm_model.specs.Knowledge.{nothing_known};
 ghost use Rattle.nm_model.specs.World.{Replica};
@@ -9,7 +10,8 @@ ghost use Rattle.nm_knowledge.specs.declared.answer.KnowFault.TheVariants.{Memor
 ghost use Rattle.nm_topology.specs.TopologyValue.{TopologyValue};
 ghost use Rattle.nm_book.specs.Book.{is_incoming, is_outgoing, message_channel, sent_on};
 ghost use Rattle.nm_rounds.specs.World.{IsPushed};
-ghost use Rattle.nm_rounds.specs.Rounds.{AreAllNews, AreBooks, AreFinished, AreNews, AreNewsOf, AreOfChannel, AreRounds, EndsRound, RunsAll};
+ghost use Rattle.nm_rounds.specs.Rounds.{AreAllNews, AreBooks, AreFinished, AreNews, AreNewsOf};
+ghost use Rattle.nm_rounds.specs.Rounds.{AreOfChannel, AreRounds, EndsRound, RunsAll};
 ghost use Rattle.nm_rounds.specs.Rounds.{after_hearing, told_all, told_one};
 
 use nm_base::{ChanNo, Packet};

@@ -3,7 +3,7 @@
 ghost use Rattle.std.specs.Prelude.{◌≡◌, ℕ, ◌<◌, ◌≤◌, ◌+◌, IfOk, OnOk};
 ghost use Rattle.std.specs.Arc.{arc_value};
 ghost use Rattle.nm_model.specs.World.{fresh};
-ghost use Rattle.nm_rounds.specs.declared.rounds.TheConstants.{MAX_ROUNDS};
+ghost use Rattle.nm_base.specs.declared.limits.TheConstants.{MAX_ROUNDS};
 ghost use Rattle.nm_rounds.specs.Rounds.{AreBooks, AreEnded, ComesTo, RunsTo};
 
 use crate::round::do_round;
@@ -19,9 +19,6 @@ use nm_topology::topology::accepted_topologies_are_in_order;
 use nm_topology::{TopoFault, Topology};
 use std::alloc::{AllocError, Global};
 use std::sync::Arc;
-
-/// How many rounds may be asked for.
-pub const MAX_ROUNDS: u64 = 1_000_000_000;
 
 /// What rounds come to. The book of number p is replica 0 of partition p.
 #[derive(Drop)]

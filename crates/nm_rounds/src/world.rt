@@ -10,7 +10,7 @@ ghost use Rattle.nm_rounds.specs.declared.world.Stop.TheVariants.{Memory};
 use crate::acting::{deliver, merge, restart, run, send, send_again, send_null, send_old_null};
 use crate::step::{StepAnswer, WorldStep};
 use nm_base::PartNo;
-use nm_book::book::MAX_REPLICAS;
+use nm_base::limits::MAX_REPLICAS;
 use nm_book::{Book, BookFault, ChannelMessage};
 use nm_topology::Topology;
 use nm_topology::topology::accepted_topologies_are_in_order;

@@ -230,7 +230,13 @@ fn watch_all<R: Wait>(rt: &R, opened: &Opened<'_>) -> Result<Vec<Watched>, Alloc
     Ok(watched)
 }
 
-/// Runs all replicas and the dispatcher until all have ended.
+/// Runs all replicas, each in a thread of its own, and the dispatcher in this one, until all have
+/// ended. The dispatcher alone runs books, and begins when all replicas have begun.
+///
+/// # Errors
+///
+/// `Net` where the system refuses a thread: no event was done then, and the replicas that had begun
+/// have ended. `Memory` where memory was refused.
 fn run_threads<S: Sink + Drop + Send, G: Gate + Sync, R>(
     rt: &R,
     alloc: Global,
@@ -238,7 +244,7 @@ fn run_threads<S: Sink + Drop + Send, G: Gate + Sync, R>(
     workers: usize,
     sides: Vec<Side<S>>,
     dispatcher: Dispatcher,
-) -> Result<(Vec<SideEnd<S>>, Dispatcher), AllocError>
+) -> Result<(Vec<SideEnd<S>>, Dispatcher), RunFault>
 where
     R: Net<Stream = net::TcpStream, Listener = net::TcpListener>
         + Threads
@@ -251,35 +257,39 @@ where
     requires sides { All (λ s. All (IsOwnerOf threaded.now.board.now) s.holdings.seats.items
         × All IsSound s.holdings.files.files.items) sides.items }
 {
-    let (ends, dispatched) = thread::join(
+    thread::scope(
+        thread::scope_env(),
         rt,
-        move ||
-            requires { All (λ s. All (IsOwnerOf threaded.now.board.now) s.holdings.seats.items
-                × All IsSound s.holdings.files.files.items) sides.items }
-        {
-            let ends = thread::map_vec(
-                rt,
-                sides,
-                &|side: Side<S>| -> SideEnd<S>
-                    requires { All (IsOwnerOf threaded.now.board.now) side.holdings.seats.items
-                        × All IsSound side.holdings.files.files.items }
-                { run_side(rt, alloc, threaded, side) },
-            );
-            threaded.end_all();
-            ends
-        },
-        move ||
-            requires { (1 ≤ workers) × (workers ≤ 64)
-                × IsSeatOf threaded.now.board.now dispatcher.seat }
+        move |scope| -> Result<(Vec<SideEnd<S>>, Dispatcher), RunFault>
+            requires workers { (1 ≤ workers) × (workers ≤ 64) }
+            requires seat { IsSeatOf threaded.now.board.now dispatcher.seat }
+            requires sides { All (λ s. All (IsOwnerOf threaded.now.board.now)
+                s.holdings.seats.items × All IsSound s.holdings.files.files.items) sides.items }
         {
             let mut dispatcher = dispatcher;
-            let outcome = dispatch(rt, alloc, threaded, workers, &mut dispatcher);
-            (outcome, dispatcher)
+            let mut threads = Vec::new(alloc);
+            for side in sides {
+                let begun = scope.spawn(move || -> SideEnd<S>
+                    requires { All (IsOwnerOf threaded.now.board.now) side.holdings.seats.items
+                        × All IsSound side.holdings.files.files.items }
+                { run_side(rt, alloc, threaded, side) });
+                let Ok(thread) = begun else {
+                    threaded.fail();
+                    return Err(RunFault::Net);
+                };
+                if threads.push(thread).is_err() {
+                    threaded.fail();
+                    return Err(RunFault::Memory);
+                }
+            }
+            dispatch(rt, alloc, threaded, workers, &mut dispatcher)?;
+            let mut ends = Vec::new(alloc);
+            for thread in threads {
+                ends.push(thread.join(rt))?;
+            }
+            Ok((ends, dispatcher))
         },
-    );
-    let (outcome, dispatcher) = dispatched;
-    outcome?;
-    Ok((ends?, dispatcher))
+    )
 }
 
 /// A dispatcher at the beginning of a run, and what wakes it.

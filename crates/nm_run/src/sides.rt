@@ -50,8 +50,8 @@ pub(crate) struct SideEnd<S> {
     pub holdings: Holdings<Plain, S>,
 }
 
-/// A replica with its book, and with the partitions that it calls. The dispatcher runs its book, and
-/// notes how far it is.
+/// A replica with its book, and with the partitions that it calls. The dispatcher runs its book,
+/// and notes how far it is.
 fn service_of<'x>(
     topology: &'x Arc<Topology>,
     board: &'x ClockBoard,

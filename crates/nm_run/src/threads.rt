@@ -54,12 +54,6 @@ impl<'a, G> Threaded<'a, G> {
         let _ = self.dispatcher.wake();
     }
 
-    /// No replica runs any more, or will.
-    pub(crate) fn end_all(&self) {
-        self.ended.store(self.books.len(), Ordering::SeqCst);
-        let _ = self.dispatcher.wake();
-    }
-
     /// Whether all replicas have ended.
     pub(crate) fn are_over(&self) -> bool {
         self.ended.load(Ordering::SeqCst) >= self.books.len()

@@ -4,10 +4,10 @@ use Rattle.std.specs.List.{flat_map}
 use Rattle.std.proofs.lemmas.List.Elements.{All-nil, All-push}
 use Rattle.std.proofs.lemmas.List.{append-nil}
 use Rattle.std.proofs.lemmas.Grind.{flat_map-append}
-use Rattle.nm_text.specs.Split.{HasNo}
+use Rattle.nm_base.specs.Text.{HasNo}
 use Rattle.nm_rounds.specs.declared.step.WorldStep.{WorldStep}
 use Rattle.nm_script.specs.declared.line.Line.{Line}
-use Rattle.nm_script.specs.declared.script.TheConstants.{MAX_STEPS}
+use Rattle.nm_base.specs.declared.limits.TheConstants.{MAX_SCRIPT_STEPS}
 use Rattle.nm_script.specs.Grammar.{Says}
 use Rattle.nm_script.specs.Script.{AreLines, BeginsBadly, IsFirstFault, IsScript, Said, steps_in}
 
@@ -54,7 +54,7 @@ flat_map_more_steps lines l = sym (flat_map-append (λ (m : Said). steps_in m.1)
     ∙ ap (λ (t : List WorldStep). flat_map (λ (m : Said). steps_in m.1) lines ++ t) (append-nil (steps_in l.1)))
 
 pub goes_on : (text rest line more : List ℕ) (steps after : List WorldStep) (n : ℕ) (said : Line) → IsReadTo text rest steps n
-    → rest ≡ line ++ 10 ∷ more → HasNo 10 line → Says line said → after ≡ steps ++ steps_in said → length after ≤ MAX_STEPS
+    → rest ≡ line ++ 10 ∷ more → HasNo 10 line → Says line said → after ≡ steps ++ steps_in said → length after ≤ MAX_SCRIPT_STEPS
     → IsReadTo text more after (n + 1)
 goes_on text rest line more steps after n said h cut ended says took few =
     let shown : Said = (line, said) in

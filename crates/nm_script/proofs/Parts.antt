@@ -7,7 +7,7 @@ use Rattle.std.proofs.lemmas.List.Elements.{All-head, All-tail}
 use Rattle.std.proofs.lemmas.List.Splits.{slice_split_at, slice_split_none}
 use Rattle.std.proofs.lemmas.List.{length-map, map-append}
 use Rattle.std.proofs.lemmas.Fmt.{decimal_injective}
-use Rattle.nm_text.specs.Split.{HasNo, parts_at}
+use Rattle.nm_base.specs.Text.{HasNo, parts_at}
 
 abbrev pub AreSmall : List ℕ → Type 0
 AreSmall numbers = All (λ n. n < 2 ^ 64) numbers

@@ -1,6 +1,6 @@
 -- The lines of answers, one after another.
 use Rattle.std.proofs.Common.{◌≡◌, ℕ, ◌+◌, ◌<◌, List, ◌++◌, length, take, get_or}
-use Rattle.nm_text.proofs.Numbered.{numbered_more}
+use Rattle.nm_base.proofs.Numbered.{numbered_more}
 use Rattle.nm_rounds.specs.declared.step.StepAnswer.{StepAnswer}
 use Rattle.nm_script.specs.Printed.{answer_line, answer_lines}
 

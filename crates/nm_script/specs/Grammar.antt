@@ -2,7 +2,7 @@
 use Rattle.std.specs.Prelude.{◌≡◌, ℕ, ◌<◌, ◌^◌, ◌==◌, Bool, true, List, [], ◌∷◌, map, decimal, Some}
 use Rattle.std.specs.List.{All}
 use Rattle.std.specs.Str.{IsAscii}
-use Rattle.nm_text.specs.Split.{parts_at}
+use Rattle.nm_base.specs.Text.{parts_at}
 use Rattle.nm_rounds.specs.declared.step.WorldStep.{WorldStep}
 use Rattle.nm_script.specs.declared.line.Line.{Line}
 use Rattle.nm_script.specs.declared.line.Line.TheVariants.{Skipped, Step}

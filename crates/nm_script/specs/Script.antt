@@ -3,13 +3,13 @@ use Rattle.std.specs.Prelude.{◌≡◌, ◌⊎◌, ℕ, ◌+◌, ◌<◌, ◌�
 use Rattle.std.specs.List.{All, flat_map}
 use Rattle.std.specs.declared.vec.Vec.{Vec}
 use Rattle.std.specs.declared.alloc.Global.{Global}
-use Rattle.nm_text.specs.Split.{HasNo}
+use Rattle.nm_base.specs.Text.{HasNo}
 use Rattle.nm_rounds.specs.declared.step.WorldStep.{WorldStep}
 use Rattle.nm_script.specs.declared.fault.ScriptFault.{ScriptFault}
 use Rattle.nm_script.specs.declared.fault.ScriptFault.TheVariants as fault
 use Rattle.nm_script.specs.declared.line.Line.{Line}
 use Rattle.nm_script.specs.declared.line.Line.TheVariants.{Skipped, Step}
-use Rattle.nm_script.specs.declared.script.TheConstants.{MAX_STEPS}
+use Rattle.nm_base.specs.declared.limits.TheConstants.{MAX_SCRIPT_STEPS}
 use Rattle.nm_script.specs.Grammar.{Says}
 
 -- the steps that a line says: none, or one
@@ -27,11 +27,11 @@ pub record AreLines (lines : List Said) (text : List ℕ) (steps : List WorldSte
   pub ended : All (λ l. HasNo 10 l.0) lines
   pub say : All (λ l. Says l.0 l.1) lines
   pub all : steps ≡ flat_map (λ l. steps_in l.1) lines
-  pub few : length steps ≤ MAX_STEPS
+  pub few : length steps ≤ MAX_SCRIPT_STEPS
 
 -- Behind so many steps no line like this may come: it says nothing that a script may have, or a step too many.
 abbrev pub IsBadLine : ℕ → List ℕ → Type 0
-IsBadLine count line = (said : Line) → Says line said → MAX_STEPS < count + length (steps_in said)
+IsBadLine count line = (said : Line) → Says line said → MAX_SCRIPT_STEPS < count + length (steps_in said)
 
 -- The text begins with such a line, or with one that has no line feed.
 abbrev pub BeginsBadly : ℕ → List ℕ → Type 0
@@ -64,6 +64,6 @@ Tells text (Err fault.Memory) = Unit {0}
 -- A line of this number is taken in behind others: its steps come behind theirs. Or it is bad; or memory was refused.
 abbrev pub Takes : List WorldStep → List ℕ → ℕ → Result Unit ScriptFault → List WorldStep → Type 0
 Takes before line number (Ok done) after =
-    (said : Line) × Says line said × (after ≡ before ++ steps_in said) × (length after ≤ MAX_STEPS)
+    (said : Line) × Says line said × (after ≡ before ++ steps_in said) × (length after ≤ MAX_SCRIPT_STEPS)
 Takes before line number (Err (fault.Line n)) after = (n ≡ number) × IsBadLine (length before) line
 Takes before line number (Err fault.Memory) after = Unit {0}

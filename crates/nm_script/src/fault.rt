@@ -10,7 +10,7 @@ use thiserror::Error;
 #[derive(Clone, Copy, Debug, PartialEq, Eq, Error)]
 pub enum ScriptFault {
     /// The first line, counted from 1, that is no line of a script, that has no line feed at its
-    /// end, or that is a step past the first 1,000,000 (`MAX_STEPS`).
+    /// end, or that is a step past the first 1,000,000 (`MAX_SCRIPT_STEPS`).
     #[error("line {0} of the script")]
     Line(u64),
     /// Memory was refused.

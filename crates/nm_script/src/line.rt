@@ -7,8 +7,8 @@ ghost use Rattle.nm_script.specs.declared.line.Line.{Line as LineValue};
 
 use crate::numbers::numbers_of;
 use crate::words::step_of;
+use nm_base::split_once;
 use nm_rounds::WorldStep;
-use nm_text::split_once;
 
 /// What a line of a script says.
 #[derive(Clone, Copy)]

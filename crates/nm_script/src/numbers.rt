@@ -1,11 +1,12 @@
 //! The numbers of a line.
 
-ghost use Rattle.std.specs.Prelude.{◌≡◌, ℕ, ◌<◌, ◌≤◌, ◌^◌, List, IfSome, IsSomeAnd, length, map, decimal};
+ghost use Rattle.std.specs.Prelude.{◌≡◌, ℕ, ◌<◌, ◌≤◌, ◌^◌, List, IfSome, IsSomeAnd, length, map};
+ghost use Rattle.std.specs.Prelude.{decimal};
 ghost use Rattle.std.specs.List.{All};
-ghost use Rattle.nm_text.specs.Split.{parts_at};
+ghost use Rattle.nm_base.specs.Text.{parts_at};
 
 use arrayvec::ArrayVec;
-use nm_text::{number_of, split_once};
+use nm_base::{number_of, split_once};
 
 /// The greatest number of numbers that a step has.
 pub(crate) const MAX_NUMBERS: usize = 4;

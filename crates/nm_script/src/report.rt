@@ -3,7 +3,8 @@
 ghost use Rattle.std.specs.Prelude.{◌≡◌, ◌++◌, OnOk, IfOk, codes};
 ghost use Rattle.std.specs.List.{flat_map};
 ghost use Rattle.std.specs.String.{string_bytes};
-ghost use Rattle.nm_script.specs.Printed.{accepted_text, answer_line, answer_lines, answer_text, book_line, fault_text};
+ghost use Rattle.nm_script.specs.Printed.{accepted_text, answer_line, answer_lines, answer_text};
+ghost use Rattle.nm_script.specs.Printed.{book_line, fault_text};
 ghost use Rattle.nm_script.specs.Printed.{merge_fault_text, report_text};
 
 use nm_book::{Book, MergeFault};

@@ -2,25 +2,23 @@
 
 ghost use Rattle.std.specs.Prelude.{◌≤◌, length};
 ghost use Rattle.nm_script.specs.Script.{Takes, Tells};
-ghost use Rattle.nm_script.specs.declared.script.TheConstants.{MAX_STEPS};
+ghost use Rattle.nm_base.specs.declared.limits.TheConstants.{MAX_SCRIPT_STEPS};
 
 use crate::fault::ScriptFault;
 use crate::line::{Line, read_line};
+use nm_base::limits::MAX_SCRIPT_STEPS;
+use nm_base::split_once;
 use nm_rounds::WorldStep;
-use nm_text::split_once;
 use std::alloc::Global;
-
-/// The greatest number of steps.
-pub const MAX_STEPS: usize = 1_000_000;
 
 /// Adds what a line says to the steps of the lines before it.
 fn take_line(steps: &mut Vec<WorldStep>, line: &[u8], number: u64) -> Result<(), ScriptFault>
-    requires { length steps.old.items ≤ MAX_STEPS }
+    requires { length steps.old.items ≤ MAX_SCRIPT_STEPS }
     ensures { Takes steps.old.items line.now number result steps.new.items }
 {
     match read_line(line) {
         Some(Line::Skipped) => Ok(()),
-        Some(Line::Step(step)) if steps.len() < MAX_STEPS => Ok(steps.push(step)?),
+        Some(Line::Step(step)) if steps.len() < MAX_SCRIPT_STEPS => Ok(steps.push(step)?),
         _ => Err(ScriptFault::Line(number)),
     }
 }

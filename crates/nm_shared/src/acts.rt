@@ -2,10 +2,12 @@
 
 ghost use Rattle.std.specs.Prelude.{◌≡◌, ◌+◌, IfOk, if◌then◌else◌, is_some, slice_get};
 ghost use Rattle.nm_model.specs.Promise.{Plain, Tight};
-ghost use Rattle.nm_book.specs.Book.{Takes, is_outgoing, message_channel, message_taken, null_on, only_if, state_of};
+ghost use Rattle.nm_book.specs.Book.{Takes, is_outgoing, message_channel, message_taken, null_on};
+ghost use Rattle.nm_book.specs.Book.{only_if, state_of};
 ghost use Rattle.nm_book.specs.Merging.{BookMerges};
 ghost use Rattle.nm_book.specs.Running.{Runs};
-ghost use Rattle.nm_shared.specs.Growing.{accept_grows, handed_grows, merge_grows, runs_grow, same_grows};
+ghost use Rattle.nm_shared.specs.Growing.{accept_grows, handed_grows, merge_grows, runs_grow};
+ghost use Rattle.nm_shared.specs.Growing.{same_grows};
 ghost use Rattle.nm_shared.specs.Known.{messages_known};
 
 use crate::act::Act;

@@ -1,7 +1,8 @@
 //! A board of clocks: for each channel and replica the greatest clock that was told of. Raising and
 //! looking wait for nobody and take no memory.
 
-ghost use Rattle.std.specs.Prelude.{◌≡◌, ◌+◌, ◌*◌, ◌/◌, ◌%◌, ◌<◌, ◌≤◌, [], length, max, vec_capacity, vec_len};
+ghost use Rattle.std.specs.Prelude.{◌≡◌, ◌+◌, ◌*◌, ◌/◌, ◌%◌, ◌<◌, ◌≤◌, [], length, max};
+ghost use Rattle.std.specs.Prelude.{vec_capacity, vec_len};
 
 mod closing;
 mod opening;
@@ -87,7 +88,8 @@ impl OwnerSeat {
 }
 
 impl ClockBoard {
-    ghost use Rattle.nm_shared.specs.Board.{IsOwnerOf, IsSeatOf, LooksAt, owned_word, raised_to, word_count};
+    ghost use Rattle.nm_shared.specs.Board.{IsOwnerOf, IsSeatOf, LooksAt, owned_word, raised_to};
+    ghost use Rattle.nm_shared.specs.Board.{word_count};
 
     /// How many words there are.
     pub fn len(&self) -> usize

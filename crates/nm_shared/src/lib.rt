@@ -20,4 +20,4 @@ pub use counts::Counts;
 pub use ledgers::{Ledgers, Naming};
 pub use plain::Plain;
 pub use shared_book::{Closed, Pass, PassesOut, SharedBook};
-pub use workers::{Gate, Job, PoolReport, pool};
+pub use workers::{Gate, Job, OpenGate, PoolReport, pool};

@@ -41,6 +41,19 @@ pub trait Gate {
     fn poll(&self, moved: u64) -> bool;
 }
 
+/// A gate that lets all go on.
+pub struct OpenGate;
+
+impl Gate for OpenGate {
+    fn enter(&self, _job: usize) {}
+
+    fn leave(&self, _job: usize) {}
+
+    fn poll(&self, _moved: u64) -> bool {
+        true
+    }
+}
+
 /// A pass that a pool made, with its book's place.
 #[derive(Drop)]
 pub struct BookPass<C: Counts> {
@@ -55,7 +68,8 @@ pub struct PoolReport<C: Counts> {
     pub passes: Vec<BookPass<C>>,
 }
 
-/// A pool for jobs that types name.
+/// A pool for jobs that types name. The workers are what the system may refuse a thread for: they
+/// do their jobs in this one then, once the queue is fed, which waits for none of them.
 fn pool_of<C: Counts, J: Jobs + Send + Sync, G: Gate + Sync, R: Threads + Wait + Sync>(
     rt: &R,
     alloc: Global,
@@ -80,12 +94,8 @@ fn pool_of<C: Counts, J: Jobs + Send + Sync, G: Gate + Sync, R: Threads + Wait +
     let mut slots = slots_for(alloc, jobs.len())?;
     let (to, from) = crossbeam_channel::bounded(alloc, QUEUE)?;
     let queue = &from;
-    let count = jobs.len();
-    let (_, results) = thread::join(
+    let (results, fed) = thread::join(
         rt,
-        move ||
-            requires { count ≡ length J.books }
-        { feed::<J, R>(rt, to, count) },
         move ||
             requires named { All (λ j. j.book < length books.now) jobs.now }
             requires books { J.books ≡ map (λ j. j.book) jobs.now }
@@ -102,10 +112,17 @@ fn pool_of<C: Counts, J: Jobs + Send + Sync, G: Gate + Sync, R: Threads + Wait +
                 { work::<C, J, G, R>(rt, alloc, books, jobs, queue, gate) },
             )
         },
+        move ||
+            requires named { All (λ j. j.book < length books.now) jobs.now }
+            requires length { length jobs.now ≡ length J.books }
+            requires books { J.books ≡ map (λ j. j.book) jobs.now }
+            requires limits { J.limits ≡ map (λ j. j.limit) jobs.now }
+        { feed::<C, J, G, R>(rt, alloc, books, jobs, to, gate) },
     );
     for result in results? {
         put_all(&mut slots, result?);
     }
+    put_all(&mut slots, fed?);
     report_of::<C, J, G, R>(rt, alloc, books, jobs, slots, gate)
 }
 

@@ -1,6 +1,7 @@
 //! What a part puts on the channels that go out of it.
 
-ghost use Rattle.std.specs.Prelude.{◌≡◌, ◌≢◌, ℕ, ◌≤◌, ◌<◌, ◌++◌, ◌∷◌, [], length, OnOk, IfOk, slice_get};
+ghost use Rattle.std.specs.Prelude.{◌≡◌, ◌≢◌, ℕ, ◌≤◌, ◌<◌, ◌++◌, ◌∷◌, [], length, OnOk, IfOk};
+ghost use Rattle.std.specs.Prelude.{slice_get};
 ghost use Rattle.nm_sim.specs.Outgoing.{HaveSpare, channel_count, messages_in};
 ghost use Rattle.nm_sim.specs.Tables.{AllAt};
 

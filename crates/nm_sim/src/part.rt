@@ -1,6 +1,7 @@
 //! A part of a simulation.
 
-ghost use Rattle.std.specs.Prelude.{◌≡◌, ℕ, ◌+◌, ◌<◌, ◌≤◌, ◌^◌, true, List, [], Option, Some, None, Ok, IfOk, IfSome, OnOk, OnErr, length, replicate};
+ghost use Rattle.std.specs.Prelude.{◌≡◌, ℕ, ◌+◌, ◌<◌, ◌≤◌, ◌^◌, true, List, [], Option, Some, None};
+ghost use Rattle.std.specs.Prelude.{Ok, IfOk, IfSome, OnOk, OnErr, length, replicate};
 ghost use Rattle.nm_base.specs.declared.event.Event.{Event as PendingEvent};
 ghost use Rattle.nm_base.specs.declared.event.Event.TheVariants.{Completion, Delivery};
 ghost use Rattle.nm_base.specs.declared.event.Origin.TheVariants.{Source as FromSource};
@@ -18,7 +19,10 @@ ghost use Rattle.nm_forward.specs.State.{NodeStateValue};
 ghost use Rattle.nm_forward.specs.Reaction.{FitsOrigin, sent_of};
 ghost use Rattle.nm_sim.specs.Network.{here_of, net_of};
 ghost use Rattle.nm_sim.specs.Outgoing.{HaveSpare};
-ghost use Rattle.nm_sim.specs.Part.{Advanced, HasMemory, HasReacted, IsReady, IsUnderWay, Performed, Represents, Stepped, busy_at, count_at, drops_at, events_counted, events_done, messages_out, waiting_at, with_arrival};
+ghost use Rattle.nm_sim.specs.Part.{Advanced, HasMemory, HasReacted, IsReady, IsUnderWay};
+ghost use Rattle.nm_sim.specs.Part.{Performed, Represents, Stepped, busy_at, count_at, drops_at};
+ghost use Rattle.nm_sim.specs.Part.{events_counted, events_done, messages_out, waiting_at};
+ghost use Rattle.nm_sim.specs.Part.{with_arrival};
 ghost use Rattle.nm_sim.specs.Records.{totals_at};
 ghost use Rattle.nm_topology.specs.Topology.{receiving_iface};
 ghost use Rattle.nm_topology.specs.TopologyValue.{TopologyValue};
@@ -32,6 +36,7 @@ use crate::network::{channels_are_those_of_the_network, every_topology_is_a_netw
 use crate::outgoing::Outgoing;
 use crate::records::Records;
 use crate::timeline::Timeline;
+use nm_base::limits::MAX_PART_STEPS;
 use nm_base::{ChanNo, Event, IfaceNo, Key, NodeNo, Packet, PartNo, Place, Record, SourceNo, Time};
 use nm_events::EventList;
 use nm_forward::{Counter, NodeState, Reaction};
@@ -44,9 +49,6 @@ use nm_topology::topology::{
 use nm_traffic::laws::source_times_rise;
 use std::alloc::{AllocError, Global};
 use std::marker::Model;
-
-/// The greatest number of events of a part. One more is refused as if its memory were.
-pub const MAX_STEPS: u64 = 1 << 62;
 
 /// A simulation that goes on event by event, in the order of their keys: of a whole network, or of
 /// one partition (a logical process: J. Misra, 1986, section 2), which is fed with the messages of
@@ -242,7 +244,7 @@ impl<L: EventList> Part<L> {
         if !self.timeline.is_due(before) {
             return Ok(false);
         }
-        if self.steps == MAX_STEPS {
+        if self.steps == MAX_PART_STEPS {
             return Err(AllocError);
         }
         self.reserve_event()?;

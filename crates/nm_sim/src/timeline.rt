@@ -1,6 +1,8 @@
 //! The event list of a part, and how many packets were put on each interface.
 
-ghost use Rattle.std.specs.Prelude.{◌≡◌, ℕ, ◌+◌, ◌≤◌, ◌<◌, ◌^◌, ◌++◌, ◌∷◌, List, [], Option, Some, None, OnOk, IfOk, IfSome, IfNone, length, replicate, slice_index, slice_set};
+ghost use Rattle.std.specs.Prelude.{◌≡◌, ℕ, ◌+◌, ◌≤◌, ◌<◌, ◌^◌, ◌++◌, ◌∷◌, List, [], Option, Some};
+ghost use Rattle.std.specs.Prelude.{None, OnOk, IfOk, IfSome, IfNone, length, replicate};
+ghost use Rattle.std.specs.Prelude.{slice_index, slice_set};
 ghost use Rattle.std.specs.Option.{option_map};
 ghost use Rattle.std.specs.FinMap.{empty, get, insert, remove};
 ghost use Rattle.nm_base.specs.Key.{key_of};

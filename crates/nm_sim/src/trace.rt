@@ -10,7 +10,8 @@ ghost use Rattle.nm_sim.specs.Part.{Represents};
 ghost use Rattle.nm_sim.specs.Trace.{IsTraceBefore};
 
 use crate::network::every_topology_is_a_network;
-use crate::part::{MAX_STEPS, Part};
+use crate::part::Part;
+use nm_base::limits::MAX_PART_STEPS;
 use nm_base::{Packet, Record, Time};
 use nm_events::SortedList;
 use nm_forward::NodeState;
@@ -51,7 +52,7 @@ fn run(
         × Represents pending_of topology.now None part.new (one_list (net_of topology.now) n)) }
     ensures whole { OnOk result (part.new.records.handed ≡ 0) }
 {
-    for done in 0..MAX_STEPS + 1 {
+    for done in 0..MAX_PART_STEPS + 1 {
         if !part.advance(alloc, topology, before)? {
             return Ok(());
         }

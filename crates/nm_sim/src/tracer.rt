@@ -6,7 +6,8 @@ ghost use Rattle.nm_events.specs.Held.{pending_of};
 ghost use Rattle.nm_sim.specs.Trace.{Hands, IsTraceBefore, IsTracing};
 
 use crate::network::every_topology_is_a_network;
-use crate::part::{MAX_STEPS, Part};
+use crate::part::Part;
+use nm_base::limits::MAX_PART_STEPS;
 use nm_base::{Packet, Record};
 use nm_events::SortedList;
 use nm_forward::NodeState;
@@ -61,7 +62,7 @@ impl Tracer {
     {
         every_topology_is_a_network(topology); // law: `net_of` is a network of the model
         times_pass::<Packet, NodeState>(); // law: a time is passed after one number of events
-        for done in 0..MAX_STEPS + 1 {
+        for done in 0..MAX_PART_STEPS + 1 {
             if let Some(record) = self.part.hand_out() {
                 return Ok(Some(record));
             }

@@ -15,15 +15,12 @@ use Rattle.std.proofs.lemmas.Map.Text.{is_eq-slice_cmp}
 use Rattle.sha2.specs.Sha256.{sha256}
 use Rattle.toml.specs.Data.{Data, integer, array, table, Items, no_items, item, Members, no_members}
 use Rattle.toml.specs.Data.{member, get_member}
-use Rattle.nm_base.specs.declared.limits.TheConstants.{MAX_IFACES, MAX_LINKS, MAX_MTU, MAX_NODES}
-use Rattle.nm_base.specs.declared.limits.TheConstants.{MAX_QUEUE, MAX_ROUTES, MAX_SOURCES}
-use Rattle.nm_base.specs.declared.limits.TheConstants.{MAX_TEXT_OCTETS, MAX_TIME, MIN_MTU}
+use Rattle.nm_base.specs.declared.limits.TheConstants.{MAX_IFACES, MAX_LINKS, MAX_MTU, MAX_NODES, MAX_QUEUE, MAX_QUEUE_OCTETS, MAX_ROUTES, MAX_SOURCES, MAX_TEXT_OCTETS, MAX_TIME, MIN_MTU}
 use Rattle.nm_topology.specs.declared.fault.Refusal.{Refusal}
 use Rattle.nm_topology.specs.declared.fault.Refusal.TheVariants.{Kind, Range, TooMany, UnknownKey}
 use Rattle.nm_topology.specs.declared.parse.head.Format.{Format}
 use Rattle.nm_topology.specs.declared.parse.head.Format.TheVariants.{One, Two}
 use Rattle.nm_topology.specs.declared.parse.head.Head.{Head}
-use Rattle.nm_base.specs.declared.limits.TheConstants.{MAX_QUEUE_OCTETS}
 use Rattle.nm_topology.specs.Fault.{◌>>=◌, demand}
 use Rattle.nm_topology.specs.Build.{put_together}
 use Rattle.nm_topology.specs.Formats.{IsFormatOne, LimitsNoOctets, is_without, with_digest}

@@ -3,13 +3,9 @@ use Rattle.std.proofs.Common.{◌≡◌, ℕ, ◌≤◌, List, [], ◌∷◌, le
 use Rattle.std.proofs.Common.{Result, Ok, Err, subst, arith}
 use Rattle.std.specs.Prelude.{codes}
 use Rattle.toml.specs.Data.{Data, Members, get_member}
-use Rattle.nm_base.specs.declared.limits.TheConstants.{MAX_DELAY, MAX_IFACES, MAX_LINKS, MAX_MTU}
-use Rattle.nm_base.specs.declared.limits.TheConstants.{MAX_NODES, MAX_PORTS_OF_NODE, MAX_QUEUE}
-use Rattle.nm_base.specs.declared.limits.TheConstants.{MAX_RATE, MAX_ROUTES, MAX_SOURCES, MAX_TIME}
-use Rattle.nm_base.specs.declared.limits.TheConstants.{MIN_MTU, MIN_RATE}
+use Rattle.nm_base.specs.declared.limits.TheConstants.{MAX_DELAY, MAX_IFACES, MAX_LINKS, MAX_MTU, MAX_NODES, MAX_PORTS_OF_NODE, MAX_QUEUE, MAX_QUEUE_OCTETS, MAX_RATE, MAX_ROUTES, MAX_SOURCES, MAX_TIME, MIN_MTU, MIN_RATE}
 use Rattle.nm_topology.specs.declared.fault.Refusal.{Refusal}
 use Rattle.nm_topology.specs.declared.parse.head.Format.{Format}
-use Rattle.nm_base.specs.declared.limits.TheConstants.{MAX_QUEUE_OCTETS}
 use Rattle.std.proofs.lemmas.List.Elements.{All-weaker}
 use Rattle.nm_topology.specs.declared.node.NodeKind.{NodeKind}
 use Rattle.nm_topology.specs.Fault.{◌>>=◌}

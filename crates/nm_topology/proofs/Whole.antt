@@ -1,8 +1,7 @@
 -- A document and its numbers, put together, are in order and within the limits.
 use Rattle.std.proofs.Common.{◌≡◌, All, ℕ, ◌≤◌, List, length, map, Ok, refl, sym, ap, ◌∙◌}
 use Rattle.std.proofs.Common.{subst}
-use Rattle.nm_base.specs.declared.limits.TheConstants.{MAX_CHANNELS, MAX_IFACES, MAX_LINKS}
-use Rattle.nm_base.specs.declared.limits.TheConstants.{MAX_NODES, MAX_PARTITIONS, MAX_SOURCES}
+use Rattle.nm_base.specs.declared.limits.TheConstants.{MAX_CHANNELS, MAX_IFACES, MAX_LINKS, MAX_NODES, MAX_PARTITIONS, MAX_SOURCES}
 use Rattle.nm_topology.specs.declared.parts.Link.{Link}
 use Rattle.nm_topology.specs.declared.parts.Route.{Route}
 use Rattle.nm_topology.specs.declared.traffic.Source.{Source}

@@ -1,9 +1,6 @@
 -- The ranges of what an accepted topology says.
 use Rattle.std.specs.Prelude.{ℕ, ◌+◌, ◌<◌, ◌≤◌, All, List, [], ◌∷◌, length, IfSome}
-use Rattle.nm_base.specs.declared.limits.TheConstants.{MAX_QUEUE_OCTETS}
-use Rattle.nm_base.specs.declared.limits.TheConstants.{MAX_COUNT, MAX_DELAY, MAX_INTERVAL, MAX_MTU}
-use Rattle.nm_base.specs.declared.limits.TheConstants.{MAX_PORTS_OF_NODE, MAX_QUEUE, MAX_RATE}
-use Rattle.nm_base.specs.declared.limits.TheConstants.{MAX_RAW_PACKETS, MAX_TIME, MIN_MTU, MIN_RATE}
+use Rattle.nm_base.specs.declared.limits.TheConstants.{MAX_COUNT, MAX_DELAY, MAX_INTERVAL, MAX_MTU, MAX_PORTS_OF_NODE, MAX_QUEUE, MAX_QUEUE_OCTETS, MAX_RATE, MAX_RAW_PACKETS, MAX_TIME, MIN_MTU, MIN_RATE}
 use Rattle.nm_topology.specs.declared.traffic.Flow.{Flow}
 use Rattle.nm_topology.specs.declared.traffic.RawPacket.{RawPacket}
 use Rattle.nm_topology.specs.declared.traffic.Traffic.{Traffic}

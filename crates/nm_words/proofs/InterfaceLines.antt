@@ -21,7 +21,7 @@ use Rattle.nm_sim.specs.Trace.{IsTraceBefore}
 use Rattle.nm_book.specs.Book.{BookValue, state_of}
 use Rattle.nm_book.proofs.Incoming.{ifaces_are}
 use Rattle.nm_rounds.specs.Rounds.{AreBooks, AreDone, AreUnfinished}
-use Rattle.nm_text.proofs.Numbered.{numbered_more}
+use Rattle.nm_base.proofs.Numbered.{numbered_more}
 use Rattle.nm_words.specs.Lines.{AreOfPartitions, AreTotals, iface_line, iface_lines}
 use Rattle.nm_words.specs.Rounds.{SaysDone, SaysUnfinished}
 use Rattle.nm_topology.specs.Topology.{topology_of}

@@ -7,7 +7,7 @@ use Rattle.nm_topology.specs.Topology.{topology_of}
 use Rattle.nm_topology.specs.TopologyValue.{TopologyValue}
 use Rattle.nm_command.specs.declared.status.Status.{Status}
 use Rattle.nm_command.specs.declared.status.Status.TheVariants.{Done, Usage, NoInterface, ScriptLine, Step, Topology, File, Memory, NotCertified, Stalled}
-use Rattle.nm_words.specs.declared.input.TheConstants.{MAX_INPUT_OCTETS}
+use Rattle.nm_base.specs.declared.limits.TheConstants.{MAX_INPUT_OCTETS}
 use Rattle.nm_words.specs.declared.input.InputFault.{InputFault}
 use Rattle.nm_words.specs.declared.input.InputFault.TheVariants.{Failed, Memory as NoMemory}
 

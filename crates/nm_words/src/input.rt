@@ -4,18 +4,16 @@ ghost use Rattle.std.specs.Prelude.{◌≡◌, ◌+◌, ◌<◌, ◌≤◌, Err,
 ghost use Rattle.std.specs.IoError.{error_kind};
 ghost use Rattle.nm_words.specs.Input.{IsFaultOf, text_of};
 ghost use Rattle.nm_words.specs.declared.input.InputFault.TheVariants.{Failed, TooLong};
-ghost use Rattle.nm_words.specs.declared.input.TheConstants.{MAX_INPUT_OCTETS};
+ghost use Rattle.nm_base.specs.declared.limits.TheConstants.{MAX_INPUT_OCTETS};
 
 use crate::inputs::Inputs;
 use nm_base::failures::FailureCount;
+use nm_base::limits::MAX_INPUT_OCTETS;
 use std::alloc::Global;
 use std::io::{ErrorKind, Read};
 use std::marker::Model;
 use std::{fmt, io};
 use thiserror::Error;
-
-/// The greatest number of octets of an input: 64 MiB.
-pub const MAX_INPUT_OCTETS: u64 = 67_108_864;
 
 /// Why an input was not read.
 #[derive(Clone, Copy, Debug, PartialEq, Eq, Error)]

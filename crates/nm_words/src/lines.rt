@@ -4,11 +4,10 @@ ghost use Rattle.std.specs.Prelude.{◌≡◌, ℕ, ◌<◌, ◌++◌, OnOk, Som
 ghost use Rattle.nm_topology.specs.PartValues.{IfaceValue};
 ghost use Rattle.nm_words.specs.Lines.{AreOfPartitions, AreTotals, iface_line, iface_lines};
 
-use nm_base::IfaceNo;
+use nm_base::{IfaceNo, push_number, push_text};
 use nm_book::Book;
 use nm_book::channels::partition_of;
 use nm_sim::network::every_topology_is_a_network;
-use nm_text::{push_number, push_text};
 use nm_topology::Topology;
 use nm_topology::parts::Iface;
 use nm_topology::topology::accepted_topologies_are_in_order;

@@ -2,7 +2,7 @@
 
 ghost use Rattle.std.specs.Prelude.{◌≡◌, ℕ, ◌≤◌, ◌++◌, List, IfOk, Ok, codes, decimal};
 ghost use Rattle.std.specs.Arc.{arc_value};
-ghost use Rattle.nm_rounds.specs.declared.rounds.TheConstants.{MAX_ROUNDS};
+ghost use Rattle.nm_base.specs.declared.limits.TheConstants.{MAX_ROUNDS};
 ghost use Rattle.nm_topology.specs.Topology.{topology_of};
 ghost use Rattle.nm_words.specs.Input.{text_of};
 ghost use Rattle.nm_words.specs.Lines.{AreOfPartitions, AreTotals, iface_lines};
@@ -13,7 +13,7 @@ use crate::inputs::Inputs;
 use crate::lines::push_lines;
 use crate::output::{Output, put};
 use crate::reading::read_topology;
-use nm_base::{Packet, Sink};
+use nm_base::{Packet, Sink, push_number, push_text};
 use nm_book::Book;
 use nm_command::Status;
 use nm_forward::NodeState;
@@ -21,7 +21,6 @@ use nm_model::trace::interfaces_have_their_records;
 use nm_progress::Progress;
 use nm_rounds::rounds::{Rounds, run_rounds_over};
 use nm_sim::trace::every_topology_has_a_trace;
-use nm_text::{push_number, push_text};
 use nm_topology::Topology;
 use std::alloc::{AllocError, Global};
 use std::sync::Arc;

@@ -1,7 +1,7 @@
 //! A line on a terminal that says how far a run is.
 
+use nm_base::push_text;
 use nm_progress::{Progress, push_line};
-use nm_text::push_text;
 use std::alloc::{AllocError, Global};
 use std::io::Write;
 use std::sync::{Condvar, Mutex, Wait};

@@ -67,7 +67,7 @@ fn number_after(line: &str, name: &str, otherwise: usize) -> usize {
         if word == name {
             let number = words
                 .next()
-                .and_then(|word| nm_text::number_of(word.as_bytes()));
+                .and_then(|word| nm_base::number_of(word.as_bytes()));
             return number.map_or(otherwise, |number| number as usize);
         }
     }

@@ -1,7 +1,10 @@
 //! What a board tells in the end.
 
-ghost use Rattle.std.specs.Prelude.{◌≡◌, ◌+◌, ◌<◌, ◌≤◌, ℕ, List, IfSome, length, slice_index, vec_capacity, vec_len};
-ghost use Rattle.nm_shared.specs.Board.{AreOwnersOf, AreSeatsOf, ClocksAre, FitAll, FitsAt, NoneFoundMore, Sit, SitsAt, id_of, raised_to, view_of, word_count, word_id};
+ghost use Rattle.std.specs.Prelude.{◌≡◌, ◌+◌, ◌<◌, ◌≤◌, ℕ, List, IfSome, length, slice_index};
+ghost use Rattle.std.specs.Prelude.{vec_capacity, vec_len};
+ghost use Rattle.nm_shared.specs.Board.{AreOwnersOf, AreSeatsOf, ClocksAre, FitAll, FitsAt};
+ghost use Rattle.nm_shared.specs.Board.{NoneFoundMore, Sit, SitsAt, id_of, raised_to, view_of};
+ghost use Rattle.nm_shared.specs.Board.{word_count, word_id};
 ghost use Rattle.nm_shared.specs.Clock.{Fits};
 ghost use Rattle.nm_shared.specs.Closing.{FitIf, OwnersSit, SeatsSit, SitIf};
 

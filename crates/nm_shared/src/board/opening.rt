@@ -1,7 +1,9 @@
 //! How a board is made.
 
-ghost use Rattle.std.specs.Prelude.{◌≡◌, ◌+◌, ◌*◌, ◌<◌, ◌≤◌, IfOk, [], length, vec_capacity, vec_len};
-ghost use Rattle.nm_shared.specs.Board.{AreFirstOwners, AreOwners, AreSeatsOf, Sit, view_of, word_count};
+ghost use Rattle.std.specs.Prelude.{◌≡◌, ◌+◌, ◌*◌, ◌<◌, ◌≤◌, IfOk, [], length, vec_capacity};
+ghost use Rattle.std.specs.Prelude.{vec_len};
+ghost use Rattle.nm_shared.specs.Board.{AreFirstOwners, AreOwners, AreSeatsOf, Sit, view_of};
+ghost use Rattle.nm_shared.specs.Board.{word_count};
 ghost use Rattle.nm_shared.specs.Clock.{owner};
 ghost use Rattle.nm_shared.specs.Closing.{SeatsSit};
 

@@ -1,6 +1,7 @@
 //! What the threads of a pool do.
 
-ghost use Rattle.std.specs.Prelude.{◌≡◌, ℕ, ◌<◌, ◌≤◌, List, [], length, map, slice_index, IfOk, All};
+ghost use Rattle.std.specs.Prelude.{◌≡◌, ℕ, ◌<◌, ◌≤◌, List, [], length, map, slice_index, IfOk};
+ghost use Rattle.std.specs.Prelude.{All};
 ghost use Rattle.nm_shared.specs.Known.{ran};
 
 use super::{Gate, Job};
@@ -102,15 +103,28 @@ pub(super) fn run_one<C: Counts, J: Jobs, G: Gate, R: Wait>(
     })
 }
 
-/// Queues each job. The queue ends with its sender.
-pub(super) fn feed<J: Jobs, R: Wait>(rt: &R, to: Sender<Queued<J>>, count: usize)
-    requires { count ≡ length J.books }
+/// Queues each job, and does it where the queue is full: it waits for no other thread, since those
+/// that do the jobs may begin only when it has ended. The queue ends with its sender.
+pub(super) fn feed<C: Counts, J: Jobs, G: Gate, R: Wait>(
+    rt: &R,
+    alloc: Global,
+    books: &[SharedBook<C>],
+    jobs: &[Job],
+    to: Sender<Queued<J>>,
+    gate: &G,
+) -> Result<Vec<Done<C, J>>, AllocError>
+    requires named { All (λ j. j.book < length books.now) jobs.now }
+    requires length { length jobs.now ≡ length J.books }
+    requires books { J.books ≡ map (λ j. j.book) jobs.now }
+    requires limits { J.limits ≡ map (λ j. j.limit) jobs.now }
 {
-    for place in 0..count {
-        if to.send(rt, to_queue(place)).is_err() {
-            break;
+    let mut all = Vec::new(alloc);
+    for place in 0..jobs.len() {
+        if to.try_send(rt, to_queue(place)).is_err() {
+            all.push(run_one::<C, J, G, R>(rt, alloc, books, jobs, place, gate)?)?;
         }
     }
+    Ok(all)
 }
 
 /// Does jobs until the queue ends. Once memory was refused, it only empties the queue.

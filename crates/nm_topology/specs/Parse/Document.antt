@@ -1,9 +1,7 @@
 -- The top table of a topology text.
 use Rattle.std.specs.Prelude.{ℕ, ◌==◌, if◌then◌else◌, [], ◌∷◌, Result, Ok, codes}
 use Rattle.toml.specs.Data.{Data, Members, get_member}
-use Rattle.nm_base.specs.declared.limits.TheConstants.{MAX_TIME, MIN_MTU, MAX_MTU, MAX_NODES}
-use Rattle.nm_base.specs.declared.limits.TheConstants.{MAX_IFACES, MAX_LINKS, MAX_ROUTES}
-use Rattle.nm_base.specs.declared.limits.TheConstants.{MAX_SOURCES}
+use Rattle.nm_base.specs.declared.limits.TheConstants.{MAX_IFACES, MAX_LINKS, MAX_MTU, MAX_NODES, MAX_ROUTES, MAX_SOURCES, MAX_TIME, MIN_MTU}
 use Rattle.nm_topology.specs.declared.fault.Refusal.{Refusal}
 use Rattle.nm_topology.specs.declared.parse.head.Format.{Format}
 use Rattle.nm_topology.specs.declared.parse.head.Format.TheVariants.{One, Two}

@@ -1,9 +1,6 @@
 -- The ranges of what a topology text says, with names in place of numbers.
 use Rattle.std.specs.Prelude.{ℕ, ◌≤◌, All, length, IfSome}
-use Rattle.nm_base.specs.declared.limits.TheConstants.{MAX_QUEUE_OCTETS}
-use Rattle.nm_base.specs.declared.limits.TheConstants.{MAX_DELAY, MAX_MTU, MAX_PORTS_OF_NODE}
-use Rattle.nm_base.specs.declared.limits.TheConstants.{MAX_QUEUE, MAX_RATE, MAX_TIME, MIN_MTU}
-use Rattle.nm_base.specs.declared.limits.TheConstants.{MIN_RATE}
+use Rattle.nm_base.specs.declared.limits.TheConstants.{MAX_DELAY, MAX_MTU, MAX_PORTS_OF_NODE, MAX_QUEUE, MAX_QUEUE_OCTETS, MAX_RATE, MAX_TIME, MIN_MTU, MIN_RATE}
 use Rattle.nm_topology.specs.declared.parse.sources.NamedTraffic.{NamedTraffic}
 use Rattle.nm_topology.specs.declared.parse.sources.NamedTraffic.TheVariants.{Cbr as NamedCbr}
 use Rattle.nm_topology.specs.declared.parse.sources.NamedTraffic.TheVariants.{Echo as NamedEcho}

@@ -6,8 +6,7 @@ use Rattle.std.specs.Str.{bytes_eq}
 use Rattle.toml.specs.Data.{Data, array, Items, no_items, item, Members, get_member}
 use Rattle.hex.specs.Hex.{decode_of}
 use Rattle.hex.specs.declared.error.FromHexError.{FromHexError}
-use Rattle.nm_base.specs.declared.limits.TheConstants.{MAX_COUNT, MAX_INTERVAL, MAX_RAW_PACKETS}
-use Rattle.nm_base.specs.declared.limits.TheConstants.{MAX_TIME}
+use Rattle.nm_base.specs.declared.limits.TheConstants.{MAX_COUNT, MAX_INTERVAL, MAX_RAW_PACKETS, MAX_TIME}
 use Rattle.nm_topology.specs.declared.fault.Refusal.{Refusal}
 use Rattle.nm_topology.specs.declared.fault.Refusal.TheVariants.{Hex, Kind, Range, TooMany}
 use Rattle.nm_topology.specs.declared.traffic.Flow.{Flow}

@@ -2,10 +2,8 @@
 -- types and ranges.
 use Rattle.std.specs.Prelude.{ℕ, List, [], ◌∷◌, None, Result, Ok, codes}
 use Rattle.toml.specs.Data.{Members, get_member}
-use Rattle.nm_base.specs.declared.limits.TheConstants.{MAX_DELAY, MAX_PORTS_OF_NODE, MAX_QUEUE}
-use Rattle.nm_base.specs.declared.limits.TheConstants.{MAX_RATE, MIN_RATE}
+use Rattle.nm_base.specs.declared.limits.TheConstants.{MAX_DELAY, MAX_PORTS_OF_NODE, MAX_QUEUE, MAX_QUEUE_OCTETS, MAX_RATE, MIN_RATE}
 use Rattle.nm_topology.specs.declared.fault.Refusal.{Refusal}
-use Rattle.nm_base.specs.declared.limits.TheConstants.{MAX_QUEUE_OCTETS}
 use Rattle.nm_topology.specs.declared.parse.head.Format.{Format}
 use Rattle.nm_topology.specs.declared.parse.head.Format.TheVariants.{One, Two}
 use Rattle.nm_topology.specs.Fault.{◌>>=◌}

@@ -1,7 +1,7 @@
 use Rattle.std.proofs.Common.{◌≡◌, ◌-◌, ◌≤◌, List, [], vec_len, Option}
 use Rattle.nm_engine.specs.Giving.{GivesFrames}
 use Rattle.nm_engine.specs.Acceptor.{AcceptorValue}
-use Rattle.nm_engine.specs.declared.limits.TheConstants.{FULL_OUT_OCTETS, MAX_OUT_OCTETS}
+use Rattle.nm_base.specs.declared.limits.TheConstants.{FULL_OUT_OCTETS, MAX_OUT_OCTETS}
 use Rattle.nm_engine.proofs.giving.give_all.Given as goal
 
 abbrev pub invariant-loop-session : goal.invariant-loop-session

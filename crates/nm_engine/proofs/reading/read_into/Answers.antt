@@ -1,5 +1,5 @@
 use Rattle.std.proofs.Common.{◌≡◌, ℕ, List, length, arith}
-use Rattle.nm_engine.specs.declared.limits.TheConstants.{MAX_READ_OCTETS}
+use Rattle.nm_base.specs.declared.limits.TheConstants.{MAX_READ_OCTETS}
 use Rattle.nm_engine.proofs.Readings.{came_none, read_none, read_some}
 use Rattle.nm_engine.proofs.reading.read_into.Goals as goal
 

@@ -1,6 +1,7 @@
-use Rattle.std.proofs.Common.{◌≤◌, ◌+◌, refl, ◌∙◌, subst, arith, rules}
+use Rattle.std.proofs.Common.{◌≤◌, ◌+◌, refl, sym, ◌∙◌, subst, rules}
 use Rattle.nm_net.specs.Served.{EndsEarly}
 use Rattle.nm_net.proofs.Endings.{early_ends}
+use Rattle.nm_net.proofs.Polls.{ends_after, idles_wait, waits_rise}
 use Rattle.nm_net.proofs.Recordings.{streams_more, streams_none}
 use Rattle.nm_net.proofs.replica.run_replica.Goals as goal
 
@@ -21,25 +22,36 @@ loop-polls-init g c = record {
   streams = streams_none g.S.Sink.taken g.S.Sink.failures c.args.holdings.now.files.files.items c.requires.files;
 }
 
-pub returns-then-polled-clause-streams : goal.returns-then-polled-clause-streams
-returns-then-polled-clause-streams g c = λ _.
+pub returns-in-Some-clause-streams : goal.returns-in-Some-clause-streams
+returns-in-Some-clause-streams g c = λ _.
     streams_more g.S.Sink.taken g.S.Sink.failures c.args.holdings.now.files.files.items c.loop-polls.holdings.files.files.items c.poll-in-loop-polls.new.holdings.files.files.items
     c.loop-polls.invariant.streams c.in-Ok-poll.ensures.streams
 
-pub returns-then-polled-clause-ends : goal.returns-then-polled-clause-ends
-returns-then-polled-clause-ends g c = c.in-Ok-poll.ensures.done c.if-polled.true
+pub returns-in-Some-clause-ends : goal.returns-in-Some-clause-ends
+returns-in-Some-clause-ends g c =
+    let start = g.T.Transport.idle_waits c.args.transport.now in
+    let before = g.T.Transport.idle_waits c.loop-polls.transport in
+    let after = g.T.Transport.idle_waits c.poll-in-loop-polls.new.transport in
+    let polled = c.in-Ok-poll.polled in
+    let one = waits_rise c.loop-polls.serving.is_busy before after polled.ran_out c.in-Ok-poll.ensures.idle in
+    let many = idles_wait c.loop-polls.idle polled.was_active polled.ran_out start before after c.loop-polls.invariant.idle one in
+    let idles = subst (λ idle. start + idle ≤ after) (sym c.idle_polls-idle.ensures) many in
+    ends_after g.C.Counts.exact g.C.Counts.home c.args.service.now.idle_limit start after c.idle_polls-idle.result (c.loop-polls.polls + 1) polled.is_done
+    c.in-Some.served c.in-Ok-poll.ensures.done idles (sym c.ending_of.ensures ∙ c.in-Some.is)
 
 pub loop-polls-preserved : goal.loop-polls-preserved
 loop-polls-preserved g c =
-    let before = g.T.Transport.idle_waits c.args.transport.now in
-    let so_far : before + c.loop-polls.idle ≤ g.T.Transport.idle_waits c.loop-polls.transport = c.loop-polls.invariant.idle in
-    let one = c.in-Ok-poll.ensures.idle in
-    let few = c.idle_polls-idle.ensures in
+    let start = g.T.Transport.idle_waits c.args.transport.now in
+    let before = g.T.Transport.idle_waits c.loop-polls.transport in
+    let after = g.T.Transport.idle_waits c.poll-in-loop-polls.new.transport in
+    let polled = c.in-Ok-poll.polled in
+    let one = waits_rise c.loop-polls.serving.is_busy before after polled.ran_out c.in-Ok-poll.ensures.idle in
+    let many = idles_wait c.loop-polls.idle polled.was_active polled.ran_out start before after c.loop-polls.invariant.idle one in
     record {
       owners = c.in-Ok-poll.ensures.owners;
       seats = c.in-Ok-poll.ensures.seats ∙ c.loop-polls.invariant.seats;
       passes = c.in-Ok-poll.ensures.passes ∙ c.loop-polls.invariant.passes;
-      idle = omega (arith, so_far, one, few);
+      idle = subst (λ idle. start + idle ≤ after) (sym c.idle_polls-idle.ensures) many;
       streams = streams_more g.S.Sink.taken g.S.Sink.failures c.args.holdings.now.files.files.items c.loop-polls.holdings.files.files.items
           c.poll-in-loop-polls.new.holdings.files.files.items c.loop-polls.invariant.streams c.in-Ok-poll.ensures.streams;
     }

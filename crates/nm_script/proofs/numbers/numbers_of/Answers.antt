@@ -1,7 +1,7 @@
 use Rattle.std.proofs.Common.{ℕ, List, ◌++◌, ◌∷◌, [], map, decimal, ap, sym, ◌∙◌, subst, ◌<◌, ◌^◌, arith}
 use Rattle.std.proofs.lemmas.List.{append-nil}
 use Rattle.std.proofs.lemmas.List.Elements.{All-push}
-use Rattle.nm_text.specs.Split.{parts_at}
+use Rattle.nm_base.specs.Text.{parts_at}
 use Rattle.nm_script.proofs.Parts.{AreSmall, parts_at-split, parts_at-whole, part_is_number, same_numbers, more_parts, next_part, last_part, one_more, from_err, from_ok}
 use Rattle.nm_script.proofs.numbers.numbers_of.Goals as goal
 

@@ -1,5 +1,5 @@
 use Rattle.std.proofs.Common.{◌≡◌, length, map, decimal, ◌++◌}
-use Rattle.nm_text.specs.Split.{parts_at}
+use Rattle.nm_base.specs.Text.{parts_at}
 use Rattle.nm_script.proofs.Parts.{AreSmall}
 use Rattle.nm_script.proofs.numbers.numbers_of.Given as goal
 

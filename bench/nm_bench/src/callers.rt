@@ -5,7 +5,7 @@ ghost use Rattle.std.specs.Prelude.{◌≡◌, ◌≤◌, ◌<◌, vec_len, IfOk
 use crate::replica::incoming;
 use nm_base::{ChanNo, PartNo, Time};
 use nm_book::{Book, ChannelMessage, Null};
-use nm_shared::{Gate, Job, Plain, SharedBook, pool};
+use nm_shared::{Job, OpenGate, Plain, SharedBook, pool};
 use nm_topology::Topology;
 use nm_topology::topology::accepted_topologies_are_in_order;
 use std::alloc::{AllocError, Global};
@@ -20,19 +20,6 @@ const ACTS: u64 = 1_000_000;
 const JOBS: usize = 100_000;
 
 const WORKERS: usize = 4;
-
-/// Tells nobody anything.
-struct Silent;
-
-impl Gate for Silent {
-    fn enter(&self, _job: usize) {}
-
-    fn leave(&self, _job: usize) {}
-
-    fn poll(&self, _moved: u64) -> bool {
-        true
-    }
-}
 
 /// So many shared books, each a new replica 0 of partition 0.
 fn books_of(
@@ -151,6 +138,6 @@ pub fn pool_jobs<R: Threads + Wait + Sync>(
     if books.len() != WORKERS {
         return Ok(0);
     }
-    let report = pool(rt, alloc, &books, &jobs, WORKERS, &Silent)?;
+    let report = pool(rt, alloc, &books, &jobs, WORKERS, &OpenGate)?;
     Ok(report.answers.len() as u64)
 }

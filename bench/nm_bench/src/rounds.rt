@@ -1,7 +1,8 @@
 //! All partitions of a network in rounds.
 
 use nm_book::Book;
-use nm_rounds::rounds::{MAX_ROUNDS, Rounds, run_rounds};
+use nm_base::limits::MAX_ROUNDS;
+use nm_rounds::rounds::{Rounds, run_rounds};
 use nm_topology::TopoFault;
 use std::fs;
 use std::io::{Error, ErrorKind};
