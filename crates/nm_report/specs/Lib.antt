@@ -1,3 +1,4 @@
 pub mod Amounts
+pub mod Flows
 pub mod Measured
 pub mod Lines

@@ -4,13 +4,14 @@ ghost use Rattle.std.specs.Prelude.{IfOk, OnOk};
 ghost use Rattle.nm_report.specs.Lines.{EndsLine};
 
 use crate::amounts::IfaceTraffic;
+use crate::flow_counts::FlowCounts;
 use crate::measured::Measured;
 use crate::report::{flow_of, traffic_at};
 use crate::table::end_line;
 use nm_base::{IfaceNo, NodeNo, SourceNo, push_number, push_text};
 use nm_forward::Counter;
 use nm_topology::Topology;
-use nm_topology::topology::accepted_topologies_are_in_order;
+use nm_topology::traffic::{Source, Traffic};
 use std::alloc::{AllocError, Global};
 
 /// Appends a value of a node, an interface or a source, whose names need no quotes.
@@ -126,23 +127,61 @@ fn push_source_value(
     end_line(text)
 }
 
-/// The values of a source.
-fn push_source(text: &mut Vec<u8>, measured: &Measured, source: u32) -> Result<(), AllocError>
+/// The values that each source has.
+fn push_flow(text: &mut Vec<u8>, source: u32, flow: &FlowCounts) -> Result<(), AllocError>
     requires { EndsLine text.old.items }
     ensures { OnOk result (EndsLine text.new.items) }
 {
-    let flow = flow_of(measured, SourceNo::new(source));
     for (measure, value) in [
         ("sent", flow.sent),
         ("delivered", flow.delivered),
-        ("lost", flow.lost()),
-        ("least_delay_nanoseconds", flow.least),
-        ("mean_delay_nanoseconds", flow.mean()),
-        ("greatest_delay_nanoseconds", flow.greatest),
+        ("refused", flow.refused),
+        ("dropped", flow.dropped),
+        ("discarded", flow.discarded),
+        ("under_way", flow.under_way),
+        ("least_delay_nanoseconds", flow.delays.least),
+        ("mean_delay_nanoseconds", flow.delays.mean()),
+        ("greatest_delay_nanoseconds", flow.delays.greatest),
     ] {
         push_source_value(text, source, measure, value)?;
     }
     Ok(())
+}
+
+/// The values of a source to whose packets there may be echo replies.
+fn push_replies(text: &mut Vec<u8>, source: u32, flow: &FlowCounts) -> Result<(), AllocError>
+    requires { EndsLine text.old.items }
+    ensures { OnOk result (EndsLine text.new.items) }
+{
+    let trips = flow.round_trips;
+    for (measure, value) in [
+        ("answered", trips.count()),
+        ("astray", flow.astray),
+        ("least_round_trip_nanoseconds", trips.least),
+        ("mean_round_trip_nanoseconds", trips.mean()),
+        ("greatest_round_trip_nanoseconds", trips.greatest),
+    ] {
+        push_source_value(text, source, measure, value)?;
+    }
+    Ok(())
+}
+
+/// The values of a source.
+fn push_source(
+    text: &mut Vec<u8>,
+    measured: &Measured,
+    source: &Source,
+    number: u32,
+) -> Result<(), AllocError>
+    requires { EndsLine text.old.items }
+    ensures { OnOk result (EndsLine text.new.items) }
+{
+    let flow = flow_of(measured, SourceNo::new(number));
+    push_flow(text, number, &flow)?;
+    match &source.traffic {
+        Traffic::Cbr(_) => Ok(()),
+        Traffic::Echo(_) | Traffic::Raw(_) => push_replies(text, number, &flow),
+    }
 }
 
 /// The values of sources.
@@ -154,9 +193,10 @@ fn push_sources(
     requires { EndsLine text.old.items }
     ensures { OnOk result (EndsLine text.new.items) }
 {
-    accepted_topologies_are_in_order(topology); // law: sources have numbers of 32 bits
-    for number in 0..topology.sources().len() as u32 {
-        push_source(text, measured, number)?;
+    let mut number = 0u32;
+    for source in topology.sources() {
+        push_source(text, measured, source, number)?;
+        number = number.saturating_add(1);
     }
     Ok(())
 }

@@ -4,20 +4,26 @@
 
 pub mod amounts;
 pub mod csv;
+pub mod delays;
 pub mod dot;
+mod fates;
+pub mod flow_counts;
 mod flows;
 pub mod measured;
 mod measuring;
 pub mod packet_line;
+mod positions;
 pub mod report;
 mod table;
+mod tag;
 mod units;
 mod watched;
 
 pub use amounts::{Amount, IfaceTraffic};
 pub use csv::csv_text;
+pub use delays::Delays;
 pub use dot::{dot_text, load_text};
-pub use flows::FlowCounts;
+pub use flow_counts::FlowCounts;
 pub use measured::Measured;
 pub use measuring::measure;
 pub use packet_line::push_packet_line;

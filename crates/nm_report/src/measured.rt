@@ -1,15 +1,16 @@
 //! A network whose run is over, and what was measured of it.
 
-ghost use Rattle.std.specs.Prelude.{◌≡◌, ◌<◌, None, Some, length};
+ghost use Rattle.std.specs.Prelude.{◌≡◌, ◌<◌, None, Some, IfSome, length};
 ghost use Rattle.nm_model.specs.Run.{one_list};
 ghost use Rattle.nm_report.specs.Amounts.{traffic_of};
+ghost use Rattle.nm_report.specs.Flows.{Balances};
 ghost use Rattle.nm_report.specs.Measured.{IsMeasured};
 ghost use Rattle.nm_sim.specs.Network.{net_of};
 ghost use Rattle.nm_sim.specs.Part.{count_at, drops_at};
 ghost use Rattle.nm_topology.specs.TopologyValue.{TopologyValue};
 
 use crate::amounts::IfaceTraffic;
-use crate::flows::FlowCounts;
+use crate::flow_counts::FlowCounts;
 use crate::watched::Watched;
 use nm_base::{IfaceNo, NodeNo, SourceNo};
 use nm_events::SortedList;
@@ -82,7 +83,9 @@ impl Measured {
     }
 
     /// What became of the packets of a source. `None` where there is no such source.
-    pub fn flow(&self, source: SourceNo) -> Option<FlowCounts> {
+    pub fn flow(&self, source: SourceNo) -> Option<FlowCounts>
+        ensures { IfSome result Balances }
+    {
         self.watched.flow(source)
     }
 }

@@ -12,9 +12,8 @@ ghost use Rattle.nm_topology.specs.TopologyValue.{TopologyValue};
 
 use crate::amounts::traffic_of_all;
 use crate::measured::Measured;
-use crate::watched::{Watched, node_at, source_at};
+use crate::watched::Watched;
 use nm_base::limits::MAX_PART_STEPS;
-use nm_base::{Place, Time};
 use nm_events::SortedList;
 use nm_progress::Progress;
 use nm_sim::Part;
@@ -34,20 +33,6 @@ fn let_go(part: &mut Part<SortedList>) -> u64
         (Some(_), Some(_)) => 2,
         (None, None) => 0,
         _ => 1,
-    }
-}
-
-/// Sees an event that was just done.
-fn see(
-    topology: &Topology,
-    part: &Part<SortedList>,
-    watched: &mut Watched,
-    time: Time,
-    place: &Place,
-) -> Result<(), AllocError> {
-    match node_at(topology, place) {
-        Some(node) => watched.see(topology, part, time, node, source_at(place)),
-        None => Ok(()),
     }
 }
 
@@ -71,7 +56,7 @@ fn run(
             None => return Ok(()),
             Some(key) => {
                 progress.note_record(records, key.time);
-                see(topology, part, watched, key.time, &key.place)?;
+                watched.see(topology, part, key.time, &key.place)?;
             }
         }
         records = records.saturating_add(let_go(part));

@@ -4,7 +4,8 @@ ghost use Rattle.std.specs.Prelude.{IfOk};
 ghost use Rattle.nm_report.specs.Lines.{EndsLine};
 
 use crate::amounts::{Amount, IfaceTraffic};
-use crate::flows::FlowCounts;
+use crate::delays::Delays;
+use crate::flow_counts::FlowCounts;
 use crate::measured::Measured;
 use crate::table::{Table, end_line};
 use crate::units::{push_address, push_percentage, thousandths};
@@ -140,17 +141,34 @@ fn push_ifaces(
 }
 
 /// The columns of sources. Delays are in nanoseconds.
-const SOURCE_HEAD: [&str; 10] = [
+const SOURCE_HEAD: [&str; 13] = [
     "source",
     "kind",
     "node",
     "to",
     "sent",
     "delivered",
-    "lost",
+    "refused",
+    "dropped",
+    "discarded",
+    "under way",
     "least delay",
     "mean delay",
     "greatest delay",
+];
+
+/// The columns of sources with echo replies. Round trips are in nanoseconds.
+const ECHO_HEAD: [&str; 10] = [
+    "source",
+    "kind",
+    "node",
+    "to",
+    "sent",
+    "answered",
+    "astray",
+    "least round trip",
+    "mean round trip",
+    "greatest round trip",
 ];
 
 /// The name of the node of a source.
@@ -177,20 +195,26 @@ fn add_source(
     table.text(to.as_slice())
 }
 
-/// The cells of a row that say what became of its packets. Of raw ones it is not known.
-fn add_flow(table: &mut Table, flow: FlowCounts, is_raw: bool) -> Result<(), AllocError> {
-    table.number(flow.sent)?;
-    if is_raw {
-        for _ in 0..5 {
-            table.text(b"-")?;
-        }
-        return Ok(());
+/// The cells of a row with the least, the mean and the greatest of times.
+fn add_delays(table: &mut Table, delays: &Delays) -> Result<(), AllocError> {
+    table.number(delays.least)?;
+    table.number(delays.mean())?;
+    table.number(delays.greatest)
+}
+
+/// The cells of a row that say what became of a source's packets.
+fn add_flow(table: &mut Table, flow: &FlowCounts) -> Result<(), AllocError> {
+    for count in [
+        flow.sent,
+        flow.delivered,
+        flow.refused,
+        flow.dropped,
+        flow.discarded,
+        flow.under_way,
+    ] {
+        table.number(count)?;
     }
-    table.number(flow.delivered)?;
-    table.number(flow.lost())?;
-    table.number(flow.least)?;
-    table.number(flow.mean())?;
-    table.number(flow.greatest)
+    add_delays(table, &flow.delays)
 }
 
 /// What became of the packets of sources.
@@ -204,16 +228,69 @@ fn push_sources(
     let mut number = 0u32;
     for source in topology.sources() {
         add_source(alloc, &mut table, topology, source, number)?;
-        let is_raw = matches!(source.traffic, SourceTraffic::Raw(_));
-        add_flow(&mut table, flow_of(measured, SourceNo::new(number)), is_raw)?;
+        add_flow(&mut table, &flow_of(measured, SourceNo::new(number)))?;
         number = number.saturating_add(1);
     }
     table.print(text)
 }
 
-/// Three tables, with an empty line between: what nodes counted, what passed the interfaces, and
-/// what became of the packets of sources. Delays are in nanoseconds, and lost is what had not
-/// arrived at `stop`.
+/// Whether echo replies are told of a source: of each `echo` source, and of a `raw` one where some
+/// came to a node.
+fn has_replies(source: &Source, flow: &FlowCounts) -> bool {
+    match &source.traffic {
+        SourceTraffic::Cbr(_) => false,
+        SourceTraffic::Echo(_) => true,
+        SourceTraffic::Raw(_) => flow.round_trips.count() > 0 || flow.astray > 0,
+    }
+}
+
+/// The cells of a row that say what was answered to a source.
+fn add_replies(table: &mut Table, flow: &FlowCounts) -> Result<(), AllocError> {
+    table.number(flow.sent)?;
+    table.number(flow.round_trips.count())?;
+    table.number(flow.astray)?;
+    add_delays(table, &flow.round_trips)
+}
+
+/// Adds a row for each source with echo replies: whether there is one.
+fn add_echoes(
+    alloc: Global,
+    table: &mut Table,
+    topology: &Topology,
+    measured: &Measured,
+) -> Result<bool, AllocError> {
+    let mut has_some = false;
+    let mut number = 0u32;
+    for source in topology.sources() {
+        let flow = flow_of(measured, SourceNo::new(number));
+        if has_replies(source, &flow) {
+            has_some = true;
+            add_source(alloc, table, topology, source, number)?;
+            add_replies(table, &flow)?;
+        }
+        number = number.saturating_add(1);
+    }
+    Ok(has_some)
+}
+
+/// What was answered to sources of echo requests, after an empty line, where there are any.
+fn push_echoes(
+    alloc: Global,
+    text: &mut Vec<u8>,
+    topology: &Topology,
+    measured: &Measured,
+) -> Result<(), AllocError> {
+    let mut table = Table::new(alloc, &ECHO_HEAD, 4)?;
+    if !add_echoes(alloc, &mut table, topology, measured)? {
+        return Ok(());
+    }
+    push_text(text, b"\n")?;
+    table.print(text)
+}
+
+/// Tables with an empty line between: what nodes counted, what passed the interfaces, what became
+/// of the packets of sources, and what was answered to echo requests, where sources send any.
+/// Delays and round trips are in nanoseconds.
 ///
 /// # Errors
 ///
@@ -231,9 +308,10 @@ pub fn report_text(
     push_ifaces(alloc, &mut text, topology, measured)?;
     push_text(&mut text, b"\n")?;
     push_sources(alloc, &mut text, topology, measured)?;
+    push_echoes(alloc, &mut text, topology, measured)?;
     push_text(
         &mut text,
-        b"\nDelays are in nanoseconds; lost is what had not arrived at stop.",
+        b"\nDelays are in nanoseconds; under way is what waited or was on a link at stop.",
     )?;
     end_line(&mut text)?;
     Ok(text)

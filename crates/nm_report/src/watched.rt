@@ -1,28 +1,31 @@
 //! What is seen of a run, event by event.
 
-use crate::flows::{FlowCounts, Flows};
+use crate::fates::{Fate, Tallies};
+use crate::flow_counts::{FlowCounts, Outcome};
+use crate::flows::Flows;
+use crate::positions::Positions;
+use crate::tag::Tag;
 use nm_base::{Dir, IfaceNo, NodeNo, Place, Record, SourceNo, Time};
 use nm_events::SortedList;
-use nm_forward::Counter;
 use nm_iface::transmission_time;
-use nm_packet::{Address, Ipv4};
 use nm_sim::Part;
 use nm_topology::Topology;
 use nm_topology::topology::accepted_topologies_are_in_order;
+use nm_topology::traffic::Traffic;
 use std::alloc::{AllocError, Global};
-use std::collections::BTreeMap;
 
-/// What is seen of a run: flows, the longest queues, and how long interfaces transmit.
+/// What is seen of a run: what becomes of packets, the longest queues, and how long interfaces
+/// transmit.
 #[derive(Drop)]
 pub(crate) struct Watched {
     /// The interfaces of each node.
     ifaces: Vec<Vec<IfaceNo>>,
-    /// The node that has an address.
-    homes: BTreeMap<u32, NodeNo>,
-    /// How many packets each node had originated.
-    originated: Vec<u64>,
+    tallies: Tallies,
+    positions: Positions,
     flows: Flows,
+    /// The longest queue of each interface, in packets.
     queues: Vec<u64>,
+    /// How long each interface transmitted, in nanoseconds.
     busy: Vec<u64>,
 }
 
@@ -42,30 +45,12 @@ fn ifaces_of(alloc: Global, topology: &Topology) -> Result<Vec<Vec<IfaceNo>>, Al
     Ok(all)
 }
 
-/// The node that has each address.
-fn homes_of(alloc: Global, topology: &Topology) -> Result<BTreeMap<u32, NodeNo>, AllocError> {
-    let mut homes = BTreeMap::new(alloc);
-    for iface in topology.ifaces() {
-        let _ = homes.insert(iface.address().bits(), iface.node())?;
-    }
-    Ok(homes)
-}
-
-/// The node where an event happens.
-pub(crate) fn node_at(topology: &Topology, place: &Place) -> Option<NodeNo> {
-    match place {
-        Place::Arrive(iface) | Place::Complete(iface) => {
-            Some(topology.ifaces().get(iface.index())?.node())
-        }
-        Place::Fire(source) => Some(topology.sources().get(source.index())?.node),
-    }
-}
-
-/// The number of the source whose event happens at a place, if it is one's.
-pub(crate) fn source_at(place: &Place) -> Option<usize> {
-    match place {
-        Place::Fire(source) => Some(source.index()),
-        Place::Arrive(_) | Place::Complete(_) => None,
+/// The record of the transmission that the last event started, if it did. It is the event's last.
+fn start_in(part: &Part<SortedList>) -> Option<&Record> {
+    let record = part.trace().last()?;
+    match record.dir {
+        Dir::In => None,
+        Dir::Out => Some(record),
     }
 }
 
@@ -89,9 +74,9 @@ impl Watched {
     pub(crate) fn new(alloc: Global, topology: &Topology) -> Result<Self, AllocError> {
         Ok(Watched {
             ifaces: ifaces_of(alloc, topology)?,
-            homes: homes_of(alloc, topology)?,
-            originated: vec![in alloc; 0u64; topology.nodes().len()]?,
-            flows: Flows::new(alloc, topology.sources().len())?,
+            tallies: Tallies::new(alloc, topology.nodes().len())?,
+            positions: Positions::new(alloc, topology.ifaces().len())?,
+            flows: Flows::new(alloc, topology)?,
             queues: vec![in alloc; 0u64; topology.ifaces().len()]?,
             busy: vec![in alloc; 0u64; topology.ifaces().len()]?,
         })
@@ -112,8 +97,8 @@ impl Watched {
         self.flows.flow(source)
     }
 
-    /// Sees an event at a node, of the source with this number or of none, that was just done, and whose records the
-    /// part has still.
+    /// Sees the event of this time and place, which was just done. Of records the part has only the
+    /// event's.
     ///
     /// # Errors
     ///
@@ -122,91 +107,161 @@ impl Watched {
         &mut self,
         topology: &Topology,
         part: &Part<SortedList>,
-        time: Time,
-        node: NodeNo,
-        source: Option<usize>,
+        now: Time,
+        place: &Place,
     ) -> Result<(), AllocError> {
-        self.flows.count(source);
-        let has_started = self.see_records(topology, part, node);
-        self.see_origin(part, node, source, time)?;
-        if !has_started {
-            self.see_queues(part, node);
+        match place {
+            Place::Complete(iface) => self.see_completion(topology, part, *iface),
+            Place::Arrive(iface) => self.see_arrival(topology, part, *iface, now),
+            Place::Fire(source) => self.see_source(topology, part, *source, now),
         }
+    }
+
+    /// Sees an interface complete a transmission. What waited longest there starts.
+    fn see_completion(
+        &mut self,
+        topology: &Topology,
+        part: &Part<SortedList>,
+        iface: IfaceNo,
+    ) -> Result<(), AllocError> {
+        match start_in(part) {
+            Some(record) => {
+                let tag = self.positions.leave_queue(iface);
+                self.see_start(topology, record, tag)
+            }
+            None => Ok(()),
+        }
+    }
+
+    /// Sees a packet arrive at an interface.
+    fn see_arrival(
+        &mut self,
+        topology: &Topology,
+        part: &Part<SortedList>,
+        iface: IfaceNo,
+        now: Time,
+    ) -> Result<(), AllocError> {
+        let tag = self.positions.leave_link(iface);
+        let Some(iface) = topology.ifaces().get(iface.index()) else {
+            return Ok(());
+        };
+        let node = iface.node();
+        match self.tallies.fate(part, node) {
+            Fate::SentOn => self.see_offer(topology, part, node, tag, now),
+            fate => {
+                self.see_end(node, &tag, fate, now);
+                let answer = match fate {
+                    Fate::Requested => tag.of_reply(),
+                    _ => Tag::Nobody,
+                };
+                self.see_answer(topology, part, node, answer, now)
+            }
+        }
+    }
+
+    /// Sees the way of a packet end at a node.
+    fn see_end(&mut self, node: NodeNo, tag: &Tag, fate: Fate, now: Time) {
+        match fate {
+            Fate::SentOn => {}
+            Fate::Told => self.flows.tell(tag, node, now),
+            Fate::Delivered | Fate::Requested => self.flows.end(tag, Outcome::Delivered, now),
+            Fate::Refused => self.flows.end(tag, Outcome::Refused, now),
+            Fate::Discarded => self.flows.end(tag, Outcome::Discarded, now),
+        }
+    }
+
+    /// Sees what a node answers to a packet that came to its end there, if it does.
+    fn see_answer(
+        &mut self,
+        topology: &Topology,
+        part: &Part<SortedList>,
+        node: NodeNo,
+        answer: Tag,
+        now: Time,
+    ) -> Result<(), AllocError> {
+        if self.tallies.has_originated(part, node) {
+            self.see_offer(topology, part, node, answer, now)
+        } else {
+            Ok(())
+        }
+    }
+
+    /// Sees a source hand a packet over. Raw ones are always offered to an interface, others where
+    /// a route leads to another node.
+    fn see_source(
+        &mut self,
+        topology: &Topology,
+        part: &Part<SortedList>,
+        source: SourceNo,
+        now: Time,
+    ) -> Result<(), AllocError> {
+        let Some(from) = topology.sources().get(source.index()) else {
+            return Ok(());
+        };
+        let tag = self.flows.send(source, now);
+        let is_raw = matches!(from.traffic, Traffic::Raw(_));
+        if is_raw || self.tallies.has_originated(part, from.node) {
+            return self.see_offer(topology, part, from.node, tag, now);
+        }
+        self.flows.end(&tag, Outcome::Discarded, now);
         Ok(())
     }
 
-    /// Sees what an event recorded: whether a transmission started.
-    fn see_records(&mut self, topology: &Topology, part: &Part<SortedList>, node: NodeNo) -> bool {
-        let mut has_started = false;
-        for record in part.trace() {
-            match record.dir {
-                Dir::In => self.see_arrival(node, record),
-                Dir::Out => {
-                    has_started = true;
-                    self.see_start(topology, record);
-                }
+    /// Sees a packet offered to an interface of a node: it starts, waits, or is dropped.
+    fn see_offer(
+        &mut self,
+        topology: &Topology,
+        part: &Part<SortedList>,
+        node: NodeNo,
+        tag: Tag,
+        now: Time,
+    ) -> Result<(), AllocError> {
+        if let Some(record) = start_in(part) {
+            return self.see_start(topology, record, tag);
+        }
+        match self.longer_queue(part, node) {
+            Some(iface) => self.see_wait(iface, tag),
+            None => {
+                self.flows.end(&tag, Outcome::Dropped, now);
+                Ok(())
             }
         }
-        has_started
     }
 
-    /// Sees a packet arrive at a node: whether it is there where it was to go.
-    fn see_arrival(&mut self, node: NodeNo, record: &Record) {
-        let Ok(header) = Ipv4::read(record.packet.octets()) else {
-            return;
-        };
-        if self.home_of(header.destination()) != Some(node) {
-            return;
-        }
-        if let Some(origin) = self.home_of(header.source()) {
-            self.flows.end(origin, header.identification(), record.time);
-        }
-    }
-
-    /// The node that has an address.
-    fn home_of(&self, address: Address) -> Option<NodeNo> {
-        self.homes.get(&address.bits()).copied()
-    }
-
-    /// Sees a transmission start.
-    fn see_start(&mut self, topology: &Topology, record: &Record) {
+    /// Sees the transmission of a packet start.
+    fn see_start(
+        &mut self,
+        topology: &Topology,
+        record: &Record,
+        tag: Tag,
+    ) -> Result<(), AllocError> {
         let time = busy_time(topology, record);
         if let Some(busy) = self.busy.get_mut(record.iface.index()) {
             *busy = busy.saturating_add(time);
         }
-    }
-
-    /// Sees whether a node originated a packet, for a source or for none.
-    fn see_origin(
-        &mut self,
-        part: &Part<SortedList>,
-        node: NodeNo,
-        source: Option<usize>,
-        at: Time,
-    ) -> Result<(), AllocError> {
-        let now = part.counter(node, Counter::Originated).unwrap_or(0);
-        let Some(before) = self.originated.get_mut(node.index()) else {
-            return Ok(());
-        };
-        if now == *before {
-            return Ok(());
+        match topology.ifaces().get(record.iface.index()) {
+            Some(iface) => self.positions.enter_link(iface.far().peer, tag),
+            None => Ok(()),
         }
-        // A node's identifications are 0, 1, 2 .. modulo 65,536, one for each packet.
-        let identification = (*before % 65_536) as u16;
-        *before = now;
-        self.flows.begin(node, identification, source, at)
     }
 
-    /// Sees how many packets wait at each interface of a node.
-    fn see_queues(&mut self, part: &Part<SortedList>, node: NodeNo) {
-        let Some(own) = self.ifaces.get(node.index()) else {
-            return;
-        };
-        for iface in own {
-            let waiting = part.waiting(*iface).unwrap_or(0) as u64;
-            if let Some(most) = self.queues.get_mut(iface.index()) {
-                *most = waiting.max(*most);
+    /// Sees a packet wait at an interface.
+    fn see_wait(&mut self, iface: IfaceNo, tag: Tag) -> Result<(), AllocError> {
+        self.positions.join_queue(iface, tag)?;
+        let waiting = self.positions.waiting(iface) as u64;
+        if let Some(most) = self.queues.get_mut(iface.index()) {
+            *most = waiting.max(*most);
+        }
+        Ok(())
+    }
+
+    /// The interface of a node at which one more packet waits than before, if there is one.
+    fn longer_queue(&self, part: &Part<SortedList>, node: NodeNo) -> Option<IfaceNo> {
+        for iface in self.ifaces.get(node.index())? {
+            if part.waiting(*iface).unwrap_or(0) > self.positions.waiting(*iface) {
+                return Some(*iface);
             }
         }
+        None
     }
 }
