@@ -1,20 +1,50 @@
--- How the word `node` ends.
-use Rattle.std.proofs.Common.{ℕ, inl, inr, List, Option, sym, subst}
+-- What is said of a replica that is served.
+use Rattle.std.proofs.Common.{◌≡◌, ℕ, List, Option, Result, Ok, Err, IfOk, refl, subst}
 use Rattle.nm_command.specs.declared.status.Status.{Status}
 use Rattle.nm_command.specs.declared.status.Status.TheVariants.{Done}
-use Rattle.nm_words.specs.Input.{IsInput}
-use Rattle.nm_program.specs.Node.{EndsNode, SaysNode}
-use Rattle.nm_words.specs.Output.{IsPut}
+use Rattle.nm_topology.specs.Topology.{topology_of}
+use Rattle.nm_topology.specs.TopologyValue.{TopologyValue}
+use Rattle.nm_book.specs.Book.{BookValue, state_of}
+use Rattle.nm_peers.specs.Listeners.{AreListeners}
+use Rattle.nm_peers.specs.declared.listener.Listener.{Listener}
+use Rattle.nm_process.specs.Process.{IsDoneReplica}
 use Rattle.nm_files.specs.Outputs.{Files, HasMade}
+use Rattle.nm_program.specs.Node.{HasListeners, SaysServed, own_files, own_lines}
+use Rattle.nm_words.specs.Output.{SaysOfInputs}
 
-module _ {S : Type 0} (taken : S → Option (List ℕ)) (failures : S → ℕ) (told : List ℕ → Option (List ℕ)) (failed_before failed : ℕ) (old new : S) (before after : Option Files) where
-  module _ (topology folder : List ℕ) (p r : ℕ) (addresses : List ℕ) where
-    abbrev NodeEnds : Status → Type 0
-    NodeEnds status = EndsNode taken failures told failed_before failed old new before after topology folder p r addresses status
+-- what is said of it, of texts that give this network and these listeners
+abbrev pub SaysOfTexts : TopologyValue → ℕ → ℕ → List ℕ → List Listener → Option Files → Option Files → Status → List ℕ → Type 0
+SaysOfTexts t p r folder listeners before after status octets = (text addresses : List ℕ) → topology_of text ≡ Ok t → AreListeners addresses t.partitions p r listeners
+    → SaysServed p r before after folder text addresses status octets
 
-    pub node_says : (text listeners octets : List ℕ) (files : Files) (status : Status) → IsInput (told topology) text → IsInput (told addresses) listeners
-        → SaysNode text listeners folder p r octets files → HasMade before after files → IsPut taken failures old new octets Done status → NodeEnds status
-    node_says text listeners octets files status one two says made (inl (same, w)) =
-        subst NodeEnds (sym same) (text, listeners, (one, two), (octets, files, says, w, made))
-    node_says text listeners octets files status one two says made (inr (file, w)) =
-        subst NodeEnds (sym file) (inr (text, listeners, (one, two), inr (octets, files, says, w, made)))
+module _ {V E : Type 0} (items : V → List ℕ) (asked : V → Status) (t : TopologyValue) (p r : ℕ) (folder : List ℕ) (listeners : List Listener) (before after : Option Files) where
+  -- its files have the trace of its book, and what is said are their lines
+  pub says_served : (seen : TopologyValue) (book : BookValue) (written : Result V E) → seen ≡ t → IsDoneReplica t p r book
+      → IfOk written (λ _. HasMade before after (own_files seen p folder (state_of book).records))
+      → IfOk written (λ v. (asked v ≡ Done) × (items v ≡ own_lines seen p (state_of book).records))
+      → IfOk written (λ v. SaysOfTexts t p r folder listeners before after (asked v) (items v))
+  says_served seen book (Ok v) same done made said = λ text addresses read mean. (
+    said.0,
+    (
+      own_files t p folder (state_of book).records,
+      record {
+        network = t;
+        read = read;
+        listeners = listeners;
+        mean = mean;
+        book = book;
+        done = done;
+        made = refl;
+        said = subst (λ z. items v ≡ own_lines z p (state_of book).records) same said.1;
+      },
+      subst (λ z. HasMade before after (own_files z p folder (state_of book).records)) same made,
+    ),
+  )
+  says_served seen book (Err e) same done made said = tt
+
+  -- the texts are those of two inputs
+  pub says_of_inputs : (one two : Option (List ℕ)) (served : Result V E) → HasListeners one two p r t listeners
+      → IfOk served (λ v. SaysOfTexts t p r folder listeners before after (asked v) (items v))
+      → IfOk served (λ v. SaysOfInputs one two (SaysServed p r before after folder) (asked v) (items v))
+  says_of_inputs one two (Ok v) (text, addresses, inputs, read, mean) says = (text, addresses, inputs, says text addresses read mean)
+  says_of_inputs one two (Err e) there says = tt

@@ -23,8 +23,9 @@ says_certified t seen found records text octets same run trace read said = recor
   said = subst (λ z. IsTraceBefore z z.stop records → octets ≡ codes "certified\n" ++ iface_lines (λ i. totals_of i records) z) same (said records) trace;
 }
 
-pub says_if : {V E : Type 0} (items : V → List ℕ) (t seen : TopologyValue) (found : List IfaceTotals) (records : List (Record (List ℕ))) (text : List ℕ) (r : Result V E)
-    → seen ≡ t → IsCertifiedRun t found → IsTraceBefore t t.stop records → topology_of text ≡ Ok t
-    → ((rs : List (Record (List ℕ))) → IsTraceBefore seen seen.stop rs → IfOk r (λ v. items v ≡ codes "certified\n" ++ iface_lines (λ i. totals_of i rs) seen)) → IfOk r (λ v. SaysCertified text (items v))
-says_if items t seen found records text (Ok v) same run trace read said = says_certified t seen found records text (items v) same run trace read said
-says_if items t seen found records text (Err e) same run trace read said = tt
+pub says_if : {V E : Type 0} (items : V → List ℕ) (t seen : TopologyValue) (found : List IfaceTotals) (records : List (Record (List ℕ))) (r : Result V E)
+    → seen ≡ t → IsCertifiedRun t found → IsTraceBefore t t.stop records
+    → ((rs : List (Record (List ℕ))) → IsTraceBefore seen seen.stop rs → IfOk r (λ v. items v ≡ codes "certified\n" ++ iface_lines (λ i. totals_of i rs) seen))
+    → IfOk r (λ v. (text : List ℕ) → topology_of text ≡ Ok t → SaysCertified text (items v))
+says_if items t seen found records (Ok v) same run trace said = λ text read. says_certified t seen found records text (items v) same run trace read said
+says_if items t seen found records (Err e) same run trace said = tt

@@ -15,12 +15,12 @@ use Rattle.nm_peers.specs.declared.listener.Listener.{Listener}
 use Rattle.nm_process.specs.Process.{IsDoneReplica}
 use Rattle.nm_command.specs.declared.status.Status.{Status}
 use Rattle.nm_command.specs.declared.status.Status.TheVariants.{Done, Usage, NoInterface, ScriptLine, Step, Topology, File, Memory, NotCertified, Stalled}
-use Rattle.nm_words.specs.Input.{IsInput, IsNotRead}
+use Rattle.nm_words.specs.Input.{IsInput}
 use Rattle.nm_words.specs.Lines.{iface_line}
+use Rattle.nm_words.specs.Output.{EndsWord, FailsOfInputs, SaysOfInputs}
 use Rattle.nm_files.specs.Names.{file_name}
 use Rattle.nm_files.specs.Outputs.{Files, HasMade}
 use Rattle.nm_files.specs.TraceFile.{trace_file}
-use Rattle.nm_files.specs.Writing.{WroteAll, WrotePrefix}
 
 -- what is made of the interfaces of a partition, each with its number, in the order of the text
 abbrev pub of_own : {X : Type 0} → TopologyValue → ℕ → (ℕ → IfaceValue → X) → ℕ × IfaceValue → List X
@@ -55,18 +55,23 @@ pub record HasNoAddresses (text addresses : List ℕ) (partition replica : ℕ) 
   pub read : topology_of text ≡ Ok network
   pub none : (listeners : List Listener) → AreListeners addresses network.partitions partition replica listeners → ⊥
 
+-- this is the topology of the text of the first input, and these are the listeners of that of the second
+abbrev pub HasListeners : Option (List ℕ) → Option (List ℕ) → ℕ → ℕ → TopologyValue → List Listener → Type 0
+HasListeners one two partition replica network listeners = (text : List ℕ) × (addresses : List ℕ) × (IsInput one text × IsInput two addresses)
+    × (topology_of text ≡ Ok network) × AreListeners addresses network.partitions partition replica listeners
+
 -- why no replica is served: the texts say nothing, or memory was refused
-abbrev pub FailsNode : List ℕ → List ℕ → ℕ → ℕ → Status → Type 0
-FailsNode text addresses partition replica Done = ⊥
-FailsNode text addresses partition replica Usage = HasNoAddresses text addresses partition replica
-FailsNode text addresses partition replica NoInterface = ⊥
-FailsNode text addresses partition replica (ScriptLine n) = ⊥
-FailsNode text addresses partition replica (Step n) = ⊥
-FailsNode text addresses partition replica (Topology refusal) = topology_of text ≡ Err refusal
-FailsNode text addresses partition replica File = ⊥
-FailsNode text addresses partition replica Memory = Unit {0}
-FailsNode text addresses partition replica (NotCertified n) = ⊥
-FailsNode text addresses partition replica Stalled = ⊥
+abbrev pub IsNotServed : ℕ → ℕ → List ℕ → List ℕ → Status → Type 0
+IsNotServed partition replica text addresses Done = ⊥
+IsNotServed partition replica text addresses Usage = HasNoAddresses text addresses partition replica
+IsNotServed partition replica text addresses NoInterface = ⊥
+IsNotServed partition replica text addresses (ScriptLine n) = ⊥
+IsNotServed partition replica text addresses (Step n) = ⊥
+IsNotServed partition replica text addresses (Topology refusal) = topology_of text ≡ Err refusal
+IsNotServed partition replica text addresses File = ⊥
+IsNotServed partition replica text addresses Memory = Unit {0}
+IsNotServed partition replica text addresses (NotCertified n) = ⊥
+IsNotServed partition replica text addresses Stalled = ⊥
 
 -- why a replica that was served has no files, or not all
 abbrev pub StopsNode : Option Files → Option Files → Status → Type 0
@@ -81,30 +86,20 @@ StopsNode before after Memory = Unit {0}
 StopsNode before after (NotCertified n) = ⊥
 StopsNode before after Stalled = after ≡ before
 
--- What each status says. Both inputs are read before anything else is looked at. Files are made only once the replica is done; what files there
--- are after a failure is not said, nor where memory was refused.
+module _ (partition replica : ℕ) (made_before made : Option Files) where
+  -- it is said once its files are made
+  abbrev pub SaysServed : List ℕ → List ℕ → List ℕ → Status → List ℕ → Type 0
+  SaysServed folder text addresses status octets =
+      (status ≡ Done) × ((files : Files) × SaysNode text addresses folder partition replica octets files × HasMade made_before made files)
+
+  -- why nothing is said of two inputs: no replica was served, and no file was made; or it was served, and has no files, or not all
+  abbrev pub FailsNode : Option (List ℕ) → Option (List ℕ) → ℕ → ℕ → Status → Type 0
+  FailsNode one two failed_before failed status = (FailsOfInputs one two failed_before failed (IsNotServed partition replica) status × (made ≡ made_before))
+      ⊎ ((text : List ℕ) × (addresses : List ℕ) × (IsInput one text × IsInput two addresses) × StopsNode made_before made status)
+
+-- What each status says. Files are made only once the replica is done; what files there are after a failure is not said, nor where memory was refused.
 module _ {S : Type 0} (taken : S → Option (List ℕ)) (failures : S → ℕ) (told : List ℕ → Option (List ℕ)) (failed_before failed : ℕ) (old new : S) (made_before made : Option Files) where
-  module _ (topology folder : List ℕ) (partition replica : ℕ) (addresses : List ℕ) where
-    abbrev pub AreBothRead : List ℕ → List ℕ → Type 0
-    AreBothRead text listeners = IsInput (told topology) text × IsInput (told addresses) listeners
-
-    -- nothing was written, and no file made
-    abbrev pub IsUntouched : Type 0
-    IsUntouched = (new ≡ old) × (made ≡ made_before)
-
-    abbrev pub EndsNode : Status → Type 0
-    EndsNode Done = (text : List ℕ) × (listeners : List ℕ) × AreBothRead text listeners
-        × ((octets : List ℕ) × (files : Files) × SaysNode text listeners folder partition replica octets files
-        × WroteAll taken failures old new octets × HasMade made_before made files)
-    EndsNode Usage = (text : List ℕ) × (listeners : List ℕ) × AreBothRead text listeners × HasNoAddresses text listeners partition replica × IsUntouched
-    EndsNode NoInterface = ⊥
-    EndsNode (ScriptLine n) = ⊥
-    EndsNode (Step n) = ⊥
-    EndsNode (Topology refusal) = (text : List ℕ) × (listeners : List ℕ) × AreBothRead text listeners × (topology_of text ≡ Err refusal) × IsUntouched
-    EndsNode File = ((IsNotRead (told topology) failed_before failed ⊎ IsNotRead (told addresses) failed_before failed) × IsUntouched)
-        ⊎ ((text : List ℕ) × (listeners : List ℕ) × AreBothRead text listeners × ((new ≡ old)
-        ⊎ ((octets : List ℕ) × (files : Files) × SaysNode text listeners folder partition replica octets files
-        × WrotePrefix taken failures old new octets × HasMade made_before made files)))
-    EndsNode Memory = new ≡ old
-    EndsNode (NotCertified n) = ⊥
-    EndsNode Stalled = (text : List ℕ) × (listeners : List ℕ) × AreBothRead text listeners × IsUntouched
+  abbrev pub EndsNode : List ℕ → List ℕ → ℕ → ℕ → List ℕ → Status → Type 0
+  EndsNode topology folder partition replica addresses status =
+      EndsWord taken failures old new (SaysOfInputs (told topology) (told addresses) (SaysServed partition replica made_before made folder))
+      (FailsNode partition replica made_before made (told topology) (told addresses) failed_before failed) status

@@ -1,5 +1,5 @@
 -- The word `run`: all partitions at once.
-use Rattle.std.specs.Prelude.{◌≡◌, ◌⊎◌, ℕ, List, ◌++◌, Option, Ok, Err, codes}
+use Rattle.std.specs.Prelude.{◌≡◌, ◌⊎◌, ℕ, List, ◌++◌, Option, Ok, codes}
 use Rattle.nm_base.specs.declared.record.Record.{Record}
 use Rattle.nm_topology.specs.Topology.{topology_of}
 use Rattle.nm_topology.specs.TopologyValue.{TopologyValue}
@@ -10,9 +10,9 @@ use Rattle.nm_rounds.specs.Certify.{AreCertified}
 use Rattle.nm_command.specs.declared.status.Status.{Status}
 use Rattle.nm_command.specs.declared.status.Status.TheVariants.{Done, Usage, NoInterface, ScriptLine, Step, Topology, File, Memory, NotCertified, Stalled}
 use Rattle.nm_files.specs.Outputs.{Files}
-use Rattle.nm_files.specs.Writing.{WroteAll, WrotePrefix}
-use Rattle.nm_words.specs.Input.{IsInput, IsNotRead}
+use Rattle.nm_words.specs.Input.{IsInput, IsRefused}
 use Rattle.nm_words.specs.Lines.{iface_lines}
+use Rattle.nm_words.specs.Output.{EndsWord, FailsOfInput, SaysOfInput}
 
 -- Books of all partitions were certified. Each interface has what it has in the trace of the one event list, over the whole run.
 pub record SaysCertified (text octets : List ℕ) : Type 0 where
@@ -37,18 +37,17 @@ StopsRun Memory = Unit {0}
 StopsRun (NotCertified n) = Unit {0}
 StopsRun Stalled = Unit {0}
 
--- What each status says. Files are made as the replicas run; what is in them is not said. Where memory was refused, the sink took nothing.
+-- it is said once it is certified
+abbrev pub SaysRun : List ℕ → Status → List ℕ → Type 0
+SaysRun text status octets = (status ≡ Done) × SaysCertified text octets
+
+-- why nothing is said of an input: there is no network, and no file was made; or its run stopped
+abbrev pub FailsRun : Option (List ℕ) → ℕ → ℕ → Option Files → Option Files → Status → Type 0
+FailsRun told failed_before failed made_before made status = (FailsOfInput told failed_before failed IsRefused status × (made ≡ made_before))
+    ⊎ ((text : List ℕ) × IsInput told text × StopsRun status)
+
+-- What each status says. Files are made as the replicas run; what is in them is not said.
 module _ {S : Type 0} (taken : S → Option (List ℕ)) (failures : S → ℕ) (told : List ℕ → Option (List ℕ)) (failed_before failed : ℕ) (old new : S) (made_before made : Option Files) where
-  module _ (topology : List ℕ) where
-    abbrev pub EndsRun : Status → Type 0
-    EndsRun Done = (text : List ℕ) × IsInput (told topology) text × ((octets : List ℕ) × SaysCertified text octets × WroteAll taken failures old new octets)
-    EndsRun Usage = ⊥
-    EndsRun NoInterface = ⊥
-    EndsRun (ScriptLine n) = ⊥
-    EndsRun (Step n) = ⊥
-    EndsRun (Topology refusal) = (text : List ℕ) × IsInput (told topology) text × (topology_of text ≡ Err refusal) × (new ≡ old) × (made ≡ made_before)
-    EndsRun File = (IsNotRead (told topology) failed_before failed × (new ≡ old) × (made ≡ made_before))
-        ⊎ ((text : List ℕ) × IsInput (told topology) text × ((new ≡ old) ⊎ ((octets : List ℕ) × SaysCertified text octets × WrotePrefix taken failures old new octets)))
-    EndsRun Memory = new ≡ old
-    EndsRun (NotCertified n) = (text : List ℕ) × IsInput (told topology) text × (new ≡ old)
-    EndsRun Stalled = (text : List ℕ) × IsInput (told topology) text × (new ≡ old)
+  abbrev pub EndsRun : List ℕ → Status → Type 0
+  EndsRun topology status =
+      EndsWord taken failures old new (SaysOfInput (told topology) SaysRun) (FailsRun (told topology) failed_before failed made_before made) status

@@ -3,6 +3,7 @@
 
 pub mod means;
 mod node;
+mod node_inputs;
 pub mod program;
 mod runs;
 mod trace_files;

@@ -9,7 +9,8 @@ ghost use Rattle.nm_words.specs.Input.{text_of};
 ghost use Rattle.nm_command.specs.declared.status.Status.TheVariants.{Done, File};
 
 use crate::means::Means;
-use crate::node::{NodeWords, say_node};
+use crate::node::say_node;
+use crate::node_inputs::NodeWords;
 use crate::runs::{RunWords, say_run};
 use nm_base::{PartNo, Sink};
 use nm_command::{Command, Status};
@@ -20,7 +21,7 @@ use nm_words::inputs::Inputs;
 use nm_words::rounds::say_rounds;
 use nm_words::script::say_script;
 use nm_words::shown::{View, say_text, say_view};
-use nm_words::traces::write_trace;
+use nm_words::traces::{TraceWords, write_trace};
 use std::net;
 use std::net::Net;
 use std::sync::Wait;
@@ -99,7 +100,14 @@ where
                 topology,
                 iface,
             },
-        ) => write_trace(alloc, form, topology, iface, inputs, out, progress),
+        ) => {
+            let words = TraceWords {
+                form,
+                topology,
+                iface,
+            };
+            write_trace(alloc, &words, inputs, out, progress)
+        }
         Some(Command::Rounds { topology, max }) => {
             say_rounds(alloc, topology, max, inputs, out, progress)
         }

@@ -1,6 +1,7 @@
 //! The word `run`: all partitions at once.
 
-ghost use Rattle.std.specs.Prelude.{◌≡◌, ℕ, ◌<◌, ◌≤◌, ◌++◌, List, Some, IfErr, IfOk, OnOk, Ok, codes, length, slice_get};
+ghost use Rattle.std.specs.Prelude.{◌≡◌, ℕ, ◌<◌, ◌≤◌, ◌++◌, List, Some, IfErr, IfOk, OnOk, Ok};
+ghost use Rattle.std.specs.Prelude.{codes, length, slice_get};
 ghost use Rattle.std.specs.Arc.{arc_value};
 ghost use Rattle.nm_base.specs.declared.record.Record.{Record as TraceRecord};
 ghost use Rattle.nm_base.specs.declared.limits.TheConstants.{MAX_WORKERS};
@@ -11,7 +12,8 @@ ghost use Rattle.nm_topology.specs.PartValues.{IfaceValue};
 ghost use Rattle.nm_topology.specs.Topology.{topology_of};
 ghost use Rattle.nm_words.specs.Input.{text_of};
 ghost use Rattle.nm_words.specs.Lines.{iface_line, iface_lines};
-ghost use Rattle.nm_program.specs.Run.{EndsRun, SaysCertified, StopsRun};
+ghost use Rattle.nm_words.specs.Output.{SaysOfInput};
+ghost use Rattle.nm_program.specs.Run.{EndsRun, FailsRun, SaysCertified, SaysRun, StopsRun};
 
 use crate::means::Means;
 use nm_base::{IfaceNo, Sink, push_text};
@@ -25,8 +27,8 @@ use nm_topology::topology::accepted_topologies_are_in_order;
 use nm_words::input::NamedInputs;
 use nm_words::inputs::Inputs;
 use nm_words::lines::push_line;
-use nm_words::output::{Output, put};
-use nm_words::reading::read_topology;
+use nm_words::output::{Output, end};
+use nm_words::reading::read_shared;
 use std::alloc::{AllocError, Global};
 use std::net;
 use std::net::Net;
@@ -93,8 +95,8 @@ fn report_text(
     report: &Report,
 ) -> Result<Vec<u8>, AllocError>
     requires { IsCertifiedRun (arc_value network.now) report.now.totals.items }
-    ensures { (text : List ℕ) → topology_of text ≡ Ok (arc_value network.now)
-        → IfOk result (λ octets. SaysCertified text octets.items) }
+    ensures { IfOk result (λ octets. (text : List ℕ)
+        → topology_of text ≡ Ok (arc_value network.now) → SaysCertified text octets.items) }
 {
     every_topology_has_a_trace(network); // law: there is a trace of the whole run
     run_text(alloc, network, report.totals.as_slice())
@@ -117,7 +119,7 @@ fn run_network<F: Outputs, R>(
     network: &Arc<Topology>,
     words: &RunWords<'_>,
     outputs: &mut F,
-) -> Result<Vec<u8>, Status>
+) -> Result<Output, Status>
 where
     F::File: Send,
     R: Net<Stream = net::TcpStream, Listener = net::TcpListener>
@@ -127,8 +129,9 @@ where
         + Drop
         + Copy,
     requires { (1 ≤ words.now.workers) × (words.now.workers ≤ MAX_WORKERS) }
-    ensures said { (text : List ℕ) → topology_of text ≡ Ok (arc_value network.now)
-        → IfOk result (λ octets. SaysCertified text octets.items) }
+    ensures said { IfOk result (λ output. (text : List ℕ)
+        → topology_of text ≡ Ok (arc_value network.now)
+        → SaysRun text output.status output.text.items) }
     ensures fault { IfErr result StopsRun }
 {
     let plan = RunPlan {
@@ -139,14 +142,38 @@ where
         progress: means.progress,
     };
     means.progress.begin(network.stop());
-    let report = match run_all(means.rt, means.alloc, &plan, outputs, &OpenGate) {
-        Ok(report) => report,
-        Err(fault) => return Err(status_of(fault)),
-    };
-    match report_text(means.alloc, network, &report) {
-        Ok(text) => Ok(text),
-        Err(_) => Err(Status::Memory),
+    match run_all(means.rt, means.alloc, &plan, outputs, &OpenGate) {
+        Ok(report) => Output::of(report_text(means.alloc, network, &report), Status::Done),
+        Err(fault) => Err(status_of(fault)),
     }
+}
+
+/// What is said of all partitions at once.
+fn run_said<I: Inputs, F: Outputs, R>(
+    means: &Means<'_, R>,
+    words: &RunWords<'_>,
+    inputs: &mut NamedInputs<I>,
+    outputs: &mut F,
+) -> Result<Output, Status>
+where
+    F::File: Send,
+    R: Net<Stream = net::TcpStream, Listener = net::TcpListener>
+        + Threads
+        + Wait
+        + Sync
+        + Drop
+        + Copy,
+    requires { (1 ≤ words.now.workers) × (words.now.workers ≤ MAX_WORKERS) }
+    ensures said { IfOk result (λ output. SaysOfInput
+        (text_of I.standard_text I.file_text inputs.old.inputs words.now.topology.now)
+        SaysRun output.status output.text.items) }
+    ensures fault { IfErr result (λ status. FailsRun
+        (text_of I.standard_text I.file_text inputs.old.inputs words.now.topology.now)
+        inputs.old.failures inputs.new.failures
+        (F.made outputs.old) (F.made outputs.new) status) }
+{
+    let network = read_shared(means.alloc, inputs, words.topology)?;
+    run_network(means, &network, words, outputs)
 }
 
 /// Runs all partitions at once, and says that what they came to is certified, and how many records
@@ -172,21 +199,5 @@ where
         inputs.old.failures inputs.new.failures
         out result.1 (F.made outputs.old) (F.made outputs.new) words.now.topology.now result.0 }
 {
-    let network = match read_topology(means.alloc, inputs, words.topology) {
-        Ok(network) => network,
-        Err(status) => return (status, out),
-    };
-    let Ok(network) = Arc::new(means.alloc, network) else {
-        return (Status::Memory, out);
-    };
-    match run_network(means, &network, words, outputs) {
-        Ok(text) => put(
-            Output {
-                text,
-                status: Status::Done,
-            },
-            out,
-        ),
-        Err(status) => (status, out),
-    }
+    end(run_said(means, words, inputs, outputs), out)
 }

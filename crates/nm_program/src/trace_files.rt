@@ -20,33 +20,40 @@ use nm_topology::Topology;
 use nm_topology::topology::accepted_topologies_are_in_order;
 use std::alloc::Global;
 
+/// The trace files of a partition: of which interfaces, where they go, and whose records they have.
+#[derive(Clone, Copy)]
+pub(crate) struct OwnFiles<'a> {
+    pub topology: &'a Topology,
+    pub partition: PartNo,
+    pub folder: &'a str,
+    pub records: &'a [Record],
+}
+
 /// Makes the trace file of an interface, if that is of the partition.
 fn make_own<F: Outputs>(
     alloc: Global,
-    topology: &Topology,
-    partition: PartNo,
-    folder: &str,
+    own: &OwnFiles<'_>,
     number: usize,
-    records: &[Record],
     outputs: &mut F,
 ) -> Result<(), Status>
-    requires there { number < length topology.now.ifaces }
-    requires times { All (λ r. r.time ≤ MAX_TIME) records.now }
-    ensures made { (iface : IfaceValue) → slice_get topology.now.ifaces number ≡ Some iface
+    requires there { number < length own.now.topology.now.ifaces }
+    requires times { All (λ r. r.time ≤ MAX_TIME) own.now.records.now }
+    ensures made { (iface : IfaceValue) → slice_get own.now.topology.now.ifaces number ≡ Some iface
         → IfOk result (λ _. HasMade (F.made outputs.old) (F.made outputs.new)
-        (of_own topology.now partition
-        (λ n i. (file_name folder.now i, trace_file Octets n records.now)) (number, iface))) }
+        (of_own own.now.topology.now own.now.partition
+        (λ n i. (file_name own.now.folder.now i, trace_file Octets n own.now.records.now))
+        (number, iface))) }
     ensures fault { IfErr result (λ s. (s ≡ File) ⊎ (s ≡ Memory)) }
 {
-    accepted_topologies_are_in_order(topology); // law: there are few interfaces
+    accepted_topologies_are_in_order(own.topology); // law: there are few interfaces
     let iface = IfaceNo::new(number as u32);
-    if partition_of(topology, iface) != partition {
+    if partition_of(own.topology, iface) != own.partition {
         return Ok(());
     }
-    let Ok(name) = name_of(alloc, folder, topology.iface(iface)) else {
+    let Ok(name) = name_of(alloc, own.folder, own.topology.iface(iface)) else {
         return Err(Status::Memory);
     };
-    if !make_file(outputs, name.as_str(), iface, records) {
+    if !make_file(outputs, name.as_str(), iface, own.records) {
         return Err(Status::File);
     }
     Ok(())
@@ -61,22 +68,16 @@ fn make_own<F: Outputs>(
 /// memory was refused.
 pub(crate) fn make_files<F: Outputs>(
     alloc: Global,
-    topology: &Topology,
-    partition: PartNo,
-    folder: &str,
-    records: &[Record],
+    own: &OwnFiles<'_>,
     outputs: &mut F,
 ) -> Result<(), Status>
-    requires { All (λ r. r.time ≤ MAX_TIME) records.now }
+    requires { All (λ r. r.time ≤ MAX_TIME) own.now.records.now }
     ensures made { IfOk result (λ _. HasMade (F.made outputs.old) (F.made outputs.new)
-        (own_files topology.now partition folder.now records.now)) }
+        (own_files own.now.topology.now own.now.partition own.now.folder.now own.now.records.now)) }
     ensures fault { IfErr result (λ s. (s ≡ File) ⊎ (s ≡ Memory)) }
 {
-    for number in 0..topology.ifaces().len() {
-        match make_own(alloc, topology, partition, folder, number, records, outputs) {
-            Ok(()) => {}
-            Err(status) => return Err(status),
-        }
+    for number in 0..own.topology.ifaces().len() {
+        make_own(alloc, own, number, outputs)?;
     }
     Ok(())
 }

@@ -1,16 +1,36 @@
--- How a command ends whose answer was written, or was not.
-use Rattle.std.proofs.Common.{ℕ, List, Option, Result, Ok, Err, inr}
+-- How a word ends.
+use Rattle.std.proofs.Common.{◌≡◌, ℕ, List, Option, Result, Ok, Err, IfOk, IfErr, inl, inr, sym, subst, refl}
+use Rattle.std.proofs.lemmas.Result.{IfOk-at_ok}
 use Rattle.nm_pcap.specs.declared.form.Form.{Form}
+use Rattle.nm_command.specs.declared.status.Status.{Status}
 use Rattle.nm_files.specs.declared.trace_file.TraceFault.{TraceFault}
 use Rattle.nm_files.specs.declared.trace_file.TraceFault.TheVariants.{Sink, Memory}
 use Rattle.nm_words.specs.Input.{IsInput}
+use Rattle.nm_words.specs.Output.{EndsWord, IsPut}
 use Rattle.nm_words.specs.Traces.{EndsTrace, IsAnswer, outcome_status}
 use Rattle.nm_files.specs.Writing.{Writes}
 
+-- what is said was written, or was not, or nothing is said
+module _ {S : Type 0} (taken : S → Option (List ℕ)) (failures : S → ℕ) (old new : S) {V : Type 0} (text : V → List ℕ) (asked : V → Status) where
+  pub ends_word : (Says : Status → List ℕ → Type 0) (Fails : Status → Type 0) (said : Result V Status) (status : Status)
+      → IfOk said (λ v. Says (asked v) (text v)) → IfErr said Fails
+      → IfOk said (λ v. IsPut taken failures old new (text v) (asked v) status) → IfErr said (λ s. (status ≡ s) × (new ≡ old))
+      → EndsWord taken failures old new Says Fails status
+  ends_word Says Fails (Ok v) status says fails (inl (same, w)) unsaid = inl (text v, subst (λ s. Says s (text v)) (sym same) says, w)
+  ends_word Says Fails (Ok v) status says fails (inr (file, w)) unsaid = inr (inl (file, (asked v, text v, says, w)))
+  ends_word Says Fails (Err s) status says fails put (same, kept) = inr (inr (subst Fails (sym same) fails, kept))
+
+-- what holds of a text that was made holds of what is said
+pub text_is_said : {V T E F : Type 0} (text : V → T) (asked : V → Status) (P : Status → T → Type 0) (status : Status) (made : Result T E) (said : Result V F)
+    → IfOk made (P status) → IfOk said (λ v. (asked v ≡ status) × (made ≡ Ok (text v))) → IfOk said (λ v. P (asked v) (text v))
+text_is_said text asked P status made (Ok v) holds (is, had) = subst (λ s. P s (text v)) (sym is) (IfOk-at_ok (P status) had holds)
+text_is_said text asked P status made (Err e) holds had = tt
+
+-- an answer that is written as it is made
 module _ {S : Type 0} (taken : S → Option (List ℕ)) (failures : S → ℕ) (told : List ℕ → Option (List ℕ)) (failed_before failed : ℕ) (old new : S) where
-  pub ends_written : (form : Form) (topology : List ℕ) (iface : Option (List ℕ)) (text octets : List ℕ) (outcome : Result Unit TraceFault)
-      → IsInput (told topology) text → IsAnswer form iface text octets → Writes taken failures old new outcome octets
-      → EndsTrace taken failures told failed_before failed old new form topology iface (outcome_status outcome)
-  ends_written form topology iface text octets (Ok _) input answer w = (text, input, (octets, answer, w))
-  ends_written form topology iface text octets (Err Sink) input answer w = inr (text, input, (octets, answer, w))
-  ends_written form topology iface text octets (Err Memory) input answer w = inr (text, input, (octets, answer, w))
+  pub ends_written : (form : Form) (topology : List ℕ) (name : Option (List ℕ)) (text octets : List ℕ) (outcome : Result Unit TraceFault)
+      → IsInput (told topology) text → IsAnswer form name text octets → Writes taken failures old new outcome octets
+      → EndsTrace taken failures told failed_before failed old new form topology name (outcome_status outcome)
+  ends_written form topology name text octets (Ok _) input answer w = inl (inl (octets, (text, input, (refl, answer)), w))
+  ends_written form topology name text octets (Err Sink) input answer w = inl (inr (inl (refl, (_, octets, (text, input, (refl, answer)), w))))
+  ends_written form topology name text octets (Err Memory) input answer w = inr (refl, (octets, (text, input, (refl, answer)), w))

@@ -1,12 +1,12 @@
 -- The word `check`: where a topology is at fault, or what it has.
-use Rattle.std.specs.Prelude.{◌≡◌, ◌⊎◌, ℕ, List, Option, Ok, Err}
+use Rattle.std.specs.Prelude.{◌≡◌, ℕ, List, Option, Ok, Err}
 use Rattle.nm_topology.specs.Topology.{topology_of}
 use Rattle.nm_topology.specs.TopologyValue.{TopologyValue}
 use Rattle.nm_check.specs.Lines.{EndsLine}
 use Rattle.nm_command.specs.declared.status.Status.{Status}
 use Rattle.nm_command.specs.declared.status.Status.TheVariants.{Done, Usage, NoInterface, ScriptLine, Step, Topology, File, Memory, NotCertified, Stalled}
-use Rattle.nm_files.specs.Writing.{WroteAll, WrotePrefix}
-use Rattle.nm_words.specs.Input.{IsInput, IsNotRead}
+use Rattle.nm_words.specs.Input.{IsUnread}
+use Rattle.nm_words.specs.Output.{EndsWord, SaysOfInput}
 
 -- What is said with each status: an accepted topology is done, and of a refused one the status has the first refusal, with a line on it.
 abbrev pub SaysOf : List ℕ → Status → List ℕ → Type 0
@@ -21,22 +21,7 @@ SaysOf text Memory octets = ⊥
 SaysOf text (NotCertified n) octets = ⊥
 SaysOf text Stalled octets = ⊥
 
--- What each status says. Where memory was refused, the sink took nothing.
+-- What each status says.
 module _ {S : Type 0} (taken : S → Option (List ℕ)) (failures : S → ℕ) (told : List ℕ → Option (List ℕ)) (failed_before failed : ℕ) (old new : S) where
-  module _ (topology : List ℕ) where
-    -- all of what is to be said with this status was written
-    abbrev pub SaidAll : Status → Type 0
-    SaidAll status = (text : List ℕ) × IsInput (told topology) text × ((octets : List ℕ) × SaysOf text status octets × WroteAll taken failures old new octets)
-
-    abbrev pub EndsCheck : Status → Type 0
-    EndsCheck Done = SaidAll Done
-    EndsCheck Usage = ⊥
-    EndsCheck NoInterface = ⊥
-    EndsCheck (ScriptLine n) = ⊥
-    EndsCheck (Step n) = ⊥
-    EndsCheck (Topology refusal) = SaidAll (Topology refusal)
-    EndsCheck File = (IsNotRead (told topology) failed_before failed × (new ≡ old))
-        ⊎ ((text : List ℕ) × IsInput (told topology) text × ((status : Status) × (octets : List ℕ) × SaysOf text status octets × WrotePrefix taken failures old new octets))
-    EndsCheck Memory = new ≡ old
-    EndsCheck (NotCertified n) = ⊥
-    EndsCheck Stalled = ⊥
+  abbrev pub EndsCheck : List ℕ → Status → Type 0
+  EndsCheck topology status = EndsWord taken failures old new (SaysOfInput (told topology) SaysOf) (IsUnread (told topology) failed_before failed) status

@@ -1,5 +1,5 @@
 -- What contracts see of inputs.
-use Rattle.std.specs.Prelude.{◌≡◌, ◌⊎◌, ℕ, ◌+◌, ◌<◌, ◌≤◌, if◌then◌else◌, List, length, Option, IfSome, Result, Ok, Err, codes}
+use Rattle.std.specs.Prelude.{◌≡◌, ◌⊎◌, ℕ, ◌+◌, ◌<◌, ◌≤◌, if◌then◌else◌, List, length, Option, IfSome, Ok, Err, codes}
 use Rattle.std.specs.Str.{bytes_eq}
 use Rattle.std.specs.declared.io.ErrorKind.{ErrorKind}
 use Rattle.std.specs.declared.io.ErrorKind.TheVariants.{OutOfMemory}
@@ -60,7 +60,6 @@ IsRefused text Memory = Unit {0}
 IsRefused text (NotCertified n) = ⊥
 IsRefused text Stalled = ⊥
 
--- what the reading of a topology answers, of an input that may tell what it has
-abbrev pub ReadsTopology : Option (List ℕ) → ℕ → ℕ → Result TopologyValue Status → Type 0
-ReadsTopology told failed_before failed (Ok network) = (text : List ℕ) × IsInput told text × (topology_of text ≡ Ok network)
-ReadsTopology told failed_before failed (Err status) = IsUnread told failed_before failed status ⊎ ((text : List ℕ) × IsInput told text × IsRefused text status)
+-- this is the topology of the text that an input has
+abbrev pub HasTopology : Option (List ℕ) → TopologyValue → Type 0
+HasTopology told network = (text : List ℕ) × IsInput told text × (topology_of text ≡ Ok network)

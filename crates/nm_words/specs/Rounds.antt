@@ -1,5 +1,5 @@
 -- The word `rounds`: all partitions in rounds.
-use Rattle.std.specs.Prelude.{◌≡◌, ◌⊎◌, ℕ, ◌≤◌, List, ◌++◌, Option, Ok, Err, codes, decimal}
+use Rattle.std.specs.Prelude.{◌≡◌, ℕ, ◌≤◌, List, ◌++◌, Option, Ok, codes, decimal}
 use Rattle.nm_base.specs.declared.record.Record.{Record}
 use Rattle.nm_topology.specs.Topology.{topology_of}
 use Rattle.nm_topology.specs.TopologyValue.{TopologyValue}
@@ -9,9 +9,9 @@ use Rattle.nm_book.specs.Book.{BookValue}
 use Rattle.nm_rounds.specs.Rounds.{AreUnfinished}
 use Rattle.nm_command.specs.declared.status.Status.{Status}
 use Rattle.nm_command.specs.declared.status.Status.TheVariants.{Done, Usage, NoInterface, ScriptLine, Step, Topology, File, Memory, NotCertified, Stalled}
-use Rattle.nm_words.specs.Input.{IsInput, IsNotRead}
+use Rattle.nm_words.specs.Input.{IsRefused}
 use Rattle.nm_words.specs.Lines.{AreTotals, iface_lines}
-use Rattle.nm_files.specs.Writing.{WroteAll, WrotePrefix}
+use Rattle.nm_words.specs.Output.{EndsWord, FailsOfInput, SaysOfInput}
 
 -- All was done in one of so many rounds. Each interface has what it has in the trace of the one event list, over the whole run.
 pub record SaysDone (max : ℕ) (text octets : List ℕ) : Type 0 where
@@ -47,18 +47,8 @@ SaysRounds max text Memory octets = ⊥
 SaysRounds max text (NotCertified n) octets = ⊥
 SaysRounds max text Stalled octets = SaysUnfinished max text octets
 
--- What each status says. Where memory was refused, the sink took nothing.
+-- What each status says.
 module _ {S : Type 0} (taken : S → Option (List ℕ)) (failures : S → ℕ) (told : List ℕ → Option (List ℕ)) (failed_before failed : ℕ) (old new : S) where
-  module _ (topology : List ℕ) (max : ℕ) where
-    abbrev pub EndsRounds : Status → Type 0
-    EndsRounds Done = (text : List ℕ) × IsInput (told topology) text × ((octets : List ℕ) × SaysDone max text octets × WroteAll taken failures old new octets)
-    EndsRounds Usage = ⊥
-    EndsRounds NoInterface = ⊥
-    EndsRounds (ScriptLine n) = ⊥
-    EndsRounds (Step n) = ⊥
-    EndsRounds (Topology refusal) = (text : List ℕ) × IsInput (told topology) text × (topology_of text ≡ Err refusal) × (new ≡ old)
-    EndsRounds File = (IsNotRead (told topology) failed_before failed × (new ≡ old))
-        ⊎ ((text : List ℕ) × IsInput (told topology) text × ((status : Status) × (octets : List ℕ) × SaysRounds max text status octets × WrotePrefix taken failures old new octets))
-    EndsRounds Memory = new ≡ old
-    EndsRounds (NotCertified n) = ⊥
-    EndsRounds Stalled = (text : List ℕ) × IsInput (told topology) text × ((octets : List ℕ) × SaysUnfinished max text octets × WroteAll taken failures old new octets)
+  abbrev pub EndsRounds : List ℕ → ℕ → Status → Type 0
+  EndsRounds topology max status =
+      EndsWord taken failures old new (SaysOfInput (told topology) (SaysRounds max)) (FailsOfInput (told topology) failed_before failed IsRefused) status

@@ -1,5 +1,5 @@
 -- The word `script`: the steps of a script.
-use Rattle.std.specs.Prelude.{◌≡◌, ◌⊎◌, ℕ, List, Option, Ok, Err}
+use Rattle.std.specs.Prelude.{◌≡◌, ℕ, List, Option, Ok, Err}
 use Rattle.nm_topology.specs.Topology.{topology_of}
 use Rattle.nm_topology.specs.TopologyValue.{TopologyValue}
 use Rattle.nm_book.specs.Book.{BookValue}
@@ -12,8 +12,7 @@ use Rattle.nm_script.specs.Printed.{report_text}
 use Rattle.nm_script.specs.Script.{IsFirstFault, IsScript}
 use Rattle.nm_command.specs.declared.status.Status.{Status}
 use Rattle.nm_command.specs.declared.status.Status.TheVariants.{Done, Usage, NoInterface, ScriptLine, Step, Topology, File, Memory, NotCertified, Stalled}
-use Rattle.nm_words.specs.Input.{IsInput, IsNotRead}
-use Rattle.nm_files.specs.Writing.{WroteAll, WrotePrefix}
+use Rattle.nm_words.specs.Output.{EndsWord, FailsOfInputs, SaysOfInputs}
 
 -- What is said are the answers to all steps of the script, and the books that they left, as the model's world has them. So the headline holds of them.
 pub record SaysReport (text script octets : List ℕ) : Type 0 where
@@ -43,6 +42,10 @@ pub record HasBadLine (text script : List ℕ) (line : ℕ) : Type 0 where
   pub read : topology_of text ≡ Ok network
   pub bad : IsFirstFault script line
 
+-- it is said once the steps are done
+abbrev pub SaysScript : List ℕ → List ℕ → Status → List ℕ → Type 0
+SaysScript text script status octets = (status ≡ Done) × SaysReport text script octets
+
 -- why nothing is said
 abbrev pub FailsScript : List ℕ → List ℕ → Status → Type 0
 FailsScript text script Done = ⊥
@@ -56,23 +59,8 @@ FailsScript text script Memory = Unit {0}
 FailsScript text script (NotCertified n) = ⊥
 FailsScript text script Stalled = ⊥
 
--- What each status says. Both inputs are read before anything else is looked at; where the first is not read, the second is not opened.
+-- What each status says.
 module _ {S : Type 0} (taken : S → Option (List ℕ)) (failures : S → ℕ) (told : List ℕ → Option (List ℕ)) (failed_before failed : ℕ) (old new : S) where
-  module _ (topology steps : List ℕ) where
-    abbrev pub AreBothRead : List ℕ → List ℕ → Type 0
-    AreBothRead text script = IsInput (told topology) text × IsInput (told steps) script
-
-    abbrev pub EndsScript : Status → Type 0
-    EndsScript Done = (text : List ℕ) × (script : List ℕ) × AreBothRead text script
-        × ((octets : List ℕ) × SaysReport text script octets × WroteAll taken failures old new octets)
-    EndsScript Usage = ⊥
-    EndsScript NoInterface = ⊥
-    EndsScript (ScriptLine line) = (text : List ℕ) × (script : List ℕ) × AreBothRead text script × HasBadLine text script line × (new ≡ old)
-    EndsScript (Step step) = (text : List ℕ) × (script : List ℕ) × AreBothRead text script × StopsAt text script step × (new ≡ old)
-    EndsScript (Topology refusal) = (text : List ℕ) × (script : List ℕ) × AreBothRead text script × (topology_of text ≡ Err refusal) × (new ≡ old)
-    EndsScript File = ((IsNotRead (told topology) failed_before failed ⊎ IsNotRead (told steps) failed_before failed) × (new ≡ old))
-        ⊎ ((text : List ℕ) × (script : List ℕ) × AreBothRead text script
-        × ((octets : List ℕ) × SaysReport text script octets × WrotePrefix taken failures old new octets))
-    EndsScript Memory = new ≡ old
-    EndsScript (NotCertified n) = ⊥
-    EndsScript Stalled = ⊥
+  abbrev pub EndsScript : List ℕ → List ℕ → Status → Type 0
+  EndsScript topology steps status =
+      EndsWord taken failures old new (SaysOfInputs (told topology) (told steps) SaysScript) (FailsOfInputs (told topology) (told steps) failed_before failed FailsScript) status

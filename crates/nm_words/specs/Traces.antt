@@ -8,11 +8,12 @@ use Rattle.nm_topology.specs.PartValues.{IfaceValue}
 use Rattle.nm_topology.specs.TopologyValue.{TopologyValue}
 use Rattle.nm_sim.specs.Trace.{IsTraceBefore}
 use Rattle.nm_command.specs.declared.status.Status.{Status}
-use Rattle.nm_command.specs.declared.status.Status.TheVariants.{Done, Usage, NoInterface, ScriptLine, Step, Topology, File, Memory, NotCertified, Stalled}
+use Rattle.nm_command.specs.declared.status.Status.TheVariants.{Done, NoInterface, File, Memory}
 use Rattle.nm_files.specs.declared.trace_file.TraceFault.{TraceFault}
 use Rattle.nm_files.specs.declared.trace_file.TraceFault.TheVariants.{Sink, Memory as NoMemory}
-use Rattle.nm_words.specs.Input.{IsInput, IsNotRead}
-use Rattle.nm_files.specs.Writing.{WroteAll, WrotePart, WrotePrefix}
+use Rattle.nm_words.specs.Input.{IsRefused}
+use Rattle.nm_words.specs.Output.{EndsWord, FailsOfInput, SaysOfInput}
+use Rattle.nm_files.specs.Writing.{WrotePart}
 use Rattle.nm_files.specs.TraceFile.{trace_file}
 
 -- the number of the interface that a command names, which is 0 where it names none
@@ -30,23 +31,21 @@ pub record IsAnswer (form : Form) (name : Option (List ℕ)) (text octets : List
   pub trace : IsTraceBefore network network.stop records
   pub file : octets ≡ trace_file form iface records
 
+-- it is said once it is written
+abbrev pub SaysTrace : Form → Option (List ℕ) → List ℕ → Status → List ℕ → Type 0
+SaysTrace form name text status octets = (status ≡ Done) × IsAnswer form name text octets
+
+-- why there is no such interface: the text is refused, or its topology has none
+abbrev pub HasNoIface : Option (List ℕ) → List ℕ → Status → Type 0
+HasNoIface name text status = IsRefused text status
+    ⊎ ((status ≡ NoInterface) × ((network : TopologyValue) × (topology_of text ≡ Ok network) × (iface_named network.ifaces name ≡ None)))
+
 -- What each status says. Where memory was refused, it was before the sink took anything, or the sink took a part of the answer.
 module _ {S : Type 0} (taken : S → Option (List ℕ)) (failures : S → ℕ) (told : List ℕ → Option (List ℕ)) (failed_before failed : ℕ) (old new : S) where
-  module _ (form : Form) (topology : List ℕ) (iface : Option (List ℕ)) where
-    abbrev pub EndsTrace : Status → Type 0
-    EndsTrace Done = (text : List ℕ) × IsInput (told topology) text × ((octets : List ℕ) × IsAnswer form iface text octets × WroteAll taken failures old new octets)
-    EndsTrace Usage = ⊥
-    EndsTrace NoInterface = (text : List ℕ) × IsInput (told topology) text × ((network : TopologyValue) × (topology_of text ≡ Ok network)
-        × (iface_named network.ifaces iface ≡ None) × (new ≡ old))
-    EndsTrace (ScriptLine n) = ⊥
-    EndsTrace (Step n) = ⊥
-    EndsTrace (Topology refusal) = (text : List ℕ) × IsInput (told topology) text × (topology_of text ≡ Err refusal) × (new ≡ old)
-    EndsTrace File = (IsNotRead (told topology) failed_before failed × (new ≡ old))
-        ⊎ ((text : List ℕ) × IsInput (told topology) text × ((octets : List ℕ) × IsAnswer form iface text octets × WrotePrefix taken failures old new octets))
-    EndsTrace Memory = (new ≡ old)
-        ⊎ ((text : List ℕ) × IsInput (told topology) text × ((octets : List ℕ) × IsAnswer form iface text octets × WrotePart taken failures old new octets))
-    EndsTrace (NotCertified n) = ⊥
-    EndsTrace Stalled = ⊥
+  abbrev pub EndsTrace : Form → List ℕ → Option (List ℕ) → Status → Type 0
+  EndsTrace form topology name status =
+      EndsWord taken failures old new (SaysOfInput (told topology) (SaysTrace form name)) (FailsOfInput (told topology) failed_before failed (HasNoIface name)) status
+      ⊎ ((status ≡ Memory) × ((octets : List ℕ) × SaysOfInput (told topology) (SaysTrace form name) Done octets × WrotePart taken failures old new octets))
 
 -- the status of a command whose trace file was written, or was not
 abbrev pub outcome_status : Result Unit TraceFault → Status

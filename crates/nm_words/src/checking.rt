@@ -1,34 +1,50 @@
 //! The word `check`: where a topology is at fault, or what it has.
 
-ghost use Rattle.std.specs.Prelude.{IfOk};
+ghost use Rattle.std.specs.Prelude.{◌≡◌, IfErr, IfOk};
+ghost use Rattle.nm_command.specs.declared.status.Status.TheVariants.{Memory};
 ghost use Rattle.nm_words.specs.Check.{EndsCheck, SaysOf};
-ghost use Rattle.nm_words.specs.Input.{text_of};
+ghost use Rattle.nm_words.specs.Input.{IsUnread, text_of};
+ghost use Rattle.nm_words.specs.Output.{SaysOfInput};
 
 use crate::input::NamedInputs;
 use crate::inputs::Inputs;
-use crate::output::{Output, put};
+use crate::output::{Output, end};
 use crate::reading::read_text;
 use nm_base::Sink;
 use nm_check::{explain, summary};
 use nm_command::Status;
 use nm_topology::{TopoFault, Topology};
-use std::alloc::{AllocError, Global};
+use std::alloc::Global;
 
 /// What is said of a topology text: what it has, or where its first fault lies.
-fn check_text(alloc: Global, text: &[u8]) -> Result<Output, AllocError>
-    ensures { IfOk result (λ output. SaysOf text.now output.status output.text.items) }
+fn check_output(alloc: Global, text: &[u8]) -> Result<Output, Status>
+    ensures said { IfOk result (λ output. SaysOf text.now output.status output.text.items) }
+    ensures fault { IfErr result (λ status. status ≡ Memory) }
 {
     match Topology::read(alloc, text) {
-        Ok(network) => Ok(Output {
-            text: summary(alloc, &network)?,
-            status: Status::Done,
-        }),
-        Err(TopoFault::Refused(refusal)) => Ok(Output {
-            text: explain(alloc, text, refusal)?,
-            status: Status::Topology(refusal),
-        }),
-        Err(TopoFault::Memory) => Err(AllocError),
+        Ok(network) => Output::of(summary(alloc, &network), Status::Done),
+        Err(TopoFault::Refused(refusal)) => {
+            Output::of(explain(alloc, text, refusal), Status::Topology(refusal))
+        }
+        Err(TopoFault::Memory) => Err(Status::Memory),
     }
+}
+
+/// Where a topology is at fault, or what it has.
+fn check_said<I: Inputs>(
+    alloc: Global,
+    topology: &str,
+    inputs: &mut NamedInputs<I>,
+) -> Result<Output, Status>
+    ensures said { IfOk result (λ output. SaysOfInput
+        (text_of I.standard_text I.file_text inputs.old.inputs topology.now)
+        SaysOf output.status output.text.items) }
+    ensures fault { IfErr result (λ status. IsUnread
+        (text_of I.standard_text I.file_text inputs.old.inputs topology.now)
+        inputs.old.failures inputs.new.failures status) }
+{
+    let text = read_text(alloc, inputs, topology)?;
+    check_output(alloc, text.as_slice())
 }
 
 /// Says where a topology is at fault, or what it has.
@@ -43,12 +59,5 @@ pub fn say_check<I: Inputs, O: Sink + Drop>(
         inputs.old.failures inputs.new.failures
         out result.1 topology.entry.now result.0 }
 {
-    let text = match read_text(alloc, inputs, topology) {
-        Ok(text) => text,
-        Err(status) => return (status, out),
-    };
-    match check_text(alloc, text.as_slice()) {
-        Ok(output) => put(output, out),
-        Err(_) => (Status::Memory, out),
-    }
+    end(check_said(alloc, topology, inputs), out)
 }

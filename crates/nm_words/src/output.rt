@@ -1,10 +1,13 @@
-//! A text for the output.
+//! What a word says, and how the program ends with it.
 
+ghost use Rattle.std.specs.Prelude.{◌≡◌, IfErr, IfOk, Ok};
+ghost use Rattle.nm_command.specs.declared.status.Status.TheVariants.{Memory};
 ghost use Rattle.nm_words.specs.Output.{IsPut};
 
 use nm_base::Sink;
 use nm_base::sink::write_all;
 use nm_command::Status;
+use std::alloc::AllocError;
 
 /// A text for the output, and how the program ends once it is written.
 #[derive(Drop)]
@@ -13,12 +16,42 @@ pub struct Output {
     pub status: Status,
 }
 
+impl Output {
+    /// A text, and how the program ends with it.
+    ///
+    /// # Errors
+    ///
+    /// `Memory` where it was not made, since memory was refused.
+    pub fn of(text: Result<Vec<u8>, AllocError>, status: Status) -> Result<Output, Status>
+        ensures made { IfOk result (λ output. (output.status ≡ status) × (text ≡ Ok output.text)) }
+        ensures fault { IfErr result (λ s. s ≡ Memory) }
+    {
+        match text {
+            Ok(text) => Ok(Output { text, status }),
+            Err(AllocError) => Err(Status::Memory),
+        }
+    }
+}
+
 /// Writes a text, and gives the sink back.
-pub fn put<O: Sink>(output: Output, mut out: O) -> (Status, O)
+fn put<O: Sink>(output: Output, mut out: O) -> (Status, O)
     ensures { IsPut O.taken O.failures out result.1 output.text.items output.status result.0 }
 {
     match write_all(&mut out, output.text.as_slice()) {
         Ok(()) => (output.status, out),
         Err(_) => (Status::File, out),
+    }
+}
+
+/// Ends a word: writes what it says, or hands on the status with which it says nothing. Gives the
+/// sink back.
+pub fn end<O: Sink>(said: Result<Output, Status>, out: O) -> (Status, O)
+    ensures written { IfOk said (λ output. IsPut O.taken O.failures out result.1
+        output.text.items output.status result.0) }
+    ensures unsaid { IfErr said (λ status. (result.0 ≡ status) × (result.1 ≡ out)) }
+{
+    match said {
+        Ok(output) => put(output, out),
+        Err(status) => (status, out),
     }
 }

@@ -1,14 +1,18 @@
 //! What the inputs of a command have.
 
 ghost use Rattle.std.specs.Prelude.{◌≡◌, IfErr, IfOk, Ok};
+ghost use Rattle.std.specs.Arc.{arc_value};
+ghost use Rattle.nm_command.specs.declared.status.Status.TheVariants.{Memory};
 ghost use Rattle.nm_topology.specs.Topology.{topology_of};
-ghost use Rattle.nm_words.specs.Input.{IsInput, IsRefused, IsUnread, ReadsTopology, text_of};
+ghost use Rattle.nm_words.specs.Input.{HasTopology, IsInput, IsRefused, IsUnread, text_of};
+ghost use Rattle.nm_words.specs.Output.{FailsOfInput};
 
 use crate::input::{InputFault, NamedInputs};
 use crate::inputs::Inputs;
 use nm_command::Status;
 use nm_topology::{TopoFault, Topology};
 use std::alloc::Global;
+use std::sync::Arc;
 
 /// The text that the input of a name has.
 pub fn read_text<I: Inputs>(
@@ -49,12 +53,38 @@ pub fn read_topology<I: Inputs>(
     inputs: &mut NamedInputs<I>,
     name: &str,
 ) -> Result<Topology, Status>
-    ensures { ReadsTopology (text_of I.standard_text I.file_text inputs.old.inputs name.now)
-        inputs.old.failures inputs.new.failures result }
+    ensures network { IfOk result (λ network. HasTopology
+        (text_of I.standard_text I.file_text inputs.old.inputs name.now) network) }
+    ensures fault { IfErr result (λ status. FailsOfInput
+        (text_of I.standard_text I.file_text inputs.old.inputs name.now)
+        inputs.old.failures inputs.new.failures IsRefused status) }
 {
-    let text = match read_text(alloc, inputs, name) {
-        Ok(text) => text,
-        Err(status) => return Err(status),
-    };
+    let text = read_text(alloc, inputs, name)?;
     read_network(alloc, text.as_slice())
+}
+
+/// A topology that several parts of the program hold.
+pub fn share(alloc: Global, topology: Topology) -> Result<Arc<Topology>, Status>
+    ensures same { IfOk result (λ shared. arc_value shared ≡ topology) }
+    ensures fault { IfErr result (λ status. status ≡ Memory) }
+{
+    match Arc::new(alloc, topology) {
+        Ok(shared) => Ok(shared),
+        Err(_) => Err(Status::Memory),
+    }
+}
+
+/// The topology whose text the input of a name has, as one that several parts of the program hold.
+pub fn read_shared<I: Inputs>(
+    alloc: Global,
+    inputs: &mut NamedInputs<I>,
+    name: &str,
+) -> Result<Arc<Topology>, Status>
+    ensures network { IfOk result (λ network. HasTopology
+        (text_of I.standard_text I.file_text inputs.old.inputs name.now) (arc_value network)) }
+    ensures fault { IfErr result (λ status. FailsOfInput
+        (text_of I.standard_text I.file_text inputs.old.inputs name.now)
+        inputs.old.failures inputs.new.failures IsRefused status) }
+{
+    share(alloc, read_topology(alloc, inputs, name)?)
 }

@@ -1,18 +1,20 @@
 //! The word `rounds`: all partitions in rounds.
 
-ghost use Rattle.std.specs.Prelude.{◌≡◌, ℕ, ◌≤◌, ◌++◌, List, IfOk, Ok, codes, decimal};
+ghost use Rattle.std.specs.Prelude.{◌≡◌, ℕ, ◌≤◌, ◌++◌, List, IfErr, IfOk, Ok, codes, decimal};
 ghost use Rattle.std.specs.Arc.{arc_value};
 ghost use Rattle.nm_base.specs.declared.limits.TheConstants.{MAX_ROUNDS};
+ghost use Rattle.nm_command.specs.declared.status.Status.TheVariants.{Memory};
 ghost use Rattle.nm_topology.specs.Topology.{topology_of};
-ghost use Rattle.nm_words.specs.Input.{text_of};
+ghost use Rattle.nm_words.specs.Input.{IsRefused, text_of};
 ghost use Rattle.nm_words.specs.Lines.{AreOfPartitions, AreTotals, iface_lines};
+ghost use Rattle.nm_words.specs.Output.{FailsOfInput, SaysOfInput};
 ghost use Rattle.nm_words.specs.Rounds.{EndsRounds, SaysRounds};
 
 use crate::input::NamedInputs;
 use crate::inputs::Inputs;
 use crate::lines::push_lines;
-use crate::output::{Output, put};
-use crate::reading::read_topology;
+use crate::output::{Output, end};
+use crate::reading::read_shared;
 use nm_base::{Packet, Sink, push_number, push_text};
 use nm_book::Book;
 use nm_command::Status;
@@ -34,9 +36,10 @@ fn rounds_text(
     books: &[Book],
 ) -> Result<Vec<u8>, AllocError>
     requires books { AreOfPartitions topology.now books.now }
-    ensures { (totals : ℕ → ℕ × ℕ) → AreTotals topology.now books.now totals
-        → IfOk result (λ text. text.items
-        ≡ word.now ++ codes " " ++ decimal number ++ codes "\n" ++ iface_lines totals topology.now) }
+    ensures { IfOk result (λ text. (totals : ℕ → ℕ × ℕ)
+        → AreTotals topology.now books.now totals → text.items
+        ≡ word.now ++ codes " " ++ decimal number ++ codes "\n"
+        ++ iface_lines totals topology.now) }
 {
     let mut text = Vec::new(alloc);
     push_text(&mut text, word)?;
@@ -53,27 +56,50 @@ fn rounds_output(
     topology: &Arc<Topology>,
     max: u64,
     progress: &Progress,
-) -> Result<Output, AllocError>
+) -> Result<Output, Status>
     requires some { 1 ≤ max }
     requires few { max ≤ MAX_ROUNDS }
-    ensures { IfOk result (λ output. (text : List ℕ)
+    ensures said { IfOk result (λ output. (text : List ℕ)
         → topology_of text ≡ Ok (arc_value topology.now)
         → SaysRounds max text output.status output.text.items) }
+    ensures fault { IfErr result (λ status. status ≡ Memory) }
 {
     every_topology_has_a_trace(topology); // law: there is a trace of the whole run
     interfaces_have_their_records::<Packet, NodeState>(); // law: they are in their partition's too
     match run_rounds_over(alloc, topology, max, progress) {
-        Rounds::Done { rounds, books } => Ok(Output {
-            text: rounds_text(alloc, b"done", rounds, topology, books.as_slice())?,
-            status: Status::Done,
-        }),
-        Rounds::Unfinished { rounds, books } => Ok(Output {
-            text: rounds_text(alloc, b"unfinished", rounds, topology, books.as_slice())?,
-            status: Status::Stalled,
-        }),
-        Rounds::Memory => Err(AllocError),
+        Rounds::Done { rounds, books } => Output::of(
+            rounds_text(alloc, b"done", rounds, topology, books.as_slice()),
+            Status::Done,
+        ),
+        Rounds::Unfinished { rounds, books } => Output::of(
+            rounds_text(alloc, b"unfinished", rounds, topology, books.as_slice()),
+            Status::Stalled,
+        ),
+        Rounds::Memory => Err(Status::Memory),
         Rounds::Topo(_) => unreachable!(),
     }
+}
+
+/// What all partitions come to in at most so many rounds.
+fn rounds_said<I: Inputs>(
+    alloc: Global,
+    topology: &str,
+    max: u64,
+    inputs: &mut NamedInputs<I>,
+    progress: &Progress,
+) -> Result<Output, Status>
+    requires some { 1 ≤ max }
+    requires few { max ≤ MAX_ROUNDS }
+    ensures said { IfOk result (λ output. SaysOfInput
+        (text_of I.standard_text I.file_text inputs.old.inputs topology.now)
+        (SaysRounds max) output.status output.text.items) }
+    ensures fault { IfErr result (λ status. FailsOfInput
+        (text_of I.standard_text I.file_text inputs.old.inputs topology.now)
+        inputs.old.failures inputs.new.failures IsRefused status) }
+{
+    let network = read_shared(alloc, inputs, topology)?;
+    progress.begin(network.stop());
+    rounds_output(alloc, &network, max, progress)
 }
 
 /// Lets all partitions run in at most so many rounds, and says what came of it: whether all was
@@ -93,16 +119,5 @@ pub fn say_rounds<I: Inputs, O: Sink + Drop>(
         inputs.old.failures inputs.new.failures
         out result.1 topology.entry.now max result.0 }
 {
-    let topology = match read_topology(alloc, inputs, topology) {
-        Ok(topology) => topology,
-        Err(status) => return (status, out),
-    };
-    let Ok(topology) = Arc::new(alloc, topology) else {
-        return (Status::Memory, out);
-    };
-    progress.begin(topology.stop());
-    match rounds_output(alloc, &topology, max, progress) {
-        Ok(output) => put(output, out),
-        Err(_) => (Status::Memory, out),
-    }
+    end(rounds_said(alloc, topology, max, inputs, progress), out)
 }

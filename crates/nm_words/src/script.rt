@@ -1,14 +1,14 @@
 //! The word `script`: the steps of a script.
 
-ghost use Rattle.std.specs.Prelude.{◌≡◌, IfErr, IfOk};
-ghost use Rattle.nm_command.specs.declared.status.Status.TheVariants.{Done};
+ghost use Rattle.std.specs.Prelude.{IfErr, IfOk};
 ghost use Rattle.nm_script.specs.Script.{IsFirstFault, IsScript};
 ghost use Rattle.nm_words.specs.Input.{text_of};
-ghost use Rattle.nm_words.specs.Script.{EndsScript, FailsScript, SaysReport};
+ghost use Rattle.nm_words.specs.Output.{FailsOfInputs, SaysOfInputs};
+ghost use Rattle.nm_words.specs.Script.{EndsScript, FailsScript, SaysScript};
 
 use crate::input::NamedInputs;
 use crate::inputs::Inputs;
-use crate::output::{Output, put};
+use crate::output::{Output, end};
 use crate::reading::{read_network, read_text};
 use nm_base::Sink;
 use nm_command::Status;
@@ -49,8 +49,8 @@ fn steps_output(
     steps: &[WorldStep],
 ) -> Result<Output, Status>
     requires { IsScript script.now steps.now }
-    ensures said { IfOk result (λ output. (output.status ≡ Done)
-        × SaysReport topology.now script.now output.text.items) }
+    ensures said { IfOk result (λ output.
+        SaysScript topology.now script.now output.status output.text.items) }
     ensures fault { IfErr result (λ status. FailsScript topology.now script.now status) }
 {
     let report = match replay(alloc, topology, steps) {
@@ -63,29 +63,41 @@ fn steps_output(
         }
     };
     match report.ending {
-        Ending::Ended => {}
-        Ending::NoSuch { step } => return Err(Status::Step(step)),
-        Ending::Memory { .. } => return Err(Status::Memory),
-    }
-    match report_text(alloc, &report) {
-        Ok(text) => Ok(Output {
-            text,
-            status: Status::Done,
-        }),
-        Err(_) => Err(Status::Memory),
+        Ending::Ended => Output::of(report_text(alloc, &report), Status::Done),
+        Ending::NoSuch { step } => Err(Status::Step(step)),
+        Ending::Memory { .. } => Err(Status::Memory),
     }
 }
 
 /// Reads a script, does its steps, and tells what each answered and what they left.
 fn script_output(alloc: Global, topology: &[u8], script: &[u8]) -> Result<Output, Status>
-    ensures said { IfOk result (λ output. (output.status ≡ Done)
-        × SaysReport topology.now script.now output.text.items) }
+    ensures said { IfOk result (λ output.
+        SaysScript topology.now script.now output.status output.text.items) }
     ensures fault { IfErr result (λ status. FailsScript topology.now script.now status) }
 {
-    match read_steps(alloc, topology, script) {
-        Ok(steps) => steps_output(alloc, topology, script, steps.as_slice()),
-        Err(status) => Err(status),
-    }
+    let steps = read_steps(alloc, topology, script)?;
+    steps_output(alloc, topology, script, steps.as_slice())
+}
+
+/// What the steps of a script answered, and what they left.
+fn script_said<I: Inputs>(
+    alloc: Global,
+    topology: &str,
+    steps: &str,
+    inputs: &mut NamedInputs<I>,
+) -> Result<Output, Status>
+    ensures said { IfOk result (λ output. SaysOfInputs
+        (text_of I.standard_text I.file_text inputs.old.inputs topology.now)
+        (text_of I.standard_text I.file_text inputs.old.inputs steps.now)
+        SaysScript output.status output.text.items) }
+    ensures fault { IfErr result (λ status. FailsOfInputs
+        (text_of I.standard_text I.file_text inputs.old.inputs topology.now)
+        (text_of I.standard_text I.file_text inputs.old.inputs steps.now)
+        inputs.old.failures inputs.new.failures FailsScript status) }
+{
+    let topology = read_text(alloc, inputs, topology)?;
+    let script = read_text(alloc, inputs, steps)?;
+    script_output(alloc, topology.as_slice(), script.as_slice())
 }
 
 /// Does the steps of a script, and says what each answered and what they left.
@@ -101,16 +113,5 @@ pub fn say_script<I: Inputs, O: Sink + Drop>(
         inputs.old.failures inputs.new.failures
         out result.1 topology.entry.now steps.entry.now result.0 }
 {
-    let topology = match read_text(alloc, inputs, topology) {
-        Ok(text) => text,
-        Err(status) => return (status, out),
-    };
-    let script = match read_text(alloc, inputs, steps) {
-        Ok(text) => text,
-        Err(status) => return (status, out),
-    };
-    match script_output(alloc, topology.as_slice(), script.as_slice()) {
-        Ok(output) => put(output, out),
-        Err(status) => (status, out),
-    }
+    end(script_said(alloc, topology, steps, inputs), out)
 }

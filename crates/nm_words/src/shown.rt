@@ -1,15 +1,17 @@
 //! The words `report`, `dot` and `text`: a run or a network in words and pictures.
 
-ghost use Rattle.std.specs.Prelude.{IfOk, OnOk};
-ghost use Rattle.nm_words.specs.Input.{text_of};
-ghost use Rattle.nm_words.specs.Shown.{ArePacketLines, EndsShown, EndsText};
+ghost use Rattle.std.specs.Prelude.{IfErr, IfOk, OnOk};
+ghost use Rattle.nm_words.specs.Input.{IsRefused, text_of};
+ghost use Rattle.nm_words.specs.Output.{FailsOfInput, SaysOfInput};
+ghost use Rattle.nm_words.specs.Shown.{ArePacketLines, EndsShown, EndsText, SaysShown, SaysText};
+ghost use Rattle.nm_words.specs.Traces.{HasNoIface};
 ghost use Rattle.nm_report.specs.Lines.{EndsLine};
 
 use crate::input::NamedInputs;
 use crate::inputs::Inputs;
-use crate::output::{Output, put};
+use crate::output::{Output, end};
 use crate::reading::read_topology;
-use crate::traces::find_iface;
+use crate::traces::read_iface;
 use nm_base::{IfaceNo, Record, Sink};
 use nm_command::Status;
 use nm_progress::Progress;
@@ -52,6 +54,25 @@ fn view_text(
     }
 }
 
+/// A view of the network of an input.
+fn view_said<I: Inputs>(
+    alloc: Global,
+    topology: &str,
+    view: View,
+    inputs: &mut NamedInputs<I>,
+    progress: &Progress,
+) -> Result<Output, Status>
+    ensures said { IfOk result (λ output. SaysOfInput
+        (text_of I.standard_text I.file_text inputs.old.inputs topology.now)
+        SaysShown output.status output.text.items) }
+    ensures fault { IfErr result (λ status. FailsOfInput
+        (text_of I.standard_text I.file_text inputs.old.inputs topology.now)
+        inputs.old.failures inputs.new.failures IsRefused status) }
+{
+    let network = read_topology(alloc, inputs, topology)?;
+    Output::of(view_text(alloc, &network, view, progress), Status::Done)
+}
+
 /// Says a view of a network.
 pub fn say_view<I: Inputs, O: Sink + Drop>(
     alloc: Global,
@@ -66,20 +87,7 @@ pub fn say_view<I: Inputs, O: Sink + Drop>(
         inputs.old.failures inputs.new.failures
         out result.1 topology.entry.now result.0 }
 {
-    let network = match read_topology(alloc, inputs, topology) {
-        Ok(network) => network,
-        Err(status) => return (status, out),
-    };
-    match view_text(alloc, &network, view, progress) {
-        Ok(text) => put(
-            Output {
-                text,
-                status: Status::Done,
-            },
-            out,
-        ),
-        Err(_) => (Status::Memory, out),
-    }
+    end(view_said(alloc, topology, view, inputs, progress), out)
 }
 
 /// Appends the line of a record that is at the interface.
@@ -108,6 +116,24 @@ fn packets_text(alloc: Global, network: &Topology, iface: IfaceNo) -> Result<Vec
     Err(AllocError)
 }
 
+/// What passed the interface of this name.
+fn text_said<I: Inputs>(
+    alloc: Global,
+    topology: &str,
+    iface: &str,
+    inputs: &mut NamedInputs<I>,
+) -> Result<Output, Status>
+    ensures said { IfOk result (λ output. SaysOfInput
+        (text_of I.standard_text I.file_text inputs.old.inputs topology.now)
+        (SaysText iface.now) output.status output.text.items) }
+    ensures fault { IfErr result (λ status. FailsOfInput
+        (text_of I.standard_text I.file_text inputs.old.inputs topology.now)
+        inputs.old.failures inputs.new.failures (HasNoIface (Some iface.now)) status) }
+{
+    let (network, iface) = read_iface(alloc, inputs, topology, Some(iface))?;
+    Output::of(packets_text(alloc, &network, iface), Status::Done)
+}
+
 /// Says what passed the interface of this name.
 pub fn say_text<I: Inputs, O: Sink + Drop>(
     alloc: Global,
@@ -121,21 +147,5 @@ pub fn say_text<I: Inputs, O: Sink + Drop>(
         inputs.old.failures inputs.new.failures
         out result.1 topology.entry.now iface.entry.now result.0 }
 {
-    let network = match read_topology(alloc, inputs, topology) {
-        Ok(network) => network,
-        Err(status) => return (status, out),
-    };
-    let Some(iface) = find_iface(&network, Some(iface)) else {
-        return (Status::NoInterface, out);
-    };
-    match packets_text(alloc, &network, iface) {
-        Ok(text) => put(
-            Output {
-                text,
-                status: Status::Done,
-            },
-            out,
-        ),
-        Err(_) => (Status::Memory, out),
-    }
+    end(text_said(alloc, topology, iface, inputs), out)
 }

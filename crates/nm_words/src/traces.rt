@@ -1,9 +1,11 @@
 //! The words `one` and `onehex`: the trace file of one interface.
 
-ghost use Rattle.std.specs.Prelude.{◌≡◌, ◌<◌, IfSome, length, option_map, position};
+ghost use Rattle.std.specs.Prelude.{◌≡◌, ◌<◌, IfErr, IfOk, IfSome, Some};
+ghost use Rattle.std.specs.Prelude.{length, option_map, position};
 ghost use Rattle.std.specs.Str.{bytes_eq};
-ghost use Rattle.nm_words.specs.Input.{text_of};
-ghost use Rattle.nm_words.specs.Traces.{EndsTrace, iface_named, outcome_status};
+ghost use Rattle.nm_words.specs.Input.{HasTopology, text_of};
+ghost use Rattle.nm_words.specs.Output.{FailsOfInput};
+ghost use Rattle.nm_words.specs.Traces.{EndsTrace, HasNoIface, iface_named, outcome_status};
 
 use crate::input::NamedInputs;
 use crate::inputs::Inputs;
@@ -19,13 +21,20 @@ use nm_topology::parts::Iface;
 use nm_topology::topology::accepted_topologies_are_in_order;
 use std::alloc::Global;
 
+/// What the words of `one` and `onehex` name.
+#[derive(Clone, Copy)]
+pub struct TraceWords<'a> {
+    pub form: Form,
+    pub topology: &'a str,
+    /// `None` is interface 0.
+    pub iface: Option<&'a str>,
+}
+
 /// Writes the trace file of an interface in a form: of the one that has this name, or of interface
 /// 0 where there is no name.
 pub fn write_trace<I: Inputs, O: Sink + Drop>(
     alloc: Global,
-    form: Form,
-    topology: &str,
-    iface: Option<&str>,
+    words: &TraceWords<'_>,
     inputs: &mut NamedInputs<I>,
     out: O,
     progress: &Progress,
@@ -33,19 +42,38 @@ pub fn write_trace<I: Inputs, O: Sink + Drop>(
     ensures { EndsTrace O.taken O.failures
         (text_of I.standard_text I.file_text inputs.old.inputs)
         inputs.old.failures inputs.new.failures
-        out result.1 form topology.entry.now (option_map (λ n. n.now) iface.entry) result.0 }
+        out result.1 words.now.form words.now.topology.now
+        (option_map (λ n. n.now) words.now.iface) result.0 }
 {
-    let topology = match read_topology(alloc, inputs, topology) {
-        Ok(topology) => topology,
+    let (network, iface) = match read_iface(alloc, inputs, words.topology, words.iface) {
+        Ok(there) => there,
         Err(status) => return (status, out),
     };
-    let Some(iface) = find_iface(&topology, iface) else {
-        return (Status::NoInterface, out);
-    };
-    every_topology_has_a_trace(&topology); // law: there is an answer, also where it is not written
-    progress.begin(topology.stop());
-    let (outcome, out) = write_trace_file(alloc, &topology, form, iface, out, progress);
+    every_topology_has_a_trace(&network); // law: there is an answer, also where it is not written
+    progress.begin(network.stop());
+    let (outcome, out) = write_trace_file(alloc, &network, words.form, iface, out, progress);
     (status_of(outcome), out)
+}
+
+/// The topology whose text the input of a name has, and its interface of a name, or interface 0
+/// where there is no name.
+pub(crate) fn read_iface<I: Inputs>(
+    alloc: Global,
+    inputs: &mut NamedInputs<I>,
+    topology: &str,
+    name: Option<&str>,
+) -> Result<(Topology, IfaceNo), Status>
+    ensures there { IfOk result (λ there. HasTopology
+        (text_of I.standard_text I.file_text inputs.old.inputs topology.now) there.0
+        × (iface_named there.0.ifaces (option_map (λ n. n.now) name.entry) ≡ Some there.1)) }
+    ensures fault { IfErr result (λ status. FailsOfInput
+        (text_of I.standard_text I.file_text inputs.old.inputs topology.now)
+        inputs.old.failures inputs.new.failures
+        (HasNoIface (option_map (λ n. n.now) name.entry)) status) }
+{
+    let network = read_topology(alloc, inputs, topology)?;
+    let iface = find_iface(&network, name).ok_or(Status::NoInterface)?;
+    Ok((network, iface))
 }
 
 /// The status of a command whose trace file was written, or was not.
@@ -60,7 +88,7 @@ fn status_of(outcome: Result<(), TraceFault>) -> Status
 }
 
 /// The interface of this name, or interface 0 where there is no name.
-pub(crate) fn find_iface(topology: &Topology, name: Option<&str>) -> Option<IfaceNo>
+fn find_iface(topology: &Topology, name: Option<&str>) -> Option<IfaceNo>
     ensures { result ≡ iface_named topology.now.ifaces (option_map (λ n. n.now) name.entry) }
 {
     match name {

@@ -5,8 +5,8 @@ use Rattle.nm_program.proofs.RunEndings.{says_if}
 use Rattle.nm_program.proofs.runs.report_text.Goals as goal
 
 pub returns : goal.returns
-returns c = λ text read.
+returns c =
     let t = arc_value c.args.network.now in
     let there = c.every_topology_has_a_trace.ensures.there t.stop in
-    says_if (λ v. v.items) t c.deref-2.result.now c.args.report.now.totals.items there.0 text c.run_text.result c.deref-2.ensures c.requires
-    (subst (λ z. IsTraceBefore z t.stop there.0) c.deref.ensures there.1) read c.run_text.ensures
+    says_if (λ v. v.items) t c.deref-2.result.now c.args.report.now.totals.items there.0 c.run_text.result c.deref-2.ensures c.requires
+    (subst (λ z. IsTraceBefore z t.stop there.0) c.deref.ensures there.1) c.run_text.ensures

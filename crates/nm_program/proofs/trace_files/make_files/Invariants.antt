@@ -9,7 +9,7 @@ use Rattle.nm_program.proofs.trace_files.make_files.Given as goal
 
 abbrev pub invariant-loop-number : goal.invariant-loop-number
 invariant-loop-number g l = record {
-  within : l.number ≤ length l.topology.ifaces;
+  within : l.number ≤ length l.own.topology.now.ifaces;
   made : HasMade (g.F.Outputs.made l.fn.outputs) (g.F.Outputs.made l.outputs)
-      (flat_map (of_own l.topology l.partition (λ n i. (file_name l.folder i, trace_file Octets n l.records))) (enumerate_from 0 (take l.number l.topology.ifaces)));
+      (flat_map (of_own l.own.topology.now l.own.partition (λ n i. (file_name l.own.folder.now i, trace_file Octets n l.own.records.now))) (enumerate_from 0 (take l.number l.own.topology.now.ifaces)));
 }

@@ -1,8 +1,13 @@
-use Rattle.std.proofs.Common.{◌-◌, subst}
+use Rattle.std.proofs.Common.{◌-◌, ◌≡◌, List, ℕ, Ok, subst}
+use Rattle.std.proofs.lemmas.Result.{IfOk-weaker}
 use Rattle.std.specs.Arc.{arc_value}
+use Rattle.nm_command.specs.declared.status.Status.TheVariants.{Done, Stalled}
 use Rattle.nm_rounds.specs.Rounds.{after_runs}
 use Rattle.nm_sim.specs.Network.{net_of}
 use Rattle.nm_sim.specs.Trace.{IsTraceBefore}
+use Rattle.nm_topology.specs.Topology.{topology_of}
+use Rattle.nm_words.specs.Rounds.{SaysRounds}
+use Rattle.nm_words.proofs.Endings.{text_is_said}
 use Rattle.nm_words.proofs.InterfaceLines.{are_theirs, of_partitions, says_done, says_unfinished}
 use Rattle.nm_words.proofs.rounds.rounds_output.Goals as goal
 
@@ -23,17 +28,23 @@ rounds_text-requires-in-Unfinished c =
           (of_partitions (arc_value c.args.topology.now) (left.by_round c.args.max) c.in-Unfinished.books.items left.stand);
     }
 
-pub returns-in_ok-rounds_text-in-Done : goal.returns-in_ok-rounds_text-in-Done
-returns-in_ok-rounds_text-in-Done c = λ text read.
+pub returns-in-Done-clause-said : goal.returns-in-Done-clause-said
+returns-in-Done-clause-said c =
     let t = arc_value c.args.topology.now in
     let there = c.every_topology_has_a_trace.ensures.there t.stop in
-    says_done t c.deref-in-Done.result.now c.args.max c.in-Done.rounds c.in-Done.books.items c.as_slice.result.now there.0 text c.in_ok-rounds_text-in-Done.field-0.items
+    text_is_said (λ o. o.text) (λ o. o.status) (λ status said. (text : List ℕ) → topology_of text ≡ Ok t → SaysRounds c.args.max text status said.items) Done c.rounds_text.result c.of.result
+    (IfOk-weaker c.rounds_text.result _ _ (λ v said text read.
+    says_done t c.deref-in-Done.result.now c.args.max c.in-Done.rounds c.in-Done.books.items c.as_slice.result.now there.0 text v.items
     c.deref-in-Done.ensures c.as_slice.ensures.value (c.interfaces_have_their_records.ensures (net_of t)) c.in-Done.ensures
-    (subst (λ z. IsTraceBefore z t.stop there.0) c.deref.ensures there.1) read c.in_ok-rounds_text-in-Done.ensures
+    (subst (λ z. IsTraceBefore z t.stop there.0) c.deref.ensures there.1) read said) c.rounds_text.ensures)
+    c.of.ensures.made
 
-pub returns-in_ok-rounds_text-in-Unfinished : goal.returns-in_ok-rounds_text-in-Unfinished
-returns-in_ok-rounds_text-in-Unfinished c = λ text read.
+pub returns-in-Unfinished-clause-said : goal.returns-in-Unfinished-clause-said
+returns-in-Unfinished-clause-said c =
     let t = arc_value c.args.topology.now in
-    says_unfinished t c.deref-in-Unfinished.result.now c.args.max c.in-Unfinished.rounds c.in-Unfinished.books.items c.as_slice-in-Unfinished.result.now text
-    c.in_ok-rounds_text-in-Unfinished.field-0.items c.deref-in-Unfinished.ensures c.as_slice-in-Unfinished.ensures.value c.in-Unfinished.ensures read
-    c.in_ok-rounds_text-in-Unfinished.ensures
+    text_is_said (λ o. o.text) (λ o. o.status) (λ status said. (text : List ℕ) → topology_of text ≡ Ok t → SaysRounds c.args.max text status said.items) Stalled
+    c.rounds_text-in-Unfinished.result c.of-in-Unfinished.result
+    (IfOk-weaker c.rounds_text-in-Unfinished.result _ _ (λ v said text read.
+    says_unfinished t c.deref-in-Unfinished.result.now c.args.max c.in-Unfinished.rounds c.in-Unfinished.books.items c.as_slice-in-Unfinished.result.now text v.items
+    c.deref-in-Unfinished.ensures c.as_slice-in-Unfinished.ensures.value c.in-Unfinished.ensures read said) c.rounds_text-in-Unfinished.ensures)
+    c.of-in-Unfinished.ensures.made

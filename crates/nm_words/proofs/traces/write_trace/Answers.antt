@@ -1,4 +1,4 @@
-use Rattle.std.proofs.Common.{option_map, sym, subst, refl, ◌∙◌}
+use Rattle.std.proofs.Common.{option_map, sym, subst, refl}
 use Rattle.nm_words.specs.Traces.{EndsTrace}
 use Rattle.nm_words.specs.Input.{text_of}
 use Rattle.nm_words.proofs.Endings.{ends_written}
@@ -7,17 +7,18 @@ use Rattle.nm_words.proofs.traces.write_trace.Goals as goal
 -- the trace of the topology is there, also where it was not written to its end
 pub returns : goal.returns
 returns g c =
-    let read = c.in-Ok.ensures in
-    let there = c.every_topology_has_a_trace.ensures.there c.in-Ok.topology.stop in
+    let read = c.in-Ok.ensures.there in
+    let network = c.in-Ok.there.0 in
+    let there = c.every_topology_has_a_trace.ensures.there network.stop in
     let told = text_of g.I.Inputs.standard_text g.I.Inputs.file_text c.args.inputs.now.inputs in
-    let name = option_map (λ n. n.now) c.args.iface in
-    subst (EndsTrace g.O.Sink.taken g.O.Sink.failures told _ _ _ _ c.args.form c.args.topology.now name) (sym c.status_of.ensures)
-    (ends_written g.O.Sink.taken g.O.Sink.failures told _ _ _ _ c.args.form c.args.topology.now name read.0 _ _ read.1
+    let name = option_map (λ n. n.now) c.args.words.now.iface in
+    subst (EndsTrace g.O.Sink.taken g.O.Sink.failures told _ _ _ _ c.args.words.now.form c.args.words.now.topology.now name) (sym c.status_of.ensures)
+    (ends_written g.O.Sink.taken g.O.Sink.failures told _ _ _ _ c.args.words.now.form c.args.words.now.topology.now name read.0.0 _ _ read.0.1
     (record {
-      network = c.in-Ok.topology;
-      read = read.2;
-      iface = c.in-Some.iface;
-      named = sym c.find_iface.ensures ∙ c.in-Some.is;
+      network = network;
+      read = read.0.2;
+      iface = c.in-Ok.there.1;
+      named = read.1;
       records = there.0;
       trace = there.1;
       file = refl;

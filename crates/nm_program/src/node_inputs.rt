@@ -1,0 +1,73 @@
+//! What the words of `node` name, and what their inputs have.
+
+ghost use Rattle.std.specs.Prelude.{◌≡◌, IfErr, IfOk, Ok};
+ghost use Rattle.std.specs.Arc.{arc_value};
+ghost use Rattle.nm_peers.specs.Listeners.{AreListeners};
+ghost use Rattle.nm_program.specs.Node.{HasListeners, IsNotServed};
+ghost use Rattle.nm_topology.specs.Topology.{topology_of};
+ghost use Rattle.nm_words.specs.Input.{text_of};
+ghost use Rattle.nm_words.specs.Output.{FailsOfInputs};
+
+use nm_base::PartNo;
+use nm_command::Status;
+use nm_peers::{Listener, ListenersFault, read_listeners};
+use nm_topology::Topology;
+use nm_words::input::NamedInputs;
+use nm_words::inputs::Inputs;
+use nm_words::reading::{read_network, read_text, share};
+use std::alloc::Global;
+use std::sync::Arc;
+
+/// What the words of `node` name.
+#[derive(Clone, Copy)]
+pub(crate) struct NodeWords<'a> {
+    pub topology: &'a str,
+    pub folder: &'a str,
+    pub partition: PartNo,
+    /// 0 or 1.
+    pub replica: u8,
+    pub addresses: &'a str,
+}
+
+/// The topology and the listeners of two texts.
+fn read_texts(
+    alloc: Global,
+    topology: &[u8],
+    addresses: &[u8],
+    words: &NodeWords<'_>,
+) -> Result<(Arc<Topology>, Vec<Listener>), Status>
+    ensures read { IfOk result (λ r. (topology_of topology.now ≡ Ok (arc_value r.0))
+        × AreListeners addresses.now (arc_value r.0).partitions
+        words.now.partition words.now.replica r.1.items) }
+    ensures fault { IfErr result (λ status. IsNotServed
+        words.now.partition words.now.replica topology.now addresses.now status) }
+{
+    let network = read_network(alloc, topology)?;
+    let count = network.partitions();
+    match read_listeners(alloc, addresses, count, words.partition, words.replica) {
+        Ok(listeners) => Ok((share(alloc, network)?, listeners)),
+        Err(ListenersFault::Refused) => Err(Status::Usage),
+        Err(ListenersFault::Memory) => Err(Status::Memory),
+    }
+}
+
+/// The topology and the listeners of the two inputs.
+pub(crate) fn read_both<I: Inputs>(
+    alloc: Global,
+    inputs: &mut NamedInputs<I>,
+    words: &NodeWords<'_>,
+) -> Result<(Arc<Topology>, Vec<Listener>), Status>
+    ensures read { IfOk result (λ r. HasListeners
+        (text_of I.standard_text I.file_text inputs.old.inputs words.now.topology.now)
+        (text_of I.standard_text I.file_text inputs.old.inputs words.now.addresses.now)
+        words.now.partition words.now.replica (arc_value r.0) r.1.items) }
+    ensures fault { IfErr result (λ status. FailsOfInputs
+        (text_of I.standard_text I.file_text inputs.old.inputs words.now.topology.now)
+        (text_of I.standard_text I.file_text inputs.old.inputs words.now.addresses.now)
+        inputs.old.failures inputs.new.failures
+        (IsNotServed words.now.partition words.now.replica) status) }
+{
+    let topology = read_text(alloc, inputs, words.topology)?;
+    let addresses = read_text(alloc, inputs, words.addresses)?;
+    read_texts(alloc, topology.as_slice(), addresses.as_slice(), words)
+}
