@@ -44,7 +44,7 @@ help:
 toolchain:
 	@command -v rt >/dev/null 2>&1 || { echo "nullsim: the Rattle toolchain is missing: put its command rt on PATH" >&2; exit 1; }
 
-SOURCES := crates.txt bench/programs.txt $(shell find crates bench -name out -prune -o -name '*_tests' -prune -o -name '*_cases' -prune -o \
+SOURCES := crates.txt $(shell find crates -name out -prune -o -name '*_tests' -prune -o -name '*_cases' -prune -o \
   \( -name '*.rt' -o -name '*.antt' \) -print)
 
 bin/nullsim: $(SOURCES) | toolchain
