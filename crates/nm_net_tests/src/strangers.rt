@@ -18,6 +18,7 @@ use std::test::Fail;
 const NOTHING: &[u8] = &[];
 
 /// A gate that notes how many octets have moved.
+#[derive(Drop)]
 struct Noting {
     moved: AtomicU64,
 }
