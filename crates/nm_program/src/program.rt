@@ -31,11 +31,11 @@ use std::thread::Threads;
 /// asked for goes to `out`, a trace file as it is made, and a line to `errors` where the program is
 /// not done; where `errors` fails there is nobody to tell, and the status stays.
 ///
-/// The first of these decides: the words, the inputs in the words' order, the topology, the lines of
-/// a script, all else. Words that are no command open no input. Only `run` makes files, as its
+/// The first of these decides: the words, the inputs in the words' order, the topology, the lines
+/// of a script, all else. Words that are no command open no input. Only `run` makes files, as its
 /// replicas run, and `node`, once its replica is done; only these use the network. Memory may be
-/// refused at any place: the sink has a prefix of the trace file then, which may be empty. Where the
-/// sink fails it has a prefix of what was asked for too; with every other status but `Done` and
+/// refused at any place: the sink has a prefix of the trace file then, which may be empty. Where
+/// the sink fails it has a prefix of what was asked for too; with every other status but `Done` and
 /// `Stalled` it took nothing.
 pub fn run<I: Inputs, F: Outputs, O: Sink + Drop, E: Sink, R>(
     means: &Means<'_, R>,

@@ -121,7 +121,8 @@ fn read_named<I: Inputs>(alloc: Global, inputs: &I, name: &str) -> Result<Vec<u8
 
 /// Reads all that is left, which may be as many as 67,108,864 octets.
 fn read_to_end<R: Read>(alloc: Global, reader: &mut R) -> Result<Vec<u8>, InputFault>
-    ensures text { IfOk result (λ octets. IfSome (R.remaining reader.old) (λ text. octets.items ≡ text)) }
+    ensures text { IfOk result (λ octets. IfSome (R.remaining reader.old)
+        (λ text. octets.items ≡ text)) }
     ensures most { IfOk result (λ octets. length octets.items ≤ MAX_INPUT_OCTETS) }
     ensures too_long { result ≡ Err TooLong
         → IfSome (R.remaining reader.old) (λ text. MAX_INPUT_OCTETS < length text) }

@@ -1,4 +1,5 @@
-//! The words of nullsim that need no network of the host: each as a function over inputs and a sink.
+//! The words of nullsim that need no network of the host: each as a function over inputs and a
+//! sink.
 #![tactic(auto)]
 
 pub mod checking;
