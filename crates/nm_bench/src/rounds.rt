@@ -1,7 +1,7 @@
 //! All partitions of a network in rounds.
 
-use nm_book::Book;
 use nm_base::limits::MAX_ROUNDS;
+use nm_book::Book;
 use nm_rounds::rounds::{Rounds, run_rounds};
 use nm_topology::TopoFault;
 use std::fs;

@@ -6,7 +6,7 @@ ghost use Rattle.nm_net.specs.Served.{EndsEarly};
 ghost use Rattle.nm_net.specs.Strangers.{is_stranger};
 
 use crate::dialing::Dialing;
-use crate::limits::{MAX_ACCEPTED, MAX_STRANGERS, STRANGER_POLLS};
+use crate::limits::{BUSY_POLLS, MAX_ACCEPTED, MAX_STRANGERS, STRANGER_POLLS};
 use crate::moved::CountingWire;
 use crate::replica::Service;
 use crate::served::{Served, break_served};
@@ -27,8 +27,8 @@ pub(crate) struct Connection<W> {
     counted: u64,
     /// How many connections had come before it.
     came: u64,
-    /// How many polls ran out while its Hello did not come.
-    idle: u32,
+    /// How long its Hello did not come: `BUSY_POLLS` for a poll that ran out, and 1 for another.
+    waited: u32,
 }
 
 impl<W> Connection<W> {
@@ -39,7 +39,7 @@ impl<W> Connection<W> {
             peer,
             counted: 0,
             came,
-            idle: 0,
+            waited: 0,
         }
     }
 
@@ -64,15 +64,17 @@ impl<W> Connection<W> {
         self.peer.is_none() && !self.link.has_greeted()
     }
 
-    /// A poll ran out: whether it is a stranger's, and is to be let go.
-    fn is_overdue(&mut self) -> bool
+    /// One more poll was made, which ran out or not: whether it is a stranger's, and is to be let
+    /// go.
+    fn is_overdue(&mut self, ran_out: bool) -> bool
         ensures { result ≡ true → is_stranger self.old.peer self.old.link.session ≡ true }
     {
         if !self.is_stranger() {
             return false;
         }
-        self.idle = self.idle.saturating_add(1);
-        self.idle >= STRANGER_POLLS
+        let more = if ran_out { BUSY_POLLS } else { 1 };
+        self.waited = self.waited.saturating_add(more);
+        self.waited >= STRANGER_POLLS.saturating_mul(BUSY_POLLS)
     }
 }
 
@@ -182,8 +184,7 @@ impl<W> Connections<W> {
         self.callers_ended >= callers && self.peers.iter().all(|peer| peer.has_ended())
     }
 
-    /// A poll was made, and ran out or not. Strangers that said no Hello for so many that ran out
-    /// are let go.
+    /// A poll was made, and ran out or not. Strangers that said no Hello for so many are let go.
     pub(crate) fn pass_poll<T: Transport<Connection = W>>(
         &mut self,
         transport: &mut T,
@@ -194,18 +195,16 @@ impl<W> Connections<W> {
         for number in 0..self.peers.len() {
             self.peers[number].pass_poll(ran_out);
         }
-        if ran_out {
-            self.drop_overdue(transport);
-        }
+        self.drop_overdue(transport, ran_out);
     }
 
-    /// Lets strangers go that said no Hello for so many polls that ran out.
-    fn drop_overdue<T: Transport<Connection = W>>(&mut self, transport: &mut T)
+    /// Lets strangers go that said no Hello for so many polls.
+    fn drop_overdue<T: Transport<Connection = W>>(&mut self, transport: &mut T, ran_out: bool)
         ensures { T.idle_waits transport.new ≡ T.idle_waits transport.old }
     {
         for key in 0..self.open.capacity() {
             let is_overdue = match self.open.get_mut(key) {
-                Some(connection) => connection.is_overdue(),
+                Some(connection) => connection.is_overdue(ran_out),
                 None => false,
             };
             if is_overdue {
@@ -277,7 +276,14 @@ impl<W> Connections<W> {
                 let _ = self.remove(transport, key);
             }
             self.accepted = self.accepted.saturating_add(1);
-            keep(alloc, service, transport, &mut self.open, self.accepted, wire)?;
+            keep(
+                alloc,
+                service,
+                transport,
+                &mut self.open,
+                self.accepted,
+                wire,
+            )?;
         }
         Ok(())
     }

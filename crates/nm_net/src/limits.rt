@@ -16,8 +16,11 @@ pub const MAX_ACCEPTED: usize = 64;
 /// replica that is to call. The oldest of them is let go when another comes.
 pub const MAX_STRANGERS: usize = 64;
 
-/// After so many polls that ran out such a connection is let go: five seconds.
+/// After so many polls that ran out such a connection is let go, five seconds; or after so many
+/// that did not for each of these, as those of a replica that has much to do.
 pub const STRANGER_POLLS: u32 = 100;
+
+pub const BUSY_POLLS: u32 = 1_000;
 
 /// The most turns that a link has after one poll.
 pub const MAX_TURNS: usize = 64;

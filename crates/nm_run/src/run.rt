@@ -269,10 +269,12 @@ where
             let mut dispatcher = dispatcher;
             let mut threads = Vec::new(alloc);
             for side in sides {
-                let begun = scope.spawn(move || -> SideEnd<S>
-                    requires { All (IsOwnerOf threaded.now.board.now) side.holdings.seats.items
-                        × All IsSound side.holdings.files.files.items }
-                { run_side(rt, alloc, threaded, side) });
+                let begun = scope.spawn(
+                    move || -> SideEnd<S>
+                        requires { All (IsOwnerOf threaded.now.board.now) side.holdings.seats.items
+                            × All IsSound side.holdings.files.files.items }
+                    { run_side(rt, alloc, threaded, side) },
+                );
                 let Ok(thread) = begun else {
                     threaded.fail();
                     return Err(RunFault::Net);
