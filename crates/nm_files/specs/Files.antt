@@ -1,7 +1,9 @@
 -- Trace files that are written side by side. File n is that of interface n.
-use Rattle.std.specs.Prelude.{◌≡◌, ℕ, false, List, length, slice_get, Option, Some, None}
+use Rattle.std.specs.Prelude.{◌≡◌, ℕ, false, List, [], ◌∷◌, ◌++◌, length, slice_get, Option, Some, None}
 use Rattle.std.specs.Io.KnownBytes.{Appends}
 use Rattle.nm_base.specs.declared.record.Record.{Record}
+use Rattle.nm_pcap.specs.declared.form.Form.TheVariants.{Octets}
+use Rattle.nm_pcap.specs.Format.{file_header}
 use Rattle.nm_pcap.specs.Writer.{Writer}
 use Rattle.nm_files.specs.TraceFile.{written_at}
 
@@ -9,6 +11,18 @@ use Rattle.nm_files.specs.TraceFile.{written_at}
 abbrev pub IsSound : {S : Type 0} → Option (Writer S) → Type 0
 IsSound None = Unit {0}
 IsSound (Some file) = file.failed ≡ false
+
+module _ {S : Type 0} (taken : S → Option (List ℕ)) (sink : S) where
+  -- the file of this sink, which took the header, as it is
+  pub record IsBegun (file : Writer S) : Type 0 where
+    pub header : Appends (taken sink) (taken file.sink) file_header
+    pub form : file.form ≡ Octets
+
+  -- it stands behind the others
+  pub record HasBegun (old new : List (Option (Writer S))) : Type 0 where
+    pub file : Writer S
+    pub begun : IsBegun file
+    pub last : new ≡ old ++ Some file ∷ []
 
 module _ {S : Type 0} (taken : S → Option (List ℕ)) (failures : S → ℕ) (records : List (Record (List ℕ))) where
   -- of these records the file took those that are at interface n, and did not fail

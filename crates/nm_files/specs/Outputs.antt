@@ -1,19 +1,30 @@
 -- Files that are made.
-use Rattle.std.specs.Prelude.{◌≡◌, ℕ, Bool, true, false, List, [], ◌∷◌, ◌++◌, Option, Some}
+use Rattle.std.specs.Prelude.{◌≡◌, ℕ, List, [], ◌∷◌, ◌++◌, map, Option, Some}
 
 -- files, each with its name and its octets
 abbrev pub Files : Type 0
 Files = List (List ℕ × List ℕ)
 
--- a file took nothing so far, and tells it, where it is told which files were closed
+-- a file took nothing so far, and tells it, where it is told which files were placed
 abbrev pub IsEmpty : Option Files → Option (List ℕ) → Type 0
 IsEmpty made taken = (first : Files) → made ≡ Some first → taken ≡ Some []
 
--- behind the files that were closed before come these, where it is told which they are
+-- a closed file is to have this name, and has what was taken
+abbrev pub IsClosed : List ℕ → Option (List ℕ) → Option (List ℕ × List ℕ) → Type 0
+IsClosed name taken closed = (octets : List ℕ) → taken ≡ Some octets → closed ≡ Some (name, octets)
+
+-- behind the files that were placed before come these, where it is told which they are
 abbrev pub HasMade : Option Files → Option Files → Files → Type 0
 HasMade before after files = (first : Files) → before ≡ Some first → after ≡ Some (first ++ files)
 
--- behind the files that were closed before comes the one with this name, or none
-abbrev pub HasClosed : Option Files → Option Files → List ℕ → Option (List ℕ) → Bool → Type 0
-HasClosed before after name taken true = (octets : List ℕ) → taken ≡ Some octets → HasMade before after ((name, octets) ∷ [])
-HasClosed before after name taken false = after ≡ before
+-- behind the files that were placed before comes this one
+abbrev pub HasPlaced : Option Files → Option Files → Option (List ℕ × List ℕ) → Type 0
+HasPlaced before after closed = (file : List ℕ × List ℕ) → closed ≡ Some file → HasMade before after (file ∷ [])
+
+-- a closed file is this one, where it is told which files were placed
+abbrev pub IsWhole : Option Files → Option (List ℕ × List ℕ) → List ℕ × List ℕ → Type 0
+IsWhole made closed file = (first : Files) → made ≡ Some first → closed ≡ Some file
+
+-- closed files are these, in order
+abbrev pub AreWhole : Option Files → List (Option (List ℕ × List ℕ)) → Files → Type 0
+AreWhole made closed files = (first : Files) → made ≡ Some first → closed ≡ map (λ file. Some file) files

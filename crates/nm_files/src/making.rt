@@ -1,13 +1,13 @@
 //! Trace files that are made at one go.
 
-ghost use Rattle.std.specs.Prelude.{◌≡◌, ◌≤◌, ◌∷◌, [], true, false, All};
+ghost use Rattle.std.specs.Prelude.{◌≡◌, ◌≤◌, false, All, IfOk};
 ghost use Rattle.nm_base.specs.declared.limits.TheConstants.{MAX_TIME};
 ghost use Rattle.nm_pcap.specs.declared.form.Form.TheVariants.{Octets};
-ghost use Rattle.nm_files.specs.Outputs.{HasMade};
+ghost use Rattle.nm_files.specs.Outputs.{IsWhole};
 ghost use Rattle.nm_files.specs.TraceFile.{trace_file, written_at};
 ghost use Rattle.nm_files.specs.Writing.{WritesOn};
 
-use crate::outputs::Outputs;
+use crate::outputs::{OutputFault, Outputs};
 use crate::trace_file::{TraceFault, sink_outcome, write_at};
 use nm_base::{IfaceNo, Record, Sink};
 use nm_pcap::PcapOut;
@@ -45,23 +45,26 @@ fn write_whole<S: Sink>(
     sink_outcome(file.end())
 }
 
-/// Makes the trace file of an interface with this name and these records: whether it was made.
+/// Makes the trace file of an interface with this name and these records, and closes it.
+///
+/// # Errors
+///
+/// `Failed` where it could not be made, or the system did not take all of it; `Memory` where memory
+/// was refused.
 pub fn make_file<F: Outputs>(
     outputs: &mut F,
     name: &str,
     iface: IfaceNo,
     records: &[Record],
-) -> bool
+) -> Result<F::Closed, OutputFault>
     requires { All (λ r. r.time ≤ MAX_TIME) records.now }
-    ensures { result ≡ true → HasMade (F.made outputs.old) (F.made outputs.new)
-        ((name.now, trace_file Octets iface records.now) ∷ []) }
+    ensures whole { IfOk result (λ file. IsWhole (F.made outputs.old) (F.closed file)
+        (name.now, trace_file Octets iface records.now)) }
+    ensures same { F.made outputs.new ≡ F.made outputs.old }
 {
-    let Some(sink) = outputs.create(name) else {
-        return false;
-    };
-    let mut file = PcapOut::new(sink);
+    let mut file = PcapOut::new(outputs.create(name)?);
     if write_whole(iface, records, &mut file).is_err() {
-        return false;
+        return Err(OutputFault::Failed);
     }
     outputs.close(name, file.into_sink())
 }

@@ -2,7 +2,7 @@
 
 ghost use Rattle.std.specs.Prelude.{◌≡◌, Some, map, string_bytes};
 
-use crate::outputs::Outputs;
+use crate::outputs::{OutputFault, Outputs};
 use nm_base::{MemSink, Sink};
 use std::alloc::Global;
 
@@ -21,7 +21,9 @@ pub struct MemOutputs {
     pub file_octets: usize,
     /// How many files more may be made.
     pub room: usize,
-    /// The files that were closed, in order.
+    /// How many files more may be placed.
+    pub places: usize,
+    /// The files that were placed, in order.
     pub files: Vec<MemFile>,
 }
 
@@ -30,23 +32,38 @@ impl Outputs for MemOutputs {
 
     type File = MemSink;
 
+    type Closed = MemFile;
+
     ghost made = { λ m. Some (map (λ f. (string_bytes f.name, f.octets.items)) m.files.items) };
 
-    fn create(&mut self, _name: &str) -> Option<MemSink> {
+    ghost closed = { λ f. Some (string_bytes f.name, f.octets.items) };
+
+    fn create(&mut self, _name: &str) -> Result<MemSink, OutputFault> {
         if self.room == 0 {
-            return None;
+            return Err(OutputFault::Failed);
         }
         self.room -= 1;
-        MemSink::new(self.alloc, self.file_octets).ok()
+        MemSink::new(self.alloc, self.file_octets).or(Err(OutputFault::Memory))
     }
 
-    fn close(&mut self, name: &str, file: MemSink) -> bool {
+    fn close(&mut self, name: &str, file: MemSink) -> Result<MemFile, OutputFault> {
         let Ok(octets) = file.octets().to_vec(self.alloc) else {
-            return false;
+            return Err(OutputFault::Memory);
         };
         let Ok(name) = String::from_str(self.alloc, name) else {
-            return false;
+            return Err(OutputFault::Memory);
         };
-        self.files.push(MemFile { name, octets }).is_ok()
+        Ok(MemFile { name, octets })
+    }
+
+    fn place(&mut self, file: MemFile) -> Result<(), OutputFault> {
+        if self.places == 0 {
+            return Err(OutputFault::Failed);
+        }
+        self.places -= 1;
+        match self.files.push(file) {
+            Ok(()) => Ok(()),
+            Err(_) => Err(OutputFault::Memory),
+        }
     }
 }

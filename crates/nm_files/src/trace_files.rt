@@ -1,8 +1,9 @@
 //! The trace files of a replica, written as its records are handed out.
 
-ghost use Rattle.std.specs.Prelude.{◌≡◌, ◌≤◌, ◌∷◌, [], false, All, IfErr, IfOk, OnOk};
+ghost use Rattle.std.specs.Prelude.{◌≡◌, ℕ, ◌<◌, ◌≤◌, ◌∷◌, [], ◌++◌, false, All, IfErr, IfOk};
+ghost use Rattle.std.specs.Prelude.{None, OnOk, get_or};
 ghost use Rattle.nm_base.specs.declared.limits.TheConstants.{MAX_TIME};
-ghost use Rattle.nm_files.specs.Files.{FileTook, FilesTook, IsSound};
+ghost use Rattle.nm_files.specs.Files.{FileTook, FilesTook, HasBegun, IsBegun, IsSound};
 
 use nm_base::{IfaceNo, Record, Sink};
 use nm_pcap::{PcapFault, PcapOut};
@@ -56,7 +57,8 @@ pub struct TraceFiles<S> {
 
 /// A file whose header is written.
 fn begun<S: Sink + Drop>(iface: IfaceNo, sink: S) -> Result<PcapOut<S>, FilesFault>
-    ensures { IfOk result (λ f. f.failed ≡ false) }
+    ensures sound { IfOk result (λ f. f.failed ≡ false) }
+    ensures begun { IfOk result (IsBegun S.taken sink) }
 {
     let mut file = PcapOut::new(sink);
     match file.start() {
@@ -106,7 +108,11 @@ impl<S> TraceFiles<S> {
     }
 
     /// Takes the file of an interface out, if it has one.
-    pub fn take(&mut self, iface: IfaceNo) -> Option<PcapOut<S>> {
+    pub fn take(&mut self, iface: IfaceNo) -> Option<PcapOut<S>>
+        ensures file { result ≡ get_or self.old.files.items iface None }
+        ensures others { (n : ℕ) → iface < n
+            → get_or self.new.files.items n None ≡ get_or self.old.files.items n None }
+    {
         let number = iface.index();
         if number >= self.files.len() {
             return None;
@@ -123,7 +129,8 @@ impl<S: Sink + Drop> TraceFiles<S> {
     /// Where memory was refused. No interface was added then.
     pub fn skip(&mut self) -> Result<(), AllocError>
         requires { All IsSound self.old.files.items }
-        ensures { All IsSound self.new.files.items }
+        ensures sound { All IsSound self.new.files.items }
+        ensures none { OnOk result (self.new.files.items ≡ self.old.files.items ++ None ∷ []) }
     {
         self.files.push(None)?;
         Ok(())
@@ -137,7 +144,9 @@ impl<S: Sink + Drop> TraceFiles<S> {
     /// refused. No interface was added then.
     pub fn open(&mut self, iface: IfaceNo, sink: S) -> Result<(), FilesFault>
         requires { All IsSound self.old.files.items }
-        ensures { All IsSound self.new.files.items }
+        ensures sound { All IsSound self.new.files.items }
+        ensures begun { OnOk result (HasBegun S.taken sink
+            self.old.files.items self.new.files.items) }
     {
         let file = begun(iface, sink)?;
         self.files.push(Some(file))?;
