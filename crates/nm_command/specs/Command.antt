@@ -1,17 +1,21 @@
 -- The words of the program.
-use Rattle.std.specs.Prelude.{Bool, true, false, ℕ, ◌+◌, ◌≤◌, ◌&&◌, leb, if◌then◌else◌, List, [], ◌∷◌, codes, decimal, Option, Some, None, option_map}
+use Rattle.std.specs.Prelude.{Bool, true, false, ℕ, ◌+◌, ◌≤◌, ◌&&◌, leb, if◌then◌else◌, List, [], ◌∷◌, codes, decimal, Option, Some, None, option_map, map, string_bytes}
 use Rattle.std.specs.Str.{bytes_eq}
 use Rattle.nm_command.specs.declared.command.Command.{Command}
 use Rattle.nm_command.specs.declared.command.Command.TheVariants as command
 use Rattle.nm_base.specs.declared.limits.TheConstants.{MAX_PARTITION, MAX_REPLICA, MAX_REPLICAS, MAX_ROUNDS, MAX_WORKERS}
+use Rattle.nm_command.specs.declared.ways.Ways.{Ways}
+use Rattle.nm_command.specs.declared.ways.Ways.TheVariants.{Both, Sent, Received}
 use Rattle.nm_pcap.specs.declared.form.Form.{Form}
 use Rattle.nm_pcap.specs.declared.form.Form.TheVariants.{Octets, Hexadecimal}
 use Rattle.nm_topology.specs.Parse.Forms.{least_below}
 
 -- what the program is asked to do, with the names of inputs as octets
 pub data CommandValue : Type 0 where
-  -- to write a trace file: its form, the topology, and the name of the interface, if it has one
-  Trace : Form → List ℕ → Option (List ℕ) → CommandValue
+  -- to write a trace file: its form, which ways its packets go, the topology, and the name of the interface, if it has one
+  Trace : Form → Ways → List ℕ → Option (List ℕ) → CommandValue
+  -- to write the trace files of interfaces: the topology, the folder, and the names of the interfaces, or of none for all
+  All : List ℕ → List ℕ → List (List ℕ) → CommandValue
   -- to run rounds: the topology, and the greatest number of rounds
   Rounds : List ℕ → ℕ → CommandValue
   -- to do steps: the topology, and the script
@@ -30,7 +34,8 @@ pub data CommandValue : Type 0 where
   Node : List ℕ → List ℕ → ℕ → ℕ → List ℕ → CommandValue
 
 abbrev pub command_value : Command → CommandValue
-command_value (command.Trace form topology iface) = Trace form topology.now (option_map (λ name. name.now) iface)
+command_value (command.Trace form ways topology iface) = Trace form ways topology.now (option_map (λ name. name.now) iface)
+command_value (command.All topology folder ifaces) = All topology.now folder.now (map (λ name. string_bytes name) ifaces.now)
 command_value (command.Rounds topology max) = Rounds topology.now max
 command_value (command.Script topology steps) = Script topology.now steps.now
 command_value (command.Check topology) = Check topology.now
@@ -42,7 +47,8 @@ command_value (command.Node topology folder partition replica addresses) = Node 
 
 -- the numbers of a command are such as may be asked for
 abbrev pub IsWithinLimits : Command → Type 0
-IsWithinLimits (command.Trace form topology iface) = Unit {0}
+IsWithinLimits (command.Trace form ways topology iface) = Unit {0}
+IsWithinLimits (command.All topology folder ifaces) = Unit {0}
 IsWithinLimits (command.Rounds topology max) = (1 ≤ max) × (max ≤ MAX_ROUNDS)
 IsWithinLimits (command.Script topology steps) = Unit {0}
 IsWithinLimits (command.Check topology) = Unit {0}
@@ -52,19 +58,25 @@ IsWithinLimits (command.Text topology iface) = Unit {0}
 IsWithinLimits (command.Run topology folder workers replicas) = (1 ≤ workers) × (workers ≤ MAX_WORKERS) × (1 ≤ replicas) × (replicas ≤ MAX_REPLICAS)
 IsWithinLimits (command.Node topology folder partition replica addresses) = (partition ≤ MAX_PARTITION) × (replica ≤ MAX_REPLICA)
 
-abbrev pub form_of : List ℕ → Option Form
-form_of word = if bytes_eq word (codes "one") then Some Octets else (if bytes_eq word (codes "onehex") then Some Hexadecimal else None)
+-- the words that write one trace file
+abbrev pub form_of : List ℕ → Option (Form × Ways)
+form_of word =
+    if bytes_eq word (codes "one") then Some (Octets, Both)
+    else (if bytes_eq word (codes "onehex") then Some (Hexadecimal, Both)
+    else (if bytes_eq word (codes "sent") then Some (Octets, Sent)
+    else (if bytes_eq word (codes "received") then Some (Octets, Received)
+    else None)))
 
 -- the number, one of these, that a word writes in decimal
 abbrev pub number_in : ℕ → ℕ → List ℕ → Option ℕ
 number_in low high word = least_below (high + 1) (λ n. leb low n && bytes_eq word (decimal n))
 
 -- a trace file, if the first word has a form
-abbrev pub trace_from : List ℕ → Option (List ℕ) → Option Form → Option CommandValue
+abbrev pub trace_from : List ℕ → Option (List ℕ) → Option (Form × Ways) → Option CommandValue
 trace_from topology iface None = None
-trace_from topology iface (Some form) = Some (Trace form topology iface)
+trace_from topology iface (Some form) = Some (Trace form.0 form.1 topology iface)
 
--- `check TOPO`, `report TOPO`, `dot TOPO`, and else `one TOPO` or `onehex TOPO`
+-- `check TOPO`, `report TOPO`, `dot TOPO`, and else `one TOPO`, `onehex TOPO`, `sent TOPO` or `received TOPO`
 abbrev pub of_two : List ℕ → List ℕ → Option CommandValue
 of_two word topology =
     if bytes_eq word (codes "check") then Some (Check topology)
@@ -80,7 +92,7 @@ shown_of word topology third other =
     else (if bytes_eq word (codes "dot") then (if bytes_eq third (codes "load") then Some (Dot topology true) else None)
     else other))
 
--- `rounds TOPO MAX`, `script TOPO STEPS`, those above, and else `one TOPO IFACE` or `onehex TOPO IFACE`
+-- `rounds TOPO MAX`, `script TOPO STEPS`, those above, and else a trace file, as `one TOPO IFACE`
 abbrev pub of_three : List ℕ → List ℕ → List ℕ → Option CommandValue
 of_three word topology third =
     if bytes_eq word (codes "rounds") then option_map (λ max. Rounds topology max) (number_in 1 MAX_ROUNDS third)
@@ -112,12 +124,20 @@ of_six word topology folder partition replica addresses =
     else None
 
 -- words of two, of three, of five and of six; no words are `onehex -`
+abbrev pub of_number : List (List ℕ) → Option CommandValue
+of_number [] = trace_from (codes "-") None (Some (Hexadecimal, Both))
+of_number (word ∷ []) = None
+of_number (word ∷ topology ∷ []) = of_two word topology
+of_number (word ∷ topology ∷ third ∷ []) = of_three word topology third
+of_number (word ∷ topology ∷ third ∷ fourth ∷ []) = None
+of_number (word ∷ topology ∷ folder ∷ workers ∷ replicas ∷ []) = of_five word topology folder workers replicas
+of_number (word ∷ topology ∷ folder ∷ partition ∷ replica ∷ addresses ∷ []) = of_six word topology folder partition replica addresses
+of_number (word ∷ topology ∷ folder ∷ partition ∷ replica ∷ addresses ∷ more ∷ rest) = None
+
+-- `all TOPO DIR`, with or without names behind it, and else words of a number
+abbrev pub all_or : List (List ℕ) → Option CommandValue → Option CommandValue
+all_or (word ∷ topology ∷ folder ∷ ifaces) other = if bytes_eq word (codes "all") then Some (All topology folder ifaces) else other
+all_or words other = other
+
 abbrev pub command_of : List (List ℕ) → Option CommandValue
-command_of [] = trace_from (codes "-") None (Some Hexadecimal)
-command_of (word ∷ []) = None
-command_of (word ∷ topology ∷ []) = of_two word topology
-command_of (word ∷ topology ∷ third ∷ []) = of_three word topology third
-command_of (word ∷ topology ∷ third ∷ fourth ∷ []) = None
-command_of (word ∷ topology ∷ folder ∷ workers ∷ replicas ∷ []) = of_five word topology folder workers replicas
-command_of (word ∷ topology ∷ folder ∷ partition ∷ replica ∷ addresses ∷ []) = of_six word topology folder partition replica addresses
-command_of (word ∷ topology ∷ folder ∷ partition ∷ replica ∷ addresses ∷ more ∷ rest) = None
+command_of words = all_or words (of_number words)

@@ -3,11 +3,12 @@
 ghost use Rattle.std.specs.Prelude.{◌≡◌, ℕ, ◌≤◌, map, IfSome, Some, decimal, option_map};
 ghost use Rattle.std.specs.Prelude.{string_bytes};
 ghost use Rattle.nm_command.specs.Command.{IsWithinLimits, command_of, command_value, form_of};
-ghost use Rattle.nm_command.specs.Command.{node_of, number_in, of_five, of_six, of_three, of_two};
+ghost use Rattle.nm_command.specs.Command.{node_of, number_in, of_five, of_number, of_six, of_three, of_two};
 ghost use Rattle.nm_command.specs.Command.{run_of, shown_of, trace_from};
 ghost use Rattle.nm_base.specs.declared.limits.TheConstants.{MAX_PARTITION, MAX_REPLICA};
 ghost use Rattle.nm_base.specs.declared.limits.TheConstants.{MAX_REPLICAS, MAX_WORKERS};
 
+use crate::ways::Ways;
 use nm_base::limits::{MAX_PARTITION, MAX_REPLICA, MAX_REPLICAS, MAX_ROUNDS, MAX_WORKERS};
 use nm_base::number_of;
 use nm_pcap::Form;
@@ -19,10 +20,20 @@ pub enum Command<'a> {
     /// To write the trace file of one interface.
     Trace {
         form: Form,
+        ways: Ways,
         /// The input with the topology text.
         topology: &'a str,
         /// The name of the interface, or `None`, which is interface 0.
         iface: Option<&'a str>,
+    },
+    /// To write the trace files of interfaces, all by one event list.
+    All {
+        /// The input with the topology text.
+        topology: &'a str,
+        /// The folder of the trace files.
+        folder: &'a str,
+        /// The names of the interfaces; none stands for all of them.
+        ifaces: &'a [String],
     },
     /// To let all partitions run in rounds, and to say what came of it.
     Rounds {
@@ -91,17 +102,32 @@ pub enum Command<'a> {
     },
 }
 
-/// The form of trace files that a first word asks for.
-fn form_of(word: &str) -> Option<Form>
+/// The form of a trace file that a first word asks for, and which ways its packets go.
+fn form_of(word: &str) -> Option<(Form, Ways)>
     ensures { result ≡ form_of word.now }
 {
-    if word == "one" {
-        return Some(Form::Octets);
+    match word {
+        "one" => Some((Form::Octets, Ways::Both)),
+        "onehex" => Some((Form::Hexadecimal, Ways::Both)),
+        "sent" => Some((Form::Octets, Ways::Sent)),
+        "received" => Some((Form::Octets, Ways::Received)),
+        _ => None,
     }
-    if word == "onehex" {
-        return Some(Form::Hexadecimal);
-    }
-    None
+}
+
+/// The trace file that a first word asks for, of an interface.
+fn trace_of<'a>(word: &str, topology: &'a str, iface: Option<&'a str>) -> Option<Command<'a>>
+    ensures value { option_map command_value result ≡ trace_from topology.now
+        (option_map (λ n. n.now) iface.entry) (form_of word.now) }
+    ensures limits { IfSome result IsWithinLimits }
+{
+    let (form, ways) = form_of(word)?;
+    Some(Command::Trace {
+        form,
+        ways,
+        topology,
+        iface,
+    })
 }
 
 /// The number that a word writes in decimal without leading zeros, if it is one of these.
@@ -143,11 +169,7 @@ fn of_two<'a>(word: &str, topology: &'a str) -> Option<Command<'a>>
             topology,
             has_load: false,
         }),
-        _ => Some(Command::Trace {
-            form: form_of(word)?,
-            topology,
-            iface: None,
-        }),
+        _ => trace_of(word, topology, None),
     }
 }
 
@@ -172,11 +194,7 @@ fn shown_of<'a>(word: &str, topology: &'a str, third: &'a str) -> Option<Command
             has_load: true,
         }),
         "dot" => None,
-        _ => Some(Command::Trace {
-            form: form_of(word)?,
-            topology,
-            iface: Some(third),
-        }),
+        _ => trace_of(word, topology, Some(third)),
     }
 }
 
@@ -281,41 +299,62 @@ fn of_six<'a>(
     None
 }
 
+/// The command of words that are not `all` with a topology and a folder.
+fn of_number<'a>(words: &'a [String]) -> Option<Command<'a>>
+    ensures value { option_map command_value result
+        ≡ of_number (map (λ w. string_bytes w) words.now) }
+    ensures limits { IfSome result IsWithinLimits }
+{
+    match words {
+        [] => Some(Command::Trace {
+            form: Form::Hexadecimal,
+            ways: Ways::Both,
+            topology: "-",
+            iface: None,
+        }),
+        [word, topology] => of_two(word.as_str(), topology.as_str()),
+        [word, topology, third] => of_three(word.as_str(), topology.as_str(), third.as_str()),
+        [word, topology, folder, workers, replicas] => of_five(
+            word.as_str(),
+            topology.as_str(),
+            folder.as_str(),
+            workers.as_str(),
+            replicas.as_str(),
+        ),
+        [word, topology, folder, partition, replica, addresses] => of_six(
+            word.as_str(),
+            topology.as_str(),
+            folder.as_str(),
+            partition.as_str(),
+            replica.as_str(),
+            addresses.as_str(),
+        ),
+        _ => None,
+    }
+}
+
 impl<'a> Command<'a> {
-    /// The command of the words after the program's name: `one TOPO IFACE` or `onehex TOPO IFACE`,
-    /// where IFACE may be left out, `rounds TOPO MAX`, `script TOPO STEPS`, `check TOPO`, `report
-    /// TOPO` or `report TOPO csv`, `dot TOPO` or `dot TOPO load`, `text TOPO IFACE`, `run TOPO DIR
-    /// WORKERS REPLICAS`, or `node TOPO DIR PARTITION REPLICA ADDRESSES`. No words are `onehex -`.
-    /// `None` where the words are no command.
+    /// The command of the words after the program's name: `one TOPO IFACE`, `onehex TOPO IFACE`,
+    /// `sent TOPO IFACE` or `received TOPO IFACE`, where IFACE may be left out, `all TOPO DIR` with
+    /// or without names of interfaces behind it, `rounds TOPO MAX`, `script TOPO STEPS`, `check
+    /// TOPO`, `report TOPO` or `report TOPO csv`, `dot TOPO` or `dot TOPO load`, `text TOPO IFACE`,
+    /// `run TOPO DIR WORKERS REPLICAS`, or `node TOPO DIR PARTITION REPLICA ADDRESSES`. No words
+    /// are `onehex -`. `None` where the words are no command.
     pub fn of(words: &'a [String]) -> Option<Command<'a>>
         ensures value { option_map command_value result
             ≡ command_of (map (λ w. string_bytes w) words.now) }
         ensures limits { IfSome result IsWithinLimits }
     {
         match words {
-            [] => Some(Command::Trace {
-                form: Form::Hexadecimal,
-                topology: "-",
-                iface: None,
-            }),
-            [word, topology] => of_two(word.as_str(), topology.as_str()),
-            [word, topology, third] => of_three(word.as_str(), topology.as_str(), third.as_str()),
-            [word, topology, folder, workers, replicas] => of_five(
-                word.as_str(),
-                topology.as_str(),
-                folder.as_str(),
-                workers.as_str(),
-                replicas.as_str(),
-            ),
-            [word, topology, folder, partition, replica, addresses] => of_six(
-                word.as_str(),
-                topology.as_str(),
-                folder.as_str(),
-                partition.as_str(),
-                replica.as_str(),
-                addresses.as_str(),
-            ),
-            _ => None,
+            [word, topology, folder, ifaces @ ..] => match word.as_str() {
+                "all" => Some(Command::All {
+                    topology: topology.as_str(),
+                    folder: folder.as_str(),
+                    ifaces,
+                }),
+                _ => of_number(words),
+            },
+            _ => of_number(words),
         }
     }
 }

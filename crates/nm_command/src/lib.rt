@@ -3,7 +3,9 @@
 
 pub mod command;
 pub mod status;
+pub mod ways;
 
 pub use command::Command;
 pub use nm_pcap::Form;
 pub use status::Status;
+pub use ways::Ways;

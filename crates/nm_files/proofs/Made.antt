@@ -2,28 +2,27 @@
 use Rattle.std.proofs.Common.{◌≡◌, ℕ, ◌+◌, ◌≤◌, Bool, true, false, None, List, [], ◌∷◌, ◌++◌, length, map, take, Option, Some, refl, sym, ◌∙◌, ap, subst, arith, append-nil, slice_get}
 use Rattle.std.specs.Io.KnownBytes.{Appends}
 use Rattle.std.specs.List.{enumerate_from, flat_map}
+use Rattle.std.specs.Option.{option_to_list}
 use Rattle.std.proofs.lemmas.Bool.{true≢false}
-use Rattle.std.proofs.lemmas.List.{append_assoc, take_all}
+use Rattle.std.proofs.lemmas.List.{append_assoc, map-append, take_all}
 use Rattle.std.proofs.lemmas.Option.{slice_get_within, get_or_from_slice_get}
 use Rattle.nm_base.proofs.Numbered.{numbered_more}
-use Rattle.nm_files.specs.Outputs.{AreWhole, Files, HasMade, HasPlaced, IsClosed, IsEmpty, IsWhole}
+use Rattle.nm_files.specs.Outputs.{AreWhole, Files, HasMade, HasMadeSome, HasPlaced, IsClosed, IsEmpty, IsWhole}
 
-pub none_made : (made : Option Files) → HasMade made made []
-none_made made first is = is ∙ ap (λ files. Some files) (sym (append-nil first))
+-- closed files of one more element of a list
+pub whole_more : {X C : Type 0} (closed : C → Option (List ℕ × List ℕ)) (f : ℕ × X → Files) (xs : List X) (n : ℕ) (x : X) (made : Option Files) (old new : List C) (o : Option C)
+    → slice_get xs n ≡ Some x → new ≡ old ++ option_to_list o → AreWhole made (map closed (option_to_list o)) (f (n, x))
+    → AreWhole made (map closed old) (flat_map f (enumerate_from 0 (take n xs))) → AreWhole made (map closed new) (flat_map f (enumerate_from 0 (take (n + 1) xs)))
+whole_more closed f xs n x made old new o is more one so_far first told =
+    ap (map closed) more ∙ map-append closed old (option_to_list o)
+    ∙ ap (λ l. l ++ map closed (option_to_list o)) (so_far first told)
+    ∙ ap (λ l. map (λ file. Some file) (flat_map f (enumerate_from 0 (take n xs))) ++ l) (one first told)
+    ∙ sym (map-append (λ file. Some file) (flat_map f (enumerate_from 0 (take n xs))) (f (n, x)))
+    ∙ ap (map (λ file. Some file)) (sym (numbered_more f xs n x (slice_get_within xs n x is) (sym (get_or_from_slice_get xs n x x is))))
 
-pub made_both : (before mid after : Option Files) (xs ys : Files) → HasMade before mid xs → HasMade mid after ys → HasMade before after (xs ++ ys)
-made_both before mid after xs ys one two first is = two (first ++ xs) (one first is) ∙ ap (λ files. Some files) (append_assoc first xs ys)
-
--- those of one more element of a list
-pub made_more : {X : Type 0} (f : ℕ × X → Files) (xs : List X) (n : ℕ) (x : X) (before mid after : Option Files) → slice_get xs n ≡ Some x
-    → HasMade before mid (flat_map f (enumerate_from 0 (take n xs))) → HasMade mid after (f (n, x)) → HasMade before after (flat_map f (enumerate_from 0 (take (n + 1) xs)))
-made_more f xs n x before mid after is so_far more =
-    subst (HasMade before after) (sym (numbered_more f xs n x (slice_get_within xs n x is) (sym (get_or_from_slice_get xs n x x is))))
-    (made_both before mid after (flat_map f (enumerate_from 0 (take n xs))) (f (n, x)) so_far more)
-
-pub all_made : {X : Type 0} (f : ℕ × X → Files) (xs : List X) (n : ℕ) (before after : Option Files) → n ≡ length xs
-    → HasMade before after (flat_map f (enumerate_from 0 (take n xs))) → HasMade before after (flat_map f (enumerate_from 0 xs))
-all_made f xs n before after all has = subst (λ l. HasMade before after (flat_map f (enumerate_from 0 l))) (take_all n xs (omega (arith, all))) has
+pub all_whole : {X : Type 0} (f : ℕ × X → Files) (xs : List X) (n : ℕ) (made : Option Files) (closed : List (Option (List ℕ × List ℕ))) → n ≡ length xs
+    → AreWhole made closed (flat_map f (enumerate_from 0 (take n xs))) → AreWhole made closed (flat_map f (enumerate_from 0 xs))
+all_whole f xs n made closed all whole = subst (λ l. AreWhole made closed (flat_map f (enumerate_from 0 l))) (take_all n xs (omega (arith, all))) whole
 
 abbrev octets_in : Option (List ℕ) → List ℕ
 octets_in None = []
@@ -33,7 +32,7 @@ abbrev is_told : Option (List ℕ) → Bool
 is_told None = false
 is_told (Some octets) = true
 
-appended : (old new : Option (List ℕ)) (octets first : List ℕ) → Appends old new octets → old ≡ Some first → new ≡ Some (first ++ octets)
+pub appended : (old new : Option (List ℕ)) (octets first : List ℕ) → Appends old new octets → old ≡ Some first → new ≡ Some (first ++ octets)
 appended None new octets first h is = absurd (true≢false (sym (ap is_told is)))
 appended (Some xs) None octets first h is = absurd h
 appended (Some xs) (Some ys) octets first h is = ap (λ l. Some l) (h ∙ ap (λ l. l ++ octets) (ap octets_in is))
@@ -85,3 +84,11 @@ all_placed before now closed left files none placed whole first is = step (place
 
     step : ((done : Files) × (rest : Files) × ((files ≡ done ++ rest) × (left ≡ map (λ file. Some file) rest) × (now ≡ Some (first ++ done)))) → now ≡ Some (first ++ files)
     step (done, rest, (all, same, was)) = pick done rest all same was
+
+pub some_placed : (before now : Option Files) (closed left : List (Option (List ℕ × List ℕ))) (files : Files)
+    → ArePlaced before now closed left → AreWhole before closed files → HasMadeSome before now files
+some_placed before now closed left files placed whole first is = step (placed first files is (whole first is))
+  where
+    step : ((done : Files) × (rest : Files) × ((files ≡ done ++ rest) × (left ≡ map (λ file. Some file) rest) × (now ≡ Some (first ++ done))))
+        → (done : Files) × (rest : Files) × (files ≡ done ++ rest) × (now ≡ Some (first ++ done))
+    step (done, rest, (all, same, was)) = (done, rest, all, was)

@@ -39,47 +39,57 @@ one_more records n m r is next =
     ap (λ k. take k records) (next ∙ add-one n) ∙ take-suc records n r (slice_get_within records n r is)
     ∙ ap (λ x. take n records ++ x ∷ []) (get_or_from_slice_get records n r r is)
 
--- a list is its first so many, and the others
-parts_at : (form : Form) (iface : ℕ) (records : List (Record (List ℕ))) (n : ℕ) → written_at form iface records ≡ written_at form iface (take n records) ++ written_at form iface (drop n records)
-parts_at form iface records n =
-    ap (written_at form iface) (sym (take-append-drop n records)) ∙ written_at-append form iface (take n records) (drop n records)
+-- Of a list of records some are written: which they are is told of each piece alone.
+module _ (pick : List (Record (List ℕ)) → List (Record (List ℕ))) (none : pick [] ≡ []) (both : (a b : List (Record (List ℕ))) → pick (a ++ b) ≡ pick a ++ pick b) where
+  picked_both : (form : Form) (iface : ℕ) (a b : List (Record (List ℕ))) → written_at form iface (pick (a ++ b)) ≡ written_at form iface (pick a) ++ written_at form iface (pick b)
+  picked_both form iface a b = ap (written_at form iface) (both a b) ∙ written_at-append form iface (pick a) (pick b)
+
+  -- a list is its first so many, and the others
+  parts_at : (form : Form) (iface : ℕ) (records : List (Record (List ℕ))) (n : ℕ)
+      → written_at form iface (pick records) ≡ written_at form iface (pick (take n records)) ++ written_at form iface (pick (drop n records))
+  parts_at form iface records n = ap (λ l. written_at form iface (pick l)) (sym (take-append-drop n records)) ∙ picked_both form iface (take n records) (drop n records)
+
+  module _ {S : Type 0} (taken : S → Option (List ℕ)) (failures : S → ℕ) (iface : ℕ) (records : List (Record (List ℕ))) where
+    -- no record was written so far
+    pub no_record : (old : Writer S) (n : ℕ) → n ≡ 0 → old.failed ≡ false → WroteOn taken failures old old (written_at old.form iface (pick (take n records)))
+    no_record old n zero sound =
+        subst (WroteOn taken failures old old)
+        (sym (ap (λ k. written_at old.form iface (pick (take k records))) zero ∙ ap (written_at old.form iface) none ∙ written-nil old.form)) (WroteOn-nil taken failures old sound)
+
+    -- after the first n records one more was dealt with, whatever came of it
+    after_record : (old mid new : Writer S) (outcome : Result Unit TraceFault) (n m : ℕ) (r : Record (List ℕ)) → slice_get records n ≡ Some r → m ≡ n + 1
+        → WroteOn taken failures old mid (written_at old.form iface (pick (take n records))) → WritesOn taken failures mid new outcome (written_at mid.form iface (pick (r ∷ [])))
+        → WritesOn taken failures old new outcome (written_at old.form iface (pick (take m records)))
+    after_record old mid new outcome n m r is next v w =
+        subst (WritesOn taken failures old new outcome)
+        (sym (ap (λ l. written_at old.form iface (pick l)) (one_more records n m r is next) ∙ picked_both old.form iface (take n records) (r ∷ [])))
+        (WritesOn-after taken failures old mid new outcome (written_at old.form iface (pick (take n records))) (written_at old.form iface (pick (r ∷ []))) v
+        (subst (λ f. WritesOn taken failures mid new outcome (written_at f iface (pick (r ∷ [])))) v.same_form w))
+
+    pub next_record : (old mid new : Writer S) (n m : ℕ) (r : Record (List ℕ)) → slice_get records n ≡ Some r → m ≡ n + 1
+        → WroteOn taken failures old mid (written_at old.form iface (pick (take n records))) → WroteOn taken failures mid new (written_at mid.form iface (pick (r ∷ [])))
+        → WroteOn taken failures old new (written_at old.form iface (pick (take m records)))
+    next_record old mid new n m r is next v w = after_record old mid new (Ok tt) n m r is next v w
+
+    pub last_record : (old mid new : Writer S) (e : TraceFault) (n m : ℕ) (r : Record (List ℕ)) → slice_get records n ≡ Some r → m ≡ n + 1
+        → WroteOn taken failures old mid (written_at old.form iface (pick (take n records))) → WritesOn taken failures mid new (Err e) (written_at mid.form iface (pick (r ∷ [])))
+        → WritesOn taken failures old new (Err e) (written_at old.form iface (pick records))
+    last_record old mid new e n m r is next v w =
+        subst (WritesOn taken failures old new (Err e)) (sym (parts_at old.form iface records m))
+        (WritesOn-more taken failures old new e _ _ (after_record old mid new (Err e) n m r is next v w))
+
+    -- the records are all, or they are some
+    pub all_records : (old new : Writer S) (n : ℕ) → n ≡ length records → WroteOn taken failures old new (written_at old.form iface (pick (take n records)))
+        → WroteOn taken failures old new (written_at old.form iface (pick records))
+    all_records old new n all w = subst (λ l. WroteOn taken failures old new (written_at old.form iface (pick l))) (take_all n records (omega (arith, all))) w
+
+    pub some_records : (old new : Writer S) (n : ℕ) → WroteOn taken failures old new (written_at old.form iface (pick (take n records)))
+        → WrotePart taken failures old.sink new.sink (written_at old.form iface (pick records))
+    some_records old new n w =
+        subst (WrotePart taken failures old.sink new.sink) (sym (parts_at old.form iface records n))
+        (WroteAll-part taken failures old.sink new.sink (written_at old.form iface (pick (take n records))) (written_at old.form iface (pick (drop n records))) w.all)
 
 module _ {S : Type 0} (taken : S → Option (List ℕ)) (failures : S → ℕ) (iface : ℕ) (records : List (Record (List ℕ))) where
-  -- no record was written so far
-  pub no_record : (old : Writer S) (n : ℕ) → n ≡ 0 → old.failed ≡ false → WroteOn taken failures old old (written_at old.form iface (take n records))
-  no_record old n none sound =
-      subst (WroteOn taken failures old old) (sym (ap (λ k. written_at old.form iface (take k records)) none ∙ written-nil old.form)) (WroteOn-nil taken failures old sound)
-
-  -- after the first n records one more was dealt with, whatever came of it
-  after_record : (old mid new : Writer S) (outcome : Result Unit TraceFault) (n m : ℕ) (r : Record (List ℕ)) → slice_get records n ≡ Some r → m ≡ n + 1
-      → WroteOn taken failures old mid (written_at old.form iface (take n records)) → WritesOn taken failures mid new outcome (written_at mid.form iface (r ∷ []))
-      → WritesOn taken failures old new outcome (written_at old.form iface (take m records))
-  after_record old mid new outcome n m r is next v w =
-      subst (WritesOn taken failures old new outcome) (sym (ap (written_at old.form iface) (one_more records n m r is next) ∙ written_at-append old.form iface (take n records) (r ∷ [])))
-      (WritesOn-after taken failures old mid new outcome (written_at old.form iface (take n records)) (written_at old.form iface (r ∷ [])) v
-      (subst (λ f. WritesOn taken failures mid new outcome (written_at f iface (r ∷ []))) v.same_form w))
-
-  pub next_record : (old mid new : Writer S) (n m : ℕ) (r : Record (List ℕ)) → slice_get records n ≡ Some r → m ≡ n + 1
-      → WroteOn taken failures old mid (written_at old.form iface (take n records)) → WroteOn taken failures mid new (written_at mid.form iface (r ∷ []))
-      → WroteOn taken failures old new (written_at old.form iface (take m records))
-  next_record old mid new n m r is next v w = after_record old mid new (Ok tt) n m r is next v w
-
-  pub last_record : (old mid new : Writer S) (e : TraceFault) (n m : ℕ) (r : Record (List ℕ)) → slice_get records n ≡ Some r → m ≡ n + 1
-      → WroteOn taken failures old mid (written_at old.form iface (take n records)) → WritesOn taken failures mid new (Err e) (written_at mid.form iface (r ∷ []))
-      → WritesOn taken failures old new (Err e) (written_at old.form iface records)
-  last_record old mid new e n m r is next v w =
-      subst (WritesOn taken failures old new (Err e)) (sym (parts_at old.form iface records m))
-      (WritesOn-more taken failures old new e _ _ (after_record old mid new (Err e) n m r is next v w))
-
-  -- the records are all, or they are some
-  pub all_records : (old new : Writer S) (n : ℕ) → n ≡ length records → WroteOn taken failures old new (written_at old.form iface (take n records)) → WroteOn taken failures old new (written_at old.form iface records)
-  all_records old new n all w = subst (λ l. WroteOn taken failures old new (written_at old.form iface l)) (take_all n records (omega (arith, all))) w
-
-  pub some_records : (old new : Writer S) (n : ℕ) → WroteOn taken failures old new (written_at old.form iface (take n records)) → WrotePart taken failures old.sink new.sink (written_at old.form iface records)
-  some_records old new n w =
-      subst (WrotePart taken failures old.sink new.sink) (sym (parts_at old.form iface records n))
-      (WroteAll-part taken failures old.sink new.sink (written_at old.form iface (take n records)) (written_at old.form iface (drop n records)) w.all)
-
   -- the file is cut short in its header, or in its records, or it is written as far as its end
   pub cut_in_header : (old new : Writer S) (e : TraceFault) → WritesOn taken failures old new (Err e) (written old.form file_header) → WritesOn taken failures old new (Err e) (trace_file old.form iface records)
   cut_in_header old new e w =

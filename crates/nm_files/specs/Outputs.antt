@@ -17,6 +17,10 @@ IsClosed name taken closed = (octets : List ℕ) → taken ≡ Some octets → c
 abbrev pub HasMade : Option Files → Option Files → Files → Type 0
 HasMade before after files = (first : Files) → before ≡ Some first → after ≡ Some (first ++ files)
 
+-- behind them come the first of these
+abbrev pub HasMadeSome : Option Files → Option Files → Files → Type 0
+HasMadeSome before after files = (first : Files) → before ≡ Some first → (done : Files) × (rest : Files) × (files ≡ done ++ rest) × (after ≡ Some (first ++ done))
+
 -- behind the files that were placed before comes this one
 abbrev pub HasPlaced : Option Files → Option Files → Option (List ℕ × List ℕ) → Type 0
 HasPlaced before after closed = (file : List ℕ × List ℕ) → closed ≡ Some file → HasMade before after (file ∷ [])

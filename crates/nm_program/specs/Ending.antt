@@ -2,22 +2,24 @@
 use Rattle.std.specs.Prelude.{◌≡◌, Bool, false, ℕ, List, Option, Some, None}
 use Rattle.nm_command.specs.declared.status.Status.{Status}
 use Rattle.nm_command.specs.declared.status.Status.TheVariants.{Done, Usage, File}
-use Rattle.nm_command.specs.Command.{CommandValue, Trace, Rounds, Script, Check, Report, Dot, Text, Run, Node}
+use Rattle.nm_command.specs.Command.{CommandValue, Trace, All, Rounds, Script, Check, Report, Dot, Text, Run, Node}
 use Rattle.nm_program.specs.Node.{EndsNode}
 use Rattle.nm_files.specs.Outputs.{Files}
 use Rattle.nm_words.specs.Rounds.{EndsRounds}
 use Rattle.nm_program.specs.Run.{EndsRun}
+use Rattle.nm_words.specs.All.{MakesAll}
 use Rattle.nm_words.specs.Check.{EndsCheck}
 use Rattle.nm_words.specs.Script.{EndsScript}
 use Rattle.nm_words.specs.Shown.{EndsShown, EndsText}
 use Rattle.nm_words.specs.Traces.{EndsTrace}
 
 -- What each status says of words. The inputs tell what the input of a name has, if they do, and failed so often before and after; the sink was old and is
--- new; these files were closed before and after, if that is told. Words that are no command are `Usage`. Only `run` and `node` make files.
+-- new; these files were closed before and after, if that is told. Words that are no command are `Usage`. Only `all`, `run` and `node` make files.
 module _ {S : Type 0} (taken : S → Option (List ℕ)) (failures : S → ℕ) (told : List ℕ → Option (List ℕ)) (failed_before failed : ℕ) (old new : S) (made_before made : Option Files) where
   abbrev pub ProgramEnds : Option CommandValue → Status → Type 0
   ProgramEnds None status = (status ≡ Usage) × (failed ≡ failed_before) × (new ≡ old) × (made ≡ made_before)
-  ProgramEnds (Some (Trace form topology iface)) status = EndsTrace taken failures told failed_before failed old new form topology iface status × (made ≡ made_before)
+  ProgramEnds (Some (Trace form ways topology iface)) status = EndsTrace taken failures told failed_before failed old new form ways topology iface status × (made ≡ made_before)
+  ProgramEnds (Some (All topology folder ifaces)) status = MakesAll told failed_before failed made_before made topology folder ifaces status × (new ≡ old)
   ProgramEnds (Some (Rounds topology max)) status = EndsRounds taken failures told failed_before failed old new topology max status × (made ≡ made_before)
   ProgramEnds (Some (Script topology steps)) status = EndsScript taken failures told failed_before failed old new topology steps status × (made ≡ made_before)
   ProgramEnds (Some (Check topology)) status = EndsCheck taken failures told failed_before failed old new topology status × (made ≡ made_before)

@@ -24,18 +24,18 @@ pub record SaysCertified (text octets : List ℕ) : Type 0 where
   pub trace : IsTraceBefore network network.stop records
   pub said : octets ≡ codes "certified\n" ++ iface_lines (λ i. totals_of i records) network
 
--- the endings of a run that was begun and has no report
-abbrev pub StopsRun : Status → Type 0
-StopsRun Done = ⊥
-StopsRun Usage = ⊥
-StopsRun NoInterface = ⊥
-StopsRun (ScriptLine n) = ⊥
-StopsRun (Step n) = ⊥
-StopsRun (Topology refusal) = ⊥
-StopsRun File = Unit {0}
-StopsRun Memory = Unit {0}
-StopsRun (NotCertified n) = Unit {0}
-StopsRun Stalled = Unit {0}
+-- the endings of a run that was begun and has no report; a run that is not certified leaves what the names of its files had
+abbrev pub StopsRun : Option Files → Option Files → Status → Type 0
+StopsRun before after Done = ⊥
+StopsRun before after Usage = ⊥
+StopsRun before after NoInterface = ⊥
+StopsRun before after (ScriptLine n) = ⊥
+StopsRun before after (Step n) = ⊥
+StopsRun before after (Topology refusal) = ⊥
+StopsRun before after File = Unit {0}
+StopsRun before after Memory = Unit {0}
+StopsRun before after (NotCertified n) = after ≡ before
+StopsRun before after Stalled = after ≡ before
 
 -- it is said once it is certified
 abbrev pub SaysRun : List ℕ → Status → List ℕ → Type 0
@@ -44,9 +44,9 @@ SaysRun text status octets = (status ≡ Done) × SaysCertified text octets
 -- why nothing is said of an input: there is no network, and no file was made; or its run stopped
 abbrev pub FailsRun : Option (List ℕ) → ℕ → ℕ → Option Files → Option Files → Status → Type 0
 FailsRun told failed_before failed made_before made status = (FailsOfInput told failed_before failed IsRefused status × (made ≡ made_before))
-    ⊎ ((text : List ℕ) × IsInput told text × StopsRun status)
+    ⊎ ((text : List ℕ) × IsInput told text × StopsRun made_before made status)
 
--- What each status says. Files are made as the replicas run; what is in them is not said.
+-- What each status says. Files are made once the books are certified; what is in them is not said.
 module _ {S : Type 0} (taken : S → Option (List ℕ)) (failures : S → ℕ) (told : List ℕ → Option (List ℕ)) (failed_before failed : ℕ) (old new : S) (made_before made : Option Files) where
   abbrev pub EndsRun : List ℕ → Status → Type 0
   EndsRun topology status =

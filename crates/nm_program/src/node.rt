@@ -164,6 +164,9 @@ fn serve<F: Outputs, R: Net + Wait + Drop + Copy>(
         text addresses output.status output.text.items) }
     ensures fault { IfErr result (StopsNode (F.made outputs.old) (F.made outputs.new)) }
 {
+    if words.folder.is_empty() {
+        return Err(Status::File); // its files would stand at the root
+    }
     let book = book_of(means, topology, listeners, words)?;
     write_book(means.alloc, topology, words, &book, outputs)
 }

@@ -15,6 +15,7 @@ use crate::runs::{RunWords, say_run};
 use nm_base::{PartNo, Sink};
 use nm_command::{Command, Status};
 use nm_files::Outputs;
+use nm_words::all::{AllWords, write_all_traces};
 use nm_words::checking::say_check;
 use nm_words::input::NamedInputs;
 use nm_words::inputs::Inputs;
@@ -97,16 +98,33 @@ where
         Some(
             Command::Trace {
                 form,
+                ways,
                 topology,
                 iface,
             },
         ) => {
             let words = TraceWords {
                 form,
+                ways,
                 topology,
                 iface,
             };
             write_trace(alloc, &words, inputs, out, progress)
+        }
+        Some(
+            Command::All {
+                topology,
+                folder,
+                ifaces,
+            },
+        ) => {
+            let words = AllWords {
+                topology,
+                folder,
+                ifaces,
+            };
+            let status = write_all_traces(alloc, &words, inputs, outputs, progress);
+            (status, out)
         }
         Some(Command::Rounds { topology, max }) => {
             say_rounds(alloc, topology, max, inputs, out, progress)

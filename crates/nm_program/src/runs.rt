@@ -1,10 +1,12 @@
 //! The word `run`: all partitions at once.
 
-ghost use Rattle.std.specs.Prelude.{◌≡◌, ℕ, ◌<◌, ◌≤◌, ◌++◌, List, Some, IfErr, IfOk, OnOk, Ok};
-ghost use Rattle.std.specs.Prelude.{codes, length, slice_get};
+ghost use Rattle.std.specs.Prelude.{◌≡◌, ◌⊎◌, ℕ, ◌<◌, ◌≤◌, ◌++◌, List, Some, IfErr, IfOk, OnOk};
+ghost use Rattle.std.specs.Prelude.{Ok, Option, codes, length, slice_get};
 ghost use Rattle.std.specs.Arc.{arc_value};
 ghost use Rattle.nm_base.specs.declared.record.Record.{Record as TraceRecord};
 ghost use Rattle.nm_base.specs.declared.limits.TheConstants.{MAX_WORKERS};
+ghost use Rattle.nm_files.specs.Outputs.{Files};
+ghost use Rattle.nm_run.specs.Faults.{IsOfFiles};
 ghost use Rattle.nm_run.specs.Report.{AreTotals, IsCertifiedRun};
 ghost use Rattle.nm_sim.specs.Records.{totals_of};
 ghost use Rattle.nm_sim.specs.Trace.{IsTraceBefore};
@@ -78,7 +80,8 @@ fn run_text(
 
 /// What the fault of a run is to the program.
 fn status_of(fault: RunFault) -> Status
-    ensures { StopsRun result }
+    ensures { (before after : Option Files) → (IsOfFiles fault ⊎ (after ≡ before))
+        → StopsRun before after result }
 {
     match fault {
         RunFault::File { .. } | RunFault::Net => Status::File,
@@ -132,8 +135,11 @@ where
     ensures said { IfOk result (λ output. (text : List ℕ)
         → topology_of text ≡ Ok (arc_value network.now)
         → SaysRun text output.status output.text.items) }
-    ensures fault { IfErr result StopsRun }
+    ensures fault { IfErr result (StopsRun (F.made outputs.old) (F.made outputs.new)) }
 {
+    if words.folder.is_empty() {
+        return Err(Status::File); // its files would stand at the root
+    }
     let plan = RunPlan {
         topology: network,
         folder: words.folder,

@@ -1,10 +1,12 @@
 //! The trace files of a partition, of a replica that is done.
 
-ghost use Rattle.std.specs.Prelude.{◌≡◌, ◌<◌, ◌≤◌, ◌⊎◌, Some, All, IfErr, IfOk, length, slice_get};
+ghost use Rattle.std.specs.Prelude.{◌≡◌, ◌<◌, ◌≤◌, ◌⊎◌, Some, All, IfErr, IfOk, length, map};
+ghost use Rattle.std.specs.Prelude.{slice_get};
+ghost use Rattle.std.specs.Option.{option_to_list};
 ghost use Rattle.nm_base.specs.declared.limits.TheConstants.{MAX_TIME};
 ghost use Rattle.nm_command.specs.declared.status.Status.TheVariants.{File, Memory};
 ghost use Rattle.nm_files.specs.Names.{file_name};
-ghost use Rattle.nm_files.specs.Outputs.{HasMade};
+ghost use Rattle.nm_files.specs.Outputs.{AreWhole, HasMade};
 ghost use Rattle.nm_files.specs.TraceFile.{trace_file};
 ghost use Rattle.nm_pcap.specs.declared.form.Form.TheVariants.{Octets};
 ghost use Rattle.nm_program.specs.Node.{of_own, own_files};
@@ -16,8 +18,10 @@ use nm_command::Status;
 use nm_files::Outputs;
 use nm_files::making::make_file;
 use nm_files::names::name_of;
+use nm_files::placing::place_all;
 use nm_topology::Topology;
 use nm_topology::topology::accepted_topologies_are_in_order;
+use nm_words::closed::{push_some, status_of};
 use std::alloc::Global;
 
 /// The trace files of a partition: of which interfaces, where they go, and whose records they have.
@@ -29,43 +33,67 @@ pub(crate) struct OwnFiles<'a> {
     pub records: &'a [Record],
 }
 
-/// Makes the trace file of an interface, if that is of the partition.
+/// Makes the trace file of an interface, if that is of the partition, and closes it.
 fn make_own<F: Outputs>(
     alloc: Global,
     own: &OwnFiles<'_>,
     number: usize,
     outputs: &mut F,
-) -> Result<(), Status>
+) -> Result<Option<F::Closed>, Status>
     requires there { number < length own.now.topology.now.ifaces }
     requires times { All (λ r. r.time ≤ MAX_TIME) own.now.records.now }
-    ensures made { (iface : IfaceValue) → slice_get own.now.topology.now.ifaces number ≡ Some iface
-        → IfOk result (λ _. HasMade (F.made outputs.old) (F.made outputs.new)
+    ensures whole { (iface : IfaceValue)
+        → slice_get own.now.topology.now.ifaces number ≡ Some iface
+        → IfOk result (λ o. AreWhole (F.made outputs.old) (map F.closed (option_to_list o))
         (of_own own.now.topology.now own.now.partition
         (λ n i. (file_name own.now.folder.now i, trace_file Octets n own.now.records.now))
         (number, iface))) }
+    ensures same { F.made outputs.new ≡ F.made outputs.old }
     ensures fault { IfErr result (λ s. (s ≡ File) ⊎ (s ≡ Memory)) }
 {
     accepted_topologies_are_in_order(own.topology); // law: there are few interfaces
     let iface = IfaceNo::new(number as u32);
     if partition_of(own.topology, iface) != own.partition {
-        return Ok(());
+        return Ok(None);
     }
     let Ok(name) = name_of(alloc, own.folder, own.topology.iface(iface)) else {
         return Err(Status::Memory);
     };
-    if !make_file(outputs, name.as_str(), iface, own.records) {
-        return Err(Status::File);
+    match make_file(outputs, name.as_str(), iface, own.records) {
+        Ok(closed) => Ok(Some(closed)),
+        Err(fault) => Err(status_of(fault)),
     }
-    Ok(())
+}
+
+/// Makes the trace files of the interfaces of a partition, in the order of the topology's text, and
+/// closes them.
+fn close_files<F: Outputs>(
+    alloc: Global,
+    own: &OwnFiles<'_>,
+    outputs: &mut F,
+) -> Result<Vec<F::Closed>, Status>
+    requires { All (λ r. r.time ≤ MAX_TIME) own.now.records.now }
+    ensures whole { IfOk result (λ closed. AreWhole (F.made outputs.old)
+        (map F.closed closed.items)
+        (own_files own.now.topology.now own.now.partition own.now.folder.now own.now.records.now)) }
+    ensures same { F.made outputs.new ≡ F.made outputs.old }
+    ensures fault { IfErr result (λ s. (s ≡ File) ⊎ (s ≡ Memory)) }
+{
+    let mut all = Vec::new(alloc);
+    for number in 0..own.topology.ifaces().len() {
+        let closed = make_own(alloc, own, number, outputs)?;
+        push_some(&mut all, closed)?;
+    }
+    Ok(all)
 }
 
 /// Makes the trace files of the interfaces of a partition in a folder, in the order of the
-/// topology's text.
+/// topology's text. They get their names once all are closed.
 ///
 /// # Errors
 ///
-/// `File` where one could not be made or written whole; those before it are whole. `Memory` where
-/// memory was refused.
+/// `File` where one could not be made, written whole or given its name; `Memory` where memory was
+/// refused. Before all are closed none has its name.
 pub(crate) fn make_files<F: Outputs>(
     alloc: Global,
     own: &OwnFiles<'_>,
@@ -76,8 +104,9 @@ pub(crate) fn make_files<F: Outputs>(
         (own_files own.now.topology.now own.now.partition own.now.folder.now own.now.records.now)) }
     ensures fault { IfErr result (λ s. (s ≡ File) ⊎ (s ≡ Memory)) }
 {
-    for number in 0..own.topology.ifaces().len() {
-        make_own(alloc, own, number, outputs)?;
+    let closed = close_files(alloc, own, outputs)?;
+    match place_all(outputs, closed) {
+        Ok(()) => Ok(()),
+        Err(fault) => Err(status_of(fault)),
     }
-    Ok(())
 }

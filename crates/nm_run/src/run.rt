@@ -1,8 +1,9 @@
 //! A run of all partitions.
 
-ghost use Rattle.std.specs.Prelude.{◌≡◌, ◌≤◌, All, IfOk, length};
+ghost use Rattle.std.specs.Prelude.{◌≡◌, ◌⊎◌, ◌≤◌, All, IfErr, IfOk, length};
 ghost use Rattle.std.specs.Arc.{arc_value};
 ghost use Rattle.nm_files.specs.Files.{IsSound};
+ghost use Rattle.nm_run.specs.Faults.{IsOfFiles};
 ghost use Rattle.nm_run.specs.Report.{IsCertifiedRun};
 ghost use Rattle.nm_shared.specs.Board.{IsOwnerOf, IsSeatOf};
 
@@ -10,7 +11,7 @@ use crate::closing::{certify_all, close_run};
 use crate::dispatching::{Dispatcher, dispatch};
 use crate::endings::check_endings;
 use crate::fault::RunFault;
-use crate::files::{TraceFolder, close_files, open_files};
+use crate::files::{ClosedFile, TraceFolder, close_files, open_files, place_files};
 use crate::jobs::Watched;
 use crate::posts::{Post, Posts, open_posts, woken_poll};
 use crate::report::{Report, report_of};
@@ -109,6 +110,7 @@ fn holdings_of<F: Outputs, R: Wait>(
 ) -> Result<Holdings<Plain, F::File>, RunFault>
     ensures seats { IfOk result (λ h. h.seats ≡ seats) }
     ensures files { IfOk result (λ h. All IsSound h.files.files.items) }
+    ensures same { F.made outputs.new ≡ F.made outputs.old }
 {
     let folder = TraceFolder {
         topology: opened.plan.topology,
@@ -155,6 +157,7 @@ fn side_of<F: Outputs, R: Wait>(
 ) -> Result<Side<F::File>, RunFault>
     ensures seats { IfOk result (λ s. s.holdings.seats ≡ seats) }
     ensures files { IfOk result (λ s. All IsSound s.holdings.files.files.items) }
+    ensures same { F.made outputs.new ≡ F.made outputs.old }
 {
     let (Some(listener), Some(book)) = (opened.listeners.get(index), opened.books.get(index)) else {
         return Err(RunFault::Net);
@@ -182,8 +185,9 @@ fn sides_of<F: Outputs, R: Wait>(
     outputs: &mut F,
 ) -> Result<Vec<Side<F::File>>, RunFault>
     requires { All (IsOwnerOf opened.now.board.now) owners.items }
-    ensures { IfOk result (λ sides. All (λ s. All (IsOwnerOf opened.now.board.now)
+    ensures sides { IfOk result (λ sides. All (λ s. All (IsOwnerOf opened.now.board.now)
         s.holdings.seats.items × All IsSound s.holdings.files.files.items) sides.items) }
+    ensures same { F.made outputs.new ≡ F.made outputs.old }
 {
     let mut sides = Vec::new(opened.alloc);
     let mut rest = owners;
@@ -331,6 +335,7 @@ where
         + Drop
         + Copy,
     requires { (1 ≤ plan.now.workers) × (plan.now.workers ≤ 64) }
+    ensures { F.made outputs.new ≡ F.made outputs.old }
 {
     let (board, owners, mut seats) = ClockBoard::new(alloc, plan.topology)?;
     let Some(seat) = seats.pop() else {
@@ -367,35 +372,69 @@ where
     Ok((ends, dispatcher))
 }
 
-/// Closes the trace files of all replicas that have some.
+/// Closes the trace files of all replicas that have some. They do not have their names yet.
 fn close_all<F: Outputs>(
     alloc: Global,
     plan: &RunPlan<'_>,
     report: &Report,
     outputs: &mut F,
     files: Vec<TraceFiles<F::File>>,
-) -> Result<(), RunFault>
+) -> Result<Vec<ClosedFile<F::Closed>>, RunFault>
     requires { length report.now.totals.items ≡ length (arc_value plan.now.topology.now).ifaces }
+    ensures { F.made outputs.new ≡ F.made outputs.old }
 {
     let folder = TraceFolder {
         topology: plan.topology,
         folder: plan.folder,
     };
+    let mut closed = Vec::new(alloc);
     for own in files {
         let mut own = own;
-        close_files(alloc, folder, report.totals.as_slice(), outputs, &mut own)?;
+        let totals = report.totals.as_slice();
+        close_files(alloc, folder, totals, outputs, &mut own, &mut closed)?;
     }
-    Ok(())
+    Ok(closed)
+}
+
+/// Runs all partitions, and closes their trace files once all books are certified.
+fn run_certified<'x, F: Outputs, G: Gate + Sync, R>(
+    rt: &R,
+    alloc: Global,
+    plan: &'x RunPlan<'x>,
+    outputs: &mut F,
+    gate: &'x G,
+) -> Result<(Report, Vec<ClosedFile<F::Closed>>), RunFault>
+where
+    F::File: Send,
+    R: Net<Stream = net::TcpStream, Listener = net::TcpListener>
+        + Threads
+        + Wait
+        + Sync
+        + Drop
+        + Copy,
+    requires { (1 ≤ plan.now.workers) × (plan.now.workers ≤ 64) }
+    ensures certified { IfOk result (λ run. IsCertifiedRun (arc_value plan.now.topology.now)
+        run.0.totals.items) }
+    ensures same { F.made outputs.new ≡ F.made outputs.old }
+{
+    let shared = share_all(alloc, plan)?;
+    let (ends, dispatcher) = run_books(rt, alloc, &*plan, shared.as_slice(), outputs, &*gate)?;
+    let (books, files) = close_run(alloc, shared, ends, dispatcher)?;
+    let report = certified_report(alloc, plan.topology, books.as_slice())?;
+    let closed = close_all(alloc, plan, &report, outputs, files)?;
+    Ok((report, closed))
 }
 
 /// Runs all partitions of a network at once: each as one or two replicas in threads of their own,
 /// which speak over TCP on 127.0.0.1, and whose books so many workers run. The traces go to files
-/// of the folder as they are made, `NAME.pcap` for each interface. When all have ended their books
-/// are certified, and the report has the totals of the one event list.
+/// of the folder as they are made. When all have ended their books are certified. Then the files
+/// get their names, `NAME.pcap` for each interface, and the report has the totals of the one event
+/// list.
 ///
 /// # Errors
 ///
-/// Those of `RunFault`. Each file that was made has a prefix of what its replica handed out then.
+/// Those of `RunFault`. No file got its name, unless one of them could not get it: those before it
+/// have theirs then.
 pub fn run_all<'x, F: Outputs, G: Gate + Sync, R>(
     rt: &R,
     alloc: Global,
@@ -412,14 +451,13 @@ where
         + Drop
         + Copy,
     requires { (1 ≤ plan.now.workers) × (plan.now.workers ≤ 64) }
-    ensures { IfOk result (λ report. IsCertifiedRun (arc_value plan.now.topology.now)
+    ensures certified { IfOk result (λ report. IsCertifiedRun (arc_value plan.now.topology.now)
         report.totals.items) }
+    ensures kept { IfErr result (λ fault. IsOfFiles fault
+        ⊎ (F.made outputs.new ≡ F.made outputs.old)) }
 {
-    let shared = share_all(alloc, plan)?;
-    let (ends, dispatcher) = run_books(rt, alloc, &*plan, shared.as_slice(), outputs, &*gate)?;
-    let (books, files) = close_run(alloc, shared, ends, dispatcher)?;
-    let report = certified_report(alloc, plan.topology, books.as_slice())?;
-    close_all(alloc, plan, &report, outputs, files)?;
+    let (report, closed) = run_certified(rt, alloc, &*plan, outputs, &*gate)?;
+    place_files(outputs, closed)?;
     Ok(report)
 }
 

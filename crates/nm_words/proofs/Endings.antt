@@ -3,6 +3,7 @@ use Rattle.std.proofs.Common.{◌≡◌, ℕ, List, Option, Result, Ok, Err, IfO
 use Rattle.std.proofs.lemmas.Result.{IfOk-at_ok}
 use Rattle.nm_pcap.specs.declared.form.Form.{Form}
 use Rattle.nm_command.specs.declared.status.Status.{Status}
+use Rattle.nm_command.specs.declared.ways.Ways.{Ways}
 use Rattle.nm_files.specs.declared.trace_file.TraceFault.{TraceFault}
 use Rattle.nm_files.specs.declared.trace_file.TraceFault.TheVariants.{Sink, Memory}
 use Rattle.nm_words.specs.Input.{IsInput}
@@ -28,9 +29,9 @@ text_is_said text asked P status made (Err e) holds had = tt
 
 -- an answer that is written as it is made
 module _ {S : Type 0} (taken : S → Option (List ℕ)) (failures : S → ℕ) (told : List ℕ → Option (List ℕ)) (failed_before failed : ℕ) (old new : S) where
-  pub ends_written : (form : Form) (topology : List ℕ) (name : Option (List ℕ)) (text octets : List ℕ) (outcome : Result Unit TraceFault)
-      → IsInput (told topology) text → IsAnswer form name text octets → Writes taken failures old new outcome octets
-      → EndsTrace taken failures told failed_before failed old new form topology name (outcome_status outcome)
-  ends_written form topology name text octets (Ok _) input answer w = inl (inl (octets, (text, input, (refl, answer)), w))
-  ends_written form topology name text octets (Err Sink) input answer w = inl (inr (inl (refl, (_, octets, (text, input, (refl, answer)), w))))
-  ends_written form topology name text octets (Err Memory) input answer w = inr (refl, (octets, (text, input, (refl, answer)), w))
+  pub ends_written : (form : Form) (ways : Ways) (topology : List ℕ) (name : Option (List ℕ)) (text octets : List ℕ) (outcome : Result Unit TraceFault)
+      → IsInput (told topology) text → IsAnswer form ways name text octets → Writes taken failures old new outcome octets
+      → EndsTrace taken failures told failed_before failed old new form ways topology name (outcome_status outcome)
+  ends_written form ways topology name text octets (Ok _) input answer w = inl (inl (octets, (text, input, (refl, answer)), w))
+  ends_written form ways topology name text octets (Err Sink) input answer w = inl (inr (inl (refl, (_, octets, (text, input, (refl, answer)), w))))
+  ends_written form ways topology name text octets (Err Memory) input answer w = inr (refl, (octets, (text, input, (refl, answer)), w))

@@ -2,3 +2,5 @@ pub mod InterfaceLines
 pub mod Texts
 pub mod Times
 pub mod Endings
+pub mod Ways
+mod Held

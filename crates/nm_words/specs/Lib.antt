@@ -6,3 +6,5 @@ pub mod Rounds
 pub mod Script
 pub mod Shown
 pub mod Check
+pub mod All
+pub mod Held

@@ -1,6 +1,8 @@
--- The words `one` and `onehex`: the trace file of one interface.
-use Rattle.std.specs.Prelude.{◌≡◌, ◌⊎◌, ℕ, nat_lt, if◌then◌else◌, List, length, position, Option, Some, None, Result, Ok, Err}
+-- The words `one`, `onehex`, `sent` and `received`: the trace file of one interface.
+use Rattle.std.specs.Prelude.{◌≡◌, ◌⊎◌, Bool, true, false, ℕ, nat_lt, if◌then◌else◌, List, filter, length, position, Option, Some, None, Result, Ok, Err}
 use Rattle.std.specs.Str.{bytes_eq}
+use Rattle.nm_base.specs.declared.record.Dir.{Dir}
+use Rattle.nm_base.specs.declared.record.Dir.TheVariants.{In, Out}
 use Rattle.nm_base.specs.declared.record.Record.{Record}
 use Rattle.nm_pcap.specs.declared.form.Form.{Form}
 use Rattle.nm_topology.specs.Topology.{topology_of}
@@ -9,6 +11,8 @@ use Rattle.nm_topology.specs.TopologyValue.{TopologyValue}
 use Rattle.nm_sim.specs.Trace.{IsTraceBefore}
 use Rattle.nm_command.specs.declared.status.Status.{Status}
 use Rattle.nm_command.specs.declared.status.Status.TheVariants.{Done, NoInterface, File, Memory}
+use Rattle.nm_command.specs.declared.ways.Ways.{Ways}
+use Rattle.nm_command.specs.declared.ways.Ways.TheVariants.{Both, Sent, Received}
 use Rattle.nm_files.specs.declared.trace_file.TraceFault.{TraceFault}
 use Rattle.nm_files.specs.declared.trace_file.TraceFault.TheVariants.{Sink, Memory as NoMemory}
 use Rattle.nm_words.specs.Input.{IsRefused}
@@ -21,19 +25,31 @@ abbrev pub iface_named : List IfaceValue → Option (List ℕ) → Option ℕ
 iface_named ifaces None = if nat_lt 0 (length ifaces) then Some 0 else None
 iface_named ifaces (Some name) = position (λ i. bytes_eq i.name name) ifaces
 
--- the octets that are asked for, of the topology of this text: the trace file of the interface over the whole run
-pub record IsAnswer (form : Form) (name : Option (List ℕ)) (text octets : List ℕ) : Type 0 where
+-- a record is of a packet that goes one of these ways
+abbrev pub goes : Ways → Dir → Bool
+goes Both dir = true
+goes Sent In = false
+goes Sent Out = true
+goes Received In = true
+goes Received Out = false
+
+-- the records of packets that go these ways, in their order
+abbrev pub going : Ways → List (Record (List ℕ)) → List (Record (List ℕ))
+going ways records = filter (λ r. goes ways r.dir) records
+
+-- the octets that are asked for, of the topology of this text: the trace file of the interface over the whole run, with the packets that go these ways
+pub record IsAnswer (form : Form) (ways : Ways) (name : Option (List ℕ)) (text octets : List ℕ) : Type 0 where
   pub network : TopologyValue
   pub read : topology_of text ≡ Ok network
   pub iface : ℕ
   pub named : iface_named network.ifaces name ≡ Some iface
   pub records : List (Record (List ℕ))
   pub trace : IsTraceBefore network network.stop records
-  pub file : octets ≡ trace_file form iface records
+  pub file : octets ≡ trace_file form iface (going ways records)
 
 -- it is said once it is written
-abbrev pub SaysTrace : Form → Option (List ℕ) → List ℕ → Status → List ℕ → Type 0
-SaysTrace form name text status octets = (status ≡ Done) × IsAnswer form name text octets
+abbrev pub SaysTrace : Form → Ways → Option (List ℕ) → List ℕ → Status → List ℕ → Type 0
+SaysTrace form ways name text status octets = (status ≡ Done) × IsAnswer form ways name text octets
 
 -- why there is no such interface: the text is refused, or its topology has none
 abbrev pub HasNoIface : Option (List ℕ) → List ℕ → Status → Type 0
@@ -42,10 +58,10 @@ HasNoIface name text status = IsRefused text status
 
 -- What each status says. Where memory was refused, it was before the sink took anything, or the sink took a part of the answer.
 module _ {S : Type 0} (taken : S → Option (List ℕ)) (failures : S → ℕ) (told : List ℕ → Option (List ℕ)) (failed_before failed : ℕ) (old new : S) where
-  abbrev pub EndsTrace : Form → List ℕ → Option (List ℕ) → Status → Type 0
-  EndsTrace form topology name status =
-      EndsWord taken failures old new (SaysOfInput (told topology) (SaysTrace form name)) (FailsOfInput (told topology) failed_before failed (HasNoIface name)) status
-      ⊎ ((status ≡ Memory) × ((octets : List ℕ) × SaysOfInput (told topology) (SaysTrace form name) Done octets × WrotePart taken failures old new octets))
+  abbrev pub EndsTrace : Form → Ways → List ℕ → Option (List ℕ) → Status → Type 0
+  EndsTrace form ways topology name status =
+      EndsWord taken failures old new (SaysOfInput (told topology) (SaysTrace form ways name)) (FailsOfInput (told topology) failed_before failed (HasNoIface name)) status
+      ⊎ ((status ≡ Memory) × ((octets : List ℕ) × SaysOfInput (told topology) (SaysTrace form ways name) Done octets × WrotePart taken failures old new octets))
 
 -- the status of a command whose trace file was written, or was not
 abbrev pub outcome_status : Result Unit TraceFault → Status

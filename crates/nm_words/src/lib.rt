@@ -2,7 +2,9 @@
 //! sink.
 #![tactic(auto)]
 
+pub mod all;
 pub mod checking;
+pub mod closed;
 pub mod input;
 pub mod inputs;
 pub mod lines;

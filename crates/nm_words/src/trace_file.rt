@@ -9,8 +9,10 @@ ghost use Rattle.nm_pcap.specs.Writing.{ending, written};
 ghost use Rattle.nm_sim.specs.Trace.{Hands, IsTraceBefore, IsTracing};
 ghost use Rattle.nm_files.specs.Writing.{Writes, WritesOn};
 ghost use Rattle.nm_files.specs.TraceFile.{trace_file, written_at};
+ghost use Rattle.nm_words.specs.Traces.{goes, going};
 
-use nm_base::{IfaceNo, Record, Sink};
+use nm_base::{Dir, IfaceNo, Record, Sink};
+use nm_command::Ways;
 use nm_files::trace_file::{TraceFault, sink_outcome, write_at};
 use nm_pcap::{Form, PcapOut};
 use nm_progress::Progress;
@@ -19,6 +21,40 @@ use nm_sim::trace::every_topology_has_a_trace;
 use nm_topology::Topology;
 use nm_topology::topology::accepted_topologies_are_in_order;
 use std::alloc::{AllocError, Global};
+
+/// What a trace file has: the packets that pass an interface and go these ways.
+#[derive(Clone, Copy)]
+pub struct Traced {
+    pub iface: IfaceNo,
+    pub ways: Ways,
+}
+
+/// Whether packets that pass this way are among these.
+fn goes(ways: Ways, dir: Dir) -> bool
+    ensures { result ≡ goes ways dir }
+{
+    match (ways, dir) {
+        (Ways::Both, _) | (Ways::Sent, Dir::Out) | (Ways::Received, Dir::In) => true,
+        (Ways::Sent, Dir::In) | (Ways::Received, Dir::Out) => false,
+    }
+}
+
+/// Writes a record if the file has it.
+fn write_one<S: Sink>(
+    place: &Traced,
+    record: &Record,
+    file: &mut PcapOut<S>,
+) -> Result<(), TraceFault>
+    requires time { «record».now.time ≤ MAX_TIME }
+    requires sound { file.old.failed ≡ false }
+    ensures { WritesOn S.taken S.failures file.old file.new result
+        (written_at file.old.form place.now.iface (going place.now.ways («record».now ∷ []))) }
+{
+    if !goes(place.ways, record.dir) {
+        return Ok(());
+    }
+    write_at(place.iface, record, file)
+}
 
 /// Writes the trace file of an interface, and gives the sink back. The network runs as the file is
 /// written: each record is let go before the next is made. Now and then it is noted how far the run
@@ -32,16 +68,16 @@ pub fn write_trace_file<S: Sink + Drop>(
     alloc: Global,
     topology: &Topology,
     form: Form,
-    iface: IfaceNo,
+    place: &Traced,
     sink: S,
     progress: &Progress,
 ) -> (Result<(), TraceFault>, S)
     ensures { (records : List (TraceRecord (List ℕ)))
         → IsTraceBefore topology.now topology.now.stop records
-        → Writes S.taken S.failures sink result.1 result.0 (trace_file form iface records) }
+        → Writes S.taken S.failures sink result.1 result.0 (trace_file form place.now.iface (going place.now.ways records)) }
 {
     let mut file = PcapOut::in_form(sink, form);
-    let outcome = write_file(alloc, topology, iface, &mut file, progress);
+    let outcome = write_file(alloc, topology, place, &mut file, progress);
     (outcome, file.into_sink())
 }
 
@@ -49,7 +85,7 @@ pub fn write_trace_file<S: Sink + Drop>(
 fn write_file<S: Sink>(
     alloc: Global,
     topology: &Topology,
-    iface: IfaceNo,
+    place: &Traced,
     file: &mut PcapOut<S>,
     progress: &Progress,
 ) -> Result<(), TraceFault>
@@ -57,10 +93,10 @@ fn write_file<S: Sink>(
     ensures { (records : List (TraceRecord (List ℕ)))
         → IsTraceBefore topology.now topology.now.stop records
         → WritesOn S.taken S.failures file.old file.new result
-        (trace_file file.old.form iface records) }
+        (trace_file file.old.form place.now.iface (going place.now.ways records)) }
 {
     sink_outcome(file.start())?;
-    write_records(alloc, topology, iface, file, progress)?;
+    write_records(alloc, topology, place, file, progress)?;
     sink_outcome(file.end())
 }
 
@@ -68,7 +104,7 @@ fn write_file<S: Sink>(
 fn write_records<S: Sink>(
     alloc: Global,
     topology: &Topology,
-    iface: IfaceNo,
+    place: &Traced,
     file: &mut PcapOut<S>,
     progress: &Progress,
 ) -> Result<(), TraceFault>
@@ -76,12 +112,12 @@ fn write_records<S: Sink>(
     ensures { (records : List (TraceRecord (List ℕ)))
         → IsTraceBefore topology.now topology.now.stop records
         → WritesOn S.taken S.failures file.old file.new result
-        (written_at file.old.form iface records) }
+        (written_at file.old.form place.now.iface (going place.now.ways records)) }
 {
     let Ok(mut tracer) = Tracer::start(alloc, topology) else {
         return Err(TraceFault::Memory);
     };
-    write_all_of(alloc, topology, &mut tracer, iface, file, progress)
+    write_all_of(alloc, topology, &mut tracer, place, file, progress)
 }
 
 /// Runs a network from its start, and writes those of its records that are at the interface.
@@ -89,7 +125,7 @@ fn write_all_of<S: Sink>(
     alloc: Global,
     topology: &Topology,
     tracer: &mut Tracer,
-    iface: IfaceNo,
+    place: &Traced,
     file: &mut PcapOut<S>,
     progress: &Progress,
 ) -> Result<(), TraceFault>
@@ -99,13 +135,13 @@ fn write_all_of<S: Sink>(
     ensures { (records : List (TraceRecord (List ℕ)))
         → IsTraceBefore topology.now topology.now.stop records
         → WritesOn S.taken S.failures file.old file.new result
-        (written_at file.old.form iface records) }
+        (written_at file.old.form place.now.iface (going place.now.ways records)) }
 {
     for number in 0..u64::MAX {
         match next_record(alloc, topology, tracer) {
             Ok(Some(record)) => {
                 progress.note_record(number, record.time);
-                write_at(iface, &record, file)?;
+                write_one(place, &record, file)?;
             }
             Ok(None) => return Ok(()),
             Err(AllocError) => return Err(TraceFault::Memory),
@@ -115,7 +151,7 @@ fn write_all_of<S: Sink>(
 }
 
 /// The next record of the trace, whose time a trace file can say.
-fn next_record(
+pub(crate) fn next_record(
     alloc: Global,
     topology: &Topology,
     tracer: &mut Tracer,

@@ -1,4 +1,4 @@
-//! The words `one` and `onehex`: the trace file of one interface.
+//! The words `one`, `onehex`, `sent` and `received`: the trace file of one interface.
 
 ghost use Rattle.std.specs.Prelude.{◌≡◌, ◌<◌, IfErr, IfOk, IfSome, Some};
 ghost use Rattle.std.specs.Prelude.{length, option_map, position};
@@ -10,9 +10,9 @@ ghost use Rattle.nm_words.specs.Traces.{EndsTrace, HasNoIface, iface_named, outc
 use crate::input::NamedInputs;
 use crate::inputs::Inputs;
 use crate::reading::read_topology;
-use crate::trace_file::write_trace_file;
+use crate::trace_file::{Traced, write_trace_file};
 use nm_base::{IfaceNo, Sink};
-use nm_command::{Form, Status};
+use nm_command::{Form, Status, Ways};
 use nm_files::trace_file::TraceFault;
 use nm_progress::Progress;
 use nm_sim::trace::every_topology_has_a_trace;
@@ -21,17 +21,18 @@ use nm_topology::parts::Iface;
 use nm_topology::topology::accepted_topologies_are_in_order;
 use std::alloc::Global;
 
-/// What the words of `one` and `onehex` name.
+/// What the words of a trace file name.
 #[derive(Clone, Copy)]
 pub struct TraceWords<'a> {
     pub form: Form,
+    pub ways: Ways,
     pub topology: &'a str,
     /// `None` is interface 0.
     pub iface: Option<&'a str>,
 }
 
-/// Writes the trace file of an interface in a form: of the one that has this name, or of interface
-/// 0 where there is no name.
+/// Writes the trace file of an interface in a form, with the packets that go these ways: of the one
+/// that has this name, or of interface 0 where there is no name.
 pub fn write_trace<I: Inputs, O: Sink + Drop>(
     alloc: Global,
     words: &TraceWords<'_>,
@@ -42,7 +43,7 @@ pub fn write_trace<I: Inputs, O: Sink + Drop>(
     ensures { EndsTrace O.taken O.failures
         (text_of I.standard_text I.file_text inputs.old.inputs)
         inputs.old.failures inputs.new.failures
-        out result.1 words.now.form words.now.topology.now
+        out result.1 words.now.form words.now.ways words.now.topology.now
         (option_map (λ n. n.now) words.now.iface) result.0 }
 {
     let (network, iface) = match read_iface(alloc, inputs, words.topology, words.iface) {
@@ -51,7 +52,11 @@ pub fn write_trace<I: Inputs, O: Sink + Drop>(
     };
     every_topology_has_a_trace(&network); // law: there is an answer, also where it is not written
     progress.begin(network.stop());
-    let (outcome, out) = write_trace_file(alloc, &network, words.form, iface, out, progress);
+    let place = Traced {
+        iface,
+        ways: words.ways,
+    };
+    let (outcome, out) = write_trace_file(alloc, &network, words.form, &place, out, progress);
     (status_of(outcome), out)
 }
 
@@ -99,7 +104,7 @@ fn find_iface(topology: &Topology, name: Option<&str>) -> Option<IfaceNo>
 }
 
 /// The interface of this name.
-fn named_iface(topology: &Topology, name: &str) -> Option<IfaceNo>
+pub(crate) fn named_iface(topology: &Topology, name: &str) -> Option<IfaceNo>
     ensures { result ≡ position (λ i. bytes_eq i.name name.now) topology.now.ifaces }
 {
     accepted_topologies_are_in_order(topology); // law: interfaces have numbers of 32 bits

@@ -4,10 +4,11 @@ ghost use Rattle.std.specs.Prelude.{None};
 
 use crate::noted::Noted;
 use nm_base::StdSink;
-use nm_files::Outputs;
+use nm_files::{OutputFault, Outputs};
 use nm_program::Inputs;
+use std::alloc::{AllocError, Global};
 use std::fs::File;
-use std::io::{BufWriter, StdinLock};
+use std::io::{BufWriter, ErrorKind, StdinLock};
 use std::{fs, io};
 
 /// Standard input and the files of the host. What they have is not told.
@@ -39,33 +40,93 @@ impl<'a> Inputs for HostInputs<'a> {
     }
 }
 
-/// The files of the host that are made or replaced. What they have is not told.
+/// What stands behind the name of a file until it is whole.
+const PART: &str = ".part";
+
+/// The files of the host that are made or replaced: each is written under its name with `.part`
+/// behind it, and renamed once it is whole. What they have is not told.
 #[derive(Drop)]
 pub struct HostOutputs<'a> {
     pub runtime: &'a HostRuntime,
     pub noted: &'a Noted,
 }
 
+/// A file of the host that is closed and does not have its name yet.
+#[derive(Drop)]
+pub struct ClosedFile {
+    part: String,
+    name: String,
+}
+
+/// The name of a file until it is whole.
+fn part_of(alloc: Global, name: &str) -> Result<String, AllocError> {
+    let mut part = String::from_str(alloc, name)?;
+    part.push_str(PART)?;
+    Ok(part)
+}
+
+/// What an error of the system is to the program.
+fn fault_of(error: &io::Error) -> OutputFault {
+    match error.kind() {
+        ErrorKind::OutOfMemory => OutputFault::Memory,
+        _ => OutputFault::Failed,
+    }
+}
+
+/// A closed file of this name, whose part is written.
+fn closed_file(alloc: Global, name: &str) -> Result<ClosedFile, AllocError> {
+    Ok(ClosedFile {
+        part: part_of(alloc, name)?,
+        name: String::from_str(alloc, name)?,
+    })
+}
+
+impl<'a> HostOutputs<'a> {
+    /// What an error of the system at a file is, which is noted.
+    fn noted(&self, name: &str, error: &io::Error) -> OutputFault {
+        self.noted.file(self.runtime.alloc(), name, error);
+        fault_of(error)
+    }
+}
+
 impl<'a> Outputs for HostOutputs<'a> {
     type File = StdSink<BufWriter<File>>;
 
+    type Closed = ClosedFile;
+
     ghost made = { λ _. None };
 
-    fn create(&mut self, name: &str) -> Option<StdSink<BufWriter<File>>> {
-        match fs::create(self.runtime, name) {
-            Ok(file) => {
-                let writer = BufWriter::new(self.runtime.alloc(), file).ok()?;
-                Some(StdSink::new(writer))
-            }
-            Err(error) => {
-                self.noted.file(self.runtime.alloc(), name, &error);
-                None
-            }
+    ghost closed = { λ _. None };
+
+    fn create(&mut self, name: &str) -> Result<StdSink<BufWriter<File>>, OutputFault> {
+        let Ok(part) = part_of(self.runtime.alloc(), name) else {
+            return Err(OutputFault::Memory);
+        };
+        match fs::create(self.runtime, part.as_str()) {
+            Ok(file) => match BufWriter::new(self.runtime.alloc(), file) {
+                Ok(writer) => Ok(StdSink::new(writer)),
+                Err(_) => Err(OutputFault::Memory),
+            },
+            Err(error) => Err(self.noted(part.as_str(), &error)),
         }
     }
 
-    fn close(&mut self, _name: &str, file: StdSink<BufWriter<File>>) -> bool {
+    fn close(
+        &mut self,
+        name: &str,
+        file: StdSink<BufWriter<File>>,
+    ) -> Result<ClosedFile, OutputFault> {
         let mut file = file;
-        file.flush().is_ok()
+        if let Err(error) = file.flush() {
+            return Err(fault_of(&error));
+        }
+        closed_file(self.runtime.alloc(), name).or(Err(OutputFault::Memory))
+    }
+
+    fn place(&mut self, file: ClosedFile) -> Result<(), OutputFault> {
+        match fs::rename(self.runtime, file.part.as_str(), file.name.as_str()) {
+            Ok(()) => Ok(()),
+            Err(error) => Err(self.noted(file.name.as_str(), &error)),
+        }
     }
 }

@@ -72,6 +72,7 @@ pub fn run_given<
         alloc,
         file_octets: MAX_FILE_OCTETS,
         room: given.makes,
+        places: given.makes,
         files: Vec::new(alloc),
     };
     let out = MemSink::new(alloc, given.room)?;

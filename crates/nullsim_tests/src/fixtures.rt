@@ -48,6 +48,7 @@ pub fn run_line<
         alloc,
         file_octets: 1_000,
         room,
+        places: room,
         files: Vec::new(alloc),
     };
     let out = MemSink::new(alloc, 1_000)?;

@@ -22,6 +22,7 @@ fn files_of(alloc: Global, room: usize, file_octets: usize) -> MemOutputs {
         alloc,
         file_octets,
         room,
+        places: room,
         files: Vec::new(alloc),
     }
 }

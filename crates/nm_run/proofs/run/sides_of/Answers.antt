@@ -1,4 +1,4 @@
-use Rattle.std.proofs.Common.{◌≡◌, ◌∷◌, [], ◌++◌, All, sym, subst, rules}
+use Rattle.std.proofs.Common.{◌≡◌, ◌∷◌, [], ◌++◌, All, sym, ◌∙◌, subst, rules}
 use Rattle.std.proofs.lemmas.List.Elements.{All-push}
 use Rattle.nm_files.specs.Files.{IsSound}
 use Rattle.nm_shared.specs.Board.{IsOwnerOf}
@@ -14,4 +14,5 @@ loop-index-preserved g c =
           (All-push (λ s. All (IsOwnerOf board) s.holdings.seats.items × All IsSound s.holdings.files.files.items) c.loop-index.sides.items c.in_ok-side_of.field-0
           c.loop-index.invariant.sides
           (subst (λ z. All (IsOwnerOf board) z.items) (sym c.in_ok-side_of.ensures.seats) c.in_ok-own.ensures.own, c.in_ok-side_of.ensures.files));
+      same = c.in_ok-side_of.ensures.same ∙ c.loop-index.invariant.same;
     }

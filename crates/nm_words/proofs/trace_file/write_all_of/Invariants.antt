@@ -4,6 +4,7 @@ use Rattle.nm_events.specs.Held.{pending_of}
 use Rattle.nm_sim.specs.Trace.{IsTraceBefore, IsTracing}
 use Rattle.nm_files.specs.Writing.{WroteOn}
 use Rattle.nm_files.specs.TraceFile.{written_at}
+use Rattle.nm_words.specs.Traces.{going}
 use Rattle.nm_words.proofs.trace_file.write_all_of.Given as goal
 
 abbrev pub invariant-loop-number : goal.invariant-loop-number
@@ -11,5 +12,5 @@ invariant-loop-number g l = record {
   tracing : IsTracing pending_of l.topology l.tracer;
   sound : l.file.failed ≡ false;
   front : (records : List (Record (List ℕ))) → IsTraceBefore l.topology l.topology.stop records
-      → WroteOn g.S.Sink.taken g.S.Sink.failures l.initial.file l.file (written_at l.initial.file.form l.iface (take l.tracer.records.handed records));
+      → WroteOn g.S.Sink.taken g.S.Sink.failures l.initial.file l.file (written_at l.initial.file.form l.place.iface (going l.place.ways (take l.tracer.records.handed records)));
 }

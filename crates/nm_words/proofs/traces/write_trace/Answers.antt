@@ -12,8 +12,8 @@ returns g c =
     let there = c.every_topology_has_a_trace.ensures.there network.stop in
     let told = text_of g.I.Inputs.standard_text g.I.Inputs.file_text c.args.inputs.now.inputs in
     let name = option_map (λ n. n.now) c.args.words.now.iface in
-    subst (EndsTrace g.O.Sink.taken g.O.Sink.failures told _ _ _ _ c.args.words.now.form c.args.words.now.topology.now name) (sym c.status_of.ensures)
-    (ends_written g.O.Sink.taken g.O.Sink.failures told _ _ _ _ c.args.words.now.form c.args.words.now.topology.now name read.0.0 _ _ read.0.1
+    subst (EndsTrace g.O.Sink.taken g.O.Sink.failures told _ _ _ _ c.args.words.now.form c.args.words.now.ways c.args.words.now.topology.now name) (sym c.status_of.ensures)
+    (ends_written g.O.Sink.taken g.O.Sink.failures told _ _ _ _ c.args.words.now.form c.args.words.now.ways c.args.words.now.topology.now name read.0.0 _ _ read.0.1
     (record {
       network = network;
       read = read.0.2;

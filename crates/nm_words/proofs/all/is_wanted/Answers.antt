@@ -1,0 +1,10 @@
+use Rattle.std.proofs.Common.{◌≡◌, ◌||◌, is_some, length, nat_eq, position, string_bytes, ◌∙◌, rules}
+use Rattle.std.specs.Str.{bytes_eq}
+use Rattle.nm_words.proofs.Held.{wanted_by}
+use Rattle.nm_words.proofs.all.is_wanted.Goals as goal
+
+pub returns-then-is_empty : goal.returns-then-is_empty
+returns-then-is_empty c = search rules ∙ wanted_by (λ n. string_bytes n) c.args.names.now c.args.iface.now
+
+pub returns-else-is_empty : goal.returns-else-is_empty
+returns-else-is_empty c = search rules ∙ wanted_by (λ n. string_bytes n) c.args.names.now c.args.iface.now

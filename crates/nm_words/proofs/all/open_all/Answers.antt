@@ -1,0 +1,33 @@
+use Rattle.std.proofs.Common.{◌≡◌, ◌<◌, ◌∷◌, [], length, length-append, map, string_bytes, refl, ◌∙◌, ap, subst, arith, rules}
+use Rattle.nm_words.specs.All.{is_wanted}
+use Rattle.nm_words.specs.Held.{HasOpened}
+use Rattle.nm_words.proofs.InterfaceLines.{element}
+use Rattle.nm_words.proofs.Held.{none_held, one_held}
+use Rattle.nm_words.proofs.all.open_all.Goals as goal
+
+pub loop-number-init : goal.loop-number-init
+loop-number-init g c = record {
+  within = omega arith;
+  count = ap length c.new-files.ensures;
+  sound = search rules;
+  held = none_held g.F.File.Sink.taken (g.F.Outputs.made c.args.outputs.now) c.args.wanted.now.network.now (map (λ n. string_bytes n) c.args.wanted.now.names.now) [] c.new-files.result.files.items c.new-files.ensures;
+  same = refl;
+}
+
+pub loop-number-preserved : goal.loop-number-preserved
+loop-number-preserved g c =
+    let n = c.loop-number.number in
+    let t = c.args.wanted.now.network.now in
+    let names = map (λ n. string_bytes n) c.args.wanted.now.names.now in
+    let made = g.F.Outputs.made c.args.outputs.now in
+    let files = c.loop-number.files.files.items in
+    let low : n < length t.ifaces = search rules in
+    let is = element t.ifaces n low in
+    let opened = subst (λ m. HasOpened g.F.File.Sink.taken m (is_wanted names is.0) files c.open_wanted.new.files.files.items) c.loop-number.invariant.same (c.in_ok-open_wanted.ensures.opened is.0 is.1) in
+    record {
+      within = omega (arith, low);
+      count = let long = ap length opened.1 ∙ length-append files (opened.0 ∷ []) in let was = c.loop-number.invariant.count in omega (arith, long, was);
+      sound = c.in_ok-open_wanted.ensures.sound;
+      held = one_held g.F.File.Sink.taken made t names files c.open_wanted.new.files.files.items n is.0 c.loop-number.invariant.count is.1 c.loop-number.invariant.held opened;
+      same = c.in_ok-open_wanted.ensures.same ∙ c.loop-number.invariant.same;
+    }

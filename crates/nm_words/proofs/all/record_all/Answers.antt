@@ -1,0 +1,36 @@
+use Rattle.std.proofs.Common.{◌≡◌, ℕ, List, Option, Ok, All, take, ap, sym, ◌∙◌, subst, arith, rules}
+use Rattle.std.proofs.lemmas.List.{take_all}
+use Rattle.nm_base.specs.declared.record.Record.{Record}
+use Rattle.nm_files.specs.Files.{FilesTook}
+use Rattle.nm_files.proofs.Files.{next_record, no_records}
+use Rattle.nm_sim.specs.Trace.{Hands}
+use Rattle.nm_words.proofs.all.record_all.Goals as goal
+
+pub loop-number-init : goal.loop-number-init
+loop-number-init g c = record {
+  tracing = c.requires.tracing;
+  sound = c.requires.sound;
+  took = λ records trace. subst (λ k. FilesTook g.S.Sink.taken g.S.Sink.failures (take k records) c.args.files.now.files.items c.args.files.now.files.items) (sym c.requires.none)
+      (no_records g.S.Sink.taken g.S.Sink.failures c.args.files.now.files.items);
+}
+
+pub loop-number-preserved : goal.loop-number-preserved
+loop-number-preserved g c =
+    let n = c.loop-number.tracer.records.handed in
+    let m = c.next_record.new.tracer.records.handed in
+    record {
+      tracing = c.next_record.ensures.tracing;
+      sound = c.in_ok-put_one-in-Ok-Some.ensures.sound;
+      took = λ records trace.
+          let handed = subst (λ (o : Option (Record (List ℕ))). Hands records n (Ok o) m) c.in-Ok-Some.field-0-is (c.in-Ok-Some.ensures.next records trace) in
+          subst (λ k. FilesTook g.S.Sink.taken g.S.Sink.failures (take k records) c.args.files.now.files.items c.put_one.new.files.files.items) (sym handed.1)
+          (next_record g.S.Sink.taken g.S.Sink.failures records n c.in-Ok-Some.record c.args.files.now.files.items c.loop-number.files.files.items c.put_one.new.files.files.items handed.0
+          (c.loop-number.invariant.took records trace) c.in_ok-put_one-in-Ok-Some.ensures.took);
+    }
+
+pub returns-in-Ok-None-clause-took : goal.returns-in-Ok-None-clause-took
+returns-in-Ok-None-clause-took g c = λ records trace.
+    let n = c.loop-number.tracer.records.handed in
+    let handed = subst (λ (o : Option (Record (List ℕ))). Hands records n (Ok o) c.next_record.new.tracer.records.handed) c.in-Ok-None.field-0-is (c.in-Ok-None.ensures.next records trace) in
+    let all = handed.0 in
+    subst (λ l. FilesTook g.S.Sink.taken g.S.Sink.failures l c.args.files.now.files.items c.loop-number.files.files.items) (take_all n records (omega (arith, all))) (c.loop-number.invariant.took records trace)
