@@ -117,8 +117,8 @@ impl<'a> Outputs for HostOutputs<'a> {
         file: StdSink<BufWriter<File>>,
     ) -> Result<ClosedFile, OutputFault> {
         let mut file = file;
-        if let Err(error) = file.flush() {
-            return Err(fault_of(&error));
+        if file.flush().is_err() {
+            return Err(OutputFault::Failed);
         }
         closed_file(self.runtime.alloc(), name).or(Err(OutputFault::Memory))
     }
