@@ -1,23 +1,43 @@
 -- Traffic as records come, one after another.
-use Rattle.std.proofs.Common.{◌≡◌, ℕ, zero, suc, ◌+◌, ◌==◌, ◌&&◌, Bool, true, false, not, cond, List, [], ◌∷◌, ◌++◌, take, length, replicate, sum_by, Some, slice_get, refl, sym, ap, ◌∙◌, arith, ⊎_elim, length-append, option_map}
+use Rattle.std.proofs.Common.{◌≡◌, ℕ, zero, suc, ◌+◌, ◌≤◌, ◌==◌, ◌&&◌, Bool, true, false, not, cond, List, [], ◌∷◌, ◌++◌, take, length, replicate, sum_by, Option, Some, None, slice_get, refl, sym, ap, subst, ◌∙◌, arith, ⊎_elim, length-append, option_map}
+use Rattle.std.proofs.Math.Seq.{take-append_seam, take-length}
 use Rattle.std.proofs.lemmas.Bool.Decides.{nat_tests}
 use Rattle.std.proofs.lemmas.List.{length-replicate}
 use Rattle.std.proofs.lemmas.List.Sums.{sum_by_push}
 use Rattle.std.proofs.lemmas.Option.{slice_get_cases, slice_get_past}
 use Rattle.nm_base.specs.Count.{saturated}
+use Rattle.nm_base.specs.declared.event.Event.{Event}
+use Rattle.nm_base.specs.declared.key.Key.{Key}
 use Rattle.nm_base.specs.declared.record.Record.{Record}
+use Rattle.nm_events.specs.Held.{Held, pending_of}
+use Rattle.nm_forward.specs.State.{NodeStateValue}
 use Rattle.nm_topology.specs.TopologyValue.{TopologyValue}
+use Rattle.nm_model.specs.EventList.{least}
 use Rattle.nm_model.specs.Lists.{keep_where}
+use Rattle.nm_model.specs.Network.{Net}
+use Rattle.nm_model.specs.Run.{State, step, step_at}
 use Rattle.nm_model.proofs.ListLemmas.{kept-append, not_some, some_inj}
-use Rattle.nm_report.specs.declared.amounts.Amount.{Amount}
+use Rattle.nm_sim.specs.Network.{net_of}
+use Rattle.nm_sim.specs.Part.{PartValue, Represents}
 use Rattle.nm_report.specs.declared.amounts.IfaceTraffic.{IfaceTraffic}
 use Rattle.nm_report.specs.Amounts.{AreTraffic, amount_after, amount_of, came_to, is_in, traffic_after, traffic_of, went_from}
+use Rattle.nm_report.specs.Measured.{IsCounted}
 
 -- one more of a list
-pub take_one_more : {X : Type 0} (xs : List X) (i : ℕ) (x : X) → slice_get xs i ≡ Some x → take (i + 1) xs ≡ take i xs ++ x ∷ []
+take_one_more : {X : Type 0} (xs : List X) (i : ℕ) (x : X) → slice_get xs i ≡ Some x → take (i + 1) xs ≡ take i xs ++ x ∷ []
 take_one_more [] i x h = absurd cc
 take_one_more (y ∷ xs) zero x h = ap (λ z. z ∷ []) (some_inj y x h)
 take_one_more (y ∷ xs) (suc i) x h = let e : suc i + 1 ≡ suc (i + 1) = omega arith in ap (λ n. take n (y ∷ xs)) e ∙ ap (λ l. y ∷ l) (take_one_more xs i x h)
+
+past_the_end : {X : Type 0} (xs : List X) (i : ℕ) → slice_get xs i ≡ None → length xs ≤ i
+past_the_end [] i h = omega arith
+past_the_end (x ∷ xs) zero h = let e : Some x ≡ None = h in cc
+past_the_end (x ∷ xs) (suc i) h = let l = past_the_end xs i h in omega (arith, l)
+
+-- what was recorded before an event stays at the front
+stays_in_step : {P N : Type 0} (net : Net P N) (s : State P N) (o : Option (Key × Event P)) → take (length s.records) (step_at net (λ x. true) s o).records ≡ s.records
+stays_in_step net s None = take-length s.records
+stays_in_step net s (Some e) = take-append_seam s.records _
 
 twice : (n m : ℕ) → saturated (n + m) ≡ saturated (saturated n + m)
 twice n m = omega arith
@@ -80,6 +100,40 @@ module _ (t : TopologyValue) where
         ∙ ap (λ x. cond (i == r.iface) (traffic_after x r) x) (h.each i g.0 g.2) ∙ sym (traffic_more i records r (i == r.iface) refl))
         (λ g. absurd (not_some y (sym (each i ∙ ap (option_map (λ x. cond (i == r.iface) (traffic_after x r) x)) (slice_get_past old i g.0)) ∙ e)))
         ((slice_get_cases old i).1);
+  }
+
+  -- one record more is handed out and counted
+  pub counted_on : (s : State (List ℕ) NodeStateValue) (p q : PartValue Held) (old new : List IfaceTraffic) (r : Record (List ℕ)) → IsCounted t s p old
+      → Represents pending_of t None q s → slice_get s.records p.records.handed ≡ Some r → q.records.handed ≡ p.records.handed + 1 → length new ≡ length old
+      → ((i : ℕ) → slice_get new i ≡ option_map (λ x. cond (i == r.iface) (traffic_after x r) x) (slice_get old i)) → IsCounted t s q new
+  counted_on s p q old new r h represents got handed count each = record {
+    represents = represents;
+    counted = subst (λ l. AreTraffic t new l) (sym (ap (λ n. take n s.records) handed ∙ take_one_more s.records p.records.handed r got))
+        (traffic_on old new (take p.records.handed s.records) r count each h.counted);
+  }
+
+  -- no record is left: all were handed out and counted
+  pub counted_all : (s : State (List ℕ) NodeStateValue) (p q : PartValue Held) (all : List IfaceTraffic) → IsCounted t s p all
+      → Represents pending_of t None q s → slice_get s.records p.records.handed ≡ None → q.records.handed ≡ p.records.handed
+      → IsCounted t s q all × (q.records.handed ≡ length s.records)
+  counted_all s p q all h represents got handed = (
+    record { represents = represents; counted = subst (λ n. AreTraffic t all (take n s.records)) (sym handed) h.counted },
+    let past = past_the_end s.records p.records.handed got in let few = h.represents.records.few in omega (arith, past, few, handed),
+  )
+
+  pub counted_whole : (s : State (List ℕ) NodeStateValue) (p : PartValue Held) (all : List IfaceTraffic) → IsCounted t s p all
+      → p.records.handed ≡ length s.records → AreTraffic t all s.records
+  counted_whole s p all h whole = subst (λ l. AreTraffic t all l) (ap (λ n. take n s.records) whole ∙ take-length s.records) h.counted
+
+  -- one event more, whose records are not handed out yet
+  pub counted_step : (s : State (List ℕ) NodeStateValue) (p q : PartValue Held) (all : List IfaceTraffic) → IsCounted t s p all
+      → p.records.handed ≡ length s.records → Represents pending_of t None q (step (net_of t) (λ x. true) s) → q.records.handed ≡ p.records.handed
+      → IsCounted t (step (net_of t) (λ x. true) s) q all
+  counted_step s p q all h whole represents handed = record {
+    represents = represents;
+    counted = subst (λ l. AreTraffic t all l)
+        (sym (ap (λ n. take n (step (net_of t) (λ x. true) s).records) (handed ∙ whole) ∙ stays_in_step (net_of t) s (least s.pending)))
+        (counted_whole s p all h whole);
   }
 
   -- before any record

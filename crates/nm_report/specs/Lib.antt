@@ -1,4 +1,5 @@
 pub mod Amounts
 pub mod Flows
+pub mod Delays
 pub mod Measured
 pub mod Lines

@@ -1,13 +1,17 @@
 //! How many packets came to an interface and how many it transmitted, with their octets.
 
-ghost use Rattle.std.specs.Prelude.{◌≡◌, ◌≤◌, ◌^◌, ◌==◌, IfOk, List, ℕ, if◌then◌else◌, length, slice_get};
+ghost use Rattle.std.specs.Prelude.{◌≡◌, ◌≤◌, ◌^◌, ◌==◌, IfOk, OnOk, List, [], ℕ};
+ghost use Rattle.std.specs.Prelude.{if◌then◌else◌, length, slice_get};
 ghost use Rattle.std.specs.Option.{option_map};
-ghost use Rattle.nm_base.specs.declared.record.Record.{Record as TraceRecord};
+ghost use Rattle.nm_forward.specs.State.{NodeStateValue};
+ghost use Rattle.nm_model.specs.Run.{State};
 ghost use Rattle.nm_report.specs.Amounts.{AreTraffic, amount_after, traffic_after};
-ghost use Rattle.nm_sim.specs.Trace.{IsTraceBefore};
+ghost use Rattle.nm_report.specs.Measured.{IsCounted};
+ghost use Rattle.nm_topology.specs.TopologyValue.{TopologyValue};
 
 use nm_base::{Dir, Record};
-use nm_sim::Tracer;
+use nm_events::SortedList;
+use nm_sim::Part;
 use nm_topology::Topology;
 use std::alloc::{AllocError, Global};
 
@@ -72,27 +76,41 @@ fn count(all: &mut Vec<IfaceTraffic>, record: &Record)
     }
 }
 
-/// The traffic of each interface over the whole run of a network by one event list, by number.
-///
-/// # Errors
-///
-/// Where memory was refused.
-pub fn traffic_of_all(alloc: Global, topology: &Topology) -> Result<Vec<IfaceTraffic>, AllocError>
-    ensures { IfOk result (λ all. (records : List (TraceRecord (List ℕ)))
-        → IsTraceBefore topology.now topology.now.stop records
-        → AreTraffic topology.now all.items records) }
+/// That no interface had any traffic yet, by number.
+pub(crate) fn no_traffic(
+    alloc: Global,
+    topology: &Topology,
+) -> Result<Vec<IfaceTraffic>, AllocError>
+    ensures { IfOk result (λ all. AreTraffic topology.now all.items []) }
 {
     let none = IfaceTraffic {
         came: NONE,
         went: NONE,
     };
-    let mut all = vec![in alloc; none; topology.ifaces().len()]?;
-    let mut tracer = Tracer::start(alloc, topology)?;
-    for _ in 0..u64::MAX {
-        let Some(record) = tracer.next(alloc, topology)? else {
-            return Ok(all);
+    vec![in alloc; none; topology.ifaces().len()]
+}
+
+/// Counts the records of a part of the trace that it still has, and lets go of them: how many there
+/// were.
+///
+/// # Errors
+///
+/// After 2^64 - 1 records.
+pub(crate) fn count_all(
+    part: &mut Part<SortedList>,
+    all: &mut Vec<IfaceTraffic>,
+) -> Result<u64, AllocError>
+    requires { (t : TopologyValue) × (s : State (List ℕ) NodeStateValue)
+        × IsCounted t s part.old all.old.items }
+    ensures { OnOk result ((t : TopologyValue) (s : State (List ℕ) NodeStateValue)
+        → IsCounted t s part.old all.old.items → IsCounted t s part.new all.new.items
+        × (part.new.records.handed ≡ length s.records)) }
+{
+    for records in 0..u64::MAX {
+        let Some(record) = part.hand_out() else {
+            return Ok(records);
         };
-        count(&mut all, &record);
+        count(all, &record);
     }
     Err(AllocError)
 }

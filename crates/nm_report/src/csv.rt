@@ -4,9 +4,13 @@ ghost use Rattle.std.specs.Prelude.{IfOk, OnOk};
 ghost use Rattle.nm_report.specs.Lines.{EndsLine};
 
 use crate::amounts::IfaceTraffic;
+use crate::delays::Delays;
 use crate::flow_counts::FlowCounts;
+use crate::flow_times::FlowTimes;
+use crate::iface_table::traffic_at;
 use crate::measured::Measured;
-use crate::report::{flow_of, traffic_at};
+use crate::source_rows::push_source_rows;
+use crate::source_tables::flow_of;
 use crate::table::end_line;
 use nm_base::{IfaceNo, NodeNo, SourceNo, push_number, push_text};
 use nm_forward::Counter;
@@ -128,7 +132,12 @@ fn push_source_value(
 }
 
 /// The values that each source has.
-fn push_flow(text: &mut Vec<u8>, source: u32, flow: &FlowCounts) -> Result<(), AllocError>
+fn push_flow(
+    text: &mut Vec<u8>,
+    source: u32,
+    flow: &FlowCounts,
+    times: &FlowTimes,
+) -> Result<(), AllocError>
     requires { EndsLine text.old.items }
     ensures { OnOk result (EndsLine text.new.items) }
 {
@@ -139,9 +148,9 @@ fn push_flow(text: &mut Vec<u8>, source: u32, flow: &FlowCounts) -> Result<(), A
         ("dropped", flow.dropped),
         ("discarded", flow.discarded),
         ("under_way", flow.under_way),
-        ("least_delay_nanoseconds", flow.delays.least),
-        ("mean_delay_nanoseconds", flow.delays.mean()),
-        ("greatest_delay_nanoseconds", flow.delays.greatest),
+        ("least_delay_nanoseconds", times.delays.least()),
+        ("mean_delay_nanoseconds", times.delays.mean()),
+        ("greatest_delay_nanoseconds", times.delays.greatest()),
     ] {
         push_source_value(text, source, measure, value)?;
     }
@@ -149,17 +158,21 @@ fn push_flow(text: &mut Vec<u8>, source: u32, flow: &FlowCounts) -> Result<(), A
 }
 
 /// The values of a source to whose packets there may be echo replies.
-fn push_replies(text: &mut Vec<u8>, source: u32, flow: &FlowCounts) -> Result<(), AllocError>
+fn push_replies(
+    text: &mut Vec<u8>,
+    source: u32,
+    astray: u64,
+    trips: &Delays,
+) -> Result<(), AllocError>
     requires { EndsLine text.old.items }
     ensures { OnOk result (EndsLine text.new.items) }
 {
-    let trips = flow.round_trips;
     for (measure, value) in [
         ("answered", trips.count()),
-        ("astray", flow.astray),
-        ("least_round_trip_nanoseconds", trips.least),
+        ("astray", astray),
+        ("least_round_trip_nanoseconds", trips.least()),
         ("mean_round_trip_nanoseconds", trips.mean()),
-        ("greatest_round_trip_nanoseconds", trips.greatest),
+        ("greatest_round_trip_nanoseconds", trips.greatest()),
     ] {
         push_source_value(text, source, measure, value)?;
     }
@@ -177,10 +190,15 @@ fn push_source(
     ensures { OnOk result (EndsLine text.new.items) }
 {
     let flow = flow_of(measured, SourceNo::new(number));
-    push_flow(text, number, &flow)?;
+    let Some(times) = measured.times(SourceNo::new(number)) else {
+        return Ok(());
+    };
+    push_flow(text, number, &flow, times)?;
     match &source.traffic {
         Traffic::Cbr(_) => Ok(()),
-        Traffic::Echo(_) | Traffic::Raw(_) => push_replies(text, number, &flow),
+        Traffic::Echo(_) | Traffic::Raw(_) => {
+            push_replies(text, number, flow.astray, &times.round_trips)
+        }
     }
 }
 
@@ -201,8 +219,8 @@ fn push_sources(
     Ok(())
 }
 
-/// A line for each value: what has it, its name, which measure it is, and the value. A source's name
-/// is its number.
+/// A line for each value: what has it, its name, which measure it is, and the value. A source's
+/// name is its number. Then, after an empty line, a row for each source with all its measures.
 ///
 /// # Errors
 ///
@@ -220,5 +238,7 @@ pub fn csv_text(
     push_nodes(&mut text, topology, measured)?;
     push_ifaces(&mut text, topology, measured)?;
     push_sources(&mut text, topology, measured)?;
+    end_line(&mut text)?;
+    push_source_rows(&mut text, topology, measured)?;
     Ok(text)
 }

@@ -3,9 +3,8 @@
 ghost use Rattle.std.specs.Prelude.{IfOk};
 ghost use Rattle.nm_report.specs.Lines.{EndsLine};
 
-use crate::measured::Measured;
 use crate::table::end_line;
-use crate::units::{push_percentage, push_rate, push_time, thousandths};
+use crate::units::{push_rate, push_time};
 use nm_base::{IfaceNo, push_number, push_text};
 use nm_topology::parts::Link;
 use nm_topology::{NodeKind, Topology};
@@ -38,7 +37,7 @@ fn push_nodes(text: &mut Vec<u8>, topology: &Topology, partition: u32) -> Result
 }
 
 /// Appends the partitions as clusters.
-fn push_partitions(text: &mut Vec<u8>, topology: &Topology) -> Result<(), AllocError> {
+pub(crate) fn push_partitions(text: &mut Vec<u8>, topology: &Topology) -> Result<(), AllocError> {
     for partition in 0..topology.partitions() {
         push_text(text, b"  subgraph cluster_")?;
         push_number(text, u64::from(partition))?;
@@ -52,7 +51,11 @@ fn push_partitions(text: &mut Vec<u8>, topology: &Topology) -> Result<(), AllocE
 }
 
 /// Appends the name of the node of an interface.
-fn push_owner(text: &mut Vec<u8>, topology: &Topology, iface: IfaceNo) -> Result<(), AllocError> {
+pub(crate) fn push_owner(
+    text: &mut Vec<u8>,
+    topology: &Topology,
+    iface: IfaceNo,
+) -> Result<(), AllocError> {
     let Some(owner) = topology.ifaces().get(iface.index()) else {
         return Ok(());
     };
@@ -76,57 +79,15 @@ fn push_end(
     }
 }
 
-/// Appends how a link is coloured: from green where it is never used to red where it always is, and
-/// how many packets were dropped at its ends.
-fn push_load(
-    text: &mut Vec<u8>,
-    topology: &Topology,
-    measured: &Measured,
-    link: Link,
-) -> Result<(), AllocError> {
-    let stop = topology.stop().nanoseconds();
-    let busy = measured.busy(link.a).max(measured.busy(link.b));
-    let share = thousandths(busy, stop);
-    push_text(text, b"\\n")?;
-    push_percentage(text, share)?;
-    push_text(text, b" busy")?;
-    let dropped = measured
-        .dropped(link.a)
-        .unwrap_or(0)
-        .saturating_add(measured.dropped(link.b).unwrap_or(0));
-    if dropped > 0 {
-        push_text(text, b"\\n")?;
-        push_number(text, dropped)?;
-        push_text(text, b" dropped")?;
-    }
-    push_text(text, b"\", penwidth=3, color=\"0.")?;
-    push_hue(text, share)?;
-    push_text(text, b" 1.0 0.8\"")?;
-    if dropped > 0 {
-        push_text(text, b", style=dashed, fontcolor=red")?;
-    }
-    Ok(())
+/// Appends the rate and the delay of a link.
+pub(crate) fn push_quality(text: &mut Vec<u8>, link: Link) -> Result<(), AllocError> {
+    push_rate(text, link.rate)?;
+    push_text(text, b", ")?;
+    push_time(text, link.delay)
 }
 
-/// Appends the decimals of a hue: that of green for 0 thousandths, that of red for 1,000.
-fn push_hue(text: &mut Vec<u8>, share: u64) -> Result<(), AllocError> {
-    let hue = 1_000u64.saturating_sub(share) / 3;
-    if hue < 100 {
-        push_text(text, b"0")?;
-    }
-    if hue < 10 {
-        push_text(text, b"0")?;
-    }
-    push_number(text, hue)
-}
-
-/// Appends a link with its rate and delay, and how it was used if it was measured.
-fn push_link(
-    text: &mut Vec<u8>,
-    topology: &Topology,
-    measured: Option<&Measured>,
-    link: Link,
-) -> Result<(), AllocError> {
+/// Appends a link with its rate and delay.
+fn push_link(text: &mut Vec<u8>, topology: &Topology, link: Link) -> Result<(), AllocError> {
     push_text(text, b"  ")?;
     push_owner(text, topology, link.a)?;
     push_text(text, b" -- ")?;
@@ -134,22 +95,17 @@ fn push_link(
     push_end(text, topology, b" [taillabel=", link.a)?;
     push_end(text, topology, b", headlabel=", link.b)?;
     push_text(text, b", label=\"")?;
-    push_rate(text, link.rate)?;
-    push_text(text, b", ")?;
-    push_time(text, link.delay)?;
-    match measured {
-        Some(measured) => push_load(text, topology, measured, link)?,
-        None => push_text(text, b"\"")?,
-    }
-    push_text(text, b"];\n")
+    push_quality(text, link)?;
+    push_text(text, b"\"];\n")
 }
 
-/// The graph of a network, with how it was used if it was measured.
-fn graph(
-    alloc: Global,
-    topology: &Topology,
-    measured: Option<&Measured>,
-) -> Result<Vec<u8>, AllocError>
+/// The network as a graph for Graphviz: partitions are clusters, and links say their rate and
+/// delay.
+///
+/// # Errors
+///
+/// Where memory was refused.
+pub fn dot_text(alloc: Global, topology: &Topology) -> Result<Vec<u8>, AllocError>
     ensures { IfOk result (λ text. EndsLine text.items) }
 {
     let mut text = Vec::new(alloc);
@@ -159,37 +115,9 @@ fn graph(
     )?;
     push_partitions(&mut text, topology)?;
     for link in topology.links() {
-        push_link(&mut text, topology, measured, *link)?;
+        push_link(&mut text, topology, *link)?;
     }
     push_text(&mut text, b"}")?;
     end_line(&mut text)?;
     Ok(text)
-}
-
-/// The network as a graph for Graphviz: partitions are clusters, and links say their rate and delay.
-///
-/// # Errors
-///
-/// Where memory was refused.
-pub fn dot_text(alloc: Global, topology: &Topology) -> Result<Vec<u8>, AllocError>
-    ensures { IfOk result (λ text. EndsLine text.items) }
-{
-    graph(alloc, topology, None)
-}
-
-/// The same with links coloured by use: the greater of the shares of the time before `stop` in which
-/// their two ends transmitted, from green to red. Links at whose ends packets were dropped are
-/// dashed.
-///
-/// # Errors
-///
-/// Where memory was refused.
-pub fn load_text(
-    alloc: Global,
-    topology: &Topology,
-    measured: &Measured,
-) -> Result<Vec<u8>, AllocError>
-    ensures { IfOk result (λ text. EndsLine text.items) }
-{
-    graph(alloc, topology, Some(measured))
 }

@@ -1,8 +1,7 @@
 //! What became of the packets of a source.
 
-ghost use Rattle.std.specs.Prelude.{◌≡◌, ◌+◌, ◌<◌, ◌^◌};
-
-use crate::delays::Delays;
+ghost use Rattle.std.specs.Prelude.{◌≡◌, ◌+◌, ◌<◌, ◌^◌, ltb};
+ghost use Rattle.nm_base.specs.Count.{saturated};
 
 /// What became of the packets of a source. Each that it handed over was delivered, refused, dropped
 /// or discarded, or is under way.
@@ -21,10 +20,6 @@ pub struct FlowCounts {
     pub discarded: u64,
     /// How many wait at an interface or are on a link.
     pub under_way: u64,
-    /// From the source's event to the arrival, of what was delivered.
-    pub delays: Delays,
-    /// From the source's event to the arrival of an echo reply at the source's node.
-    pub round_trips: Delays,
     /// How many echo replies came to another node than the source's, up to 2^64 - 1.
     pub astray: u64,
     pub ghost balances: { sent ≡ delivered + refused + dropped + discarded + under_way },
@@ -50,8 +45,6 @@ impl FlowCounts {
         dropped: 0,
         discarded: 0,
         under_way: 0,
-        delays: Delays::NONE,
-        round_trips: Delays::NONE,
         astray: 0,
     };
 
@@ -66,34 +59,31 @@ impl FlowCounts {
         }
     }
 
-    /// One that was under way ends so after so many nanoseconds; none does where none was.
-    pub(crate) fn end(&mut self, outcome: Outcome, delay: u64)
+    /// One that was under way ends so: whether there was one.
+    pub(crate) fn end(&mut self, outcome: Outcome) -> bool
         ensures ends { 0 < self.old.under_way → Ends outcome self.old self.new }
         ensures none { self.old.under_way ≡ 0 → counts_of self.new ≡ counts_of self.old }
+        ensures result { result ≡ ltb 0 self.old.under_way }
+        ensures astray { self.new.astray ≡ self.old.astray }
     {
         if self.under_way == 0 {
-            return;
+            return false;
         }
         self.under_way -= 1;
         match outcome {
-            Outcome::Delivered => {
-                self.delivered += 1;
-                self.delays.add(delay);
-            }
+            Outcome::Delivered => self.delivered += 1,
             Outcome::Refused => self.refused += 1,
             Outcome::Dropped => self.dropped += 1,
             Outcome::Discarded => self.discarded += 1,
         }
+        true
     }
 
-    /// An echo reply came to the source's node after so many nanoseconds, or to another node.
-    pub(crate) fn reply(&mut self, is_home: bool, delay: u64)
-        ensures { counts_of self.new ≡ counts_of self.old }
+    /// An echo reply came to another node than the source's.
+    pub(crate) fn go_astray(&mut self)
+        ensures same { counts_of self.new ≡ counts_of self.old }
+        ensures astray { self.new.astray ≡ saturated (self.old.astray + 1) }
     {
-        if is_home {
-            self.round_trips.add(delay);
-        } else {
-            self.astray = self.astray.saturating_add(1);
-        }
+        self.astray = self.astray.saturating_add(1);
     }
 }

@@ -1,6 +1,7 @@
 //! What becomes of the packets of all sources.
 
 use crate::flow_counts::{FlowCounts, Outcome};
+use crate::flow_times::FlowTimes;
 use crate::tag::Tag;
 use nm_base::{NodeNo, SourceNo, Time};
 use nm_topology::Topology;
@@ -12,6 +13,15 @@ pub(crate) struct Flows {
     /// The node of each source.
     homes: Vec<NodeNo>,
     counts: Vec<FlowCounts>,
+    times: Vec<FlowTimes>,
+}
+
+/// A packet that came to its end.
+#[derive(Clone, Copy, Drop)]
+pub(crate) struct Arrival {
+    pub node: NodeNo,
+    pub octets: u64,
+    pub now: Time,
 }
 
 /// The node of each source.
@@ -23,23 +33,34 @@ fn homes_of(alloc: Global, topology: &Topology) -> Result<Vec<NodeNo>, AllocErro
     Ok(homes)
 }
 
-/// How many nanoseconds a later time is after an earlier one.
-fn nanoseconds_between(earlier: Time, later: Time) -> u64 {
-    later.nanoseconds().saturating_sub(earlier.nanoseconds())
+/// Nothing of so many sources arrived yet.
+fn no_times(alloc: Global, sources: usize) -> Result<Vec<FlowTimes>, AllocError> {
+    let mut times = Vec::new(alloc);
+    for _ in 0..sources {
+        times.push(FlowTimes::new(alloc))?;
+    }
+    Ok(times)
 }
 
 impl Flows {
     /// Nothing was sent yet.
     pub(crate) fn new(alloc: Global, topology: &Topology) -> Result<Self, AllocError> {
+        let sources = topology.sources().len();
         Ok(Flows {
             homes: homes_of(alloc, topology)?,
-            counts: vec![in alloc; FlowCounts::NONE; topology.sources().len()]?,
+            counts: vec![in alloc; FlowCounts::NONE; sources]?,
+            times: no_times(alloc, sources)?,
         })
     }
 
     /// What became of the packets of a source.
-    pub(crate) fn flow(&self, source: SourceNo) -> Option<FlowCounts> {
+    pub(crate) fn counts(&self, source: SourceNo) -> Option<FlowCounts> {
         self.counts.get(source.index()).copied()
+    }
+
+    /// How much of what a source sent arrived, and how late.
+    pub(crate) fn times(&self, source: SourceNo) -> Option<&FlowTimes> {
+        self.times.get(source.index())
     }
 
     /// A source hands a packet over: its tag.
@@ -47,28 +68,56 @@ impl Flows {
         if let Some(counts) = self.counts.get_mut(source.index()) {
             counts.send();
         }
+        if let Some(times) = self.times.get_mut(source.index()) {
+            times.begin(now);
+        }
         Tag::Sent(source, now)
     }
 
-    /// The packet of a tag ends so, if it is a source's.
-    pub(crate) fn end(&mut self, tag: &Tag, outcome: Outcome, now: Time) {
+    /// The packet of a tag ends so, if it is a source's: the source and the time of its event, if
+    /// the packet was under way.
+    pub(crate) fn end(&mut self, tag: &Tag, outcome: Outcome) -> Option<(SourceNo, Time)> {
         let Tag::Sent(source, at) = tag else {
-            return;
+            return None;
         };
-        if let Some(counts) = self.counts.get_mut(source.index()) {
-            counts.end(outcome, nanoseconds_between(*at, now));
+        if self.counts.get_mut(source.index())?.end(outcome) {
+            Some((*source, *at))
+        } else {
+            None
+        }
+    }
+
+    /// The packet of a tag is delivered, if it is a source's.
+    pub(crate) fn deliver(&mut self, tag: &Tag, arrival: Arrival) -> Result<(), AllocError> {
+        let Some((source, at)) = self.end(tag, Outcome::Delivered) else {
+            return Ok(());
+        };
+        match self.times.get_mut(source.index()) {
+            Some(times) => times.deliver(arrival.octets, at, arrival.now),
+            None => Ok(()),
         }
     }
 
     /// An ICMP message comes to a node that it is addressed to. The packet that a source handed
     /// over is delivered, and the reply to one has come to the source's node or went astray.
-    pub(crate) fn tell(&mut self, tag: &Tag, node: NodeNo, now: Time) {
-        let Tag::Reply(source, at) = tag else {
-            return self.end(tag, Outcome::Delivered, now);
-        };
-        let is_home = self.homes.get(source.index()).copied() == Some(node);
-        if let Some(counts) = self.counts.get_mut(source.index()) {
-            counts.reply(is_home, nanoseconds_between(*at, now));
+    pub(crate) fn tell(&mut self, tag: &Tag, arrival: Arrival) -> Result<(), AllocError> {
+        match tag {
+            Tag::Reply(source, at) => self.answer(*source, *at, arrival),
+            Tag::Sent(_, _) | Tag::Nobody => self.deliver(tag, arrival),
         }
+    }
+
+    /// The reply to what a source handed over then comes to a node.
+    fn answer(&mut self, source: SourceNo, at: Time, arrival: Arrival) -> Result<(), AllocError> {
+        if self.homes.get(source.index()).copied() == Some(arrival.node) {
+            return match self.times.get_mut(source.index()) {
+                Some(times) => times.answer(at, arrival.now),
+                None => Ok(()),
+            };
+        }
+        if let Some(counts) = self.counts.get_mut(source.index()) {
+            counts.go_astray();
+        }
+        Ok(())
     }
 }

@@ -1,6 +1,6 @@
 //! A network whose run is over, and what was measured of it.
 
-ghost use Rattle.std.specs.Prelude.{◌≡◌, ◌<◌, None, Some, IfSome, length};
+ghost use Rattle.std.specs.Prelude.{◌≡◌, ◌<◌, ◌≤◌, None, Some, IfSome, length};
 ghost use Rattle.nm_model.specs.Run.{one_list};
 ghost use Rattle.nm_report.specs.Amounts.{traffic_of};
 ghost use Rattle.nm_report.specs.Flows.{Balances};
@@ -11,6 +11,7 @@ ghost use Rattle.nm_topology.specs.TopologyValue.{TopologyValue};
 
 use crate::amounts::IfaceTraffic;
 use crate::flow_counts::FlowCounts;
+use crate::flow_times::FlowTimes;
 use crate::watched::Watched;
 use nm_base::{IfaceNo, NodeNo, SourceNo};
 use nm_events::SortedList;
@@ -18,8 +19,8 @@ use nm_forward::Counter;
 use nm_sim::Part;
 use std::marker::Model;
 
-/// A whole network after its run, and what was measured of it: counters, drops and traffic are those
-/// of the one event list; flows, queues and busy times are what was seen event by event.
+/// A whole network after its run, and what was measured of it: counters, drops and traffic are
+/// those of the one event list; flows, queues and busy times are what was seen event by event.
 #[derive(Drop)]
 pub struct Measured {
     part: Part<SortedList>,
@@ -79,7 +80,15 @@ impl Measured {
 
     /// For how many nanoseconds before `stop` an interface transmitted.
     pub fn busy(&self, iface: IfaceNo) -> u64 {
-        self.watched.busy(iface)
+        self.watched.usage(iface).busy()
+    }
+
+    /// The share of the time from the start of its first packet to that of its last in which an
+    /// interface transmitted, in thousandths. `None` where there are fewer than two packets.
+    pub fn busy_share(&self, iface: IfaceNo) -> Option<u64>
+        ensures { IfSome result (λ share. share ≤ 1000) }
+    {
+        self.watched.usage(iface).share()
     }
 
     /// What became of the packets of a source. `None` where there is no such source.
@@ -87,5 +96,10 @@ impl Measured {
         ensures { IfSome result Balances }
     {
         self.watched.flow(source)
+    }
+
+    /// How much of what a source sent arrived, and how late. `None` where there is no such source.
+    pub fn times(&self, source: SourceNo) -> Option<&FlowTimes> {
+        self.watched.times(source)
     }
 }

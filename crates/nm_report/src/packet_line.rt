@@ -170,9 +170,9 @@ fn fault_of(fault: HeaderFault) -> &'static str {
     }
 }
 
-/// Appends a record as a line: its time in nanoseconds, whether the packet came in or went out, from
-/// where to where it goes, what it carries and how many octets of that, and its time to live. Of a
-/// packet with a bad header it says what is wrong, and how many octets it has.
+/// Appends a record as a line: its time in nanoseconds, whether the packet came in or went out,
+/// from where to where it goes, what it carries and how many octets of that, and its time to live.
+/// Of a packet with a bad header it says what is wrong, and how many octets it has.
 ///
 /// # Errors
 ///

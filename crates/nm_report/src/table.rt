@@ -6,8 +6,8 @@ ghost use Rattle.nm_report.specs.Lines.{EndsLine};
 use nm_base::{push_number, push_text};
 use std::alloc::{AllocError, Global};
 
-/// A table of cells, row by row. Its first columns are texts, which stand at the left, and all others
-/// numbers, which stand at the right.
+/// A table of cells, row by row. Its first columns are texts, which stand at the left, and all
+/// others numbers, which stand at the right.
 #[derive(Drop)]
 pub(crate) struct Table {
     alloc: Global,
@@ -102,6 +102,15 @@ impl Table {
         Ok(widths)
     }
 
+    /// Appends an empty line and the table, if it has rows below its head.
+    pub(crate) fn print_behind(&self, text: &mut Vec<u8>) -> Result<(), AllocError> {
+        if self.cells.len() <= self.columns {
+            return Ok(());
+        }
+        push_text(text, b"\n")?;
+        self.print(text)
+    }
+
     /// Appends the table, whose rows end with line feeds.
     pub(crate) fn print(&self, text: &mut Vec<u8>) -> Result<(), AllocError> {
         let widths = self.widths()?;
@@ -120,5 +129,17 @@ impl Table {
 pub(crate) fn end_line(text: &mut Vec<u8>) -> Result<(), AllocError>
     ensures { OnOk result (EndsLine text.new.items) }
 {
+    push_text(text, b"\n")
+}
+
+/// Appends how many rows of a table were left out since they would say nothing, if any were.
+pub(crate) fn push_left_out(text: &mut Vec<u8>, rows: &str, count: u64) -> Result<(), AllocError> {
+    if count == 0 {
+        return Ok(());
+    }
+    push_text(text, b"idle ")?;
+    push_text(text, rows.as_bytes())?;
+    push_text(text, b" left out: ")?;
+    push_number(text, count)?;
     push_text(text, b"\n")
 }

@@ -1,5 +1,7 @@
 //! Numbers with the units that people use.
 
+ghost use Rattle.std.specs.Prelude.{◌≤◌};
+
 use nm_base::{push_number, push_text};
 use nm_packet::Address;
 use std::alloc::AllocError;
@@ -14,8 +16,11 @@ const RATES: [(u64, &[u8]); 3] = [
 /// Units of times, in nanoseconds.
 const TIMES: [(u64, &[u8]); 3] = [(1_000_000_000, b" s"), (1_000_000, b" ms"), (1_000, b" us")];
 
-/// Appends a quantity in the greatest unit of which it is a whole number, or in the least one. Units
-/// stand from the greatest down, each with how many of the least it has.
+/// The percentiles that are told, in thousandths.
+pub(crate) const PERCENTILES: [u64; 4] = [500, 900, 990, 999];
+
+/// Appends a quantity in the greatest unit of which it is a whole number, or in the least one.
+/// Units stand from the greatest down, each with how many of the least it has.
 fn push_quantity(
     text: &mut Vec<u8>,
     quantity: u64,
@@ -54,7 +59,9 @@ pub(crate) fn push_address(text: &mut Vec<u8>, address: Address) -> Result<(), A
 }
 
 /// A part of a whole in thousandths, rounded down: 0 where there is no whole, 1,000 at most.
-pub(crate) fn thousandths(part: u64, whole: u64) -> u64 {
+pub(crate) fn thousandths(part: u64, whole: u64) -> u64
+    ensures { result ≤ 1000 }
+{
     if whole == 0 {
         return 0;
     }

@@ -2,9 +2,11 @@
 
 use crate::fates::{Fate, Tallies};
 use crate::flow_counts::{FlowCounts, Outcome};
-use crate::flows::Flows;
+use crate::flow_times::FlowTimes;
+use crate::flows::{Arrival, Flows};
 use crate::positions::Positions;
 use crate::tag::Tag;
+use crate::usage::Usage;
 use nm_base::{Dir, IfaceNo, NodeNo, Place, Record, SourceNo, Time};
 use nm_events::SortedList;
 use nm_iface::transmission_time;
@@ -25,8 +27,8 @@ pub(crate) struct Watched {
     flows: Flows,
     /// The longest queue of each interface, in packets.
     queues: Vec<u64>,
-    /// How long each interface transmitted, in nanoseconds.
-    busy: Vec<u64>,
+    /// How each interface transmits.
+    usages: Vec<Usage>,
 }
 
 /// The interfaces of each node.
@@ -54,6 +56,14 @@ fn start_in(part: &Part<SortedList>) -> Option<&Record> {
     }
 }
 
+/// The octets of the packet that arrived in the last event. Its record is the event's first.
+fn octets_of_arrival(part: &Part<SortedList>) -> u64 {
+    match part.trace().first() {
+        Some(record) => record.packet.octet_count() as u64,
+        None => 0,
+    }
+}
+
 /// How long an interface transmits before `stop`, of a transmission that starts then, in
 /// nanoseconds.
 fn busy_time(topology: &Topology, record: &Record) -> u64 {
@@ -78,7 +88,7 @@ impl Watched {
             positions: Positions::new(alloc, topology.ifaces().len())?,
             flows: Flows::new(alloc, topology)?,
             queues: vec![in alloc; 0u64; topology.ifaces().len()]?,
-            busy: vec![in alloc; 0u64; topology.ifaces().len()]?,
+            usages: vec![in alloc; Usage::NONE; topology.ifaces().len()]?,
         })
     }
 
@@ -87,14 +97,22 @@ impl Watched {
         self.queues.get(iface.index()).copied().unwrap_or(0)
     }
 
-    /// For how many nanoseconds an interface transmitted before `stop`.
-    pub(crate) fn busy(&self, iface: IfaceNo) -> u64 {
-        self.busy.get(iface.index()).copied().unwrap_or(0)
+    /// How an interface transmits.
+    pub(crate) fn usage(&self, iface: IfaceNo) -> Usage {
+        self.usages
+            .get(iface.index())
+            .copied()
+            .unwrap_or(Usage::NONE)
     }
 
     /// What became of the packets of a source.
     pub(crate) fn flow(&self, source: SourceNo) -> Option<FlowCounts> {
-        self.flows.flow(source)
+        self.flows.counts(source)
+    }
+
+    /// How much of what a source sent arrived, and how late.
+    pub(crate) fn times(&self, source: SourceNo) -> Option<&FlowTimes> {
+        self.flows.times(source)
     }
 
     /// Sees the event of this time and place, which was just done. Of records the part has only the
@@ -147,27 +165,31 @@ impl Watched {
         };
         let node = iface.node();
         match self.tallies.fate(part, node) {
-            Fate::SentOn => self.see_offer(topology, part, node, tag, now),
+            Fate::SentOn => self.see_offer(topology, part, node, tag),
             fate => {
-                self.see_end(node, &tag, fate, now);
+                let octets = octets_of_arrival(part);
+                let arrival = Arrival { node, octets, now };
+                self.see_end(&tag, fate, arrival)?;
                 let answer = match fate {
                     Fate::Requested => tag.of_reply(),
                     _ => Tag::Nobody,
                 };
-                self.see_answer(topology, part, node, answer, now)
+                self.see_answer(topology, part, node, answer)
             }
         }
     }
 
     /// Sees the way of a packet end at a node.
-    fn see_end(&mut self, node: NodeNo, tag: &Tag, fate: Fate, now: Time) {
-        match fate {
-            Fate::SentOn => {}
-            Fate::Told => self.flows.tell(tag, node, now),
-            Fate::Delivered | Fate::Requested => self.flows.end(tag, Outcome::Delivered, now),
-            Fate::Refused => self.flows.end(tag, Outcome::Refused, now),
-            Fate::Discarded => self.flows.end(tag, Outcome::Discarded, now),
-        }
+    fn see_end(&mut self, tag: &Tag, fate: Fate, arrival: Arrival) -> Result<(), AllocError> {
+        let outcome = match fate {
+            Fate::SentOn => return Ok(()),
+            Fate::Told => return self.flows.tell(tag, arrival),
+            Fate::Delivered | Fate::Requested => return self.flows.deliver(tag, arrival),
+            Fate::Refused => Outcome::Refused,
+            Fate::Discarded => Outcome::Discarded,
+        };
+        self.flows.end(tag, outcome);
+        Ok(())
     }
 
     /// Sees what a node answers to a packet that came to its end there, if it does.
@@ -177,10 +199,9 @@ impl Watched {
         part: &Part<SortedList>,
         node: NodeNo,
         answer: Tag,
-        now: Time,
     ) -> Result<(), AllocError> {
         if self.tallies.has_originated(part, node) {
-            self.see_offer(topology, part, node, answer, now)
+            self.see_offer(topology, part, node, answer)
         } else {
             Ok(())
         }
@@ -201,9 +222,9 @@ impl Watched {
         let tag = self.flows.send(source, now);
         let is_raw = matches!(from.traffic, Traffic::Raw(_));
         if is_raw || self.tallies.has_originated(part, from.node) {
-            return self.see_offer(topology, part, from.node, tag, now);
+            return self.see_offer(topology, part, from.node, tag);
         }
-        self.flows.end(&tag, Outcome::Discarded, now);
+        self.flows.end(&tag, Outcome::Discarded);
         Ok(())
     }
 
@@ -214,7 +235,6 @@ impl Watched {
         part: &Part<SortedList>,
         node: NodeNo,
         tag: Tag,
-        now: Time,
     ) -> Result<(), AllocError> {
         if let Some(record) = start_in(part) {
             return self.see_start(topology, record, tag);
@@ -222,7 +242,7 @@ impl Watched {
         match self.longer_queue(part, node) {
             Some(iface) => self.see_wait(iface, tag),
             None => {
-                self.flows.end(&tag, Outcome::Dropped, now);
+                self.flows.end(&tag, Outcome::Dropped);
                 Ok(())
             }
         }
@@ -236,8 +256,8 @@ impl Watched {
         tag: Tag,
     ) -> Result<(), AllocError> {
         let time = busy_time(topology, record);
-        if let Some(busy) = self.busy.get_mut(record.iface.index()) {
-            *busy = busy.saturating_add(time);
+        if let Some(usage) = self.usages.get_mut(record.iface.index()) {
+            usage.start(record.time, time);
         }
         match topology.ifaces().get(record.iface.index()) {
             Some(iface) => self.positions.enter_link(iface.far().peer, tag),

@@ -1,0 +1,99 @@
+//! How much of what a source sent arrived, and how late.
+
+ghost use Rattle.std.specs.Prelude.{◌≡◌, ◌+◌, OnOk};
+ghost use Rattle.nm_base.specs.Count.{saturated};
+
+use crate::delays::Delays;
+use nm_base::Time;
+use std::alloc::{AllocError, Global};
+
+/// How much of what a source sent arrived, and how late.
+#[derive(Drop)]
+pub struct FlowTimes {
+    /// The octets of the IPv4 packets that were delivered, up to 2^64 - 1.
+    octets: u64,
+    /// The time of the source's first event, if it had one.
+    begun: Option<Time>,
+    /// When a packet was delivered last.
+    ended: Time,
+    /// From the source's event to the arrival, of what was delivered.
+    pub delays: Delays,
+    /// From the source's event to the arrival of an echo reply at the source's node.
+    pub round_trips: Delays,
+}
+
+/// How many nanoseconds a later time is after an earlier one.
+fn nanoseconds_between(earlier: Time, later: Time) -> u64 {
+    later.nanoseconds().saturating_sub(earlier.nanoseconds())
+}
+
+impl FlowTimes {
+    /// Nothing was sent.
+    pub(crate) fn new(alloc: Global) -> Self {
+        FlowTimes {
+            octets: 0,
+            begun: None,
+            ended: Time::from_nanoseconds(0),
+            delays: Delays::new(alloc),
+            round_trips: Delays::new(alloc),
+        }
+    }
+
+    /// The octets of the IPv4 packets that were delivered, up to 2^64 - 1.
+    pub fn octets(&self) -> u64
+        ensures { result ≡ self.now.octets }
+    {
+        self.octets
+    }
+
+    /// The rate of what was delivered, in bits per second, from the source's first event to the
+    /// last arrival, rounded down; 0 where that is no time.
+    pub fn rate(&self) -> u64 {
+        let Some(begun) = self.begun else {
+            return 0;
+        };
+        let time = nanoseconds_between(begun, self.ended);
+        if time == 0 {
+            return 0;
+        }
+        let bits = u128::from(self.octets) * 8 * 1_000_000_000;
+        u64::try_from(bits / u128::from(time)).unwrap_or(u64::MAX)
+    }
+
+    /// The source had an event.
+    pub(crate) fn begin(&mut self, now: Time)
+        ensures { self.new.octets ≡ self.old.octets }
+    {
+        if self.begun.is_none() {
+            self.begun = Some(now);
+        }
+    }
+
+    /// A packet of so many octets that was sent then is delivered.
+    ///
+    /// # Errors
+    ///
+    /// Where memory was refused.
+    pub(crate) fn deliver(&mut self, octets: u64, sent: Time, now: Time) -> Result<(), AllocError>
+        ensures octets { self.new.octets ≡ saturated (self.old.octets + octets) }
+        ensures count { OnOk result (self.new.delays.spread.count
+            ≡ saturated (self.old.delays.spread.count + 1)) }
+    {
+        self.octets = self.octets.saturating_add(octets);
+        self.ended = now;
+        self.delays.add(nanoseconds_between(sent, now))
+    }
+
+    /// The reply to what was sent then came to the source's node.
+    ///
+    /// # Errors
+    ///
+    /// Where memory was refused.
+    pub(crate) fn answer(&mut self, sent: Time, now: Time) -> Result<(), AllocError>
+        ensures octets { self.new.octets ≡ self.old.octets }
+        ensures count { OnOk result (self.new.round_trips.spread.count
+            ≡ saturated (self.old.round_trips.spread.count + 1)) }
+    {
+        self.round_trips.add(nanoseconds_between(sent, now))
+    }
+}

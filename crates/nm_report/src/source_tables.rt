@@ -1,0 +1,270 @@
+//! The tables of sources.
+
+use crate::delays::Delays;
+use crate::flow_counts::FlowCounts;
+use crate::flow_times::FlowTimes;
+use crate::measured::Measured;
+use crate::table::{Table, push_left_out};
+use crate::units::{PERCENTILES, push_address};
+use nm_base::{SourceNo, push_number, push_text};
+use nm_topology::Topology;
+use nm_topology::traffic::{Source, Traffic};
+use std::alloc::{AllocError, Global};
+
+/// The columns of what became of packets.
+const COUNT_HEAD: [&str; 12] = [
+    "source",
+    "kind",
+    "node",
+    "to",
+    "sent",
+    "delivered",
+    "refused",
+    "dropped",
+    "discarded",
+    "under way",
+    "octets",
+    "rate",
+];
+
+/// The columns of delays.
+const DELAY_HEAD: [&str; 12] = [
+    "source",
+    "kind",
+    "node",
+    "to",
+    "least delay",
+    "50%",
+    "90%",
+    "99%",
+    "99.9%",
+    "greatest delay",
+    "mean delay",
+    "jitter",
+];
+
+/// The columns of echo replies.
+const ECHO_HEAD: [&str; 15] = [
+    "source",
+    "kind",
+    "node",
+    "to",
+    "sent",
+    "answered",
+    "astray",
+    "least round trip",
+    "50%",
+    "90%",
+    "99%",
+    "99.9%",
+    "greatest round trip",
+    "mean round trip",
+    "jitter",
+];
+
+/// What became of the packets of a source, which is nothing where it is not there.
+pub(crate) fn flow_of(measured: &Measured, source: SourceNo) -> FlowCounts {
+    measured.flow(source).unwrap_or(FlowCounts::NONE)
+}
+
+/// The kind of a source, as the topology's text has it.
+pub(crate) fn kind_of(source: &Source) -> &'static str {
+    match &source.traffic {
+        Traffic::Cbr(_) => "cbr",
+        Traffic::Echo(_) => "echo",
+        Traffic::Raw(_) => "raw",
+    }
+}
+
+/// The name of the node of a source.
+pub(crate) fn node_name<'a>(topology: &'a Topology, source: &Source) -> &'a str {
+    match topology.nodes().get(source.node.index()) {
+        Some(node) => node.name(),
+        None => "-",
+    }
+}
+
+/// Appends where the packets of a source go; `-` for raw packets, which say it themselves.
+pub(crate) fn push_destination(text: &mut Vec<u8>, source: &Source) -> Result<(), AllocError> {
+    match &source.traffic {
+        Traffic::Cbr(cbr) => push_address(text, cbr.to),
+        Traffic::Echo(echo) => push_address(text, echo.to),
+        Traffic::Raw(_) => push_text(text, b"-"),
+    }
+}
+
+/// The cells of a row that say which source it is.
+fn add_source(
+    alloc: Global,
+    table: &mut Table,
+    topology: &Topology,
+    source: &Source,
+    number: SourceNo,
+) -> Result<(), AllocError> {
+    table.number(number.index() as u64)?;
+    table.text(kind_of(source).as_bytes())?;
+    table.text(node_name(topology, source).as_bytes())?;
+    let mut to = Vec::new(alloc);
+    push_destination(&mut to, source)?;
+    table.text(to.as_slice())
+}
+
+/// The cell of a percentile, with `~` before one that is rounded.
+fn add_percentile(
+    alloc: Global,
+    table: &mut Table,
+    delays: &Delays,
+    thousandths: u64,
+) -> Result<(), AllocError> {
+    let mut cell = Vec::new(alloc);
+    if delays.is_rounded() {
+        push_text(&mut cell, b"~")?;
+    }
+    push_number(&mut cell, delays.percentile(thousandths))?;
+    table.text(cell.as_slice())
+}
+
+/// The cells of a row that say how long packets took.
+fn add_delays(alloc: Global, table: &mut Table, delays: &Delays) -> Result<(), AllocError> {
+    table.number(delays.least())?;
+    for percentile in PERCENTILES {
+        add_percentile(alloc, table, delays, percentile)?;
+    }
+    table.number(delays.greatest())?;
+    table.number(delays.mean())?;
+    table.number(delays.jitter())
+}
+
+/// The row of what became of a source's packets.
+fn add_counts(
+    table: &mut Table,
+    flow: &FlowCounts,
+    times: Option<&FlowTimes>,
+) -> Result<(), AllocError> {
+    let (octets, rate) = match times {
+        Some(times) => (times.octets(), times.rate()),
+        None => (0, 0),
+    };
+    for count in [
+        flow.sent,
+        flow.delivered,
+        flow.refused,
+        flow.dropped,
+        flow.discarded,
+        flow.under_way,
+        octets,
+        rate,
+    ] {
+        table.number(count)?;
+    }
+    Ok(())
+}
+
+/// What became of the packets of sources, and how many sent nothing.
+pub(crate) fn push_sources(
+    alloc: Global,
+    text: &mut Vec<u8>,
+    topology: &Topology,
+    measured: &Measured,
+) -> Result<(), AllocError> {
+    let mut table = Table::new(alloc, &COUNT_HEAD, 4)?;
+    let mut idle = 0u64;
+    let mut number = 0u32;
+    for source in topology.sources() {
+        let place = SourceNo::new(number);
+        let flow = flow_of(measured, place);
+        if flow.sent == 0 {
+            idle = idle.saturating_add(1);
+        } else {
+            add_source(alloc, &mut table, topology, source, place)?;
+            add_counts(&mut table, &flow, measured.times(place))?;
+        }
+        number = number.saturating_add(1);
+    }
+    table.print(text)?;
+    push_left_out(text, "sources", idle)
+}
+
+/// Adds the row of the delays of a source, if something of it was delivered.
+fn add_late(
+    alloc: Global,
+    table: &mut Table,
+    topology: &Topology,
+    measured: &Measured,
+    source: &Source,
+    number: SourceNo,
+) -> Result<(), AllocError> {
+    match measured.times(number) {
+        Some(times) if times.delays.count() > 0 => {
+            add_source(alloc, table, topology, source, number)?;
+            add_delays(alloc, table, &times.delays)
+        }
+        _ => Ok(()),
+    }
+}
+
+/// How late packets of sources were delivered, after an empty line, where any were.
+pub(crate) fn push_delays(
+    alloc: Global,
+    text: &mut Vec<u8>,
+    topology: &Topology,
+    measured: &Measured,
+) -> Result<(), AllocError> {
+    let mut table = Table::new(alloc, &DELAY_HEAD, 4)?;
+    let mut number = 0u32;
+    for source in topology.sources() {
+        let place = SourceNo::new(number);
+        add_late(alloc, &mut table, topology, measured, source, place)?;
+        number = number.saturating_add(1);
+    }
+    table.print_behind(text)
+}
+
+/// Whether echo replies are told of a source: of an `echo` source that sent requests, and of a
+/// `raw` one where some replies came to a node.
+fn has_replies(source: &Source, flow: &FlowCounts, times: &FlowTimes) -> bool {
+    match &source.traffic {
+        Traffic::Cbr(_) => false,
+        Traffic::Echo(_) => flow.sent > 0,
+        Traffic::Raw(_) => times.round_trips.count() > 0 || flow.astray > 0,
+    }
+}
+
+/// Adds the row of what was answered to a source, if that is told of it.
+fn add_answered(
+    alloc: Global,
+    table: &mut Table,
+    topology: &Topology,
+    measured: &Measured,
+    source: &Source,
+    number: SourceNo,
+) -> Result<(), AllocError> {
+    let flow = flow_of(measured, number);
+    match measured.times(number) {
+        Some(times) if has_replies(source, &flow, times) => {
+            add_source(alloc, table, topology, source, number)?;
+            table.number(flow.sent)?;
+            table.number(times.round_trips.count())?;
+            table.number(flow.astray)?;
+            add_delays(alloc, table, &times.round_trips)
+        }
+        _ => Ok(()),
+    }
+}
+
+/// What was answered to sources of echo requests, after an empty line, where there are any.
+pub(crate) fn push_echoes(
+    alloc: Global,
+    text: &mut Vec<u8>,
+    topology: &Topology,
+    measured: &Measured,
+) -> Result<(), AllocError> {
+    let mut table = Table::new(alloc, &ECHO_HEAD, 4)?;
+    let mut number = 0u32;
+    for source in topology.sources() {
+        let place = SourceNo::new(number);
+        add_answered(alloc, &mut table, topology, measured, source, place)?;
+        number = number.saturating_add(1);
+    }
+    table.print_behind(text)
+}
