@@ -34,4 +34,4 @@ mod whole_sentence;
 mod words;
 
 pub use explanation::explain;
-pub use overview::summary;
+pub use overview::{least_lookahead, summary};

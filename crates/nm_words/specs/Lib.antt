@@ -6,3 +6,4 @@ pub mod Rounds
 pub mod Script
 pub mod Shown
 pub mod Check
+pub mod Path
