@@ -2,8 +2,10 @@
 
 use crate::array::Array;
 use crate::doubles::Double;
+use crate::faults::push_line;
 use crate::key::Key;
 use crate::lack::{Lack, Lacking};
+use crate::line::table_line;
 use crate::names::names_of;
 use crate::sentence::push_meant;
 use crate::whole::{WholeFault, whole_fault};
@@ -151,6 +153,49 @@ fn push_none<'a>(
     push_meant(out, name, known)
 }
 
+/// Appends that a name is one of another kind.
+fn push_other<'a>(
+    out: &mut Vec<u8>,
+    name: &str,
+    others: &[&str],
+    what: &'a str,
+) -> Result<(), AllocError> {
+    if others.iter().any(|other| *other == name) {
+        return push(
+            out,
+            &[Piece::Text("; that is the name of "), Piece::Text(what)],
+        );
+    }
+    Ok(())
+}
+
+/// Appends that there is no node of this name.
+fn push_no_node(
+    alloc: Global,
+    out: &mut Vec<u8>,
+    document: &Document,
+    name: &str,
+) -> Result<(), AllocError> {
+    push_none(out, "node", name, &names_of(alloc, &document.nodes)?)?;
+    push_other(
+        out,
+        name,
+        &names_of(alloc, &document.ifaces)?,
+        "an interface",
+    )
+}
+
+/// Appends that there is no interface of this name.
+fn push_no_iface(
+    alloc: Global,
+    out: &mut Vec<u8>,
+    document: &Document,
+    name: &str,
+) -> Result<(), AllocError> {
+    push_none(out, "interface", name, &names_of(alloc, &document.ifaces)?)?;
+    push_other(out, name, &names_of(alloc, &document.nodes)?, "a node")
+}
+
 /// Appends what a table names that is not there.
 fn push_lack(
     alloc: Global,
@@ -163,11 +208,11 @@ fn push_lack(
     match lacking.lack {
         Lack::Node => {
             let name = node_of(document, lacking.array, lacking.number);
-            push_none(out, "node", name, &names_of(alloc, &document.nodes)?)
+            push_no_node(alloc, out, document, name)
         }
         Lack::Iface(_) => {
             let name = iface_of(document, lacking);
-            push_none(out, "interface", name, &names_of(alloc, &document.ifaces)?)
+            push_no_iface(alloc, out, document, name)
         }
         Lack::Own => {
             let name = iface_of(document, lacking);
@@ -315,16 +360,44 @@ fn push_fault(
     }
 }
 
+/// The key at which a table names what is not there.
+fn key_of_lack(lack: Lack) -> Key {
+    match lack {
+        Lack::Node => Key::Node,
+        Lack::Iface(key) => key,
+        Lack::Own => Key::Via,
+    }
+}
+
+/// The line of what the whole is refused for.
+fn line_of_fault(text: &str, fault: &WholeFault) -> Option<u64> {
+    let (array, number, key) = match fault {
+        WholeFault::DoubleName { array, double } => (*array, double.second, Key::Name),
+        WholeFault::NoSuch(lacking) => (lacking.array, lacking.number, key_of_lack(lacking.lack)),
+        WholeFault::IfaceUse { iface, .. } => (Array::Iface, *iface, Key::Name),
+        WholeFault::DoubleAddress(double) => (Array::Iface, double.second, Key::Address),
+        WholeFault::DoubleRoute(double) => (Array::Route, double.second, Key::To),
+        WholeFault::ManyRoutes { node, .. } => (Array::Node, *node, Key::Name),
+        WholeFault::ManyChannels(_) => return None,
+        WholeFault::CutDelay { link, .. } => (Array::Link, *link, Key::Delay),
+    };
+    table_line(text, array.key().text(), number, key.text())
+}
+
 /// Appends what a document is refused for, whose tables are all read. Where no place is found, the
 /// number of the refusal is told: that there always is one is not proved.
 pub fn push_whole_fault(
     alloc: Global,
     out: &mut Vec<u8>,
+    text: &str,
     document: &Document,
     refusal: Refusal,
 ) -> Result<(), AllocError> {
     match whole_fault(alloc, document)? {
-        Some(fault) => push_fault(alloc, out, document, fault),
+        Some(fault) => {
+            push_line(out, line_of_fault(text, &fault))?;
+            push_fault(alloc, out, document, fault)
+        }
         None => push(
             out,
             &[
