@@ -231,13 +231,16 @@ pub fn push_field_fault(
     let key = fault.field.key.text();
     match field(table, key) {
         Some(value) => push_value_fault(out, head, fault, value),
-        None => push(
-            out,
-            &[
-                Piece::Text("key "),
-                Piece::Quoted(key),
-                Piece::Text(" is missing"),
-            ],
-        ),
+        None => {
+            push(
+                out,
+                &[
+                    Piece::Text("key "),
+                    Piece::Quoted(key),
+                    Piece::Text(" is missing"),
+                ],
+            )?;
+            push_unit(out, fault.field.key)
+        }
     }
 }

@@ -84,6 +84,20 @@ fn push_prefix(out: &mut Vec<u8>, address: Address, length: u8) -> Result<(), Al
     )
 }
 
+/// Appends two prefixes that hold an address.
+fn push_lengths(out: &mut Vec<u8>, address: Address) -> Result<(), AllocError> {
+    push(
+        out,
+        &[
+            Piece::Text("; "),
+            Piece::Address(address),
+            Piece::Text("/32 is this address alone, "),
+            Piece::Address(masked(address, 24)),
+            Piece::Text("/24 are all that begin alike"),
+        ],
+    )
+}
+
 /// The first bits of an address, and zeros behind them.
 fn masked(address: Address, length: u8) -> Address {
     let behind = 32u8.saturating_sub(length).min(32);
@@ -94,7 +108,7 @@ fn masked(address: Address, length: u8) -> Address {
 /// Appends the prefix that may have been meant.
 fn push_prefix_like(out: &mut Vec<u8>, text: &str) -> Result<(), AllocError> {
     if let Some(address) = address_of(text.as_bytes()) {
-        return push_prefix(out, address, 32);
+        return push_lengths(out, address);
     }
     let Some((address, length)) = text.split_once('/') else {
         return Ok(());
@@ -107,6 +121,12 @@ fn push_prefix_like(out: &mut Vec<u8>, text: &str) -> Result<(), AllocError> {
 
 /// Appends the address that may have been meant.
 fn push_address_like(out: &mut Vec<u8>, text: &str) -> Result<(), AllocError> {
+    if is_name(text.as_bytes()) {
+        return push(
+            out,
+            &[Piece::Text("; give an address of that node, not its name")],
+        );
+    }
     let Some((front, _)) = text.split_once('/') else {
         return Ok(());
     };
