@@ -17,7 +17,7 @@ use crate::ways::{Way, walk};
 use nm_base::{IfaceNo, NodeNo};
 use nm_packet::Address;
 use nm_topology::Topology;
-use nm_topology::traffic::Flow;
+use nm_topology::traffic::{Flow, Traffic};
 use std::alloc::{AllocError, Global};
 
 /// What was seen of the sources so far.
@@ -237,6 +237,21 @@ fn see_ways(
     Ok(())
 }
 
+/// Takes note of raw packets: each is an event, and makes two more at its first hop. Where it goes
+/// from there stands in its octets.
+fn note_raw(topology: &Topology, traffic: &Traffic, seen: &mut Seen) {
+    let Traffic::Raw(raw) = traffic else {
+        return;
+    };
+    let stop = topology.stop();
+    let sent = raw
+        .packets()
+        .iter()
+        .filter(|packet| packet.at < stop)
+        .count();
+    seen.events = seen.events.saturating_add((sent as u64).saturating_mul(3));
+}
+
 /// Looks at each source.
 fn see_sources(
     alloc: Global,
@@ -248,6 +263,7 @@ fn see_sources(
 {
     for (number, source) in topology.sources().iter().enumerate() {
         let Some(demand) = demand_of(&source.traffic) else {
+            note_raw(topology, &source.traffic, seen);
             continue;
         };
         let sender = Sender {
@@ -298,8 +314,8 @@ fn see_windows(
 /// What can be said of a network's traffic before it is simulated: at most 20 remarks, a line each,
 /// and how many more there are. They are on sources, in the order of the text; on interfaces whose
 /// link is asked for more than its rate; on partitions without a node; and on the least lookahead of
-/// its channels, in nanoseconds, if there are channels. Raw sources are passed over: where their
-/// packets go stands in their octets.
+/// its channels, in nanoseconds, if there are channels. The ways of raw packets are not looked at:
+/// where they go stands in their octets.
 pub fn way_remarks(
     alloc: Global,
     topology: &Topology,

@@ -1,4 +1,4 @@
-use Rattle.std.proofs.Common.{◌≡◌, List, [], ◌∷◌, ◌++◌, ℕ, string_bytes, sym, ◌∙◌, ap, append_assoc}
+use Rattle.std.proofs.Common.{[], ◌∷◌, ◌++◌, string_bytes, sym, ◌∙◌, ap, append_assoc}
 use Rattle.nm_paths.proofs.path.path_text.Goals as goal
 
 pub returns : goal.returns
