@@ -21,7 +21,7 @@ use std::alloc::{AllocError, Global};
 use toml::{Table, Value};
 
 /// The most faults that are told.
-const MAX_FAULTS: u64 = 20;
+pub const MAX_FAULTS: usize = 20;
 
 /// Appends a line of the text, if it is known.
 pub fn push_line(out: &mut Vec<u8>, line: Option<u64>) -> Result<(), AllocError> {
@@ -32,6 +32,21 @@ pub fn push_line(out: &mut Vec<u8>, line: Option<u64>) -> Result<(), AllocError>
         ),
         None => Ok(()),
     }
+}
+
+/// Appends how many faults there are more than were told.
+pub fn push_more(out: &mut Vec<u8>, count: usize) -> Result<(), AllocError> {
+    if count <= MAX_FAULTS {
+        return Ok(());
+    }
+    push(
+        out,
+        &[
+            Piece::Text("\nand "),
+            Piece::Number((count - MAX_FAULTS) as u64),
+            Piece::Text(" more"),
+        ],
+    )
 }
 
 /// The line of a fault in a table of an array.
@@ -119,8 +134,8 @@ fn push_table_of(
     array: Array,
     number: usize,
     table: &Table,
-    count: u64,
-) -> Result<u64, AllocError>
+    count: usize,
+) -> Result<usize, AllocError>
     requires { 28 ≤ head.mtu }
 {
     let Some(spot) = spot_of(alloc, head, array, table)? else {
@@ -147,8 +162,8 @@ fn push_array(
     head: Head,
     array: Array,
     first: &Place,
-    count: u64,
-) -> Result<u64, AllocError>
+    count: usize,
+) -> Result<usize, AllocError>
     requires { 28 ≤ head.mtu }
 {
     let Some(Value::Array(items)) = field(top, array.key().text()) else {
@@ -173,7 +188,7 @@ fn push_others(
     text: &str,
     top: &Table,
     first: &Place,
-) -> Result<u64, AllocError> {
+) -> Result<usize, AllocError> {
     let head = any_head(top)?;
     let mut count = 1;
     for wanted in &ARRAYS {
@@ -199,15 +214,5 @@ pub fn push_faults(
     let first = found.place;
     push_fault(alloc, out, text, top, found)?;
     let count = push_others(alloc, out, text, top, &first)?;
-    if count > MAX_FAULTS {
-        return push(
-            out,
-            &[
-                Piece::Text("\nand "),
-                Piece::Number(count - MAX_FAULTS),
-                Piece::Text(" more"),
-            ],
-        );
-    }
-    Ok(())
+    push_more(out, count)
 }

@@ -2,7 +2,7 @@
 
 use crate::array::Array;
 use crate::doubles::Double;
-use crate::faults::push_line;
+use crate::faults::{MAX_FAULTS, push_line, push_more};
 use crate::key::Key;
 use crate::lack::{Lack, Lacking};
 use crate::line::table_line;
@@ -134,12 +134,15 @@ fn push_double(
     push(out, same)
 }
 
-/// Appends that there is nothing of this name, and which may have been meant.
+/// Appends that there is nothing of this name; and that it is the name of something else, or which
+/// of those that are known may have been meant.
 fn push_none<'a>(
     out: &mut Vec<u8>,
     kind: &'a str,
     name: &'a str,
     known: &[&str],
+    others: &[&str],
+    other: &'a str,
 ) -> Result<(), AllocError> {
     push(
         out,
@@ -150,23 +153,13 @@ fn push_none<'a>(
             Piece::Quoted(name),
         ],
     )?;
-    push_meant(out, name, known)
-}
-
-/// Appends that a name is one of another kind.
-fn push_other<'a>(
-    out: &mut Vec<u8>,
-    name: &str,
-    others: &[&str],
-    what: &'a str,
-) -> Result<(), AllocError> {
-    if others.iter().any(|other| *other == name) {
+    if others.iter().any(|there| *there == name) {
         return push(
             out,
-            &[Piece::Text("; that is the name of "), Piece::Text(what)],
+            &[Piece::Text("; that is the name of "), Piece::Text(other)],
         );
     }
-    Ok(())
+    push_meant(out, name, known)
 }
 
 /// Appends that there is no node of this name.
@@ -176,13 +169,9 @@ fn push_no_node(
     document: &Document,
     name: &str,
 ) -> Result<(), AllocError> {
-    push_none(out, "node", name, &names_of(alloc, &document.nodes)?)?;
-    push_other(
-        out,
-        name,
-        &names_of(alloc, &document.ifaces)?,
-        "an interface",
-    )
+    let nodes = names_of(alloc, &document.nodes)?;
+    let ifaces = names_of(alloc, &document.ifaces)?;
+    push_none(out, "node", name, &nodes, &ifaces, "an interface")
 }
 
 /// Appends that there is no interface of this name.
@@ -192,8 +181,9 @@ fn push_no_iface(
     document: &Document,
     name: &str,
 ) -> Result<(), AllocError> {
-    push_none(out, "interface", name, &names_of(alloc, &document.ifaces)?)?;
-    push_other(out, name, &names_of(alloc, &document.nodes)?, "a node")
+    let nodes = names_of(alloc, &document.nodes)?;
+    let ifaces = names_of(alloc, &document.ifaces)?;
+    push_none(out, "interface", name, &ifaces, &nodes, "a node")
 }
 
 /// Appends what a table names that is not there.
@@ -325,41 +315,6 @@ fn push_cut(out: &mut Vec<u8>, link: usize, a: PartNo, b: PartNo) -> Result<(), 
     )
 }
 
-/// Appends what the whole is refused for.
-fn push_fault(
-    alloc: Global,
-    out: &mut Vec<u8>,
-    document: &Document,
-    fault: WholeFault,
-) -> Result<(), AllocError> {
-    match fault {
-        WholeFault::DoubleName { array, double } => push_double(
-            out,
-            document,
-            array,
-            double,
-            &[Piece::Text(" has the same name")],
-        ),
-        WholeFault::NoSuch(lacking) => push_lack(alloc, out, document, lacking),
-        WholeFault::IfaceUse { iface, ends } => push_ends(out, document, iface, ends),
-        WholeFault::DoubleAddress(double) => push_double_address(out, document, double),
-        WholeFault::DoubleRoute(double) => push_double_route(out, document, double),
-        WholeFault::ManyRoutes { node, count } => {
-            push_table_name(out, document, Array::Node, node)?;
-            push(out, &[Piece::Text(": it has ")])?;
-            push_many(out, count, " routes, and may have ", MAX_ROUTES_OF_NODE)
-        }
-        WholeFault::ManyChannels(count) => {
-            push(
-                out,
-                &[Piece::Text("top: the links between partitions make ")],
-            )?;
-            push_many(out, count, " channels, and there may be ", MAX_CHANNELS)
-        }
-        WholeFault::CutDelay { link, a, b } => push_cut(out, link, a, b),
-    }
-}
-
 /// The key at which a table names what is not there.
 fn key_of_lack(lack: Lack) -> Key {
     match lack {
@@ -369,11 +324,36 @@ fn key_of_lack(lack: Lack) -> Key {
     }
 }
 
+/// The line of a table that names what is not there.
+fn line_of_lack(text: &str, lacking: &Lacking) -> Option<u64> {
+    let key = key_of_lack(lacking.lack);
+    table_line(text, lacking.array.key().text(), lacking.number, key.text())
+}
+
+/// Appends what tables name that is not there, a line each, of which the first line is begun: at
+/// most 20, and how many more there are.
+fn push_lacks(
+    alloc: Global,
+    out: &mut Vec<u8>,
+    text: &str,
+    document: &Document,
+    lacking: &[Lacking],
+) -> Result<(), AllocError> {
+    for (place, lack) in lacking.iter().take(MAX_FAULTS).enumerate() {
+        if place > 0 {
+            out.push(b'\n')?;
+            push_line(out, line_of_lack(text, lack))?;
+        }
+        push_lack(alloc, out, document, *lack)?;
+    }
+    push_more(out, lacking.len())
+}
+
 /// The line of what the whole is refused for.
 fn line_of_fault(text: &str, fault: &WholeFault) -> Option<u64> {
     let (array, number, key) = match fault {
         WholeFault::DoubleName { array, double } => (*array, double.second, Key::Name),
-        WholeFault::NoSuch(lacking) => (lacking.array, lacking.number, key_of_lack(lacking.lack)),
+        WholeFault::NoSuch(lacking) => return line_of_lack(text, lacking.first()?),
         WholeFault::IfaceUse { iface, .. } => (Array::Iface, *iface, Key::Name),
         WholeFault::DoubleAddress(double) => (Array::Iface, double.second, Key::Address),
         WholeFault::DoubleRoute(double) => (Array::Route, double.second, Key::To),
@@ -382,6 +362,42 @@ fn line_of_fault(text: &str, fault: &WholeFault) -> Option<u64> {
         WholeFault::CutDelay { link, .. } => (Array::Link, *link, Key::Delay),
     };
     table_line(text, array.key().text(), number, key.text())
+}
+
+/// Appends what the whole is refused for.
+fn push_fault(
+    alloc: Global,
+    out: &mut Vec<u8>,
+    text: &str,
+    document: &Document,
+    fault: &WholeFault,
+) -> Result<(), AllocError> {
+    match fault {
+        WholeFault::DoubleName { array, double } => push_double(
+            out,
+            document,
+            *array,
+            *double,
+            &[Piece::Text(" has the same name")],
+        ),
+        WholeFault::NoSuch(lacking) => push_lacks(alloc, out, text, document, lacking),
+        WholeFault::IfaceUse { iface, ends } => push_ends(out, document, *iface, *ends),
+        WholeFault::DoubleAddress(double) => push_double_address(out, document, *double),
+        WholeFault::DoubleRoute(double) => push_double_route(out, document, *double),
+        WholeFault::ManyRoutes { node, count } => {
+            push_table_name(out, document, Array::Node, *node)?;
+            push(out, &[Piece::Text(": it has ")])?;
+            push_many(out, *count, " routes, and may have ", MAX_ROUTES_OF_NODE)
+        }
+        WholeFault::ManyChannels(count) => {
+            push(
+                out,
+                &[Piece::Text("top: the links between partitions make ")],
+            )?;
+            push_many(out, *count, " channels, and there may be ", MAX_CHANNELS)
+        }
+        WholeFault::CutDelay { link, a, b } => push_cut(out, *link, *a, *b),
+    }
 }
 
 /// Appends what a document is refused for, whose tables are all read. Where no place is found, the
@@ -396,7 +412,7 @@ pub fn push_whole_fault(
     match whole_fault(alloc, document)? {
         Some(fault) => {
             push_line(out, line_of_fault(text, &fault))?;
-            push_fault(alloc, out, document, fault)
+            push_fault(alloc, out, text, document, &fault)
         }
         None => push(
             out,

@@ -208,8 +208,8 @@ fn see_ways(
     let sent = packets_before(flow, topology.stop());
     seen.events = seen.events.saturating_add(sent);
     note_way(topology, flow, &there, seen)?;
-    if !is_known(topology, to) {
-        // That nobody has the address is a remark of `nm_check`.
+    // That nobody has the address is a remark of `nm_check`, and says enough but of a loop.
+    if there.ending != Ending::Expired && !is_known(topology, to) {
         return Ok(());
     }
     let aim = Aim {
