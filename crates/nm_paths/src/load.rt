@@ -176,8 +176,9 @@ fn push_peak(
     let number = sweep.iface;
     let name = iface.name();
     let until = until.unwrap_or(topology.stop().nanoseconds());
+    let asked = format!(in alloc; "sources ask for {rate} bit/s from {from} to {until} ns")?;
     let remark = format!(in alloc;
-        "iface {number} (\"{name}\"): sources ask for {rate} bit/s from {from} to {until} ns, its link has {capacity}"
+        "iface {number} (\"{name}\"): {asked}, its link has {capacity}"
     )?;
     remarks.add(remark.as_str())
 }

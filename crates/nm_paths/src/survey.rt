@@ -305,17 +305,18 @@ fn see_windows(
     if windows <= events {
         return Ok(());
     }
+    let what = format!(in alloc; "makes {windows} windows for some {events} events")?;
     let remark = format!(in alloc;
-        "the least lookahead, {lookahead} ns, makes {windows} windows for some {events} events: fewer partitions may be faster"
+        "the least lookahead, {lookahead} ns, {what}: fewer partitions may be faster"
     )?;
     remarks.add(remark.as_str())
 }
 
 /// What can be said of a network's traffic before it is simulated: at most 20 remarks, a line each,
 /// and how many more there are. They are on sources, in the order of the text; on interfaces whose
-/// link is asked for more than its rate; on partitions without a node; and on the least lookahead of
-/// its channels, in nanoseconds, if there are channels. The ways of raw packets are not looked at:
-/// where they go stands in their octets.
+/// link is asked for more than its rate; on partitions without a node; and on the least lookahead
+/// of its channels, in nanoseconds, if there are channels. The ways of raw packets are not looked
+/// at: where they go stands in their octets.
 pub fn way_remarks(
     alloc: Global,
     topology: &Topology,
