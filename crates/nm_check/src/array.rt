@@ -7,7 +7,7 @@ use crate::key::Key;
 use nm_base::limits::{MAX_IFACES, MAX_LINKS, MAX_NODES, MAX_ROUTES, MAX_SOURCES};
 
 /// An array of tables of a topology text.
-#[derive(Clone, Copy)]
+#[derive(Clone, Copy, PartialEq, Eq)]
 pub enum Array {
     Node,
     Iface,

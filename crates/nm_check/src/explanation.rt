@@ -5,8 +5,8 @@ ghost use Rattle.nm_topology.specs.Topology.{topology_of};
 ghost use Rattle.nm_check.specs.Lines.{EndsLine};
 ghost use Rattle.nm_check.specs.Locate.{IsLocated};
 
+use crate::faults::push_faults;
 use crate::locate::{Located, locate};
-use crate::sentence::push_found;
 use crate::whole_sentence::push_whole_fault;
 use crate::words::{Piece, push};
 use nm_base::limits::MAX_TEXT_OCTETS;
@@ -82,6 +82,11 @@ fn push_length_fault(out: &mut Vec<u8>, length: usize) -> Result<(), AllocError>
     )
 }
 
+/// A text whose tables were read, which is UTF-8.
+fn written(text: &[u8]) -> &str {
+    str::from_utf8(text).unwrap_or("")
+}
+
 /// Appends what is wrong with a text that is refused there.
 fn push_located(
     alloc: Global,
@@ -95,13 +100,16 @@ fn push_located(
     match located {
         Located::Length => push_length_fault(out, text.len()),
         Located::Letters => push_text_fault(alloc, out, text),
-        Located::Tables(table, found) => push_found(alloc, out, table, *found),
-        Located::Whole(document) => push_whole_fault(alloc, out, document, refusal),
+        Located::Tables(table, found) => push_faults(alloc, out, written(text), table, *found),
+        Located::Whole(document) => {
+            push_whole_fault(alloc, out, written(text), document, refusal)
+        }
     }
 }
 
-/// What is wrong with a text that `Topology::read` refused, and where, as a sentence that is ended
-/// by a line feed. What is named is the first fault in the reading order.
+/// What is wrong with a text that `Topology::read` refused, and where, as sentences that are each
+/// ended by a line feed. The first names the first fault in the reading order; where that is in a
+/// table, the first fault of each other table follows, at most 20 in all.
 pub fn explain(alloc: Global, text: &[u8], refusal: Refusal) -> Result<Vec<u8>, AllocError>
     requires { topology_of text.now ≡ Err refusal }
     ensures { IfOk result (λ line. EndsLine line.items) }

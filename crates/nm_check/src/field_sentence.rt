@@ -2,13 +2,24 @@
 
 use crate::expected::{form_fault, limit_of, range_of, type_due, type_of};
 use crate::field::{Field, Form};
+use crate::hint::push_hint;
+use crate::key::Key;
 use crate::spot::FieldFault;
+use crate::units::unit_of;
 use crate::words::{Piece, push};
 use nm_topology::Refusal;
 use nm_topology::parse::fields::field;
 use nm_topology::parse::head::Head;
 use std::alloc::AllocError;
 use toml::{Table, Value};
+
+/// Appends what the number behind a key counts, with an example.
+fn push_unit(out: &mut Vec<u8>, key: Key) -> Result<(), AllocError> {
+    match unit_of(key) {
+        Some(unit) => push(out, &[Piece::Text("; "), Piece::Text(unit)]),
+        None => Ok(()),
+    }
+}
 
 /// Appends a whole number, and that it is in no such range.
 fn push_out_of_range(
@@ -43,12 +54,15 @@ fn push_out_of_range(
 fn push_form_fault(
     out: &mut Vec<u8>,
     head: Head,
-    form: Form,
+    wanted: Field,
     value: &Value,
 ) -> Result<(), AllocError> {
     match value {
-        Value::Integer(number) => push_out_of_range(out, *number, range_of(head, form)),
-        Value::String(text) => push_text_fault(out, head, form, text.as_str()),
+        Value::Integer(number) => {
+            push_out_of_range(out, *number, range_of(head, wanted.form))?;
+            push_unit(out, wanted.key)
+        }
+        Value::String(text) => push_text_fault(out, head, wanted, text.as_str()),
         _ => push(out, &[Piece::Text(" is out of its range")]),
     }
 }
@@ -57,10 +71,10 @@ fn push_form_fault(
 fn push_text_fault(
     out: &mut Vec<u8>,
     head: Head,
-    form: Form,
+    wanted: Field,
     text: &str,
 ) -> Result<(), AllocError> {
-    match form {
+    match wanted.form {
         Form::Octets => push(
             out,
             &[
@@ -70,15 +84,18 @@ fn push_text_fault(
                 Piece::Number(head.mtu as u64),
             ],
         ),
-        _ => push(
-            out,
-            &[
-                Piece::Text(" is "),
-                Piece::Quoted(text),
-                Piece::Text(", "),
-                Piece::Text(form_fault(form, text)),
-            ],
-        ),
+        form => {
+            push(
+                out,
+                &[
+                    Piece::Text(" is "),
+                    Piece::Quoted(text),
+                    Piece::Text(", "),
+                    Piece::Text(form_fault(form, text)),
+                ],
+            )?;
+            push_hint(out, wanted, text)
+        }
     }
 }
 
@@ -161,7 +178,7 @@ fn push_array_fault(
     for (number, item) in items.iter().enumerate() {
         if !is_in_range(wanted.form, item) {
             push_member_name(out, wanted, number)?;
-            return push_form_fault(out, head, wanted.form, item);
+            return push_form_fault(out, head, wanted, item);
         }
     }
     Ok(())
@@ -182,9 +199,12 @@ fn push_value_fault(
     }
     push(out, &[Piece::Quoted(fault.field.key.text())])?;
     match fault.refusal {
-        Refusal::Kind => push_kind(out, value, type_due(fault.field.form)),
+        Refusal::Kind => {
+            push_kind(out, value, type_due(fault.field.form))?;
+            push_unit(out, fault.field.key)
+        }
         Refusal::Hex => push_hex_fault(out, value),
-        _ => push_form_fault(out, head, fault.field.form, value),
+        _ => push_form_fault(out, head, fault.field, value),
     }
 }
 
@@ -211,13 +231,16 @@ pub fn push_field_fault(
     let key = fault.field.key.text();
     match field(table, key) {
         Some(value) => push_value_fault(out, head, fault, value),
-        None => push(
-            out,
-            &[
-                Piece::Text("key "),
-                Piece::Quoted(key),
-                Piece::Text(" is missing"),
-            ],
-        ),
+        None => {
+            push(
+                out,
+                &[
+                    Piece::Text("key "),
+                    Piece::Quoted(key),
+                    Piece::Text(" is missing"),
+                ],
+            )?;
+            push_unit(out, fault.field.key)
+        }
     }
 }

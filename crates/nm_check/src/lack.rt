@@ -1,4 +1,4 @@
-//! The first table that names what is not there.
+//! The tables that name what is not there.
 
 use crate::array::Array;
 use crate::key::Key;
@@ -6,6 +6,7 @@ use nm_base::NodeNo;
 use nm_topology::names::Names;
 use nm_topology::parse::sources::{NamedTraffic, SourceTable};
 use nm_topology::parse::tables::{IfaceTable, LinkTable, RouteTable};
+use std::alloc::AllocError;
 
 /// What a table names that is not there.
 #[derive(Clone, Copy)]
@@ -85,68 +86,81 @@ fn source_lack(
     }
 }
 
-/// The first table of `iface` that lacks something.
-pub fn first_iface(nodes: &Names, tables: &[IfaceTable]) -> Option<Lacking> {
-    for (number, table) in tables.iter().enumerate() {
-        if let Some(lack) = iface_lack(nodes, table) {
-            return Some(Lacking {
-                array: Array::Iface,
-                number,
-                lack,
-            });
-        }
+/// Appends the table of this number, if it lacks something.
+fn push_lacking(
+    all: &mut Vec<Lacking>,
+    array: Array,
+    number: usize,
+    lack: Option<Lack>,
+) -> Result<(), AllocError> {
+    if let Some(lack) = lack {
+        all.push(Lacking {
+            array,
+            number,
+            lack,
+        })?;
     }
-    None
+    Ok(())
 }
 
-/// The first table of `link` that lacks something.
-pub fn first_link(ifaces: &Names, tables: &[LinkTable]) -> Option<Lacking> {
+/// Appends the tables of `iface` that lack something.
+pub fn push_ifaces(
+    all: &mut Vec<Lacking>,
+    nodes: &Names,
+    tables: &[IfaceTable],
+) -> Result<(), AllocError> {
     for (number, table) in tables.iter().enumerate() {
-        if let Some(lack) = link_lack(ifaces, table) {
-            return Some(Lacking {
-                array: Array::Link,
-                number,
-                lack,
-            });
-        }
+        push_lacking(all, Array::Iface, number, iface_lack(nodes, table))?;
     }
-    None
+    Ok(())
 }
 
-/// The first table of `route` that lacks something.
-pub fn first_route(
+/// Appends the tables of `link` that lack something.
+pub fn push_links(
+    all: &mut Vec<Lacking>,
+    ifaces: &Names,
+    tables: &[LinkTable],
+) -> Result<(), AllocError> {
+    for (number, table) in tables.iter().enumerate() {
+        push_lacking(all, Array::Link, number, link_lack(ifaces, table))?;
+    }
+    Ok(())
+}
+
+/// Appends the tables of `route` that lack something.
+pub fn push_routes(
+    all: &mut Vec<Lacking>,
     nodes: &Names,
     ifaces: &Names,
     owners: &[NodeNo],
     tables: &[RouteTable],
-) -> Option<Lacking> {
+) -> Result<(), AllocError> {
     for (number, table) in tables.iter().enumerate() {
-        if let Some(lack) = route_lack(nodes, ifaces, owners, table) {
-            return Some(Lacking {
-                array: Array::Route,
-                number,
-                lack,
-            });
-        }
+        push_lacking(
+            all,
+            Array::Route,
+            number,
+            route_lack(nodes, ifaces, owners, table),
+        )?;
     }
-    None
+    Ok(())
 }
 
-/// The first table of `source` that lacks something.
-pub fn first_source(
+/// Appends the tables of `source` that lack something.
+pub fn push_sources(
+    all: &mut Vec<Lacking>,
     nodes: &Names,
     ifaces: &Names,
     owners: &[NodeNo],
     tables: &[SourceTable],
-) -> Option<Lacking> {
+) -> Result<(), AllocError> {
     for (number, table) in tables.iter().enumerate() {
-        if let Some(lack) = source_lack(nodes, ifaces, owners, table) {
-            return Some(Lacking {
-                array: Array::Source,
-                number,
-                lack,
-            });
-        }
+        push_lacking(
+            all,
+            Array::Source,
+            number,
+            source_lack(nodes, ifaces, owners, table),
+        )?;
     }
-    None
+    Ok(())
 }

@@ -101,8 +101,8 @@ fn lookahead(far: Far) -> u64 {
     transmission_time(rate, 1).saturating_add(far.delay)
 }
 
-/// The least lookahead of a channel, if there is a channel.
-fn least_lookahead(topology: &Topology) -> Option<u64> {
+/// The least lookahead of a channel in nanoseconds, if there is a channel.
+pub fn least_lookahead(topology: &Topology) -> Option<u64> {
     let mut least = None;
     for receiver in topology.receivers() {
         if let Some(iface) = topology.ifaces().get(receiver.index()) {

@@ -94,6 +94,22 @@ fn head_of(table: &Table) -> Result<Head, AllocError>
     }
 }
 
+/// The head of a text, for a look at its tables alone: what of it is refused is such that no more
+/// of them are refused than would be.
+pub fn any_head(table: &Table) -> Result<Head, AllocError>
+    ensures { IfOk result (λ head. 28 ≤ head.mtu) }
+{
+    let format = match number_of(table, Key::Format, 1, 2)? {
+        Some(1) => Format::One,
+        _ => Format::Two,
+    };
+    let mtu = number_of(table, Key::Mtu, MIN_MTU, MAX_MTU)?;
+    Ok(Head {
+        format,
+        mtu: mtu.unwrap_or(MAX_MTU) as u16,
+    })
+}
+
 /// The fields of a table of `source`, by its kind.
 fn source_fields(table: &Table) -> Result<&'static [Field], AllocError>
     ensures { IfOk result (λ fields. fields.now ≡ source_fields (table_view table.now)) }
@@ -135,7 +151,7 @@ fn source_spot(alloc: Global, head: Head, table: &Table) -> Result<Option<Spot>,
 }
 
 /// Where a table of an array is refused.
-fn spot_of(
+pub fn spot_of(
     alloc: Global,
     head: Head,
     array: Array,

@@ -22,7 +22,7 @@ pub fn text_at<'a>(table: &'a Table, key: &str) -> Option<&'a str> {
 }
 
 /// The member of an array of a table.
-fn member<'a>(table: &'a Table, array: Array, number: usize) -> Option<&'a Table> {
+pub fn member<'a>(table: &'a Table, array: Array, number: usize) -> Option<&'a Table> {
     field(table, array.key().text())?
         .as_array()?
         .get(number)?
@@ -57,7 +57,7 @@ fn push_table_name(
 }
 
 /// The first key of a table that is none of these.
-fn unknown_key<'a>(table: &'a Table, known: &[&str]) -> &'a str {
+pub fn unknown_key<'a>(table: &'a Table, known: &[&str]) -> &'a str {
     for key in table.keys() {
         if !known.iter().any(|k| *k == key.as_str()) {
             return key.as_str();

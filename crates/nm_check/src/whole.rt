@@ -9,7 +9,7 @@ ghost use Rattle.nm_check.specs.Doubles.{IsFirstDouble, same_key};
 
 use crate::array::Array;
 use crate::doubles::{Double, first_double};
-use crate::lack::{Lacking, first_iface, first_link, first_route, first_source};
+use crate::lack::{Lacking, push_ifaces, push_links, push_routes, push_sources};
 use crate::names::double_name;
 use nm_base::limits::{MAX_CHANNELS, MAX_ROUTES_OF_NODE};
 use nm_base::{IfaceNo, NodeNo, PartNo};
@@ -23,12 +23,12 @@ use nm_topology::resolve::tables;
 use std::alloc::{AllocError, Global};
 
 /// What the whole is refused for. Numbers are from 0, in the order of the text.
-#[derive(Clone, Copy)]
+#[derive(Drop)]
 pub enum WholeFault {
     /// Two tables of the array have one name.
     DoubleName { array: Array, double: Double },
-    /// A table names what is not there.
-    NoSuch(Lacking),
+    /// Tables name what is not there: all of them, in the order in which they are looked at.
+    NoSuch(Vec<Lacking>),
     /// So many ends of links name the interface.
     IfaceUse { iface: usize, ends: usize },
     /// Two interfaces have one address.
@@ -77,20 +77,30 @@ fn names_fault(alloc: Global, document: &Document) -> Result<Option<WholeFault>,
     Ok(None)
 }
 
-/// The first table that names what is not there.
-fn first_lacking(
+/// The interfaces whose node is not there.
+fn ifaces_lacking(
+    alloc: Global,
+    nodes: &Names,
+    document: &Document,
+) -> Result<Vec<Lacking>, AllocError> {
+    let mut all = Vec::new(alloc);
+    push_ifaces(&mut all, nodes, &document.ifaces)?;
+    Ok(all)
+}
+
+/// The links, routes and sources that name what is not there.
+fn others_lacking(
+    alloc: Global,
     nodes: &Names,
     ifaces: &Names,
     owners: &[NodeNo],
     document: &Document,
-) -> Option<Lacking> {
-    if let Some(lacking) = first_link(ifaces, &document.links) {
-        return Some(lacking);
-    }
-    if let Some(lacking) = first_route(nodes, ifaces, owners, &document.routes) {
-        return Some(lacking);
-    }
-    first_source(nodes, ifaces, owners, &document.sources)
+) -> Result<Vec<Lacking>, AllocError> {
+    let mut all = Vec::new(alloc);
+    push_links(&mut all, ifaces, &document.links)?;
+    push_routes(&mut all, nodes, ifaces, owners, &document.routes)?;
+    push_sources(&mut all, nodes, ifaces, owners, &document.sources)?;
+    Ok(all)
 }
 
 /// What the whole is refused for, if it is.
@@ -113,11 +123,13 @@ fn named_fault(
     requires nodes { length nodes.now ≡ length document.now.nodes }
     requires ifaces { length ifaces.now ≡ length document.now.ifaces }
 {
-    if let Some(lacking) = first_iface(nodes, &document.ifaces) {
+    let lacking = ifaces_lacking(alloc, nodes, document)?;
+    if !lacking.is_empty() {
         return Ok(Some(WholeFault::NoSuch(lacking)));
     }
     let owners = tables::owners(alloc, nodes, &document.ifaces).map_err(memory)?;
-    if let Some(lacking) = first_lacking(nodes, ifaces, &owners, document) {
+    let lacking = others_lacking(alloc, nodes, ifaces, &owners, document)?;
+    if !lacking.is_empty() {
         return Ok(Some(WholeFault::NoSuch(lacking)));
     }
     let numbered = with_numbers(alloc, nodes, ifaces, owners, document)?;

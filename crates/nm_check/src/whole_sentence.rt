@@ -2,8 +2,10 @@
 
 use crate::array::Array;
 use crate::doubles::Double;
+use crate::faults::{MAX_FAULTS, push_line, push_more};
 use crate::key::Key;
 use crate::lack::{Lack, Lacking};
+use crate::line::table_line;
 use crate::names::names_of;
 use crate::sentence::push_meant;
 use crate::whole::{WholeFault, whole_fault};
@@ -132,12 +134,15 @@ fn push_double(
     push(out, same)
 }
 
-/// Appends that there is nothing of this name, and which may have been meant.
+/// Appends that there is nothing of this name; and that it is the name of something else, or which
+/// of those that are known may have been meant.
 fn push_none<'a>(
     out: &mut Vec<u8>,
     kind: &'a str,
     name: &'a str,
     known: &[&str],
+    others: &[&str],
+    other: &'a str,
 ) -> Result<(), AllocError> {
     push(
         out,
@@ -148,7 +153,37 @@ fn push_none<'a>(
             Piece::Quoted(name),
         ],
     )?;
+    if others.iter().any(|there| *there == name) {
+        return push(
+            out,
+            &[Piece::Text("; that is the name of "), Piece::Text(other)],
+        );
+    }
     push_meant(out, name, known)
+}
+
+/// Appends that there is no node of this name.
+fn push_no_node(
+    alloc: Global,
+    out: &mut Vec<u8>,
+    document: &Document,
+    name: &str,
+) -> Result<(), AllocError> {
+    let nodes = names_of(alloc, &document.nodes)?;
+    let ifaces = names_of(alloc, &document.ifaces)?;
+    push_none(out, "node", name, &nodes, &ifaces, "an interface")
+}
+
+/// Appends that there is no interface of this name.
+fn push_no_iface(
+    alloc: Global,
+    out: &mut Vec<u8>,
+    document: &Document,
+    name: &str,
+) -> Result<(), AllocError> {
+    let nodes = names_of(alloc, &document.nodes)?;
+    let ifaces = names_of(alloc, &document.ifaces)?;
+    push_none(out, "interface", name, &ifaces, &nodes, "a node")
 }
 
 /// Appends what a table names that is not there.
@@ -163,11 +198,11 @@ fn push_lack(
     match lacking.lack {
         Lack::Node => {
             let name = node_of(document, lacking.array, lacking.number);
-            push_none(out, "node", name, &names_of(alloc, &document.nodes)?)
+            push_no_node(alloc, out, document, name)
         }
         Lack::Iface(_) => {
             let name = iface_of(document, lacking);
-            push_none(out, "interface", name, &names_of(alloc, &document.ifaces)?)
+            push_no_iface(alloc, out, document, name)
         }
         Lack::Own => {
             let name = iface_of(document, lacking);
@@ -280,38 +315,88 @@ fn push_cut(out: &mut Vec<u8>, link: usize, a: PartNo, b: PartNo) -> Result<(), 
     )
 }
 
+/// The key at which a table names what is not there.
+fn key_of_lack(lack: Lack) -> Key {
+    match lack {
+        Lack::Node => Key::Node,
+        Lack::Iface(key) => key,
+        Lack::Own => Key::Via,
+    }
+}
+
+/// The line of a table that names what is not there.
+fn line_of_lack(text: &str, lacking: &Lacking) -> Option<u64> {
+    let key = key_of_lack(lacking.lack);
+    table_line(text, lacking.array.key().text(), lacking.number, key.text())
+}
+
+/// Appends what tables name that is not there, a line each, of which the first line is begun: at
+/// most 20, and how many more there are.
+fn push_lacks(
+    alloc: Global,
+    out: &mut Vec<u8>,
+    text: &str,
+    document: &Document,
+    lacking: &[Lacking],
+) -> Result<(), AllocError> {
+    for (place, lack) in lacking.iter().take(MAX_FAULTS).enumerate() {
+        if place > 0 {
+            out.push(b'\n')?;
+            push_line(out, line_of_lack(text, lack))?;
+        }
+        push_lack(alloc, out, document, *lack)?;
+    }
+    push_more(out, lacking.len())
+}
+
+/// The line of what the whole is refused for.
+fn line_of_fault(text: &str, fault: &WholeFault) -> Option<u64> {
+    let (array, number, key) = match fault {
+        WholeFault::DoubleName { array, double } => (*array, double.second, Key::Name),
+        WholeFault::NoSuch(lacking) => return line_of_lack(text, lacking.first()?),
+        WholeFault::IfaceUse { iface, .. } => (Array::Iface, *iface, Key::Name),
+        WholeFault::DoubleAddress(double) => (Array::Iface, double.second, Key::Address),
+        WholeFault::DoubleRoute(double) => (Array::Route, double.second, Key::To),
+        WholeFault::ManyRoutes { node, .. } => (Array::Node, *node, Key::Name),
+        WholeFault::ManyChannels(_) => return None,
+        WholeFault::CutDelay { link, .. } => (Array::Link, *link, Key::Delay),
+    };
+    table_line(text, array.key().text(), number, key.text())
+}
+
 /// Appends what the whole is refused for.
 fn push_fault(
     alloc: Global,
     out: &mut Vec<u8>,
+    text: &str,
     document: &Document,
-    fault: WholeFault,
+    fault: &WholeFault,
 ) -> Result<(), AllocError> {
     match fault {
         WholeFault::DoubleName { array, double } => push_double(
             out,
             document,
-            array,
-            double,
+            *array,
+            *double,
             &[Piece::Text(" has the same name")],
         ),
-        WholeFault::NoSuch(lacking) => push_lack(alloc, out, document, lacking),
-        WholeFault::IfaceUse { iface, ends } => push_ends(out, document, iface, ends),
-        WholeFault::DoubleAddress(double) => push_double_address(out, document, double),
-        WholeFault::DoubleRoute(double) => push_double_route(out, document, double),
+        WholeFault::NoSuch(lacking) => push_lacks(alloc, out, text, document, lacking),
+        WholeFault::IfaceUse { iface, ends } => push_ends(out, document, *iface, *ends),
+        WholeFault::DoubleAddress(double) => push_double_address(out, document, *double),
+        WholeFault::DoubleRoute(double) => push_double_route(out, document, *double),
         WholeFault::ManyRoutes { node, count } => {
-            push_table_name(out, document, Array::Node, node)?;
+            push_table_name(out, document, Array::Node, *node)?;
             push(out, &[Piece::Text(": it has ")])?;
-            push_many(out, count, " routes, and may have ", MAX_ROUTES_OF_NODE)
+            push_many(out, *count, " routes, and may have ", MAX_ROUTES_OF_NODE)
         }
         WholeFault::ManyChannels(count) => {
             push(
                 out,
                 &[Piece::Text("top: the links between partitions make ")],
             )?;
-            push_many(out, count, " channels, and there may be ", MAX_CHANNELS)
+            push_many(out, *count, " channels, and there may be ", MAX_CHANNELS)
         }
-        WholeFault::CutDelay { link, a, b } => push_cut(out, link, a, b),
+        WholeFault::CutDelay { link, a, b } => push_cut(out, *link, *a, *b),
     }
 }
 
@@ -320,11 +405,15 @@ fn push_fault(
 pub fn push_whole_fault(
     alloc: Global,
     out: &mut Vec<u8>,
+    text: &str,
     document: &Document,
     refusal: Refusal,
 ) -> Result<(), AllocError> {
     match whole_fault(alloc, document)? {
-        Some(fault) => push_fault(alloc, out, document, fault),
+        Some(fault) => {
+            push_line(out, line_of_fault(text, &fault))?;
+            push_fault(alloc, out, text, document, &fault)
+        }
         None => push(
             out,
             &[

@@ -28,6 +28,8 @@ pub data CommandValue : Type 0 where
   Dot : List ℕ → Bool → CommandValue
   -- to say in words what passed an interface: the topology, and the name of the interface
   Text : List ℕ → List ℕ → CommandValue
+  -- to say the way of a packet: the topology, the name of the node that sends it, and the address
+  Path : List ℕ → List ℕ → List ℕ → CommandValue
   -- to run all partitions: the topology, the folder of their trace files, how many threads run books, and how many replicas each partition has
   Run : List ℕ → List ℕ → ℕ → ℕ → CommandValue
   -- to run one replica: the topology, the folder of its trace files, the partition, the number of the replica, and the addresses
@@ -42,6 +44,7 @@ command_value (command.Check topology) = Check topology.now
 command_value (command.Report topology is_csv) = Report topology.now is_csv
 command_value (command.Dot topology has_load) = Dot topology.now has_load
 command_value (command.Text topology iface) = Text topology.now iface.now
+command_value (command.Path topology node address) = Path topology.now node.now address.now
 command_value (command.Run topology folder workers replicas) = Run topology.now folder.now workers replicas
 command_value (command.Node topology folder partition replica addresses) = Node topology.now folder.now partition replica addresses.now
 
@@ -55,6 +58,7 @@ IsWithinLimits (command.Check topology) = Unit {0}
 IsWithinLimits (command.Report topology is_csv) = Unit {0}
 IsWithinLimits (command.Dot topology has_load) = Unit {0}
 IsWithinLimits (command.Text topology iface) = Unit {0}
+IsWithinLimits (command.Path topology node address) = Unit {0}
 IsWithinLimits (command.Run topology folder workers replicas) = (1 ≤ workers) × (workers ≤ MAX_WORKERS) × (1 ≤ replicas) × (replicas ≤ MAX_REPLICAS)
 IsWithinLimits (command.Node topology folder partition replica addresses) = (partition ≤ MAX_PARTITION) × (replica ≤ MAX_REPLICA)
 
@@ -99,6 +103,10 @@ of_three word topology third =
     else (if bytes_eq word (codes "script") then Some (Script topology third)
     else shown_of word topology third (trace_from topology (Some third) (form_of word)))
 
+-- `path TOPO NODE ADDRESS`
+abbrev pub of_four : List ℕ → List ℕ → List ℕ → List ℕ → Option CommandValue
+of_four word topology node address = if bytes_eq word (codes "path") then Some (Path topology node address) else None
+
 -- `run`, if its two numbers are such
 abbrev pub run_of : List ℕ → List ℕ → Option ℕ → Option ℕ → Option CommandValue
 run_of topology folder None replicas = None
@@ -123,13 +131,13 @@ of_six word topology folder partition replica addresses =
     if bytes_eq word (codes "node") then node_of topology folder (number_in 0 MAX_PARTITION partition) (number_in 0 MAX_REPLICA replica) addresses
     else None
 
--- words of two, of three, of five and of six; no words are `onehex -`
+-- words of two to six; no words are `onehex -`
 abbrev pub of_number : List (List ℕ) → Option CommandValue
 of_number [] = trace_from (codes "-") None (Some (Hexadecimal, Both))
 of_number (word ∷ []) = None
 of_number (word ∷ topology ∷ []) = of_two word topology
 of_number (word ∷ topology ∷ third ∷ []) = of_three word topology third
-of_number (word ∷ topology ∷ third ∷ fourth ∷ []) = None
+of_number (word ∷ topology ∷ node ∷ address ∷ []) = of_four word topology node address
 of_number (word ∷ topology ∷ folder ∷ workers ∷ replicas ∷ []) = of_five word topology folder workers replicas
 of_number (word ∷ topology ∷ folder ∷ partition ∷ replica ∷ addresses ∷ []) = of_six word topology folder partition replica addresses
 of_number (word ∷ topology ∷ folder ∷ partition ∷ replica ∷ addresses ∷ more ∷ rest) = None

@@ -3,8 +3,9 @@
 ghost use Rattle.std.specs.Prelude.{◌≡◌, ℕ, ◌≤◌, map, IfSome, Some, decimal, option_map};
 ghost use Rattle.std.specs.Prelude.{string_bytes};
 ghost use Rattle.nm_command.specs.Command.{IsWithinLimits, command_of, command_value, form_of};
-ghost use Rattle.nm_command.specs.Command.{node_of, number_in, of_five, of_number, of_six, of_three, of_two};
-ghost use Rattle.nm_command.specs.Command.{run_of, shown_of, trace_from};
+ghost use Rattle.nm_command.specs.Command.{node_of, number_in, of_five, of_four, of_number};
+ghost use Rattle.nm_command.specs.Command.{of_six, of_three, of_two, run_of, shown_of};
+ghost use Rattle.nm_command.specs.Command.{trace_from};
 ghost use Rattle.nm_base.specs.declared.limits.TheConstants.{MAX_PARTITION, MAX_REPLICA};
 ghost use Rattle.nm_base.specs.declared.limits.TheConstants.{MAX_REPLICAS, MAX_WORKERS};
 
@@ -74,6 +75,15 @@ pub enum Command<'a> {
         topology: &'a str,
         /// The name of the interface.
         iface: &'a str,
+    },
+    /// To say the way of a packet from a node to an address, a line a hop.
+    Path {
+        /// The input with the topology text.
+        topology: &'a str,
+        /// The name of the node that sends it.
+        node: &'a str,
+        /// The address, four numbers joined by dots.
+        address: &'a str,
     },
     /// To run all partitions at once, each as one or two replicas, and to certify what they come
     /// to.
@@ -216,6 +226,27 @@ fn of_three<'a>(word: &'a str, topology: &'a str, third: &'a str) -> Option<Comm
     shown_of(word, topology, third)
 }
 
+/// The command of four words.
+fn of_four<'a>(
+    word: &'a str,
+    topology: &'a str,
+    node: &'a str,
+    address: &'a str,
+) -> Option<Command<'a>>
+    ensures value { option_map command_value result
+        ≡ of_four word.now topology.now node.now address.now }
+    ensures limits { IfSome result IsWithinLimits }
+{
+    if word == "path" {
+        return Some(Command::Path {
+            topology,
+            node,
+            address,
+        });
+    }
+    None
+}
+
 /// The command of five words.
 fn of_five<'a>(
     word: &'a str,
@@ -314,6 +345,12 @@ fn of_number<'a>(words: &'a [String]) -> Option<Command<'a>>
         }),
         [word, topology] => of_two(word.as_str(), topology.as_str()),
         [word, topology, third] => of_three(word.as_str(), topology.as_str(), third.as_str()),
+        [word, topology, node, address] => of_four(
+            word.as_str(),
+            topology.as_str(),
+            node.as_str(),
+            address.as_str(),
+        ),
         [word, topology, folder, workers, replicas] => of_five(
             word.as_str(),
             topology.as_str(),
@@ -338,8 +375,8 @@ impl<'a> Command<'a> {
     /// `sent TOPO IFACE` or `received TOPO IFACE`, where IFACE may be left out, `all TOPO DIR` with
     /// or without names of interfaces behind it, `rounds TOPO MAX`, `script TOPO STEPS`, `check
     /// TOPO`, `report TOPO` or `report TOPO csv`, `dot TOPO` or `dot TOPO load`, `text TOPO IFACE`,
-    /// `run TOPO DIR WORKERS REPLICAS`, or `node TOPO DIR PARTITION REPLICA ADDRESSES`. No words
-    /// are `onehex -`. `None` where the words are no command.
+    /// `path TOPO NODE ADDRESS`, `run TOPO DIR WORKERS REPLICAS`, or `node TOPO DIR PARTITION
+    /// REPLICA ADDRESSES`. No words are `onehex -`. `None` where the words are no command.
     pub fn of(words: &'a [String]) -> Option<Command<'a>>
         ensures value { option_map command_value result
             ≡ command_of (map (λ w. string_bytes w) words.now) }

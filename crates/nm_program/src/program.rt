@@ -19,6 +19,7 @@ use nm_words::all::{AllWords, write_all_traces};
 use nm_words::checking::say_check;
 use nm_words::input::NamedInputs;
 use nm_words::inputs::Inputs;
+use nm_words::path::{PathWords, say_path};
 use nm_words::rounds::say_rounds;
 use nm_words::script::say_script;
 use nm_words::shown::{View, say_text, say_view};
@@ -142,6 +143,20 @@ where
             say_view(alloc, topology, view, inputs, out, progress)
         }
         Some(Command::Text { topology, iface }) => say_text(alloc, topology, iface, inputs, out),
+        Some(
+            Command::Path {
+                topology,
+                node,
+                address,
+            },
+        ) => {
+            let words = PathWords {
+                topology,
+                node,
+                address,
+            };
+            say_path(alloc, &words, inputs, out)
+        }
         Some(
             Command::Run {
                 topology,

@@ -8,3 +8,4 @@ pub mod Shown
 pub mod Check
 pub mod All
 pub mod Held
+pub mod Path

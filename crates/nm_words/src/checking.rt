@@ -11,10 +11,19 @@ use crate::inputs::Inputs;
 use crate::output::{Output, end};
 use crate::reading::read_text;
 use nm_base::Sink;
-use nm_check::{explain, summary};
+use nm_check::{explain, least_lookahead, summary};
 use nm_command::Status;
+use nm_paths::way_remarks;
 use nm_topology::{TopoFault, Topology};
-use std::alloc::Global;
+use std::alloc::{AllocError, Global};
+
+/// What an accepted topology has, and what is remarked of where its packets go.
+fn overview(alloc: Global, network: &Topology) -> Result<Vec<u8>, AllocError> {
+    let mut text = summary(alloc, network)?;
+    let ways = way_remarks(alloc, network, least_lookahead(network))?;
+    text.extend_from_slice(&ways)?;
+    Ok(text)
+}
 
 /// What is said of a topology text: what it has, or where its first fault lies.
 fn check_output(alloc: Global, text: &[u8]) -> Result<Output, Status>
@@ -22,7 +31,7 @@ fn check_output(alloc: Global, text: &[u8]) -> Result<Output, Status>
     ensures fault { IfErr result (λ status. status ≡ Memory) }
 {
     match Topology::read(alloc, text) {
-        Ok(network) => Output::of(summary(alloc, &network), Status::Done),
+        Ok(network) => Output::of(overview(alloc, &network), Status::Done),
         Err(TopoFault::Refused(refusal)) => {
             Output::of(explain(alloc, text, refusal), Status::Topology(refusal))
         }

@@ -10,6 +10,7 @@ pub mod inputs;
 pub mod lines;
 pub mod mem_inputs;
 pub mod output;
+pub mod path;
 pub mod reading;
 pub mod rounds;
 pub mod script;

@@ -8,6 +8,7 @@ nullsim simulates an IPv4 network; its traces are proved to be those of one even
   nullsim check TOPO              what is in a topology, or where its first mistake is
   nullsim report TOPO [csv]       drops, queues, use and delays as tables
   nullsim text TOPO IFACE         the packets of an interface, a line each
+  nullsim path TOPO NODE ADDRESS  the way of a packet, a line a hop
   nullsim dot TOPO [load]         the network as a graph for Graphviz, coloured by use
   nullsim run TOPO DIR WORKERS REPLICAS
                                   all partitions at once, certified, with their trace files in DIR
@@ -60,6 +61,14 @@ what became of the packets of each source. csv: as comma-separated values.
 nullsim text TOPO IFACE
 Prints a line for each packet of an interface, in the manner of tcpdump. Times are
 nanoseconds.
+",
+    ),
+    (
+        "path",
+        "\
+nullsim path TOPO NODE ADDRESS
+Prints the way of a packet that NODE sends to ADDRESS, a line a hop as traceroute does,
+and what ends it: no packet moves.
 ",
     ),
     (

@@ -1,0 +1,218 @@
+//! All that is wrong with the tables of a text: the first fault of each table, a line each.
+//!
+//! That the line which stands first names the first fault in the reading order is proved
+//! (`place::find`). The others are found by the same look at one table (`place::spot_of`); that all
+//! are told is tested.
+
+ghost use Rattle.std.specs.Prelude.{◌≤◌, IfOk};
+
+use crate::array::Array;
+use crate::field::Form;
+use crate::fields::ARRAYS;
+use crate::first::keys_of;
+use crate::line::{table_line, top_line};
+use crate::place::{Found, Place, TOP_KEYS, any_head, fields_of, spot_of};
+use crate::sentence::{member, push_found, unknown_key};
+use crate::spot::Spot;
+use crate::words::{Piece, push};
+use nm_topology::parse::fields::field;
+use nm_topology::parse::head::Head;
+use std::alloc::{AllocError, Global};
+use toml::{Table, Value};
+
+/// The most faults that are told.
+pub const MAX_FAULTS: usize = 20;
+
+/// Appends a line of the text, if it is known.
+pub fn push_line(out: &mut Vec<u8>, line: Option<u64>) -> Result<(), AllocError> {
+    match line {
+        Some(line) => push(
+            out,
+            &[Piece::Text("line "), Piece::Number(line), Piece::Text(": ")],
+        ),
+        None => Ok(()),
+    }
+}
+
+/// Appends how many faults there are more than were told.
+pub fn push_more(out: &mut Vec<u8>, count: usize) -> Result<(), AllocError> {
+    if count <= MAX_FAULTS {
+        return Ok(());
+    }
+    push(
+        out,
+        &[
+            Piece::Text("\nand "),
+            Piece::Number((count - MAX_FAULTS) as u64),
+            Piece::Text(" more"),
+        ],
+    )
+}
+
+/// The line of a fault in a table of an array.
+fn line_in_table(
+    alloc: Global,
+    text: &str,
+    top: &Table,
+    head: Head,
+    array: Array,
+    number: usize,
+    spot: &Spot,
+) -> Result<Option<u64>, AllocError> {
+    let name = array.key().text();
+    let Spot::Unknown = spot else {
+        return Ok(table_line(text, name, number, key_of(spot)));
+    };
+    let Some(table) = member(top, array, number) else {
+        return Ok(None);
+    };
+    let known = keys_of(alloc, fields_of(head, array, table)?)?;
+    Ok(table_line(text, name, number, unknown_key(table, &known)))
+}
+
+/// The key of a field that is refused.
+fn key_of(spot: &Spot) -> &'static str {
+    match spot {
+        Spot::Field(fault) => fault.field.key.text(),
+        Spot::Unknown => "",
+    }
+}
+
+/// The line of a place.
+fn line_of(
+    alloc: Global,
+    text: &str,
+    top: &Table,
+    found: &Found,
+) -> Result<Option<u64>, AllocError> {
+    match &found.place {
+        Place::Top(Spot::Unknown) => Ok(top_line(text, unknown_key(top, &TOP_KEYS))),
+        Place::Top(spot) => Ok(top_line(text, key_of(spot))),
+        Place::Table {
+            array,
+            number,
+            spot,
+        } => line_in_table(alloc, text, top, found.head, *array, *number, spot),
+    }
+}
+
+/// Appends what is wrong at a place, and on which line it is.
+fn push_fault(
+    alloc: Global,
+    out: &mut Vec<u8>,
+    text: &str,
+    top: &Table,
+    found: Found,
+) -> Result<(), AllocError>
+    requires { 28 ≤ found.head.mtu }
+{
+    let line = line_of(alloc, text, top, &found)?;
+    push_line(out, line)?;
+    push_found(alloc, out, top, found)
+}
+
+/// Whether a place is in the table of this number of an array.
+fn is_in(place: &Place, array: Array, number: usize) -> bool {
+    match place {
+        Place::Table {
+            array: other,
+            number: at,
+            ..
+        } => *other == array && *at == number,
+        Place::Top(_) => false,
+    }
+}
+
+/// Appends the fault of a table of an array, if it has one and not too many stand there: how many
+/// there are now.
+fn push_table_of(
+    alloc: Global,
+    out: &mut Vec<u8>,
+    text: &str,
+    top: &Table,
+    head: Head,
+    array: Array,
+    number: usize,
+    table: &Table,
+    count: usize,
+) -> Result<usize, AllocError>
+    requires { 28 ≤ head.mtu }
+{
+    let Some(spot) = spot_of(alloc, head, array, table)? else {
+        return Ok(count);
+    };
+    if count < MAX_FAULTS {
+        out.push(b'\n')?;
+        let place = Place::Table {
+            array,
+            number,
+            spot,
+        };
+        push_fault(alloc, out, text, top, Found { head, place })?;
+    }
+    Ok(count.saturating_add(1))
+}
+
+/// Appends the faults of the tables of an array, without the one that was told first.
+fn push_array(
+    alloc: Global,
+    out: &mut Vec<u8>,
+    text: &str,
+    top: &Table,
+    head: Head,
+    array: Array,
+    first: &Place,
+    count: usize,
+) -> Result<usize, AllocError>
+    requires { 28 ≤ head.mtu }
+{
+    let Some(Value::Array(items)) = field(top, array.key().text()) else {
+        return Ok(count);
+    };
+    let mut count = count;
+    for (number, item) in items.iter().enumerate() {
+        if is_in(first, array, number) {
+            continue;
+        }
+        if let Value::Table(table) = item {
+            count = push_table_of(alloc, out, text, top, head, array, number, table, count)?;
+        }
+    }
+    Ok(count)
+}
+
+/// Appends the first fault of each table, without the one that was told first.
+fn push_others(
+    alloc: Global,
+    out: &mut Vec<u8>,
+    text: &str,
+    top: &Table,
+    first: &Place,
+) -> Result<usize, AllocError> {
+    let head = any_head(top)?;
+    let mut count = 1;
+    for wanted in &ARRAYS {
+        if let Form::Tables(array) = wanted.form {
+            count = push_array(alloc, out, text, top, head, array, first, count)?;
+        }
+    }
+    Ok(count)
+}
+
+/// Appends what is wrong with the tables of a text, a line each: first the fault at this place,
+/// then the first fault of each other table, in the order of the text; at most 20, and how many
+/// more there are.
+pub fn push_faults(
+    alloc: Global,
+    out: &mut Vec<u8>,
+    text: &str,
+    top: &Table,
+    found: Found,
+) -> Result<(), AllocError>
+    requires { 28 ≤ found.head.mtu }
+{
+    let first = found.place;
+    push_fault(alloc, out, text, top, found)?;
+    let count = push_others(alloc, out, text, top, &first)?;
+    push_more(out, count)
+}

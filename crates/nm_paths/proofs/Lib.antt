@@ -1,0 +1,3 @@
+mod Courses
+mod Nodes
+mod Lengths

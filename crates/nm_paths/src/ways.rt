@@ -1,0 +1,210 @@
+//! The way of a packet from node to node.
+
+ghost use Rattle.std.specs.Prelude.{◌≡◌, ℕ, ◌+◌, IfOk, nat_eq};
+ghost use Rattle.std.specs.List.{list_any};
+ghost use Rattle.nm_forward.specs.Routes.{route_of};
+ghost use Rattle.nm_forward.specs.State.{is_own, table_of};
+ghost use Rattle.nm_paths.specs.Walks.{behind, course, first_turn, linked_to};
+ghost use Rattle.nm_paths.specs.Walks.{node_behind, nodes_with};
+ghost use Rattle.nm_paths.specs.Walks.{node_of_iface, routes_of_all, turn_at, walk_of};
+
+use crate::tables::Tables;
+use crate::turn::{Ending, Turn, route_turn, transit_turn};
+use nm_base::{IfaceNo, NodeNo};
+use nm_packet::Address;
+use nm_topology::parts::Iface;
+use nm_topology::{NodeKind, Topology};
+use std::alloc::{AllocError, Global};
+
+/// The way of a packet.
+#[derive(Drop)]
+pub struct Way {
+    /// The interfaces by which it leaves, one node after another: at most 255.
+    pub hops: Vec<IfaceNo>,
+    /// What ends it, at the last node that it comes to.
+    pub ending: Ending,
+}
+
+/// The node of an interface; node 0 where it is not there.
+fn node_of_iface(ifaces: &[Iface], iface: IfaceNo) -> NodeNo
+    ensures { result ≡ node_of_iface ifaces.now iface }
+{
+    match ifaces.get(iface.index()) {
+        Some(there) => there.node(),
+        None => NodeNo::new(0),
+    }
+}
+
+/// The interface that an interface is linked to; interface 0 where it is not there.
+pub(crate) fn linked_to(ifaces: &[Iface], iface: IfaceNo) -> IfaceNo
+    ensures { result ≡ linked_to ifaces.now iface }
+{
+    match ifaces.get(iface.index()) {
+        Some(there) => there.far().peer,
+        None => IfaceNo::new(0),
+    }
+}
+
+/// The node to which an interface leads.
+pub(crate) fn node_behind(ifaces: &[Iface], via: IfaceNo) -> NodeNo
+    ensures { result ≡ node_behind ifaces.now via }
+{
+    node_of_iface(ifaces, linked_to(ifaces, via))
+}
+
+/// The nodes that have an address: one, or none.
+fn nodes_with(alloc: Global, ifaces: &[Iface], to: Address) -> Result<Vec<NodeNo>, AllocError>
+    ensures { IfOk result (λ v. v.items ≡ nodes_with ifaces.now to) }
+{
+    ifaces
+        .iter()
+        .filter(|iface| iface.address() == to)
+        .map(|iface| iface.node())
+        .collect(alloc)
+}
+
+/// Whether a node, which is there, is among those that have the address.
+fn is_holder(holders: &[NodeNo], node: NodeNo) -> bool
+    ensures { result ≡ list_any (nat_eq node) holders.now }
+{
+    holders.iter().any(|holder| node == *holder)
+}
+
+/// Whether an address, which these nodes have, is a node's own.
+fn is_own(topology: &Topology, holders: &[NodeNo], node: NodeNo) -> bool
+    ensures { (to : ℕ) → holders.now ≡ nodes_with topology.now.ifaces to
+        → result ≡ is_own (table_of topology.now node) to }
+{
+    match topology.nodes().get(node.index()) {
+        Some(_) => is_holder(holders, node),
+        None => false,
+    }
+}
+
+/// What kind a node is; one that is not there is a host.
+#[tactic(auto, unfolding(nm_forward::specs::State::table_of))]
+fn kind_of(topology: &Topology, node: NodeNo) -> NodeKind
+    ensures { result ≡ (table_of topology.now node).kind }
+{
+    match topology.nodes().get(node.index()) {
+        Some(there) => there.kind(),
+        None => NodeKind::Host,
+    }
+}
+
+/// The interface by which the longest route of a node to an address leads.
+fn route_at(topology: &Topology, tables: &Tables, node: NodeNo, to: Address) -> Option<IfaceNo>
+    requires { tables.now ≡ routes_of_all topology.now }
+    ensures { result ≡ route_of (table_of topology.now node).routes to }
+{
+    match topology.nodes().get(node.index()) {
+        Some(_) => tables.look(node, to),
+        None => None,
+    }
+}
+
+/// What a node does with a packet that comes to it with this time to live.
+fn turn_at(
+    topology: &Topology,
+    tables: &Tables,
+    holders: &[NodeNo],
+    node: NodeNo,
+    to: Address,
+    time_to_live: u8,
+) -> Turn
+    requires tables { tables.now ≡ routes_of_all topology.now }
+    requires holders { holders.now ≡ nodes_with topology.now.ifaces to }
+    ensures { result ≡ turn_at (table_of topology.now node) to time_to_live }
+{
+    if is_own(topology, holders, node) {
+        return Turn::Stops(Ending::Arrived);
+    }
+    let route = route_at(topology, tables, node, to);
+    transit_turn(kind_of(topology, node), route, time_to_live)
+}
+
+/// What a node does with a packet of its own.
+fn first_turn(
+    topology: &Topology,
+    tables: &Tables,
+    holders: &[NodeNo],
+    node: NodeNo,
+    to: Address,
+) -> Turn
+    requires tables { tables.now ≡ routes_of_all topology.now }
+    requires holders { holders.now ≡ nodes_with topology.now.ifaces to }
+    ensures { result ≡ first_turn (table_of topology.now node) to }
+{
+    if is_own(topology, holders, node) {
+        return Turn::Stops(Ending::Arrived);
+    }
+    route_turn(route_at(topology, tables, node, to))
+}
+
+/// Goes on from a node to which a packet comes with this time to live: appends the interfaces by
+/// which it leaves, and gives what ends its way.
+fn go_on(
+    topology: &Topology,
+    tables: &Tables,
+    holders: &[NodeNo],
+    to: Address,
+    time_to_live: u8,
+    first: NodeNo,
+    hops: &mut Vec<IfaceNo>,
+) -> Result<Ending, AllocError>
+    requires tables { tables.now ≡ routes_of_all topology.now }
+    requires holders { holders.now ≡ nodes_with topology.now.ifaces to }
+    ensures { IfOk result (λ ending. (hops.new.items, ending)
+        ≡ behind hops.old.items (course topology.now to (time_to_live + 1) first)) }
+{
+    let mut node = first;
+    for left in (0..u16::from(time_to_live) + 1).rev() {
+        match turn_at(topology, tables, holders, node, to, left as u8) {
+            Turn::Stops(ending) => return Ok(ending),
+            Turn::Leaves(via) => {
+                hops.push(via)?;
+                node = node_behind(topology.ifaces(), via);
+            }
+        }
+    }
+    Ok(Ending::Expired)
+}
+
+/// The way of a packet with this time to live that a node originates to an address: by the routes
+/// of each node that it comes to, until it arrives, nothing leads on or its time to live is over.
+///
+/// # Errors
+///
+/// Where memory was refused.
+pub fn walk(
+    alloc: Global,
+    topology: &Topology,
+    tables: &Tables,
+    node: NodeNo,
+    to: Address,
+    time_to_live: u8,
+) -> Result<Way, AllocError>
+    requires tables { tables.now ≡ routes_of_all topology.now }
+    ensures { IfOk result (λ w. (w.hops.items, w.ending)
+        ≡ walk_of topology.now node to time_to_live) }
+{
+    let holders = nodes_with(alloc, topology.ifaces(), to)?;
+    let mut hops = Vec::new(alloc);
+    let ending = match first_turn(topology, tables, &holders, node, to) {
+        Turn::Stops(ending) => ending,
+        Turn::Leaves(via) => {
+            hops.push(via)?;
+            let next = node_behind(topology.ifaces(), via);
+            go_on(
+                topology,
+                tables,
+                &holders,
+                to,
+                time_to_live,
+                next,
+                &mut hops,
+            )?
+        }
+    };
+    Ok(Way { hops, ending })
+}
