@@ -114,10 +114,11 @@ module _ {S : Type 0} (taken : S → Option (List ℕ)) (made : Option Files) (t
           some_is_none o e = cc
       wrote n true None p h w = absurd h
       wrote n true (Some o) None h w = absurd w
-      wrote n true (Some o) (Some p) h w =
-          (w.same_form ∙ h.0,
-          λ first is. appended (taken o.sink) (taken p.sink) (written_at Octets n records) file_header (subst (λ f. Appends (taken o.sink) (taken p.sink) (written_at f n records)) h.0 w.whole)
-          (h.1 first is ∙ ap (λ l. Some l) (append-nil file_header)))
+      wrote n true (Some o) (Some p) h w = (
+        w.same_form ∙ h.0,
+        λ first is. appended (taken o.sink) (taken p.sink) (written_at Octets n records) file_header (subst (λ f. Appends (taken o.sink) (taken p.sink) (written_at f n records)) h.0 w.whole)
+            (h.1 first is ∙ ap (λ l. Some l) (append-nil file_header)),
+      )
 
 -- the trace file of an interface is what its file holds after all records
 whole_file : (n : ℕ) (records : List (Record (List ℕ))) → octets_after n records ≡ trace_file Octets n records

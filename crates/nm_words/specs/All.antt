@@ -49,7 +49,7 @@ module _ (told : List ℕ → Option (List ℕ)) (failed_before failed : ℕ) (b
       ((status ≡ Done) × ((text : List ℕ) × (files : Files) × IsInput (told topology) text × AreAsked folder names text files × HasMade before after files))
       ⊎ (FailsOfInput (told topology) failed_before failed (HasNoIfaces names) status × (after ≡ before))
       ⊎ (((status ≡ File) ⊎ (status ≡ Memory))
-        × ((text : List ℕ) × (files : Files) × IsInput (told topology) text × AreAsked folder names text files × HasMadeSome before after files))
+      × ((text : List ℕ) × (files : Files) × IsInput (told topology) text × AreAsked folder names text files × HasMadeSome before after files))
 
 -- how the program ends
 abbrev pub ended : Result Unit Status → Status

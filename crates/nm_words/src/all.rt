@@ -87,11 +87,7 @@ fn find_ifaces(network: &Topology, names: &[String]) -> Result<(), Status>
 }
 
 /// Begins a trace file.
-fn begin<S: Sink + Drop>(
-    files: &mut TraceFiles<S>,
-    iface: IfaceNo,
-    sink: S,
-) -> Result<(), Status>
+fn begin<S: Sink + Drop>(files: &mut TraceFiles<S>, iface: IfaceNo, sink: S) -> Result<(), Status>
     requires { All IsSound files.old.files.items }
     ensures sound { All IsSound files.new.files.items }
     ensures begun { OnOk result (HasBegun S.taken sink files.old.files.items files.new.files.items) }

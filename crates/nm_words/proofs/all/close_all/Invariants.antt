@@ -13,6 +13,6 @@ invariant-loop-number g l = record {
   whole : (records : List (Record (List ℕ)))
       → AreHeld g.F.File.Sink.taken (g.F.Outputs.made l.fn.outputs) l.wanted.network.now (map (λ n. string_bytes n) l.wanted.names.now) records l.fn.files.files.items
       → AreWhole (g.F.Outputs.made l.fn.outputs) (map g.F.Outputs.closed l.all.items)
-        (flat_map (wanted_file (map (λ n. string_bytes n) l.wanted.names.now) l.wanted.folder.now records) (enumerate_from 0 (take l.number l.wanted.network.now.ifaces)));
+      (flat_map (wanted_file (map (λ n. string_bytes n) l.wanted.names.now) l.wanted.folder.now records) (enumerate_from 0 (take l.number l.wanted.network.now.ifaces)));
   same : g.F.Outputs.made l.outputs ≡ g.F.Outputs.made l.fn.outputs;
 }

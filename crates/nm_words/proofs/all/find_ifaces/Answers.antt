@@ -20,13 +20,15 @@ loop-number-preserved c =
     }
 
 pub returns-then-is_none-clause-none : goal.returns-then-is_none-clause-none
-returns-then-is_none-clause-none c =
-    (refl, λ all.
+returns-then-is_none-clause-none c = (
+  refl,
+  λ all.
       let n = c.loop-number.number in
       let names = c.args.names.now in
       let low : n < length names = search rules in
       at_map (λ name. iface_named c.args.network.now.ifaces (Some name) ≡ None → ⊥) (λ n. string_bytes n) names n c.index-names-number.result low (sym c.index-names-number.is) all
-      (not_there (iface_named c.args.network.now.ifaces (Some (string_bytes c.index-names-number.result))) (search rules)))
+      (not_there (iface_named c.args.network.now.ifaces (Some (string_bytes c.index-names-number.result))) (search rules)),
+)
 
 pub returns-clause-found : goal.returns-clause-found
 returns-clause-found c =
