@@ -5,6 +5,8 @@ pub const HELP: &str = "\
 nullsim simulates an IPv4 network; its traces are proved to be those of one event list.
 
   nullsim one TOPO [IFACE]        the trace of an interface as a pcap file; onehex: hexadecimal
+  nullsim sent TOPO [IFACE]       the same, of what leaves alone; received: of what arrives
+  nullsim all TOPO DIR [IFACE..]  the traces of all interfaces, or of these, as files in DIR
   nullsim check TOPO              what is in a topology, or where its first mistake is
   nullsim report TOPO [csv]       drops, queues, use and delays as tables
   nullsim text TOPO IFACE         the packets of an interface, a line each
@@ -37,6 +39,27 @@ with nanosecond times and link type raw IP, for tcpdump, tshark or Wireshark.
 nullsim onehex TOPO [IFACE]
 Writes the trace file of an interface in hexadecimal and a line feed. No words at all
 are: onehex -
+",
+    ),
+    (
+        "sent",
+        "\
+nullsim sent TOPO [IFACE]
+Writes the trace file of an interface with the packets that leave by it alone.
+",
+    ),
+    (
+        "received",
+        "\
+nullsim received TOPO [IFACE]
+Writes the trace file of an interface with the packets that arrive there alone.
+",
+    ),
+    (
+        "all",
+        "\
+nullsim all TOPO DIR [IFACE..]
+Simulates the network once and writes DIR/NAME.pcap for each interface, or for these.
 ",
     ),
     (

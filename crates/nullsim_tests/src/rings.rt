@@ -139,6 +139,19 @@ fn files_that_fail(rt: HostRuntime) -> Result<(), Fail> {
         let mut outputs = files_of(rt.alloc(), room, octets);
         let fault = run_ring(&rt, rt.alloc(), 1, &mut outputs, &gate)?.err();
         assert!(rt; has_failed(&fault, &ifaces, written));
+        assert!(rt; outputs.files.is_empty());
     }
+    Ok(())
+}
+
+/// The fourth file of a certified run does not get its name: the three before it have theirs.
+#[test]
+fn a_file_that_is_not_named(rt: HostRuntime) -> Result<(), Fail> {
+    let gate = Watching::new(true, false);
+    let mut outputs = files_of(rt.alloc(), 6, 1_000);
+    outputs.places = 3;
+    let fault = run_ring(&rt, rt.alloc(), 1, &mut outputs, &gate)?.err();
+    assert!(rt; has_failed(&fault, &[0, 1, 2, 3], 256) || has_failed(&fault, &[4, 5, 4, 5], 24));
+    assert!(rt; outputs.files.len() == 3);
     Ok(())
 }
