@@ -1,6 +1,6 @@
-use Rattle.std.proofs.Common.{◌≡◌, Some, option_map, rules, subst, sym}
+use Rattle.std.proofs.Common.{◌≡◌, Some, option_map, refl, rules, subst, sym}
 use Rattle.nm_command.specs.Command.{command_value}
-use Rattle.nm_command.specs.declared.command.Command.TheVariants.{Node}
+use Rattle.nm_command.specs.declared.command.Command.TheVariants.{All, Node}
 use Rattle.nm_words.specs.Input.{text_of}
 use Rattle.nm_program.specs.Ending.{ProgramEnds}
 use Rattle.nm_program.specs.Node.{EndsNode}
@@ -21,3 +21,13 @@ returns-in-Some-Node g c =
     let ends = subst (λ p. EndsNode taken failures told before after c.args.out out made_before made node.topology.now node.folder.now p node.replica node.addresses.now c.say_node.result.0)
     c.new.ensures c.say_node.ensures in
     subst (λ command. ProgramEnds taken failures told before after c.args.out out made_before made (option_map command_value command) c.say_node.result.0) (sym named) ends
+
+pub returns-in-Some-All : goal.returns-in-Some-All
+returns-in-Some-All g c =
+    let all = c.in-Some-All in
+    let named : c.args.command ≡ Some (All all.topology all.folder all.ifaces) = search rules in
+    let told = text_of g.I.Inputs.standard_text g.I.Inputs.file_text c.args.inputs.now.inputs in
+    let made_before = g.F.Outputs.made c.args.outputs.now in
+    let made = g.F.Outputs.made c.write_all_traces-status.new.outputs in
+    subst (λ command. ProgramEnds g.O.Sink.taken g.O.Sink.failures told c.args.inputs.now.failures c.write_all_traces-status.new.inputs.failures c.args.out c.args.out made_before made
+    (option_map command_value command) c.write_all_traces-status.result) (sym named) (c.write_all_traces-status.ensures, refl)
