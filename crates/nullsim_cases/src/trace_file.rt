@@ -1,10 +1,10 @@
 //! Trace files in hexadecimal.
 
 use nm_base::{IfaceNo, MemSink};
-use nm_command::Form;
+use nm_command::{Form, Ways};
 use nm_progress::Progress;
 use nm_topology::Topology;
-use nm_words::trace_file::write_trace_file;
+use nm_words::trace_file::{Traced, write_trace_file};
 use std::alloc::Global;
 use std::fmt::Write;
 use std::io::{self, ErrorKind};
@@ -15,11 +15,15 @@ const MAX_FILE_DIGITS: usize = 1_048_576;
 /// The trace file of an interface in hexadecimal, and a line feed, as the program writes it.
 fn trace_text(alloc: Global, topology: &Topology, iface: IfaceNo) -> io::Result<String> {
     let sink = MemSink::new(alloc, MAX_FILE_DIGITS)?;
+    let place = Traced {
+        iface,
+        ways: Ways::Both,
+    };
     let (outcome, sink) = write_trace_file(
         alloc,
         topology,
         Form::Hexadecimal,
-        iface,
+        &place,
         sink,
         &Progress::new(),
     );
