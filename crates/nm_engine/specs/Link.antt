@@ -1,6 +1,7 @@
 -- What contracts see of a link.
 use Rattle.std.specs.Prelude.{ℕ, ◌+◌, ◌<◌, ◌≤◌, Bool, false, List, length, Option, Some, None, is_some}
-use Rattle.nm_frames.specs.Session.{SessionValue}
+use Rattle.nm_frames.specs.Session.{SessionValue, peer_name}
+use Rattle.nm_frames.specs.declared.replica_name.ReplicaName.{ReplicaName}
 use Rattle.nm_engine.specs.Acceptor.{AcceptorValue}
 use Rattle.nm_base.specs.declared.limits.TheConstants.{MAX_FRAME_OCTETS, MAX_OUT_OCTETS}
 
@@ -25,3 +26,8 @@ pub record IsBounded (rest out : List ℕ) : Type 0 where
 abbrev pub has_greeted : Option SessionValue → Bool
 has_greeted None = false
 has_greeted (Some session) = is_some session.hello_taken
+
+-- which replica the peer is, once its Hello was taken
+abbrev pub greeted_by : Option SessionValue → Option ReplicaName
+greeted_by None = None
+greeted_by (Some session) = peer_name session

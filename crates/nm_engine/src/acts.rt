@@ -1,6 +1,6 @@
 //! What a link does with a shared book in one go.
 
-ghost use Rattle.std.specs.Prelude.{◌≡◌, IfOk, OnErr};
+ghost use Rattle.std.specs.Prelude.{◌≡◌, IfOk, OnErr, Some};
 ghost use Rattle.nm_frames.specs.Owed.{given_maybe, owed};
 ghost use Rattle.nm_shared.specs.Growing.{same_grows};
 
@@ -24,10 +24,16 @@ impl Act for NextOut {
         × IfOk r.1 (λ f. r.0 ≡ given_maybe a.session f)
         × OnErr r.1 (r.0 ≡ a.session) };
 
+    ghost news = { λ r. Some 0 };
+
     fn act(self, book: &mut Book) -> (Session, Result<Option<Frame>, AllocError>) {
         let NextOut { mut session } = self;
         let owed = session.next_out(book);
         (session, owed)
+    }
+
+    fn learned(_answer: &(Session, Result<Option<Frame>, AllocError>)) -> Option<u64> {
+        Some(0)
     }
 
     ghost grows = { λ a b r c h. same_grows b c h.0 };

@@ -1,7 +1,7 @@
 //! A link: one connection of a replica with a replica of another partition.
 
 ghost use Rattle.std.specs.Prelude.{◌≡◌, Some, None, [], false};
-ghost use Rattle.nm_engine.specs.Link.{IsBounded, has_greeted};
+ghost use Rattle.nm_engine.specs.Link.{IsBounded, greeted_by, has_greeted};
 ghost use Rattle.nm_engine.specs.Turn.{Turns};
 
 use crate::acceptor::Acceptor;
@@ -9,7 +9,7 @@ use crate::answer::Turn;
 use crate::reading::ReadBuffer;
 use crate::turning::work;
 use nm_base::Wire;
-use nm_frames::{Reader, Session};
+use nm_frames::{Reader, ReplicaName, Session};
 use nm_shared::{Counts, Pass, SharedBook};
 use std::alloc::Global;
 use std::marker::Model;
@@ -104,6 +104,16 @@ impl<W> Link<W> {
         match &self.session {
             Some(session) => session.hello_taken(),
             None => false,
+        }
+    }
+
+    /// Which replica the peer is, once its Hello was taken.
+    pub fn greeted_by(&self) -> Option<ReplicaName>
+        ensures { result ≡ greeted_by self.now.session }
+    {
+        match &self.session {
+            Some(session) => session.peer_name(),
+            None => None,
         }
     }
 

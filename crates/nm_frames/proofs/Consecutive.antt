@@ -140,7 +140,7 @@ later_still s c due Bye all = all
 greeted_still : (s : SessionValue) (c : ℕ) (due : Option ℕ) (o : Option Version) (p r : ℕ) (d : List ℕ) → AllAt c due s.outgoing → Still c due (greeted s o p r d)
 greeted_still s c due None p r d all = tt
 greeted_still s c due (Some v) p r d all =
-    let good : Result SessionValue SessionFault = Ok (record s { hello_taken = Some v }) in
+    let good : Result SessionValue SessionFault = Ok (record s { hello_taken = Some v; peer_replica = Some r }) in
     let peer = if_still c due (not (p == s.peer) || nat_lt 1 r) (Err Peer) good tt all in
     if_still c due (not (pointwise nat_eq d s.digest)) (Err Topology) (if not (p == s.peer) || nat_lt 1 r then Err Peer else good) tt peer
 

@@ -6,6 +6,7 @@ use Rattle.nm_topology.specs.TopologyValue.{TopologyValue}
 use Rattle.nm_book.specs.declared.message.ChannelMessage.TheVariants.{Data as DataMessage, Null as NullMessage}
 use Rattle.nm_frames.specs.declared.frame.Frame.{Frame}
 use Rattle.nm_frames.specs.declared.frame.Frame.TheVariants.{Hello, Have, Data, Null, Bye}
+use Rattle.nm_frames.specs.declared.replica_name.ReplicaName.{ReplicaName}
 use Rattle.nm_frames.specs.declared.session_fault.SessionFault.{SessionFault}
 use Rattle.nm_frames.specs.declared.session_fault.SessionFault.TheVariants.{Order, Version as BadVersion, Topology, Peer, Channel}
 use Rattle.nm_frames.specs.declared.side.Incoming.{Incoming}
@@ -18,7 +19,8 @@ use Rattle.nm_frames.specs.Channels.{channels_between}
 use Rattle.nm_frames.specs.Version.{lesser_version, other_version, version_of}
 
 -- Who speaks to whom of which topology; the channels that come from the peer, and those that go to it, by number; the versions of
--- the Hellos given and taken since the last break, and of the next Hello, if the peer's does not lower it; whether Bye was given and taken.
+-- the Hellos given and taken since the last break, the replica of the one that was taken, and the version of the next Hello, if the peer's does not
+-- lower it; whether Bye was given and taken.
 pub record SessionValue : Type 0 where
   pub me : ℕ
   pub replica : ℕ
@@ -28,6 +30,7 @@ pub record SessionValue : Type 0 where
   pub outgoing : List Outgoing
   pub hello_given : Option Version
   pub hello_taken : Option Version
+  pub peer_replica : Option ℕ
   pub offered : Version
   pub bye_given : Bool
   pub bye_taken : Bool
@@ -49,6 +52,7 @@ new_session t me replica peer = record {
   outgoing = map new_outgoing (channels_between t me peer);
   hello_given = None;
   hello_taken = None;
+  peer_replica = None;
   offered = Two;
   bye_given = false;
   bye_taken = false;
@@ -67,6 +71,14 @@ next_version (Some w) v = lesser_version w v
 abbrev pub session_version : Option Version → Option Version → Version
 session_version None taken = next_version taken Two
 session_version (Some v) taken = next_version taken v
+
+-- which replica a peer is whose Hello, if it was taken, told its number
+abbrev pub name_of : ℕ → Option ℕ → Option ReplicaName
+name_of partition None = None
+name_of partition (Some replica) = Some (record { partition = partition; replica = replica })
+
+abbrev pub peer_name : SessionValue → Option ReplicaName
+peer_name s = name_of s.peer s.peer_replica
 
 -- ---- what is taken
 
@@ -90,7 +102,7 @@ greeted s None partition replica digest = Err BadVersion
 greeted s (Some v) partition replica digest =
     if not (pointwise nat_eq digest s.digest) then Err Topology
     else if not (partition == s.peer) || nat_lt 1 replica then Err Peer
-    else Ok (record s { hello_taken = Some v })
+    else Ok (record s { hello_taken = Some v; peer_replica = Some replica })
 
 -- the first frame
 abbrev pub taken_first : SessionValue → Frame → Result SessionValue SessionFault
@@ -139,6 +151,7 @@ broken s = record s {
   outgoing = map (λ o. new_outgoing o.channel) s.outgoing;
   hello_given = None;
   hello_taken = None;
+  peer_replica = None;
   offered = offered_after s.hello_given s.hello_taken s.offered;
   bye_given = false;
   bye_taken = false;

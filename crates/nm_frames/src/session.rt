@@ -3,12 +3,13 @@
 ghost use Rattle.std.specs.Prelude.{◌≡◌, Ok, Err, MatchResult, IfOk, OnErr, is_some, length};
 ghost use Rattle.std.specs.Prelude.{nat_lt};
 ghost use Rattle.nm_frames.specs.Owed.{HasNext, MayHaveNext, given, given_maybe, hello_of, owed};
-ghost use Rattle.nm_frames.specs.Session.{broken, new_session, next_version, purpose};
+ghost use Rattle.nm_frames.specs.Session.{broken, new_session, next_version, peer_name, purpose};
 ghost use Rattle.nm_frames.specs.Session.{session_version, taken, taken_first, taken_later};
 
 use crate::channels::channels_between;
 use crate::frame::{Frame, Hello};
 use crate::owed::{are_told, next_have, next_message};
+use crate::replica_name::ReplicaName;
 use crate::session_fault::SessionFault;
 use crate::side::{
     Incoming, Outgoing, comes_in, forget_cursors, forget_given, goes_out, mark_given, move_cursor,
@@ -35,6 +36,8 @@ pub struct Session {
     outgoing: Vec<Outgoing>,
     hello_given: Option<Version>,
     hello_taken: Option<Version>,
+    /// The replica that the peer's Hello told.
+    peer_replica: Option<u8>,
     /// The version of the next Hello, if the peer's does not lower it.
     offered: Version,
     bye_given: bool,
@@ -55,6 +58,7 @@ impl Model for Session {
       outgoing = s.outgoing.items;
       hello_given = s.hello_given;
       hello_taken = s.hello_taken;
+      peer_replica = s.peer_replica;
       offered = s.offered;
       bye_given = s.bye_given;
       bye_taken = s.bye_taken;
@@ -99,6 +103,7 @@ impl Session {
             outgoing: new_outgoing(alloc, &outgoing)?,
             hello_given: None,
             hello_taken: None,
+            peer_replica: None,
             offered: Version::Two,
             bye_given: false,
             bye_taken: false,
@@ -118,6 +123,19 @@ impl Session {
         ensures { result ≡ is_some self.now.hello_taken }
     {
         self.hello_taken.is_some()
+    }
+
+    /// Which replica the peer is, once its Hello was taken.
+    pub fn peer_name(&self) -> Option<ReplicaName>
+        ensures { result ≡ peer_name self.now }
+    {
+        match self.peer_replica {
+            Some(replica) => Some(ReplicaName {
+                partition: self.peer,
+                replica,
+            }),
+            None => None,
+        }
     }
 
     /// Whether the peer will say no more.
@@ -261,6 +279,7 @@ impl Session {
             return Err(SessionFault::Peer);
         }
         self.hello_taken = Some(version);
+        self.peer_replica = Some(hello.replica);
         Ok(Taken::Greeted)
     }
 
@@ -312,6 +331,7 @@ impl Session {
         forget_cursors(&mut self.outgoing);
         self.hello_given = None;
         self.hello_taken = None;
+        self.peer_replica = None;
         self.bye_given = false;
         self.bye_taken = false;
     }

@@ -1,6 +1,6 @@
 //! What the loop does with a shared book in one go.
 
-ghost use Rattle.std.specs.Prelude.{◌≡◌, ◌+◌, length};
+ghost use Rattle.std.specs.Prelude.{◌≡◌, ◌+◌, length, Some};
 ghost use Rattle.nm_book.specs.Book.{replica_of, safe_of, state_of};
 ghost use Rattle.nm_model.specs.Certificate.{is_done};
 ghost use Rattle.nm_net.specs.Recording.{HandsOut, TakesOut};
@@ -37,6 +37,8 @@ impl Act for Stand {
         × (r.records ≡ length (state_of b).records)
         × (r.is_done ≡ is_done (net_of b.topology) b.partition (replica_of b)) };
 
+    ghost news = { λ r. Some 0 };
+
     fn act(self, book: &mut Book) -> Standing {
         Standing {
             safe: book.safe(),
@@ -44,6 +46,10 @@ impl Act for Stand {
             records: book.records(),
             is_done: book.done(),
         }
+    }
+
+    fn learned(_answer: &Standing) -> Option<u64> {
+        Some(0)
     }
 
     ghost grows = { λ a b r c h. same_grows b c h.0 };
@@ -76,11 +82,17 @@ impl Act for HandOutSome {
 
     ghost does = { λ a b r c. HandsOut b a.room.items c r.items };
 
+    ghost news = { λ r. Some 0 };
+
     fn act(self, book: &mut Book) -> Vec<Record> {
         records_have_times_of_a_file(book); // law: a trace file can say their times
         let HandOutSome { mut room } = self;
         take_out(book, &mut room);
         room
+    }
+
+    fn learned(_answer: &Vec<Record>) -> Option<u64> {
+        Some(0)
     }
 
     ghost grows = { λ a b r c h. handed_grows (b.handed + h.takes.0) b c h.takes.1 };

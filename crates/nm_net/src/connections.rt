@@ -1,102 +1,31 @@
 //! The connections of a replica: begun, accepted, and let go.
 
-ghost use Rattle.std.specs.Prelude.{◌≡◌, true, false, IfErr};
-ghost use Rattle.nm_engine.specs.Link.{has_greeted};
+ghost use Rattle.std.specs.Prelude.{◌≡◌, ◌&&◌, true, false, IfErr};
 ghost use Rattle.nm_net.specs.Served.{EndsEarly};
-ghost use Rattle.nm_net.specs.Strangers.{is_stranger};
 
+use crate::callers::Callers;
+use crate::connection::{Connection, Remains};
 use crate::dialing::Dialing;
-use crate::limits::{BUSY_POLLS, MAX_ACCEPTED, MAX_STRANGERS, STRANGER_POLLS};
+use crate::limits::{MAX_ACCEPTED, MAX_STRANGERS};
 use crate::moved::CountingWire;
 use crate::replica::Service;
 use crate::served::{Served, break_served};
 use crate::transport::Transport;
 use nm_engine::{Acceptor, Cause, Link, Turn};
-use nm_frames::Session;
+use nm_frames::ReplicaName;
 use nm_shared::Counts;
 use slab::Slab;
 use std::alloc::{AllocError, Global};
 use std::sync::Arc;
 
-/// A link, and the peer to which it was begun, if it was not accepted.
-#[derive(Drop)]
-pub(crate) struct Connection<W> {
-    pub link: Link<CountingWire<W>>,
-    peer: Option<usize>,
-    /// How many octets had moved when they were counted last.
-    counted: u64,
-    /// How many connections had come before it.
-    came: u64,
-    /// How long its Hello did not come: `BUSY_POLLS` for a poll that ran out, and 1 for another.
-    waited: u32,
-}
-
-impl<W> Connection<W> {
-    /// A connection on which nothing has moved.
-    fn new(link: Link<CountingWire<W>>, peer: Option<usize>, came: u64) -> Self {
-        Connection {
-            link,
-            peer,
-            counted: 0,
-            came,
-            waited: 0,
-        }
-    }
-
-    /// How many octets moved since they were counted last. Before the peer's Hello has come none
-    /// count: they may be a stranger's.
-    pub(crate) fn count_moved(&mut self) -> u64
-        ensures { has_greeted self.old.link.session ≡ false → result ≡ 0 }
-    {
-        if !self.link.has_greeted() {
-            return 0;
-        }
-        let all = self.link.wire().moved();
-        let more = all.saturating_sub(self.counted);
-        self.counted = all;
-        more
-    }
-
-    /// Whether someone began it whose Hello did not come.
-    fn is_stranger(&self) -> bool
-        ensures { result ≡ is_stranger self.now.peer self.now.link.session }
-    {
-        self.peer.is_none() && !self.link.has_greeted()
-    }
-
-    /// One more poll was made, which ran out or not: whether it is a stranger's, and is to be let
-    /// go.
-    fn is_overdue(&mut self, ran_out: bool) -> bool
-        ensures { result ≡ true → is_stranger self.old.peer self.old.link.session ≡ true }
-    {
-        if !self.is_stranger() {
-            return false;
-        }
-        let more = if ran_out { BUSY_POLLS } else { 1 };
-        self.waited = self.waited.saturating_add(more);
-        self.waited >= STRANGER_POLLS.saturating_mul(BUSY_POLLS)
-    }
-}
-
-/// What a connection that was let go leaves.
-#[derive(Drop)]
-struct Remains {
-    /// The peer to which it was begun.
-    peer: Option<usize>,
-    session: Option<Session>,
-    /// The peer's Hello had come.
-    has_greeted: bool,
-}
-
-/// The connections that there are, the peers that are called, and how many callers are gone.
+/// The connections that there are, the peers that are called, and the replicas that call.
 #[derive(Drop)]
 pub(crate) struct Connections<W> {
     pub open: Slab<Connection<W>>,
     peers: Vec<Dialing>,
+    callers: Callers,
     /// How many connections were accepted.
     accepted: u64,
-    /// How many connections that peers began have ended.
-    callers_ended: usize,
 }
 
 /// Calls a peer if it is to be called, as far as the transport lets it.
@@ -123,7 +52,7 @@ fn dial<T: Transport>(
         return Ok(());
     };
     let link = Link::connected(alloc, CountingWire::new(wire), session);
-    open.insert_reserved(Connection::new(link, Some(peer), 0));
+    open.insert_reserved(Connection::called(link, peer, !dialing.has_ended()));
     Ok(())
 }
 
@@ -146,7 +75,7 @@ fn keep<T: Transport, C: Counts>(
     }
     let acceptor = Acceptor::new(topology, service.partition, service.replica);
     let link = Link::accepted(alloc, CountingWire::new(wire), acceptor);
-    open.insert_reserved(Connection::new(link, None, came));
+    open.insert_reserved(Connection::accepted(link, came));
     Ok(())
 }
 
@@ -170,18 +99,52 @@ impl<W> Connections<W> {
                 *peer,
             )?)?;
         }
+        let callers = Callers::new(alloc, service.callers)?;
         Ok(Connections {
             open: Slab::new(alloc),
             peers,
+            callers,
             accepted: 0,
-            callers_ended: 0,
         })
     }
 
-    /// Whether all links have ended: those of the peers that are called, and those of so many
-    /// callers.
-    pub(crate) fn have_ended(&self, callers: usize) -> bool {
-        self.callers_ended >= callers && self.peers.iter().all(|peer| peer.has_ended())
+    /// Whether all links have ended: those of the peers that are called, and those of the replicas
+    /// that call.
+    pub(crate) fn have_ended(&self) -> bool {
+        self.callers.have_ended() && self.peers.iter().all(|peer| peer.has_ended())
+    }
+
+    /// Whether the ends of all links are sure, so that nobody may call again.
+    pub(crate) fn are_sure(&self) -> bool {
+        self.callers.are_sure() && self.peers.iter().all(|peer| peer.is_sure())
+    }
+
+    /// Whether more may be read that no wait reports.
+    pub(crate) fn have_more(&self) -> bool {
+        for key in 0..self.open.capacity() {
+            if let Some(connection) = self.open.get(key) {
+                if connection.link.wire().is_ready() {
+                    return true;
+                }
+            }
+        }
+        false
+    }
+
+    /// A wait reported the connection with this key, if there is one.
+    pub(crate) fn note(&self, key: usize) {
+        if let Some(connection) = self.open.get(key) {
+            connection.link.wire().report();
+        }
+    }
+
+    /// A wait ran out: each connection is looked at, whatever was reported.
+    pub(crate) fn note_all(&self) {
+        for key in 0..self.open.capacity() {
+            if let Some(connection) = self.open.get(key) {
+                connection.link.wire().report();
+            }
+        }
     }
 
     /// A poll was made, and ran out or not. Strangers that said no Hello for so many are let go.
@@ -272,7 +235,7 @@ impl<W> Connections<W> {
             let Some(wire) = transport.accept() else {
                 return Ok(());
             };
-            if let Some(key) = self.first_of(MAX_STRANGERS.saturating_add(service.callers)) {
+            if let Some(key) = self.first_of(MAX_STRANGERS.saturating_add(service.callers.len())) {
                 let _ = self.remove(transport, key);
             }
             self.accepted = self.accepted.saturating_add(1);
@@ -302,7 +265,11 @@ impl<W> Connections<W> {
         ensures idle { T.idle_waits transport.new ≡ T.idle_waits transport.old }
         ensures early { IfErr result EndsEarly }
     {
+        self.meet(transport, key);
         match turn {
+            Turn::Progress | Turn::Idle if self.is_cut(key) => {
+                self.let_go(transport, key, Cause::End)
+            }
             Turn::Progress | Turn::Idle => Ok(()),
             Turn::Ended => {
                 self.end(transport, key);
@@ -310,6 +277,51 @@ impl<W> Connections<W> {
             }
             Turn::Broken(cause) => self.let_go(transport, key, cause),
             Turn::Failed => Err(Served::Net),
+        }
+    }
+
+    /// Whether the other side sends no more on the connection with this key.
+    fn is_cut(&self, key: usize) -> bool {
+        match self.open.get(key) {
+            Some(connection) => connection.link.wire().has_ended(),
+            None => false,
+        }
+    }
+
+    /// Learns who began the connection with this key, once its Hello has come. It takes the place
+    /// of others that the same replica began: that has let go of those.
+    fn meet<T: Transport<Connection = W>>(&mut self, transport: &mut T, key: usize)
+        ensures { T.idle_waits transport.new ≡ T.idle_waits transport.old }
+    {
+        let Some(connection) = self.open.get_mut(key) else {
+            return;
+        };
+        let Some(name) = connection.meet() else {
+            return;
+        };
+        if self.callers.has_ended(&name) {
+            connection.count_nothing();
+        }
+        self.remove_others(transport, key, &name);
+    }
+
+    /// Lets all other connections go that the replica with this name began.
+    fn remove_others<T: Transport<Connection = W>>(
+        &mut self,
+        transport: &mut T,
+        key: usize,
+        name: &ReplicaName,
+    )
+        ensures { T.idle_waits transport.new ≡ T.idle_waits transport.old }
+    {
+        for other in 0..self.open.capacity() {
+            let is_other = match self.open.get(other) {
+                Some(connection) => other != key && connection.is_from(name),
+                None => false,
+            };
+            if is_other {
+                let _ = self.remove(transport, other);
+            }
         }
     }
 
@@ -322,7 +334,7 @@ impl<W> Connections<W> {
         ensures { T.idle_waits transport.new ≡ T.idle_waits transport.old }
     {
         let connection = self.open.try_remove(key)?;
-        let has_greeted = connection.link.has_greeted();
+        let name = connection.link.greeted_by();
         let peer = connection.peer;
         let (wire, session) = connection.link.back();
         let mut wire = wire.into_wire();
@@ -330,21 +342,23 @@ impl<W> Connections<W> {
         Some(Remains {
             peer,
             session,
-            has_greeted,
+            name,
         })
     }
 
-    /// Lets an ended connection go, and counts it: as its peer's, or as one of those who called.
+    /// Lets a connection go whose link has ended, and notes whose it was.
     fn end<T: Transport<Connection = W>>(&mut self, transport: &mut T, key: usize)
         ensures { T.idle_waits transport.new ≡ T.idle_waits transport.old }
     {
         let Some(remains) = self.remove(transport, key) else {
             return;
         };
-        match remains.peer {
-            Some(peer) if peer < self.peers.len() => self.peers[peer].end(),
-            Some(_) => {}
-            None => self.callers_ended = self.callers_ended.saturating_add(1),
+        match (remains.peer, remains.session, remains.name) {
+            (Some(peer), Some(session), _) if peer < self.peers.len() => {
+                self.peers[peer].end(session)
+            }
+            (None, _, Some(name)) => self.callers.end(&name),
+            _ => {}
         }
     }
 
@@ -368,7 +382,7 @@ impl<W> Connections<W> {
         let Remains {
             peer,
             session,
-            has_greeted,
+            name,
         } = remains;
         let is_peer = peer.is_some() || session.is_some();
         if let Some(served) = break_served(cause, is_peer) {
@@ -376,7 +390,7 @@ impl<W> Connections<W> {
         }
         if let (Some(peer), Some(session)) = (peer, session) {
             if peer < self.peers.len() {
-                self.peers[peer].broke(session, has_greeted);
+                self.peers[peer].broke(session, name.is_some());
             }
         }
         Ok(())

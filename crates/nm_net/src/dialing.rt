@@ -1,25 +1,26 @@
 //! Peers to which the replica connects.
 
-ghost use Rattle.std.specs.Prelude.{◌≡◌, if◌then◌else◌, IfSome};
+ghost use Rattle.std.specs.Prelude.{◌≡◌, true, IfSome};
 ghost use Rattle.std.proofs.Props.{props};
 ghost use Rattle.nm_frames.specs.Session.{broken};
 ghost use Rattle.nm_net.specs.Dialing.{IsAtGreeting};
-ghost use Rattle.nm_net.specs.declared.limits.TheConstants.{REST_POLLS};
+ghost use Rattle.nm_net.specs.Ends.{after_break, has_ended, is_sure, once_more, rest_of};
 
-use crate::limits::REST_POLLS;
+use crate::ends::Ends;
+use crate::limits::{RECALL_REST, REST_POLLS};
 use nm_base::PartNo;
 use nm_frames::Session;
 use nm_topology::Topology;
 use std::alloc::{AllocError, Global};
 
-/// A peer to which the replica connects, again after each break.
+/// A peer to which the replica connects, again after each break, and now and then after the end.
 #[derive(Drop)]
 pub(crate) struct Dialing {
     /// The session of the next connection. `None` while a connection has it.
     session: Option<Session>,
-    /// The peer is not called before so many polls.
+    /// The peer is not called before so many polls: one that ran out counts as `REST_POLLS`.
     rest: u32,
-    ended: bool,
+    ends: Ends,
     ghost greeting: { IfSome session IsAtGreeting } by { Prim.hlevel props },
 }
 
@@ -31,6 +32,16 @@ fn at_greeting(session: Session) -> Session
     let mut session = session;
     session.broken();
     session
+}
+
+/// For how many polls a peer is not called again whose link has ended so often.
+fn rest_of(ends: Ends, has_greeted: bool) -> u32
+    ensures { result ≡ rest_of ends has_greeted }
+{
+    match ends {
+        Ends::Sure => RECALL_REST,
+        Ends::Open | Ends::Once => { if has_greeted { 0 } else { REST_POLLS } }
+    }
 }
 
 impl Dialing {
@@ -46,7 +57,7 @@ impl Dialing {
         Ok(Dialing {
             session: Some(session),
             rest: 0,
-            ended: false,
+            ends: Ends::Open,
         })
     }
 
@@ -57,35 +68,54 @@ impl Dialing {
 
     /// The session for a new connection.
     pub(crate) fn give(&mut self) -> Option<Session>
-        ensures { IfSome result IsAtGreeting }
+        ensures session { IfSome result IsAtGreeting }
+        ensures ends { self.new.ends ≡ self.old.ends }
     {
         self.session.take()
     }
 
     /// Its connection broke. Where the peer's Hello had not come, it is left alone for a while.
     pub(crate) fn broke(&mut self, session: Session, has_greeted: bool)
-        ensures { self.new.rest ≡ (if has_greeted then 0 else REST_POLLS) }
+        ensures ends { self.new.ends ≡ after_break self.old.ends has_greeted }
+        ensures rest { self.new.rest ≡ rest_of self.new.ends has_greeted }
     {
+        if !has_greeted {
+            self.ends = self.ends.after_nobody();
+        }
+        self.rest = rest_of(self.ends, has_greeted);
         self.session = Some(at_greeting(session));
-        self.rest = if has_greeted { 0 } else { REST_POLLS };
     }
 
-    /// Its link has ended.
-    pub(crate) fn end(&mut self) {
-        self.ended = true;
+    /// Its link has ended. It is called once more at once, so that a Bye which was lost is said
+    /// again.
+    pub(crate) fn end(&mut self, session: Session)
+        ensures ends { self.new.ends ≡ once_more self.old.ends }
+        ensures rest { self.new.rest ≡ rest_of self.new.ends true }
+    {
+        self.ends = self.ends.once_more();
+        self.rest = rest_of(self.ends, true);
+        self.session = Some(at_greeting(session));
     }
 
     /// Whether its link has ended.
-    pub(crate) fn has_ended(&self) -> bool {
-        self.ended
+    pub(crate) fn has_ended(&self) -> bool
+        ensures { result ≡ has_ended self.now.ends }
+    {
+        self.ends.has_ended()
+    }
+
+    /// Whether the end of its link is sure.
+    pub(crate) fn is_sure(&self) -> bool
+        ensures { result ≡ is_sure self.now.ends }
+    {
+        self.ends.is_sure()
     }
 
     /// A poll was made, and ran out or not.
-    pub(crate) fn pass_poll(&mut self, ran_out: bool) {
-        self.rest = if ran_out {
-            0
-        } else {
-            self.rest.saturating_sub(1)
-        };
+    pub(crate) fn pass_poll(&mut self, ran_out: bool)
+        ensures { self.new.ends ≡ self.old.ends }
+    {
+        let passed = if ran_out { REST_POLLS } else { 1 };
+        self.rest = self.rest.saturating_sub(passed);
     }
 }

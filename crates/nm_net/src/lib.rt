@@ -2,8 +2,11 @@
 #![tactic(auto)]
 
 pub mod acts;
+mod callers;
+mod connection;
 mod connections;
 mod dialing;
+mod ends;
 pub mod limits;
 mod moved;
 mod recording;

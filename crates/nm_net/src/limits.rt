@@ -9,6 +9,9 @@ pub const MAX_IDLE_POLLS: u64 = 1_200;
 /// After so many polls a replica is stalled, whatever moved.
 pub const MAX_POLLS: u64 = 1_000_000_000;
 
+/// The most reports of one wait.
+pub const MAX_REPORTS: usize = 64;
+
 /// The most connections that are accepted after one poll.
 pub const MAX_ACCEPTED: usize = 64;
 
@@ -28,6 +31,14 @@ pub const MAX_TURNS: usize = 64;
 /// After so many polls a connection that broke before the peer's Hello came is begun again, or
 /// after one that ran out.
 pub const REST_POLLS: u32 = 64;
+
+/// After so many polls a peer is called anew whose link has ended for sure, or after one that ran
+/// out for each `REST_POLLS` of these: a second. It may have been lost and begun anew.
+pub const RECALL_REST: u32 = 1_280;
+
+/// For so many polls that ran out, two seconds, a replica that is done stays for those whose link's
+/// end is not sure; or for so many that did not for each of these.
+pub const LINGER_POLLS: u32 = 40;
 
 /// After so many polls the sister's knowledge is merged.
 pub const MERGE_POLLS: u64 = 1_024;

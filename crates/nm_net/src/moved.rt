@@ -1,16 +1,25 @@
-//! A wire that counts what moves on it.
+//! A wire that counts what moves on it, and is read only where something may have come.
 
 ghost use Rattle.std.specs.Prelude.{◌≡◌, ℕ, List};
 
 use nm_base::Wire;
 use nm_base::wire::{Read, Written};
 use std::marker::Model;
+use std::sync::atomic::{AtomicBool, Ordering};
 
-/// A wire, and how many octets moved on it both ways, which stops at the greatest `u64`.
+/// A wire, and how many octets moved on it both ways, which stops at the greatest `u64`. A read
+/// asks the wire only where something may have come: at first, and once it was reported, up to the
+/// read that finds no more. So a connection on which nothing comes costs no call of the system.
 #[derive(Drop)]
 pub struct CountingWire<W> {
     wire: W,
     moved: u64,
+    /// How many of the octets came.
+    came: u64,
+    /// Something may have come.
+    is_ready: AtomicBool,
+    /// A read found the end.
+    has_ended: bool,
 }
 
 impl<W> Model for CountingWire<W> {
@@ -25,7 +34,13 @@ impl<W> CountingWire<W> {
     pub fn new(wire: W) -> Self
         ensures { result ≡ wire }
     {
-        CountingWire { wire, moved: 0 }
+        CountingWire {
+            wire,
+            moved: 0,
+            came: 0,
+            is_ready: AtomicBool::new(true),
+            has_ended: false,
+        }
     }
 
     /// How many octets moved.
@@ -33,11 +48,44 @@ impl<W> CountingWire<W> {
         self.moved
     }
 
+    /// How many of them came.
+    pub fn came(&self) -> u64 {
+        self.came
+    }
+
+    /// Whether a read found the end.
+    pub fn has_ended(&self) -> bool {
+        self.has_ended
+    }
+
+    /// Whether something may have come.
+    pub fn is_ready(&self) -> bool {
+        self.is_ready.load(Ordering::Relaxed)
+    }
+
+    /// Something may have come.
+    pub fn report(&self) {
+        self.is_ready.store(true, Ordering::Relaxed);
+    }
+
     /// The wire.
     pub fn into_wire(self) -> W
         ensures { result ≡ self }
     {
         self.wire
+    }
+
+    /// Nothing more has come: the wire is asked again once it is reported.
+    fn rest(&self) {
+        self.is_ready.store(false, Ordering::Relaxed);
+    }
+
+    /// So many octets came.
+    fn count_read(&mut self, octets: usize)
+        ensures { self.new ≡ self.old }
+    {
+        self.came = self.came.saturating_add(octets as u64);
+        self.count(octets);
     }
 
     fn count(&mut self, octets: usize)
@@ -57,9 +105,18 @@ impl<W: Wire> Wire for CountingWire<W> {
     ghost failures = { λ c. W.failures c };
 
     fn read_some(&mut self, buffer: &mut [u8]) -> Read {
+        if !self.is_ready() {
+            return Read::Later;
+        }
         let read = self.wire.read_some(buffer);
-        if let Read::Got(count) = read {
-            self.count(count);
+        match read {
+            Read::Got(count) => self.count_read(count),
+            Read::End => {
+                self.has_ended = true;
+                self.rest();
+            }
+            Read::Later => self.rest(),
+            Read::Fault => {}
         }
         read
     }

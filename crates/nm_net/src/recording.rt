@@ -13,10 +13,10 @@ use nm_shared::{Counts, Pass};
 use std::alloc::Global;
 use std::sync::Wait;
 
-/// What writing came to: whether records were written, and whether there may be more.
+/// What writing came to: how many records were written, and whether there may be more.
 #[derive(Clone, Copy)]
 pub(crate) struct Recorded {
-    pub has_written: bool,
+    pub written: u64,
     pub has_more: bool,
 }
 
@@ -35,12 +35,12 @@ fn write_some<C: Counts, S: Sink, R: Wait>(
     let records = service.book.act(rt, pass, HandOutSome { room });
     files.put_all(records.as_slice())?;
     Ok(Recorded {
-        has_written: !records.is_empty(),
+        written: records.len() as u64,
         has_more: records.len() >= MAX_HANDED,
     })
 }
 
-/// Writes the records that are kept, if there are trace files.
+/// Writes the records that are kept, if there are any, and trace files.
 ///
 /// # Errors
 ///
@@ -51,20 +51,21 @@ pub(crate) fn write_records<C: Counts, S: Sink, R: Wait>(
     service: &Service<'_, C>,
     pass: &mut Pass<C>,
     files: &mut TraceFiles<S>,
+    is_left: bool,
 ) -> Result<Recorded, FilesFault>
     requires { All IsSound files.old.files.items }
     ensures { OnOk result (Streams S.taken S.failures files.old.files.items files.new.files.items) }
 {
     let mut all = Recorded {
-        has_written: false,
+        written: 0,
         has_more: false,
     };
-    if files.is_empty() {
+    if files.is_empty() || !is_left {
         return Ok(all);
     }
     for _ in 0..MAX_HAND_OUTS {
         let some = write_some(rt, alloc, service, pass, files)?;
-        all.has_written = all.has_written || some.has_written;
+        all.written = all.written.saturating_add(some.written);
         all.has_more = some.has_more;
         if !some.has_more {
             return Ok(all);

@@ -14,6 +14,7 @@ use crate::serving::{Polled, Serving, poll};
 use crate::transport::Transport;
 use nm_base::{PartNo, Sink};
 use nm_files::TraceFiles;
+use nm_frames::ReplicaName;
 use nm_progress::Progress;
 use nm_shared::{ClockBoard, Counts, Gate, OwnerSeat, Pass, SharedBook};
 use nm_topology::Topology;
@@ -32,8 +33,8 @@ pub struct Service<'a, C: Counts> {
     /// The partitions of the peers to which it connects, by their numbers in the network: one for
     /// each replica of a partition above its own with which it shares a channel.
     pub peers: &'a [PartNo],
-    /// How many replicas connect to it: those of the partitions below with which it shares one.
-    pub callers: usize,
+    /// The replicas that connect to it: those of the partitions below with which it shares one.
+    pub callers: &'a [ReplicaName],
     /// The books of all replicas of the run, its own among them. None in a run of its own, where it
     /// merges with nobody.
     pub books: &'a [SharedBook<C>],

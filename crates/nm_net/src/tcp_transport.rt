@@ -2,6 +2,7 @@
 
 ghost use Rattle.std.specs.Prelude.{◌≡◌, ◌↔◌, ◌+◌, [], true, IfSome};
 
+use crate::limits::MAX_REPORTS;
 use crate::tcp_wire::TcpWire;
 use crate::transport::{Transport, Waited};
 use mio::net::{TcpListener, TcpStream};
@@ -16,9 +17,6 @@ use std::time::Duration;
 /// The token of the listener. Connections have their keys, and wakers the tokens next below.
 const LISTENER: Token = Token(usize::MAX);
 
-/// The most events of one wait. What has no room comes at the next one.
-const MAX_EVENTS: usize = 64;
-
 /// A listener, the addresses of the peers to connect to, and a poll.
 #[derive(Drop)]
 pub struct TcpTransport<R> {
@@ -27,6 +25,8 @@ pub struct TcpTransport<R> {
     events: Events,
     listener: TcpListener,
     peers: Vec<SocketAddr>,
+    /// Somebody may have called.
+    is_called: bool,
     idle: FailureCount,
 }
 
@@ -49,6 +49,11 @@ pub fn meets_itself(own: SocketAddr, peer: SocketAddr) -> bool
     own == peer
 }
 
+/// Whether the listener was reported.
+fn has_call(events: &Events) -> bool {
+    events.iter().any(|event| event.token() == LISTENER)
+}
+
 impl<R: Net> TcpTransport<R> {
     /// Listens on this listener, and connects to the peers with these addresses. Who has a waker of
     /// the poll ends a wait by it.
@@ -66,7 +71,7 @@ impl<R: Net> TcpTransport<R> {
     where
         R: Drop,
     {
-        let events = Events::with_capacity(alloc, MAX_EVENTS)?;
+        let events = Events::with_capacity(alloc, MAX_REPORTS)?;
         poll.registry()
             .register(&mut listener, LISTENER, Interest::READABLE)?;
         Ok(TcpTransport {
@@ -75,6 +80,7 @@ impl<R: Net> TcpTransport<R> {
             events,
             listener,
             peers,
+            is_called: true,
             idle: FailureCount::new(),
         })
     }
@@ -95,9 +101,15 @@ impl<R: Net> Transport for TcpTransport<R> {
     }
 
     fn accept(&mut self) -> Option<TcpWire> {
+        if !self.is_called {
+            return None;
+        }
         match self.listener.accept() {
             Ok((stream, _)) => Some(TcpWire::new(stream)),
-            Err(_) => None,
+            Err(_) => {
+                self.is_called = false;
+                None
+            }
         }
     }
 
@@ -114,15 +126,26 @@ impl<R: Net> Transport for TcpTransport<R> {
     fn wait(&mut self, milliseconds: u64) -> Waited {
         let limit = Duration::from_millis(milliseconds);
         match self.poll.poll(&mut self.events, Some(limit)) {
-            Ok(()) if !self.events.is_empty() => Waited::Ready,
+            Ok(()) if !self.events.is_empty() => {
+                self.is_called = self.is_called || has_call(&self.events);
+                Waited::Ready
+            }
             Ok(()) => {
+                // Whatever was reported of the listener, it is asked now and then.
+                self.is_called = self.is_called || milliseconds > 0;
                 self.idle.rise();
                 Waited::RanOut
             }
             Err(_) => {
+                self.is_called = true;
                 self.idle.rise();
                 Waited::Fault
             }
         }
+    }
+
+    fn report(&self, number: usize) -> Option<usize> {
+        let event = self.events.iter().nth(number)?;
+        Some(event.token().0)
     }
 }

@@ -51,4 +51,9 @@ pub trait Transport {
     /// Waits until a connection is ready, or until so many milliseconds are over.
     fn wait(&mut self, milliseconds: u64) -> Waited
         ensures { idle_waits self.new ≡ idle_waits self.old + one_if_idle result };
+
+    /// The key of the connection that the last wait reported with this number, if it reported so
+    /// many. A connection that is not reported is looked at when a wait runs out: to report all is
+    /// as right as to report nothing, and as slow.
+    fn report(&self, number: usize) -> Option<usize>;
 }

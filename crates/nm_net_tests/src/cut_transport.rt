@@ -91,4 +91,8 @@ impl<N: Transport> Transport for CutTransport<N> {
     fn wait(&mut self, milliseconds: u64) -> Waited {
         self.transport.wait(milliseconds)
     }
+
+    fn report(&self, number: usize) -> Option<usize> {
+        self.transport.report(number)
+    }
 }

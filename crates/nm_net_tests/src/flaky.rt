@@ -1,7 +1,7 @@
 //! Replicas over transports that fail at one call, and for good.
 
 use crate::scripted::{Fails, NEVER, Scripted};
-use crate::sides::{Company, serve, topology_of};
+use crate::sides::{Company, STAYS, serve, topology_of, zero};
 use crate::talks::said_by;
 use crate::texts::SPLIT;
 use nm_base::PartNo;
@@ -23,11 +23,12 @@ fn ending_of<R: Wait>(rt: &R, alloc: Global, me: u32, fails: Fails) -> Result<Se
     let called = me != 0;
     let mut transport = Scripted::new(alloc, sources, called, fails);
     let peers = [PartNo::new(1)];
+    let callers = [zero()];
     let company = Company {
         partition: PartNo::new(me),
         peers: if called { &[] } else { &peers },
-        callers: if called { 1 } else { 0 },
-        idle_limit: 4,
+        callers: if called { &callers } else { &[] },
+        idle_limit: if fails.for_good { 4 } else { STAYS },
     };
     Ok(serve(rt, alloc, &topology, &company, &mut transport, &OpenGate)?.served)
 }

@@ -11,6 +11,8 @@ mod callers;
 #[cfg(test)]
 mod cut_transport;
 #[cfg(test)]
+mod endings;
+#[cfg(test)]
 mod flaky;
 #[cfg(test)]
 mod latecomers;

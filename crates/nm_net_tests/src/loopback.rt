@@ -1,7 +1,7 @@
 //! Two replicas in two threads, over loopback.
 
 use crate::cut_transport::CutTransport;
-use crate::sides::{Closed, Company, listen, over_tcp, serve, topology_of};
+use crate::sides::{Closed, Company, listen, over_tcp, serve, topology_of, zero};
 use crate::texts::{SHIFT, SPLIT};
 use mio::net::TcpListener;
 use nm_base::PartNo;
@@ -31,7 +31,7 @@ fn call<R: Net + Wait + Drop + Copy>(
     let company = Company {
         partition: PartNo::new(0),
         peers: &peers,
-        callers: 0,
+        callers: &[],
         idle_limit: 100,
     };
     serve(rt, alloc, topology, &company, &mut transport, &OpenGate)
@@ -48,7 +48,7 @@ fn answer<R: Net + Wait + Drop + Copy>(
     let company = Company {
         partition: PartNo::new(1),
         peers: &[],
-        callers: 1,
+        callers: &[zero()],
         idle_limit: 100,
     };
     serve(rt, alloc, topology, &company, &mut transport, &OpenGate)
@@ -109,7 +109,7 @@ fn a_peer_that_never_listens_stalls(rt: HostRuntime) -> Result<(), Fail> {
     let company = Company {
         partition: PartNo::new(0),
         peers: &numbers,
-        callers: 0,
+        callers: &[],
         idle_limit: 4,
     };
     let served = serve(&rt, alloc, &topology, &company, &mut transport, &OpenGate)?;

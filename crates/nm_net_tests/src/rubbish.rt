@@ -1,7 +1,7 @@
 //! What a replica does where somebody speaks no frames.
 
 use crate::scripted::{NEVER, Scripted};
-use crate::sides::{Company, serve, topology_of};
+use crate::sides::{Company, STAYS, serve, topology_of, zero};
 use crate::talks::{RUBBISH, rubbish_behind_hello, said_by};
 use crate::texts::SPLIT;
 use nm_base::PartNo;
@@ -18,8 +18,8 @@ fn called_by<R: Wait>(rt: &R, alloc: Global, sources: Vec<Vec<u8>>) -> Result<Se
     let company = Company {
         partition: PartNo::new(1),
         peers: &[],
-        callers: 1,
-        idle_limit: 4,
+        callers: &[zero()],
+        idle_limit: STAYS,
     };
     Ok(serve(rt, alloc, &topology, &company, &mut transport, &OpenGate)?.served)
 }

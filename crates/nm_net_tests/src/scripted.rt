@@ -30,7 +30,12 @@ pub struct Scripted {
     called: bool,
     calls: u64,
     fails: Fails,
+    /// A wait reports no connection.
+    pub is_silent: bool,
     idle: FailureCount,
+    /// How many connections were given, and how many waits ran out.
+    pub given: u64,
+    pub waited: u64,
     /// How many connections are watched, and the most that were at one time.
     pub watched: u64,
     pub most_watched: u64,
@@ -45,7 +50,10 @@ impl Scripted {
             called,
             calls: 0,
             fails,
+            is_silent: false,
             idle: FailureCount::new(),
+            given: 0,
+            waited: 0,
             watched: 0,
             most_watched: 0,
         }
@@ -66,6 +74,7 @@ impl Scripted {
         ensures idle { self.new.idle.count ≡ self.old.idle.count }
     {
         let source = self.sources.pop()?;
+        self.given = self.given.saturating_add(1);
         MemWire::new(self.alloc, source, Ending::Later, 2_000, 7).ok()
     }
 }
@@ -107,7 +116,12 @@ impl Transport for Scripted {
         if milliseconds == 0 && !fails {
             return Waited::Ready;
         }
+        self.waited = self.waited.saturating_add(1);
         self.idle.rise();
         if fails { Waited::Fault } else { Waited::RanOut }
+    }
+
+    fn report(&self, number: usize) -> Option<usize> {
+        if self.is_silent { None } else { Some(number) }
     }
 }

@@ -9,6 +9,8 @@ use mio::net::TcpListener;
 use nm_base::{MemSink, PartNo};
 use nm_book::Book;
 use nm_files::TraceFiles;
+use nm_frames::ReplicaName;
+use nm_net::limits::LINGER_POLLS;
 use nm_net::seats::own_seats;
 use nm_net::{Holdings, Served, Service, TcpTransport, Transport, run_replica};
 use nm_shared::{ClockBoard, Gate, Plain, SharedBook};
@@ -26,12 +28,23 @@ pub struct Closed {
     pub book: Book,
 }
 
+/// After so many idle polls a replica is stalled that may have to stay for a caller first.
+pub const STAYS: u64 = 2 * LINGER_POLLS as u64;
+
+/// Replica 0 of partition 0, which calls those of partition 1.
+pub fn zero() -> ReplicaName {
+    ReplicaName {
+        partition: PartNo::new(0),
+        replica: 0,
+    }
+}
+
 /// A replica 0, with whom it speaks, and when it is stalled.
 #[derive(Clone, Copy)]
 pub struct Company<'a> {
     pub partition: PartNo,
     pub peers: &'a [PartNo],
-    pub callers: usize,
+    pub callers: &'a [ReplicaName],
     pub idle_limit: u64,
 }
 
@@ -49,6 +62,7 @@ fn serve_held<'x, N: Transport, G: Gate, R: Wait>(
     book: &'x SharedBook<Plain>,
     board: &'x ClockBoard,
     peers: &'x [PartNo],
+    callers: &'x [ReplicaName],
     holdings: &mut Holdings<Plain, MemSink>,
     company: &Company<'_>,
     transport: &mut N,
@@ -64,7 +78,7 @@ fn serve_held<'x, N: Transport, G: Gate, R: Wait>(
         book,
         board,
         peers,
-        callers: company.callers,
+        callers,
         books: &[],
         sister: None,
         idle_limit: company.idle_limit,
@@ -104,6 +118,7 @@ pub fn serve<N: Transport, G: Gate, R: Wait>(
         &book,
         &board,
         company.peers,
+        company.callers,
         &mut holdings,
         company,
         transport,

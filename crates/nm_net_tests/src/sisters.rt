@@ -5,7 +5,7 @@ ghost use Rattle.nm_files.specs.Files.{IsSound};
 ghost use Rattle.nm_shared.specs.Board.{IsOwnerOf};
 
 use crate::scripted::{NEVER, Scripted};
-use crate::sides::topology_of;
+use crate::sides::{topology_of, zero};
 use crate::texts::SPLIT;
 use nm_base::{ChanNo, MemSink, PartNo, Time};
 use nm_book::{ChannelMessage, Null};
@@ -63,7 +63,7 @@ fn serve_sister<'x, R: Wait>(
         book: own,
         board,
         peers: &[],
-        callers: 1,
+        callers: &[zero()],
         books,
         sister: Some(0),
         idle_limit: 2_000,

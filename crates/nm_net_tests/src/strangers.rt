@@ -1,7 +1,7 @@
 //! What a replica does where many call that say no Hello.
 
 use crate::scripted::{NEVER, Scripted};
-use crate::sides::{Company, serve, topology_of};
+use crate::sides::{Company, STAYS, serve, topology_of, zero};
 use crate::talks::said_by;
 use crate::texts::SPLIT;
 use nm_base::PartNo;
@@ -57,7 +57,7 @@ fn called_by<R: Wait>(
     let company = Company {
         partition: PartNo::new(1),
         peers: &[],
-        callers: 1,
+        callers: &[zero()],
         idle_limit,
     };
     let gate = Noting {
@@ -103,7 +103,7 @@ fn octets_of_a_peer_count(rt: HostRuntime) -> Result<(), Fail> {
     let alloc = rt.alloc();
     let mut sources = Vec::new(alloc);
     sources.push(said_by(alloc, 0)?)?;
-    let called = called_by(&rt, alloc, sources, 4)?;
+    let called = called_by(&rt, alloc, sources, STAYS)?;
     assert!(rt; called.served == Served::Ended && called.moved >= 48);
     Ok(())
 }
@@ -133,7 +133,7 @@ fn many_strangers_leave_room_for_the_peer(rt: HostRuntime) -> Result<(), Fail> {
     for stranger in strangers(alloc, 3 * MAX_STRANGERS, NOTHING)? {
         sources.push(stranger)?;
     }
-    let called = called_by(&rt, alloc, sources, 8)?;
+    let called = called_by(&rt, alloc, sources, STAYS)?;
     assert!(rt; called.served == Served::Ended);
     assert!(rt; called.most == MAX_STRANGERS as u64 + 1);
     Ok(())

@@ -2,6 +2,7 @@
 
 use crate::listener::Listener;
 use nm_base::PartNo;
+use nm_frames::ReplicaName;
 use nm_frames::channels::channels_between;
 use nm_topology::Topology;
 use std::alloc::{AllocError, Global};
@@ -14,8 +15,8 @@ pub struct Peers {
     /// The partition of each replica that it calls, and where that listens.
     pub partitions: Vec<PartNo>,
     pub addresses: Vec<SocketAddr>,
-    /// How many replicas call it.
-    pub callers: usize,
+    /// The replicas that call it.
+    pub callers: Vec<ReplicaName>,
 }
 
 /// Whether a channel goes from one partition to another.
@@ -43,7 +44,7 @@ pub fn peers_of(
 ) -> Result<Peers, AllocError> {
     let mut partitions = Vec::new(alloc);
     let mut addresses = Vec::new(alloc);
-    let mut callers = 0usize;
+    let mut callers = Vec::new(alloc);
     for listener in listeners {
         let peer = listener.partition;
         if !is_near(alloc, topology, partition, peer)? {
@@ -53,7 +54,10 @@ pub fn peers_of(
             partitions.push(peer)?;
             addresses.push(SocketAddr::V4(listener.address))?;
         } else if peer.number() < partition.number() {
-            callers = callers.saturating_add(1);
+            callers.push(ReplicaName {
+                partition: peer,
+                replica: listener.replica,
+            })?;
         }
     }
     Ok(Peers {

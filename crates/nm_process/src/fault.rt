@@ -16,7 +16,7 @@ pub enum ProcessFault {
     /// Memory was refused.
     #[error("out of memory")]
     Memory,
-    /// Nothing moved for a minute: a peer is missing, or does not go on.
+    /// Nothing moved for a minute, and events are left to do: a peer is missing, or does not go on.
     #[error("stalled")]
     Stalled,
 }

@@ -5,4 +5,4 @@ pub mod fault;
 pub mod process;
 
 pub use fault::ProcessFault;
-pub use process::{Process, run_process};
+pub use process::{Process, ProcessEnd, run_process};

@@ -48,6 +48,15 @@ pub struct Process<'a> {
     pub progress: &'a Progress,
 }
 
+/// What the replica of a process came to.
+#[derive(Drop)]
+pub struct ProcessEnd {
+    /// It knows all and did all of its events.
+    pub book: Book,
+    /// A peer did not say Bye: it was gone, or did not go on, for the last minute.
+    pub has_stalled: bool,
+}
+
 /// Listens at the process's own address, and calls its peers.
 fn open_transport<R: Net + Drop + Copy>(
     rt: &R,
@@ -62,7 +71,7 @@ fn open_transport<R: Net + Drop + Copy>(
     TcpTransport::new(*rt, alloc, Poll::new(rt)?, listener, addresses)
 }
 
-/// Serves a replica that is shared with nobody else.
+/// Serves a replica that is shared with nobody else: whether it was stalled, done or not.
 fn serve<C: Counts, R: Net + Wait + Drop + Copy>(
     rt: &R,
     alloc: Global,
@@ -70,7 +79,7 @@ fn serve<C: Counts, R: Net + Wait + Drop + Copy>(
     book: &SharedBook<C>,
     board: &ClockBoard,
     holdings: &mut Holdings<C, MemSink>,
-) -> Result<(), ProcessFault>
+) -> Result<bool, ProcessFault>
     requires owners { All (IsOwnerOf board.now) holdings.old.seats.items }
     requires files { All IsSound holdings.old.files.files.items }
 {
@@ -88,7 +97,7 @@ fn serve<C: Counts, R: Net + Wait + Drop + Copy>(
         book,
         board,
         peers: peers.partitions.as_slice(),
-        callers: peers.callers,
+        callers: peers.callers.as_slice(),
         books: &[],
         sister: None,
         idle_limit: process.idle_limit,
@@ -96,10 +105,10 @@ fn serve<C: Counts, R: Net + Wait + Drop + Copy>(
         progress: Some(process.progress),
     };
     match run_replica(rt, alloc, &service, holdings, &mut transport, &OpenGate) {
-        Served::Ended => Ok(()),
+        Served::Ended => Ok(false),
+        Served::Stalled { .. } => Ok(true),
         Served::Net | Served::File { .. } => Err(ProcessFault::Net),
         Served::Memory => Err(ProcessFault::Memory),
-        Served::Stalled { .. } => Err(ProcessFault::Stalled),
     }
 }
 
@@ -130,14 +139,14 @@ fn shared_of<M: Naming + Send + Sync, E: Ledger + Send + Sync>(
     }
 }
 
-/// Serves a replica with this pass of its book, and gives the pass back.
+/// Serves a replica with this pass of its book: the pass, and whether it was stalled.
 fn serve_with<C: Counts, R: Net + Wait + Drop + Copy>(
     rt: &R,
     alloc: Global,
     process: &Process<'_>,
     book: &SharedBook<C>,
     pass: Pass<C>,
-) -> Result<Pass<C>, ProcessFault> {
+) -> Result<(Pass<C>, bool), ProcessFault> {
     let (board, owners, _) = ClockBoard::new(alloc, process.topology)?;
     let seats = own_seats(
         alloc,
@@ -154,16 +163,15 @@ fn serve_with<C: Counts, R: Net + Wait + Drop + Copy>(
         // The book keeps its trace: files are made of it once it is done.
         files: TraceFiles::new(alloc),
     };
-    serve(rt, alloc, process, book, &board, &mut holdings)?;
-    Ok(holdings.pass)
+    let has_stalled = serve(rt, alloc, process, book, &board, &mut holdings)?;
+    Ok((holdings.pass, has_stalled))
 }
 
 /// The book of a replica that was served with this one pass.
 ///
 /// # Errors
 ///
-/// `Stalled` where it is not done: it was seen to be done while it was shared, and no contract ties
-/// that to what is closed.
+/// `Stalled` where it is not done. Whatever serving came to, this is what is asked of the book.
 fn close<M: Naming + Send + Sync, E: Ledger + Send + Sync>(
     alloc: Global,
     shared: SharedBook<Ledgers<M, E>>,
@@ -184,14 +192,14 @@ fn close<M: Naming + Send + Sync, E: Ledger + Send + Sync>(
     Ok(closed.book)
 }
 
-/// Serves a replica whose book and passes types name, and gives its book.
+/// Serves a replica whose book and passes types name: what it came to.
 fn run_named<M: Naming + Send + Sync, E: Ledger + Send + Sync, R: Net + Wait + Drop + Copy>(
     rt: &R,
     alloc: Global,
     process: &Process<'_>,
     messages: Blank,
     events: Blank,
-) -> Result<Book, ProcessFault>
+) -> Result<ProcessEnd, ProcessFault>
     requires messages { (messages.name ≡ M.name) × (messages.parts ≡ M.parts)
         × (messages.parts ≡ 2 ^ 32) }
     requires events { (events.name ≡ E.name) × (events.parts ≡ E.parts)
@@ -201,31 +209,32 @@ fn run_named<M: Naming + Send + Sync, E: Ledger + Send + Sync, R: Net + Wait + D
       partition = process.now.partition;
       replica = process.now.replica;
     } }
-    ensures { IfOk result (IsDoneReplica (arc_value process.now.topology.now)
-        process.now.partition process.now.replica) }
+    ensures { IfOk result (λ end. IsDoneReplica (arc_value process.now.topology.now)
+        process.now.partition process.now.replica end.book) }
 {
     let shared = shared_of::<M, E>(alloc, process, messages, events)?;
     let pass = shared.pass(rt)?;
-    let pass = serve_with(rt, alloc, process, &shared, pass)?;
-    close(alloc, shared, pass)
+    let (pass, has_stalled) = serve_with(rt, alloc, process, &shared, pass)?;
+    let book = close(alloc, shared, pass)?;
+    Ok(ProcessEnd { book, has_stalled })
 }
 
-/// Serves one replica of a partition over TCP until it is done and all its links have ended, and
-/// gives its book, which knows all and did all of its events. It merges with nobody, and nothing is
-/// certified.
+/// Serves one replica of a partition over TCP until it is done and all its links have ended, or
+/// until nothing moved for so many polls of 50 ms in a row. Its book knows all and did all of its
+/// events, in the one case as in the other. It merges with nobody, and nothing is certified.
 ///
 /// # Errors
 ///
 /// `Net` where it cannot listen at its address, a peer broke the rules or told what cannot be.
-/// `Stalled` where nothing moved for so many polls of 50 ms in a row. `Memory` where memory was
+/// `Stalled` where nothing moved for so long and the book is not done. `Memory` where memory was
 /// refused. The book is let go then.
 pub fn run_process<R: Net + Wait + Drop + Copy>(
     rt: &R,
     alloc: Global,
     process: &Process<'_>,
-) -> Result<Book, ProcessFault>
-    ensures { IfOk result (IsDoneReplica (arc_value process.now.topology.now)
-        process.now.partition process.now.replica) }
+) -> Result<ProcessEnd, ProcessFault>
+    ensures { IfOk result (λ end. IsDoneReplica (arc_value process.now.topology.now)
+        process.now.partition process.now.replica end.book) }
 {
     run_named::<Brand, Brand, R>(rt, alloc, process, Blank::new(PARTS), Blank::new(PARTS))
 }

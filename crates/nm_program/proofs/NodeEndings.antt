@@ -1,7 +1,6 @@
 -- What is said of a replica that is served.
 use Rattle.std.proofs.Common.{◌≡◌, ℕ, List, Option, Result, Ok, Err, IfOk, refl, subst}
 use Rattle.nm_command.specs.declared.status.Status.{Status}
-use Rattle.nm_command.specs.declared.status.Status.TheVariants.{Done}
 use Rattle.nm_topology.specs.Topology.{topology_of}
 use Rattle.nm_topology.specs.TopologyValue.{TopologyValue}
 use Rattle.nm_book.specs.Book.{BookValue, state_of}
@@ -9,7 +8,7 @@ use Rattle.nm_peers.specs.Listeners.{AreListeners}
 use Rattle.nm_peers.specs.declared.listener.Listener.{Listener}
 use Rattle.nm_process.specs.Process.{IsDoneReplica}
 use Rattle.nm_files.specs.Outputs.{Files, HasMade}
-use Rattle.nm_program.specs.Node.{HasListeners, SaysServed, own_files, own_lines}
+use Rattle.nm_program.specs.Node.{HasListeners, SaysLines, SaysServed, own_files, own_lines}
 use Rattle.nm_words.specs.Output.{SaysOfInputs}
 
 -- what is said of it, of texts that give this network and these listeners
@@ -17,31 +16,29 @@ abbrev pub SaysOfTexts : TopologyValue → ℕ → ℕ → List ℕ → List Lis
 SaysOfTexts t p r folder listeners before after status octets = (text addresses : List ℕ) → topology_of text ≡ Ok t → AreListeners addresses t.partitions p r listeners
     → SaysServed p r before after folder text addresses status octets
 
-module _ {V E : Type 0} (items : V → List ℕ) (asked : V → Status) (t : TopologyValue) (p r : ℕ) (folder : List ℕ) (listeners : List Listener) (before after : Option Files) where
-  -- its files have the trace of its book, and what is said are their lines
-  pub says_served : (seen : TopologyValue) (book : BookValue) (written : Result V E) → seen ≡ t → IsDoneReplica t p r book
-      → IfOk written (λ _. HasMade before after (own_files seen p folder (state_of book).records))
-      → IfOk written (λ v. (asked v ≡ Done) × (items v ≡ own_lines seen p (state_of book).records))
-      → IfOk written (λ v. SaysOfTexts t p r folder listeners before after (asked v) (items v))
-  says_served seen book (Ok v) same done made said = λ text addresses read mean. (
-    said.0,
-    (
-      own_files t p folder (state_of book).records,
-      record {
-        network = t;
-        read = read;
-        listeners = listeners;
-        mean = mean;
-        book = book;
-        done = done;
-        made = refl;
-        said = subst (λ z. items v ≡ own_lines z p (state_of book).records) same said.1;
-      },
-      subst (λ z. HasMade before after (own_files z p folder (state_of book).records)) same made,
-    ),
+module _ (t : TopologyValue) (p r : ℕ) (folder : List ℕ) (listeners : List Listener) (before after : Option Files) where
+  -- its files have the trace of its book, and their lines are said, or nothing
+  pub says_served : (seen : TopologyValue) (book : BookValue) (lines : List ℕ) (status : Status) (octets : List ℕ) → seen ≡ t → IsDoneReplica t p r book
+      → HasMade before after (own_files seen p folder (state_of book).records) → lines ≡ own_lines seen p (state_of book).records
+      → SaysLines lines status octets → SaysOfTexts t p r folder listeners before after status octets
+  says_served seen book lines status octets same done made are says = λ text addresses read mean. (
+    lines,
+    own_files t p folder (state_of book).records,
+    record {
+      network = t;
+      read = read;
+      listeners = listeners;
+      mean = mean;
+      book = book;
+      done = done;
+      made = refl;
+      lines_are = subst (λ z. lines ≡ own_lines z p (state_of book).records) same are;
+    },
+    subst (λ z. HasMade before after (own_files z p folder (state_of book).records)) same made,
+    says,
   )
-  says_served seen book (Err e) same done made said = tt
 
+module _ {V E : Type 0} (items : V → List ℕ) (asked : V → Status) (t : TopologyValue) (p r : ℕ) (folder : List ℕ) (listeners : List Listener) (before after : Option Files) where
   -- the texts are those of two inputs
   pub says_of_inputs : (one two : Option (List ℕ)) (served : Result V E) → HasListeners one two p r t listeners
       → IfOk served (λ v. SaysOfTexts t p r folder listeners before after (asked v) (items v))

@@ -38,8 +38,8 @@ own_line t partition records i = if receiver_of (net_of t) i.0 == partition then
 abbrev pub own_lines : TopologyValue → ℕ → List (Record (List ℕ)) → List ℕ
 own_lines t partition records = flat_map (own_line t partition records) (enumerate_from 0 t.ifaces)
 
--- The replica of the partition is done. Its trace stands in the files of the partition's interfaces, and what is said are their lines.
-pub record SaysNode (text addresses folder : List ℕ) (partition replica : ℕ) (octets : List ℕ) (files : Files) : Type 0 where
+-- The replica of the partition is done. Its trace stands in the files of the partition's interfaces, and these are their lines.
+pub record IsNodeDone (text addresses folder : List ℕ) (partition replica : ℕ) (lines : List ℕ) (files : Files) : Type 0 where
   pub network : TopologyValue
   pub read : topology_of text ≡ Ok network
   pub listeners : List Listener
@@ -47,7 +47,11 @@ pub record SaysNode (text addresses folder : List ℕ) (partition replica : ℕ)
   pub book : BookValue
   pub done : IsDoneReplica network partition replica book
   pub made : files ≡ own_files network partition folder (state_of book).records
-  pub said : octets ≡ own_lines network partition (state_of book).records
+  pub lines_are : lines ≡ own_lines network partition (state_of book).records
+
+-- the lines are said; or nothing, of a replica that was stalled when it was done
+abbrev pub SaysLines : List ℕ → Status → List ℕ → Type 0
+SaysLines lines status octets = ((status ≡ Done) × (octets ≡ lines)) ⊎ ((status ≡ Stalled) × (octets ≡ []))
 
 -- the topology is read, and the other text is not that of listeners, this replica's among them
 pub record HasNoAddresses (text addresses : List ℕ) (partition replica : ℕ) : Type 0 where
@@ -73,7 +77,7 @@ IsNotServed partition replica text addresses Memory = Unit {0}
 IsNotServed partition replica text addresses (NotCertified n) = ⊥
 IsNotServed partition replica text addresses Stalled = ⊥
 
--- why a replica that was served has no files, or not all
+-- why a replica that was served has no files, or not all; one that was stalled before it was done has none
 abbrev pub StopsNode : Option Files → Option Files → Status → Type 0
 StopsNode before after Done = ⊥
 StopsNode before after Usage = ⊥
@@ -90,14 +94,16 @@ module _ (partition replica : ℕ) (made_before made : Option Files) where
   -- it is said once its files are made
   abbrev pub SaysServed : List ℕ → List ℕ → List ℕ → Status → List ℕ → Type 0
   SaysServed folder text addresses status octets =
-      (status ≡ Done) × ((files : Files) × SaysNode text addresses folder partition replica octets files × HasMade made_before made files)
+      (lines : List ℕ) × (files : Files) × IsNodeDone text addresses folder partition replica lines files × HasMade made_before made files
+      × SaysLines lines status octets
 
   -- why nothing is said of two inputs: no replica was served, and no file was made; or it was served, and has no files, or not all
   abbrev pub FailsNode : Option (List ℕ) → Option (List ℕ) → ℕ → ℕ → Status → Type 0
   FailsNode one two failed_before failed status = (FailsOfInputs one two failed_before failed (IsNotServed partition replica) status × (made ≡ made_before))
       ⊎ ((text : List ℕ) × (addresses : List ℕ) × (IsInput one text × IsInput two addresses) × StopsNode made_before made status)
 
--- What each status says. Files are made only once the replica is done; what files there are after a failure is not said, nor where memory was refused.
+-- What each status says. Files are made only once the replica is done, whether it was stalled then or not; what files there are after a failure is not
+-- said, nor where memory was refused.
 module _ {S : Type 0} (taken : S → Option (List ℕ)) (failures : S → ℕ) (told : List ℕ → Option (List ℕ)) (failed_before failed : ℕ) (old new : S) (made_before made : Option Files) where
   abbrev pub EndsNode : List ℕ → List ℕ → ℕ → ℕ → List ℕ → Status → Type 0
   EndsNode topology folder partition replica addresses status =

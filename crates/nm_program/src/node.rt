@@ -27,7 +27,7 @@ use nm_command::Status;
 use nm_files::Outputs;
 use nm_net::limits::MAX_IDLE_POLLS;
 use nm_peers::Listener;
-use nm_process::{Process, ProcessFault, run_process};
+use nm_process::{Process, ProcessEnd, ProcessFault, run_process};
 use nm_topology::Topology;
 use nm_topology::topology::accepted_topologies_are_in_order;
 use nm_words::input::NamedInputs;
@@ -119,15 +119,15 @@ fn write_book<F: Outputs>(
     )
 }
 
-/// The book of a replica that was served until it was done.
-fn book_of<R: Net + Wait + Drop + Copy>(
+/// What a replica came to that was served.
+fn end_of<R: Net + Wait + Drop + Copy>(
     means: &Means<'_, R>,
     topology: &Arc<Topology>,
     listeners: &[Listener],
     words: &NodeWords<'_>,
-) -> Result<Book, Status>
-    ensures done { IfOk result
-        (IsDoneReplica (arc_value topology.now) words.now.partition words.now.replica) }
+) -> Result<ProcessEnd, Status>
+    ensures done { IfOk result (λ end. IsDoneReplica (arc_value topology.now)
+        words.now.partition words.now.replica end.book) }
     ensures fault { IfErr result (λ s. (s ≡ File) ⊎ (s ≡ Memory) ⊎ (s ≡ Stalled)) }
 {
     let process = Process {
@@ -140,14 +140,15 @@ fn book_of<R: Net + Wait + Drop + Copy>(
     };
     means.progress.begin(topology.stop());
     match run_process(means.rt, means.alloc, &process) {
-        Ok(book) => Ok(book),
+        Ok(end) => Ok(end),
         Err(ProcessFault::Net) => Err(Status::File),
         Err(ProcessFault::Memory) => Err(Status::Memory),
         Err(ProcessFault::Stalled) => Err(Status::Stalled),
     }
 }
 
-/// Serves a replica until it is done, and makes its trace files: the lines of its interfaces.
+/// Serves a replica until it is done, and makes its trace files: the lines of its interfaces. Of one
+/// that is done, and was stalled, the files are made too, and nothing is said.
 fn serve<F: Outputs, R: Net + Wait + Drop + Copy>(
     means: &Means<'_, R>,
     topology: &Arc<Topology>,
@@ -167,8 +168,15 @@ fn serve<F: Outputs, R: Net + Wait + Drop + Copy>(
     if words.folder.is_empty() {
         return Err(Status::File); // its files would stand at the root
     }
-    let book = book_of(means, topology, listeners, words)?;
-    write_book(means.alloc, topology, words, &book, outputs)
+    let end = end_of(means, topology, listeners, words)?;
+    let output = write_book(means.alloc, topology, words, &end.book, outputs)?;
+    if end.has_stalled {
+        return Ok(Output {
+            text: Vec::new(means.alloc),
+            status: Status::Stalled,
+        });
+    }
+    Ok(output)
 }
 
 /// What is said of one replica of a partition that is served over TCP.

@@ -28,7 +28,23 @@ pub(crate) struct Dispatcher {
     pub passes: Vec<BookPass<Plain>>,
 }
 
-/// Notes the answers of jobs, and wakes the replicas whose books did events: how many they were.
+/// Notes the answer of a job, and wakes the replica whose book did events: how many they were.
+fn note<G>(
+    threaded: &Threaded<'_, G>,
+    dispatcher: &mut Dispatcher,
+    book: usize,
+    answer: Ran,
+) -> Result<u64, AllocError>
+    ensures { dispatcher.new.seat ≡ dispatcher.old.seat }
+{
+    let count = note_answer(&mut dispatcher.watched, book, answer)?;
+    if count > 0 {
+        threaded.wake(book);
+    }
+    Ok(count)
+}
+
+/// Notes the answers of jobs: how many events they were.
 fn note_all<G>(
     threaded: &Threaded<'_, G>,
     dispatcher: &mut Dispatcher,
@@ -39,11 +55,7 @@ fn note_all<G>(
 {
     let mut events = 0u64;
     for (job, answer) in jobs.iter().zip(answers) {
-        let count = note_answer(&mut dispatcher.watched, job.book, *answer)?;
-        if count > 0 {
-            threaded.wake(job.book);
-        }
-        events = events.saturating_add(count);
+        events = events.saturating_add(note(threaded, dispatcher, job.book, *answer)?);
     }
     Ok(events)
 }
@@ -65,11 +77,7 @@ fn do_in_turn<G: Gate, R: Wait>(
             threaded.gate.enter(number);
             let answer = watched.run(rt, alloc, book, job.limit);
             threaded.gate.leave(number);
-            let count = watched.note(answer)?;
-            if count > 0 {
-                threaded.wake(job.book);
-            }
-            events = events.saturating_add(count);
+            events = events.saturating_add(note(threaded, dispatcher, job.book, answer)?);
         }
     }
     Ok(events)

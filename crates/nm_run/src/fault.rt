@@ -10,8 +10,9 @@ use std::alloc::{AllocError, AllocFailed};
 use std::io::{self, ErrorKind};
 use thiserror::Error;
 
-/// Why a run has no report. Each trace file that was made has a prefix of what its replica handed
-/// out, and nothing is claimed of it.
+/// Why a run has no report. No trace file has its name then, but where one was refused its name
+/// those before it have. Each part that is left has a prefix of what its replica handed out, and
+/// nothing is claimed of it.
 #[derive(Clone, Copy, Debug, PartialEq, Eq, Error)]
 pub enum RunFault {
     /// The trace file of this interface could not be made, or failed when it had so many octets,

@@ -129,9 +129,8 @@ fn holdings_of<F: Outputs, R: Wait>(
     })
 }
 
-/// Which replica of the run listens here, whose book stands at this index and which so many others
-/// call.
-fn role_of(plan: &RunPlan<'_>, index: usize, listener: &Listener, callers: usize) -> Role {
+/// Which replica of the run listens here, whose book stands at this index.
+fn role_of(plan: &RunPlan<'_>, index: usize, listener: &Listener) -> Role {
     let sister = match (plan.replicas, listener.replica) {
         (2, 0) => Some(index.saturating_add(1)),
         (2, _) => Some(index.saturating_sub(1)),
@@ -142,7 +141,6 @@ fn role_of(plan: &RunPlan<'_>, index: usize, listener: &Listener, callers: usize
         partition: listener.partition,
         replica: listener.replica,
         sister,
-        callers,
     }
 }
 
@@ -169,7 +167,7 @@ fn side_of<F: Outputs, R: Wait>(
         opened.listeners,
     )?;
     Ok(Side {
-        role: role_of(opened.plan, index, listener, peers.callers),
+        role: role_of(opened.plan, index, listener),
         holdings: holdings_of(rt, opened, book, listener, seats, outputs)?,
         post,
         peers,

@@ -1,6 +1,7 @@
 //! The replicas of a run, each in a thread of its own.
 
-ghost use Rattle.std.specs.Prelude.{◌≡◌, All};
+ghost use Rattle.std.specs.Prelude.{◌≡◌, ◌⊎◌, All};
+ghost use Rattle.nm_net.specs.declared.served.Served.TheVariants.{Memory, Net};
 ghost use Rattle.nm_files.specs.Files.{IsSound};
 ghost use Rattle.nm_shared.specs.Board.{IsOwnerOf};
 
@@ -8,12 +9,14 @@ use crate::gates::SideGate;
 use crate::posts::Post;
 use crate::threads::Threaded;
 use nm_base::{PartNo, Sink};
+use nm_frames::ReplicaName;
 use nm_net::limits::MAX_IDLE_POLLS;
 use nm_net::{Holdings, Served, Service, TcpTransport, run_replica};
 use nm_peers::Peers;
 use nm_shared::{ClockBoard, Gate, Plain, SharedBook};
 use nm_topology::Topology;
 use std::alloc::Global;
+use std::io::{self, ErrorKind};
 use std::net::Net;
 use std::sync::atomic::AtomicU64;
 use std::sync::{Arc, Wait};
@@ -28,8 +31,6 @@ pub(crate) struct Role {
     pub replica: u8,
     /// Where its sister's book stands, if it has one.
     pub sister: Option<usize>,
-    /// How many replicas call it.
-    pub callers: usize,
 }
 
 /// A replica that is to run.
@@ -50,14 +51,15 @@ pub(crate) struct SideEnd<S> {
     pub holdings: Holdings<Plain, S>,
 }
 
-/// A replica with its book, and with the partitions that it calls. The dispatcher runs its book,
-/// and notes how far it is.
+/// A replica with its book, the partitions that it calls, and the replicas that call it. The
+/// dispatcher runs its book, and notes how far it is.
 fn service_of<'x>(
     topology: &'x Arc<Topology>,
     board: &'x ClockBoard,
     books: &'x [SharedBook<Plain>],
     book: &'x SharedBook<Plain>,
     peers: &'x [PartNo],
+    callers: &'x [ReplicaName],
     role: Role,
 ) -> Service<'x, Plain>
     ensures { result.board.now ≡ board.now }
@@ -69,7 +71,7 @@ fn service_of<'x>(
         book,
         board,
         peers,
-        callers: role.callers,
+        callers,
         books,
         sister: role.sister,
         idle_limit: MAX_IDLE_POLLS,
@@ -99,6 +101,17 @@ fn serve<S: Sink, G: Gate, R: Net + Wait + Drop + Copy>(
     run_replica(rt, alloc, service, holdings, transport, &gate)
 }
 
+/// How serving ends where there is no transport.
+fn served_of(error: &io::Error) -> Served
+    ensures { (result ≡ Memory) ⊎ (result ≡ Net) }
+{
+    if error.kind() == ErrorKind::OutOfMemory {
+        Served::Memory
+    } else {
+        Served::Net
+    }
+}
+
 /// Runs a replica until it ends. Where it was not done, all others are told to end too.
 pub(crate) fn run_side<S: Sink, G: Gate, R: Net + Wait + Drop + Copy>(
     rt: &R,
@@ -120,12 +133,14 @@ pub(crate) fn run_side<S: Sink, G: Gate, R: Net + Wait + Drop + Copy>(
     let Peers {
         partitions,
         addresses,
-        callers: _,
+        callers,
     } = peers;
     let served = match (
         threaded.books.get(index),
         TcpTransport::new(*rt, alloc, poll, socket, addresses),
     ) {
+        (_, Err(error)) => served_of(&error),
+        (None, _) => Served::Net,
         (Some(own), Ok(mut transport)) => {
             let service = service_of(
                 threaded.topology,
@@ -133,11 +148,11 @@ pub(crate) fn run_side<S: Sink, G: Gate, R: Net + Wait + Drop + Copy>(
                 threaded.books,
                 own,
                 partitions.as_slice(),
+                callers.as_slice(),
                 role,
             );
             serve(rt, alloc, threaded, &service, &mut holdings, &mut transport)
         }
-        _ => Served::Net,
     };
     if served != Served::Ended {
         threaded.fail();

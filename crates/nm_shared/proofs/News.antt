@@ -22,6 +22,9 @@ use Rattle.nm_book.specs.declared.fault.AcceptFault.{AcceptFault}
 use Rattle.nm_book.specs.declared.fault.AcceptFault.TheVariants.{Known, Stranger}
 use Rattle.nm_book.specs.declared.message.ChannelMessage.{ChannelMessage}
 use Rattle.nm_book.specs.declared.message.ChannelMessage.TheVariants.{Data, Null}
+use Rattle.nm_book.specs.Running.{Runs}
+use Rattle.nm_book.specs.declared.running.Ran.{Ran}
+use Rattle.nm_book.specs.declared.running.Ran.TheVariants.{All, Limit, Memory}
 use Rattle.nm_shared.specs.Counted.{Meets, Rises}
 use Rattle.nm_shared.specs.Known.{HasAllChannels, Home, messages_below, messages_known, news}
 
@@ -206,6 +209,18 @@ accept_adds m b r c all h =
     ap messages_known h.same
     ∙ added b.topology b.partition b.knows c.knows (message_channel m) taken (news r)
     (learns_if_adds b.topology b.partition b.knows c.knows (message_channel m) taken _ r refl all (taken_adds b.knows m) h.learns)
+
+-- what does not change what is known adds nothing to it
+none_adds : (b c : BookValue) → messages_known c ≡ messages_known b → messages_known c ≡ messages_known b + 0
+none_adds b c e = omega (arith, e)
+
+pub handed_adds : (h : ℕ) (b c : BookValue) → c ≡ record b { handed = h } → messages_known c ≡ messages_known b + 0
+handed_adds h b c e = none_adds b c (ap messages_known e)
+
+pub runs_add : (limit : ℕ) (b : BookValue) (r : Ran) (c : BookValue) → Runs b c limit r → messages_known c ≡ messages_known b + 0
+runs_add limit b (All n) c h = none_adds b c (ap messages_known h.same)
+runs_add limit b (Limit n) c h = none_adds b c (ap messages_known h.same)
+runs_add limit b (Memory n) c h = none_adds b c (ap messages_known h.same)
 
 true_false : true ≡ false → ⊥
 true_false e = cc

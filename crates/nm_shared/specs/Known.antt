@@ -1,5 +1,5 @@
 -- How much a book knows and did, which is what its passes count.
-use Rattle.std.specs.Prelude.{◌≡◌, ℕ, zero, suc, ◌+◌, ◌≤◌, if◌then◌else◌, List, length, slice_index_or, Result, Ok, Err}
+use Rattle.std.specs.Prelude.{◌≡◌, ℕ, zero, suc, ◌+◌, ◌≤◌, if◌then◌else◌, List, length, slice_index_or, Option, Some, None, Result, Ok, Err}
 use Rattle.nm_topology.specs.Topology.{receiving_iface}
 use Rattle.nm_topology.specs.TopologyValue.{TopologyValue}
 use Rattle.nm_model.specs.Knowledge.{Know, nothing_known}
@@ -48,6 +48,11 @@ pub record Grows (b c : BookValue) : Type 0 where
   pub channels : length c.knows ≡ length b.knows
   pub messages : messages_known b ≤ messages_known c
   pub events : b.events ≤ c.events
+
+-- a book that had a place for each channel learned as many messages as its answer tells, where it tells
+abbrev pub TellsNews : BookValue → Option ℕ → BookValue → Type 0
+TellsNews b None c = Unit {0}
+TellsNews b (Some n) c = HasAllChannels b → messages_known c ≡ messages_known b + n
 
 -- how many messages an answer says were new
 abbrev pub news : Result Accepted AcceptFault → ℕ

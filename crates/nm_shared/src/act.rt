@@ -1,7 +1,8 @@
 //! What is done to a book in one go.
 
+ghost use Rattle.std.specs.Prelude.{◌≡◌, ℕ, Option};
 ghost use Rattle.nm_book.specs.Book.{BookValue};
-ghost use Rattle.nm_shared.specs.Known.{Grows};
+ghost use Rattle.nm_shared.specs.Known.{Grows, TellsNews};
 
 use nm_book::Book;
 
@@ -12,9 +13,18 @@ pub trait Act {
     /// Of the act, the book before, the answer and the book after.
     ghost does: { Self → BookValue → Self.Out → BookValue → Type 0 };
 
+    // How many messages the book learned, where the answer tells it.
+    ghost news: { Self.Out → Option ℕ };
+
     /// Does it.
     fn act(self, book: &mut Book) -> Self::Out
-        ensures { does self book.old result book.new };
+        ensures does { does self book.old result book.new }
+        ensures news { TellsNews book.old (news result) book.new };
+
+    /// How many messages the book learned, where the answer tells it. Where it does not, all that
+    /// it knows are counted, channel by channel.
+    fn learned(answer: &Self::Out) -> Option<u64>
+        ensures { result ≡ news answer.now };
 
     /// The book is the same replica after it, and neither its messages nor its events fall.
     ghost grows: { (a : Self) (b : BookValue) (r : Self.Out) (c : BookValue) → does a b r c

@@ -1,6 +1,6 @@
 //! The calls of a book, as acts.
 
-ghost use Rattle.std.specs.Prelude.{◌≡◌, ◌+◌, IfOk, if◌then◌else◌, is_some, slice_get};
+ghost use Rattle.std.specs.Prelude.{◌≡◌, ◌+◌, IfOk, if◌then◌else◌, is_some, slice_get, None, Some};
 ghost use Rattle.nm_model.specs.Promise.{Plain, Tight};
 ghost use Rattle.nm_book.specs.Book.{Takes, is_outgoing, message_channel, message_taken, null_on};
 ghost use Rattle.nm_book.specs.Book.{only_if, state_of};
@@ -8,7 +8,7 @@ ghost use Rattle.nm_book.specs.Merging.{BookMerges};
 ghost use Rattle.nm_book.specs.Running.{Runs};
 ghost use Rattle.nm_shared.specs.Growing.{accept_grows, handed_grows, merge_grows, runs_grow};
 ghost use Rattle.nm_shared.specs.Growing.{same_grows};
-ghost use Rattle.nm_shared.specs.Known.{messages_known};
+ghost use Rattle.nm_shared.specs.Known.{messages_known, news};
 
 use crate::act::Act;
 use crate::known::messages;
@@ -29,8 +29,19 @@ impl<'a> Act for Accept<'a> {
     ghost does = { λ a b r c. Takes b c (message_channel a.message.now)
         (message_taken b.knows a.message.now) r };
 
+    ghost news = { λ r. Some (news r) };
+
     fn act(self, book: &mut Book) -> Result<Accepted, AcceptFault> {
         book.accept(self.message)
+    }
+
+    fn learned(answer: &Result<Accepted, AcceptFault>) -> Option<u64>
+        ensures { result ≡ Some (news answer.now) }
+    {
+        match answer {
+            Ok(Accepted::New) => Some(1),
+            Ok(Accepted::Known | Accepted::Raised) | Err(_) => Some(0),
+        }
     }
 
     ghost grows = { λ a b r c h. accept_grows a.message.now b r c h };
@@ -48,8 +59,14 @@ impl Act for Run {
 
     ghost does = { λ a b r c. Runs b c a.limit r };
 
+    ghost news = { λ r. Some 0 };
+
     fn act(self, book: &mut Book) -> Ran {
         book.run_safe(self.alloc, self.limit)
+    }
+
+    fn learned(_answer: &Ran) -> Option<u64> {
+        Some(0)
     }
 
     ghost grows = { λ a b r c h. runs_grow a.limit b r c h };
@@ -67,8 +84,14 @@ impl Act for MakeNull {
     ghost does = { λ a b r c. (c ≡ b) × (r ≡ only_if (is_outgoing b a.channel)
         (null_on Tight b a.channel)) };
 
+    ghost news = { λ r. Some 0 };
+
     fn act(self, book: &mut Book) -> Option<Null> {
         book.null(self.channel)
+    }
+
+    fn learned(_answer: &Option<Null>) -> Option<u64> {
+        Some(0)
     }
 
     ghost grows = { λ a b r c h. same_grows b c h.0 };
@@ -86,8 +109,14 @@ impl Act for MakeOldNull {
     ghost does = { λ a b r c. (c ≡ b) × (r ≡ only_if (is_outgoing b a.channel)
         (null_on Plain b a.channel)) };
 
+    ghost news = { λ r. Some 0 };
+
     fn act(self, book: &mut Book) -> Option<Null> {
         book.old_null(self.channel)
+    }
+
+    fn learned(_answer: &Option<Null>) -> Option<u64> {
+        Some(0)
     }
 
     ghost grows = { λ a b r c h. same_grows b c h.0 };
@@ -105,8 +134,16 @@ impl<'a> Act for Merge<'a> {
 
     ghost does = { λ a b r c. BookMerges b c a.knowledge.now r };
 
+    ghost news = { λ r. None };
+
     fn act(self, book: &mut Book) -> Result<(), MergeFault> {
         book.merge(self.alloc, self.knowledge)
+    }
+
+    fn learned(_answer: &Result<(), MergeFault>) -> Option<u64>
+        ensures { result ≡ None }
+    {
+        None
     }
 
     ghost grows = { λ a b r c h. merge_grows a.knowledge.now b r c h };
@@ -127,8 +164,14 @@ impl Act for CopyKnowledge {
       knows = b.knows;
     }) };
 
+    ghost news = { λ r. Some 0 };
+
     fn act(self, book: &mut Book) -> Result<Knowledge, AllocError> {
         book.copy_knowledge(self.alloc)
+    }
+
+    fn learned(_answer: &Result<Knowledge, AllocError>) -> Option<u64> {
+        Some(0)
     }
 
     ghost grows = { λ a b r c h. same_grows b c h.0 };
@@ -151,11 +194,17 @@ impl Act for Look {
     ghost does = { λ a b r c. (c ≡ b) × (r.messages ≡ messages_known b)
         × (r.events ≡ b.events) };
 
+    ghost news = { λ r. Some 0 };
+
     fn act(self, book: &mut Book) -> Amounts {
         Amounts {
             messages: messages(book),
             events: book.events(),
         }
+    }
+
+    fn learned(_answer: &Amounts) -> Option<u64> {
+        Some(0)
     }
 
     ghost grows = { λ a b r c h. same_grows b c h.0 };
@@ -171,8 +220,14 @@ impl Act for HandOut {
     ghost does = { λ a b r c. (r ≡ slice_get (state_of b).records b.handed)
         × (c ≡ record b { handed = b.handed + (if is_some r then 1 else 0) }) };
 
+    ghost news = { λ r. Some 0 };
+
     fn act(self, book: &mut Book) -> Option<Record> {
         book.hand_out()
+    }
+
+    fn learned(_answer: &Option<Record>) -> Option<u64> {
+        Some(0)
     }
 
     ghost grows = { λ a b r c h. handed_grows

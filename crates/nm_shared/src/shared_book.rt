@@ -1,7 +1,7 @@
 //! A book that threads share.
 
 ghost use Rattle.std.specs.Prelude.{◌≡◌, ◌+◌, ◌-◌, ◌^◌, ◌<◌, ◌≤◌, true, false, Err, length};
-ghost use Rattle.std.specs.Prelude.{vec_len, IfOk, IfErr};
+ghost use Rattle.std.specs.Prelude.{vec_len, IfOk, IfErr, IfSome};
 ghost use Rattle.std.specs.Arc.{arc_value};
 ghost use Rattle.std.specs.List.{sum_by};
 ghost use Rattle.nm_book.specs.Book.{BookValue, is_replica};
@@ -34,8 +34,11 @@ pub struct Held<C: Counts> {
     rest: C::Share,
     /// How many passes were made.
     made: u64,
+    /// How many messages the book knows.
+    known: u64,
     ghost home: { C.exact ≡ true → home_of book ≡ C.home },
     ghost channels: { HasAllChannels book },
+    ghost knows: { known ≡ messages_known book },
     ghost messages: { C.messages counts ≡ messages_known book },
     ghost events: { C.events counts ≡ book.events },
     ghost parts: { C.parts rest + made ≡ 2 ^ 32 },
@@ -86,14 +89,15 @@ impl<C: Counts> Held<C> {
             (C.events_of pass.old.share) (C.messages_of pass.new.share)
             (C.events_of pass.new.share) self.old.book self.new.book }
     {
-        let old_messages = messages(&self.book);
+        let old_messages = self.known;
         let old_events = self.book.events();
         self.counts.audit(&mut pass.share);
-        let out = act.act(&mut self.book);
-        let new_messages = messages(&self.book) - old_messages;
+        let answer = act.act(&mut self.book);
+        self.known = known_after(&self.book, old_messages, A::learned(&answer));
+        let new_messages = self.known - old_messages;
         let new_events = self.book.events() - old_events;
         self.counts.add(&mut pass.share, new_messages, new_events);
-        out
+        answer
     }
 
     /// The book and its totals, where no pass is missing.
@@ -114,11 +118,25 @@ impl<C: Counts> Held<C> {
             mut counts,
             rest,
             made: _,
+            known: _,
         } = self;
         let mut whole = gather::<C>(rest, passes);
         counts.audit(&mut whole);
         Ok(unshared(book))
     }
+}
+
+/// How many messages a book knows which knew so many, and learned so many, or nobody tells how many.
+fn known_after(book: &Book, before: u64, learned: Option<u64>) -> u64
+    requires { IfSome learned (λ n. messages_known book.now ≡ before + n) }
+    ensures { result ≡ messages_known book.now }
+{
+    if let Some(more) = learned {
+        if let Some(known) = before.checked_add(more) {
+            return known;
+        }
+    }
+    messages(book)
 }
 
 /// A book with its totals.
@@ -187,6 +205,7 @@ impl<C: Counts> SharedBook<C> {
                 counts,
                 rest: whole,
                 made: 0,
+                known: 0,
             }),
         })
     }

@@ -12,6 +12,7 @@ invariant_of-new g c =
     record {
       home = λ exact. ap home_of e ∙ sym (c.requires.home exact);
       channels = fresh_has_all t c.args.partition c.args.replica c.in_ok-book.book e;
+      knows = sym (fresh_knows t c.args.partition c.args.replica c.in_ok-book.book e);
       messages = c.requires.counts.0 ∙ sym (fresh_knows t c.args.partition c.args.replica c.in_ok-book.book e);
       events = c.requires.counts.1 ∙ sym (ap (λ (b : BookValue). b.events) e);
       parts = search rules;

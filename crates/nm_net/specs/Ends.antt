@@ -1,0 +1,52 @@
+-- How often links have ended.
+use Rattle.std.specs.Prelude.{ℕ, Bool, true, false, ◌==◌, ◌&&◌, if◌then◌else◌}
+use Rattle.nm_frames.specs.declared.replica_name.ReplicaName.{ReplicaName}
+use Rattle.nm_net.specs.declared.callers.Caller.{Caller}
+use Rattle.nm_net.specs.declared.ends.Ends.{Ends}
+use Rattle.nm_net.specs.declared.ends.Ends.TheVariants.{Open, Once, Sure}
+use Rattle.nm_net.specs.declared.limits.TheConstants.{REST_POLLS, RECALL_REST}
+
+-- one end more: the second is sure
+abbrev pub once_more : Ends → Ends
+once_more Open = Once
+once_more Once = Sure
+once_more Sure = Sure
+
+-- a call after an end found nobody: the end is sure
+abbrev pub after_nobody : Ends → Ends
+after_nobody Open = Open
+after_nobody Once = Sure
+after_nobody Sure = Sure
+
+abbrev pub has_ended : Ends → Bool
+has_ended Open = false
+has_ended Once = true
+has_ended Sure = true
+
+abbrev pub is_sure : Ends → Bool
+is_sure Open = false
+is_sure Once = false
+is_sure Sure = true
+
+-- For how many polls a peer is not called again: at once where it greeted last time, and seldom once the link has ended for sure, for one that was
+-- lost and begun anew.
+abbrev pub rest_of : Ends → (has_greeted : Bool) → ℕ
+rest_of Open has_greeted = if has_greeted then 0 else REST_POLLS
+rest_of Once has_greeted = if has_greeted then 0 else REST_POLLS
+rest_of Sure has_greeted = RECALL_REST
+
+-- how often a link has ended after a connection of it broke
+abbrev pub after_break : Ends → (has_greeted : Bool) → Ends
+after_break ends has_greeted = if has_greeted then ends else after_nobody ends
+
+-- a caller whose link has not ended
+abbrev pub new_caller : ReplicaName → Caller
+new_caller name = record { name = name; ends = Open }
+
+-- whether it is the caller with this name
+abbrev pub is_named : ReplicaName → Caller → Bool
+is_named name c = (c.name.partition == name.partition) && (c.name.replica == name.replica)
+
+-- the caller after the link with this name has ended once more
+abbrev pub ended_by : ReplicaName → Caller → Caller
+ended_by name c = if is_named name c then record c { ends = once_more c.ends } else c
