@@ -8,19 +8,18 @@ ghost use Rattle.nm_command.specs.Command.{command_of};
 
 mod help;
 mod hints;
-mod host;
 mod noted;
+mod system;
 mod watching;
 
 use help::{HELP, asked};
 use hints::say_more;
-use host::{HostInputs, HostOutputs};
 use nm_base::sink::write_all;
 use nm_base::{MemSink, Sink, StdSink};
 use nm_command::{Command, Status};
 use nm_program::{Means, NamedInputs, conclude, report, run};
 use nm_progress::Progress;
-use noted::{Noted, Watched};
+use noted::{Noted, NotedWriter};
 use std::env::Env;
 use std::io::{BufWriter, ErrorKind, IsTerminal, Stderr, Write};
 use std::net::Net;
@@ -29,6 +28,7 @@ use std::sync::Wait;
 use std::thread::Threads;
 use std::time::Clock;
 use std::{env, io, net, thread};
+use system::{SystemInputs, SystemOutputs};
 use watching::{Over, watch};
 
 /// The octets of the lines that are said of errors, at most.
@@ -50,11 +50,11 @@ struct Ended {
     is_silent: bool,
 }
 
-/// The program over the host's files and network, up to its exit status. On a terminal more is said
-/// of a fault.
+/// The program over the files and the network of the system, up to its exit status. On a terminal
+/// more is said of a fault.
 fn perform<N, E: Sink>(
     rt: &HostRuntime,
-    network: &N,
+    system: &N,
     words: &[String],
     errors: &mut E,
     progress: &Progress,
@@ -68,7 +68,7 @@ where
         + Copy,
 {
     let noted = Noted::new();
-    let status = perform_noted(rt, network, words, errors, progress, &noted);
+    let status = perform_noted(rt, system, words, errors, progress, &noted);
     if rt.stderr().is_terminal() {
         say_more(status, &noted, errors);
     }
@@ -81,7 +81,7 @@ where
 /// As `perform`, and notes what went wrong at the system.
 fn perform_noted<N, E: Sink>(
     rt: &HostRuntime,
-    network: &N,
+    system: &N,
     words: &[String],
     errors: &mut E,
     progress: &Progress,
@@ -96,13 +96,13 @@ where
         + Copy,
 {
     let writer = rt.stdout();
-    let Ok(writer) = BufWriter::new(rt.alloc(), Watched { writer, noted }) else {
+    let Ok(writer) = BufWriter::new(rt.alloc(), NotedWriter { writer, noted }) else {
         return report(Status::Memory, errors);
     };
-    let mut inputs = NamedInputs::new(HostInputs { runtime: rt, noted });
-    let mut outputs = HostOutputs { runtime: rt, noted };
+    let mut inputs = NamedInputs::new(SystemInputs { runtime: rt, noted });
+    let mut outputs = SystemOutputs { runtime: rt, noted };
     let means = Means {
-        rt: network,
+        rt: system,
         alloc: rt.alloc(),
         progress,
     };
@@ -112,7 +112,7 @@ where
 }
 
 /// As `perform`, while a line on the terminal says how far it is.
-fn perform_watched<N>(rt: &HostRuntime, network: &N, words: &[String], said: &mut MemSink) -> Ended
+fn perform_watched<N>(rt: &HostRuntime, system: &N, words: &[String], said: &mut MemSink) -> Ended
 where
     N: Net<Stream = net::TcpStream, Listener = net::TcpListener>
         + Threads
@@ -124,11 +124,11 @@ where
 {
     let (progress, over) = (Progress::new(), Over::new());
     let (_, ended) = thread::join(
-        network,
-        || watch(network, rt.alloc(), &progress, &over, &mut rt.stderr()),
+        system,
+        || watch(system, rt.alloc(), &progress, &over, &mut rt.stderr()),
         || {
-            let ended = perform(rt, network, words, said, &progress);
-            over.tell(network);
+            let ended = perform(rt, system, words, said, &progress);
+            over.tell(system);
             ended
         },
     );
@@ -139,7 +139,7 @@ where
 /// does not where nobody reads the output any more.
 fn perform_quietly<N>(
     rt: &HostRuntime,
-    network: &N,
+    system: &N,
     words: &[String],
     said: &mut MemSink,
     errors: &mut StdSink<Stderr>,
@@ -154,9 +154,9 @@ where
         + Copy,
 {
     let ended = if rt.stderr().is_terminal() {
-        perform_watched(rt, network, words, said)
+        perform_watched(rt, system, words, said)
     } else {
-        perform(rt, network, words, said, &Progress::new())
+        perform(rt, system, words, said, &Progress::new())
     };
     if !ended.is_silent {
         let _ = write_all(errors, said.octets());
@@ -191,9 +191,9 @@ fn said_of_itself(rt: &HostRuntime, words: &[String]) -> Option<&'static str>
     }
 }
 
-/// The program, up to its exit status. `network` is the runtime too, with what `main` alone may
+/// The program, up to its exit status. `system` is the runtime too, with what `main` alone may
 /// hand on: the network, and waiting.
-fn status<N>(rt: &HostRuntime, network: &N) -> Status
+fn status<N>(rt: &HostRuntime, system: &N) -> Status
 where
     N: Net<Stream = net::TcpStream, Listener = net::TcpListener>
         + Threads
@@ -216,7 +216,7 @@ where
         return say(rt, text);
     }
     match MemSink::new(rt.alloc(), MAX_ERROR_OCTETS) {
-        Ok(mut said) => perform_quietly(rt, network, words.as_slice(), &mut said, &mut errors),
+        Ok(mut said) => perform_quietly(rt, system, words.as_slice(), &mut said, &mut errors),
         Err(_) => report(Status::Memory, &mut errors),
     }
 }

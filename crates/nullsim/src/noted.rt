@@ -43,12 +43,12 @@ impl Noted {
 
 /// A writer that notes that its other end was closed, as by `head`.
 #[derive(Drop)]
-pub struct Watched<'a, W> {
+pub struct NotedWriter<'a, W> {
     pub writer: W,
     pub noted: &'a Noted,
 }
 
-impl<'a, W: Write> Write for Watched<'a, W> {
+impl<'a, W: Write> Write for NotedWriter<'a, W> {
     fn write(&mut self, octets: &[u8]) -> io::Result<usize> {
         let answer = self.writer.write(octets);
         if let Err(error) = &answer {

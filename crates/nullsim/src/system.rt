@@ -1,4 +1,4 @@
-//! The inputs and the files of the host.
+//! The inputs and the files of the operating system.
 
 ghost use Rattle.std.specs.Prelude.{None};
 
@@ -11,14 +11,14 @@ use std::fs::File;
 use std::io::{BufWriter, ErrorKind, StdinLock};
 use std::{fs, io};
 
-/// Standard input and the files of the host. What they have is not told.
+/// Standard input and the files of the system. What they have is not told.
 #[derive(Drop)]
-pub struct HostInputs<'a> {
+pub struct SystemInputs<'a> {
     pub runtime: &'a HostRuntime,
     pub noted: &'a Noted,
 }
 
-impl<'a> Inputs for HostInputs<'a> {
+impl<'a> Inputs for SystemInputs<'a> {
     type Standard = StdinLock<'static>;
 
     type File = File;
@@ -43,15 +43,15 @@ impl<'a> Inputs for HostInputs<'a> {
 /// What stands behind the name of a file until it is whole.
 const PART: &str = ".part";
 
-/// The files of the host that are made or replaced: each is written under its name with `.part`
+/// The files of the system that are made or replaced: each is written under its name with `.part`
 /// behind it, and renamed once it is whole. What they have is not told.
 #[derive(Drop)]
-pub struct HostOutputs<'a> {
+pub struct SystemOutputs<'a> {
     pub runtime: &'a HostRuntime,
     pub noted: &'a Noted,
 }
 
-/// A file of the host that is closed and does not have its name yet.
+/// A file of the system that is closed and does not have its name yet.
 #[derive(Drop)]
 pub struct ClosedFile {
     part: String,
@@ -81,7 +81,7 @@ fn closed_file(alloc: Global, name: &str) -> Result<ClosedFile, AllocError> {
     })
 }
 
-impl<'a> HostOutputs<'a> {
+impl<'a> SystemOutputs<'a> {
     /// What an error of the system at a file is, which is noted.
     fn noted(&self, name: &str, error: &io::Error) -> OutputFault {
         self.noted.file(self.runtime.alloc(), name, error);
@@ -89,7 +89,7 @@ impl<'a> HostOutputs<'a> {
     }
 }
 
-impl<'a> Outputs for HostOutputs<'a> {
+impl<'a> Outputs for SystemOutputs<'a> {
     type File = StdSink<BufWriter<File>>;
 
     type Closed = ClosedFile;
