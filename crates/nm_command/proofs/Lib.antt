@@ -1,2 +1,2 @@
 mod Numbers
-mod Words
+mod WordCounts

@@ -3,7 +3,7 @@ use Rattle.std.proofs.Common.{◌≡◌, ℕ, ◌+◌, ◌<◌, ◌≤◌, Bool,
 use Rattle.std.specs.Str.{bytes_eq}
 use Rattle.std.proofs.lemmas.Slice.Eq.{bytes_eq-Decides}
 use Rattle.nm_topology.proofs.Searches.{least_below-is}
-use Rattle.nm_command.specs.Command.{number_in}
+use Rattle.nm_command.specs.Command.{asked_number}
 
 passes : (low : ℕ) (word : List ℕ) (n : ℕ) → low ≤ n → word ≡ decimal n → (leb low n && bytes_eq word (decimal n)) ≡ true
 passes low word n some same = let e = (bytes_eq-Decides word (decimal n)).1 same in grind (arith, some, e)
@@ -16,7 +16,7 @@ passed : (low : ℕ) (word : List ℕ) (n : ℕ) → (leb low n && bytes_eq word
 passed low word n h = let b = both (leb low n) (bytes_eq word (decimal n)) h in let e = b.0 in (grind (arith, e), (bytes_eq-Decides word (decimal n)).0 b.1)
 
 pub number_is : (low high : ℕ) (word : List ℕ) (r : Option ℕ) → IfSome r (λ n. (low ≤ n) × (n ≤ high) × (word ≡ decimal n))
-    → ((n : ℕ) → low ≤ n → n ≤ high → word ≡ decimal n → r ≡ Some n) → r ≡ number_in low high word
+    → ((n : ℕ) → low ≤ n → n ≤ high → word ≡ decimal n → r ≡ Some n) → r ≡ asked_number low high word
 number_is low high word r found only =
     least_below-is (high + 1) (λ n. leb low n && bytes_eq word (decimal n)) r (finds r found)
     (λ n h q. let p = passed low word n q in only n p.0 (omega (arith, h)) p.1)

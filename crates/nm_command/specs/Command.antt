@@ -1,9 +1,11 @@
 -- The words of the program.
-use Rattle.std.specs.Prelude.{Bool, true, false, ℕ, ◌+◌, ◌≤◌, ◌&&◌, leb, if◌then◌else◌, List, [], ◌∷◌, codes, decimal, Option, Some, None, option_map, map, string_bytes}
+use Rattle.std.specs.Prelude.{ℕ, ◌+◌, ◌≤◌, ◌&&◌, leb, if◌then◌else◌, List, [], ◌∷◌, codes, decimal, Option, Some, None, option_map, map, string_bytes}
 use Rattle.std.specs.Str.{bytes_eq}
 use Rattle.nm_command.specs.declared.command.Command.{Command}
 use Rattle.nm_command.specs.declared.command.Command.TheVariants as command
 use Rattle.nm_base.specs.declared.limits.TheConstants.{MAX_PARTITION, MAX_REPLICA, MAX_REPLICAS, MAX_ROUNDS, MAX_WORKERS}
+use Rattle.nm_command.specs.declared.view.View.{View}
+use Rattle.nm_command.specs.declared.view.View.TheVariants.{Tables, Values, Graph, Load}
 use Rattle.nm_command.specs.declared.ways.Ways.{Ways}
 use Rattle.nm_command.specs.declared.ways.Ways.TheVariants.{Both, Sent, Received}
 use Rattle.nm_pcap.specs.declared.form.Form.{Form}
@@ -22,10 +24,8 @@ pub data CommandValue : Type 0 where
   Script : List ℕ → List ℕ → CommandValue
   -- to say where the topology is at fault, or what it has
   Check : List ℕ → CommandValue
-  -- to measure a run of the topology, and to say it for a reader, or (true) for a program
-  Report : List ℕ → Bool → CommandValue
-  -- to draw the topology, or (true) how its links were used
-  Dot : List ℕ → Bool → CommandValue
+  -- to show a run of the topology, or the topology: what is shown of it
+  Show : List ℕ → View → CommandValue
   -- to say in words what passed an interface: the topology, and the name of the interface
   Text : List ℕ → List ℕ → CommandValue
   -- to say the way of a packet: the topology, the name of the node that sends it, and the address
@@ -36,31 +36,29 @@ pub data CommandValue : Type 0 where
   Node : List ℕ → List ℕ → ℕ → ℕ → List ℕ → CommandValue
 
 abbrev pub command_value : Command → CommandValue
-command_value (command.Trace form ways topology iface) = Trace form ways topology.now (option_map (λ name. name.now) iface)
-command_value (command.All topology folder ifaces) = All topology.now folder.now (map (λ name. string_bytes name) ifaces.now)
+command_value (command.Trace words) = Trace words.form words.ways words.topology.now (option_map (λ name. name.now) words.iface)
+command_value (command.All words) = All words.topology.now words.folder.now (map (λ name. string_bytes name) words.ifaces.now)
 command_value (command.Rounds topology max) = Rounds topology.now max
 command_value (command.Script topology steps) = Script topology.now steps.now
 command_value (command.Check topology) = Check topology.now
-command_value (command.Report topology is_csv) = Report topology.now is_csv
-command_value (command.Dot topology has_load) = Dot topology.now has_load
+command_value (command.Show topology view) = Show topology.now view
 command_value (command.Text topology iface) = Text topology.now iface.now
-command_value (command.Path topology node address) = Path topology.now node.now address.now
-command_value (command.Run topology folder workers replicas) = Run topology.now folder.now workers replicas
-command_value (command.Node topology folder partition replica addresses) = Node topology.now folder.now partition replica addresses.now
+command_value (command.Path words) = Path words.topology.now words.node.now words.address.now
+command_value (command.Run words) = Run words.topology.now words.folder.now words.workers words.replicas
+command_value (command.Node words) = Node words.topology.now words.folder.now words.partition words.replica words.addresses.now
 
 -- the numbers of a command are such as may be asked for
-abbrev pub IsWithinLimits : Command → Type 0
-IsWithinLimits (command.Trace form ways topology iface) = Unit {0}
-IsWithinLimits (command.All topology folder ifaces) = Unit {0}
-IsWithinLimits (command.Rounds topology max) = (1 ≤ max) × (max ≤ MAX_ROUNDS)
-IsWithinLimits (command.Script topology steps) = Unit {0}
-IsWithinLimits (command.Check topology) = Unit {0}
-IsWithinLimits (command.Report topology is_csv) = Unit {0}
-IsWithinLimits (command.Dot topology has_load) = Unit {0}
-IsWithinLimits (command.Text topology iface) = Unit {0}
-IsWithinLimits (command.Path topology node address) = Unit {0}
-IsWithinLimits (command.Run topology folder workers replicas) = (1 ≤ workers) × (workers ≤ MAX_WORKERS) × (1 ≤ replicas) × (replicas ≤ MAX_REPLICAS)
-IsWithinLimits (command.Node topology folder partition replica addresses) = (partition ≤ MAX_PARTITION) × (replica ≤ MAX_REPLICA)
+abbrev pub AsksWithinLimits : Command → Type 0
+AsksWithinLimits (command.Trace words) = Unit {0}
+AsksWithinLimits (command.All words) = Unit {0}
+AsksWithinLimits (command.Rounds topology max) = (1 ≤ max) × (max ≤ MAX_ROUNDS)
+AsksWithinLimits (command.Script topology steps) = Unit {0}
+AsksWithinLimits (command.Check topology) = Unit {0}
+AsksWithinLimits (command.Show topology view) = Unit {0}
+AsksWithinLimits (command.Text topology iface) = Unit {0}
+AsksWithinLimits (command.Path words) = Unit {0}
+AsksWithinLimits (command.Run words) = (1 ≤ words.workers) × (words.workers ≤ MAX_WORKERS) × (1 ≤ words.replicas) × (words.replicas ≤ MAX_REPLICAS)
+AsksWithinLimits (command.Node words) = (words.partition ≤ MAX_PARTITION) × (words.replica ≤ MAX_REPLICA)
 
 -- the words that write one trace file
 abbrev pub form_of : List ℕ → Option (Form × Ways)
@@ -72,8 +70,8 @@ form_of word =
     else None)))
 
 -- the number, one of these, that a word writes in decimal
-abbrev pub number_in : ℕ → ℕ → List ℕ → Option ℕ
-number_in low high word = least_below (high + 1) (λ n. leb low n && bytes_eq word (decimal n))
+abbrev pub asked_number : ℕ → ℕ → List ℕ → Option ℕ
+asked_number low high word = least_below (high + 1) (λ n. leb low n && bytes_eq word (decimal n))
 
 -- a trace file, if the first word has a form
 abbrev pub trace_from : List ℕ → Option (List ℕ) → Option (Form × Ways) → Option CommandValue
@@ -84,22 +82,22 @@ trace_from topology iface (Some form) = Some (Trace form.0 form.1 topology iface
 abbrev pub of_two : List ℕ → List ℕ → Option CommandValue
 of_two word topology =
     if bytes_eq word (codes "check") then Some (Check topology)
-    else (if bytes_eq word (codes "report") then Some (Report topology false)
-    else (if bytes_eq word (codes "dot") then Some (Dot topology false)
+    else (if bytes_eq word (codes "report") then Some (Show topology Tables)
+    else (if bytes_eq word (codes "dot") then Some (Show topology Graph)
     else trace_from topology None (form_of word)))
 
 -- `text TOPO IFACE`, `report TOPO csv` and `dot TOPO load`; of other words what else they are
 abbrev pub shown_of : List ℕ → List ℕ → List ℕ → Option CommandValue → Option CommandValue
 shown_of word topology third other =
     if bytes_eq word (codes "text") then Some (Text topology third)
-    else (if bytes_eq word (codes "report") then (if bytes_eq third (codes "csv") then Some (Report topology true) else None)
-    else (if bytes_eq word (codes "dot") then (if bytes_eq third (codes "load") then Some (Dot topology true) else None)
+    else (if bytes_eq word (codes "report") then (if bytes_eq third (codes "csv") then Some (Show topology Values) else None)
+    else (if bytes_eq word (codes "dot") then (if bytes_eq third (codes "load") then Some (Show topology Load) else None)
     else other))
 
 -- `rounds TOPO MAX`, `script TOPO STEPS`, those above, and else a trace file, as `one TOPO IFACE`
 abbrev pub of_three : List ℕ → List ℕ → List ℕ → Option CommandValue
 of_three word topology third =
-    if bytes_eq word (codes "rounds") then option_map (λ max. Rounds topology max) (number_in 1 MAX_ROUNDS third)
+    if bytes_eq word (codes "rounds") then option_map (λ max. Rounds topology max) (asked_number 1 MAX_ROUNDS third)
     else (if bytes_eq word (codes "script") then Some (Script topology third)
     else shown_of word topology third (trace_from topology (Some third) (form_of word)))
 
@@ -116,7 +114,7 @@ run_of topology folder (Some workers) (Some replicas) = Some (Run topology folde
 -- `run TOPO DIR WORKERS REPLICAS`
 abbrev pub of_five : List ℕ → List ℕ → List ℕ → List ℕ → List ℕ → Option CommandValue
 of_five word topology folder workers replicas =
-    if bytes_eq word (codes "run") then run_of topology folder (number_in 1 MAX_WORKERS workers) (number_in 1 MAX_REPLICAS replicas)
+    if bytes_eq word (codes "run") then run_of topology folder (asked_number 1 MAX_WORKERS workers) (asked_number 1 MAX_REPLICAS replicas)
     else None
 
 -- `node`, if its two numbers are such
@@ -128,7 +126,7 @@ node_of topology folder (Some partition) (Some replica) addresses = Some (Node t
 -- `node TOPO DIR PARTITION REPLICA ADDRESSES`
 abbrev pub of_six : List ℕ → List ℕ → List ℕ → List ℕ → List ℕ → List ℕ → Option CommandValue
 of_six word topology folder partition replica addresses =
-    if bytes_eq word (codes "node") then node_of topology folder (number_in 0 MAX_PARTITION partition) (number_in 0 MAX_REPLICA replica) addresses
+    if bytes_eq word (codes "node") then node_of topology folder (asked_number 0 MAX_PARTITION partition) (asked_number 0 MAX_REPLICA replica) addresses
     else None
 
 -- words of two to six; no words are `onehex -`

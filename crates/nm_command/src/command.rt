@@ -2,40 +2,28 @@
 
 ghost use Rattle.std.specs.Prelude.{◌≡◌, ℕ, ◌≤◌, map, IfSome, Some, decimal, option_map};
 ghost use Rattle.std.specs.Prelude.{string_bytes};
-ghost use Rattle.nm_command.specs.Command.{IsWithinLimits, command_of, command_value, form_of};
-ghost use Rattle.nm_command.specs.Command.{node_of, number_in, of_five, of_four, of_number};
-ghost use Rattle.nm_command.specs.Command.{of_six, of_three, of_two, run_of, shown_of};
+ghost use Rattle.nm_command.specs.Command.{AsksWithinLimits, asked_number, command_of};
+ghost use Rattle.nm_command.specs.Command.{command_value, form_of, node_of, of_five, of_four};
+ghost use Rattle.nm_command.specs.Command.{of_number, of_six, of_three, of_two, run_of, shown_of};
 ghost use Rattle.nm_command.specs.Command.{trace_from};
 ghost use Rattle.nm_base.specs.declared.limits.TheConstants.{MAX_PARTITION, MAX_REPLICA};
 ghost use Rattle.nm_base.specs.declared.limits.TheConstants.{MAX_REPLICAS, MAX_WORKERS};
 
+use crate::view::View;
 use crate::ways::Ways;
+use crate::words::{AllWords, NodeWords, PathWords, RunWords, TraceWords};
 use nm_base::limits::{MAX_PARTITION, MAX_REPLICA, MAX_REPLICAS, MAX_ROUNDS, MAX_WORKERS};
-use nm_base::number_of;
+use nm_base::{PartNo, number_of};
 use nm_pcap::Form;
 
 /// What the program is to do. Each input is named by the file that has it, or by `-`, which is
 /// standard input. A clause sees the names as octets.
-#[derive(Clone, Copy, PartialEq, Eq)]
+#[derive(Clone, Copy)]
 pub enum Command<'a> {
     /// To write the trace file of one interface.
-    Trace {
-        form: Form,
-        ways: Ways,
-        /// The input with the topology text.
-        topology: &'a str,
-        /// The name of the interface, or `None`, which is interface 0.
-        iface: Option<&'a str>,
-    },
+    Trace(TraceWords<'a>),
     /// To write the trace files of interfaces, all by one event list.
-    All {
-        /// The input with the topology text.
-        topology: &'a str,
-        /// The folder of the trace files.
-        folder: &'a str,
-        /// The names of the interfaces; none stands for all of them.
-        ifaces: &'a [String],
-    },
+    All(AllWords<'a>),
     /// To let all partitions run in rounds, and to say what came of it.
     Rounds {
         /// The input with the topology text.
@@ -55,19 +43,11 @@ pub enum Command<'a> {
         /// The input with the topology text.
         topology: &'a str,
     },
-    /// To measure a run of the whole network, and to say what it came to.
-    Report {
+    /// To show a run of the whole network as tables or values, or the network as a graph.
+    Show {
         /// The input with the topology text.
         topology: &'a str,
-        /// As comma-separated values for a program, and not as tables for a reader.
-        is_csv: bool,
-    },
-    /// To draw the network as a graph.
-    Dot {
-        /// The input with the topology text.
-        topology: &'a str,
-        /// With how its links were used in a run of the whole network.
-        has_load: bool,
+        view: View,
     },
     /// To say in words what passed an interface, a line a packet.
     Text {
@@ -77,39 +57,12 @@ pub enum Command<'a> {
         iface: &'a str,
     },
     /// To say the way of a packet from a node to an address, a line a hop.
-    Path {
-        /// The input with the topology text.
-        topology: &'a str,
-        /// The name of the node that sends it.
-        node: &'a str,
-        /// The address, four numbers joined by dots.
-        address: &'a str,
-    },
+    Path(PathWords<'a>),
     /// To run all partitions at once, each as one or two replicas, and to certify what they come
     /// to.
-    Run {
-        /// The input with the topology text.
-        topology: &'a str,
-        /// The folder of its trace files.
-        folder: &'a str,
-        /// How many threads run books: 1 to 64.
-        workers: u8,
-        /// How many replicas each partition has: 1 or 2.
-        replicas: u8,
-    },
+    Run(RunWords<'a>),
     /// To run one replica of a partition, which talks with the others over sockets.
-    Node {
-        /// The input with the topology text.
-        topology: &'a str,
-        /// The folder of its trace files.
-        folder: &'a str,
-        /// The partition: 0 to 63.
-        partition: u32,
-        /// The number of the replica: 0 or 1.
-        replica: u8,
-        /// The input with the addresses of the replicas.
-        addresses: &'a str,
-    },
+    Node(NodeWords<'a>),
 }
 
 /// The form of a trace file that a first word asks for, and which ways its packets go.
@@ -129,15 +82,15 @@ fn form_of(word: &str) -> Option<(Form, Ways)>
 fn trace_of<'a>(word: &str, topology: &'a str, iface: Option<&'a str>) -> Option<Command<'a>>
     ensures value { option_map command_value result ≡ trace_from topology.now
         (option_map (λ n. n.now) iface.entry) (form_of word.now) }
-    ensures limits { IfSome result IsWithinLimits }
+    ensures limits { IfSome result AsksWithinLimits }
 {
     let (form, ways) = form_of(word)?;
-    Some(Command::Trace {
+    Some(Command::Trace(TraceWords {
         form,
         ways,
         topology,
         iface,
-    })
+    }))
 }
 
 /// The number that a word writes in decimal without leading zeros, if it is one of these.
@@ -154,30 +107,27 @@ fn number_between(word: &str, low: u64, high: u64) -> Option<u64>
 }
 
 /// The number from `low` to `high` that a word asks for.
-fn number_in(word: &str, low: u64, high: u64) -> Option<u64>
-    ensures value { result ≡ number_in low high word.now }
+fn asked_number(word: &str, low: u64, high: u64) -> Option<u64>
+    ensures value { result ≡ asked_number low high word.now }
     ensures bounds { IfSome result (λ n. (low ≤ n) × (n ≤ high)) }
 {
-    match number_between(word, low, high) {
-        Some(number) => Some(number),
-        None => None,
-    }
+    number_between(word, low, high)
 }
 
 /// The command of two words.
 fn of_two<'a>(word: &str, topology: &'a str) -> Option<Command<'a>>
     ensures value { option_map command_value result ≡ of_two word.now topology.now }
-    ensures limits { IfSome result IsWithinLimits }
+    ensures limits { IfSome result AsksWithinLimits }
 {
     match word {
         "check" => Some(Command::Check { topology }),
-        "report" => Some(Command::Report {
+        "report" => Some(Command::Show {
             topology,
-            is_csv: false,
+            view: View::Tables,
         }),
-        "dot" => Some(Command::Dot {
+        "dot" => Some(Command::Show {
             topology,
-            has_load: false,
+            view: View::Graph,
         }),
         _ => trace_of(word, topology, None),
     }
@@ -187,21 +137,21 @@ fn of_two<'a>(word: &str, topology: &'a str) -> Option<Command<'a>>
 fn shown_of<'a>(word: &str, topology: &'a str, third: &'a str) -> Option<Command<'a>>
     ensures value { option_map command_value result ≡ shown_of word.now topology.now third.now
         (trace_from topology.now (Some third.now) (form_of word.now)) }
-    ensures limits { IfSome result IsWithinLimits }
+    ensures limits { IfSome result AsksWithinLimits }
 {
     match word {
         "text" => Some(Command::Text {
             topology,
             iface: third,
         }),
-        "report" if third == "csv" => Some(Command::Report {
+        "report" if third == "csv" => Some(Command::Show {
             topology,
-            is_csv: true,
+            view: View::Values,
         }),
         "report" => None,
-        "dot" if third == "load" => Some(Command::Dot {
+        "dot" if third == "load" => Some(Command::Show {
             topology,
-            has_load: true,
+            view: View::Load,
         }),
         "dot" => None,
         _ => trace_of(word, topology, Some(third)),
@@ -211,10 +161,10 @@ fn shown_of<'a>(word: &str, topology: &'a str, third: &'a str) -> Option<Command
 /// The command of three words.
 fn of_three<'a>(word: &'a str, topology: &'a str, third: &'a str) -> Option<Command<'a>>
     ensures value { option_map command_value result ≡ of_three word.now topology.now third.now }
-    ensures limits { IfSome result IsWithinLimits }
+    ensures limits { IfSome result AsksWithinLimits }
 {
     if word == "rounds" {
-        let max = number_in(third, 1, MAX_ROUNDS)?;
+        let max = asked_number(third, 1, MAX_ROUNDS)?;
         return Some(Command::Rounds { topology, max });
     }
     if word == "script" {
@@ -235,14 +185,14 @@ fn of_four<'a>(
 ) -> Option<Command<'a>>
     ensures value { option_map command_value result
         ≡ of_four word.now topology.now node.now address.now }
-    ensures limits { IfSome result IsWithinLimits }
+    ensures limits { IfSome result AsksWithinLimits }
 {
     if word == "path" {
-        return Some(Command::Path {
+        return Some(Command::Path(PathWords {
             topology,
             node,
             address,
-        });
+        }));
     }
     None
 }
@@ -257,7 +207,7 @@ fn of_five<'a>(
 ) -> Option<Command<'a>>
     ensures value { option_map command_value result
         ≡ of_five word.now topology.now folder.now workers.now replicas.now }
-    ensures limits { IfSome result IsWithinLimits }
+    ensures limits { IfSome result AsksWithinLimits }
 {
     if word == "run" {
         return run_of(topology, folder, workers, replicas);
@@ -273,18 +223,18 @@ fn run_of<'a>(
     replicas: &str,
 ) -> Option<Command<'a>>
     ensures value { option_map command_value result
-        ≡ run_of topology.now folder.now (number_in 1 MAX_WORKERS workers.now)
-        (number_in 1 MAX_REPLICAS replicas.now) }
-    ensures limits { IfSome result IsWithinLimits }
+        ≡ run_of topology.now folder.now (asked_number 1 MAX_WORKERS workers.now)
+        (asked_number 1 MAX_REPLICAS replicas.now) }
+    ensures limits { IfSome result AsksWithinLimits }
 {
-    let workers = number_in(workers, 1, MAX_WORKERS)?;
-    let replicas = number_in(replicas, 1, MAX_REPLICAS as u64)?;
-    Some(Command::Run {
+    let workers = asked_number(workers, 1, MAX_WORKERS)?;
+    let replicas = asked_number(replicas, 1, MAX_REPLICAS as u64)?;
+    Some(Command::Run(RunWords {
         topology,
         folder,
         workers: workers as u8,
         replicas: replicas as u8,
-    })
+    }))
 }
 
 /// The command `node`, where its two numbers are such.
@@ -296,19 +246,19 @@ fn node_of<'a>(
     addresses: &'a str,
 ) -> Option<Command<'a>>
     ensures value { option_map command_value result
-        ≡ node_of topology.now folder.now (number_in 0 MAX_PARTITION partition.now)
-        (number_in 0 MAX_REPLICA replica.now) addresses.now }
-    ensures limits { IfSome result IsWithinLimits }
+        ≡ node_of topology.now folder.now (asked_number 0 MAX_PARTITION partition.now)
+        (asked_number 0 MAX_REPLICA replica.now) addresses.now }
+    ensures limits { IfSome result AsksWithinLimits }
 {
-    let partition = number_in(partition, 0, MAX_PARTITION)?;
-    let replica = number_in(replica, 0, MAX_REPLICA)?;
-    Some(Command::Node {
+    let partition = asked_number(partition, 0, MAX_PARTITION)?;
+    let replica = asked_number(replica, 0, MAX_REPLICA)?;
+    Some(Command::Node(NodeWords {
         topology,
         folder,
-        partition: partition as u32,
+        partition: PartNo::new(partition as u32),
         replica: replica as u8,
         addresses,
-    })
+    }))
 }
 
 /// The command of six words.
@@ -322,7 +272,7 @@ fn of_six<'a>(
 ) -> Option<Command<'a>>
     ensures value { option_map command_value result
         ≡ of_six word.now topology.now folder.now partition.now replica.now addresses.now }
-    ensures limits { IfSome result IsWithinLimits }
+    ensures limits { IfSome result AsksWithinLimits }
 {
     if word == "node" {
         return node_of(topology, folder, partition, replica, addresses);
@@ -334,15 +284,15 @@ fn of_six<'a>(
 fn of_number<'a>(words: &'a [String]) -> Option<Command<'a>>
     ensures value { option_map command_value result
         ≡ of_number (map (λ w. string_bytes w) words.now) }
-    ensures limits { IfSome result IsWithinLimits }
+    ensures limits { IfSome result AsksWithinLimits }
 {
     match words {
-        [] => Some(Command::Trace {
+        [] => Some(Command::Trace(TraceWords {
             form: Form::Hexadecimal,
             ways: Ways::Both,
             topology: "-",
             iface: None,
-        }),
+        })),
         [word, topology] => of_two(word.as_str(), topology.as_str()),
         [word, topology, third] => of_three(word.as_str(), topology.as_str(), third.as_str()),
         [word, topology, node, address] => of_four(
@@ -380,15 +330,15 @@ impl<'a> Command<'a> {
     pub fn of(words: &'a [String]) -> Option<Command<'a>>
         ensures value { option_map command_value result
             ≡ command_of (map (λ w. string_bytes w) words.now) }
-        ensures limits { IfSome result IsWithinLimits }
+        ensures limits { IfSome result AsksWithinLimits }
     {
         match words {
             [word, topology, folder, ifaces @ ..] => match word.as_str() {
-                "all" => Some(Command::All {
+                "all" => Some(Command::All(AllWords {
                     topology: topology.as_str(),
                     folder: folder.as_str(),
                     ifaces,
-                }),
+                })),
                 _ => of_number(words),
             },
             _ => of_number(words),

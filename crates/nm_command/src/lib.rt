@@ -3,9 +3,13 @@
 
 pub mod command;
 pub mod status;
+pub mod view;
 pub mod ways;
+pub mod words;
 
 pub use command::Command;
 pub use nm_pcap::Form;
 pub use status::Status;
+pub use view::View;
 pub use ways::Ways;
+pub use words::{AllWords, NodeWords, PathWords, RunWords, TraceWords};

@@ -2,7 +2,7 @@
 use Rattle.std.specs.Prelude.{◌≡◌, Bool, false, ℕ, List, Option, Some, None}
 use Rattle.nm_command.specs.declared.status.Status.{Status}
 use Rattle.nm_command.specs.declared.status.Status.TheVariants.{Done, Usage, File}
-use Rattle.nm_command.specs.Command.{CommandValue, Trace, All, Rounds, Script, Check, Report, Dot, Text, Path, Run, Node}
+use Rattle.nm_command.specs.Command.{CommandValue, Trace, All, Rounds, Script, Check, Show, Text, Path, Run, Node}
 use Rattle.nm_program.specs.Node.{EndsNode}
 use Rattle.nm_files.specs.Outputs.{Files}
 use Rattle.nm_words.specs.Rounds.{EndsRounds}
@@ -24,8 +24,7 @@ module _ {S : Type 0} (taken : S → Option (List ℕ)) (failures : S → ℕ) (
   ProgramEnds (Some (Rounds topology max)) status = EndsRounds taken failures told failed_before failed old new topology max status × (made ≡ made_before)
   ProgramEnds (Some (Script topology steps)) status = EndsScript taken failures told failed_before failed old new topology steps status × (made ≡ made_before)
   ProgramEnds (Some (Check topology)) status = EndsCheck taken failures told failed_before failed old new topology status × (made ≡ made_before)
-  ProgramEnds (Some (Report topology is_csv)) status = EndsShown taken failures told failed_before failed old new topology status × (made ≡ made_before)
-  ProgramEnds (Some (Dot topology has_load)) status = EndsShown taken failures told failed_before failed old new topology status × (made ≡ made_before)
+  ProgramEnds (Some (Show topology view)) status = EndsShown taken failures told failed_before failed old new topology status × (made ≡ made_before)
   ProgramEnds (Some (Text topology iface)) status = EndsText taken failures told failed_before failed old new topology iface status × (made ≡ made_before)
   ProgramEnds (Some (Path topology node address)) status = EndsPath taken failures told failed_before failed old new topology node address status × (made ≡ made_before)
   ProgramEnds (Some (Run topology folder workers replicas)) status = EndsRun taken failures told failed_before failed old new made_before made topology status

@@ -1,4 +1,4 @@
-//! What the words of `node` name, and what their inputs have.
+//! What the inputs of `node` have.
 
 ghost use Rattle.std.specs.Prelude.{◌≡◌, IfErr, IfOk, Ok};
 ghost use Rattle.std.specs.Arc.{arc_value};
@@ -8,7 +8,7 @@ ghost use Rattle.nm_topology.specs.Topology.{topology_of};
 ghost use Rattle.nm_words.specs.Input.{text_of};
 ghost use Rattle.nm_words.specs.Output.{FailsOfInputs};
 
-use nm_base::PartNo;
+pub(crate) use nm_command::NodeWords;
 use nm_command::Status;
 use nm_peers::{Listener, ListenersFault, read_listeners};
 use nm_topology::Topology;
@@ -17,17 +17,6 @@ use nm_words::inputs::Inputs;
 use nm_words::reading::{read_network, read_text, share};
 use std::alloc::Global;
 use std::sync::Arc;
-
-/// What the words of `node` name.
-#[derive(Clone, Copy)]
-pub(crate) struct NodeWords<'a> {
-    pub topology: &'a str,
-    pub folder: &'a str,
-    pub partition: PartNo,
-    /// 0 or 1.
-    pub replica: u8,
-    pub addresses: &'a str,
-}
 
 /// The topology and the listeners of two texts.
 fn read_texts(

@@ -2,7 +2,7 @@
 
 ghost use Rattle.std.specs.Prelude.{◌≡◌, IfSome, map, option_map, string_bytes};
 ghost use Rattle.std.specs.Io.KnownBytes.{Appends};
-ghost use Rattle.nm_command.specs.Command.{IsWithinLimits, command_of, command_value};
+ghost use Rattle.nm_command.specs.Command.{AsksWithinLimits, command_of, command_value};
 ghost use Rattle.nm_command.specs.Status.{line_of};
 ghost use Rattle.nm_program.specs.Ending.{ProgramEnds, handed_on};
 ghost use Rattle.nm_words.specs.Input.{text_of};
@@ -10,20 +10,19 @@ ghost use Rattle.nm_command.specs.declared.status.Status.TheVariants.{Done, File
 
 use crate::means::Means;
 use crate::node::say_node;
-use crate::node_inputs::NodeWords;
-use crate::runs::{RunWords, say_run};
-use nm_base::{PartNo, Sink};
+use crate::runs::say_run;
+use nm_base::Sink;
 use nm_command::{Command, Status};
 use nm_files::Outputs;
-use nm_words::all::{AllWords, write_all_traces};
+use nm_words::all::write_all_traces;
 use nm_words::checking::say_check;
 use nm_words::input::NamedInputs;
 use nm_words::inputs::Inputs;
-use nm_words::path::{PathWords, say_path};
+use nm_words::path::say_path;
 use nm_words::rounds::say_rounds;
 use nm_words::script::say_script;
-use nm_words::shown::{View, say_text, say_view};
-use nm_words::traces::{TraceWords, write_trace};
+use nm_words::shown::{say_text, say_view};
+use nm_words::traces::write_trace;
 use std::net;
 use std::net::Net;
 use std::sync::Wait;
@@ -83,7 +82,7 @@ where
         + Sync
         + Drop
         + Copy,
-    requires { IfSome command IsWithinLimits }
+    requires { IfSome command AsksWithinLimits }
     ensures { ProgramEnds O.taken O.failures
         (text_of I.standard_text I.file_text inputs.old.inputs)
         inputs.old.failures inputs.new.failures
@@ -96,34 +95,8 @@ where
         ..
     } = *means;
     match command {
-        Some(
-            Command::Trace {
-                form,
-                ways,
-                topology,
-                iface,
-            },
-        ) => {
-            let words = TraceWords {
-                form,
-                ways,
-                topology,
-                iface,
-            };
-            write_trace(alloc, &words, inputs, out, progress)
-        }
-        Some(
-            Command::All {
-                topology,
-                folder,
-                ifaces,
-            },
-        ) => {
-            let words = AllWords {
-                topology,
-                folder,
-                ifaces,
-            };
+        Some(Command::Trace(words)) => write_trace(alloc, &words, inputs, out, progress),
+        Some(Command::All(words)) => {
             let status = write_all_traces(alloc, &words, inputs, outputs, progress);
             (status, out)
         }
@@ -134,63 +107,13 @@ where
             say_script(alloc, topology, steps, inputs, out)
         }
         Some(Command::Check { topology }) => say_check(alloc, topology, inputs, out),
-        Some(Command::Report { topology, is_csv }) => {
-            let view = if is_csv { View::Values } else { View::Tables };
-            say_view(alloc, topology, view, inputs, out, progress)
-        }
-        Some(Command::Dot { topology, has_load }) => {
-            let view = if has_load { View::Load } else { View::Graph };
+        Some(Command::Show { topology, view }) => {
             say_view(alloc, topology, view, inputs, out, progress)
         }
         Some(Command::Text { topology, iface }) => say_text(alloc, topology, iface, inputs, out),
-        Some(
-            Command::Path {
-                topology,
-                node,
-                address,
-            },
-        ) => {
-            let words = PathWords {
-                topology,
-                node,
-                address,
-            };
-            say_path(alloc, &words, inputs, out)
-        }
-        Some(
-            Command::Run {
-                topology,
-                folder,
-                workers,
-                replicas,
-            },
-        ) => {
-            let words = RunWords {
-                topology,
-                folder,
-                workers,
-                replicas,
-            };
-            say_run(means, &words, inputs, outputs, out)
-        }
-        Some(
-            Command::Node {
-                topology,
-                folder,
-                partition,
-                replica,
-                addresses,
-            },
-        ) => {
-            let words = NodeWords {
-                topology,
-                folder,
-                partition: PartNo::new(partition),
-                replica,
-                addresses,
-            };
-            say_node(means, &words, inputs, outputs, out)
-        }
+        Some(Command::Path(words)) => say_path(alloc, &words, inputs, out),
+        Some(Command::Run(words)) => say_run(means, &words, inputs, outputs, out),
+        Some(Command::Node(words)) => say_node(means, &words, inputs, outputs, out),
         None => (Status::Usage, out),
     }
 }

@@ -19,7 +19,7 @@ ghost use Rattle.nm_program.specs.Run.{EndsRun, FailsRun, SaysCertified, SaysRun
 
 use crate::means::Means;
 use nm_base::{IfaceNo, Sink, push_text};
-use nm_command::Status;
+use nm_command::{RunWords, Status};
 use nm_files::Outputs;
 use nm_run::{IfaceTotals, Report, RunFault, RunPlan, run_all};
 use nm_shared::OpenGate;
@@ -103,17 +103,6 @@ fn report_text(
 {
     every_topology_has_a_trace(network); // law: there is a trace of the whole run
     run_text(alloc, network, report.totals.as_slice())
-}
-
-/// What the words of `run` name.
-#[derive(Clone, Copy)]
-pub(crate) struct RunWords<'a> {
-    pub topology: &'a str,
-    pub folder: &'a str,
-    /// 1 to 64.
-    pub workers: u8,
-    /// 1 or 2.
-    pub replicas: u8,
 }
 
 /// Runs all partitions at once: what is said of them.

@@ -25,7 +25,7 @@ use crate::reading::read_topology;
 use crate::trace_file::next_record;
 use crate::traces::named_iface;
 use nm_base::{IfaceNo, Record, Sink};
-use nm_command::Status;
+use nm_command::{AllWords, Status};
 use nm_files::names::name_of;
 use nm_files::placing::place_all;
 use nm_files::{FilesFault, Outputs, TraceFiles};
@@ -36,16 +36,6 @@ use nm_topology::Topology;
 use nm_topology::parts::Iface;
 use nm_topology::topology::accepted_topologies_are_in_order;
 use std::alloc::{AllocError, Global};
-
-/// What the words of `all` name.
-#[derive(Clone, Copy)]
-pub struct AllWords<'a> {
-    pub topology: &'a str,
-    /// The folder of the trace files.
-    pub folder: &'a str,
-    /// The names of interfaces; none stands for all of them.
-    pub ifaces: &'a [String],
-}
 
 /// Trace files that are asked for: of which network, where, and of interfaces of which names.
 #[derive(Clone, Copy)]

@@ -12,7 +12,7 @@ use crate::inputs::Inputs;
 use crate::output::{Output, end};
 use crate::reading::read_topology;
 use nm_base::{NodeNo, Sink};
-use nm_command::Status;
+use nm_command::{PathWords, Status};
 use nm_packet::Address;
 use nm_paths::path_text;
 use nm_topology::Topology;
@@ -20,16 +20,6 @@ use nm_topology::parse::forms::usable_address_of;
 use nm_topology::parts::Node;
 use nm_topology::topology::accepted_topologies_are_in_order;
 use std::alloc::Global;
-
-/// The words behind `path`.
-#[derive(Clone, Copy)]
-pub struct PathWords<'a> {
-    pub topology: &'a str,
-    /// The name of the node that sends the packet.
-    pub node: &'a str,
-    /// Where it goes.
-    pub address: &'a str,
-}
 
 /// Where a node of this name stands.
 fn index_of_node(nodes: &[Node], name: &str) -> Option<usize>

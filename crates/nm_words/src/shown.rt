@@ -13,25 +13,12 @@ use crate::output::{Output, end};
 use crate::reading::read_topology;
 use crate::traces::read_iface;
 use nm_base::{IfaceNo, Record, Sink};
-use nm_command::Status;
+use nm_command::{Status, View};
 use nm_progress::Progress;
 use nm_report::{csv_text, dot_text, load_text, measure, push_packet_line, report_text};
 use nm_sim::Tracer;
 use nm_topology::Topology;
 use std::alloc::{AllocError, Global};
-
-/// What is shown of a network.
-#[derive(Clone, Copy)]
-pub enum View {
-    /// The measures of its run as tables.
-    Tables,
-    /// The measures of its run as comma-separated values.
-    Values,
-    /// It as a graph.
-    Graph,
-    /// It as a graph, coloured by the use of its links.
-    Load,
-}
 
 /// A view of a network.
 fn view_text(

@@ -12,7 +12,7 @@ use crate::inputs::Inputs;
 use crate::reading::read_topology;
 use crate::trace_file::{Traced, write_trace_file};
 use nm_base::{IfaceNo, Sink};
-use nm_command::{Form, Status, Ways};
+use nm_command::{Status, TraceWords};
 use nm_files::trace_file::TraceFault;
 use nm_progress::Progress;
 use nm_sim::trace::every_topology_has_a_trace;
@@ -20,16 +20,6 @@ use nm_topology::Topology;
 use nm_topology::parts::Iface;
 use nm_topology::topology::accepted_topologies_are_in_order;
 use std::alloc::Global;
-
-/// What the words of a trace file name.
-#[derive(Clone, Copy)]
-pub struct TraceWords<'a> {
-    pub form: Form,
-    pub ways: Ways,
-    pub topology: &'a str,
-    /// `None` is interface 0.
-    pub iface: Option<&'a str>,
-}
 
 /// Writes the trace file of an interface in a form, with the packets that go these ways: of the one
 /// that has this name, or of interface 0 where there is no name.

@@ -1,7 +1,7 @@
-use Rattle.std.proofs.Common.{◌≡◌, ◌<◌, ◌∙◌, length, map, string_bytes, sym, subst}
+use Rattle.std.proofs.Common.{◌<◌, ◌∙◌, map, string_bytes, sym, subst}
 use Rattle.std.proofs.lemmas.List.{length-map}
 use Rattle.nm_command.specs.Command.{of_number}
-use Rattle.nm_command.proofs.Words.{few_are_others}
+use Rattle.nm_command.proofs.WordCounts.{few_are_others}
 use Rattle.nm_command.proofs.command.Command.of.Goals as goal
 
 pub returns-in_default-clause-value : goal.returns-in_default-clause-value

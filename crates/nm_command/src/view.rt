@@ -1,0 +1,14 @@
+//! What is shown of a network.
+
+/// What is shown of a network.
+#[derive(Clone, Copy)]
+pub enum View {
+    /// The measures of its run as tables, for a reader.
+    Tables,
+    /// The measures of its run as comma-separated values, for a program.
+    Values,
+    /// It as a graph.
+    Graph,
+    /// It as a graph, coloured by the use of its links in a run.
+    Load,
+}

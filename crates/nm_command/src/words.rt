@@ -1,0 +1,67 @@
+//! What the words of a command name. Each input is named by the file that has it, or by `-`, which
+//! is standard input. A clause sees the names as octets.
+
+use crate::ways::Ways;
+use nm_base::PartNo;
+use nm_pcap::Form;
+
+/// What the words of a trace file name.
+#[derive(Clone, Copy)]
+pub struct TraceWords<'a> {
+    pub form: Form,
+    pub ways: Ways,
+    /// The input with the topology text.
+    pub topology: &'a str,
+    /// The name of the interface, or `None`, which is interface 0.
+    pub iface: Option<&'a str>,
+}
+
+/// What the words of `all` name.
+#[derive(Clone, Copy)]
+pub struct AllWords<'a> {
+    /// The input with the topology text.
+    pub topology: &'a str,
+    /// The folder of the trace files.
+    pub folder: &'a str,
+    /// The names of the interfaces; none stands for all of them.
+    pub ifaces: &'a [String],
+}
+
+/// What the words of `path` name.
+#[derive(Clone, Copy)]
+pub struct PathWords<'a> {
+    /// The input with the topology text.
+    pub topology: &'a str,
+    /// The name of the node that sends the packet.
+    pub node: &'a str,
+    /// Where it goes: four numbers joined by dots.
+    pub address: &'a str,
+}
+
+/// What the words of `run` name.
+#[derive(Clone, Copy)]
+pub struct RunWords<'a> {
+    /// The input with the topology text.
+    pub topology: &'a str,
+    /// The folder of its trace files.
+    pub folder: &'a str,
+    /// How many threads run books: 1 to 64.
+    pub workers: u8,
+    /// How many replicas each partition has: 1 or 2.
+    pub replicas: u8,
+}
+
+/// What the words of `node` name.
+#[derive(Clone, Copy)]
+pub struct NodeWords<'a> {
+    /// The input with the topology text.
+    pub topology: &'a str,
+    /// The folder of its trace files.
+    pub folder: &'a str,
+    /// The partition: 0 to 63.
+    pub partition: PartNo,
+    /// The number of the replica: 0 or 1.
+    pub replica: u8,
+    /// The input with the addresses of the replicas.
+    pub addresses: &'a str,
+}
