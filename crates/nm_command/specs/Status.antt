@@ -1,5 +1,5 @@
 -- What each ending says.
-use Rattle.std.specs.Prelude.{ℕ, List, [], ◌++◌, codes, decimal}
+use Rattle.std.specs.Prelude.{ℕ, List, [], ◌++◌, Result, Ok, Err, codes, decimal}
 use Rattle.nm_topology.specs.Fault.{refusal_number}
 use Rattle.nm_command.specs.declared.status.Status.{Status}
 use Rattle.nm_command.specs.declared.status.Status.TheVariants.{Done, Usage, NoInterface, ScriptLine, Step, Topology, File, Memory, NotCertified, Stalled}
@@ -29,3 +29,8 @@ line_of File = codes "nullsim: file\n"
 line_of Memory = codes "nullsim: memory\n"
 line_of (NotCertified n) = codes "nullsim: not certified " ++ decimal n ++ codes "\n"
 line_of Stalled = codes "nullsim: stalled\n"
+
+-- how the program ends: it is done, or has this status
+abbrev pub ended : Result Unit Status → Status
+ended (Ok _) = Done
+ended (Err status) = status

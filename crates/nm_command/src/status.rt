@@ -1,13 +1,16 @@
 //! How the program ends.
 
-ghost use Rattle.std.specs.Prelude.{◌≡◌, ◌+◌, ◌++◌, IfErr, OnOk, codes, decimal};
+ghost use Rattle.std.specs.Prelude.{◌≡◌, ◌⊎◌, ◌+◌, ◌++◌, IfErr, OnOk, codes, decimal};
 ghost use Rattle.std.specs.Io.KnownBytes.{Appends};
-ghost use Rattle.nm_command.specs.Status.{code_of, line_of};
+ghost use Rattle.nm_command.specs.Status.{code_of, ended, line_of};
+ghost use Rattle.nm_command.specs.declared.status.Status.TheVariants.{File, Memory};
 
 use itoa::Buffer;
 use nm_base::sink::write_all;
 use nm_base::{Sink, SinkFault};
+use nm_files::{FileFault, FilesFault, OutputFault};
 use nm_topology::Refusal;
+use std::alloc::{AllocError, AllocFailed};
 
 /// How the program ends: what it says on standard error, and its exit status.
 #[derive(Clone, Copy, Debug, PartialEq, Eq)]
@@ -34,7 +37,63 @@ pub enum Status {
     Stalled,
 }
 
+impl From<AllocError> for Status {
+    ghost from_gives = { λ _ s. s ≡ Memory };
+
+    fn from(_: AllocError) -> Self {
+        Status::Memory
+    }
+}
+
+impl<T: Drop> From<AllocFailed<T>> for Status {
+    ghost from_gives = { λ _ s. s ≡ Memory };
+
+    fn from(_: AllocFailed<T>) -> Self {
+        Status::Memory
+    }
+}
+
+impl From<OutputFault> for Status {
+    ghost from_gives = { λ _ s. (s ≡ File) ⊎ (s ≡ Memory) };
+
+    fn from(fault: OutputFault) -> Self {
+        match fault {
+            OutputFault::Failed => Status::File,
+            OutputFault::Memory => Status::Memory,
+        }
+    }
+}
+
+impl From<FileFault> for Status {
+    ghost from_gives = { λ _ s. s ≡ File };
+
+    fn from(_: FileFault) -> Self {
+        Status::File
+    }
+}
+
+impl From<FilesFault> for Status {
+    ghost from_gives = { λ _ s. (s ≡ File) ⊎ (s ≡ Memory) };
+
+    fn from(fault: FilesFault) -> Self {
+        match fault {
+            FilesFault::File(_) => Status::File,
+            FilesFault::Memory => Status::Memory,
+        }
+    }
+}
+
 impl Status {
+    /// How the program ends with this outcome.
+    pub fn of(outcome: Result<(), Status>) -> Status
+        ensures { result ≡ ended outcome }
+    {
+        match outcome {
+            Ok(()) => Status::Done,
+            Err(status) => status,
+        }
+    }
+
     /// The exit status.
     pub fn code(self) -> u8
         ensures { result ≡ code_of self }

@@ -21,7 +21,7 @@ use nm_files::names::name_of;
 use nm_files::placing::place_all;
 use nm_topology::Topology;
 use nm_topology::topology::accepted_topologies_are_in_order;
-use nm_words::closed::{push_some, status_of};
+use nm_words::closed::push_some;
 use std::alloc::Global;
 
 /// The trace files of a partition: of which interfaces, where they go, and whose records they have.
@@ -56,13 +56,9 @@ fn make_own<F: Outputs>(
     if partition_of(own.topology, iface) != own.partition {
         return Ok(None);
     }
-    let Ok(name) = name_of(alloc, own.folder, own.topology.iface(iface)) else {
-        return Err(Status::Memory);
-    };
-    match make_file(outputs, name.as_str(), iface, own.records) {
-        Ok(closed) => Ok(Some(closed)),
-        Err(fault) => Err(status_of(fault)),
-    }
+    let name = name_of(alloc, own.folder, own.topology.iface(iface))?;
+    let closed = make_file(outputs, name.as_str(), iface, own.records)?;
+    Ok(Some(closed))
 }
 
 /// Makes the trace files of the interfaces of a partition, in the order of the topology's text, and
@@ -105,8 +101,5 @@ pub(crate) fn make_files<F: Outputs>(
     ensures fault { IfErr result (λ s. (s ≡ File) ⊎ (s ≡ Memory)) }
 {
     let closed = close_files(alloc, own, outputs)?;
-    match place_all(outputs, closed) {
-        Ok(()) => Ok(()),
-        Err(fault) => Err(status_of(fault)),
-    }
+    Ok(place_all(outputs, closed)?)
 }

@@ -1,17 +1,15 @@
 -- Trace files of interfaces that are written side by side.
-use Rattle.std.proofs.Common.{◌≡◌, ◌⊎◌, inl, inr, IfErr, OnOk, Result, Ok, Err, Bool, true, false, ◌||◌, cond, is_some, nat_eq, position, ℕ, ◌+◌, ◌<◌, ◌≤◌, ◌==◌, List, [], ◌∷◌, ◌++◌, All, get_or, length, length-append, map, take, Option, Some, None, option_map, slice_get, append-nil, sym, ◌∙◌, ap, ap₂, subst, refl, arith}
+use Rattle.std.proofs.Common.{◌≡◌, ◌⊎◌, inl, inr, IfErr, OnOk, Result, Ok, Err, Bool, true, false, ◌||◌, cond, is_some, nat_eq, position, ℕ, ◌+◌, ◌<◌, ◌==◌, List, [], ◌∷◌, ◌++◌, All, get_or, length, length-append, map, take, Option, Some, None, option_map, slice_get, append-nil, sym, ◌∙◌, ap, ap₂, subst, refl, arith}
 use Rattle.std.specs.Io.KnownBytes.{Appends}
-use Rattle.std.specs.List.{enumerate_from, flat_map}
 use Rattle.std.specs.Option.{option_to_list}
 use Rattle.std.specs.Str.{bytes_eq}
 use Rattle.std.proofs.Math.ListN.{get_or-append, get_or-map}
 use Rattle.std.proofs.Math.Seq.{get_or-append_seam}
-use Rattle.std.proofs.lemmas.List.{length-map, map-append, take_all, take_more}
+use Rattle.std.proofs.lemmas.List.{length-map, take_more}
 use Rattle.std.proofs.lemmas.Bool.{true≢false}
 use Rattle.std.proofs.lemmas.List.Elements.{All-get_or, All-push}
 use Rattle.std.proofs.lemmas.Bool.Decides.{nat_tests}
 use Rattle.std.proofs.lemmas.Option.{get_or_from_slice_get, slice_get-get_or, slice_get_within}
-use Rattle.nm_base.proofs.Numbered.{numbered_more}
 use Rattle.nm_base.specs.declared.record.Record.{Record}
 use Rattle.nm_pcap.specs.declared.form.Form.TheVariants.{Octets}
 use Rattle.nm_pcap.specs.Format.{file_header}
@@ -21,12 +19,13 @@ use Rattle.nm_topology.proofs.Doubles.{position-map}
 use Rattle.nm_topology.specs.TopologyValue.{TopologyValue}
 use Rattle.nm_files.specs.Files.{FileTook, FilesTook}
 use Rattle.nm_files.specs.Names.{file_name}
-use Rattle.nm_files.specs.Outputs.{AreWhole, Files, HasMade, HasMadeSome, IsWhole}
+use Rattle.nm_files.specs.Outputs.{AreWhole, Files, HasMade, HasMadeSome}
 use Rattle.nm_files.specs.TraceFile.{trace_file, written_at}
 use Rattle.nm_files.proofs.Made.{appended}
-use Rattle.nm_files.proofs.Records.{file_parts, one_more}
-use Rattle.nm_words.specs.All.{AreAsked, MakesAll, ended, is_wanted, wanted_file}
+use Rattle.nm_files.proofs.Records.{file_parts}
+use Rattle.nm_words.specs.All.{AreAsked, MakesAll, is_wanted, wanted_file}
 use Rattle.nm_words.specs.Input.{IsInput}
+use Rattle.nm_command.specs.Status.{ended}
 use Rattle.nm_command.specs.declared.status.Status.{Status}
 use Rattle.nm_command.specs.declared.status.Status.TheVariants.{File, Memory}
 use Rattle.nm_words.specs.Held.{AreHeld, HasOpened, HoldsFile, IsClosedAs, octets_after}

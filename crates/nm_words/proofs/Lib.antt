@@ -3,4 +3,5 @@ pub mod Texts
 pub mod Times
 pub mod Endings
 pub mod Ways
+mod Faults
 mod Held

@@ -1,5 +1,5 @@
 -- The word `all`: the trace files of interfaces, by one event list.
-use Rattle.std.specs.Prelude.{◌≡◌, ◌⊎◌, Bool, ◌||◌, ℕ, nat_eq, if◌then◌else◌, List, [], ◌∷◌, All, is_some, length, position, Option, Some, None, Result, Ok, Err}
+use Rattle.std.specs.Prelude.{◌≡◌, ◌⊎◌, Bool, ◌||◌, ℕ, nat_eq, if◌then◌else◌, List, [], ◌∷◌, All, is_some, length, position, Option, Some, None, Ok}
 use Rattle.std.specs.List.{enumerate_from, flat_map}
 use Rattle.std.specs.Str.{bytes_eq}
 use Rattle.nm_base.specs.declared.record.Record.{Record}
@@ -50,8 +50,3 @@ module _ (told : List ℕ → Option (List ℕ)) (failed_before failed : ℕ) (b
       ⊎ (FailsOfInput (told topology) failed_before failed (HasNoIfaces names) status × (after ≡ before))
       ⊎ (((status ≡ File) ⊎ (status ≡ Memory))
       × ((text : List ℕ) × (files : Files) × IsInput (told topology) text × AreAsked folder names text files × HasMadeSome before after files))
-
--- how the program ends
-abbrev pub ended : Result Unit Status → Status
-ended (Ok _) = Done
-ended (Err status) = status

@@ -1,41 +1,41 @@
 //! The word `all`: the trace files of interfaces, all by one event list.
 
-ghost use Rattle.std.specs.Prelude.{◌≡◌, ◌⊎◌, ◌<◌, ◌≤◌, ◌∷◌, ℕ, Bool, List, [], None, Some, All, IfErr};
+ghost use Rattle.std.specs.Prelude.{◌≡◌, ◌⊎◌, ◌<◌, ℕ, Bool, List, [], None, Some, All, IfErr};
 ghost use Rattle.std.specs.Prelude.{IfOk, OnOk, get_or, length, map, option_map, position};
 ghost use Rattle.std.specs.Prelude.{slice_get, string_bytes};
 ghost use Rattle.std.specs.Str.{bytes_eq};
-ghost use Rattle.nm_base.specs.declared.limits.TheConstants.{MAX_TIME};
 ghost use Rattle.nm_base.specs.declared.record.Record.{Record as TraceRecord};
+ghost use Rattle.nm_command.specs.Status.{ended};
 ghost use Rattle.nm_command.specs.declared.status.Status.TheVariants.{File, Memory, NoInterface};
 ghost use Rattle.nm_events.specs.Held.{pending_of};
-ghost use Rattle.nm_files.specs.Files.{FilesTook, HasBegun, IsSound};
+ghost use Rattle.nm_files.specs.Files.{FilesTook, IsSound};
 ghost use Rattle.nm_files.specs.Names.{file_name};
 ghost use Rattle.nm_files.specs.Outputs.{AreWhole, HasMade, HasMadeSome};
 ghost use Rattle.nm_sim.specs.Trace.{IsTraceBefore, IsTracing};
 ghost use Rattle.nm_topology.specs.PartValues.{IfaceValue};
-ghost use Rattle.nm_words.specs.All.{MakesAll, ended, is_wanted, wanted_files};
+ghost use Rattle.nm_words.specs.All.{MakesAll, is_wanted, wanted_files};
 ghost use Rattle.nm_words.specs.Held.{AreHeld, HasOpened, HoldsFile, IsClosedAs};
 ghost use Rattle.nm_words.specs.Input.{text_of};
 ghost use Rattle.nm_words.specs.Traces.{iface_named};
 
-use crate::closed::{push_some, status_of};
+use crate::closed::push_some;
 use crate::input::NamedInputs;
 use crate::inputs::Inputs;
 use crate::reading::read_topology;
 use crate::trace_file::next_record;
 use crate::traces::named_iface;
-use nm_base::{IfaceNo, Record, Sink};
+use nm_base::{IfaceNo, Sink};
 use nm_command::{AllWords, Status};
 use nm_files::names::name_of;
 use nm_files::placing::place_all;
-use nm_files::{FilesFault, Outputs, TraceFiles};
+use nm_files::{Outputs, TraceFiles};
 use nm_progress::Progress;
 use nm_sim::Tracer;
 use nm_sim::trace::every_topology_has_a_trace;
 use nm_topology::Topology;
 use nm_topology::parts::Iface;
 use nm_topology::topology::accepted_topologies_are_in_order;
-use std::alloc::{AllocError, Global};
+use std::alloc::Global;
 
 /// Trace files that are asked for: of which network, where, and of interfaces of which names.
 #[derive(Clone, Copy)]
@@ -68,26 +68,12 @@ fn find_ifaces(network: &Topology, names: &[String]) -> Result<(), Status>
         (λ name. iface_named network.now.ifaces (Some name) ≡ None → ⊥)
         (map (λ n. string_bytes n) names.now) → ⊥)) }
 {
-    for number in 0..names.len() {
-        if named_iface(network, names[number].as_str()).is_none() {
+    for name in names {
+        if named_iface(network, name.as_str()).is_none() {
             return Err(Status::NoInterface);
         }
     }
     Ok(())
-}
-
-/// Begins a trace file.
-fn begin<S: Sink + Drop>(files: &mut TraceFiles<S>, iface: IfaceNo, sink: S) -> Result<(), Status>
-    requires { All IsSound files.old.files.items }
-    ensures sound { All IsSound files.new.files.items }
-    ensures begun { OnOk result (HasBegun S.taken sink files.old.files.items files.new.files.items) }
-    ensures fault { IfErr result (λ s. (s ≡ File) ⊎ (s ≡ Memory)) }
-{
-    match files.open(iface, sink) {
-        Ok(()) => Ok(()),
-        Err(FilesFault::File(_)) => Err(Status::File),
-        Err(FilesFault::Memory) => Err(Status::Memory),
-    }
 }
 
 /// Begins the trace file of an interface, if it is asked for.
@@ -112,15 +98,11 @@ fn open_wanted<F: Outputs>(
     accepted_topologies_are_in_order(wanted.network); // law: there are few interfaces
     let iface = IfaceNo::new(number as u32);
     if !is_wanted(wanted.names, wanted.network.iface(iface)) {
-        return files.skip().or(Err(Status::Memory));
+        return Ok(files.skip()?);
     }
-    let Ok(name) = name_of(alloc, wanted.folder, wanted.network.iface(iface)) else {
-        return Err(Status::Memory);
-    };
-    match outputs.create(name.as_str()) {
-        Ok(sink) => begin(files, iface, sink),
-        Err(fault) => Err(status_of(fault)),
-    }
+    let name = name_of(alloc, wanted.folder, wanted.network.iface(iface))?;
+    let sink = outputs.create(name.as_str())?;
+    Ok(files.open(iface, sink)?)
 }
 
 /// Begins the trace files that are asked for, in the order of the topology's text.
@@ -145,21 +127,6 @@ fn open_all<F: Outputs>(
     Ok(files)
 }
 
-/// Writes a record to the file of its interface, if that has one.
-fn put_one<S: Sink>(files: &mut TraceFiles<S>, record: &Record) -> Result<(), Status>
-    requires time { «record».now.time ≤ MAX_TIME }
-    requires sound { All IsSound files.old.files.items }
-    ensures took { OnOk result (FilesTook S.taken S.failures («record».now ∷ [])
-        files.old.files.items files.new.files.items) }
-    ensures sound { OnOk result (All IsSound files.new.files.items) }
-    ensures fault { IfErr result (λ s. s ≡ File) }
-{
-    match files.put(record) {
-        Ok(()) => Ok(()),
-        Err(_) => Err(Status::File),
-    }
-}
-
 /// Runs a network from its start, and writes its records to the files of their interfaces.
 fn record_all<S: Sink>(
     alloc: Global,
@@ -178,14 +145,11 @@ fn record_all<S: Sink>(
     ensures fault { IfErr result (λ s. (s ≡ File) ⊎ (s ≡ Memory)) }
 {
     for number in 0..u64::MAX {
-        match next_record(alloc, network, tracer) {
-            Ok(Some(record)) => {
-                progress.note_record(number, record.time);
-                put_one(files, &record)?;
-            }
-            Ok(None) => return Ok(()),
-            Err(AllocError) => return Err(Status::Memory),
-        }
+        let Some(record) = next_record(alloc, network, tracer)? else {
+            return Ok(());
+        };
+        progress.note_record(number, record.time);
+        files.put(&record)?;
     }
     Err(Status::Memory)
 }
@@ -215,13 +179,9 @@ fn close_wanted<F: Outputs>(
     let Some(file) = files.take(iface) else {
         return Ok(None);
     };
-    let Ok(name) = name_of(alloc, wanted.folder, wanted.network.iface(iface)) else {
-        return Err(Status::Memory);
-    };
-    match outputs.close(name.as_str(), file.into_sink()) {
-        Ok(closed) => Ok(Some(closed)),
-        Err(fault) => Err(status_of(fault)),
-    }
+    let name = name_of(alloc, wanted.folder, wanted.network.iface(iface))?;
+    let closed = outputs.close(name.as_str(), file.into_sink())?;
+    Ok(Some(closed))
 }
 
 /// Closes the trace files, in the order of the topology's text.
@@ -266,9 +226,7 @@ fn write_files<F: Outputs>(
 {
     every_topology_has_a_trace(wanted.network); // law: the files take one
     let mut files = open_all(alloc, wanted, outputs)?;
-    let Ok(mut tracer) = Tracer::start(alloc, wanted.network) else {
-        return Err(Status::Memory);
-    };
+    let mut tracer = Tracer::start(alloc, wanted.network)?;
     record_all(alloc, wanted.network, &mut tracer, &mut files, progress)?;
     close_all(alloc, wanted, outputs, &mut files)
 }
@@ -296,10 +254,7 @@ fn make_files<F: Outputs>(
         return Err(Status::File);
     }
     let closed = write_files(alloc, wanted, outputs, progress)?;
-    match place_all(outputs, closed) {
-        Ok(()) => Ok(()),
-        Err(fault) => Err(status_of(fault)),
-    }
+    Ok(place_all(outputs, closed)?)
 }
 
 /// Makes the trace files of interfaces of the network of an input.
@@ -341,8 +296,5 @@ pub fn write_all_traces<I: Inputs, F: Outputs>(
         words.now.topology.now words.now.folder.now
         (map (λ n. string_bytes n) words.now.ifaces.now) result }
 {
-    match make_all(alloc, words, inputs, outputs, progress) {
-        Ok(()) => Status::Done,
-        Err(status) => status,
-    }
+    Status::of(make_all(alloc, words, inputs, outputs, progress))
 }

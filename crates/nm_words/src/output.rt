@@ -26,10 +26,8 @@ impl Output {
         ensures made { IfOk result (λ output. (output.status ≡ status) × (text ≡ Ok output.text)) }
         ensures fault { IfErr result (λ s. s ≡ Memory) }
     {
-        match text {
-            Ok(text) => Ok(Output { text, status }),
-            Err(AllocError) => Err(Status::Memory),
-        }
+        let text = text?;
+        Ok(Output { text, status })
     }
 }
 

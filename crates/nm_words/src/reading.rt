@@ -68,10 +68,7 @@ pub fn share(alloc: Global, topology: Topology) -> Result<Arc<Topology>, Status>
     ensures same { IfOk result (λ shared. arc_value shared ≡ topology) }
     ensures fault { IfErr result (λ status. status ≡ Memory) }
 {
-    match Arc::new(alloc, topology) {
-        Ok(shared) => Ok(shared),
-        Err(_) => Err(Status::Memory),
-    }
+    Ok(Arc::new(alloc, topology)?)
 }
 
 /// The topology whose text the input of a name has, as one that several parts of the program hold.

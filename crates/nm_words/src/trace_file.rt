@@ -41,19 +41,19 @@ fn goes(ways: Ways, dir: Dir) -> bool
 
 /// Writes a record if the file has it.
 fn write_one<S: Sink>(
-    place: &Traced,
+    traced: &Traced,
     record: &Record,
     file: &mut PcapOut<S>,
 ) -> Result<(), TraceFault>
     requires time { «record».now.time ≤ MAX_TIME }
     requires sound { file.old.failed ≡ false }
     ensures { WritesOn S.taken S.failures file.old file.new result
-        (written_at file.old.form place.now.iface (going place.now.ways («record».now ∷ []))) }
+        (written_at file.old.form traced.now.iface (going traced.now.ways («record».now ∷ []))) }
 {
-    if !goes(place.ways, record.dir) {
+    if !goes(traced.ways, record.dir) {
         return Ok(());
     }
-    write_at(place.iface, record, file)
+    write_at(traced.iface, record, file)
 }
 
 /// Writes the trace file of an interface, and gives the sink back. The network runs as the file is
@@ -68,16 +68,17 @@ pub fn write_trace_file<S: Sink + Drop>(
     alloc: Global,
     topology: &Topology,
     form: Form,
-    place: &Traced,
+    traced: &Traced,
     sink: S,
     progress: &Progress,
 ) -> (Result<(), TraceFault>, S)
     ensures { (records : List (TraceRecord (List ℕ)))
         → IsTraceBefore topology.now topology.now.stop records
-        → Writes S.taken S.failures sink result.1 result.0 (trace_file form place.now.iface (going place.now.ways records)) }
+        → Writes S.taken S.failures sink result.1 result.0
+        (trace_file form traced.now.iface (going traced.now.ways records)) }
 {
     let mut file = PcapOut::in_form(sink, form);
-    let outcome = write_file(alloc, topology, place, &mut file, progress);
+    let outcome = write_file(alloc, topology, traced, &mut file, progress);
     (outcome, file.into_sink())
 }
 
@@ -85,7 +86,7 @@ pub fn write_trace_file<S: Sink + Drop>(
 fn write_file<S: Sink>(
     alloc: Global,
     topology: &Topology,
-    place: &Traced,
+    traced: &Traced,
     file: &mut PcapOut<S>,
     progress: &Progress,
 ) -> Result<(), TraceFault>
@@ -93,10 +94,10 @@ fn write_file<S: Sink>(
     ensures { (records : List (TraceRecord (List ℕ)))
         → IsTraceBefore topology.now topology.now.stop records
         → WritesOn S.taken S.failures file.old file.new result
-        (trace_file file.old.form place.now.iface (going place.now.ways records)) }
+        (trace_file file.old.form traced.now.iface (going traced.now.ways records)) }
 {
     sink_outcome(file.start())?;
-    write_records(alloc, topology, place, file, progress)?;
+    write_records(alloc, topology, traced, file, progress)?;
     sink_outcome(file.end())
 }
 
@@ -104,7 +105,7 @@ fn write_file<S: Sink>(
 fn write_records<S: Sink>(
     alloc: Global,
     topology: &Topology,
-    place: &Traced,
+    traced: &Traced,
     file: &mut PcapOut<S>,
     progress: &Progress,
 ) -> Result<(), TraceFault>
@@ -112,12 +113,10 @@ fn write_records<S: Sink>(
     ensures { (records : List (TraceRecord (List ℕ)))
         → IsTraceBefore topology.now topology.now.stop records
         → WritesOn S.taken S.failures file.old file.new result
-        (written_at file.old.form place.now.iface (going place.now.ways records)) }
+        (written_at file.old.form traced.now.iface (going traced.now.ways records)) }
 {
-    let Ok(mut tracer) = Tracer::start(alloc, topology) else {
-        return Err(TraceFault::Memory);
-    };
-    write_all_of(alloc, topology, &mut tracer, place, file, progress)
+    let mut tracer = Tracer::start(alloc, topology).or(Err(TraceFault::Memory))?;
+    write_all_of(alloc, topology, &mut tracer, traced, file, progress)
 }
 
 /// Runs a network from its start, and writes those of its records that are at the interface.
@@ -125,7 +124,7 @@ fn write_all_of<S: Sink>(
     alloc: Global,
     topology: &Topology,
     tracer: &mut Tracer,
-    place: &Traced,
+    traced: &Traced,
     file: &mut PcapOut<S>,
     progress: &Progress,
 ) -> Result<(), TraceFault>
@@ -135,17 +134,15 @@ fn write_all_of<S: Sink>(
     ensures { (records : List (TraceRecord (List ℕ)))
         → IsTraceBefore topology.now topology.now.stop records
         → WritesOn S.taken S.failures file.old file.new result
-        (written_at file.old.form place.now.iface (going place.now.ways records)) }
+        (written_at file.old.form traced.now.iface (going traced.now.ways records)) }
 {
     for number in 0..u64::MAX {
-        match next_record(alloc, topology, tracer) {
-            Ok(Some(record)) => {
-                progress.note_record(number, record.time);
-                write_one(place, &record, file)?;
-            }
-            Ok(None) => return Ok(()),
-            Err(AllocError) => return Err(TraceFault::Memory),
-        }
+        let next = next_record(alloc, topology, tracer).or(Err(TraceFault::Memory))?;
+        let Some(record) = next else {
+            return Ok(());
+        };
+        progress.note_record(number, record.time);
+        write_one(traced, &record, file)?;
     }
     Err(TraceFault::Memory)
 }

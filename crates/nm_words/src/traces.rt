@@ -36,18 +36,21 @@ pub fn write_trace<I: Inputs, O: Sink + Drop>(
         out result.1 words.now.form words.now.ways words.now.topology.now
         (option_map (λ n. n.now) words.now.iface) result.0 }
 {
-    let (network, iface) = match read_iface(alloc, inputs, words.topology, words.iface) {
-        Ok(there) => there,
-        Err(status) => return (status, out),
-    };
-    every_topology_has_a_trace(&network); // law: there is an answer, also where it is not written
-    progress.begin(network.stop());
-    let place = Traced {
-        iface,
-        ways: words.ways,
-    };
-    let (outcome, out) = write_trace_file(alloc, &network, words.form, &place, out, progress);
-    (status_of(outcome), out)
+    match read_iface(alloc, inputs, words.topology, words.iface) {
+        Ok((network, iface)) => {
+            every_topology_has_a_trace(&network); // law: there is an answer, written or not
+            progress.begin(network.stop());
+            let traced = Traced {
+                iface,
+                ways: words.ways,
+            };
+            let (outcome, out) = write_trace_file(
+                alloc, &network, words.form, &traced, out, progress,
+            );
+            (status_of(outcome), out)
+        }
+        Err(status) => (status, out),
+    }
 }
 
 /// The topology whose text the input of a name has, and its interface of a name, or interface 0

@@ -20,7 +20,7 @@ loop-number-preserved g c =
     record {
       within = omega (arith, low);
       whole = whole_more g.F.Outputs.closed (of_own own.topology.now own.partition (λ n i. (file_name own.folder.now i, trace_file Octets n own.records.now))) ifaces n is.0
-          (g.F.Outputs.made c.args.outputs.now) c.loop-number.all.items c.push_some.new.list.items c.in_ok-closed.closed is.1 c.in_ok-push_some.ensures.added
+          (g.F.Outputs.made c.args.outputs.now) c.loop-number.all.items c.push_some.new.list.items c.in_ok-closed.closed is.1 c.in_ok-push_some.ensures
           (subst (λ m. AreWhole m (map g.F.Outputs.closed (option_to_list c.in_ok-closed.closed))
           (of_own own.topology.now own.partition (λ n i. (file_name own.folder.now i, trace_file Octets n own.records.now)) (n, is.0))) same (c.in_ok-closed.ensures.whole is.0 is.1))
           c.loop-number.invariant.whole;

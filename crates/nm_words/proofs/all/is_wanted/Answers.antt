@@ -1,5 +1,4 @@
-use Rattle.std.proofs.Common.{◌≡◌, ◌||◌, is_some, length, nat_eq, position, string_bytes, ◌∙◌, rules}
-use Rattle.std.specs.Str.{bytes_eq}
+use Rattle.std.proofs.Common.{string_bytes, ◌∙◌, rules}
 use Rattle.nm_words.proofs.Held.{wanted_by}
 use Rattle.nm_words.proofs.all.is_wanted.Goals as goal
 

@@ -1,4 +1,4 @@
-use Rattle.std.proofs.Common.{◌≡◌, ◌<◌, ◌∷◌, [], length, length-append, map, string_bytes, refl, ◌∙◌, ap, subst, arith, rules}
+use Rattle.std.proofs.Common.{◌<◌, ◌∷◌, [], length, length-append, map, string_bytes, refl, ◌∙◌, ap, subst, arith, rules}
 use Rattle.nm_words.specs.All.{is_wanted}
 use Rattle.nm_words.specs.Held.{HasOpened}
 use Rattle.nm_words.proofs.InterfaceLines.{element}

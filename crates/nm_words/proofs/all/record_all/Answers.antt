@@ -1,4 +1,4 @@
-use Rattle.std.proofs.Common.{◌≡◌, ℕ, List, Option, Ok, All, take, ap, sym, ◌∙◌, subst, arith, rules}
+use Rattle.std.proofs.Common.{ℕ, List, Option, Ok, take, sym, subst, arith}
 use Rattle.std.proofs.lemmas.List.{take_all}
 use Rattle.nm_base.specs.declared.record.Record.{Record}
 use Rattle.nm_files.specs.Files.{FilesTook}
@@ -20,17 +20,17 @@ loop-number-preserved g c =
     let m = c.next_record.new.tracer.records.handed in
     record {
       tracing = c.next_record.ensures.tracing;
-      sound = c.in_ok-put_one-in-Ok-Some.ensures.sound;
+      sound = c.in_ok-put.ensures.sound;
       took = λ records trace.
-          let handed = subst (λ (o : Option (Record (List ℕ))). Hands records n (Ok o) m) c.in-Ok-Some.field-0-is (c.in-Ok-Some.ensures.next records trace) in
-          subst (λ k. FilesTook g.S.Sink.taken g.S.Sink.failures (take k records) c.args.files.now.files.items c.put_one.new.files.files.items) (sym handed.1)
-          (next_record g.S.Sink.taken g.S.Sink.failures records n c.in-Ok-Some.record c.args.files.now.files.items c.loop-number.files.files.items c.put_one.new.files.files.items handed.0
-          (c.loop-number.invariant.took records trace) c.in_ok-put_one-in-Ok-Some.ensures.took);
+          let handed = subst (λ (o : Option (Record (List ℕ))). Hands records n (Ok o) m) c.in-Some.is (c.in_ok-record.ensures.next records trace) in
+          subst (λ k. FilesTook g.S.Sink.taken g.S.Sink.failures (take k records) c.args.files.now.files.items c.put.new.self.files.items) (sym handed.1)
+          (next_record g.S.Sink.taken g.S.Sink.failures records n c.in-Some.record c.args.files.now.files.items c.loop-number.files.files.items c.put.new.self.files.items handed.0
+          (c.loop-number.invariant.took records trace) c.in_ok-put.ensures.took);
     }
 
-pub returns-in-Ok-None-clause-took : goal.returns-in-Ok-None-clause-took
-returns-in-Ok-None-clause-took g c = λ records trace.
+pub returns-in_default-clause-took : goal.returns-in_default-clause-took
+returns-in_default-clause-took g c = λ records trace.
     let n = c.loop-number.tracer.records.handed in
-    let handed = subst (λ (o : Option (Record (List ℕ))). Hands records n (Ok o) c.next_record.new.tracer.records.handed) c.in-Ok-None.field-0-is (c.in-Ok-None.ensures.next records trace) in
+    let handed = subst (λ (o : Option (Record (List ℕ))). Hands records n (Ok o) c.next_record.new.tracer.records.handed) c.in_default.is (c.in_ok-record.ensures.next records trace) in
     let all = handed.0 in
     subst (λ l. FilesTook g.S.Sink.taken g.S.Sink.failures l c.args.files.now.files.items c.loop-number.files.files.items) (take_all n records (omega (arith, all))) (c.loop-number.invariant.took records trace)

@@ -1,4 +1,4 @@
-use Rattle.std.proofs.Common.{◌≡◌, ℕ, All, List, take}
+use Rattle.std.proofs.Common.{ℕ, All, List, take}
 use Rattle.nm_base.specs.declared.record.Record.{Record}
 use Rattle.nm_events.specs.Held.{pending_of}
 use Rattle.nm_files.specs.Files.{FilesTook, IsSound}

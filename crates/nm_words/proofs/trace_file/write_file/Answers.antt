@@ -11,7 +11,7 @@ use Rattle.nm_words.proofs.trace_file.write_file.Goals as goal
 pub returns-in_err-sink_outcome : goal.returns-in_err-sink_outcome
 returns-in_err-sink_outcome g c records trace =
     let p = err_from_is_err_and c.from_residual.result c.from_residual.ensures.1 in
-    rw (p.1, p.2) (cut_in_header g.S.Sink.taken g.S.Sink.failures c.args.place.now.iface (going c.args.place.now.ways records) c.args.file.now c.start.new.self c.in_err-sink_outcome.field-0.0
+    rw (p.1, p.2) (cut_in_header g.S.Sink.taken g.S.Sink.failures c.args.traced.now.iface (going c.args.traced.now.ways records) c.args.file.now c.start.new.self c.in_err-sink_outcome.field-0.0
     (WritesOn-put g.S.Sink.taken g.S.Sink.failures c.args.file.now c.start.new.self c.start.result _ (written c.args.file.now.form file_header) c.in_err-sink_outcome.ensures c.requires c.start.ensures))
 
 pub returns-in_err-write_records : goal.returns-in_err-write_records
@@ -19,12 +19,12 @@ returns-in_err-write_records g c records trace =
     let p = err_from_is_err_and c.from_residual-in_err-write_records.result c.from_residual-in_err-write_records.ensures.1 in
     let begun : WroteOn g.S.Sink.taken g.S.Sink.failures c.args.file.now c.start.new.self (written c.args.file.now.form file_header) =
     WritesOn-put g.S.Sink.taken g.S.Sink.failures c.args.file.now c.start.new.self c.start.result (Ok tt) (written c.args.file.now.form file_header) c.in_ok-sink_outcome.ensures c.requires c.start.ensures in
-    rw (p.1, p.2) (cut_in_records g.S.Sink.taken g.S.Sink.failures c.args.place.now.iface (going c.args.place.now.ways records) c.args.file.now c.start.new.self c.write_records.new.file _ begun (c.in_err-write_records.ensures records trace))
+    rw (p.1, p.2) (cut_in_records g.S.Sink.taken g.S.Sink.failures c.args.traced.now.iface (going c.args.traced.now.ways records) c.args.file.now c.start.new.self c.write_records.new.file _ begun (c.in_err-write_records.ensures records trace))
 
 pub returns : goal.returns
 returns g c records trace =
     let begun : WroteOn g.S.Sink.taken g.S.Sink.failures c.args.file.now c.start.new.self (written c.args.file.now.form file_header) =
     WritesOn-put g.S.Sink.taken g.S.Sink.failures c.args.file.now c.start.new.self c.start.result (Ok tt) (written c.args.file.now.form file_header) c.in_ok-sink_outcome.ensures c.requires c.start.ensures in
     let middle = c.in_ok-write_records.ensures records trace in
-    to_the_end g.S.Sink.taken g.S.Sink.failures c.args.place.now.iface (going c.args.place.now.ways records) c.args.file.now c.start.new.self c.write_records.new.file c.end.new.self c.sink_outcome-2.result begun middle
+    to_the_end g.S.Sink.taken g.S.Sink.failures c.args.traced.now.iface (going c.args.traced.now.ways records) c.args.file.now c.start.new.self c.write_records.new.file c.end.new.self c.sink_outcome-2.result begun middle
     (WritesOn-put g.S.Sink.taken g.S.Sink.failures c.write_records.new.file c.end.new.self c.end.result _ (ending c.write_records.new.file.form) c.sink_outcome-2.ensures middle.sound c.end.ensures)

@@ -5,10 +5,10 @@ use Rattle.nm_words.proofs.Endings.{ends_written}
 use Rattle.nm_words.proofs.traces.write_trace.Goals as goal
 
 -- the trace of the topology is there, also where it was not written to its end
-pub returns : goal.returns
-returns g c =
+pub returns-in-Ok : goal.returns-in-Ok
+returns-in-Ok g c =
     let read = c.in-Ok.ensures.there in
-    let network = c.in-Ok.there.0 in
+    let network = c.in-Ok.network in
     let there = c.every_topology_has_a_trace.ensures.there network.stop in
     let told = text_of g.I.Inputs.standard_text g.I.Inputs.file_text c.args.inputs.now.inputs in
     let name = option_map (λ n. n.now) c.args.words.now.iface in
@@ -17,7 +17,7 @@ returns g c =
     (record {
       network = network;
       read = read.0.2;
-      iface = c.in-Ok.there.1;
+      iface = c.in-Ok.iface;
       named = read.1;
       records = there.0;
       trace = there.1;
