@@ -99,16 +99,13 @@ impl<'a> Outputs for SystemOutputs<'a> {
     ghost closed = { λ _. None };
 
     fn create(&mut self, name: &str) -> Result<StdSink<BufWriter<File>>, OutputFault> {
-        let Ok(part) = part_of(self.runtime.alloc(), name) else {
-            return Err(OutputFault::Memory);
-        };
-        match fs::create(self.runtime, part.as_str()) {
-            Ok(file) => match BufWriter::new(self.runtime.alloc(), file) {
-                Ok(writer) => Ok(StdSink::new(writer)),
-                Err(_) => Err(OutputFault::Memory),
-            },
-            Err(error) => Err(self.noted(part.as_str(), &error)),
-        }
+        let part = part_of(self.runtime.alloc(), name).or(Err(OutputFault::Memory))?;
+        let file = fs::create(self.runtime, part.as_str()).map_err(|error| self.noted(
+            part.as_str(),
+            &error,
+        ))?;
+        let writer = BufWriter::new(self.runtime.alloc(), file).or(Err(OutputFault::Memory))?;
+        Ok(StdSink::new(writer))
     }
 
     fn close(
@@ -124,9 +121,9 @@ impl<'a> Outputs for SystemOutputs<'a> {
     }
 
     fn place(&mut self, file: ClosedFile) -> Result<(), OutputFault> {
-        match fs::rename(self.runtime, file.part.as_str(), file.name.as_str()) {
-            Ok(()) => Ok(()),
-            Err(error) => Err(self.noted(file.name.as_str(), &error)),
-        }
+        fs::rename(self.runtime, file.part.as_str(), file.name.as_str()).map_err(|error| self.noted(
+            file.name.as_str(),
+            &error,
+        ))
     }
 }
