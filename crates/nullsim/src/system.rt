@@ -100,10 +100,8 @@ impl<'a> Outputs for SystemOutputs<'a> {
 
     fn create(&mut self, name: &str) -> Result<StdSink<BufWriter<File>>, OutputFault> {
         let part = part_of(self.runtime.alloc(), name).or(Err(OutputFault::Memory))?;
-        let file = fs::create(self.runtime, part.as_str()).map_err(|error| self.noted(
-            part.as_str(),
-            &error,
-        ))?;
+        let made = fs::create(self.runtime, part.as_str());
+        let file = made.map_err(|error| self.noted(part.as_str(), &error))?;
         let writer = BufWriter::new(self.runtime.alloc(), file).or(Err(OutputFault::Memory))?;
         Ok(StdSink::new(writer))
     }
@@ -121,9 +119,7 @@ impl<'a> Outputs for SystemOutputs<'a> {
     }
 
     fn place(&mut self, file: ClosedFile) -> Result<(), OutputFault> {
-        fs::rename(self.runtime, file.part.as_str(), file.name.as_str()).map_err(|error| self.noted(
-            file.name.as_str(),
-            &error,
-        ))
+        let placed = fs::rename(self.runtime, file.part.as_str(), file.name.as_str());
+        placed.map_err(|error| self.noted(file.name.as_str(), &error))
     }
 }
