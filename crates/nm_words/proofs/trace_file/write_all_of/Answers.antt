@@ -47,7 +47,7 @@ loop-number-preserved g c =
       sound = c.in_ok-write_one.ensures.sound;
       front = λ records trace.
           let handed = subst (λ (o : Option (Record (List ℕ))). Hands records n (Ok o) m) c.in-Some.is
-    (subst (λ r. Hands records n r m) (was_ok c.next_record.result _ c.in_ok-next.next c.in_ok-next.ensures) (c.next_record.ensures.next records trace)) in
+          (subst (λ r. Hands records n r m) (was_ok c.next_record.result _ c.in_ok-next.next c.in_ok-next.ensures) (c.next_record.ensures.next records trace)) in
           next_record (going c.args.traced.now.ways) refl (going_both c.args.traced.now.ways) g.S.Sink.taken g.S.Sink.failures c.args.traced.now.iface records c.args.file.now c.loop-number.file c.write_one.new.file n m c.in-Some.record handed.0 handed.1
           (c.loop-number.invariant.front records trace) c.in_ok-write_one.ensures;
     }
