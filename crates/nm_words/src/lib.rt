@@ -1,5 +1,4 @@
-//! The words of nullsim that need no network of the host: each as a function over inputs and a
-//! sink.
+//! The words of nullsim that open no connection: each as a function over inputs and a sink.
 #![tactic(auto)]
 
 pub mod all;
