@@ -1,8 +1,8 @@
 //! The program: words and inputs in, octets and a status out.
 
-ghost use Rattle.std.specs.Prelude.{◌≡◌, IfSome, map, option_map, string_bytes};
+ghost use Rattle.std.specs.Prelude.{◌≡◌, map, string_bytes};
 ghost use Rattle.std.specs.Io.KnownBytes.{Appends};
-ghost use Rattle.nm_command.specs.Command.{AsksWithinLimits, command_of, command_value};
+ghost use Rattle.nm_command.specs.Command.{command_of};
 ghost use Rattle.nm_command.specs.Status.{line_of};
 ghost use Rattle.nm_program.specs.Ending.{ProgramEnds, handed_on};
 ghost use Rattle.nm_words.specs.Input.{text_of};
@@ -62,14 +62,14 @@ where
     ensures line { E.failures errors.new ≡ E.failures errors.old
         → Appends (E.taken errors.old) (E.taken errors.new) (line_of result.0) }
 {
-    let (status, out) = perform(means, Command::of(words), inputs, outputs, out);
+    let (status, out) = perform(means, words, inputs, outputs, out);
     (report(status, errors), out)
 }
 
-/// Does what a command asks for, and gives the sink back.
+/// Does what the words say, and gives the sink back.
 fn perform<I: Inputs, F: Outputs, O: Sink + Drop, R>(
     means: &Means<'_, R>,
-    command: Option<Command<'_>>,
+    words: &[String],
     inputs: &mut NamedInputs<I>,
     outputs: &mut F,
     out: O,
@@ -82,19 +82,18 @@ where
         + Sync
         + Drop
         + Copy,
-    requires { IfSome command AsksWithinLimits }
     ensures { ProgramEnds O.taken O.failures
         (text_of I.standard_text I.file_text inputs.old.inputs)
         inputs.old.failures inputs.new.failures
         out result.1 (F.made outputs.old) (F.made outputs.new)
-        (option_map command_value command.entry) result.0 }
+        (command_of (map (λ w. string_bytes w) words.now)) result.0 }
 {
     let Means {
         alloc,
         progress,
         ..
     } = *means;
-    match command {
+    match Command::of(words) {
         Some(Command::Trace(words)) => write_trace(alloc, &words, inputs, out, progress),
         Some(Command::All(words)) => {
             let status = write_all_traces(alloc, &words, inputs, outputs, progress);
