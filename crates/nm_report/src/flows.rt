@@ -2,7 +2,7 @@
 
 use crate::flow_counts::{FlowCounts, Outcome};
 use crate::flow_times::FlowTimes;
-use crate::tag::Tag;
+use crate::tag::{Role, Tag};
 use nm_base::{NodeNo, SourceNo, Time};
 use nm_topology::Topology;
 use std::alloc::{AllocError, Global};
@@ -71,17 +71,17 @@ impl Flows {
         if let Some(times) = self.times.get_mut(source.index()) {
             times.begin(now);
         }
-        Tag::Sent(source, now)
+        Tag::of_source(source, now)
     }
 
     /// The packet of a tag ends so, if it is a source's: the source and the time of its event, if
     /// the packet was under way.
     pub(crate) fn end(&mut self, tag: &Tag, outcome: Outcome) -> Option<(SourceNo, Time)> {
-        let Tag::Sent(source, at) = tag else {
+        let Role::Sent = tag.role else {
             return None;
         };
-        if self.counts.get_mut(source.index())?.end(outcome) {
-            Some((*source, *at))
+        if self.counts.get_mut(tag.source.index())?.end(outcome) {
+            Some((tag.source, tag.at))
         } else {
             None
         }
@@ -101,9 +101,9 @@ impl Flows {
     /// An ICMP message comes to a node that it is addressed to. The packet that a source handed
     /// over is delivered, and the reply to one has come to the source's node or went astray.
     pub(crate) fn tell(&mut self, tag: &Tag, arrival: Arrival) -> Result<(), AllocError> {
-        match tag {
-            Tag::Reply(source, at) => self.answer(*source, *at, arrival),
-            Tag::Sent(_, _) | Tag::Nobody => self.deliver(tag, arrival),
+        match tag.role {
+            Role::Reply => self.answer(tag.source, tag.at, arrival),
+            Role::Sent | Role::Nothing => self.deliver(tag, arrival),
         }
     }
 

@@ -80,7 +80,10 @@ impl Measured {
 
     /// For how many nanoseconds before `stop` an interface transmitted.
     pub fn busy(&self, iface: IfaceNo) -> u64 {
-        self.watched.usage(iface).busy()
+        match self.watched.usage(iface) {
+            Some(usage) => usage.busy(),
+            None => 0,
+        }
     }
 
     /// The share of the time from the start of its first packet to that of its last in which an
@@ -88,7 +91,8 @@ impl Measured {
     pub fn busy_share(&self, iface: IfaceNo) -> Option<u64>
         ensures { IfSome result (λ share. share ≤ 1000) }
     {
-        self.watched.usage(iface).share()
+        let usage = self.watched.usage(iface)?;
+        usage.share()
     }
 
     /// What became of the packets of a source. `None` where there is no such source.

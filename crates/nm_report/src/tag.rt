@@ -2,24 +2,53 @@
 
 use nm_base::{SourceNo, Time};
 
+/// How a packet counts for a source.
+#[derive(Clone, Copy, Drop)]
+pub(crate) enum Role {
+    /// The source handed it over.
+    Sent,
+    /// It is the echo reply to one that the source handed over.
+    Reply,
+    /// Not at all: it is an ICMP error.
+    Nothing,
+}
+
 /// Whose a packet is. A tag goes beside its packet and is no part of it, so that nothing which the
 /// packet says of itself can be taken for another's.
 #[derive(Drop)]
-pub(crate) enum Tag {
-    /// A source handed it over at this time.
-    Sent(SourceNo, Time),
-    /// The echo reply to a packet that a source handed over at this time.
-    Reply(SourceNo, Time),
-    /// An ICMP error, which counts for no source.
-    Nobody,
+pub(crate) struct Tag {
+    pub role: Role,
+    /// Source 0 where it counts for none.
+    pub source: SourceNo,
+    /// When the source handed over what it or its reply is.
+    pub at: Time,
 }
 
 impl Tag {
+    /// Of a packet that a source hands over at this time.
+    pub(crate) fn of_source(source: SourceNo, at: Time) -> Tag {
+        let role = Role::Sent;
+        Tag { role, source, at }
+    }
+
+    /// Of a packet that counts for no source.
+    pub(crate) fn of_nobody() -> Tag {
+        Tag {
+            role: Role::Nothing,
+            source: SourceNo::new(0),
+            at: Time::from_nanoseconds(0),
+        }
+    }
+
     /// Of the echo reply to this packet.
     pub(crate) fn of_reply(&self) -> Tag {
-        match self {
-            Tag::Sent(source, at) => Tag::Reply(*source, *at),
-            Tag::Reply(_, _) | Tag::Nobody => Tag::Nobody,
+        match self.role {
+            Role::Sent => Tag {
+                role: Role::Reply,
+                source: self.source,
+                at: self.at,
+            },
+            Role::Reply | Role::Nothing => Tag::of_nobody(),
         }
     }
 }

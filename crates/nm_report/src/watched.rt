@@ -4,12 +4,12 @@ use crate::fates::{Fate, Tallies};
 use crate::flow_counts::{FlowCounts, Outcome};
 use crate::flow_times::FlowTimes;
 use crate::flows::{Arrival, Flows};
-use crate::positions::Positions;
+use crate::guesses::Guesses;
+use crate::lane::Lane;
 use crate::tag::Tag;
 use crate::usage::Usage;
 use nm_base::{Dir, IfaceNo, NodeNo, Place, Record, SourceNo, Time};
 use nm_events::SortedList;
-use nm_iface::transmission_time;
 use nm_sim::Part;
 use nm_topology::Topology;
 use nm_topology::topology::accepted_topologies_are_in_order;
@@ -23,12 +23,17 @@ pub(crate) struct Watched {
     /// The interfaces of each node.
     ifaces: Vec<Vec<IfaceNo>>,
     tallies: Tallies,
-    positions: Positions,
     flows: Flows,
-    /// The longest queue of each interface, in packets.
-    queues: Vec<u64>,
-    /// How each interface transmits.
-    usages: Vec<Usage>,
+    /// The direction of each interface that sends.
+    lanes: Vec<Lane>,
+    guesses: Guesses,
+}
+
+/// What an interface did with a packet that it did not transmit at once.
+#[derive(Clone, Copy)]
+enum Offered {
+    Waits,
+    Dropped,
 }
 
 /// The interfaces of each node.
@@ -43,6 +48,17 @@ fn ifaces_of(alloc: Global, topology: &Topology) -> Result<Vec<Vec<IfaceNo>>, Al
             own.push(IfaceNo::new(number))?;
         }
         number = number.saturating_add(1);
+    }
+    Ok(all)
+}
+
+/// The direction of each interface, without packets.
+fn lanes_of(alloc: Global, topology: &Topology) -> Result<Vec<Lane>, AllocError> {
+    accepted_topologies_are_in_order(topology); // law: rates are within their limits
+    let mut all = Vec::new(alloc);
+    for number in 0..topology.ifaces().len() {
+        let far = topology.iface(IfaceNo::new(number as u32)).far();
+        all.push(Lane::new(alloc, far.rate))?;
     }
     Ok(all)
 }
@@ -64,19 +80,12 @@ fn octets_of_arrival(part: &Part<SortedList>) -> u64 {
     }
 }
 
-/// How long an interface transmits before `stop`, of a transmission that starts then, in
-/// nanoseconds.
-fn busy_time(topology: &Topology, record: &Record) -> u64 {
-    if record.iface.index() >= topology.ifaces().len() {
-        return 0;
-    }
-    accepted_topologies_are_in_order(topology); // law: rates are within their limits
-    let rate = topology.iface(record.iface).far().rate;
-    let left = topology
+/// How many nanoseconds before `stop` a transmission starts.
+fn time_left(topology: &Topology, record: &Record) -> u64 {
+    topology
         .stop()
         .nanoseconds()
-        .saturating_sub(record.time.nanoseconds());
-    transmission_time(rate, record.packet.octet_count()).min(left)
+        .saturating_sub(record.time.nanoseconds())
 }
 
 impl Watched {
@@ -85,24 +94,24 @@ impl Watched {
         Ok(Watched {
             ifaces: ifaces_of(alloc, topology)?,
             tallies: Tallies::new(alloc, topology.nodes().len())?,
-            positions: Positions::new(alloc, topology.ifaces().len())?,
             flows: Flows::new(alloc, topology)?,
-            queues: vec![in alloc; 0u64; topology.ifaces().len()]?,
-            usages: vec![in alloc; Usage::NONE; topology.ifaces().len()]?,
+            lanes: lanes_of(alloc, topology)?,
+            guesses: Guesses::new(alloc, topology.sources().len())?,
         })
     }
 
     /// The most packets that waited at an interface at one time.
     pub(crate) fn longest_queue(&self, iface: IfaceNo) -> u64 {
-        self.queues.get(iface.index()).copied().unwrap_or(0)
+        match self.lanes.get(iface.index()) {
+            Some(lane) => lane.longest_queue() as u64,
+            None => 0,
+        }
     }
 
     /// How an interface transmits.
-    pub(crate) fn usage(&self, iface: IfaceNo) -> Usage {
-        self.usages
-            .get(iface.index())
-            .copied()
-            .unwrap_or(Usage::NONE)
+    pub(crate) fn usage(&self, iface: IfaceNo) -> Option<&Usage> {
+        let lane = self.lanes.get(iface.index())?;
+        Some(lane.usage())
     }
 
     /// What became of the packets of a source.
@@ -129,25 +138,23 @@ impl Watched {
         place: &Place,
     ) -> Result<(), AllocError> {
         match place {
-            Place::Complete(iface) => self.see_completion(topology, part, *iface),
+            Place::Complete(_) => {
+                self.see_completion(topology, part);
+                Ok(())
+            }
             Place::Arrive(iface) => self.see_arrival(topology, part, *iface, now),
             Place::Fire(source) => self.see_source(topology, part, *source, now),
         }
     }
 
     /// Sees an interface complete a transmission. What waited longest there starts.
-    fn see_completion(
-        &mut self,
-        topology: &Topology,
-        part: &Part<SortedList>,
-        iface: IfaceNo,
-    ) -> Result<(), AllocError> {
-        match start_in(part) {
-            Some(record) => {
-                let tag = self.positions.leave_queue(iface);
-                self.see_start(topology, record, tag)
-            }
-            None => Ok(()),
+    fn see_completion(&mut self, topology: &Topology, part: &Part<SortedList>) {
+        let Some(record) = start_in(part) else {
+            return;
+        };
+        if let Some(lane) = self.lanes.get_mut(record.iface.index()) {
+            let octets = record.packet.octet_count();
+            lane.send_next(octets, record.time, time_left(topology, record));
         }
     }
 
@@ -159,11 +166,11 @@ impl Watched {
         iface: IfaceNo,
         now: Time,
     ) -> Result<(), AllocError> {
-        let tag = self.positions.leave_link(iface);
         let Some(iface) = topology.ifaces().get(iface.index()) else {
             return Ok(());
         };
         let node = iface.node();
+        let tag = self.leave_link(iface.far().peer);
         match self.tallies.fate(part, node) {
             Fate::SentOn => self.see_offer(topology, part, node, tag),
             fate => {
@@ -172,10 +179,18 @@ impl Watched {
                 self.see_end(&tag, fate, arrival)?;
                 let answer = match fate {
                     Fate::Requested => tag.of_reply(),
-                    _ => Tag::Nobody,
+                    _ => Tag::of_nobody(),
                 };
                 self.see_answer(topology, part, node, answer)
             }
+        }
+    }
+
+    /// The packet that is longest on the link from an interface leaves it.
+    fn leave_link(&mut self, from: IfaceNo) -> Tag {
+        match self.lanes.get_mut(from.index()) {
+            Some(lane) => lane.arrive(),
+            None => Tag::of_nobody(),
         }
     }
 
@@ -236,50 +251,72 @@ impl Watched {
         node: NodeNo,
         tag: Tag,
     ) -> Result<(), AllocError> {
-        if let Some(record) = start_in(part) {
-            return self.see_start(topology, record, tag);
+        let Some(record) = start_in(part) else {
+            return self.see_no_start(part, node, tag);
+        };
+        match self.lanes.get_mut(record.iface.index()) {
+            Some(lane) => {
+                let octets = record.packet.octet_count();
+                lane.send(tag, octets, record.time, time_left(topology, record))
+            }
+            None => Ok(()),
         }
-        match self.longer_queue(part, node) {
-            Some(iface) => self.see_wait(iface, tag),
-            None => {
+    }
+
+    /// Sees a packet offered to an interface of a node whose transmission does not start: it waits,
+    /// or is dropped.
+    fn see_no_start(
+        &mut self,
+        part: &Part<SortedList>,
+        node: NodeNo,
+        tag: Tag,
+    ) -> Result<(), AllocError> {
+        let guess = self.guesses.guess(node, &tag);
+        let Some((iface, offered)) = self.offer_at(part, node, guess) else {
+            self.flows.end(&tag, Outcome::Dropped);
+            return Ok(());
+        };
+        self.guesses.note(node, &tag, iface);
+        let Some(lane) = self.lanes.get_mut(iface.index()) else {
+            return Ok(());
+        };
+        match offered {
+            Offered::Waits => lane.wait(tag),
+            Offered::Dropped => {
+                lane.drop_one();
                 self.flows.end(&tag, Outcome::Dropped);
                 Ok(())
             }
         }
     }
 
-    /// Sees the transmission of a packet start.
-    fn see_start(
-        &mut self,
-        topology: &Topology,
-        record: &Record,
-        tag: Tag,
-    ) -> Result<(), AllocError> {
-        let time = busy_time(topology, record);
-        if let Some(usage) = self.usages.get_mut(record.iface.index()) {
-            usage.start(record.time, time);
+    /// What an interface did with the packet of the last event, if it was offered to this one and
+    /// did not start: one more waits than before, or one more was dropped.
+    fn change_at(&self, part: &Part<SortedList>, iface: IfaceNo) -> Option<Offered> {
+        let lane = self.lanes.get(iface.index())?;
+        if part.waiting(iface)? > lane.waiting() {
+            return Some(Offered::Waits);
         }
-        match topology.ifaces().get(record.iface.index()) {
-            Some(iface) => self.positions.enter_link(iface.far().peer, tag),
-            None => Ok(()),
+        if part.dropped(iface)? > lane.dropped() {
+            return Some(Offered::Dropped);
         }
+        None
     }
 
-    /// Sees a packet wait at an interface.
-    fn see_wait(&mut self, iface: IfaceNo, tag: Tag) -> Result<(), AllocError> {
-        self.positions.join_queue(iface, tag)?;
-        let waiting = self.positions.waiting(iface) as u64;
-        if let Some(most) = self.queues.get_mut(iface.index()) {
-            *most = waiting.max(*most);
+    /// The interface of a node to which the packet of the last event was offered, which did not
+    /// start, and what it did with it. The guess is looked at first.
+    fn offer_at(
+        &self,
+        part: &Part<SortedList>,
+        node: NodeNo,
+        guess: IfaceNo,
+    ) -> Option<(IfaceNo, Offered)> {
+        if let Some(offered) = self.change_at(part, guess) {
+            return Some((guess, offered));
         }
-        Ok(())
-    }
-
-    /// The interface of a node at which one more packet waits than before, if there is one.
-    fn longer_queue(&self, part: &Part<SortedList>, node: NodeNo) -> Option<IfaceNo> {
         for iface in self.ifaces.get(node.index())? {
-            if part.waiting(*iface).unwrap_or(0) > self.positions.waiting(*iface) {
-                return Some(*iface);
+            if let Some(offered) = self.change_at(part, *iface) {
+                return Some((*iface, offered));
             }
         }
         None
