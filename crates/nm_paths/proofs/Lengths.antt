@@ -1,5 +1,5 @@
 -- How long courses are.
-use Rattle.std.proofs.Common.{◌≡◌, ℕ, zero, suc, ◌+◌, ◌-◌, ◌≤◌, Bool, true, false, cond, length, nat_le, Option, Some, None, refl, arith}
+use Rattle.std.proofs.Common.{◌≡◌, ℕ, zero, suc, ◌+◌, ◌-◌, ◌≤◌, max, Bool, true, false, cond, length, nat_le, Option, Some, None, refl, arith}
 use Rattle.std.proofs.lemmas.Bool.Decides.{nat_tests}
 use Rattle.nm_topology.specs.declared.node.NodeKind.{NodeKind}
 use Rattle.nm_topology.specs.declared.node.NodeKind.TheVariants.{Host, Router}
@@ -11,7 +11,7 @@ use Rattle.nm_forward.specs.State.{NodeTable, is_own, table_of}
 use Rattle.nm_paths.specs.declared.turn.Ending.TheVariants.{Arrived}
 use Rattle.nm_paths.specs.declared.turn.Turn.{Turn}
 use Rattle.nm_paths.specs.declared.turn.Turn.TheVariants.{Stops, Leaves}
-use Rattle.nm_paths.specs.Walks.{course, first_turn, node_behind, row_turn, taken, turn_at, walk_of}
+use Rattle.nm_paths.specs.Walks.{course, first_turn, node_behind, row_turn, taken, turn_at, walk_by, walk_of}
 
 by_route : (low : Bool) (n r via : ℕ) → nat_le n 1 ≡ low
     → row_turn (cond low row.Expired (row.Forward r)) ≡ Leaves via → 2 ≤ n
@@ -57,3 +57,9 @@ walk_length t v to n least = by_turn (first_turn (table_of t v) to)
         let rest : length (course t to (n + 1) (node_behind t.ifaces via)).0 ≤ n + 1 - 2 =
         course_length t to (n + 1) (node_behind t.ifaces via) in
         omega (arith, least, rest)
+
+pub walk_by_length : (t : TopologyValue) (via to n : ℕ) → length (walk_by t via to n).0 ≤ max 1 n
+walk_by_length t via to n =
+    let rest : length (course t to (n + 1) (node_behind t.ifaces via)).0 ≤ n + 1 - 2 =
+    course_length t to (n + 1) (node_behind t.ifaces via) in
+    omega (arith, rest)

@@ -71,6 +71,12 @@ walk_of t v to time_to_live =
     taken (first_turn (table_of t v) to)
     (λ via. course t to (time_to_live + 1) (node_behind t.ifaces via))
 
+-- the course of a packet to this address that goes by interface i of its node as it is, without a
+-- look-up there, and with this time to live
+abbrev pub walk_by : TopologyValue → ℕ → ℕ → ℕ → Course
+walk_by t i to time_to_live =
+    taken (Leaves i) (λ via. course t to (time_to_live + 1) (node_behind t.ifaces via))
+
 -- the nodes that have an address, one for each interface that has it
 abbrev pub nodes_with : List IfaceValue → ℕ → List ℕ
 nodes_with ifaces to = map (λ i. i.node) (filter (λ i. i.address == to) ifaces)

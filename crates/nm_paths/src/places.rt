@@ -14,6 +14,14 @@ pub fn node_name(topology: &Topology, node: NodeNo) -> &str {
     }
 }
 
+/// Whether something listens at this UDP port of a node.
+pub fn listens(topology: &Topology, node: NodeNo, port: u16) -> bool {
+    match topology.nodes().get(node.index()) {
+        Some(node) => node.ports().contains(&port),
+        None => false,
+    }
+}
+
 /// The interface at which a packet arrives that left by this one.
 pub fn arrival(topology: &Topology, via: IfaceNo) -> Option<&Iface> {
     let ifaces = topology.ifaces();

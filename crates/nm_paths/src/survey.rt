@@ -6,15 +6,17 @@ ghost use Rattle.std.specs.Prelude.{◌≡◌};
 ghost use Rattle.nm_paths.specs.Walks.{routes_of_all};
 
 use crate::demand::{Demand, demand_of, packets_before};
-use crate::ending::{Aim, ending_text};
+use crate::ending::Aim;
 use crate::load::Load;
 use crate::path::DEFAULT_TIME_TO_LIVE;
-use crate::places::{last_node, node_name};
+use crate::places::{last_node, listens, node_name};
+use crate::raw::see_raw;
 use crate::remarks::Remarks;
+use crate::sender::{Sender, Sending, remark, see_end, see_times};
 use crate::tables::Tables;
 use crate::turn::Ending;
 use crate::ways::{Way, walk};
-use nm_base::{IfaceNo, NodeNo};
+use nm_base::{IfaceNo, NodeNo, Time};
 use nm_packet::Address;
 use nm_topology::Topology;
 use nm_topology::traffic::{Flow, Traffic};
@@ -30,55 +32,20 @@ struct Seen {
     events: u64,
 }
 
-/// A source and what it asks for.
+/// A source of `cbr` or `echo`, and what it asks for.
 #[derive(Clone, Copy)]
-struct Sender {
-    number: usize,
-    node: NodeNo,
+struct Asking {
+    sender: Sender,
     demand: Demand,
 }
 
-/// How a remark on a source begins.
-fn sender_text(alloc: Global, topology: &Topology, sender: &Sender) -> Result<String, AllocError> {
-    let number = sender.number;
-    let name = node_name(topology, sender.node);
-    format!(in alloc; "source {number} (node \"{name}\")")
-}
-
-/// Adds a remark on a source.
-fn remark(
-    alloc: Global,
-    topology: &Topology,
-    sender: &Sender,
-    what: &str,
-    remarks: &mut Remarks,
-) -> Result<(), AllocError> {
-    let source = sender_text(alloc, topology, sender)?;
-    let remark = format!(in alloc; "{source}: {what}")?;
-    remarks.add(remark.as_str())
-}
-
-/// Remarks on when a source sends.
-fn see_times(
-    alloc: Global,
-    topology: &Topology,
-    sender: &Sender,
-    remarks: &mut Remarks,
-) -> Result<(), AllocError> {
-    let flow = &sender.demand.flow;
-    let sent = packets_before(flow, topology.stop());
-    let count = u64::from(flow.count);
-    if sent >= count {
-        return Ok(());
+/// When a flow sends.
+fn sending_of(flow: &Flow, stop: Time) -> Sending {
+    Sending {
+        start: flow.start,
+        count: u64::from(flow.count),
+        sent: packets_before(flow, stop),
     }
-    let start = flow.start.nanoseconds();
-    let stop = topology.stop().nanoseconds();
-    let what = if sent == 0 {
-        format!(in alloc; "it begins at {start} ns, and the simulation ends at {stop} ns")?
-    } else {
-        format!(in alloc; "{sent} of its {count} packets come before the end, {stop} ns")?
-    };
-    remark(alloc, topology, sender, what.as_str(), remarks)
 }
 
 /// Whether an interface has the address.
@@ -86,49 +53,22 @@ fn is_known(topology: &Topology, to: Address) -> bool {
     topology.ifaces().iter().any(|iface| iface.address() == to)
 }
 
-/// Whether something listens at this UDP port of a node.
-fn listens(topology: &Topology, node: NodeNo, port: u16) -> bool {
-    match topology.nodes().get(node.index()) {
-        Some(node) => node.ports().contains(&port),
-        None => false,
-    }
-}
-
-/// Remarks on a way that does not lead where it should. `which` says which of them it is.
-fn see_end(
-    alloc: Global,
-    topology: &Topology,
-    sender: &Sender,
-    which: &str,
-    aim: &Aim,
-    way: &Way,
-    remarks: &mut Remarks,
-) -> Result<(), AllocError> {
-    if way.ending == Ending::Arrived {
-        return Ok(());
-    }
-    let to = aim.to;
-    let ending = ending_text(alloc, topology, aim, way)?;
-    let what = format!(in alloc; "{which} to {to}: {ending}")?;
-    remark(alloc, topology, sender, what.as_str(), remarks)
-}
-
 /// Remarks on what becomes of packets that arrive at a node.
 fn see_arrived(
     alloc: Global,
     topology: &Topology,
-    sender: &Sender,
+    asking: &Asking,
     node: NodeNo,
     way: &Way,
     remarks: &mut Remarks,
 ) -> Result<(), AllocError> {
     let name = node_name(topology, node);
-    let to = sender.demand.to;
+    let (sender, to) = (&asking.sender, asking.demand.to);
     if way.hops.is_empty() {
         let what = format!(in alloc; "{to} is an address of its own node, and nothing is sent")?;
         return remark(alloc, topology, sender, what.as_str(), remarks);
     }
-    match sender.demand.port {
+    match asking.demand.port {
         Some(port) if !listens(topology, node, port) => {
             let what = format!(in alloc; "UDP port {port} of \"{name}\" is not open")?;
             remark(alloc, topology, sender, what.as_str(), remarks)
@@ -161,7 +101,7 @@ fn see_back(
     alloc: Global,
     topology: &Topology,
     tables: &Tables,
-    sender: &Sender,
+    asking: &Asking,
     from: NodeNo,
     there: &Way,
     seen: &mut Seen,
@@ -183,13 +123,13 @@ fn see_back(
     see_end(
         alloc,
         topology,
-        sender,
+        &asking.sender,
         "the way back",
         &aim,
         &back,
         &mut seen.remarks,
     )?;
-    note_way(topology, &sender.demand.flow, &back, seen)
+    note_way(topology, &asking.demand.flow, &back, seen)
 }
 
 /// Looks at the way of the packets of a source, and at that of the replies.
@@ -197,13 +137,13 @@ fn see_ways(
     alloc: Global,
     topology: &Topology,
     tables: &Tables,
-    sender: &Sender,
+    asking: &Asking,
     seen: &mut Seen,
 ) -> Result<(), AllocError>
     requires { tables.now ≡ routes_of_all topology.now }
 {
-    let flow = &sender.demand.flow;
-    let (from, to, time_to_live) = (sender.node, sender.demand.to, flow.ttl);
+    let flow = &asking.demand.flow;
+    let (from, to, time_to_live) = (asking.sender.node, asking.demand.to, flow.ttl);
     let there = walk(alloc, topology, tables, from, to, time_to_live)?;
     let sent = packets_before(flow, topology.stop());
     seen.events = seen.events.saturating_add(sent);
@@ -220,7 +160,7 @@ fn see_ways(
     see_end(
         alloc,
         topology,
-        sender,
+        &asking.sender,
         "the way",
         &aim,
         &there,
@@ -230,26 +170,36 @@ fn see_ways(
         return Ok(());
     }
     let last = last_node(topology, from, &there);
-    see_arrived(alloc, topology, sender, last, &there, &mut seen.remarks)?;
-    if sender.demand.port.is_none() {
-        return see_back(alloc, topology, tables, sender, last, &there, seen);
+    see_arrived(alloc, topology, asking, last, &there, &mut seen.remarks)?;
+    if asking.demand.port.is_none() {
+        return see_back(alloc, topology, tables, asking, last, &there, seen);
     }
     Ok(())
 }
 
-/// Takes note of raw packets: each is an event, and makes two more at its first hop. Where it goes
-/// from there stands in its octets.
-fn note_raw(topology: &Topology, traffic: &Traffic, seen: &mut Seen) {
-    let Traffic::Raw(raw) = traffic else {
-        return;
+/// Looks at a source with this traffic.
+fn see_source(
+    alloc: Global,
+    topology: &Topology,
+    tables: &Tables,
+    sender: Sender,
+    traffic: &Traffic,
+    seen: &mut Seen,
+) -> Result<(), AllocError>
+    requires { tables.now ≡ routes_of_all topology.now }
+{
+    if let Traffic::Raw(raw) = traffic {
+        let events = see_raw(alloc, topology, tables, &sender, raw, &mut seen.remarks)?;
+        seen.events = seen.events.saturating_add(events);
+        return Ok(());
+    }
+    let Some(demand) = demand_of(traffic) else {
+        return Ok(());
     };
-    let stop = topology.stop();
-    let sent = raw
-        .packets()
-        .iter()
-        .filter(|packet| packet.at < stop)
-        .count();
-    seen.events = seen.events.saturating_add((sent as u64).saturating_mul(3));
+    let sending = sending_of(&demand.flow, topology.stop());
+    see_times(alloc, topology, &sender, &sending, &mut seen.remarks)?;
+    let asking = Asking { sender, demand };
+    see_ways(alloc, topology, tables, &asking, seen)
 }
 
 /// Looks at each source.
@@ -262,17 +212,9 @@ fn see_sources(
     requires { tables.now ≡ routes_of_all topology.now }
 {
     for (number, source) in topology.sources().iter().enumerate() {
-        let Some(demand) = demand_of(&source.traffic) else {
-            note_raw(topology, &source.traffic, seen);
-            continue;
-        };
-        let sender = Sender {
-            number,
-            node: source.node,
-            demand,
-        };
-        see_times(alloc, topology, &sender, &mut seen.remarks)?;
-        see_ways(alloc, topology, tables, &sender, seen)?;
+        let node = source.node;
+        let sender = Sender { number, node };
+        see_source(alloc, topology, tables, sender, &source.traffic, seen)?;
     }
     Ok(())
 }
@@ -315,8 +257,7 @@ fn see_windows(
 /// What can be said of a network's traffic before it is simulated: at most 20 remarks, a line each,
 /// and how many more there are. They are on sources, in the order of the text; on interfaces whose
 /// link is asked for more than its rate; on partitions without a node; and on the least lookahead
-/// of its channels, in nanoseconds, if there are channels. The ways of raw packets are not looked
-/// at: where they go stands in their octets.
+/// of its channels, in nanoseconds, if there are channels.
 pub fn way_remarks(
     alloc: Global,
     topology: &Topology,

@@ -6,7 +6,7 @@ ghost use Rattle.nm_forward.specs.Routes.{route_of};
 ghost use Rattle.nm_forward.specs.State.{is_own, table_of};
 ghost use Rattle.nm_paths.specs.Walks.{behind, course, first_turn, linked_to};
 ghost use Rattle.nm_paths.specs.Walks.{node_behind, nodes_with};
-ghost use Rattle.nm_paths.specs.Walks.{node_of_iface, routes_of_all, turn_at, walk_of};
+ghost use Rattle.nm_paths.specs.Walks.{node_of_iface, routes_of_all, turn_at, walk_by, walk_of};
 
 use crate::tables::Tables;
 use crate::turn::{Ending, Turn, route_turn, transit_turn};
@@ -206,5 +206,38 @@ pub fn walk(
             )?
         }
     };
+    Ok(Way { hops, ending })
+}
+
+/// The way of a packet with this time to live that goes to an address by this interface of its node
+/// as it is: no route is looked up there.
+///
+/// # Errors
+///
+/// Where memory was refused.
+pub fn walk_by(
+    alloc: Global,
+    topology: &Topology,
+    tables: &Tables,
+    via: IfaceNo,
+    to: Address,
+    time_to_live: u8,
+) -> Result<Way, AllocError>
+    requires { tables.now ≡ routes_of_all topology.now }
+    ensures { IfOk result (λ w. (w.hops.items, w.ending)
+        ≡ walk_by topology.now via to time_to_live) }
+{
+    let holders = nodes_with(alloc, topology.ifaces(), to)?;
+    let mut hops = vec![in alloc; via; 1]?;
+    let next = node_behind(topology.ifaces(), via);
+    let ending = go_on(
+        topology,
+        tables,
+        &holders,
+        to,
+        time_to_live,
+        next,
+        &mut hops,
+    )?;
     Ok(Way { hops, ending })
 }
