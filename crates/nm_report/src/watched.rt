@@ -31,7 +31,7 @@ pub(crate) struct Watched {
 
 /// What an interface did with a packet that it did not transmit at once.
 #[derive(Clone, Copy)]
-enum Offered {
+enum Unstarted {
     Waits,
     Dropped,
 }
@@ -281,8 +281,8 @@ impl Watched {
             return Ok(());
         };
         match offered {
-            Offered::Waits => lane.wait(tag),
-            Offered::Dropped => {
+            Unstarted::Waits => lane.wait(tag),
+            Unstarted::Dropped => {
                 lane.drop_one();
                 self.flows.end(&tag, Outcome::Dropped);
                 Ok(())
@@ -292,13 +292,13 @@ impl Watched {
 
     /// What an interface did with the packet of the last event, if it was offered to this one and
     /// did not start: one more waits than before, or one more was dropped.
-    fn change_at(&self, part: &Part<SortedList>, iface: IfaceNo) -> Option<Offered> {
+    fn change_at(&self, part: &Part<SortedList>, iface: IfaceNo) -> Option<Unstarted> {
         let lane = self.lanes.get(iface.index())?;
         if part.waiting(iface)? > lane.waiting() {
-            return Some(Offered::Waits);
+            return Some(Unstarted::Waits);
         }
         if part.dropped(iface)? > lane.dropped() {
-            return Some(Offered::Dropped);
+            return Some(Unstarted::Dropped);
         }
         None
     }
@@ -310,7 +310,7 @@ impl Watched {
         part: &Part<SortedList>,
         node: NodeNo,
         guess: IfaceNo,
-    ) -> Option<(IfaceNo, Offered)> {
+    ) -> Option<(IfaceNo, Unstarted)> {
         if let Some(offered) = self.change_at(part, guess) {
             return Some((guess, offered));
         }
