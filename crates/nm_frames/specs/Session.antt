@@ -73,12 +73,12 @@ session_version None taken = next_version taken Two
 session_version (Some v) taken = next_version taken v
 
 -- which replica a peer is whose Hello, if it was taken, told its number
-abbrev pub name_of : ℕ → Option ℕ → Option ReplicaName
-name_of partition None = None
-name_of partition (Some replica) = Some (record { partition = partition; replica = replica })
+abbrev pub named_by : ℕ → Option ℕ → Option ReplicaName
+named_by partition None = None
+named_by partition (Some replica) = Some (record { partition = partition; replica = replica })
 
 abbrev pub peer_name : SessionValue → Option ReplicaName
-peer_name s = name_of s.peer s.peer_replica
+peer_name s = named_by s.peer s.peer_replica
 
 -- ---- what is taken
 

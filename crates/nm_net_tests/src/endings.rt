@@ -110,9 +110,18 @@ fn ends<R: Wait + Abort>(rt: &R, alloc: Global, number: usize, row: &Row) -> Res
         idle_limit: STAYS,
     };
     let served = serve(rt, alloc, &topology, &company, &mut transport, &OpenGate)?.served;
-    assert!(rt; matches!(served, Served::Ended) == row.ends, "row {number}: how it ends");
-    assert!(rt; matches!(served, Served::Stalled { .. }) != row.ends, "row {number}: how it stalls");
-    assert!(rt; transport.given == row.given, "row {number}: how many connections");
+    assert!(rt;
+        matches!(served, Served::Ended) == row.ends,
+        "row {number}: how it ends"
+    );
+    assert!(rt;
+        matches!(served, Served::Stalled { .. }) != row.ends,
+        "row {number}: how it stalls"
+    );
+    assert!(rt;
+        transport.given == row.given,
+        "row {number}: how many connections"
+    );
     let stays = transport.waited >= u64::from(LINGER_POLLS);
     assert!(rt; stays == row.stays, "row {number}: how long it stays");
     Ok(())
