@@ -1,4 +1,4 @@
-use Rattle.std.proofs.Common.{refl, inl, inr, sym}
+use Rattle.std.proofs.Common.{refl, inl, inr}
 use Rattle.std.specs.Arc.{arc_value}
 use Rattle.nm_command.specs.declared.status.Status.TheVariants.{Stalled}
 use Rattle.nm_program.proofs.NodeEndings.{says_served}
@@ -11,9 +11,9 @@ returns-clause-said g c =
     c.in_ok-output.output.status c.in_ok-output.output.text.items c.deref.ensures c.in_ok-end.ensures.done c.in_ok-output.ensures.made
     c.in_ok-output.ensures.said.1 (inl (c.in_ok-output.ensures.said.0, refl))
 
-pub returns-if-clause-said : goal.returns-if-clause-said
-returns-if-clause-said g c =
+pub returns-then-end-clause-said : goal.returns-then-end-clause-said
+returns-then-end-clause-said g c =
     says_served (arc_value c.args.topology.now) c.args.words.now.partition c.args.words.now.replica c.args.words.now.folder.now c.args.listeners.now
     (g.F.Outputs.made c.args.outputs.now) (g.F.Outputs.made c.write_book.new.outputs) c.deref.result.now c.in_ok-end.end.book c.in_ok-output.output.text.items
     Stalled _ c.deref.ensures c.in_ok-end.ensures.done c.in_ok-output.ensures.made
-    c.in_ok-output.ensures.said.1 (inr (refl, c.new.ensures))
+    c.in_ok-output.ensures.said.1 (inr (refl, c.new.ensures.items))
