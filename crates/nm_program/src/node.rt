@@ -32,7 +32,7 @@ use nm_topology::Topology;
 use nm_topology::topology::accepted_topologies_are_in_order;
 use nm_words::input::NamedInputs;
 use nm_words::inputs::Inputs;
-use nm_words::lines::push_line;
+use nm_words::lines::push_iface_line;
 use nm_words::output::{Output, end};
 use std::alloc::{AllocError, Global};
 use std::net::Net;
@@ -68,7 +68,7 @@ fn push_own(
         return Ok(());
     }
     let (records, octets) = book.totals(iface);
-    push_line(text, topology.iface(iface), records, octets)
+    push_iface_line(text, topology.iface(iface), records, octets)
 }
 
 /// The lines of the interfaces of a partition, in the order of the topology's text.

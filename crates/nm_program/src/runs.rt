@@ -28,7 +28,7 @@ use nm_topology::Topology;
 use nm_topology::topology::accepted_topologies_are_in_order;
 use nm_words::input::NamedInputs;
 use nm_words::inputs::Inputs;
-use nm_words::lines::push_line;
+use nm_words::lines::push_iface_line;
 use nm_words::output::{Output, end};
 use nm_words::reading::read_shared;
 use std::alloc::{AllocError, Global};
@@ -55,7 +55,7 @@ fn push_total(
     accepted_topologies_are_in_order(topology); // law: there are few interfaces
     let found = totals[number];
     let iface = topology.iface(IfaceNo::new(number as u32));
-    push_line(text, iface, found.records, found.octets)
+    push_iface_line(text, iface, found.records, found.octets)
 }
 
 /// `certified`, and the lines of all interfaces.

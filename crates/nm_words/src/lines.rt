@@ -14,7 +14,7 @@ use nm_topology::topology::accepted_topologies_are_in_order;
 use std::alloc::AllocError;
 
 /// Appends the line of an interface that has so many records and octets of its trace file.
-pub fn push_line(
+pub fn push_iface_line(
     text: &mut Vec<u8>,
     iface: &Iface,
     records: u64,
@@ -51,7 +51,7 @@ fn push_line_of(
     let iface = IfaceNo::new(number as u32);
     let partition = partition_of(topology, iface);
     let (records, octets) = books[partition.index()].totals(iface);
-    push_line(text, topology.iface(iface), records, octets)
+    push_iface_line(text, topology.iface(iface), records, octets)
 }
 
 /// Appends the lines of all interfaces, in the order of the topology's text. Book p is one of

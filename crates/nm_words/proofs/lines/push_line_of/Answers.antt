@@ -29,7 +29,7 @@ returns c = λ totals are iface is.
     let at = slice_get_read books (length books) (receiver_of (net_of t) n) b refl there (subst (λ k. b ≡ get_or books k b) place c.index-books-index.is) in
     let found = c.totals-records.ensures ∙ ap (λ i. totals_at b.topology (state_of b).records i) same in
     let one = subst (λ i. slice_get t.ifaces i ≡ Some c.iface.result.now) same c.iface.ensures in
-    on_ok c.push_line.result
-    (line_is totals t books n b c.iface.result.now iface c.totals-records.result c.args.text.now.items c.push_line.new.text.items
+    on_ok c.push_iface_line.result
+    (line_is totals t books n b c.iface.result.now iface c.totals-records.result c.args.text.now.items c.push_iface_line.new.text.items
     are c.requires.there at (c.requires.books.each (receiver_of (net_of t) n) b at).0 found one is)
-    c.push_line.ensures
+    c.push_iface_line.ensures
