@@ -10,6 +10,7 @@ use crate::texts::SPLIT;
 use nm_base::{ChanNo, MemSink, PartNo, Time};
 use nm_book::{ChannelMessage, Null};
 use nm_files::TraceFiles;
+use nm_frames::ReplicaName;
 use nm_net::seats::own_seats;
 use nm_net::{Holdings, Served, Service, run_replica};
 use nm_shared::{ClockBoard, OpenGate, Pass, Plain, SharedBook};
@@ -50,6 +51,7 @@ fn serve_sister<'x, R: Wait>(
     books: &'x [SharedBook<Plain>],
     own: &'x SharedBook<Plain>,
     board: &'x ClockBoard,
+    callers: &'x [ReplicaName],
     holdings: &mut Holdings<Plain, MemSink>,
 ) -> Served
     requires owners { All (IsOwnerOf board.now) holdings.old.seats.items }
@@ -63,7 +65,7 @@ fn serve_sister<'x, R: Wait>(
         book: own,
         board,
         peers: &[],
-        callers: &[zero()],
+        callers,
         books,
         sister: Some(0),
         idle_limit: 2_000,
@@ -93,6 +95,7 @@ fn a_sister_is_merged(rt: HostRuntime) -> Result<(), Fail> {
         seats,
         files: TraceFiles::new(alloc),
     };
+    let callers = [zero()];
     let served = serve_sister(
         &rt,
         alloc,
@@ -100,6 +103,7 @@ fn a_sister_is_merged(rt: HostRuntime) -> Result<(), Fail> {
         books.as_slice(),
         &books[1],
         &board,
+        &callers,
         &mut holdings,
     );
     assert!(rt; served == Served::Ended);
