@@ -147,8 +147,8 @@ fn end_of<R: Net + Wait + Drop + Copy>(
     }
 }
 
-/// Serves a replica until it is done, and makes its trace files: the lines of its interfaces. Of one
-/// that is done, and was stalled, the files are made too, and nothing is said.
+/// Serves a replica until it is done, and makes its trace files: the lines of its interfaces. Where
+/// it was stalled and is done, the files are made too, and nothing is said.
 fn serve<F: Outputs, R: Net + Wait + Drop + Copy>(
     means: &Means<'_, R>,
     topology: &Arc<Topology>,
