@@ -75,7 +75,7 @@ fn tell<R: Wait>(
 }
 
 /// So many threads tell one book, or each a book of its own: how many null messages were taken.
-pub fn acts<R: Threads + Wait + Sync>(
+pub(crate) fn acts<R: Threads + Wait + Sync>(
     rt: &R,
     alloc: Global,
     topology: Topology,
@@ -125,7 +125,7 @@ fn jobs_for(alloc: Global, books: usize) -> Result<Vec<Job>, AllocError>
 }
 
 /// A pool runs books that have nothing to do, as many as it has threads: how many answers it gave.
-pub fn pool_jobs<R: Threads + Wait + Sync>(
+pub(crate) fn pool_jobs<R: Threads + Wait + Sync>(
     rt: &R,
     alloc: Global,
     topology: Topology,

@@ -29,7 +29,7 @@ struct Cut {
 
 /// One end of a connection in memory, which breaks by itself: the other end is not told.
 #[derive(Drop)]
-pub struct CutWire {
+pub(crate) struct CutWire {
     from: Way,
     to: Way,
     cut: Cut,
@@ -65,7 +65,10 @@ impl CutWire {
 }
 
 /// Both ends of a connection. Each breaks after so many octets as chance says.
-pub fn cut_pipe(alloc: Global, chance: &mut Chance) -> Result<(CutWire, CutWire), AllocError> {
+pub(crate) fn cut_pipe(
+    alloc: Global,
+    chance: &mut Chance,
+) -> Result<(CutWire, CutWire), AllocError> {
     let (there, back) = ways(alloc)?;
     let zero = CutWire::new(back.clone()?, there.clone()?, cut_of(chance));
     Ok((zero, CutWire::new(there, back, cut_of(chance))))

@@ -239,7 +239,7 @@ fn fault_of(
 /// # Errors
 ///
 /// `Other` where a seed is not certified.
-pub fn try_seeds<R: Files + Print + AllocGlobal + Wait>(
+pub(crate) fn try_seeds<R: Files + Print + AllocGlobal + Wait>(
     rt: &R,
     path: &str,
     from: u64,

@@ -48,7 +48,7 @@ fn read_in(alloc: Global, stream: &[u8], piece: usize) -> Result<u64, Error>
 
 /// Many messages are written, and read in pieces of this size, if it is not 0: how many octets were
 /// written, or frames read.
-pub fn frames_read(alloc: Global, piece: usize) -> Result<u64, Error> {
+pub(crate) fn frames_read(alloc: Global, piece: usize) -> Result<u64, Error> {
     let stream = written(alloc)?;
     if piece == 0 {
         return Ok(stream.len() as u64);

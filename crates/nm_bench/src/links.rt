@@ -91,7 +91,7 @@ fn talk<R: Wait>(rt: &R, alloc: Global, zero: &mut End, one: &mut End) -> Result
 
 /// A replica of partition 0 is done, and tells one of partition 1 its messages, if it is to: how
 /// many that then knows. Packets have 28 octets more than their data.
-pub fn messages_told<R: Wait>(
+pub(crate) fn messages_told<R: Wait>(
     rt: &R,
     alloc: Global,
     size: &str,

@@ -17,7 +17,7 @@ use std::thread::Threads;
 
 /// What is done with the topology.
 #[derive(Clone, Copy)]
-pub enum Task {
+pub(crate) enum Task {
     /// Nothing: it is read, and its nodes are counted.
     Read,
     /// Two parts for each partition are started, kept and counted.
@@ -37,7 +37,7 @@ pub enum Task {
 
 /// How many threads act, and whether each has a book of its own.
 #[derive(Clone, Copy)]
-pub enum Threading {
+pub(crate) enum Threading {
     One,
     Two,
     Four,
@@ -64,7 +64,7 @@ impl Threading {
 }
 
 /// The topology of a file.
-pub fn topology_at<R: Files + AllocGlobal>(rt: &R, path: &str) -> Result<Topology, Error> {
+pub(crate) fn topology_at<R: Files + AllocGlobal>(rt: &R, path: &str) -> Result<Topology, Error> {
     let text = fs::read(rt, path)?;
     match Topology::read(rt.alloc(), text.as_slice()) {
         Ok(topology) => Ok(topology),
@@ -97,7 +97,7 @@ fn let_go(alloc: Global, topology: &Topology) -> Result<u64, AllocError> {
 }
 
 /// Does a task with the topology of a file, and gives what it counts.
-pub fn work_over<R: Files + AllocGlobal + Threads + Wait + Sync>(
+pub(crate) fn work_over<R: Files + AllocGlobal + Threads + Wait + Sync>(
     rt: &R,
     task: Task,
     path: &str,

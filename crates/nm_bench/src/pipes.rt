@@ -13,11 +13,11 @@ use std::rc::Rc;
 const MAX_HELD: usize = 65_536;
 
 /// The octets that are on their way in one direction.
-pub type Way = Rc<RefCell<Vec<u8>>>;
+pub(crate) type Way = Rc<RefCell<Vec<u8>>>;
 
 /// One end of a connection in memory.
 #[derive(Drop)]
-pub struct PipeWire {
+pub(crate) struct PipeWire {
     from: Way,
     to: Way,
     got: Octets,
@@ -26,7 +26,7 @@ pub struct PipeWire {
 }
 
 /// Moves octets out of one direction, to the front of a buffer: how many.
-pub fn move_out(way: &Way, buffer: &mut [u8]) -> usize
+pub(crate) fn move_out(way: &Way, buffer: &mut [u8]) -> usize
     ensures { result ≤ length buffer.new }
 {
     let Ok(mut octets) = way.try_borrow_mut() else {
@@ -40,7 +40,7 @@ pub fn move_out(way: &Way, buffer: &mut [u8]) -> usize
 
 /// Moves the first octets of a list into one direction: how many it had room for, if there was
 /// memory.
-pub fn move_in(way: &Way, octets: &[u8]) -> Option<usize>
+pub(crate) fn move_in(way: &Way, octets: &[u8]) -> Option<usize>
     ensures { IfSome result (λ count. count ≤ length octets.now) }
 {
     let Ok(mut held) = way.try_borrow_mut() else {
@@ -67,7 +67,7 @@ impl PipeWire {
 }
 
 /// Both directions of a connection.
-pub fn ways(alloc: Global) -> Result<(Way, Way), AllocError> {
+pub(crate) fn ways(alloc: Global) -> Result<(Way, Way), AllocError> {
     let Ok(there) = Rc::new(alloc, RefCell::new(Vec::new(alloc))) else {
         return Err(AllocError);
     };
@@ -78,7 +78,7 @@ pub fn ways(alloc: Global) -> Result<(Way, Way), AllocError> {
 }
 
 /// Both ends of a connection.
-pub fn pipe(alloc: Global) -> Result<(PipeWire, PipeWire), AllocError> {
+pub(crate) fn pipe(alloc: Global) -> Result<(PipeWire, PipeWire), AllocError> {
     let (there, back) = ways(alloc)?;
     let zero = PipeWire::new(back.clone()?, there.clone()?);
     Ok((zero, PipeWire::new(there, back)))

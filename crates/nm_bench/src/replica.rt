@@ -12,7 +12,11 @@ use std::sync::Arc;
 const MESSAGES: u64 = 1_000_000;
 
 /// The channels that come in.
-pub fn incoming(alloc: Global, book: &Book, channels: u32) -> Result<Vec<ChanNo>, AllocError> {
+pub(crate) fn incoming(
+    alloc: Global,
+    book: &Book,
+    channels: u32,
+) -> Result<Vec<ChanNo>, AllocError> {
     let mut found = Vec::new(alloc);
     for number in 0..channels {
         let channel = ChanNo::new(number);
@@ -66,7 +70,7 @@ fn tell_all(alloc: Global, book: &mut Book, channels: &[ChanNo]) -> Result<u64, 
 }
 
 /// Replica 0 of partition 0 is told messages of all channels that come in: how many it took.
-pub fn replica_told(alloc: Global, topology: Topology) -> Result<u64, Error> {
+pub(crate) fn replica_told(alloc: Global, topology: Topology) -> Result<u64, Error> {
     let channels = topology.receivers().len() as u32;
     let Ok(shared) = Arc::new(alloc, topology) else {
         return Err(ErrorKind::OutOfMemory.into());

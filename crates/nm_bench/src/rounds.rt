@@ -17,7 +17,7 @@ fn records_of(books: &[Book]) -> u64 {
 
 /// Lets all partitions of the topology of a file run in rounds until all are done: how many rounds
 /// it took, and how many records were made.
-pub fn rounds_over<R: Files + AllocGlobal>(rt: &R, path: &str) -> Result<(u64, u64), Error> {
+pub(crate) fn rounds_over<R: Files + AllocGlobal>(rt: &R, path: &str) -> Result<(u64, u64), Error> {
     let text = fs::read(rt, path)?;
     match run_rounds(rt.alloc(), text.as_slice(), MAX_ROUNDS) {
         Rounds::Done { rounds, books } => Ok((rounds, records_of(books.as_slice()))),

@@ -75,7 +75,7 @@ fn read_stream(
 }
 
 /// Reads the streams of a file: how many there are.
-pub fn read_streams(rt: &(impl Print + AllocGlobal), octets: &[u8]) -> io::Result<u64> {
+pub(crate) fn read_streams(rt: &(impl Print + AllocGlobal), octets: &[u8]) -> io::Result<u64> {
     let mut place = 0usize;
     let mut count = 0u64;
     for _ in 0..octets.len() {

@@ -10,7 +10,7 @@ use std::alloc::AllocError;
 
 /// The order in which keys come.
 #[derive(Clone, Copy)]
-pub enum Order {
+pub(crate) enum Order {
     /// Each up to 2^20 nanoseconds after the one that left, by a linear congruential generator.
     Random,
     /// Each about 2^20 nanoseconds after the one that left.
@@ -62,7 +62,7 @@ fn fill<L: EventList>(list: &mut L, count: u64) -> Result<(), AllocError>
 }
 
 /// So many times takes the least event and puts a later one, among so many. Gives the last time.
-pub fn turn_over<L: EventList>(
+pub(crate) fn turn_over<L: EventList>(
     list: &mut L,
     order: Order,
     count: u64,
