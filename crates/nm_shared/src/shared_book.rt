@@ -126,7 +126,8 @@ impl<C: Counts> Held<C> {
     }
 }
 
-/// How many messages a book knows which knew so many, and learned so many, or nobody tells how many.
+/// How many messages a book knows that knew so many before, and learned so many, or an unknown
+/// number.
 fn known_after(book: &Book, before: u64, learned: Option<u64>) -> u64
     requires { IfSome learned (λ n. messages_known book.now ≡ before + n) }
     ensures { result ≡ messages_known book.now }
