@@ -1,5 +1,5 @@
 -- How often links have ended.
-use Rattle.std.specs.Prelude.{ℕ, Bool, true, false, ◌==◌, ◌&&◌, if◌then◌else◌}
+use Rattle.std.specs.Prelude.{ℕ, Bool, true, false, ◌==◌, ◌&&◌, ◌||◌, if◌then◌else◌}
 use Rattle.nm_frames.specs.declared.replica_name.ReplicaName.{ReplicaName}
 use Rattle.nm_net.specs.declared.callers.Caller.{Caller}
 use Rattle.nm_net.specs.declared.ends.Ends.{Ends}
@@ -35,13 +35,14 @@ rest_of Open has_greeted = if has_greeted then 0 else REST_POLLS
 rest_of Once has_greeted = if has_greeted then 0 else REST_POLLS
 rest_of Sure has_greeted = RECALL_REST
 
--- how often a link has ended after a connection of it broke
-abbrev pub after_break : Ends → (has_greeted : Bool) → Ends
-after_break ends has_greeted = if has_greeted then ends else after_nobody ends
+-- How often a link has ended after a connection of it broke. Nobody was there where no Hello came and no octet could be written: a connection that
+-- took octets may have been cut before the peer's Hello came.
+abbrev pub after_break : Ends → (has_greeted has_written : Bool) → Ends
+after_break ends has_greeted has_written = if has_greeted || has_written then ends else after_nobody ends
 
 -- a caller whose link has not ended
 abbrev pub new_caller : ReplicaName → Caller
-new_caller name = record { name = name; ends = Open }
+new_caller name = record { name = name; ends = Open; has_broken = false }
 
 -- whether it is the caller with this name
 abbrev pub is_named : ReplicaName → Caller → Bool
@@ -50,3 +51,7 @@ is_named name c = (c.name.partition == name.partition) && (c.name.replica == nam
 -- the caller after the link with this name has ended once more
 abbrev pub ended_by : ReplicaName → Caller → Caller
 ended_by name c = if is_named name c then record c { ends = once_more c.ends } else c
+
+-- the caller after a connection of the replica with this name broke
+abbrev pub broken_by : ReplicaName → Caller → Caller
+broken_by name c = record c { has_broken = c.has_broken || is_named name c }

@@ -5,3 +5,8 @@ pub mod Strangers
 pub mod Ends
 pub mod Served
 pub mod Recording
+pub mod Lasting
+pub mod Shortage
+pub mod Stays
+pub mod Links
+pub mod Leaving

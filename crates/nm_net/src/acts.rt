@@ -8,10 +8,11 @@ ghost use Rattle.nm_shared.specs.Growing.{handed_grows, same_grows};
 ghost use Rattle.nm_sim.specs.Network.{net_of};
 
 use crate::limits::MAX_HANDED;
-use nm_base::{Record, Time};
+use nm_base::{ChanNo, Record, Time};
 use nm_book::Book;
 use nm_book::laws::records_have_times_of_a_file;
 use nm_shared::Act;
+use nm_topology::topology::accepted_topologies_are_in_order;
 
 /// How far a book is.
 #[derive(Clone, Copy, Drop)]
@@ -22,11 +23,13 @@ pub struct Standing {
     pub events: u64,
     /// How many records its trace has, those that were handed out among them.
     pub records: u64,
+    /// How many of them were handed out.
+    pub handed: u64,
     /// Nothing is left to do.
     pub is_done: bool,
 }
 
-/// `Book::safe`, `Book::events`, `Book::records` and `Book::done`.
+/// `Book::safe`, `Book::events`, `Book::records`, `Book::handed` and `Book::done`.
 #[derive(Drop)]
 pub struct Stand;
 
@@ -34,7 +37,7 @@ impl Act for Stand {
     type Out = Standing;
 
     ghost does = { λ a b r c. (c ≡ b) × (r.safe ≡ safe_of b) × (r.events ≡ b.events)
-        × (r.records ≡ length (state_of b).records)
+        × (r.records ≡ length (state_of b).records) × (r.handed ≡ b.handed)
         × (r.is_done ≡ is_done (net_of b.topology) b.partition (replica_of b)) };
 
     ghost news = { λ r. Some 0 };
@@ -44,6 +47,7 @@ impl Act for Stand {
             safe: book.safe(),
             events: book.events(),
             records: book.records(),
+            handed: book.handed(),
             is_done: book.done(),
         }
     }
@@ -96,4 +100,44 @@ impl Act for HandOutSome {
     }
 
     ghost grows = { λ a b r c h. handed_grows (b.handed + h.takes.0) b c h.takes.1 };
+}
+
+/// The channel that comes in whose clock is the least: the one that holds the book back.
+fn least_channel(book: &Book) -> Option<ChanNo> {
+    accepted_topologies_are_in_order(book.topology()); // law: there are few channels
+    let count = book.topology().receivers().len() as u32;
+    let (mut least, mut found) = (u64::MAX, None);
+    for number in 0..count {
+        let channel = ChanNo::new(number);
+        if let Some(know) = book.know(channel) {
+            let clock = know.clock().nanoseconds();
+            if clock < least {
+                least = clock;
+                found = Some(channel);
+            }
+        }
+    }
+    found
+}
+
+/// Which channel holds the book back, if one comes in.
+#[derive(Drop)]
+pub struct HeldBack;
+
+impl Act for HeldBack {
+    type Out = Option<ChanNo>;
+
+    ghost does = { λ a b r c. c ≡ b };
+
+    ghost news = { λ r. Some 0 };
+
+    fn act(self, book: &mut Book) -> Option<ChanNo> {
+        least_channel(book)
+    }
+
+    fn learned(_answer: &Option<ChanNo>) -> Option<u64> {
+        Some(0)
+    }
+
+    ghost grows = { λ a b r c h. same_grows b c h };
 }

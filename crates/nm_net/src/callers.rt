@@ -2,7 +2,7 @@
 
 ghost use Rattle.std.specs.Prelude.{◌≡◌, ◌&&◌, map, IfOk};
 ghost use Rattle.std.specs.List.{list_all, list_any};
-ghost use Rattle.nm_net.specs.Ends.{ended_by, has_ended, is_named, is_sure, new_caller};
+ghost use Rattle.nm_net.specs.Ends.{broken_by, ended_by, has_ended, is_named, is_sure, new_caller};
 
 use crate::ends::Ends;
 use nm_frames::ReplicaName;
@@ -13,6 +13,8 @@ use std::alloc::{AllocError, Global};
 pub(crate) struct Caller {
     name: ReplicaName,
     ends: Ends,
+    /// A connection of it broke after its Hello: a Bye may have been lost, too.
+    has_broken: bool,
 }
 
 /// The replicas that are to call: each is known by its name, whatever connection it comes by.
@@ -32,6 +34,7 @@ impl Caller {
                 replica: name.replica,
             },
             ends: Ends::Open,
+            has_broken: false,
         }
     }
 
@@ -52,6 +55,18 @@ impl Caller {
         Caller {
             name: self.name,
             ends: self.ends.once_more(),
+            has_broken: self.has_broken,
+        }
+    }
+
+    /// The same, after a connection of the replica with this name broke.
+    fn broken_by(self, name: &ReplicaName) -> Caller
+        ensures { result ≡ broken_by name.now self }
+    {
+        Caller {
+            name: self.name,
+            ends: self.ends,
+            has_broken: self.has_broken || self.is_named(name),
         }
     }
 }
@@ -62,6 +77,15 @@ fn end_of(callers: &mut [Caller], name: &ReplicaName)
 {
     for caller in callers.iter_mut() {
         *caller = caller.ended_by(name);
+    }
+}
+
+/// A connection of the replica with this name broke.
+fn break_of(callers: &mut [Caller], name: &ReplicaName)
+    ensures { callers.new ≡ map (broken_by name.now) callers.old }
+{
+    for caller in callers.iter_mut() {
+        *caller = caller.broken_by(name);
     }
 }
 
@@ -97,6 +121,21 @@ impl Callers {
         self.all
             .iter()
             .any(|caller| caller.is_named(name) && caller.ends.has_ended())
+    }
+
+    /// A connection of the replica with this name broke. Where no such one is to call nothing is
+    /// noted.
+    pub(crate) fn broke(&mut self, name: &ReplicaName)
+        ensures { self.new.all.items ≡ map (broken_by name.now) self.old.all.items }
+    {
+        break_of(self.all.as_mut_slice(), name);
+    }
+
+    /// Whether a connection of one of them broke.
+    pub(crate) fn have_broken(&self) -> bool
+        ensures { result ≡ list_any (λ c. c.has_broken) self.now.all.items }
+    {
+        self.all.iter().any(|caller| caller.has_broken)
     }
 
     /// Whether the links of all have ended.

@@ -4,7 +4,9 @@ ghost use Rattle.std.specs.Prelude.{◌≡◌, true, false};
 ghost use Rattle.nm_engine.specs.Link.{greeted_by, has_greeted};
 ghost use Rattle.nm_net.specs.Strangers.{is_stranger};
 
-use crate::limits::{BUSY_POLLS, STRANGER_POLLS};
+use crate::counting::Frames;
+use crate::lasting::Lasted;
+use crate::limits::STRANGER_POLLS;
 use crate::moved::CountingWire;
 use nm_engine::Link;
 use nm_frames::{ReplicaName, Session};
@@ -18,13 +20,17 @@ pub(crate) struct Connection<W> {
     pub came: u64,
     /// Its octets count: its link had not ended before it was begun.
     counts: bool,
-    /// Who began it is known.
+    /// Which replica the peer is is known.
     is_met: bool,
+    /// The same replica has begun another one since: it is let go once all that came is read.
+    pub is_replaced: bool,
     /// How many octets had moved, and come, when they were counted last.
     counted: u64,
     heard: u64,
-    /// How long its Hello did not come: `BUSY_POLLS` for a poll that ran out, and 1 for another.
-    waited: u32,
+    /// The frames that were counted.
+    framed: Frames,
+    /// How long its Hello did not come.
+    waited: Lasted,
 }
 
 /// What a connection that was let go leaves.
@@ -35,6 +41,8 @@ pub(crate) struct Remains {
     pub session: Option<Session>,
     /// Which replica greeted.
     pub name: Option<ReplicaName>,
+    /// Octets were written on it, so that somebody was there.
+    pub has_written: bool,
 }
 
 impl<W> Connection<W> {
@@ -45,10 +53,12 @@ impl<W> Connection<W> {
             peer: Some(peer),
             came: 0,
             counts,
-            is_met: true,
+            is_met: false,
+            is_replaced: false,
             counted: 0,
             heard: 0,
-            waited: 0,
+            framed: Frames::NONE,
+            waited: Lasted::new(),
         }
     }
 
@@ -60,9 +70,11 @@ impl<W> Connection<W> {
             came,
             counts: true,
             is_met: false,
+            is_replaced: false,
             counted: 0,
             heard: 0,
-            waited: 0,
+            framed: Frames::NONE,
+            waited: Lasted::new(),
         }
     }
 
@@ -70,7 +82,8 @@ impl<W> Connection<W> {
     /// count: they may be a stranger's. Nor do those of a link that had ended before: what was said
     /// is said again.
     pub(crate) fn count_moved(&mut self) -> u64
-        ensures { has_greeted self.old.link.session ≡ false → result ≡ 0 }
+        ensures strangers { has_greeted self.old.link.session ≡ false → result ≡ 0 }
+        ensures ended { self.old.counts ≡ false → result ≡ 0 }
     {
         if !self.link.has_greeted() || !self.counts {
             return 0;
@@ -89,7 +102,15 @@ impl<W> Connection<W> {
         is_more
     }
 
-    /// Who began it, where that is known now and was not before.
+    /// The frames that were written since they were counted last.
+    pub(crate) fn count_frames(&mut self) -> Frames {
+        let all = self.link.wire().frames();
+        let more = all.since(self.framed);
+        self.framed = all;
+        more
+    }
+
+    /// Which replica the peer is, where that is known now and was not before.
     pub(crate) fn meet(&mut self) -> Option<ReplicaName> {
         if self.is_met {
             return None;
@@ -127,8 +148,7 @@ impl<W> Connection<W> {
         if !self.is_stranger() {
             return false;
         }
-        let more = if ran_out { BUSY_POLLS } else { 1 };
-        self.waited = self.waited.saturating_add(more);
-        self.waited >= STRANGER_POLLS.saturating_mul(BUSY_POLLS)
+        self.waited.pass_poll(ran_out);
+        self.waited.is_past(STRANGER_POLLS)
     }
 }

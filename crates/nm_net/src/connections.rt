@@ -1,11 +1,12 @@
 //! The connections of a replica: begun, accepted, and let go.
 
-ghost use Rattle.std.specs.Prelude.{◌≡◌, ◌&&◌, true, false, IfErr};
+ghost use Rattle.std.specs.Prelude.{◌≡◌, IfErr};
+ghost use Rattle.nm_net.specs.Links.{are_sure, have_broken, have_ended};
 ghost use Rattle.nm_net.specs.Served.{EndsEarly};
 
 use crate::callers::Callers;
 use crate::connection::{Connection, Remains};
-use crate::dialing::Dialing;
+use crate::dialing::{Dialing, are_sure, have_ended};
 use crate::limits::{MAX_ACCEPTED, MAX_STRANGERS};
 use crate::moved::CountingWire;
 use crate::replica::Service;
@@ -26,6 +27,9 @@ pub(crate) struct Connections<W> {
     callers: Callers,
     /// How many connections were accepted.
     accepted: u64,
+    /// On how many connections the peer said Hello, and how many of these broke.
+    pub begun: u64,
+    pub broken: u64,
 }
 
 /// Calls a peer if it is to be called, as far as the transport lets it.
@@ -105,18 +109,44 @@ impl<W> Connections<W> {
             peers,
             callers,
             accepted: 0,
+            begun: 0,
+            broken: 0,
         })
     }
 
     /// Whether all links have ended: those of the peers that are called, and those of the replicas
     /// that call.
-    pub(crate) fn have_ended(&self) -> bool {
-        self.callers.have_ended() && self.peers.iter().all(|peer| peer.has_ended())
+    pub(crate) fn have_ended(&self) -> bool
+        ensures { result ≡ have_ended self.now.callers.all.items self.now.peers.items }
+    {
+        self.callers.have_ended() && have_ended(self.peers.as_slice())
     }
 
-    /// Whether the ends of all links are sure, so that nobody may call again.
-    pub(crate) fn are_sure(&self) -> bool {
-        self.callers.are_sure() && self.peers.iter().all(|peer| peer.is_sure())
+    /// Whether the ends of all links are sure, so that nobody is to call again.
+    pub(crate) fn are_sure(&self) -> bool
+        ensures { result ≡ are_sure self.now.callers.all.items self.now.peers.items }
+    {
+        self.callers.are_sure() && are_sure(self.peers.as_slice())
+    }
+
+    /// Whether a connection broke of those that call, so that one of them may lack a Bye.
+    pub(crate) fn have_broken(&self) -> bool
+        ensures { result ≡ have_broken self.now.callers.all.items }
+    {
+        self.callers.have_broken()
+    }
+
+    /// Whether a connection is open whose peer said Hello: that may have been lost and begun anew,
+    /// and be told all again.
+    pub(crate) fn are_serving(&self) -> bool {
+        for key in 0..self.open.capacity() {
+            if let Some(connection) = self.open.get(key) {
+                if connection.link.has_greeted() {
+                    return true;
+                }
+            }
+        }
+        false
     }
 
     /// Whether more may be read that no wait reports.
@@ -143,6 +173,15 @@ impl<W> Connections<W> {
         for key in 0..self.open.capacity() {
             if let Some(connection) = self.open.get(key) {
                 connection.link.wire().report();
+            }
+        }
+    }
+
+    /// Nothing is written from now on, or it is again.
+    pub(crate) fn hold_all(&self, is_held: bool) {
+        for key in 0..self.open.capacity() {
+            if let Some(connection) = self.open.get(key) {
+                connection.link.wire().hold(is_held);
             }
         }
     }
@@ -191,6 +230,15 @@ impl<W> Connections<W> {
             }
         }
         if count >= strangers { first } else { None }
+    }
+
+    /// Lets the stranger go that came first, if there is one.
+    pub(crate) fn drop_first<T: Transport<Connection = W>>(&mut self, transport: &mut T)
+        ensures { T.idle_waits transport.new ≡ T.idle_waits transport.old }
+    {
+        if let Some(key) = self.first_of(1) {
+            let _ = self.remove(transport, key);
+        }
     }
 
     /// Calls all peers that are to be called.
@@ -280,16 +328,17 @@ impl<W> Connections<W> {
         }
     }
 
-    /// Whether the other side sends no more on the connection with this key.
+    /// Whether the other side sends no more on the connection with this key, or has begun another.
     fn is_cut(&self, key: usize) -> bool {
         match self.open.get(key) {
-            Some(connection) => connection.link.wire().has_ended(),
+            Some(connection) => connection.link.wire().has_ended() || connection.is_replaced,
             None => false,
         }
     }
 
-    /// Learns who began the connection with this key, once its Hello has come. It takes the place
-    /// of others that the same replica began: that has let go of those.
+    /// Learns which replica the peer of the connection with this key is, once its Hello has come.
+    /// Where the peer began it, it takes the place of others that the same replica began: that has
+    /// let go of those.
     fn meet<T: Transport<Connection = W>>(&mut self, transport: &mut T, key: usize)
         ensures { T.idle_waits transport.new ≡ T.idle_waits transport.old }
     {
@@ -299,10 +348,28 @@ impl<W> Connections<W> {
         let Some(name) = connection.meet() else {
             return;
         };
+        self.begun = self.begun.saturating_add(1);
+        if connection.peer.is_some() {
+            return;
+        }
         if self.callers.has_ended(&name) {
             connection.count_nothing();
         }
         self.remove_others(transport, key, &name);
+    }
+
+    /// Lets the connection with this key go, since its peer has begun another: at once, or, where
+    /// something may have come that is not read, a Bye maybe, after its next turn.
+    fn replace<T: Transport<Connection = W>>(&mut self, transport: &mut T, key: usize)
+        ensures { T.idle_waits transport.new ≡ T.idle_waits transport.old }
+    {
+        if let Some(connection) = self.open.get_mut(key) {
+            if connection.link.wire().is_ready() {
+                connection.is_replaced = true;
+                return;
+            }
+        }
+        let _ = self.remove(transport, key);
     }
 
     /// Lets all other connections go that the replica with this name began.
@@ -320,7 +387,8 @@ impl<W> Connections<W> {
                 None => false,
             };
             if is_other {
-                let _ = self.remove(transport, other);
+                self.replace(transport, other);
+                self.callers.broke(name);
             }
         }
     }
@@ -337,12 +405,14 @@ impl<W> Connections<W> {
         let name = connection.link.greeted_by();
         let peer = connection.peer;
         let (wire, session) = connection.link.back();
+        let has_written = wire.has_written();
         let mut wire = wire.into_wire();
         transport.unwatch(&mut wire);
         Some(Remains {
             peer,
             session,
             name,
+            has_written,
         })
     }
 
@@ -383,15 +453,21 @@ impl<W> Connections<W> {
             peer,
             session,
             name,
+            has_written,
         } = remains;
         let is_peer = peer.is_some() || session.is_some();
         if let Some(served) = break_served(cause, is_peer) {
             return Err(served);
         }
-        if let (Some(peer), Some(session)) = (peer, session) {
-            if peer < self.peers.len() {
-                self.peers[peer].broke(session, name.is_some());
+        if name.is_some() {
+            self.broken = self.broken.saturating_add(1);
+        }
+        match (peer, session, name) {
+            (Some(peer), Some(session), name) if peer < self.peers.len() => {
+                self.peers[peer].broke(session, name.is_some(), has_written);
             }
+            (None, _, Some(name)) => self.callers.broke(&name),
+            _ => {}
         }
         Ok(())
     }

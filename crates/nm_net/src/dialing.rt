@@ -2,6 +2,7 @@
 
 ghost use Rattle.std.specs.Prelude.{◌≡◌, true, IfSome};
 ghost use Rattle.std.proofs.Props.{props};
+ghost use Rattle.std.specs.List.{list_all};
 ghost use Rattle.nm_frames.specs.Session.{broken};
 ghost use Rattle.nm_net.specs.Dialing.{IsAtGreeting};
 ghost use Rattle.nm_net.specs.Ends.{after_break, has_ended, is_sure, once_more, rest_of};
@@ -44,6 +45,20 @@ fn rest_of(ends: Ends, has_greeted: bool) -> u32
     }
 }
 
+/// Whether the links of all these peers have ended.
+pub(crate) fn have_ended(peers: &[Dialing]) -> bool
+    ensures { result ≡ list_all (λ p. has_ended p.ends) peers.now }
+{
+    peers.iter().all(|peer| peer.ends.has_ended())
+}
+
+/// Whether the ends of the links of all these peers are sure.
+pub(crate) fn are_sure(peers: &[Dialing]) -> bool
+    ensures { result ≡ list_all (λ p. is_sure p.ends) peers.now }
+{
+    peers.iter().all(|peer| peer.ends.is_sure())
+}
+
 impl Dialing {
     /// A peer that is to be called.
     pub(crate) fn new(
@@ -74,12 +89,13 @@ impl Dialing {
         self.session.take()
     }
 
-    /// Its connection broke. Where the peer's Hello had not come, it is left alone for a while.
-    pub(crate) fn broke(&mut self, session: Session, has_greeted: bool)
-        ensures ends { self.new.ends ≡ after_break self.old.ends has_greeted }
+    /// Its connection broke, whose peer said Hello or did not, and on which octets were written or
+    /// not. Where the Hello had not come, the peer is left alone for a while.
+    pub(crate) fn broke(&mut self, session: Session, has_greeted: bool, has_written: bool)
+        ensures ends { self.new.ends ≡ after_break self.old.ends has_greeted has_written }
         ensures rest { self.new.rest ≡ rest_of self.new.ends has_greeted }
     {
-        if !has_greeted {
+        if !has_greeted && !has_written {
             self.ends = self.ends.after_nobody();
         }
         self.rest = rest_of(self.ends, has_greeted);
@@ -102,13 +118,6 @@ impl Dialing {
         ensures { result ≡ has_ended self.now.ends }
     {
         self.ends.has_ended()
-    }
-
-    /// Whether the end of its link is sure.
-    pub(crate) fn is_sure(&self) -> bool
-        ensures { result ≡ is_sure self.now.ends }
-    {
-        self.ends.is_sure()
     }
 
     /// A poll was made, and ran out or not.

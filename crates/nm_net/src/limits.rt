@@ -19,11 +19,15 @@ pub const MAX_ACCEPTED: usize = 64;
 /// replica that is to call. The oldest of them is let go when another comes.
 pub const MAX_STRANGERS: usize = 64;
 
-/// After so many polls that ran out such a connection is let go, five seconds; or after so many
-/// that did not for each of these, as those of a replica that has much to do.
-pub const STRANGER_POLLS: u32 = 100;
+/// Where something lasts for so many polls that ran out, so many others count as one of these: a
+/// replica that has much to do makes them in the same time.
+pub const BUSY_POLLS: u64 = 1_000;
 
-pub const BUSY_POLLS: u32 = 1_000;
+/// The most polls that ran out for which a limit says how long something may last.
+pub const MAX_LASTING: u64 = 1_000_000;
+
+/// After so many polls that ran out, five seconds, such a connection is let go.
+pub const STRANGER_POLLS: u64 = 100;
 
 /// The most turns that a link has after one poll.
 pub const MAX_TURNS: usize = 64;
@@ -32,13 +36,24 @@ pub const MAX_TURNS: usize = 64;
 /// after one that ran out.
 pub const REST_POLLS: u32 = 64;
 
-/// After so many polls a peer is called anew whose link has ended for sure, or after one that ran
-/// out for each `REST_POLLS` of these: a second. It may have been lost and begun anew.
-pub const RECALL_REST: u32 = 1_280;
+/// After so many polls that ran out, a second, a peer is called anew whose link has ended for sure.
+/// It may have been lost and begun anew.
+pub const RECALL_POLLS: u32 = 20;
+
+/// The same as a rest.
+pub const RECALL_REST: u32 = RECALL_POLLS * REST_POLLS;
 
 /// For so many polls that ran out, two seconds, a replica that is done stays for those whose link's
-/// end is not sure; or for so many that did not for each of these.
-pub const LINGER_POLLS: u32 = 40;
+/// end is not sure.
+pub const LINGER_POLLS: u64 = 40;
+
+/// After so many polls in a row that ran out, a fifth of a second, nobody is to call again who
+/// lacks a Bye: such a one calls at once. A replica stays so long where connections broke.
+pub const QUIET_POLLS: u64 = 4;
+
+/// After so many polls that ran out, a second, a replica ends to which the system refuses
+/// connections.
+pub const SHORT_POLLS: u64 = 20;
 
 /// After so many polls the sister's knowledge is merged.
 pub const MERGE_POLLS: u64 = 1_024;

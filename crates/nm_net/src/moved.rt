@@ -2,6 +2,7 @@
 
 ghost use Rattle.std.specs.Prelude.{◌≡◌, ℕ, List};
 
+use crate::counting::{FrameCounter, Frames};
 use nm_base::Wire;
 use nm_base::wire::{Read, Written};
 use std::marker::Model;
@@ -13,11 +14,15 @@ use std::sync::atomic::{AtomicBool, Ordering};
 #[derive(Drop)]
 pub struct CountingWire<W> {
     wire: W,
-    moved: u64,
-    /// How many of the octets came.
+    /// How many octets came.
     came: u64,
+    /// How many octets were written, and the frames that they are.
+    written: u64,
+    frames: FrameCounter,
     /// Something may have come.
     is_ready: AtomicBool,
+    /// Nothing is written now: more is to come, and goes with it.
+    is_held: AtomicBool,
     /// A read found the end.
     has_ended: bool,
 }
@@ -36,21 +41,28 @@ impl<W> CountingWire<W> {
     {
         CountingWire {
             wire,
-            moved: 0,
             came: 0,
+            written: 0,
+            frames: FrameCounter::new(),
             is_ready: AtomicBool::new(true),
+            is_held: AtomicBool::new(false),
             has_ended: false,
         }
     }
 
     /// How many octets moved.
     pub fn moved(&self) -> u64 {
-        self.moved
+        self.came.saturating_add(self.written)
     }
 
     /// How many of them came.
     pub fn came(&self) -> u64 {
         self.came
+    }
+
+    /// Whether octets were written.
+    pub fn has_written(&self) -> bool {
+        self.written > 0
     }
 
     /// Whether a read found the end.
@@ -66,6 +78,11 @@ impl<W> CountingWire<W> {
     /// Something may have come.
     pub fn report(&self) {
         self.is_ready.store(true, Ordering::Relaxed);
+    }
+
+    /// Nothing is written from now on, or it is again.
+    pub fn hold(&self, is_held: bool) {
+        self.is_held.store(is_held, Ordering::Relaxed);
     }
 
     /// The wire.
@@ -85,13 +102,19 @@ impl<W> CountingWire<W> {
         ensures { self.new ≡ self.old }
     {
         self.came = self.came.saturating_add(octets as u64);
-        self.count(octets);
     }
 
-    fn count(&mut self, octets: usize)
+    /// How many frames were written.
+    pub fn frames(&self) -> Frames {
+        self.frames.frames()
+    }
+
+    /// These octets were written.
+    fn count_written(&mut self, octets: &[u8])
         ensures { self.new ≡ self.old }
     {
-        self.moved = self.moved.saturating_add(octets as u64);
+        self.written = self.written.saturating_add(octets.len() as u64);
+        self.frames.pass(octets);
     }
 }
 
@@ -122,9 +145,12 @@ impl<W: Wire> Wire for CountingWire<W> {
     }
 
     fn write_some(&mut self, octets: &[u8]) -> Written {
+        if self.is_held.load(Ordering::Relaxed) {
+            return Written::Later;
+        }
         let written = self.wire.write_some(octets);
         if let Written::Took(count) = written {
-            self.count(count);
+            self.count_written(&octets[..count]);
         }
         written
     }

@@ -8,6 +8,7 @@ ghost use Rattle.nm_net.specs.Recording.{Streams};
 ghost use Rattle.nm_net.specs.Served.{EndsWith};
 ghost use Rattle.nm_net.specs.declared.served.Served.TheVariants.{Ended};
 
+use crate::lending::Lending;
 use crate::limits::MAX_POLLS;
 use crate::served::Served;
 use crate::serving::{Polled, Serving, poll};
@@ -42,10 +43,14 @@ pub struct Service<'a, C: Counts> {
     pub sister: Option<usize>,
     /// After so many polls in a row that ran out it is stalled.
     pub idle_limit: u64,
-    /// How many events it does at most after each poll: 0 where others run its book.
+    /// How many events it does at most after each poll.
     pub run_limit: u64,
-    /// Where it notes how far its book is, if nobody else does.
+    /// Whose turn it is to run its book. While it is lent the replica does no event itself.
+    pub lending: &'a Lending,
+    /// Where it notes what it does, if that is asked for there.
     pub progress: Option<&'a Progress>,
+    /// It notes there how far its book is, too: nobody else does.
+    pub notes_progress: bool,
 }
 
 /// What a replica holds while it runs, and has still when it has ended.

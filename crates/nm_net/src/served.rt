@@ -2,10 +2,12 @@
 
 ghost use Rattle.std.specs.Prelude.{◌≡◌, IfSome};
 ghost use Rattle.nm_net.specs.Served.{EndsEarly, break_served, file_served};
+ghost use Rattle.nm_net.specs.declared.served.Served.TheVariants.{Memory};
 
 use nm_base::IfaceNo;
 use nm_engine::Cause;
 use nm_files::{FileFault, FilesFault};
+use std::alloc::AllocError;
 
 /// What serving a replica came to.
 #[derive(Clone, Copy, Debug, PartialEq, Eq)]
@@ -20,6 +22,14 @@ pub enum Served {
     File { iface: IfaceNo, written: u64 },
     /// So many polls were made, and the last of them moved nothing; or no more may be made.
     Stalled { polls: u64 },
+}
+
+impl From<AllocError> for Served {
+    ghost from_gives = { λ _ s. s ≡ Memory };
+
+    fn from(_: AllocError) -> Self {
+        Served::Memory
+    }
 }
 
 /// How serving ends because a link broke, if it does. A wire may break at any time. Who has not

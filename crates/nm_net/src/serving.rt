@@ -1,21 +1,25 @@
 //! One poll of a replica, and what follows it.
 
-ghost use Rattle.std.specs.Prelude.{◌≡◌, true, All, IfErr, IfOk, OnOk, length};
+ghost use Rattle.std.specs.Prelude.{◌≡◌, ◌≤◌, true, All, IfErr, IfOk, OnOk, length};
 ghost use Rattle.nm_shared.specs.Board.{IsOwnerOf};
 ghost use Rattle.nm_files.specs.Files.{IsSound};
+ghost use Rattle.nm_net.specs.Lasting.{has_lasted, lasted_after};
+ghost use Rattle.nm_net.specs.Leaving.{LeavesAfter};
 ghost use Rattle.nm_net.specs.Polls.{HasWaited};
 ghost use Rattle.nm_net.specs.Recording.{Streams};
 ghost use Rattle.nm_net.specs.Served.{EndsEarly, WasFinished};
 
 use crate::acts::{Stand, Standing};
 use crate::connections::Connections;
-use crate::limits::{
-    BUSY_POLLS, LINGER_POLLS, MAX_REPORTS, MAX_TURNS, MERGE_POLLS, WAIT_MILLISECONDS,
-};
+use crate::counting::Frames;
+use crate::figuring::{note_figures, note_hold, note_loan, note_progress, note_wait};
+use crate::lasting::Lasted;
+use crate::limits::{MAX_REPORTS, MAX_TURNS, MERGE_POLLS, SHORT_POLLS, WAIT_MILLISECONDS};
 use crate::recording::write_records;
 use crate::replica::{Holdings, Service};
 use crate::served::{Served, file_served};
 use crate::sisters::{all_are_done, merge_sister};
+use crate::staying::Stay;
 use crate::telling::tell_all;
 use crate::transport::{Transport, Waited};
 use nm_base::{Sink, Wire};
@@ -28,7 +32,7 @@ use std::sync::Wait;
 /// What a replica keeps while it is served.
 #[derive(Drop)]
 pub(crate) struct Serving<W> {
-    connections: Connections<W>,
+    pub connections: Connections<W>,
     /// How many octets have moved on connections whose peer greeted, which stops at the greatest
     /// `u64`.
     pub moved: u64,
@@ -36,11 +40,14 @@ pub(crate) struct Serving<W> {
     events: u64,
     /// How many of its records were written.
     recorded: u64,
+    /// The book was done when it was looked at last.
+    was_done: bool,
     /// How many polls were made.
     polls: u64,
-    /// How long it has stayed for those that may call again: `BUSY_POLLS` for a poll that ran out,
-    /// and 1 for another.
-    lingered: u32,
+    /// How long it has stayed since its links ended.
+    stay: Stay,
+    /// How long the system has had too little for one more connection.
+    short: Lasted,
     /// More may be left to do that no connection tells of: the next poll does not wait.
     pub is_busy: bool,
     buffer: ReadBuffer,
@@ -55,6 +62,8 @@ struct Moves {
     has_heard: bool,
     /// A connection had all its turns, and may want more.
     has_more: bool,
+    /// The frames that were written.
+    frames: Frames,
 }
 
 impl Moves {
@@ -63,6 +72,7 @@ impl Moves {
         octets: 0,
         has_heard: false,
         has_more: false,
+        frames: Frames::NONE,
     };
 
     /// These and others.
@@ -71,6 +81,7 @@ impl Moves {
             octets: self.octets.saturating_add(other.octets),
             has_heard: self.has_heard || other.has_heard,
             has_more: self.has_more || other.has_more,
+            frames: self.frames.with(other.frames),
         }
     }
 }
@@ -102,24 +113,29 @@ impl<W> Serving<W> {
             moved: 0,
             events: 0,
             recorded: 0,
+            was_done: false,
             polls: 0,
-            lingered: 0,
+            stay: Stay::new(),
+            short: Lasted::new(),
             is_busy: true,
             buffer,
         })
     }
 
-    /// Whether the links of a replica that is done have ended for sure, or it has stayed long
-    /// enough for those that may call again. A poll was made, and ran out or not.
+    /// Whether the links of a replica that is done have ended, and it has stayed long enough for
+    /// those that may call again. A poll was made, and ran out or not.
     fn may_leave(&mut self, ran_out: bool) -> bool
-        ensures { (self.new.is_busy ≡ self.old.is_busy) × (self.new.events ≡ self.old.events) }
+        ensures { LeavesAfter ran_out self.old.connections.callers.all.items
+            self.old.connections.peers.items self.old.stay result }
     {
         if !self.connections.have_ended() {
             return false;
         }
-        let more = if ran_out { BUSY_POLLS } else { 1 };
-        self.lingered = self.lingered.saturating_add(more);
-        self.connections.are_sure() || self.lingered >= LINGER_POLLS.saturating_mul(BUSY_POLLS)
+        self.stay.pass_poll(ran_out);
+        if self.connections.are_serving() {
+            return false;
+        }
+        self.stay.is_over(self.connections.are_sure(), self.connections.have_broken())
     }
 }
 
@@ -149,6 +165,7 @@ fn turns<W: Wire, C: Counts, R: Wait>(
         octets: connection.count_moved(),
         has_heard: connection.has_heard(),
         has_more: last == Turn::Progress,
+        frames: connection.count_frames(),
     };
     (moves, last)
 }
@@ -191,16 +208,48 @@ fn hear<T: Transport>(transport: &T, connections: &Connections<T::Connection>, r
     }
 }
 
+/// Where the system has too little for one more connection, lets the stranger go that came first.
+///
+/// # Errors
+///
+/// `Net` where that has lasted for a second.
+fn bear_shortage<T: Transport>(
+    transport: &mut T,
+    serving: &mut Serving<T::Connection>,
+    ran_out: bool,
+) -> Result<(), Served>
+    ensures idle { T.idle_waits transport.new ≡ T.idle_waits transport.old }
+    ensures early { IfErr result EndsEarly }
+    ensures short { IfErr result (λ _. has_lasted SHORT_POLLS
+        (lasted_after serving.old.short.polls ran_out) ≡ true) }
+{
+    if !transport.is_short() {
+        serving.short = Lasted::new();
+        return Ok(());
+    }
+    serving.connections.drop_first(transport);
+    serving.short.pass_poll(ran_out);
+    if serving.short.is_past(SHORT_POLLS) {
+        return Err(Served::Net);
+    }
+    Ok(())
+}
+
 /// Waits, and takes what came: whether it waited and nothing was ready. Where more is left to do it
 /// only looks, which tells nothing of how long nothing moved.
+///
+/// # Errors
+///
+/// `Memory` where memory was refused. `Net` where the system has too little for more connections.
 fn await_transport<T: Transport, C: Counts>(
     alloc: Global,
     service: &Service<'_, C>,
     transport: &mut T,
     serving: &mut Serving<T::Connection>,
-) -> Result<bool, AllocError>
-    ensures { IfOk result (λ ran_out. HasWaited serving.old.is_busy
+) -> Result<bool, Served>
+    ensures idle { IfOk result (λ ran_out. HasWaited serving.old.is_busy
         (T.idle_waits transport.old) (T.idle_waits transport.new) ran_out) }
+    ensures early { IfErr result EndsEarly }
 {
     serving.connections.dial_all(alloc, transport)?;
     let milliseconds = if serving.is_busy {
@@ -208,7 +257,9 @@ fn await_transport<T: Transport, C: Counts>(
     } else {
         WAIT_MILLISECONDS
     };
+    note_wait(service, !serving.is_busy);
     let waited = transport.wait(milliseconds);
+    note_wait(service, false);
     let ran_out = match waited {
         Waited::Ready => false,
         Waited::RanOut => !serving.is_busy,
@@ -217,7 +268,27 @@ fn await_transport<T: Transport, C: Counts>(
     hear(transport, &serving.connections, ran_out);
     serving.connections.pass_poll(transport, ran_out);
     serving.connections.accept_all(alloc, service, transport)?;
+    bear_shortage(transport, serving, ran_out)?;
     Ok(ran_out)
+}
+
+/// How many events the replica does at most after a poll: none while its book is lent.
+fn own_limit<C: Counts>(service: &Service<'_, C>) -> u64
+    ensures { result ≤ service.now.run_limit }
+{
+    if service.lending.is_lent() {
+        0
+    } else {
+        service.run_limit
+    }
+}
+
+/// Its run left events to do: whether the replica is to go on with them at once. Where there is a
+/// pool, that does them.
+fn goes_on<C: Counts>(service: &Service<'_, C>) -> bool {
+    let is_lent = service.lending.lend();
+    note_loan(service, is_lent);
+    !is_lent
 }
 
 /// Runs the book, if the replica is to, and looks how far it is: that, and whether it may run on at
@@ -235,17 +306,16 @@ fn run_book<C: Counts, R: Wait>(
     ensures { IfOk result (λ s. s.0.is_done ≡ true → WasFinished C.exact C.home) }
 {
     let mut was_cut = false;
-    if service.run_limit > 0 {
-        match service.book.run(rt, pass, alloc, service.run_limit) {
+    let limit = own_limit(service);
+    if limit > 0 {
+        match service.book.run(rt, pass, alloc, limit) {
             Ran::All(_) => {}
-            Ran::Limit(_) => was_cut = true,
+            Ran::Limit(_) => was_cut = goes_on(service),
             Ran::Memory(_) => return Err(AllocError),
         }
     }
     let standing = service.book.act(rt, pass, Stand);
-    if let Some(progress) = service.progress {
-        progress.note(standing.safe, standing.records);
-    }
+    note_progress(service, standing.safe, standing.records);
     Ok((standing, was_cut))
 }
 
@@ -284,8 +354,8 @@ struct Acted {
     moves: Moves,
 }
 
-/// The connections have their turns, and the replica does its own part. Where that made something
-/// new, they have turns once more, so that the peers are told in the same poll.
+/// The connections have their turns, in which nothing is written, and the replica does its own
+/// part. Then they have turns once more, and each peer is told at once all that is new.
 ///
 /// # Errors
 ///
@@ -305,25 +375,32 @@ fn serve_and_act<C: Counts, S, T: Transport, R: Wait>(
     ensures done { IfOk result (λ a. a.standing.is_done ≡ true → WasFinished C.exact C.home) }
     ensures early { IfErr result EndsEarly }
 {
+    serving.connections.hold_all(true);
     let first = serve_all(rt, alloc, service, &mut holdings.pass, transport, serving)?;
-    let Ok((standing, was_cut)) = act_alone(rt, alloc, service, holdings, serving.polls) else {
-        return Err(Served::Memory);
-    };
+    serving.connections.hold_all(false);
+    let (standing, was_cut) = act_alone(rt, alloc, service, holdings, serving.polls)?;
     let was_run = standing.events != serving.events;
     serving.events = standing.events;
     serving.polls = serving.polls.saturating_add(1);
-    let mut moves = first;
-    if first.has_heard || was_run {
-        let second = serve_all(rt, alloc, service, &mut holdings.pass, transport, serving)?;
-        moves = first.with(second);
-        moves.has_more = second.has_heard || second.has_more;
-    }
-    moves.has_more = moves.has_more || was_cut || serving.connections.have_more();
+    let second = serve_all(rt, alloc, service, &mut holdings.pass, transport, serving)?;
+    let mut moves = first.with(second);
+    moves.has_more = second.has_heard
+        || second.has_more
+        || was_cut
+        || serving.connections.have_more();
     Ok(Acted {
         standing,
         was_run,
         moves,
     })
+}
+
+/// Tells a pool, if there is one, that the book that is lent to it keeps fewer records, or that it
+/// is done now and was not when it was looked at last.
+fn note_news<C: Counts>(service: &Service<'_, C>, has_written: bool, is_newly_done: bool) {
+    if is_newly_done || (has_written && service.lending.is_lent()) {
+        service.lending.note();
+    }
 }
 
 /// One poll, after the gate was asked, and what follows it: the connections have their turns, the
@@ -352,9 +429,7 @@ pub(crate) fn poll<C: Counts, S: Sink, T: Transport, R: Wait>(
     ensures done { IfOk result (λ p. p.is_done ≡ true → WasFinished C.exact C.home) }
     ensures early { IfErr result EndsEarly }
 {
-    let Ok(ran_out) = await_transport(alloc, service, transport, serving) else {
-        return Err(Served::Memory);
-    };
+    let ran_out = await_transport(alloc, service, transport, serving)?;
     let Acted {
         standing,
         was_run,
@@ -383,7 +458,16 @@ pub(crate) fn poll<C: Counts, S: Sink, T: Transport, R: Wait>(
         Err(fault) => return Err(file_served(fault)),
     };
     serving.recorded = serving.recorded.saturating_add(recorded.written);
+    note_news(
+        service,
+        recorded.written > 0,
+        standing.is_done && !serving.was_done,
+    );
+    serving.was_done = standing.is_done;
     serving.is_busy = recorded.has_more || moves.has_more;
+    note_figures(service, serving, &standing, was_run, moves.frames);
+    let is_held = !serving.is_busy && !standing.is_done;
+    note_hold(rt, service, &mut holdings.pass, is_held);
     Ok(Polled {
         ran_out,
         was_active: recorded.written > 0 || moves.octets > 0 || was_run,

@@ -3,6 +3,7 @@
 ghost use Rattle.std.specs.Prelude.{◌≡◌, ◌↔◌, ◌+◌, [], true, IfSome};
 
 use crate::limits::MAX_REPORTS;
+use crate::shortage::is_shortage;
 use crate::tcp_wire::TcpWire;
 use crate::transport::{Transport, Waited};
 use mio::net::{TcpListener, TcpStream};
@@ -27,6 +28,8 @@ pub struct TcpTransport<R> {
     peers: Vec<SocketAddr>,
     /// Somebody may have called.
     is_called: bool,
+    /// The system has too little for one more connection, as it said last.
+    is_short: bool,
     idle: FailureCount,
 }
 
@@ -81,6 +84,7 @@ impl<R: Net> TcpTransport<R> {
             listener,
             peers,
             is_called: true,
+            is_short: false,
             idle: FailureCount::new(),
         })
     }
@@ -93,7 +97,14 @@ impl<R: Net> Transport for TcpTransport<R> {
 
     fn connect(&mut self, peer: usize) -> Option<TcpWire> {
         let address = *self.peers.get(peer)?;
-        let stream = TcpStream::connect(&self.net, address).ok()?;
+        let stream = match TcpStream::connect(&self.net, address) {
+            Ok(stream) => stream,
+            Err(error) => {
+                self.is_short = is_shortage(&error);
+                return None;
+            }
+        };
+        self.is_short = false;
         match stream.local_addr() {
             Ok(own) if meets_itself(own, address) => None,
             _ => Some(TcpWire::new(stream)),
@@ -105,12 +116,20 @@ impl<R: Net> Transport for TcpTransport<R> {
             return None;
         }
         match self.listener.accept() {
-            Ok((stream, _)) => Some(TcpWire::new(stream)),
-            Err(_) => {
+            Ok((stream, _)) => {
+                self.is_short = false;
+                Some(TcpWire::new(stream))
+            }
+            Err(error) => {
                 self.is_called = false;
+                self.is_short = is_shortage(&error);
                 None
             }
         }
+    }
+
+    fn is_short(&self) -> bool {
+        self.is_short
     }
 
     fn watch(&mut self, connection: &mut TcpWire, key: usize) -> bool {

@@ -38,6 +38,12 @@ pub trait Transport {
             Self.Connection.ends Self.Connection.failures) }
         ensures idle { idle_waits self.new ≡ idle_waits self.old };
 
+    /// Whether the system refused the connection that was asked for last, or that somebody began,
+    /// because it has too little for one more: no peer is to blame.
+    fn is_short(&self) -> bool {
+        false
+    }
+
     /// Has `wait` end when the connection with this key is ready. It answers whether it will.
     fn watch(&mut self, connection: &mut Self::Connection, key: usize) -> bool
         ensures same { connection.new ≡ connection.old }

@@ -15,7 +15,7 @@ fn is_found(rt: &impl Abort, found: u64, want: u64) {
 /// What is raised is found, the greater of two is kept, and other words stay at 0.
 #[test]
 fn what_is_raised_is_found(rt: HostRuntime) -> Result<(), Fail> {
-    let topology = topology_of(rt.alloc(), SPLIT)?;
+    let topology = topology_of(&rt, rt.alloc(), SPLIT);
     let (board, mut owners, mut seats) = ClockBoard::new(rt.alloc(), &topology)?;
     assert!(rt; owners.len() == 4 && seats.len() == 64);
     let (Some(last), Some(mut owner), Some(mut seat)) = (owners.pop(), owners.pop(), seats.pop())
@@ -37,7 +37,7 @@ fn what_is_raised_is_found(rt: HostRuntime) -> Result<(), Fail> {
 /// A board closes without a seat.
 #[test]
 fn a_board_closes_without_a_seat(rt: HostRuntime) -> Result<(), Fail> {
-    let topology = topology_of(rt.alloc(), SPLIT)?;
+    let topology = topology_of(&rt, rt.alloc(), SPLIT);
     let (board, owners, _) = ClockBoard::new(rt.alloc(), &topology)?;
     let words = board.close(owners, Vec::new(rt.alloc()));
     assert!(rt; words.as_slice() == [0, 0, 0, 0].as_slice());

@@ -7,54 +7,26 @@ use crate::messages::{message, messages, null};
 use crate::sides::topology_of;
 use crate::texts::SPLIT;
 use nm_base::PartNo;
-use nm_book::{AcceptFault, ChannelMessage};
+use nm_book::ChannelMessage;
 use nm_knowledge::Accepted;
-use nm_shared::acts::Amounts;
 use nm_shared::counts::PARTS;
-use nm_shared::{Closed, Counts, Ledgers, Naming, Pass, PassesOut, SharedBook};
+use nm_shared::{Counts, Ledgers, Naming, Pass, PassesOut, SharedBook};
 use nm_topology::Topology;
-use std::alloc::{AllocError, Global};
+use std::alloc::Global;
 use std::marker::Brand;
+use std::process::Abort;
 use std::sync::ledger::{Blank, Ledger};
 use std::sync::{Arc, Wait};
-use std::test::Fail;
-use std::thread::{Threads, join, map_indices};
-
-/// How many threads hand the same messages.
-const THREADS: usize = 8;
-
-/// What a caller was answered, and what it then saw.
-#[derive(Drop)]
-struct Told {
-    message: Result<Accepted, AcceptFault>,
-    null: Result<Accepted, AcceptFault>,
-    seen: Amounts,
-}
-
-/// Tells a message and a null message, and looks.
-fn tell<C: Counts, R: Wait>(
-    rt: &R,
-    shared: &SharedBook<C>,
-    pass: Pass<C>,
-    message: &ChannelMessage,
-    null: &ChannelMessage,
-) -> (Pass<C>, Told) {
-    let mut pass = pass;
-    let told = Told {
-        message: shared.accept(rt, &mut pass, message),
-        null: shared.accept(rt, &mut pass, null),
-        seen: shared.look(rt, &mut pass),
-    };
-    (pass, told)
-}
+use std::thread::{Threads, map_indices};
 
 /// The book of a network's partition 1, with a name of its own.
-fn shared_of<M: Naming + Send + Sync, E: Ledger + Send + Sync>(
+fn shared_of<M: Naming + Send + Sync, E: Ledger + Send + Sync, R: Abort>(
+    rt: &R,
     alloc: Global,
     topology: Arc<Topology>,
     messages: Blank,
     events: Blank,
-) -> Result<SharedBook<Ledgers<M, E>>, Fail>
+) -> SharedBook<Ledgers<M, E>>
     requires messages { (messages.name ≡ M.name) × (messages.parts ≡ M.parts)
         × (messages.parts ≡ 2 ^ 32) }
     requires events { (events.name ≡ E.name) × (events.parts ≡ E.parts)
@@ -66,18 +38,106 @@ fn shared_of<M: Naming + Send + Sync, E: Ledger + Send + Sync>(
     } }
 {
     let (counts, whole) = Ledgers::<M, E>::open(messages, events);
-    Ok(SharedBook::new(alloc, topology, PartNo::new(1), 0, counts, whole)?)
+    SharedBook::new(alloc, topology, PartNo::new(1), 0, counts, whole).expect(rt, "a replica")
 }
 
-/// Two threads tell one book the same.
-fn told_by_two<M: Naming + Send + Sync, E: Ledger + Send + Sync, R: Threads + Wait + Sync>(
+/// What a thread was answered, and what it then saw.
+#[derive(Clone, Copy)]
+struct Told {
+    new: u64,
+    known: u64,
+    seen: u64,
+}
+
+/// What threads were answered in all, the least and the most messages that one then saw, and the
+/// totals of the book that they shared.
+#[derive(Clone, Copy)]
+struct Handed {
+    new: u64,
+    known: u64,
+    least: u64,
+    most: u64,
+    messages: u64,
+    events: u64,
+}
+
+/// Hands messages to a book and then the null message of so many, with a pass of its own, and
+/// looks.
+fn hand_all<C: Counts, R: Wait + Abort>(
+    rt: &R,
+    shared: &SharedBook<C>,
+    all: &[ChannelMessage],
+) -> (Pass<C>, Told) {
+    let mut pass = shared.pass(rt).expect(rt, "memory");
+    let (mut new, mut known) = (0u64, 0u64);
+    for message in all {
+        match shared.accept(rt, &mut pass, message) {
+            Ok(Accepted::New) => new = new.saturating_add(1),
+            Ok(Accepted::Known) => known = known.saturating_add(1),
+            _ => {}
+        }
+    }
+    let later = ChannelMessage::Null(null(1, all.len() as u64, 2_000_000));
+    let _answer = shared.accept(rt, &mut pass, &later);
+    let seen = shared.look(rt, &mut pass).messages;
+    (pass, Told { new, known, seen })
+}
+
+/// Gathers what threads were answered, and their passes.
+fn gather<C: Counts, R: Abort>(
+    rt: &R,
+    told: Vec<(Pass<C>, Told)>,
+    passes: &mut Vec<Pass<C>>,
+) -> Handed {
+    let mut handed = Handed {
+        new: 0,
+        known: 0,
+        least: u64::MAX,
+        most: 0,
+        messages: 0,
+        events: 0,
+    };
+    for (pass, told) in told {
+        handed.new = handed.new.saturating_add(told.new);
+        handed.known = handed.known.saturating_add(told.known);
+        handed.least = handed.least.min(told.seen);
+        handed.most = handed.most.max(told.seen);
+        passes.push(pass).expect(rt, "memory");
+    }
+    handed
+}
+
+/// So many threads hand a book the same messages, each with a pass of its own.
+fn hand_at_once<M: Naming + Send + Sync, E: Ledger + Send + Sync, R: Threads + Wait + Sync + Abort>(
+    rt: &R,
+    alloc: Global,
+    book: &SharedBook<Ledgers<M, E>>,
+    threads: usize,
+    all: &[ChannelMessage],
+) -> Vec<(Pass<Ledgers<M, E>>, Told)> {
+    map_indices(
+        rt,
+        alloc,
+        threads,
+        &|_thread: usize| -> (Pass<Ledgers<M, E>>, Told) { hand_all(rt, book, all) },
+    )
+    .expect(rt, "memory")
+}
+
+/// So many threads hand one book the same messages.
+fn handed_by_many<
+    M: Naming + Send + Sync,
+    E: Ledger + Send + Sync,
+    R: Threads + Wait + Sync + Abort,
+>(
     rt: &R,
     alloc: Global,
     topology: Arc<Topology>,
     messages: Blank,
     events: Blank,
-    message: &ChannelMessage,
-) -> Result<(Told, Told, Closed), Fail>
+    threads: usize,
+    all: &[ChannelMessage],
+) -> Handed
     requires messages { (messages.name ≡ M.name) × (messages.parts ≡ M.parts)
         × (messages.parts ≡ 2 ^ 32) }
     requires events { (events.name ≡ E.name) × (events.parts ≡ E.parts)
@@ -88,56 +148,61 @@ fn told_by_two<M: Naming + Send + Sync, E: Ledger + Send + Sync, R: Threads + Wa
       replica = 0;
     } }
 {
-    let shared = shared_of::<M, E>(alloc, topology, messages, events)?;
-    let one = shared.pass(rt)?;
-    let two = shared.pass(rt)?;
-    let book = &shared;
-    let later = &ChannelMessage::Null(null(1, 1, 2_000_000));
-    let ((one, first), (two, second)) = join(
-        rt,
-        move || tell(rt, book, one, message, later),
-        move || tell(rt, book, two, message, later),
-    );
-    let mut passes = Vec::with_capacity(alloc, 2)?;
-    passes.push_reserved(one);
-    passes.push_reserved(two);
+    let shared = shared_of::<M, E, R>(rt, alloc, topology, messages, events);
+    let told = hand_at_once(rt, alloc, &shared, threads, all);
+    let mut passes = Vec::new(alloc);
+    let handed = gather(rt, told, &mut passes);
     match shared.close(passes) {
-        Ok(closed) => Ok((first, second, closed)),
-        Err(_) => Err("no pass is missing".into()),
+        Ok(closed) => Handed {
+            messages: closed.messages,
+            events: closed.events,
+            ..handed
+        },
+        Err(_) => panic!(rt; "no pass is missing"),
     }
+}
+
+/// So many threads hand the book of SPLIT's partition 1 the same messages.
+fn hands<R: Threads + Wait + Sync + Abort>(
+    rt: &R,
+    alloc: Global,
+    threads: usize,
+    all: &[ChannelMessage],
+) -> Handed {
+    let topology = topology_of(rt, alloc, SPLIT);
+    let (messages, events) = (Blank::new(PARTS), Blank::new(PARTS));
+    handed_by_many::<Brand, Brand, R>(rt, alloc, topology, messages, events, threads, all)
 }
 
 /// Of two threads one tells it first: one answer is `New` and the other `Known`.
 #[test]
-fn one_is_new_and_one_is_known(rt: HostRuntime) -> Result<(), Fail> {
-    let topology = topology_of(rt.alloc(), SPLIT)?;
-    let message = message(rt.alloc(), 1, 0, 1_100_000)?;
-    let (first, second, closed) = told_by_two::<Brand, Brand, _>(
-        &rt,
-        rt.alloc(),
-        topology,
-        Blank::new(PARTS),
-        Blank::new(PARTS),
-        &message,
-    )?;
-    let answers = (first.message, second.message);
-    let one = answers == (Ok(Accepted::New), Ok(Accepted::Known));
-    let other = answers == (Ok(Accepted::Known), Ok(Accepted::New));
-    assert!(rt; one || other);
-    assert_eq!(rt; (first.seen.messages, second.seen.messages), (1, 1));
-    assert_eq!(rt; (closed.messages, closed.events), (1, 0));
-    Ok(())
+fn one_is_new_and_one_is_known(rt: HostRuntime) {
+    let all = [message(&rt, rt.alloc(), 1, 0, 1_100_000)];
+    let handed = hands(&rt, rt.alloc(), 2, &all);
+    assert!(rt; handed.new == 1 && handed.known == 1);
+    assert!(rt; handed.least == 1 && handed.most == 1);
+    assert!(rt; handed.messages == 1 && handed.events == 0);
 }
 
-/// A pass is held back, and the book does not close; then it comes, and the book closes.
-fn held_back_of<M: Naming + Send + Sync, E: Ledger + Send + Sync, R: Wait>(
+/// Of eight threads with the same thousand messages each message is new to one.
+#[test]
+fn each_message_is_new_once(rt: HostRuntime) {
+    let all = messages(&rt, rt.alloc(), 1, 1_000);
+    let handed = hands(&rt, rt.alloc(), 8, &all);
+    assert!(rt; handed.new == 1_000 && handed.known == 7_000);
+    assert!(rt; handed.messages == 1_000 && handed.events == 0);
+}
+
+/// A book with a message, whose second pass is held back: it does not close. Then the pass comes,
+/// and it closes: how many passes came back, and the book's totals.
+fn held_back_of<M: Naming + Send + Sync, E: Ledger + Send + Sync, R: Wait + Abort>(
     rt: &R,
     alloc: Global,
     topology: Arc<Topology>,
     messages: Blank,
     events: Blank,
     message: &ChannelMessage,
-) -> Result<(usize, Closed), Fail>
+) -> (usize, u64, u64)
     requires messages { (messages.name ≡ M.name) × (messages.parts ≡ M.parts)
         × (messages.parts ≡ 2 ^ 32) }
     requires events { (events.name ≡ E.name) × (events.parts ≡ E.parts)
@@ -148,115 +213,36 @@ fn held_back_of<M: Naming + Send + Sync, E: Ledger + Send + Sync, R: Wait>(
       replica = 0;
     } }
 {
-    let shared = shared_of::<M, E>(alloc, topology, messages, events)?;
-    let mut one = shared.pass(rt)?;
-    let two = shared.pass(rt)?;
-    if shared.accept(rt, &mut one, message).is_err() {
-        return Err("the message is the first".into());
-    }
-    let mut passes = Vec::with_capacity(alloc, 2)?;
-    passes.push_reserved(one);
+    let shared = shared_of::<M, E, R>(rt, alloc, topology, messages, events);
+    let mut one = shared.pass(rt).expect(rt, "memory");
+    let two = shared.pass(rt).expect(rt, "memory");
+    let told = shared.accept(rt, &mut one, message);
+    assert!(rt; told.is_ok(), "the message is the first");
+    let mut passes = Vec::new(alloc);
+    passes.push(one).expect(rt, "memory");
     let Err(PassesOut { held, mut passes }) = shared.close(passes) else {
-        return Err("a pass is missing".into());
+        panic!(rt; "a pass is missing");
     };
     let back = passes.len();
-    passes.push(two)?;
+    passes.push(two).expect(rt, "memory");
     match SharedBook::again(held).close(passes) {
-        Ok(closed) => Ok((back, closed)),
-        Err(_) => Err("no pass is missing".into()),
+        Ok(closed) => (back, closed.messages, closed.events),
+        Err(_) => panic!(rt; "no pass is missing"),
     }
 }
 
 /// Where a pass is missing all comes back, and nothing is lost.
 #[test]
-fn a_pass_held_back_is_missed(rt: HostRuntime) -> Result<(), Fail> {
-    let topology = topology_of(rt.alloc(), SPLIT)?;
-    let message = message(rt.alloc(), 1, 0, 1_100_000)?;
-    let (back, closed) = held_back_of::<Brand, Brand, _>(
+fn a_pass_held_back_is_missed(rt: HostRuntime) {
+    let topology = topology_of(&rt, rt.alloc(), SPLIT);
+    let message = message(&rt, rt.alloc(), 1, 0, 1_100_000);
+    let found = held_back_of::<Brand, Brand, _>(
         &rt,
         rt.alloc(),
         topology,
         Blank::new(PARTS),
         Blank::new(PARTS),
         &message,
-    )?;
-    assert_eq!(rt; back, 1);
-    assert_eq!(rt; (closed.messages, closed.events), (1, 0));
-    Ok(())
-}
-
-/// Hands all messages to a book, with a pass of its own, and counts the new ones.
-fn hand_all<C: Counts, R: Wait>(
-    rt: &R,
-    shared: &SharedBook<C>,
-    all: &[ChannelMessage],
-) -> Result<(Pass<C>, u64), AllocError> {
-    let mut pass = shared.pass(rt)?;
-    let mut new = 0u64;
-    for message in all {
-        if shared.accept(rt, &mut pass, message) == Ok(Accepted::New) {
-            new = new.saturating_add(1);
-        }
-    }
-    Ok((pass, new))
-}
-
-/// So many threads hand one book the same messages.
-fn handed_by_many<M: Naming + Send + Sync, E: Ledger + Send + Sync, R: Threads + Wait + Sync>(
-    rt: &R,
-    alloc: Global,
-    topology: Arc<Topology>,
-    messages: Blank,
-    events: Blank,
-    all: &[ChannelMessage],
-) -> Result<(u64, Closed), Fail>
-    requires messages { (messages.name ≡ M.name) × (messages.parts ≡ M.parts)
-        × (messages.parts ≡ 2 ^ 32) }
-    requires events { (events.name ≡ E.name) × (events.parts ≡ E.parts)
-        × (events.parts ≡ 2 ^ 32) }
-    requires home { M.home ≡ record {
-      topology = arc_value topology;
-      partition = 1;
-      replica = 0;
-    } }
-{
-    let shared = shared_of::<M, E>(alloc, topology, messages, events)?;
-    let book = &shared;
-    let handed = map_indices(
-        rt,
-        alloc,
-        THREADS,
-        &|_thread: usize| -> Result<(Pass<Ledgers<M, E>>, u64), AllocError> {
-            hand_all(rt, book, all)
-        },
-    )?;
-    let mut passes = Vec::with_capacity(alloc, THREADS)?;
-    let mut new = 0u64;
-    for one in handed {
-        let (pass, count) = one?;
-        new = new.saturating_add(count);
-        passes.push(pass)?;
-    }
-    match shared.close(passes) {
-        Ok(closed) => Ok((new, closed)),
-        Err(_) => Err("no pass is missing".into()),
-    }
-}
-
-/// Of eight threads with the same thousand messages each message is new to one.
-#[test]
-fn each_message_is_new_once(rt: HostRuntime) -> Result<(), Fail> {
-    let topology = topology_of(rt.alloc(), SPLIT)?;
-    let all = messages(rt.alloc(), 1, 1_000)?;
-    let (new, closed) = handed_by_many::<Brand, Brand, _>(
-        &rt,
-        rt.alloc(),
-        topology,
-        Blank::new(PARTS),
-        Blank::new(PARTS),
-        &all,
-    )?;
-    assert_eq!(rt; new, 1_000);
-    assert_eq!(rt; (closed.messages, closed.events), (1_000, 0));
-    Ok(())
+    );
+    assert!(rt; found == (1, 1, 0));
 }

@@ -11,10 +11,6 @@ mod callers;
 #[cfg(test)]
 mod cut_transport;
 #[cfg(test)]
-mod endings;
-#[cfg(test)]
-mod flaky;
-#[cfg(test)]
 mod latecomers;
 #[cfg(test)]
 mod loopback;
@@ -25,15 +21,13 @@ mod messages;
 #[cfg(test)]
 mod pools;
 #[cfg(test)]
-mod rubbish;
-#[cfg(test)]
 mod scripted;
+#[cfg(test)]
+mod scripts;
 #[cfg(test)]
 mod sides;
 #[cfg(test)]
 mod sisters;
-#[cfg(test)]
-mod strangers;
 #[cfg(test)]
 mod talks;
 #[cfg(test)]

@@ -6,7 +6,7 @@ use bytes::Bytes;
 use nm_base::{ChanNo, Packet, Time};
 use nm_book::{ChannelMessage, Data, Null};
 use std::alloc::Global;
-use std::test::Fail;
+use std::process::Abort;
 
 /// A null message.
 pub fn null(channel: u32, count: u64, clock: u64) -> Null
@@ -20,26 +20,28 @@ pub fn null(channel: u32, count: u64, clock: u64) -> Null
 }
 
 /// A message whose packet is its number.
-pub fn message(
+pub fn message<R: Abort>(
+    rt: &R,
     alloc: Global,
     channel: u32,
     number: u64,
     time: u64,
-) -> Result<ChannelMessage, Fail> {
-    let octets = Bytes::copy_from_slice(alloc, &number.to_be_bytes())?;
-    Ok(ChannelMessage::Data(Data {
+) -> ChannelMessage {
+    let octets = Bytes::copy_from_slice(alloc, &number.to_be_bytes()).expect(rt, "memory");
+    ChannelMessage::Data(Data {
         channel: ChanNo::new(channel),
         number,
         time: Time::from_nanoseconds(time),
-        packet: Packet::new(octets).ok_or("eight octets fit")?,
-    }))
+        packet: Packet::new(octets).expect(rt, "eight octets fit"),
+    })
 }
 
 /// The first messages of a channel, at 1, 2, 3 and so on nanoseconds.
-pub fn messages(alloc: Global, channel: u32, count: u64) -> Result<Vec<ChannelMessage>, Fail> {
+pub fn messages<R: Abort>(rt: &R, alloc: Global, channel: u32, count: u64) -> Vec<ChannelMessage> {
     let mut all = Vec::new(alloc);
     for number in 0..count {
-        all.push(message(alloc, channel, number, number + 1)?)?;
+        all.push(message(rt, alloc, channel, number, number + 1))
+            .expect(rt, "memory");
     }
-    Ok(all)
+    all
 }

@@ -1,16 +1,15 @@
 //! The pool.
 
 use crate::messages::null;
-use crate::sides::topology_of;
+use crate::sides::{book_of, topology_of};
 use crate::texts::RING;
-use nm_base::PartNo;
 use nm_book::{ChannelMessage, Ran};
-use nm_shared::{Gate, Job, Plain, SharedBook, pool};
-use nm_topology::Topology;
+use nm_shared::{Gate, Job, Pass, Plain, SharedBook, pool};
 use std::alloc::Global;
-use std::sync::Arc;
+use std::process::Abort;
+use std::sync::Wait;
 use std::sync::atomic::{AtomicBool, Ordering};
-use std::test::Fail;
+use std::thread::Threads;
 
 /// How often a job looks for the other.
 const TURNS: u64 = 100_000_000;
@@ -43,43 +42,48 @@ impl Gate for Meeting {
     }
 }
 
-/// The book of a partition.
-fn plain(
-    alloc: Global,
-    topology: &Arc<Topology>,
-    partition: u32,
-) -> Result<SharedBook<Plain>, Fail> {
-    let (counts, whole) = Plain::open();
-    let topology = Arc::try_clone(topology)?;
-    Ok(SharedBook::new(alloc, topology, PartNo::new(partition), 0, counts, whole)?)
-}
-
 /// Whether a run did all that was safe, of so many events.
 fn is_all(answer: &Ran, count: u64) -> bool {
     matches!(answer, Ran::All(n) if *n == count)
 }
 
-/// Two workers run two jobs at once.
-#[test]
-fn pool_two_at_once(rt: HostRuntime) -> Result<(), Fail> {
-    let alloc = rt.alloc();
-    let topology = topology_of(alloc, RING)?;
-    let books = [plain(alloc, &topology, 0)?, plain(alloc, &topology, 1)?];
-    let mut pass = books[0].pass(&rt)?;
+/// A book of partition 0 of the ring is told the clock of both channels that come in.
+fn tell_both<R: Wait + Abort>(rt: &R, book: &SharedBook<Plain>, pass: &mut Pass<Plain>) {
     for channel in [0, 5] {
         let told = ChannelMessage::Null(null(channel, 0, 1_000_000));
-        assert!(rt; books[0].accept(&rt, &mut pass, &told).is_ok());
+        assert!(rt; book.accept(rt, pass, &told).is_ok());
     }
+}
+
+/// Two workers run a job of each of these books at once.
+fn run_at_once<R: Threads + Wait + Sync + Abort>(
+    rt: &R,
+    alloc: Global,
+    books: &[SharedBook<Plain>; 2],
+) {
     let gate = Meeting {
         here: [AtomicBool::new(false), AtomicBool::new(false)],
         late: AtomicBool::new(false),
     };
     let jobs = [Job { book: 0, limit: 10 }, Job { book: 1, limit: 10 }];
-    let report = pool(&rt, alloc, &books, &jobs, 2, &gate)?;
+    let report = pool(rt, alloc, books, &jobs, 2, &gate).expect(rt, "memory");
     assert!(rt; !gate.late.load(Ordering::SeqCst));
-    assert_eq!(rt; report.answers.len(), 2);
+    assert!(rt; report.answers.len() == 2);
     assert!(rt; is_all(&report.answers[0], 2));
     assert!(rt; is_all(&report.answers[1], 0));
-    assert_eq!(rt; books[0].look(&rt, &mut pass).events, 2);
-    Ok(())
+}
+
+/// Two workers run two jobs at once.
+#[test]
+fn pool_two_at_once(rt: HostRuntime) {
+    let alloc = rt.alloc();
+    let topology = topology_of(&rt, alloc, RING);
+    let books = [
+        book_of(&rt, alloc, &topology, 0, 0),
+        book_of(&rt, alloc, &topology, 1, 0),
+    ];
+    let mut pass = books[0].pass(&rt).expect(&rt, "memory");
+    tell_both(&rt, &books[0], &mut pass);
+    run_at_once(&rt, alloc, &books);
+    assert!(rt; books[0].look(&rt, &mut pass).events == 2);
 }

@@ -32,6 +32,8 @@ pub struct Scripted {
     fails: Fails,
     /// A wait reports no connection.
     pub is_silent: bool,
+    /// The system has too little for one more connection.
+    pub is_short: bool,
     idle: FailureCount,
     /// How many connections were given, and how many waits ran out.
     pub given: u64,
@@ -51,6 +53,7 @@ impl Scripted {
             calls: 0,
             fails,
             is_silent: false,
+            is_short: false,
             idle: FailureCount::new(),
             given: 0,
             waited: 0,
@@ -96,6 +99,10 @@ impl Transport for Scripted {
             return None;
         }
         self.wire()
+    }
+
+    fn is_short(&self) -> bool {
+        self.is_short
     }
 
     fn watch(&mut self, _connection: &mut MemWire, _key: usize) -> bool {

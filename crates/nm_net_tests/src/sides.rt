@@ -1,6 +1,6 @@
 //! Replicas that are served.
 
-ghost use Rattle.std.specs.Prelude.{All};
+ghost use Rattle.std.specs.Prelude.{◌≤◌, All};
 ghost use Rattle.nm_files.specs.Files.{IsSound};
 ghost use Rattle.nm_shared.specs.Board.{IsOwnerOf};
 
@@ -12,14 +12,14 @@ use nm_files::TraceFiles;
 use nm_frames::ReplicaName;
 use nm_net::limits::LINGER_POLLS;
 use nm_net::seats::own_seats;
-use nm_net::{Holdings, Served, Service, TcpTransport, Transport, run_replica};
-use nm_shared::{ClockBoard, Gate, Plain, SharedBook};
+use nm_net::{Holdings, Lending, Served, Service, TcpTransport, Transport, run_replica};
+use nm_shared::{ClockBoard, Gate, Pass, Plain, SharedBook};
 use nm_topology::Topology;
 use std::alloc::Global;
-use std::io::{self, ErrorKind};
 use std::net::{Ipv4Addr, Net, SocketAddr};
+use std::process::Abort;
+use std::sync::atomic::{AtomicU64, Ordering};
 use std::sync::{Arc, Wait};
-use std::test::Fail;
 
 /// A replica that was served: what that came to, and its book.
 #[derive(Drop)]
@@ -29,33 +29,86 @@ pub struct Closed {
 }
 
 /// After so many idle polls a replica is stalled that may have to stay for a caller first.
-pub const STAYS: u64 = 2 * LINGER_POLLS as u64;
+pub const STAYS: u64 = 2 * LINGER_POLLS;
 
-/// Replica 0 of partition 0, which calls those of partition 1.
-pub fn zero() -> ReplicaName {
+/// A replica of partition 0, which calls those of partition 1.
+pub fn caller(replica: u8) -> ReplicaName {
     ReplicaName {
         partition: PartNo::new(0),
-        replica: 0,
+        replica,
     }
 }
 
-/// A replica 0, with whom it speaks, and when it is stalled.
+/// Replica 0 of one of two partitions, with whom it speaks, and when it is stalled.
 #[derive(Clone, Copy)]
-pub struct Company<'a> {
-    pub partition: PartNo,
-    pub peers: &'a [PartNo],
-    pub callers: &'a [ReplicaName],
+pub struct Company {
+    /// Partition 1, which is called; or else partition 0, which calls.
+    pub is_called: bool,
+    /// Two replicas of partition 0 call, and not one.
+    pub by_two: bool,
     pub idle_limit: u64,
 }
 
+impl Company {
+    /// How many partitions it calls, and how many replicas call it.
+    fn counts(self) -> (usize, usize)
+        ensures { (result.0 ≤ 1) × (result.1 ≤ 2) }
+    {
+        match (self.is_called, self.by_two) {
+            (false, _) => (1, 0),
+            (true, false) => (0, 1),
+            (true, true) => (0, 2),
+        }
+    }
+}
+
+/// A gate that notes how many octets have moved.
+#[derive(Drop)]
+pub struct Noting {
+    pub moved: AtomicU64,
+}
+
+impl Noting {
+    pub fn new() -> Self {
+        Noting {
+            moved: AtomicU64::new(0),
+        }
+    }
+}
+
+impl Gate for Noting {
+    fn enter(&self, _job: usize) {}
+
+    fn leave(&self, _job: usize) {}
+
+    fn poll(&self, moved: u64) -> bool {
+        self.moved.store(moved, Ordering::SeqCst);
+        true
+    }
+}
+
 /// The network of a text, which has to be accepted.
-pub fn topology_of(alloc: Global, text: &str) -> Result<Arc<Topology>, Fail> {
-    let topology = Topology::read(alloc, text.as_bytes())?;
-    Ok(Arc::new(alloc, topology)?)
+pub fn topology_of<R: Abort>(rt: &R, alloc: Global, text: &str) -> Arc<Topology> {
+    let topology = Topology::read(alloc, text.as_bytes()).expect(rt, "a network");
+    Arc::new(alloc, topology).expect(rt, "memory")
+}
+
+/// A replica that knows nothing.
+pub fn book_of<R: Abort>(
+    rt: &R,
+    alloc: Global,
+    topology: &Arc<Topology>,
+    partition: u32,
+    replica: u8,
+) -> SharedBook<Plain> {
+    let (counts, whole) = Plain::open();
+    let topology = Arc::try_clone(topology).expect(rt, "memory");
+    let partition = PartNo::new(partition);
+    SharedBook::new(alloc, topology, partition, replica, counts, whole).expect(rt, "a replica")
 }
 
 /// Serves a replica with what it holds. It does its events itself.
-fn serve_held<'x, N: Transport, G: Gate, R: Wait>(
+fn serve_held<'x, N: Transport, R: Wait>(
     rt: &R,
     alloc: Global,
     topology: &'x Arc<Topology>,
@@ -63,17 +116,18 @@ fn serve_held<'x, N: Transport, G: Gate, R: Wait>(
     board: &'x ClockBoard,
     peers: &'x [PartNo],
     callers: &'x [ReplicaName],
+    lending: &'x Lending,
     holdings: &mut Holdings<Plain, MemSink>,
-    company: &Company<'_>,
+    company: Company,
     transport: &mut N,
-    gate: &G,
+    gate: &Noting,
 ) -> Served
     requires owners { All (IsOwnerOf board.now) holdings.old.seats.items }
     requires files { All IsSound holdings.old.files.files.items }
 {
     let replica = Service {
         topology,
-        partition: company.partition,
+        partition: PartNo::new(if company.is_called { 1 } else { 0 }),
         replica: 0,
         book,
         board,
@@ -83,70 +137,100 @@ fn serve_held<'x, N: Transport, G: Gate, R: Wait>(
         sister: None,
         idle_limit: company.idle_limit,
         run_limit: 4_096,
+        lending,
         progress: None,
+        notes_progress: false,
     };
     run_replica(rt, alloc, &replica, holdings, transport, gate)
 }
 
-/// Serves a replica that knows nothing at first, and closes its book.
-pub fn serve<N: Transport, G: Gate, R: Wait>(
+/// Serves a replica with this pass of its book: what that came to, and the pass.
+fn serve_with<N: Transport, R: Wait + Abort>(
     rt: &R,
     alloc: Global,
     topology: &Arc<Topology>,
-    company: &Company<'_>,
+    book: &SharedBook<Plain>,
+    pass: Pass<Plain>,
+    company: Company,
     transport: &mut N,
-    gate: &G,
-) -> io::Result<Closed> {
-    let (counts, whole) = Plain::open();
-    let shared = Arc::try_clone(topology)?;
-    let Ok(book) = SharedBook::new(alloc, shared, company.partition, 0, counts, whole) else {
-        return Err(ErrorKind::OutOfMemory.into());
-    };
-    let pass = book.pass(rt)?;
-    let (board, owners, _) = ClockBoard::new(alloc, topology)?;
-    let seats = own_seats(alloc, topology, &board, company.partition, 0, owners)?;
+    gate: &Noting,
+) -> (Served, Pass<Plain>) {
+    let partition = PartNo::new(if company.is_called { 1 } else { 0 });
+    let (board, owners, _) = ClockBoard::new(alloc, topology).expect(rt, "memory");
+    let seats = own_seats(alloc, topology, &board, partition, 0, owners).expect(rt, "memory");
     let mut holdings = Holdings {
         pass,
         passes: Vec::new(alloc),
         seats,
         files: TraceFiles::new(alloc),
     };
+    let (peers, callers) = ([PartNo::new(1)], [caller(0), caller(1)]);
+    let (peer_count, caller_count) = company.counts();
     let served = serve_held(
         rt,
         alloc,
         topology,
-        &book,
+        book,
         &board,
-        company.peers,
-        company.callers,
+        &peers[..peer_count],
+        &callers[..caller_count],
+        &Lending::alone(),
         &mut holdings,
         company,
         transport,
         gate,
     );
+    (served, holdings.pass)
+}
+
+/// The book that has no pass but this one.
+pub fn close<R: Abort>(
+    rt: &R,
+    alloc: Global,
+    book: SharedBook<Plain>,
+    pass: Pass<Plain>,
+) -> nm_shared::Closed {
     let mut passes = Vec::new(alloc);
-    passes.push(holdings.pass)?;
+    passes.push(pass).expect(rt, "memory");
     match book.close(passes) {
-        Ok(closed) => Ok(Closed {
-            served,
-            book: closed.book,
-        }),
-        Err(_) => Err(ErrorKind::Other.into()),
+        Ok(closed) => closed,
+        Err(_) => panic!(rt; "no pass is missing"),
     }
 }
 
-/// A listener on a free port of 127.0.0.1.
-pub fn listen<R: Net>(net: &R) -> io::Result<TcpListener> {
-    TcpListener::bind(net, SocketAddr::from((Ipv4Addr::LOCALHOST, 0)))
+/// Serves a replica that knows nothing at first, and closes its book.
+pub fn serve<N: Transport, R: Wait + Abort>(
+    rt: &R,
+    alloc: Global,
+    topology: &Arc<Topology>,
+    company: Company,
+    transport: &mut N,
+    gate: &Noting,
+) -> Closed {
+    let partition = if company.is_called { 1 } else { 0 };
+    let book = book_of(rt, alloc, topology, partition, 0);
+    let pass = book.pass(rt).expect(rt, "memory");
+    let (served, pass) = serve_with(rt, alloc, topology, &book, pass, company, transport, gate);
+    let book = close(rt, alloc, book, pass).book;
+    Closed { served, book }
+}
+
+/// An address of 127.0.0.1, at a port that is free then.
+pub const ANY: (Ipv4Addr, u16) = (Ipv4Addr::LOCALHOST, 0);
+
+/// A listener at an address.
+pub fn listen<R: Net + Abort>(net: &R, address: SocketAddr) -> TcpListener {
+    TcpListener::bind(net, address).expect(net, "a free port")
 }
 
 /// A transport over TCP with these peers.
-pub fn over_tcp<R: Net + Drop + Copy>(
+pub fn over_tcp<R: Net + Abort + Drop + Copy>(
     net: &R,
     alloc: Global,
+    poll: Poll,
     listener: TcpListener,
     peers: &[SocketAddr],
-) -> io::Result<TcpTransport<R>> {
-    let poll = Poll::new(net)?;
-    TcpTransport::new(*net, alloc, poll, listener, peers.to_vec(alloc)?)
+) -> TcpTransport<R> {
+    let peers = peers.to_vec(alloc).expect(net, "memory");
+    TcpTransport::new(*net, alloc, poll, listener, peers).expect(net, "a transport")
 }

@@ -4,43 +4,29 @@ ghost use Rattle.std.specs.Prelude.{All};
 ghost use Rattle.nm_files.specs.Files.{IsSound};
 ghost use Rattle.nm_shared.specs.Board.{IsOwnerOf};
 
+use crate::messages::null;
 use crate::scripted::{NEVER, Scripted};
-use crate::sides::{topology_of, zero};
+use crate::sides::{Noting, book_of, caller, topology_of};
 use crate::texts::SPLIT;
-use nm_base::{ChanNo, MemSink, PartNo, Time};
-use nm_book::{ChannelMessage, Null};
+use nm_base::{MemSink, PartNo};
+use nm_book::ChannelMessage;
 use nm_files::TraceFiles;
 use nm_frames::ReplicaName;
 use nm_net::seats::own_seats;
-use nm_net::{Holdings, Served, Service, run_replica};
-use nm_shared::{ClockBoard, OpenGate, Pass, Plain, SharedBook};
+use nm_net::{Holdings, Lending, Served, Service, run_replica};
+use nm_shared::{ClockBoard, Pass, Plain, SharedBook};
 use nm_topology::Topology;
 use std::alloc::Global;
+use std::process::Abort;
 use std::sync::{Arc, Wait};
-use std::test::Fail;
-
-/// A replica of partition 1 of SPLIT.
-fn book_of(
-    alloc: Global,
-    topology: &Arc<Topology>,
-    replica: u8,
-) -> Result<SharedBook<Plain>, Fail> {
-    let (counts, whole) = Plain::open();
-    let shared = Arc::try_clone(topology)?;
-    Ok(SharedBook::new(alloc, shared, PartNo::new(1), replica, counts, whole)?)
-}
 
 /// A pass of a book that is told that nothing comes, and does its events.
-fn finish<R: Wait>(rt: &R, alloc: Global, book: &SharedBook<Plain>) -> Result<Pass<Plain>, Fail> {
-    let mut pass = book.pass(rt)?;
-    let null = ChannelMessage::Null(Null {
-        channel: ChanNo::new(1),
-        count: 0,
-        clock: Time::from_nanoseconds(11_000_000),
-    });
-    book.accept(rt, &mut pass, &null)?;
+fn finish<R: Wait + Abort>(rt: &R, alloc: Global, book: &SharedBook<Plain>) -> Pass<Plain> {
+    let mut pass = book.pass(rt).expect(rt, "memory");
+    let told = ChannelMessage::Null(null(1, 0, 11_000_000));
+    book.accept(rt, &mut pass, &told).expect(rt, "it is taken");
     let _ran = book.run(rt, &mut pass, alloc, 100);
-    Ok(pass)
+    pass
 }
 
 /// Serves replica 1, to which nobody speaks, beside its sister.
@@ -52,6 +38,7 @@ fn serve_sister<'x, R: Wait>(
     own: &'x SharedBook<Plain>,
     board: &'x ClockBoard,
     callers: &'x [ReplicaName],
+    lending: &'x Lending,
     holdings: &mut Holdings<Plain, MemSink>,
 ) -> Served
     requires owners { All (IsOwnerOf board.now) holdings.old.seats.items }
@@ -70,42 +57,75 @@ fn serve_sister<'x, R: Wait>(
         sister: Some(0),
         idle_limit: 2_000,
         run_limit: 4_096,
+        lending,
         progress: None,
+        notes_progress: false,
     };
-    run_replica(rt, alloc, &replica, holdings, &mut transport, &OpenGate)
+    run_replica(
+        rt,
+        alloc,
+        &replica,
+        holdings,
+        &mut transport,
+        &Noting::new(),
+    )
 }
 
-/// It merges what its sister knows, and ends once all replicas are done, without a link.
-#[test]
-fn a_sister_is_merged(rt: HostRuntime) -> Result<(), Fail> {
-    let alloc = rt.alloc();
-    let topology = topology_of(alloc, SPLIT)?;
-    let mut books = Vec::new(alloc);
-    books.push(book_of(alloc, &topology, 0)?)?;
-    books.push(book_of(alloc, &topology, 1)?)?;
-    let mut passes = Vec::new(alloc);
-    passes.push(finish(&rt, alloc, &books[0])?)?;
-    passes.push(books[1].pass(&rt)?)?;
-    let pass = books[1].pass(&rt)?;
-    let (board, owners, _) = ClockBoard::new(alloc, &topology)?;
-    let seats = own_seats(alloc, &topology, &board, PartNo::new(1), 1, owners)?;
+/// Serves replica 1 with a pass of each of both books.
+fn serve_beside<R: Wait + Abort>(
+    rt: &R,
+    alloc: Global,
+    topology: &Arc<Topology>,
+    books: &[SharedBook<Plain>],
+    own: &SharedBook<Plain>,
+    passes: Vec<Pass<Plain>>,
+) -> Served {
+    let (board, owners, _) = ClockBoard::new(alloc, topology).expect(rt, "memory");
+    let partition = PartNo::new(1);
+    let seats = own_seats(alloc, topology, &board, partition, 1, owners).expect(rt, "memory");
     let mut holdings = Holdings {
-        pass,
+        pass: own.pass(rt).expect(rt, "memory"),
         passes,
         seats,
         files: TraceFiles::new(alloc),
     };
-    let callers = [zero()];
-    let served = serve_sister(
-        &rt,
+    let callers = [caller(0)];
+    serve_sister(
+        rt,
         alloc,
-        &topology,
-        books.as_slice(),
-        &books[1],
+        topology,
+        books,
+        own,
         &board,
         &callers,
+        &Lending::alone(),
         &mut holdings,
-    );
-    assert!(rt; served == Served::Ended);
-    Ok(())
+    )
+}
+
+/// Both replicas of partition 1, the first of which knows all.
+fn serve_both<R: Wait + Abort>(
+    rt: &R,
+    alloc: Global,
+    topology: &Arc<Topology>,
+    books: &[SharedBook<Plain>; 2],
+) -> Served {
+    let mut passes = Vec::new(alloc);
+    let known = finish(rt, alloc, &books[0]);
+    passes.push(known).expect(rt, "memory");
+    let own = books[1].pass(rt).expect(rt, "memory");
+    passes.push(own).expect(rt, "memory");
+    serve_beside(rt, alloc, topology, books, &books[1], passes)
+}
+
+/// It merges what its sister knows, and ends once all replicas are done, without a link.
+#[test]
+fn a_sister_is_merged(rt: HostRuntime) {
+    let alloc = rt.alloc();
+    let topology = topology_of(&rt, alloc, SPLIT);
+    let books = [
+        book_of(&rt, alloc, &topology, 1, 0),
+        book_of(&rt, alloc, &topology, 1, 1),
+    ];
+    assert!(rt; serve_both(&rt, alloc, &topology, &books) == Served::Ended);
 }

@@ -3,7 +3,7 @@
 use crate::texts::SPLIT;
 use nm_topology::Topology;
 use std::alloc::Global;
-use std::test::Fail;
+use std::process::Abort;
 
 /// All that replica 0 of partition 0 says once it is done, to a replica that has no message yet:
 /// Hello, Have, its message, a null message and Bye. Its link has a delay of 1,000,000 ns, and
@@ -25,29 +25,75 @@ const ONE_SAYS: &str = "0000002c 01 4e4d5331 0002 00000001 00 DIGEST \
 const HELLO_AND_RUBBISH: &str = "0000002c 01 4e4d5331 0002 00000000 00 DIGEST 00000001 4d";
 
 /// No frame has this kind.
-pub const RUBBISH: [u8; 5] = [0, 0, 0, 1, 77];
+const RUBBISH: &str = "00000001 4d";
+
+/// Where a Hello tells the replica.
+const REPLICA_AT: usize = 15;
 
 /// 72 octets of 0.
 const ZEROS: &str = "000000000000000000000000000000000000000000000000000000000000000000000000\
 000000000000000000000000000000000000000000000000000000000000000000000000";
 
-/// The octets of a text in hexadecimal, with SPLIT's digest for DIGEST, and 72 octets of 0 for
-/// ZEROS.
-fn octets_of(alloc: Global, text: &str) -> Result<Vec<u8>, Fail> {
-    let topology = Topology::read(alloc, SPLIT.as_bytes())?;
-    let digest = hex::encode(alloc, topology.digest())?;
-    let text = text.replace(alloc, "DIGEST", digest.as_str())?;
-    let text = text.replace(alloc, "ZEROS", ZEROS)?;
-    let text = text.replace(alloc, " ", "")?;
-    Ok(hex::decode(alloc, text.as_str())?)
+/// Who speaks over a connection.
+#[derive(Clone, Copy)]
+pub enum Voice {
+    /// The peer's replica of this number, which says all.
+    Peer(u8),
+    /// One that stops in the middle of a Hello.
+    Begun,
+    /// One that says nothing.
+    Silent,
+    /// One that says no frame.
+    Rubbish,
+    /// One that says a Hello, and then no frame.
+    RubbishBehindHello,
 }
 
-/// All that the replica of partition `me` says to one that has no message yet.
-pub fn said_by(alloc: Global, me: u32) -> Result<Vec<u8>, Fail> {
-    octets_of(alloc, if me == 0 { ZERO_SAYS } else { ONE_SAYS })
+/// The text in hexadecimal of what is said to a replica that is called, or to one that calls.
+fn text_of(voice: Voice, is_called: bool) -> &'static str {
+    match voice {
+        Voice::Peer(_) | Voice::Begun => { if is_called { ZERO_SAYS } else { ONE_SAYS } }
+        Voice::Silent => "",
+        Voice::Rubbish => RUBBISH,
+        Voice::RubbishBehindHello => HELLO_AND_RUBBISH,
+    }
 }
 
-/// The first frame of the replica of partition 0, and then rubbish.
-pub fn rubbish_behind_hello(alloc: Global) -> Result<Vec<u8>, Fail> {
-    octets_of(alloc, HELLO_AND_RUBBISH)
+/// The octets of a text in hexadecimal, with this digest for DIGEST, and 72 octets of 0 for ZEROS.
+fn octets_of<R: Abort>(rt: &R, alloc: Global, text: &str, digest: &[u8]) -> Vec<u8> {
+    let digest = hex::encode(alloc, digest).expect(rt, "memory");
+    let text = text
+        .replace(alloc, "DIGEST", digest.as_str())
+        .expect(rt, "memory");
+    let text = text.replace(alloc, "ZEROS", ZEROS).expect(rt, "memory");
+    let text = text.replace(alloc, " ", "").expect(rt, "memory");
+    hex::decode(alloc, text.as_str()).expect(rt, "a text in hexadecimal")
+}
+
+/// The digest of SPLIT.
+pub fn digest_of<R: Abort>(rt: &R, alloc: Global) -> [u8; 32] {
+    Topology::read(alloc, SPLIT.as_bytes())
+        .expect(rt, "a network")
+        .digest()
+}
+
+/// What somebody says to a replica that is called, or to one that calls.
+pub fn said_by<R: Abort>(
+    rt: &R,
+    alloc: Global,
+    voice: Voice,
+    is_called: bool,
+    digest: &[u8],
+) -> Vec<u8> {
+    let mut said = octets_of(rt, alloc, text_of(voice, is_called), digest);
+    match voice {
+        Voice::Peer(replica) => {
+            if let Some(octet) = said.get_mut(REPLICA_AT) {
+                *octet = replica;
+            }
+        }
+        Voice::Begun => said.truncate(40),
+        _ => {}
+    }
+    said
 }

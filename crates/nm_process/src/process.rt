@@ -15,7 +15,7 @@ use nm_base::{MemSink, PartNo};
 use nm_book::{Book, BookFault};
 use nm_files::TraceFiles;
 use nm_net::seats::own_seats;
-use nm_net::{Holdings, Served, Service, TcpTransport, run_replica};
+use nm_net::{Holdings, Lending, Served, Service, TcpTransport, run_replica};
 use nm_peers::peers::own_address;
 use nm_peers::{Listener, Peers, peers_of};
 use nm_progress::Progress;
@@ -90,6 +90,7 @@ fn serve<C: Counts, R: Net + Wait + Drop + Copy>(
         process.listeners,
     )?;
     let mut transport = open_transport(rt, alloc, process, &peers)?;
+    let lending = Lending::alone();
     let service = Service {
         topology: process.topology,
         partition: process.partition,
@@ -102,7 +103,9 @@ fn serve<C: Counts, R: Net + Wait + Drop + Copy>(
         sister: None,
         idle_limit: process.idle_limit,
         run_limit: RUN_EVENTS,
+        lending: &lending,
         progress: Some(process.progress),
+        notes_progress: true,
     };
     match run_replica(rt, alloc, &service, holdings, &mut transport, &OpenGate) {
         Served::Ended => Ok(false),

@@ -1,8 +1,12 @@
 //! How far a run is: told by the threads that run it, and shown to who waits for it.
 #![tactic(auto)]
 
+pub mod figures;
 pub mod line;
 pub mod progress;
+pub mod table;
 
+pub use figures::{Figure, Figures, ReplicaFigures};
 pub use line::push_line;
 pub use progress::{Progress, Seen};
+pub use table::{push_state, push_table};

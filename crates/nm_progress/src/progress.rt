@@ -1,6 +1,8 @@
 //! How far a run is.
 
+use crate::figures::Figures;
 use nm_base::{PartNo, Time};
+use std::alloc::{AllocError, Global};
 use std::sync::atomic::{AtomicU64, Ordering};
 
 /// A run by one event list notes each record of this many.
@@ -21,6 +23,8 @@ pub struct Progress {
     records: AtomicU64,
     /// The number of the partition that is furthest behind.
     last: AtomicU64,
+    /// What each replica does, where that is asked for.
+    figures: Option<Figures>,
 }
 
 /// What a look at a run's progress has shown.
@@ -39,12 +43,32 @@ pub struct Seen {
 impl Progress {
     /// No run has begun.
     pub fn new() -> Self {
+        Progress::of(None)
+    }
+
+    /// No run has begun, of which it is counted what each replica does.
+    ///
+    /// # Errors
+    ///
+    /// Where memory was refused.
+    pub fn with_figures(alloc: Global) -> Result<Self, AllocError> {
+        Ok(Progress::of(Some(Figures::new(alloc)?)))
+    }
+
+    /// No run has begun.
+    fn of(figures: Option<Figures>) -> Self {
         Progress {
             stop: AtomicU64::new(0),
             time: AtomicU64::new(0),
             records: AtomicU64::new(0),
             last: AtomicU64::new(NOBODY),
+            figures,
         }
+    }
+
+    /// What each replica does, where that is asked for.
+    pub fn figures(&self) -> Option<&Figures> {
+        self.figures.as_ref()
     }
 
     /// A run up to this time has begun.

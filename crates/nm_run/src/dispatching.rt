@@ -3,12 +3,14 @@
 ghost use Rattle.std.specs.Prelude.{◌≡◌, ◌<◌, ◌≤◌, All, length};
 ghost use Rattle.nm_shared.specs.Board.{IsSeatOf};
 
-use crate::jobs::{Watched, are_long, jobs_for, note_answer};
+use crate::jobs::{Watched, jobs_for};
 use crate::threads::Threaded;
 use mio::{Events, Poll};
 use nm_base::Time;
 use nm_book::Ran;
+use nm_net::Lending;
 use nm_net::limits::WAIT_MILLISECONDS;
+use nm_progress::Figure;
 use nm_shared::workers::BookPass;
 use nm_shared::{Gate, Job, Plain, PoolReport, Seat, pool};
 use std::alloc::{AllocError, Global};
@@ -25,10 +27,21 @@ pub(crate) struct Dispatcher {
     pub seat: Seat,
     pub poll: Poll,
     pub events: Events,
+    /// Nobody woke it for as long as it waits: it looks at all books.
+    pub looks_at_all: bool,
     pub passes: Vec<BookPass<Plain>>,
 }
 
-/// Notes the answer of a job, and wakes the replica whose book did events: how many they were.
+/// Notes a job of a book, where that is asked for, and whether the book is lent still.
+fn note_job<G>(threaded: &Threaded<'_, G>, watched: &Watched, lending: &Lending) {
+    if let Some(figures) = threaded.progress.figures() {
+        let own = figures.of(watched.partition, watched.replica);
+        own.add(Figure::Jobs, 1);
+        own.set(Figure::IsLent, u64::from(lending.is_lent()));
+    }
+}
+
+/// Notes the answer of a job, and wakes the replica of its book: how many events it was.
 fn note<G>(
     threaded: &Threaded<'_, G>,
     dispatcher: &mut Dispatcher,
@@ -37,11 +50,15 @@ fn note<G>(
 ) -> Result<u64, AllocError>
     ensures { dispatcher.new.seat ≡ dispatcher.old.seat }
 {
-    let count = note_answer(&mut dispatcher.watched, book, answer)?;
-    if count > 0 {
-        threaded.wake(book);
+    match (dispatcher.watched.get_mut(book), threaded.own(book)) {
+        (Some(watched), Some(own)) => {
+            let count = watched.note(answer, own.lending)?;
+            note_job(threaded, watched, own.lending);
+            threaded.wake(book);
+            Ok(count)
+        }
+        _ => Ok(0),
     }
-    Ok(count)
 }
 
 /// Notes the answers of jobs: how many events they were.
@@ -114,7 +131,7 @@ fn give_to_pool<G: Gate + Sync, R: Threads + Wait + Sync>(
 }
 
 /// Has all jobs done that there are: how many events they were. No pool is made of one thread, nor
-/// for jobs that take no longer than to make it: what it answers would be the same.
+/// for one job: what it answers would be the same.
 fn give_jobs<G: Gate + Sync, R: Threads + Wait + Sync>(
     rt: &R,
     alloc: Global,
@@ -129,12 +146,12 @@ fn give_jobs<G: Gate + Sync, R: Threads + Wait + Sync>(
     let jobs = jobs_for(
         rt,
         alloc,
-        threaded.books,
-        threaded.board,
+        threaded,
         &mut dispatcher.seat,
         &mut dispatcher.watched,
+        dispatcher.looks_at_all,
     )?;
-    if workers == 1 || !are_long(dispatcher.watched.as_slice(), jobs.as_slice()) {
+    if workers == 1 || jobs.len() == 1 {
         return do_in_turn(rt, alloc, threaded, dispatcher, jobs.as_slice());
     }
     give_to_pool(rt, alloc, threaded, workers, dispatcher, jobs.as_slice())
@@ -162,7 +179,8 @@ fn listen(dispatcher: &mut Dispatcher)
     ensures { dispatcher.new.seat ≡ dispatcher.old.seat }
 {
     let limit = Duration::from_millis(WAIT_MILLISECONDS);
-    let _ = dispatcher.poll.poll(&mut dispatcher.events, Some(limit));
+    let waited = dispatcher.poll.poll(&mut dispatcher.events, Some(limit));
+    dispatcher.looks_at_all = waited.is_err() || dispatcher.events.is_empty();
 }
 
 /// Whether all books are done.
@@ -199,6 +217,7 @@ pub(crate) fn dispatch<G: Gate + Sync, R: Threads + Wait + Sync>(
             were_done = true;
             threaded.wake_all();
         }
+        dispatcher.looks_at_all = false;
         if events == 0 {
             listen(dispatcher);
         }

@@ -1,18 +1,19 @@
 //! The gate of one replica of a run.
 
 use mio::Waker;
+use nm_net::Lending;
 use nm_shared::Gate;
-use std::sync::atomic::{AtomicBool, AtomicU64, Ordering};
+use std::sync::atomic::{AtomicBool, Ordering};
 
 /// Lets a replica go on as long as the run's own gate does and no other replica has failed, and
-/// wakes the dispatcher when octets have moved.
+/// wakes the dispatcher where there is something new for it to do.
 #[derive(Drop)]
 pub(crate) struct SideGate<'a, G> {
     pub gate: &'a G,
     pub has_failed: &'a AtomicBool,
     pub dispatcher: &'a Waker,
-    /// How many octets had moved when it was asked last.
-    pub moved: AtomicU64,
+    /// Whose turn it is to run the replica's book.
+    pub lending: &'a Lending,
 }
 
 impl<'a, G: Gate> Gate for SideGate<'a, G> {
@@ -25,8 +26,8 @@ impl<'a, G: Gate> Gate for SideGate<'a, G> {
     }
 
     fn poll(&self, moved: u64) -> bool {
-        // The words of the board were raised before this call, so the dispatcher will see them.
-        if self.moved.swap(moved, Ordering::SeqCst) != moved {
+        // The book was lent before this call, so the dispatcher will see it.
+        if self.lending.take_news() {
             let _ = self.dispatcher.wake();
         }
         self.gate.poll(moved) && !self.has_failed.load(Ordering::SeqCst)

@@ -3,10 +3,12 @@
 ghost use Rattle.std.specs.Prelude.{◌<◌, All, IfOk, length};
 ghost use Rattle.nm_shared.specs.Board.{IsSeatOf};
 
+use crate::threads::{Own, Threaded};
 use nm_base::{ChanNo, PartNo};
 use nm_book::Ran;
 use nm_book::channels::comes_in;
-use nm_net::acts::Stand;
+use nm_net::Lending;
+use nm_net::acts::{Stand, Standing};
 use nm_peers::Listener;
 use nm_shared::board::word_of;
 use nm_shared::{ClockBoard, Job, Pass, Plain, Seat, SharedBook};
@@ -18,8 +20,9 @@ use std::sync::Wait;
 /// How many events a job does at most.
 const JOB_EVENTS: u64 = 4_096;
 
-/// A job of so many events takes longer than to make the threads of a pool.
-const LONG_JOB_EVENTS: u64 = 512;
+/// A book that keeps more records than these has no job until its replica has written some: as many
+/// as one job may make, so that one is done while those of the last are written.
+const MAX_KEPT: u64 = 2 * JOB_EVENTS;
 
 /// What the dispatcher remembers of a book.
 #[derive(Drop)]
@@ -30,14 +33,12 @@ pub(crate) struct Watched {
     /// 0 or 1.
     pub replica: u8,
     pub partition: PartNo,
-    /// The safe time before its last job, in nanoseconds.
+    /// The safe time when it was looked at last, in nanoseconds.
     pub safe: u64,
     /// How many records it had then.
     pub records: u64,
-    /// It has had no job, or its last one was cut short.
-    is_owed: bool,
-    /// It has had no job, or its last one had many events.
-    is_long: bool,
+    /// It did events since it was looked at.
+    is_stale: bool,
     pub is_done: bool,
 }
 
@@ -62,7 +63,7 @@ fn words_of(
     Ok(words)
 }
 
-/// Whether a word of a channel that comes in is past the safe time before the last job.
+/// Whether a word of a channel that comes in is past the safe time that was found last.
 fn has_news(board: &ClockBoard, seat: &mut Seat, words: &[usize], safe: u64) -> bool
     requires { IsSeatOf board.now seat.old }
     ensures { IsSeatOf board.now seat.new }
@@ -91,8 +92,7 @@ impl Watched {
             partition: listener.partition,
             safe: 0,
             records: 0,
-            is_owed: true,
-            is_long: true,
+            is_stale: true,
             is_done: false,
         })
     }
@@ -102,14 +102,16 @@ impl Watched {
         self.pass
     }
 
-    /// Whether the book is to have a job. Where it may run no further than at its last job, which
-    /// left nothing, there is nothing to do.
+    /// Whether the book is to have a job: it is lent, and does not keep too many records. A book
+    /// that is not lent runs in its own thread: its lock is taken only where the board says that
+    /// it may be further than it was, or all are looked at.
     fn wants<R: Wait>(
         &mut self,
         rt: &R,
-        book: &SharedBook<Plain>,
+        own: &Own<'_>,
         board: &ClockBoard,
         seat: &mut Seat,
+        looks_at_all: bool,
     ) -> bool
         requires { IsSeatOf board.now seat.old }
         ensures { IsSeatOf board.now seat.new }
@@ -117,16 +119,24 @@ impl Watched {
         if self.is_done {
             return false;
         }
-        if !self.is_owed && !has_news(board, seat, self.words.as_slice(), self.safe) {
+        let is_lent = own.lending.is_lent();
+        let is_due = is_lent || self.is_stale || looks_at_all;
+        if !is_due && !has_news(board, seat, self.words.as_slice(), self.safe) {
             return false;
         }
-        let standing = book.act(rt, &mut self.pass, Stand);
-        let safe = standing.safe.nanoseconds();
-        let is_later = safe > self.safe;
-        self.safe = safe;
+        let standing = own.book.act(rt, &mut self.pass, Stand);
+        self.safe = standing.safe.nanoseconds();
         self.records = standing.records;
         self.is_done = standing.is_done;
-        !self.is_done && (self.is_owed || is_later)
+        self.is_stale = false;
+        is_lent && !self.is_done && !self.is_full(standing)
+    }
+
+    /// Whether the book keeps so many records that its replica is to write some first. Who writes
+    /// none keeps all.
+    fn is_full(&self, standing: Standing) -> bool {
+        let kept = standing.records.saturating_sub(standing.handed);
+        self.replica == 0 && kept > MAX_KEPT
     }
 
     /// Does a job of the book with its own pass.
@@ -140,44 +150,45 @@ impl Watched {
         book.run(rt, &mut self.pass, alloc, limit)
     }
 
-    /// Its job was done: how many events it was.
+    /// Its job was done: how many events it was. A job that left none gives the book back.
     ///
     /// # Errors
     ///
     /// Where memory was refused to the job.
-    pub(crate) fn note(&mut self, answer: Ran) -> Result<u64, AllocError> {
+    pub(crate) fn note(&mut self, answer: Ran, lending: &Lending) -> Result<u64, AllocError> {
+        self.is_stale = true;
         match answer {
             Ran::All(count) => {
-                self.is_owed = false;
-                self.is_long = count >= LONG_JOB_EVENTS;
+                lending.give_back();
                 Ok(count)
             }
-            Ran::Limit(count) => {
-                self.is_owed = true;
-                self.is_long = true;
-                Ok(count)
-            }
+            Ran::Limit(count) => Ok(count),
             Ran::Memory(_) => Err(AllocError),
         }
     }
 }
 
 /// Jobs for the books that have something to do.
-pub(crate) fn jobs_for<R: Wait>(
+pub(crate) fn jobs_for<G, R: Wait>(
     rt: &R,
     alloc: Global,
-    books: &[SharedBook<Plain>],
-    board: &ClockBoard,
+    threaded: &Threaded<'_, G>,
     seat: &mut Seat,
     watched: &mut Vec<Watched>,
+    looks_at_all: bool,
 ) -> Result<Vec<Job>, AllocError>
-    requires { IsSeatOf board.now seat.old }
-    ensures seat { IsSeatOf board.now seat.new }
-    ensures named { IfOk result (λ jobs. All (λ j. j.book < length books.now) jobs.items) }
+    requires { IsSeatOf threaded.now.board.now seat.old }
+    ensures seat { IsSeatOf threaded.now.board.now seat.new }
+    ensures named { IfOk result
+        (λ jobs. All (λ j. j.book < length threaded.now.books.now) jobs.items) }
 {
     let mut jobs = Vec::new(alloc);
     for number in 0..watched.len() {
-        if number < books.len() && watched[number].wants(rt, &books[number], board, seat) {
+        let wants = match (watched.get_mut(number), threaded.own(number)) {
+            (Some(one), Some(own)) => one.wants(rt, &own, threaded.board, seat, looks_at_all),
+            _ => false,
+        };
+        if wants && number < threaded.books.len() {
             jobs.push(Job {
                 book: number,
                 limit: JOB_EVENTS,
@@ -185,34 +196,4 @@ pub(crate) fn jobs_for<R: Wait>(
         }
     }
     Ok(jobs)
-}
-
-/// Whether two jobs at least are likely to be long, as the last ones of their books were.
-pub(crate) fn are_long(watched: &[Watched], jobs: &[Job]) -> bool {
-    let mut one = false;
-    for job in jobs {
-        if let Some(watched) = watched.get(job.book) {
-            if watched.is_long && one {
-                return true;
-            }
-            one = one || watched.is_long;
-        }
-    }
-    false
-}
-
-/// Notes the answer of the job of a book: how many events it was.
-///
-/// # Errors
-///
-/// Where memory was refused to the job.
-pub(crate) fn note_answer(
-    watched: &mut Vec<Watched>,
-    book: usize,
-    answer: Ran,
-) -> Result<u64, AllocError> {
-    match watched.get_mut(book) {
-        Some(watched) => watched.note(answer),
-        None => Ok(0),
-    }
 }

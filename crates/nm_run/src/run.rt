@@ -22,7 +22,7 @@ use mio::{Events, Waker};
 use nm_base::{PartNo, Sink};
 use nm_book::{Book, BookFault};
 use nm_files::{Outputs, TraceFiles};
-use nm_net::Holdings;
+use nm_net::{Holdings, Lending};
 use nm_peers::{Listener, peers_of};
 use nm_progress::Progress;
 use nm_shared::{ClockBoard, Gate, OwnerSeat, Pass, Plain, Seat, SharedBook};
@@ -221,6 +221,15 @@ fn own_and_others(
     Ok((own, others))
 }
 
+/// Each book is lent to the pool at first.
+fn lendings_for(alloc: Global, books: &[SharedBook<Plain>]) -> Result<Vec<Lending>, AllocError> {
+    let mut lendings = Vec::with_capacity(alloc, books.len())?;
+    for _ in books {
+        lendings.push(Lending::new())?;
+    }
+    Ok(lendings)
+}
+
 /// What the dispatcher remembers of each book at first.
 fn watch_all<R: Wait>(rt: &R, opened: &Opened<'_>) -> Result<Vec<Watched>, AllocError> {
     let (topology, replicas) = (opened.plan.topology, opened.plan.replicas);
@@ -310,6 +319,7 @@ fn dispatcher_of<R: Net + Wait>(
         seat,
         poll,
         events: Events::with_capacity(opened.alloc, 1)?,
+        looks_at_all: true,
         passes: Vec::new(opened.alloc),
     };
     Ok((dispatcher, waker))
@@ -354,10 +364,12 @@ where
     let sides = sides_of(rt, &opened, owners, posts, outputs)?;
     let (dispatcher, waker) = dispatcher_of(rt, &opened, seat)?;
     let (ended, has_failed) = (AtomicUsize::new(0), AtomicBool::new(false));
+    let lendings = lendings_for(alloc, books)?;
     let threaded = Threaded {
         topology: &*plan.topology,
         books: &*books,
         board: &board,
+        lendings: lendings.as_slice(),
         wakers: wakers.as_slice(),
         dispatcher: &waker,
         ended: &ended,

@@ -13,13 +13,15 @@ use nm_frames::ReplicaName;
 use nm_net::limits::MAX_IDLE_POLLS;
 use nm_net::{Holdings, Served, Service, TcpTransport, run_replica};
 use nm_peers::Peers;
-use nm_shared::{ClockBoard, Gate, Plain, SharedBook};
-use nm_topology::Topology;
+use nm_shared::{Gate, Plain};
 use std::alloc::Global;
 use std::io::{self, ErrorKind};
 use std::net::Net;
-use std::sync::atomic::AtomicU64;
-use std::sync::{Arc, Wait};
+use std::sync::Wait;
+
+/// How many events a replica does itself after a poll. Where more are left they take longer than to
+/// wake another thread, and the pool does them.
+const OWN_EVENTS: u64 = 512;
 
 /// Which replica of a run it is.
 #[derive(Clone, Copy)]
@@ -51,54 +53,46 @@ pub(crate) struct SideEnd<S> {
     pub holdings: Holdings<Plain, S>,
 }
 
-/// A replica with its book, the partitions that it calls, and the replicas that call it. The
-/// dispatcher runs its book, and notes how far it is.
-fn service_of<'x>(
-    topology: &'x Arc<Topology>,
-    board: &'x ClockBoard,
-    books: &'x [SharedBook<Plain>],
-    book: &'x SharedBook<Plain>,
-    peers: &'x [PartNo],
-    callers: &'x [ReplicaName],
-    role: Role,
-) -> Service<'x, Plain>
-    ensures { result.board.now ≡ board.now }
-{
-    Service {
-        topology,
-        partition: role.partition,
-        replica: role.replica,
-        book,
-        board,
-        peers,
-        callers,
-        books,
-        sister: role.sister,
-        idle_limit: MAX_IDLE_POLLS,
-        run_limit: 0,
-        progress: None,
-    }
-}
-
-/// Serves a replica over its connections until it ends.
+/// Serves a replica over its connections until it ends. It calls these partitions, and these
+/// replicas call it. The dispatcher notes how far it is.
 fn serve<S: Sink, G: Gate, R: Net + Wait + Drop + Copy>(
     rt: &R,
     alloc: Global,
     threaded: &Threaded<'_, G>,
-    service: &Service<'_, Plain>,
+    role: Role,
+    peers: (&[PartNo], &[ReplicaName]),
     holdings: &mut Holdings<Plain, S>,
     transport: &mut TcpTransport<R>,
 ) -> Served
-    requires owners { All (IsOwnerOf service.now.board.now) holdings.old.seats.items }
+    requires owners { All (IsOwnerOf threaded.now.board.now) holdings.old.seats.items }
     requires files { All IsSound holdings.old.files.files.items }
 {
+    let Some(own) = threaded.own(role.index) else {
+        return Served::Net;
+    };
+    let service = Service {
+        topology: threaded.topology,
+        partition: role.partition,
+        replica: role.replica,
+        book: own.book,
+        board: threaded.board,
+        peers: peers.0,
+        callers: peers.1,
+        books: threaded.books,
+        sister: role.sister,
+        idle_limit: MAX_IDLE_POLLS,
+        run_limit: OWN_EVENTS,
+        lending: own.lending,
+        progress: Some(threaded.progress),
+        notes_progress: false,
+    };
     let gate = SideGate {
         gate: threaded.gate,
         has_failed: threaded.has_failed,
         dispatcher: threaded.dispatcher,
-        moved: AtomicU64::new(0),
+        lending: own.lending,
     };
-    run_replica(rt, alloc, service, holdings, transport, &gate)
+    run_replica(rt, alloc, &service, holdings, transport, &gate)
 }
 
 /// How serving ends where there is no transport.
@@ -135,23 +129,19 @@ pub(crate) fn run_side<S: Sink, G: Gate, R: Net + Wait + Drop + Copy>(
         addresses,
         callers,
     } = peers;
-    let served = match (
-        threaded.books.get(index),
-        TcpTransport::new(*rt, alloc, poll, socket, addresses),
-    ) {
-        (_, Err(error)) => served_of(&error),
-        (None, _) => Served::Net,
-        (Some(own), Ok(mut transport)) => {
-            let service = service_of(
-                threaded.topology,
-                threaded.board,
-                threaded.books,
-                own,
-                partitions.as_slice(),
-                callers.as_slice(),
+    let served = match TcpTransport::new(*rt, alloc, poll, socket, addresses) {
+        Err(error) => served_of(&error),
+        Ok(mut transport) => {
+            let peers = (partitions.as_slice(), callers.as_slice());
+            serve(
+                rt,
+                alloc,
+                threaded,
                 role,
-            );
-            serve(rt, alloc, threaded, &service, &mut holdings, &mut transport)
+                peers,
+                &mut holdings,
+                &mut transport,
+            )
         }
     };
     if served != Served::Ended {

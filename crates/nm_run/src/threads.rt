@@ -1,11 +1,21 @@
 //! What the threads of a run share.
 
+ghost use Rattle.std.specs.Prelude.{◌<◌, IfSome, length};
+
 use mio::Waker;
+use nm_net::Lending;
 use nm_progress::Progress;
 use nm_shared::{ClockBoard, Plain, SharedBook};
 use nm_topology::Topology;
 use std::sync::Arc;
 use std::sync::atomic::{AtomicBool, AtomicUsize, Ordering};
+
+/// The book of a replica, and whose turn it is to run it.
+#[derive(Clone, Copy)]
+pub(crate) struct Own<'a> {
+    pub book: &'a SharedBook<Plain>,
+    pub lending: &'a Lending,
+}
 
 /// What all threads of a run share.
 #[derive(Clone, Copy)]
@@ -14,6 +24,8 @@ pub(crate) struct Threaded<'a, G> {
     /// The books of all replicas, by partition and replica.
     pub books: &'a [SharedBook<Plain>],
     pub board: &'a ClockBoard,
+    /// Whose turn it is to run the book at the same place.
+    pub lendings: &'a [Lending],
     /// Each wakes the replica of the book at its place.
     pub wakers: &'a [Waker],
     /// Wakes the dispatcher.
@@ -28,6 +40,16 @@ pub(crate) struct Threaded<'a, G> {
 }
 
 impl<'a, G> Threaded<'a, G> {
+    /// The book at this index, if there is one.
+    pub(crate) fn own(&self, book: usize) -> Option<Own<'a>>
+        ensures { IfSome result (λ _. book < length self.now.books.now) }
+    {
+        match (self.books.get(book), self.lendings.get(book)) {
+            (Some(book), Some(lending)) => Some(Own { book, lending }),
+            _ => None,
+        }
+    }
+
     /// Wakes the replica of a book.
     pub(crate) fn wake(&self, book: usize) {
         if let Some(waker) = self.wakers.get(book) {

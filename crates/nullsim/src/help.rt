@@ -105,18 +105,20 @@ coloured by use.
     (
         "run",
         "\
-nullsim run TOPO DIR WORKERS REPLICAS
-Simulates all partitions at once, 1 or 2 REPLICAS of each; 1 to 64 WORKERS do events at
-the same time. Writes DIR/NAME.pcap for each interface, and prints certified where all
-came to the trace of the one event list.
+nullsim run TOPO DIR WORKERS REPLICAS [stats]
+Simulates all partitions at once, 1 or 2 REPLICAS of each, each in a thread; at most 1
+to 64 WORKERS do what these leave where much is to do. Writes DIR/NAME.pcap for each
+interface, and prints certified where all came to the trace of the one event list. stats:
+then a table on standard error of what each did.
 ",
     ),
     (
         "node",
         "\
-nullsim node TOPO DIR PARTITION REPLICA ADDRESSES
+nullsim node TOPO DIR PARTITION REPLICA ADDRESSES [stats]
 Runs one replica (0 or 1) of a partition as a process. ADDRESSES is a file with a line P
-R A.B.C.D:PORT for each replica. It certifies nothing.
+R A.B.C.D:PORT for each replica. It certifies nothing. stats: a line a second on standard
+error of how far it is.
 ",
     ),
     (

@@ -9,6 +9,7 @@ ghost use Rattle.nm_command.specs.Command.{command_of};
 mod help;
 mod hints;
 mod noted;
+mod stats;
 mod system;
 mod watching;
 
@@ -20,6 +21,7 @@ use nm_command::{Command, Status};
 use nm_program::{Means, NamedInputs, conclude, report, run};
 use nm_progress::Progress;
 use noted::{Noted, NotedWriter};
+use stats::{tell_figures, told_words};
 use std::env::Env;
 use std::io::{BufWriter, ErrorKind, IsTerminal, Stderr, Write};
 use std::net::Net;
@@ -135,6 +137,43 @@ where
     ended
 }
 
+/// As `perform`, while it is counted what each replica does, and told.
+fn perform_told<N>(rt: &HostRuntime, system: &N, words: &[String], said: &mut MemSink) -> Ended
+where
+    N: Net<Stream = net::TcpStream, Listener = net::TcpListener>
+        + Threads
+        + Wait
+        + Clock
+        + Sync
+        + Drop
+        + Copy,
+{
+    let Ok(progress) = Progress::with_figures(rt.alloc()) else {
+        return Ended {
+            status: report(Status::Memory, said),
+            is_silent: false,
+        };
+    };
+    let over = Over::new();
+    let (_, ended) = thread::join(
+        system,
+        || tell_figures(
+            system,
+            rt.alloc(),
+            &progress,
+            words,
+            &over,
+            &mut rt.stderr(),
+        ),
+        || {
+            let ended = perform(rt, system, words, said, &progress);
+            over.tell(system);
+            ended
+        },
+    );
+    ended
+}
+
 /// As `perform`. What is said of errors follows at the end, when a line on the terminal is gone; it
 /// does not where nobody reads the output any more.
 fn perform_quietly<N>(
@@ -153,7 +192,9 @@ where
         + Drop
         + Copy,
 {
-    let ended = if rt.stderr().is_terminal() {
+    let ended = if let Some(asked) = told_words(words) {
+        perform_told(rt, system, asked, said)
+    } else if rt.stderr().is_terminal() {
         perform_watched(rt, system, words, said)
     } else {
         perform(rt, system, words, said, &Progress::new())

@@ -39,7 +39,7 @@ impl Over {
     }
 
     /// Waits until it is over, or so many milliseconds have passed: whether it is over.
-    fn wait<R: Wait + Clock>(&self, rt: &R, milliseconds: u64) -> bool {
+    pub fn wait<R: Wait + Clock>(&self, rt: &R, milliseconds: u64) -> bool {
         let limit = Duration::from_millis(milliseconds);
         let guard = self.is_over.lock(rt);
         let (_guard, waited) = self

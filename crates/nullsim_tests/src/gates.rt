@@ -13,6 +13,8 @@ pub struct Watching {
     pub goes_on: bool,
     pub waits: bool,
     pub most: AtomicU64,
+    /// How many jobs were begun.
+    pub jobs: AtomicU64,
     pub first: AtomicBool,
     pub second: AtomicBool,
     /// A job saw the other begin no more.
@@ -25,6 +27,7 @@ impl Watching {
             goes_on,
             waits,
             most: AtomicU64::new(0),
+            jobs: AtomicU64::new(0),
             first: AtomicBool::new(false),
             second: AtomicBool::new(false),
             was_alone: AtomicBool::new(false),
@@ -45,6 +48,7 @@ impl Watching {
 
 impl Gate for Watching {
     fn enter(&self, job: usize) {
+        let _ = self.jobs.fetch_add(1, Ordering::SeqCst);
         match job {
             0 if self.waits => self.meet(&self.first, &self.second),
             1 if self.waits => self.meet(&self.second, &self.first),

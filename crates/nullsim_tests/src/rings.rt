@@ -2,9 +2,9 @@
 
 use crate::gates::Watching;
 use crate::texts::RING;
-use nm_base::IfaceNo;
+use nm_base::{IfaceNo, PartNo};
 use nm_files::MemOutputs;
-use nm_progress::Progress;
+use nm_progress::{Figure, Figures, Progress};
 use nm_run::{Report, RunFault, RunPlan, run_all};
 use nm_topology::Topology;
 use std::alloc::Global;
@@ -34,6 +34,7 @@ fn run_ring<R>(
     replicas: u8,
     outputs: &mut MemOutputs,
     gate: &Watching,
+    progress: &Progress,
 ) -> io::Result<Result<Report, RunFault>>
 where
     R: Net<Stream = net::TcpStream, Listener = net::TcpListener>
@@ -52,7 +53,7 @@ where
         folder: "out",
         workers: 2,
         replicas,
-        progress: &Progress::new(),
+        progress,
     };
     Ok(run_all(rt, alloc, &plan, outputs, gate))
 }
@@ -86,10 +87,48 @@ fn a_ring_is_certified(rt: HostRuntime) -> Result<(), Fail> {
     for replicas in 1..3 {
         let gate = Watching::new(true, false);
         let mut outputs = files_of(rt.alloc(), 6, 1_000);
-        let outcome = run_ring(&rt, rt.alloc(), replicas, &mut outputs, &gate)?;
+        let outcome = run_ring(
+            &rt,
+            rt.alloc(),
+            replicas,
+            &mut outputs,
+            &gate,
+            &Progress::new(),
+        )?;
         is_whole(&rt, &outcome, &outputs);
         assert!(rt; gate.most.load(Ordering::SeqCst) >= 48);
+        // the first job of each book: what is left is short, and stays on its thread
+        assert!(rt; gate.jobs.load(Ordering::SeqCst) == 3 * u64::from(replicas));
     }
+    Ok(())
+}
+
+/// A figure of all replicas of the ring.
+fn sum_of(figures: &Figures, figure: Figure) -> u64 {
+    let mut sum = 0u64;
+    for partition in 0..3u32 {
+        let one = figures.of(PartNo::new(partition), 0).get(figure);
+        sum = sum.saturating_add(one);
+    }
+    sum
+}
+
+/// What the replicas do is counted where it is asked for: a job each, their events, and each of the
+/// four messages once.
+#[test]
+fn what_replicas_do_is_counted(rt: HostRuntime) -> Result<(), Fail> {
+    let progress = Progress::with_figures(rt.alloc())?;
+    let mut outputs = files_of(rt.alloc(), 6, 1_000);
+    let gate = Watching::new(true, false);
+    let outcome = run_ring(&rt, rt.alloc(), 1, &mut outputs, &gate, &progress)?;
+    is_whole(&rt, &outcome, &outputs);
+    let Some(figures) = progress.figures() else {
+        return Err("figures were asked for".into());
+    };
+    assert!(rt; sum_of(figures, Figure::Jobs) == 3);
+    assert!(rt; sum_of(figures, Figure::Records) == 8);
+    assert!(rt; sum_of(figures, Figure::Messages) == 4);
+    assert!(rt; sum_of(figures, Figure::Broken) == 0);
     Ok(())
 }
 
@@ -98,7 +137,7 @@ fn a_ring_is_certified(rt: HostRuntime) -> Result<(), Fail> {
 fn run_two_at_once(rt: HostRuntime) -> Result<(), Fail> {
     let gate = Watching::new(true, true);
     let mut outputs = files_of(rt.alloc(), 6, 1_000);
-    let outcome = run_ring(&rt, rt.alloc(), 1, &mut outputs, &gate)?;
+    let outcome = run_ring(&rt, rt.alloc(), 1, &mut outputs, &gate, &Progress::new())?;
     is_whole(&rt, &outcome, &outputs);
     assert!(rt; gate.first.load(Ordering::SeqCst) && gate.second.load(Ordering::SeqCst));
     assert!(rt; !gate.was_alone.load(Ordering::SeqCst));
@@ -110,7 +149,7 @@ fn run_two_at_once(rt: HostRuntime) -> Result<(), Fail> {
 fn run_asks_its_polls(rt: HostRuntime) -> Result<(), Fail> {
     let gate = Watching::new(false, false);
     let mut outputs = files_of(rt.alloc(), 6, 1_000);
-    let outcome = run_ring(&rt, rt.alloc(), 1, &mut outputs, &gate)?;
+    let outcome = run_ring(&rt, rt.alloc(), 1, &mut outputs, &gate, &Progress::new())?;
     assert!(rt; outcome.err() == Some(RunFault::Net));
     Ok(())
 }
@@ -137,7 +176,7 @@ fn files_that_fail(rt: HostRuntime) -> Result<(), Fail> {
     ] {
         let gate = Watching::new(true, false);
         let mut outputs = files_of(rt.alloc(), room, octets);
-        let fault = run_ring(&rt, rt.alloc(), 1, &mut outputs, &gate)?.err();
+        let fault = run_ring(&rt, rt.alloc(), 1, &mut outputs, &gate, &Progress::new())?.err();
         assert!(rt; has_failed(&fault, &ifaces, written));
         assert!(rt; outputs.files.is_empty());
     }
@@ -150,7 +189,7 @@ fn a_file_that_is_not_named(rt: HostRuntime) -> Result<(), Fail> {
     let gate = Watching::new(true, false);
     let mut outputs = files_of(rt.alloc(), 6, 1_000);
     outputs.places = 3;
-    let fault = run_ring(&rt, rt.alloc(), 1, &mut outputs, &gate)?.err();
+    let fault = run_ring(&rt, rt.alloc(), 1, &mut outputs, &gate, &Progress::new())?.err();
     assert!(rt; has_failed(&fault, &[0, 1, 2, 3], 256) || has_failed(&fault, &[4, 5, 4, 5], 24));
     assert!(rt; outputs.files.len() == 3);
     Ok(())

@@ -4,6 +4,6 @@ use Rattle.nm_run.proofs.jobs.jobs_for.Given as goal
 
 abbrev pub invariant-loop-number : goal.invariant-loop-number
 invariant-loop-number g l = record {
-  seat : IsSeatOf l.board l.seat;
-  named : All (λ j. j.book < length l.books) l.jobs.items;
+  seat : IsSeatOf l.threaded.board.now l.seat;
+  named : All (λ j. j.book < length l.threaded.books.now) l.jobs.items;
 }

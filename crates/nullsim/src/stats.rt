@@ -1,0 +1,89 @@
+//! What a run or a node does, told on standard error where the words ask for it.
+
+use crate::watching::Over;
+use nm_command::Command;
+use nm_progress::{Figures, Progress, ReplicaFigures, push_state, push_table};
+use std::alloc::{AllocError, Global};
+use std::io::Write;
+use std::sync::Wait;
+use std::time::Clock;
+
+/// The further word of `run` and `node`.
+const STATS: &str = "stats";
+
+/// How many milliseconds pass between two looks at who works.
+const MILLISECONDS_A_LOOK: u64 = 5;
+
+/// How many looks pass between two lines of a node: a second.
+const LOOKS_A_LINE: u64 = 200;
+
+/// The words of `run` or `node` before the further one, if that is there.
+pub fn told_words(words: &[String]) -> Option<&[String]> {
+    let (last, others) = words.split_last()?;
+    if last.as_str() != STATS {
+        return None;
+    }
+    match Command::of(others) {
+        Some(Command::Run(_)) | Some(Command::Node(_)) => Some(others),
+        _ => None,
+    }
+}
+
+/// The replica of a node, of which a line a second is told.
+fn node_of<'a>(figures: &'a Figures, words: &[String]) -> Option<ReplicaFigures<'a>> {
+    match Command::of(words) {
+        Some(Command::Node(node)) => Some(figures.of(node.partition, node.replica)),
+        _ => None,
+    }
+}
+
+/// A line of a node.
+fn line_of(alloc: Global, node: &ReplicaFigures<'_>) -> Result<Vec<u8>, AllocError> {
+    let mut text = Vec::new(alloc);
+    push_state(&mut text, node)?;
+    Ok(text)
+}
+
+/// The table of a run.
+fn table_of(alloc: Global, figures: &Figures) -> Result<Vec<u8>, AllocError> {
+    let mut text = Vec::new(alloc);
+    push_table(&mut text, figures)?;
+    Ok(text)
+}
+
+/// Tells a text. Where there is no memory for it, or nobody takes it, nothing hangs on it.
+fn tell<W: Write>(errors: &mut W, text: Result<Vec<u8>, AllocError>) {
+    if let Ok(text) = text {
+        let _ = errors.write_all(text.as_slice());
+    }
+}
+
+/// Looks who works until all is over, and tells how far a node is once a second, and at the end
+/// what all did, if it has begun.
+pub fn tell_figures<R: Wait + Clock, W: Write>(
+    rt: &R,
+    alloc: Global,
+    progress: &Progress,
+    words: &[String],
+    over: &Over,
+    errors: &mut W,
+) {
+    let Some(figures) = progress.figures() else {
+        return;
+    };
+    let node = node_of(figures, words);
+    for looks in 1..u64::MAX {
+        if over.wait(rt, MILLISECONDS_A_LOOK) {
+            break;
+        }
+        figures.look();
+        if let Some(node) = &node {
+            if looks % LOOKS_A_LINE == 0 {
+                tell(errors, line_of(alloc, node));
+            }
+        }
+    }
+    if progress.look().stop > 0 {
+        tell(errors, table_of(alloc, figures));
+    }
+}
