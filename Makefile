@@ -94,7 +94,7 @@ bench: bin/nullsim bin/nm_bench
 	  done; \
 	done
 	@python3 bench/nodes.py bin/nullsim nulls=1000 nulls=10000 one-way=10000 one-way=100000
-	@python3 bench/runs.py bin/nullsim grid-cut=4:1x1,2x1,4x1,2x2 grid-cut=16:1x1,2x1,4x1,2x2 line-cut=4:1x1,2x1,2x2 line-cut=16:2x1 nulls=1000 ring-cut=64:2x1
+	@python3 bench/runs.py bin/nullsim $(foreach kind,grid-far grid-near,$(kind)=1:1x1 $(kind)=2:1x1,2x1 $(kind)=4:1x1,2x1,4x1,2x2) grid-cut=16:2x1 line-cut=4:1x1 nulls=1000 ring-cut=64:2x1
 
 compare: bin/nullsim
 	@tools/compare $(if $(ANYWAY),--anyway)

@@ -136,17 +136,22 @@ def same_links(number, count):
     return 1_000_000_000, 10_000
 
 
+def far_links(number, count):
+    return 1_000_000_000, 1_000_000
+
+
 def mixed_links(number, count):
     return 10 ** (8 + number % 3), round(1_000 * 10_000 ** (number * 37 % count / (count - 1)))
 
 
-def grid(packets=2_000, octets=228, interval=50_000, side=8, links=same_links, sends=lambda x, y: True, stop=10 ** 12, cuts=1):
-    """Flows from the routers of a grid that send to the ones across; the grid is cut into so many by so many squares."""
+def grid(packets=2_000, octets=228, interval=50_000, side=8, links=same_links, sends=lambda x, y: True, stop=10 ** 12, cuts=(1, 1)):
+    """Flows from the routers of a grid that send to the ones across; the grid is cut into so many by so many parts."""
     net = Net()
     count = 2 * side * (side - 1)
+    rows, columns = cuts
     for x in range(side):
         for y in range(side):
-            net.node(f"g{x}-{y}", partition=x * cuts // side * cuts + y * cuts // side)
+            net.node(f"g{x}-{y}", partition=x * rows // side * columns + y * columns // side)
     for x in range(side):
         for y in range(side):
             if x + 1 < side:
@@ -171,7 +176,27 @@ def cut_line(partitions):
 
 def cut_grid(partitions):
     """`grid`, cut into squares, and stopped soon after its last packet arrived: a round is ten microseconds of simulated time."""
-    grid(stop=110_000_000, cuts=round(partitions ** 0.5))
+    side = round(partitions ** 0.5)
+    grid(stop=110_000_000, cuts=(side, side))
+
+
+# How many by how many parts a grid is cut into, by their number.
+CUTS = {1: (1, 1), 2: (1, 2), 4: (2, 2), 8: (2, 4), 16: (4, 4)}
+
+
+def edge_grid(partitions, links):
+    """Routers at two edges of a grid of 16 by 16 send packets of 1,000 octets across: some million packet-hops."""
+    grid(708, 1_000, 100_000, side=16, links=links, sends=lambda x, y: x == 0 or y == 0, stop=110_000_000, cuts=CUTS[partitions])
+
+
+def far_grid(partitions):
+    """Its links take a millisecond: a round holds some thousands of events."""
+    edge_grid(partitions, far_links)
+
+
+def near_grid(partitions):
+    """Its links take ten microseconds: a round holds some tens of events."""
+    edge_grid(partitions, same_links)
 
 
 def star(packets=20_000, octets=528, interval=60_000, leaves=32):
@@ -304,6 +329,8 @@ KINDS = {
     "grid": grid,
     "line-cut": cut_line,
     "grid-cut": cut_grid,
+    "grid-far": far_grid,
+    "grid-near": near_grid,
     "ring-cut": cut_ring,
     "star": star,
     "line-1000": lambda packets=7_940: line(packets, 1_000, 20_000),

@@ -3,7 +3,6 @@
 import asyncio
 import os
 import time
-import tomllib
 
 from counts import Counts
 from processes import Process, bound
@@ -17,29 +16,6 @@ TURN_SECONDS = 0.05
 
 class Failed(Exception):
     """The demonstration did not come to what it is to show."""
-
-
-class Network:
-    """What a topology says of its partitions."""
-
-    def __init__(self, path):
-        with open(path, "rb") as file:
-            text = tomllib.load(file)
-        self.path = path
-        places = {node["name"]: node["partition"] for node in text["node"]}
-        self.partition_of = {iface["name"]: places[iface["node"]] for iface in text["iface"]}
-        self.partitions = sorted(set(places.values()))
-        # A partition is called as its first node is.
-        self.names = [next(name for name, place in places.items() if place == partition) for partition in self.partitions]
-        ends = [sorted((self.partition_of[link["a"]], self.partition_of[link["b"]])) for link in text["link"]]
-        self.joints = sorted({(a, b) for a, b in ends if a != b})
-
-    def keys(self):
-        return [(partition, replica) for partition in self.partitions for replica in (0, 1)]
-
-    def pairs(self):
-        """Who calls whom: replicas of the partition with the lesser number call those of the other."""
-        return [((a, x), (b, y)) for a, b in self.joints for x in (0, 1) for y in (0, 1)]
 
 
 class Run:

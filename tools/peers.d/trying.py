@@ -1,0 +1,34 @@
+"""Tries many times, some at once, and leaves off where much is wrong, so that a step ends in its time."""
+
+from concurrent.futures import ThreadPoolExecutor
+
+# No more is tried once so much is wrong, and no more of it is printed.
+MOST_FAULTS = 20
+
+
+def each(works, one, at_once):
+    """What `one` comes to for each work, so many at once: first of it stands a list of what is wrong. Works that were not tried are left out."""
+    wrong = 0
+
+    def tried(work):
+        nonlocal wrong
+        if wrong >= MOST_FAULTS:
+            return None
+        found = one(work)
+        wrong += len(found[0])
+        return found
+    with ThreadPoolExecutor(at_once) as pool:
+        return [found for found in pool.map(tried, works) if found is not None]
+
+
+def faults_of(ends):
+    """All that is wrong."""
+    return [fault for end in ends for fault in end[0]]
+
+
+def tell(faults, said):
+    """Prints what is wrong, and last what was tried: whether nothing is wrong."""
+    for fault in faults[:MOST_FAULTS]:
+        print(fault)
+    print(f"{said}; {len(faults)} wrong", flush=True)
+    return not faults
