@@ -10,7 +10,6 @@ use nm_base::{
 };
 use std::io::{self, ErrorKind, Write};
 use std::process::Abort;
-use std::test::Fail;
 
 fn key(nanoseconds: u64, place: Place, number: u64) -> Key {
     Key {
@@ -50,27 +49,26 @@ fn keys_stand_in_their_order(rt: HostRuntime) {
 }
 
 /// Whether so many octets are a packet, which then has these octets.
-fn is_packet(rt: &(impl Abort + AllocGlobal), count: usize) -> Result<bool, Fail> {
-    let octets = vec![in rt.alloc(); 7u8; count]?;
-    let bytes = Bytes::copy_from_slice(rt.alloc(), octets.as_slice())?;
+fn is_packet(rt: &(impl Abort + AllocGlobal), count: usize) -> bool {
+    let octets = vec![in rt.alloc(); 7u8; count].expect(rt, "it succeeds");
+    let bytes = Bytes::copy_from_slice(rt.alloc(), octets.as_slice()).expect(rt, "it succeeds");
     let Some(packet) = Packet::new(bytes) else {
-        return Ok(false);
+        return false;
     };
     eq_number(rt, "octets", packet.octet_count() as u64, count as u64);
     eq_octets(rt, "a packet", packet.octets(), octets.as_slice());
-    Ok(true)
+    true
 }
 
-fn are_packets(rt: &(impl Abort + AllocGlobal), rows: &[(usize, bool)]) -> Result<(), Fail> {
+fn are_packets(rt: &(impl Abort + AllocGlobal), rows: &[(usize, bool)]) {
     for (count, want) in rows {
-        let found = is_packet(rt, *count)?;
+        let found = is_packet(rt, *count);
         assert!(rt; found == *want, "{count} octets");
     }
-    Ok(())
 }
 
 #[test]
-fn packets_have_a_range_of_sizes(rt: HostRuntime) -> Result<(), Fail> {
+fn packets_have_a_range_of_sizes(rt: HostRuntime) {
     eq_number(&rt, "the most", MAX_PACKET_OCTETS as u64, 65_535);
     are_packets(
         &rt,
@@ -79,17 +77,19 @@ fn packets_have_a_range_of_sizes(rt: HostRuntime) -> Result<(), Fail> {
 }
 
 #[test]
-fn packets_are_twins(rt: HostRuntime) -> Result<(), Fail> {
-    let bytes = Bytes::copy_from_slice(rt.alloc(), b"two")?;
-    let twin = Twin::new(Packet::new(bytes).ok_or("three octets fit")?)?;
+fn packets_are_twins(rt: HostRuntime) {
+    let bytes = Bytes::copy_from_slice(rt.alloc(), b"two").expect(&rt, "it succeeds");
+    let twin = Twin::new(Packet::new(bytes).expect(&rt, "three octets fit")).expect(
+        &rt,
+        "it succeeds",
+    );
     holds(&rt, "they are equal", twin.packet == twin.copy);
     eq_octets(&rt, "a copy", twin.copy.into_bytes().as_slice(), b"two");
-    Ok(())
 }
 
 /// A sink of this budget takes so much of a text, and says so.
-fn takes(rt: &(impl Abort + AllocGlobal), budget: usize, text: &[u8]) -> Result<(), Fail> {
-    let mut sink = MemSink::new(rt.alloc(), budget)?;
+fn takes(rt: &(impl Abort + AllocGlobal), budget: usize, text: &[u8]) {
+    let mut sink = MemSink::new(rt.alloc(), budget).expect(rt, "it succeeds");
     let written = write_all(&mut sink, text);
     let taken = budget.min(text.len());
     let want = if budget < text.len() {
@@ -100,15 +100,13 @@ fn takes(rt: &(impl Abort + AllocGlobal), budget: usize, text: &[u8]) -> Result<
     assert!(rt; written == want, "budget {budget}");
     eq_octets(rt, "taken", sink.octets(), &text[..taken]);
     eq_number(rt, "room", sink.room() as u64, (budget - taken) as u64);
-    Ok(())
 }
 
 #[test]
-fn sinks_take_up_to_their_budget(rt: HostRuntime) -> Result<(), Fail> {
+fn sinks_take_up_to_their_budget(rt: HostRuntime) {
     for budget in 0..=13 {
-        takes(&rt, budget, b"twelve octet")?;
+        takes(&rt, budget, b"twelve octet");
     }
-    Ok(())
 }
 
 #[test]

@@ -7,7 +7,6 @@ use nm_base::{Event, IfaceNo, Key, Place, Time};
 use nm_events::{EventList, HeapList, SortedList};
 use std::alloc::AllocError;
 use std::process::Abort;
-use std::test::Fail;
 
 /// How many events the tests put.
 const COUNT: u64 = 100_000;
@@ -51,19 +50,18 @@ fn leaves_in_order<L: EventList>(list: &mut L, count: u64) -> bool {
 }
 
 /// Events that come in random order leave the list in order.
-fn sorts<L: EventList + Drop>(rt: &(impl Abort + AllocGlobal)) -> Result<(), Fail> {
+fn sorts<L: EventList + Drop>(rt: &(impl Abort + AllocGlobal)) {
     let mut list = L::new(rt.alloc());
-    fill(&mut list, COUNT)?;
+    fill(&mut list, COUNT).expect(rt, "it succeeds");
     assert!(rt; leaves_in_order(&mut list, COUNT));
-    Ok(())
 }
 
 #[test]
-fn a_heap_sorts(rt: HostRuntime) -> Result<(), Fail> {
+fn a_heap_sorts(rt: HostRuntime) {
     sorts::<HeapList>(&rt)
 }
 
 #[test]
-fn rings_and_heaps_sort(rt: HostRuntime) -> Result<(), Fail> {
+fn rings_and_heaps_sort(rt: HostRuntime) {
     sorts::<SortedList>(&rt)
 }

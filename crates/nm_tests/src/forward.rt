@@ -14,7 +14,6 @@ use nm_topology::parts::Route;
 use nm_topology::{Prefix, Topology};
 use std::alloc::{AllocError, Global};
 use std::process::Abort;
-use std::test::Fail;
 
 fn have_names(rt: &impl Abort, names: &[&str]) {
     assert!(rt; names.len() == Counter::ALL.len());
@@ -69,22 +68,17 @@ fn route(octets: [u8; 4], length: u8, via: u32) -> Route {
 }
 
 /// Rows of an address and of what a look-up of it finds among these routes.
-fn lead_to(
-    rt: &(impl Abort + AllocGlobal),
-    routes: &[Route],
-    rows: &[([u8; 4], Option<u32>)],
-) -> Result<(), Fail> {
-    let routes = Routes::of(rt.alloc(), routes)?;
+fn lead_to(rt: &(impl Abort + AllocGlobal), routes: &[Route], rows: &[([u8; 4], Option<u32>)]) {
+    let routes = Routes::of(rt.alloc(), routes).expect(rt, "it succeeds");
     for (octets, want) in rows {
         let via = routes.look(Address::from_octets(*octets));
         let found = via.map(|via| via.number());
         assert!(rt; found == *want, "{octets:?}: {found:?}");
     }
-    Ok(())
 }
 
 #[test]
-fn routes_take_the_longest(rt: HostRuntime) -> Result<(), Fail> {
+fn routes_take_the_longest(rt: HostRuntime) {
     lead_to(
         &rt,
         &[
@@ -101,7 +95,7 @@ fn routes_take_the_longest(rt: HostRuntime) -> Result<(), Fail> {
 }
 
 #[test]
-fn routes_take_none_where_none_holds(rt: HostRuntime) -> Result<(), Fail> {
+fn routes_take_none_where_none_holds(rt: HostRuntime) {
     lead_to(
         &rt,
         &[route([10, 0, 0, 0], 8, 1), route([10, 0, 1, 0], 24, 2)],
@@ -114,7 +108,7 @@ fn routes_take_none_where_none_holds(rt: HostRuntime) -> Result<(), Fail> {
 }
 
 #[test]
-fn routes_take_one_address(rt: HostRuntime) -> Result<(), Fail> {
+fn routes_take_one_address(rt: HostRuntime) {
     lead_to(
         &rt,
         &[
@@ -136,7 +130,7 @@ fn routes_take_one_address(rt: HostRuntime) -> Result<(), Fail> {
 }
 
 #[test]
-fn routes_lead_nowhere_where_there_are_none(rt: HostRuntime) -> Result<(), Fail> {
+fn routes_lead_nowhere_where_there_are_none(rt: HostRuntime) {
     lead_to(
         &rt,
         &[],
@@ -192,9 +186,9 @@ fn scanned(routes: &[Route], address: u32) -> Option<u32> {
 }
 
 #[test]
-fn routes_are_those_of_a_scan(rt: HostRuntime) -> Result<(), Fail> {
-    let all = many_routes(rt.alloc())?;
-    let routes = Routes::of(rt.alloc(), &all)?;
+fn routes_are_those_of_a_scan(rt: HostRuntime) {
+    let all = many_routes(rt.alloc()).expect(&rt, "it succeeds");
+    let routes = Routes::of(rt.alloc(), &all).expect(&rt, "it succeeds");
     let mut seed = 2;
     for _ in 0..2_000 {
         seed = next(seed);
@@ -203,7 +197,6 @@ fn routes_are_those_of_a_scan(rt: HostRuntime) -> Result<(), Fail> {
         let found = via.map(|via| via.number());
         assert!(rt; found == scanned(&all, bits), "{bits}");
     }
-    Ok(())
 }
 
 /// A node of a network, and its state.
@@ -245,50 +238,41 @@ impl Bench {
 }
 
 /// A node of the trio at the start of a run.
-fn node_of_trio(rt: &(impl Abort + AllocGlobal), node: u32) -> Result<Bench, Fail> {
-    let topology = Topology::read(rt.alloc(), TRIO.as_bytes())?;
-    Ok(Bench::new(rt, topology, node)?)
+fn node_of_trio(rt: &(impl Abort + AllocGlobal), node: u32) -> Bench {
+    let topology = Topology::read(rt.alloc(), TRIO.as_bytes()).expect(rt, "it succeeds");
+    Bench::new(rt, topology, node).expect(rt, "it succeeds")
 }
 
 /// A packet of one octet.
-fn one_octet(alloc: Global) -> Result<Packet, Fail> {
-    let octets = Bytes::copy_from_slice(alloc, b"\0")?;
-    Ok(Packet::new(octets).ok_or("one octet fits")?)
+fn one_octet(rt: &(impl Abort + AllocGlobal)) -> Packet {
+    let octets = Bytes::copy_from_slice(rt.alloc(), b"\0").expect(rt, "it succeeds");
+    Packet::new(octets).expect(rt, "one octet fits")
 }
 
 /// A node sends nothing of what a source hands over, and counts nothing.
-fn does_nothing(
-    rt: &(impl Abort + AllocGlobal),
-    bench: &mut Bench,
-    source: u32,
-    packet: &Packet,
-) -> Result<(), AllocError> {
+fn does_nothing(rt: &(impl Abort + AllocGlobal), bench: &mut Bench, source: u32, packet: &Packet) {
     let origin = Origin::Source(SourceNo::new(source));
-    let is_nothing = matches!(bench.react(rt, origin, packet)?, Reaction::Nothing);
+    let is_nothing = matches!(
+        bench.react(rt, origin, packet).expect(rt, "it succeeds"),
+        Reaction::Nothing
+    );
     holds(rt, "nothing is sent", is_nothing);
     for counter in Counter::ALL {
         eq_number(rt, counter.name(), bench.count(counter), 0);
     }
-    Ok(())
 }
 
 /// A node of the trio takes nothing from a source.
-fn takes_nothing(
-    rt: &(impl Abort + AllocGlobal),
-    node: u32,
-    source: u32,
-    packet: &Packet,
-) -> Result<(), Fail> {
-    let mut bench = node_of_trio(rt, node)?;
-    Ok(does_nothing(rt, &mut bench, source, packet)?)
+fn takes_nothing(rt: &(impl Abort + AllocGlobal), node: u32, source: u32, packet: &Packet) {
+    let mut bench = node_of_trio(rt, node);
+    does_nothing(rt, &mut bench, source, packet)
 }
 
 /// A node takes nothing from a source of another node, nor from one that isn't there.
 #[test]
-fn sources_are_of_one_node(rt: HostRuntime) -> Result<(), Fail> {
-    let packet = one_octet(rt.alloc())?;
+fn sources_are_of_one_node(rt: HostRuntime) {
+    let packet = one_octet(&rt);
     for (node, source) in [(1, 0), (2, 0), (0, 3), (0, 6), (0, u32::MAX)] {
-        takes_nothing(&rt, node, source, &packet)?;
+        takes_nothing(&rt, node, source, &packet);
     }
-    Ok(())
 }

@@ -13,9 +13,8 @@ use nm_forward::{Counter, Origin, Reaction};
 use nm_packet::{Icmp, MessageKind};
 use nm_topology::{Refusal, TopoFault, Topology};
 use nm_traffic::{Source, SourcePacket};
-use std::alloc::{AllocError, Global};
+use std::alloc::AllocError;
 use std::process::Abort;
-use std::test::Fail;
 
 /// The first of two answers that is no error.
 fn either<T: Drop, E: Drop>(first: Result<T, E>, second: Result<T, E>) -> Result<T, E> {
@@ -26,16 +25,20 @@ fn either<T: Drop, E: Drop>(first: Result<T, E>, second: Result<T, E>) -> Result
 }
 
 /// A network, which has to be accepted.
-fn network(alloc: Global, text: &str) -> Result<Topology, TopoFault> {
-    let first = Topology::read(alloc, text.as_bytes());
-    either(first, Topology::read(alloc, text.as_bytes()))
+fn network(rt: &(impl Abort + AllocGlobal), text: &str) -> Topology {
+    let first = Topology::read(rt.alloc(), text.as_bytes());
+    let second = Topology::read(rt.alloc(), text.as_bytes());
+    either(first, second).expect(rt, "a network")
 }
 
 /// A packet of from 1 to 65,535 octets.
-fn packet_of(alloc: Global, octets: &[u8]) -> Result<Packet, Fail> {
-    let first = Bytes::copy_from_slice(alloc, octets);
-    let octets = either(first, Bytes::copy_from_slice(alloc, octets))?;
-    Ok(Packet::new(octets).ok_or("from 1 to 65,535 octets")?)
+fn packet_of(rt: &(impl Abort + AllocGlobal), octets: &[u8]) -> Packet {
+    let first = Bytes::copy_from_slice(rt.alloc(), octets);
+    let octets = either(first, Bytes::copy_from_slice(rt.alloc(), octets)).expect(
+        rt,
+        "there is memory",
+    );
+    Packet::new(octets).expect(rt, "from 1 to 65,535 octets")
 }
 
 /// A text whose fault is the last that is looked for.
@@ -69,13 +72,13 @@ fn topology_refused(rt: HostRuntime) {
 }
 
 #[test]
-fn topology_read(rt: HostRuntime) -> Result<(), Fail> {
+fn topology_read(rt: HostRuntime) {
     let first = Topology::read(rt.alloc(), DUO.as_bytes());
     let second = Topology::read(rt.alloc(), DUO.as_bytes());
     if let Err(fault) = first {
         holds(&rt, "memory", fault == TopoFault::Memory);
     }
-    let topology = either(first, second)?;
+    let topology = either(first, second).expect(&rt, "there is memory");
     eq_numbers(
         &rt,
         "members",
@@ -87,21 +90,19 @@ fn topology_read(rt: HostRuntime) -> Result<(), Fail> {
         ],
         &[2, 2, 1, 1],
     );
-    Ok(())
 }
 
 #[test]
-fn icmp_write(rt: HostRuntime) -> Result<(), Fail> {
+fn icmp_write(rt: HostRuntime) {
     let kind = MessageKind {
         message_type: 8,
         code: 0,
     };
     let first = Icmp::write(rt.alloc(), kind, [0, 7, 0, 0], b"\xab");
     let second = Icmp::write(rt.alloc(), kind, [0, 7, 0, 0], b"\xab");
-    let octets = either(first, second)?;
+    let octets = either(first, second).expect(&rt, "there is memory");
     let want = b"\x08\x00\x4c\xf8\x00\x07\x00\x00\xab";
     eq_octets(&rt, "a message", octets.as_slice(), want);
-    Ok(())
 }
 
 /// A datagram whose time to live is over.
@@ -116,10 +117,13 @@ const TIME_EXCEEDED: &[u8] =
 \x0a\x00\x01\x02\x03\xe8\x00\x09\x00\x0a\xfe\xff";
 
 /// The router of the trio.
-fn router(rt: &(impl Abort + AllocGlobal)) -> Result<Bench, Fail> {
-    match Bench::new(rt, network(rt.alloc(), TRIO)?, 1) {
-        Ok(bench) => Ok(bench),
-        Err(_) => Ok(Bench::new(rt, network(rt.alloc(), TRIO)?, 1)?),
+fn router(rt: &(impl Abort + AllocGlobal)) -> Bench {
+    match Bench::new(rt, network(rt, TRIO), 1) {
+        Ok(bench) => bench,
+        Err(_) => {
+            let topology = network(rt, TRIO);
+            Bench::new(rt, topology, 1).expect(rt, "there is memory")
+        }
     }
 }
 
@@ -148,14 +152,13 @@ fn is_time_exceeded(rt: &impl Abort, reaction: &Reaction) {
 
 /// A refused reaction counts nothing and takes no identification.
 #[test]
-fn react(rt: HostRuntime) -> Result<(), Fail> {
-    let mut bench = router(&rt)?;
-    let packet = packet_of(rt.alloc(), LATE)?;
-    let reaction = react_at_last(&rt, &mut bench, &packet)?;
+fn react(rt: HostRuntime) {
+    let mut bench = router(&rt);
+    let packet = packet_of(&rt, LATE);
+    let reaction = react_at_last(&rt, &mut bench, &packet).expect(&rt, "there is memory");
     is_time_exceeded(&rt, &reaction);
     eq_number(&rt, "ttl", bench.count(Counter::Ttl), 1);
     eq_number(&rt, "originated", bench.count(Counter::Originated), 1);
-    Ok(())
 }
 
 /// One echo request.
@@ -171,31 +174,30 @@ source = [
 "#;
 
 /// The source of the request.
-fn requests(alloc: Global) -> Result<Source, Fail> {
-    let topology = network(alloc, REQUEST)?;
+fn requests(rt: &(impl Abort + AllocGlobal)) -> Source {
+    let topology = network(rt, REQUEST);
     let number = SourceNo::new(0);
     if topology.sources().is_empty() {
-        return Err("there is one source".into());
+        panic!(rt; "there is one source");
     }
-    let first = Source::new(alloc, &topology, number);
-    Ok(either(first, Source::new(alloc, &topology, number))?)
+    let first = Source::new(rt.alloc(), &topology, number);
+    either(first, Source::new(rt.alloc(), &topology, number)).expect(rt, "there is memory")
 }
 
 /// The first packet of a source, asked for twice.
-fn first_of(alloc: Global, source: &Source) -> Result<(Time, SourcePacket), Fail> {
-    let first = source.next(alloc, 0);
-    match either(first, source.next(alloc, 0))? {
-        Some(packet) => Ok(packet),
-        None => Err("there is one packet".into()),
+fn first_of(rt: &(impl Abort + AllocGlobal), source: &Source) -> (Time, SourcePacket) {
+    let first = source.next(rt.alloc(), 0);
+    match either(first, source.next(rt.alloc(), 0)).expect(rt, "there is memory") {
+        Some(packet) => packet,
+        None => panic!(rt; "there is one packet"),
     }
 }
 
 #[test]
-fn source_next(rt: HostRuntime) -> Result<(), Fail> {
-    let source = requests(rt.alloc())?;
-    let (time, packet) = first_of(rt.alloc(), &source)?;
+fn source_next(rt: HostRuntime) {
+    let source = requests(&rt);
+    let (time, packet) = first_of(&rt, &source);
     eq_number(&rt, "time", time.nanoseconds(), 0);
     let want = b"\x08\x00\xf7\xfe\x00\x01\x00\x00";
     eq_octets(&rt, "a request", packet.packet().octets(), want);
-    Ok(())
 }

@@ -6,23 +6,20 @@ use nm_packet::{
     Address, HeaderFault, Icmp, IcmpFault, Ipv4, Ipv4Header, MessageKind, PacketBuffer, Ports, Udp,
     UdpFault, lower_ttl, quote, write_ipv4,
 };
-use std::alloc::Global;
 use std::process::Abort;
-use std::test::Fail;
 
 /// Each address has its text, and the text is that of its octets.
-fn are_texts(rt: &(impl Abort + AllocGlobal), rows: &[(&str, [u8; 4])]) -> Result<(), Fail> {
+fn are_texts(rt: &(impl Abort + AllocGlobal), rows: &[(&str, [u8; 4])]) {
     for (text, octets) in rows {
         let address = Address::from_octets(*octets);
         holds(rt, text, Address::parse(text.as_bytes()) == Some(address));
         eq_octets(rt, text, &address.octets(), octets);
-        eq_shown(rt, address, text)?;
+        eq_shown(rt, address, text);
     }
-    Ok(())
 }
 
 #[test]
-fn addresses_have_one_text(rt: HostRuntime) -> Result<(), Fail> {
+fn addresses_have_one_text(rt: HostRuntime) {
     are_texts(
         &rt,
         &[
@@ -128,32 +125,28 @@ fn faults_are_numbered(rt: HostRuntime) {
 }
 
 /// These octets and then so many zeros.
-fn padded(alloc: Global, text: &str, zeros: usize) -> Result<Vec<u8>, Fail> {
-    let mut octets = hex::decode(alloc, text)?;
+fn padded(rt: &(impl Abort + AllocGlobal), text: &str, zeros: usize) -> Vec<u8> {
+    let mut octets = hex::decode(rt.alloc(), text).expect(rt, "it succeeds");
     for _ in 0..zeros {
-        octets.push(0)?;
+        octets.push(0).expect(rt, "it succeeds");
     }
-    Ok(octets)
+    octets
 }
 
 /// How many octets a packet has, or its fault.
 type HeaderAnswer = Result<usize, HeaderFault>;
 
 /// Rows of a packet's octets, of how many zeros follow them, and of what is read.
-fn packets_are_read(
-    rt: &(impl Abort + AllocGlobal),
-    rows: &[(&str, usize, HeaderAnswer)],
-) -> Result<(), Fail> {
+fn packets_are_read(rt: &(impl Abort + AllocGlobal), rows: &[(&str, usize, HeaderAnswer)]) {
     for (text, zeros, want) in rows {
-        let octets = padded(rt.alloc(), text, *zeros)?;
+        let octets = padded(rt, text, *zeros);
         let found = Ipv4::read(octets.as_slice()).map(|view| view.octets().len());
         assert!(rt; found == *want, "{text} and {zeros} zeros");
     }
-    Ok(())
 }
 
 #[test]
-fn packets_are_tested_in_order(rt: HostRuntime) -> Result<(), Fail> {
+fn packets_are_tested_in_order(rt: HostRuntime) {
     packets_are_read(
         &rt,
         &[
@@ -226,9 +219,9 @@ fn packets_are_tested_in_order(rt: HostRuntime) -> Result<(), Fail> {
 }
 
 #[test]
-fn packets_have_fields(rt: HostRuntime) -> Result<(), Fail> {
-    let octets = padded(rt.alloc(), "45100017abcd20050763d29f0a0000010a000102", 3)?;
-    let view = Ipv4::read(octets.as_slice())?;
+fn packets_have_fields(rt: HostRuntime) {
+    let octets = padded(&rt, "45100017abcd20050763d29f0a0000010a000102", 3);
+    let view = Ipv4::read(octets.as_slice()).expect(&rt, "it succeeds");
     let found = [
         u64::from(view.ihl()),
         u64::from(view.type_of_service()),
@@ -247,13 +240,12 @@ fn packets_have_fields(rt: HostRuntime) -> Result<(), Fail> {
         &found,
         &[5, 16, 23, 0xabcd, 1, 5, 1, 7, 99, 0xd29f],
     );
-    Ok(())
 }
 
 #[test]
-fn packets_have_addresses(rt: HostRuntime) -> Result<(), Fail> {
-    let octets = padded(rt.alloc(), "45000073000040004011b861c0a80001c0a800c7", 95)?;
-    let view = Ipv4::read(octets.as_slice())?;
+fn packets_have_addresses(rt: HostRuntime) {
+    let octets = padded(&rt, "45000073000040004011b861c0a80001c0a800c7", 95);
+    let view = Ipv4::read(octets.as_slice()).expect(&rt, "it succeeds");
     eq_octets(&rt, "source", &view.source().octets(), &[192, 168, 0, 1]);
     eq_octets(
         &rt,
@@ -263,53 +255,41 @@ fn packets_have_addresses(rt: HostRuntime) -> Result<(), Fail> {
     );
     eq_number(&rt, "flags", u64::from(view.flags()), 2);
     holds(&rt, "no more fragments", !view.more_fragments());
-    Ok(())
 }
 
 #[test]
-fn packets_have_parts(rt: HostRuntime) -> Result<(), Fail> {
-    let octets = padded(
-        rt.alloc(),
-        "4600002c000000004063626c0a0000010a00010201010100",
-        20,
-    )?;
-    let view = Ipv4::read(octets.as_slice())?;
+fn packets_have_parts(rt: HostRuntime) {
+    let octets = padded(&rt, "4600002c000000004063626c0a0000010a00010201010100", 20);
+    let view = Ipv4::read(octets.as_slice()).expect(&rt, "it succeeds");
     eq_octets(&rt, "options", view.options(), &[1, 1, 1, 0]);
     eq_number(&rt, "words", u64::from(view.ihl()), 6);
     eq_number(&rt, "header", view.header().len() as u64, 24);
     eq_number(&rt, "payload", view.payload().len() as u64, 20);
-    Ok(())
 }
 
 /// A packet, with so many zeros behind it, has this header where its time to live is one lower.
-fn is_lowered_to(
-    rt: &(impl Abort + AllocGlobal),
-    text: &str,
-    zeros: usize,
-    want: &str,
-) -> Result<(), Fail> {
-    let octets = padded(rt.alloc(), text, zeros)?;
-    let want = padded(rt.alloc(), want, zeros)?;
-    let view = Ipv4::read(octets.as_slice())?;
+fn is_lowered_to(rt: &(impl Abort + AllocGlobal), text: &str, zeros: usize, want: &str) {
+    let octets = padded(rt, text, zeros);
+    let want = padded(rt, want, zeros);
+    let view = Ipv4::read(octets.as_slice()).expect(rt, "it succeeds");
     assert!(rt; view.time_to_live() >= 1);
     let mut buffer = PacketBuffer::new(rt.alloc());
-    let lowered = lower_ttl(rt.alloc(), &mut buffer, &view)?;
+    let lowered = lower_ttl(rt.alloc(), &mut buffer, &view).expect(rt, "it succeeds");
     eq_octets(rt, text, lowered.octets(), want.as_slice());
-    Ok(())
 }
 
 #[test]
-fn packets_lose_one_hop(rt: HostRuntime) -> Result<(), Fail> {
+fn packets_lose_one_hop(rt: HostRuntime) {
     let zero = "45000064a4870000011100000a0000010a000102";
     // the checksum becomes 0000 and not ffff
-    is_lowered_to(&rt, "45000064a48700000211feff0a0000010a000102", 80, zero)?;
-    is_lowered_to(&rt, zero, 80, "45000064a4870000001101000a0000010a000102")?;
+    is_lowered_to(&rt, "45000064a48700000211feff0a0000010a000102", 80, zero);
+    is_lowered_to(&rt, zero, 80, "45000064a4870000001101000a0000010a000102");
     is_lowered_to(
         &rt,
         "4500006400000000401165870a0000010a000102",
         80,
         "45000064000000003f1166870a0000010a000102",
-    )?;
+    );
     is_lowered_to(
         &rt,
         "4600002c000000004063626c0a0000010a00010201010100",
@@ -319,34 +299,28 @@ fn packets_lose_one_hop(rt: HostRuntime) -> Result<(), Fail> {
 }
 
 /// Of a packet, with so many zeros behind it, so many octets are quoted.
-fn is_quoted(
-    rt: &(impl Abort + AllocGlobal),
-    text: &str,
-    zeros: usize,
-    count: usize,
-) -> Result<(), Fail> {
-    let octets = padded(rt.alloc(), text, zeros)?;
-    let view = Ipv4::read(octets.as_slice())?;
-    let quoted = quote(rt.alloc(), &view)?;
-    let want = octets.as_slice().get(..count).ok_or("fewer octets")?;
+fn is_quoted(rt: &(impl Abort + AllocGlobal), text: &str, zeros: usize, count: usize) {
+    let octets = padded(rt, text, zeros);
+    let view = Ipv4::read(octets.as_slice()).expect(rt, "it succeeds");
+    let quoted = quote(rt.alloc(), &view).expect(rt, "it succeeds");
+    let want = octets.as_slice().get(..count).expect(rt, "fewer octets");
     eq_octets(rt, text, quoted.as_slice(), want);
-    Ok(())
 }
 
 #[test]
-fn packets_are_quoted(rt: HostRuntime) -> Result<(), Fail> {
+fn packets_are_quoted(rt: HostRuntime) {
     is_quoted(
         &rt,
         "4600002c000000004063626c0a0000010a00010201010100",
         20,
         32,
-    )?;
+    );
     is_quoted(
         &rt,
         "4600001b000000004063627d0a0000010a00010201010100",
         3,
         27,
-    )?;
+    );
     is_quoted(&rt, "45000073000040004011b861c0a80001c0a800c7", 95, 28)
 }
 
@@ -362,17 +336,16 @@ fn header(time_to_live: u8, protocol: u8, source: [u8; 4], destination: [u8; 4])
 }
 
 #[test]
-fn packets_are_written(rt: HostRuntime) -> Result<(), Fail> {
+fn packets_are_written(rt: HostRuntime) {
     let payload = [0x03, 0xe8, 0x00, 0x09, 0x00, 0x50, 0xe6, 0x5a];
     let header = header(1, 17, [10, 0, 0, 1], [10, 0, 1, 2]);
-    let packet = write_ipv4(rt.alloc(), &header, &payload)?;
+    let packet = write_ipv4(rt.alloc(), &header, &payload).expect(&rt, "it succeeds");
     let want = padded(
-        rt.alloc(),
+        &rt,
         "4500001c000000000111a4cf0a0000010a00010203e800090050e65a",
         0,
-    )?;
+    );
     eq_octets(&rt, "a packet", packet.octets(), want.as_slice());
-    Ok(())
 }
 
 fn ports() -> Ports {
@@ -383,21 +356,23 @@ fn ports() -> Ports {
 }
 
 #[test]
-fn packets_are_written_with_a_datagram(rt: HostRuntime) -> Result<(), Fail> {
+fn packets_are_written_with_a_datagram(rt: HostRuntime) {
     let header = header(1, 17, [10, 0, 0, 1], [10, 0, 1, 2]);
-    let packet = Udp::write_packet(rt.alloc(), &header, ports(), &[0; 72])?;
+    let packet = Udp::write_packet(rt.alloc(), &header, ports(), &[0; 72]).expect(
+        &rt,
+        "it succeeds",
+    );
     let want = padded(
-        rt.alloc(),
+        &rt,
         "45000064000000000111a4870a0000010a00010203e800090050e65a",
         72,
-    )?;
+    );
     eq_octets(&rt, "a packet", packet.octets(), want.as_slice());
-    Ok(())
 }
 
 /// A router's answer to a packet that may live no longer.
 #[test]
-fn packets_are_written_with_a_message(rt: HostRuntime) -> Result<(), Fail> {
+fn packets_are_written_with_a_message(rt: HostRuntime) {
     let quoted = b"\x45\x00\x00\x64\x00\x00\x00\x00\x01\x11\xa4\x87\x0a\x00\x00\x01\
 \x0a\x00\x01\x02\x03\xe8\x00\x09\x00\x50\xe6\x5a";
     let header = header(64, 1, [10, 0, 0, 2], [10, 0, 0, 1]);
@@ -405,15 +380,17 @@ fn packets_are_written_with_a_message(rt: HostRuntime) -> Result<(), Fail> {
         message_type: 11,
         code: 0,
     };
-    let error = Icmp::write_packet(rt.alloc(), &header, kind, [0; 4], quoted)?;
+    let error = Icmp::write_packet(rt.alloc(), &header, kind, [0; 4], quoted).expect(
+        &rt,
+        "it succeeds",
+    );
     let want = padded(
-        rt.alloc(),
+        &rt,
         "4500003800000000400166c30a0000020a0000010b000a6400000000\
 45000064000000000111a4870a0000010a00010203e800090050e65a",
         0,
-    )?;
+    );
     eq_octets(&rt, "an error", error.octets(), want.as_slice());
-    Ok(())
 }
 
 fn source() -> Address {
@@ -425,28 +402,30 @@ fn destination() -> Address {
 }
 
 /// A datagram of these data has these octets.
-fn datagram_is(rt: &(impl Abort + AllocGlobal), data: &[u8], want: &[u8]) -> Result<(), Fail> {
+fn datagram_is(rt: &(impl Abort + AllocGlobal), data: &[u8], want: &[u8]) {
     assert!(rt; data.len() <= 2);
-    let octets = Udp::write(rt.alloc(), source(), destination(), ports(), data)?;
+    let octets = Udp::write(rt.alloc(), source(), destination(), ports(), data).expect(
+        rt,
+        "it succeeds",
+    );
     eq_octets(rt, "a datagram", octets.as_slice(), want);
-    Ok(())
 }
 
 #[test]
-fn datagrams_are_written(rt: HostRuntime) -> Result<(), Fail> {
+fn datagrams_are_written(rt: HostRuntime) {
     datagram_is(
         &rt,
         b"\xe7\xe6",
         b"\x03\xe8\x00\x09\x00\x0a\xff\xff\xe7\xe6",
-    )?;
-    datagram_is(&rt, b"\xab", b"\x03\xe8\x00\x09\x00\x09\x3c\xe8\xab")?;
+    );
+    datagram_is(&rt, b"\xab", b"\x03\xe8\x00\x09\x00\x09\x3c\xe8\xab");
     datagram_is(&rt, b"", b"\x03\xe8\x00\x09\x00\x08\xe7\xea")
 }
 
 #[test]
-fn datagrams_have_fields(rt: HostRuntime) -> Result<(), Fail> {
+fn datagrams_have_fields(rt: HostRuntime) {
     let octets = b"\x03\xe8\x00\x09\x00\x0a\xff\xff\xe7\xe6";
-    let view = Udp::read(source(), destination(), octets)?;
+    let view = Udp::read(source(), destination(), octets).expect(&rt, "it succeeds");
     let found = [
         u64::from(view.source_port()),
         u64::from(view.destination_port()),
@@ -455,26 +434,21 @@ fn datagrams_have_fields(rt: HostRuntime) -> Result<(), Fail> {
     ];
     eq_numbers(&rt, "fields", &found, &[1000, 9, 10, 0xffff]);
     eq_octets(&rt, "data", view.data(), &[0xe7, 0xe6]);
-    Ok(())
 }
 
 /// How many octets of data a datagram has, or its fault.
 type UdpAnswer = Result<usize, UdpFault>;
 
-fn datagrams_are_read(
-    rt: &(impl Abort + AllocGlobal),
-    rows: &[(&str, UdpAnswer)],
-) -> Result<(), Fail> {
+fn datagrams_are_read(rt: &(impl Abort + AllocGlobal), rows: &[(&str, UdpAnswer)]) {
     for (text, want) in rows {
-        let octets = padded(rt.alloc(), text, 0)?;
+        let octets = padded(rt, text, 0);
         let found = Udp::read(source(), destination(), octets.as_slice());
         assert!(rt; found.map(|view| view.data().len()) == *want, "{text}");
     }
-    Ok(())
 }
 
 #[test]
-fn datagrams_are_tested_in_order(rt: HostRuntime) -> Result<(), Fail> {
+fn datagrams_are_tested_in_order(rt: HostRuntime) {
     datagrams_are_read(
         &rt,
         &[
@@ -496,9 +470,9 @@ fn datagrams_are_tested_in_order(rt: HostRuntime) -> Result<(), Fail> {
 }
 
 #[test]
-fn messages_have_fields(rt: HostRuntime) -> Result<(), Fail> {
+fn messages_have_fields(rt: HostRuntime) {
     let octets = b"\x08\x00\xf7\xf8\x00\x07\x00\x00";
-    let view = Icmp::read(octets)?;
+    let view = Icmp::read(octets).expect(&rt, "it succeeds");
     let found = [
         u64::from(view.message_type()),
         u64::from(view.code()),
@@ -510,26 +484,21 @@ fn messages_have_fields(rt: HostRuntime) -> Result<(), Fail> {
     eq_octets(&rt, "rest", &view.rest(), &[0, 7, 0, 0]);
     eq_number(&rt, "data", view.data().len() as u64, 0);
     eq_octets(&rt, "octets", view.octets(), octets);
-    Ok(())
 }
 
 /// How many octets of data a message has, or its fault.
 type IcmpAnswer = Result<usize, IcmpFault>;
 
-fn messages_are_read(
-    rt: &(impl Abort + AllocGlobal),
-    rows: &[(&str, IcmpAnswer)],
-) -> Result<(), Fail> {
+fn messages_are_read(rt: &(impl Abort + AllocGlobal), rows: &[(&str, IcmpAnswer)]) {
     for (text, want) in rows {
-        let octets = padded(rt.alloc(), text, 0)?;
+        let octets = padded(rt, text, 0);
         let found = Icmp::read(octets.as_slice());
         assert!(rt; found.map(|view| view.data().len()) == *want, "{text}");
     }
-    Ok(())
 }
 
 #[test]
-fn messages_are_tested_in_order(rt: HostRuntime) -> Result<(), Fail> {
+fn messages_are_tested_in_order(rt: HostRuntime) {
     messages_are_read(
         &rt,
         &[
@@ -552,26 +521,25 @@ fn message_is(
     rest: [u8; 4],
     data: &[u8],
     want: &[u8],
-) -> Result<(), Fail> {
+) {
     assert!(rt; data.len() <= 1);
     let kind = MessageKind { message_type, code };
-    let octets = Icmp::write(rt.alloc(), kind, rest, data)?;
+    let octets = Icmp::write(rt.alloc(), kind, rest, data).expect(rt, "it succeeds");
     eq_octets(rt, "a message", octets.as_slice(), want);
-    Ok(())
 }
 
 #[test]
-fn messages_are_written(rt: HostRuntime) -> Result<(), Fail> {
+fn messages_are_written(rt: HostRuntime) {
     let rest = [0, 7, 0, 0];
-    message_is(&rt, (8, 0), rest, b"", b"\x08\x00\xf7\xf8\x00\x07\x00\x00")?;
-    message_is(&rt, (0, 0), rest, b"", b"\x00\x00\xff\xf8\x00\x07\x00\x00")?;
+    message_is(&rt, (8, 0), rest, b"", b"\x08\x00\xf7\xf8\x00\x07\x00\x00");
+    message_is(&rt, (0, 0), rest, b"", b"\x00\x00\xff\xf8\x00\x07\x00\x00");
     message_is(
         &rt,
         (8, 0),
         rest,
         b"\xab",
         b"\x08\x00\x4c\xf8\x00\x07\x00\x00\xab",
-    )?;
+    );
     message_is(
         &rt,
         (3, 3),

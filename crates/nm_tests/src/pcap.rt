@@ -1,16 +1,14 @@
 //! `nm_pcap`: a sink that fails after so many octets holds exactly these, and the octets of headers
 //! at the ends of their ranges.
 
-ghost use Rattle.std.specs.Prelude.{◌≡◌, ◌≤◌, IfOk};
+ghost use Rattle.std.specs.Prelude.{◌≡◌, ◌≤◌};
 
 use crate::same::{eq_octets, holds};
 use bytes::Bytes;
 use nm_base::{Dir, IfaceNo, MemSink, Packet, Record, StdSink, Time};
 use nm_pcap::{PcapFault, PcapOut};
-use std::alloc::{AllocError, Global};
 use std::io::{self, Write};
 use std::process::Abort;
-use std::test::Fail;
 
 /// The file header; a record's header at time 0; and the packet, but for its 72 zero octets.
 const FILE_HEADER: [u8; 24] = [
@@ -28,32 +26,36 @@ const PACKET_HEADERS: [u8; 28] = [
 ];
 
 /// The record of a packet of these octets at this time.
-fn record_of(alloc: Global, nanoseconds: u64, octets: &[u8]) -> Result<Record, Fail>
-    ensures { IfOk result (λ r. r.time ≡ nanoseconds) }
+fn record_of(rt: &(impl Abort + AllocGlobal), nanoseconds: u64, octets: &[u8]) -> Record
+    ensures { result.time ≡ nanoseconds }
 {
-    let packet = Packet::new(Bytes::copy_from_slice(alloc, octets)?);
-    Ok(Record {
+    let packet = Packet::new(Bytes::copy_from_slice(rt.alloc(), octets).expect(rt, "it succeeds"));
+    Record {
         time: Time::from_nanoseconds(nanoseconds),
         iface: IfaceNo::new(0),
         dir: Dir::Out,
-        packet: packet.ok_or("from 1 to 65,535 octets")?,
-    })
+        packet: packet.expect(rt, "from 1 to 65,535 octets"),
+    }
 }
 
 /// The octets of the packet.
-fn packet_octets(alloc: Global) -> Result<Vec<u8>, Fail> {
-    let mut octets = Vec::from_slice(alloc, &PACKET_HEADERS)?;
-    octets.extend_from_slice(&[0; 72])?;
-    Ok(octets)
+fn packet_octets(rt: &(impl Abort + AllocGlobal)) -> Vec<u8> {
+    let mut octets = Vec::from_slice(rt.alloc(), &PACKET_HEADERS).expect(rt, "it succeeds");
+    octets.extend_from_slice(&[0; 72]).expect(rt, "it succeeds");
+    octets
 }
 
 /// The whole file of the packet at time 0.
-fn file(alloc: Global) -> Result<Vec<u8>, Fail> {
-    let mut octets = Vec::from_slice(alloc, &FILE_HEADER)?;
-    octets.extend_from_slice(&RECORD_HEADER)?;
-    octets.extend_from_slice(&PACKET_HEADERS)?;
-    octets.extend_from_slice(&[0; 72])?;
-    Ok(octets)
+fn file(rt: &(impl Abort + AllocGlobal)) -> Vec<u8> {
+    let mut octets = Vec::from_slice(rt.alloc(), &FILE_HEADER).expect(rt, "it succeeds");
+    octets
+        .extend_from_slice(&RECORD_HEADER)
+        .expect(rt, "it succeeds");
+    octets
+        .extend_from_slice(&PACKET_HEADERS)
+        .expect(rt, "it succeeds");
+    octets.extend_from_slice(&[0; 72]).expect(rt, "it succeeds");
+    octets
 }
 
 /// What a sink of this budget answers to the header and to the record.
@@ -68,12 +70,12 @@ fn answers_at(budget: usize) -> (Result<(), PcapFault>, Result<(), PcapFault>) {
 }
 
 /// A sink of this budget has a prefix of the file, and the writer says so once.
-fn is_cut(rt: &(impl Abort + AllocGlobal), record: &Record, front: &[u8]) -> Result<(), AllocError>
+fn is_cut(rt: &(impl Abort + AllocGlobal), record: &Record, front: &[u8])
     requires { «record».now.time ≡ 0 }
 {
     let budget = front.len();
     let (start, put) = answers_at(budget);
-    let mut out = PcapOut::new(MemSink::new(rt.alloc(), budget)?);
+    let mut out = PcapOut::new(MemSink::new(rt.alloc(), budget).expect(rt, "it succeeds"));
     assert!(rt; out.start() == start, "budget {budget}");
     assert!(rt; out.put(record) == put, "budget {budget}");
     if budget < 140 {
@@ -81,19 +83,17 @@ fn is_cut(rt: &(impl Abort + AllocGlobal), record: &Record, front: &[u8]) -> Res
         assert!(rt; again == Err(PcapFault::Failed), "budget {budget}");
     }
     eq_octets(rt, "a prefix", out.sink().octets(), front);
-    Ok(())
 }
 
 #[test]
-fn each_budget(rt: HostRuntime) -> Result<(), Fail> {
-    let octets = packet_octets(rt.alloc())?;
-    let record = record_of(rt.alloc(), 0, octets.as_slice())?;
-    let whole = file(rt.alloc())?;
+fn each_budget(rt: HostRuntime) {
+    let octets = packet_octets(&rt);
+    let record = record_of(&rt, 0, octets.as_slice());
+    let whole = file(&rt);
     assert!(rt; whole.len() == 140);
     for budget in 0..=140 {
-        is_cut(&rt, &record, &whole.as_slice()[..budget])?;
+        is_cut(&rt, &record, &whole.as_slice()[..budget]);
     }
-    Ok(())
 }
 
 /// Takes one octet a call.
@@ -117,10 +117,10 @@ impl Write for Slow {
 }
 
 #[test]
-fn one_octet_a_call(rt: HostRuntime) -> Result<(), Fail> {
-    let octets = packet_octets(rt.alloc())?;
-    let record = record_of(rt.alloc(), 0, octets.as_slice())?;
-    let whole = file(rt.alloc())?;
+fn one_octet_a_call(rt: HostRuntime) {
+    let octets = packet_octets(&rt);
+    let record = record_of(&rt, 0, octets.as_slice());
+    let whole = file(&rt);
     let slow = Slow {
         octets: Vec::new(rt.alloc()),
     };
@@ -129,17 +129,16 @@ fn one_octet_a_call(rt: HostRuntime) -> Result<(), Fail> {
     holds(&rt, "the record", out.put(&record) == Ok(()));
     let found = out.sink().writer().octets.as_slice();
     eq_octets(&rt, "the file", found, whole.as_slice());
-    Ok(())
 }
 
 /// The file of one record.
-fn file_of(rt: &(impl Abort + AllocGlobal), record: &Record) -> Result<PcapOut<MemSink>, AllocError>
+fn file_of(rt: &(impl Abort + AllocGlobal), record: &Record) -> PcapOut<MemSink>
     requires { «record».now.time ≤ 1000000000000000 }
 {
-    let mut out = PcapOut::new(MemSink::new(rt.alloc(), 65_575)?);
+    let mut out = PcapOut::new(MemSink::new(rt.alloc(), 65_575).expect(rt, "it succeeds"));
     holds(rt, "the header", out.start() == Ok(()));
     holds(rt, "the record", out.put(record) == Ok(()));
-    Ok(out)
+    out
 }
 
 /// The record of so many octets at this time has this header.
@@ -148,34 +147,33 @@ fn record_header_is(
     nanoseconds: u64,
     count: usize,
     header: &[u8; 16],
-) -> Result<(), Fail>
+)
     requires { nanoseconds ≤ 1000000000000000 }
 {
-    let octets = vec![in rt.alloc(); 7u8; count]?;
-    let record = record_of(rt.alloc(), nanoseconds, octets.as_slice())?;
-    let out = file_of(rt, &record)?;
+    let octets = vec![in rt.alloc(); 7u8; count].expect(rt, "it succeeds");
+    let record = record_of(rt, nanoseconds, octets.as_slice());
+    let out = file_of(rt, &record);
     let file = out.sink().octets();
     assert!(rt; file.len() >= 40);
     eq_octets(rt, "header", &file[24..40], header);
     eq_octets(rt, "packet", &file[40..], octets.as_slice());
-    Ok(())
 }
 
 #[test]
-fn record_headers(rt: HostRuntime) -> Result<(), Fail> {
+fn record_headers(rt: HostRuntime) {
     record_header_is(
         &rt,
         1_100_000,
         100,
         &[0, 0, 0, 0, 0xe0, 0xc8, 0x10, 0, 100, 0, 0, 0, 100, 0, 0, 0],
-    )?;
+    );
     // 10^15 nanoseconds are 10^6 seconds
     record_header_is(
         &rt,
         1_000_000_000_000_000,
         1,
         &[0x40, 0x42, 0x0f, 0, 0, 0, 0, 0, 1, 0, 0, 0, 1, 0, 0, 0],
-    )?;
+    );
     // one nanosecond less, and the longest packet
     record_header_is(
         &rt,

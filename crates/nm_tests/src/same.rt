@@ -2,7 +2,6 @@
 
 use std::fmt::Display;
 use std::process::Abort;
-use std::test::Fail;
 
 /// A fact holds.
 pub fn holds(rt: &impl Abort, what: &str, fact: bool) {
@@ -30,12 +29,7 @@ pub fn eq_text(rt: &impl Abort, found: &str, want: &str) {
 }
 
 /// A value is shown by this text.
-pub fn eq_shown<D: Display + Drop>(
-    rt: &(impl Abort + AllocGlobal),
-    shown: D,
-    want: &str,
-) -> Result<(), Fail> {
-    let found = shown.to_string(rt.alloc())?;
+pub fn eq_shown<D: Display + Drop>(rt: &(impl Abort + AllocGlobal), shown: D, want: &str) {
+    let found = shown.to_string(rt.alloc()).expect(rt, "it succeeds");
     eq_text(rt, found.as_str(), want);
-    Ok(())
 }

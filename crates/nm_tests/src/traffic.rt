@@ -4,14 +4,12 @@ use crate::same::eq_octets;
 use nm_base::{SourceNo, Time};
 use nm_topology::Topology;
 use nm_traffic::{Source, SourcePacket};
-use std::alloc::Global;
 use std::process::Abort;
-use std::test::Fail;
 
 /// Two hosts and one link; the run stops at this time. What follows in a text are tables of
 /// sources.
-fn network(alloc: Global, stop: u64, sources: &str) -> Result<String, Fail> {
-    Ok(format!(in alloc;
+fn network(rt: &(impl Abort + AllocGlobal), stop: u64, sources: &str) -> String {
+    format!(in rt.alloc();
         r#"format = 1
 stop = {stop}
 mtu = 1500
@@ -40,65 +38,55 @@ rate = 8000000
 delay = 1000000
 {sources}
 "#
-    )?)
+    )
+    .expect(rt, "it succeeds")
 }
 
 /// The source with this number of a network that has these sources and stops at this time.
-fn source_of(alloc: Global, stop: u64, sources: &str, number: u32) -> Result<Source, Fail> {
-    let text = network(alloc, stop, sources)?;
-    let topology = Topology::read(alloc, text.as_str().as_bytes())?;
+fn source_of(rt: &(impl Abort + AllocGlobal), stop: u64, sources: &str, number: u32) -> Source {
+    let text = network(rt, stop, sources);
+    let topology = Topology::read(rt.alloc(), text.as_str().as_bytes()).expect(rt, "it succeeds");
     let number = SourceNo::new(number);
     if number.index() >= topology.sources().len() {
-        return Err("there is no such source".into());
+        panic!(rt; "there is no such source");
     }
-    Ok(Source::new(alloc, &topology, number)?)
+    Source::new(rt.alloc(), &topology, number).expect(rt, "it succeeds")
 }
 
 /// Rows of a packet's number, and of its time where there is one.
-fn come_at(
-    rt: &(impl Abort + AllocGlobal),
-    source: &Source,
-    rows: &[(u64, Option<u64>)],
-) -> Result<(), Fail> {
+fn come_at(rt: &(impl Abort + AllocGlobal), source: &Source, rows: &[(u64, Option<u64>)]) {
     for (number, want) in rows {
-        let packet = source.next(rt.alloc(), *number)?;
+        let packet = source.next(rt.alloc(), *number).expect(rt, "it succeeds");
         let found = packet.map(|(time, _)| time.nanoseconds());
         assert!(rt; found == *want, "packet {number}");
     }
-    Ok(())
 }
 
 /// Packet `number`, which has to be there, and its time.
-fn packet_of(alloc: Global, source: &Source, number: u64) -> Result<(Time, SourcePacket), Fail> {
-    match source.next(alloc, number)? {
-        Some(packet) => Ok(packet),
-        None => Err("there is no such packet".into()),
+fn packet_of(
+    rt: &(impl Abort + AllocGlobal),
+    source: &Source,
+    number: u64,
+) -> (Time, SourcePacket) {
+    match source.next(rt.alloc(), number).expect(rt, "it succeeds") {
+        Some(packet) => packet,
+        None => panic!(rt; "there is no such packet"),
     }
 }
 
 /// A packet has these octets, in hexadecimal.
-fn packet_is(
-    rt: &(impl Abort + AllocGlobal),
-    packet: SourcePacket,
-    octets: &str,
-) -> Result<(), Fail> {
-    let want = hex::decode(rt.alloc(), octets)?;
+fn packet_is(rt: &(impl Abort + AllocGlobal), packet: SourcePacket, octets: &str) {
+    let want = hex::decode(rt.alloc(), octets).expect(rt, "it succeeds");
     eq_octets(rt, octets, packet.into_packet().octets(), want.as_slice());
-    Ok(())
 }
 
 /// Rows of a packet's number, of its time, and of its octets in hexadecimal.
-fn packets_are(
-    rt: &(impl Abort + AllocGlobal),
-    source: &Source,
-    rows: &[(u64, u64, &str)],
-) -> Result<(), Fail> {
+fn packets_are(rt: &(impl Abort + AllocGlobal), source: &Source, rows: &[(u64, u64, &str)]) {
     for (number, time, octets) in rows {
-        let (at, packet) = packet_of(rt.alloc(), source, *number)?;
+        let (at, packet) = packet_of(rt, source, *number);
         assert!(rt; at.nanoseconds() == *time, "packet {number}");
-        packet_is(rt, packet, octets)?;
+        packet_is(rt, packet, octets);
     }
-    Ok(())
 }
 
 /// Three packets of three octets.
@@ -117,13 +105,13 @@ count = 3
 "#;
 
 #[test]
-fn datagrams(rt: HostRuntime) -> Result<(), Fail> {
-    let source = source_of(rt.alloc(), 1_000, THREE, 0)?;
+fn datagrams(rt: HostRuntime) {
+    let source = source_of(&rt, 1_000, THREE, 0);
     packets_are(
         &rt,
         &source,
         &[(0, 5, "070707"), (1, 15, "070707"), (2, 25, "070707")],
-    )?;
+    );
     come_at(&rt, &source, &[(3, None), (4, None), (u64::MAX, None)])
 }
 
@@ -132,16 +120,15 @@ fn come_before(
     rt: &(impl Abort + AllocGlobal),
     sources: &str,
     rows: &[(u64, &[(u64, Option<u64>)])],
-) -> Result<(), Fail> {
+) {
     for (stop, packets) in rows {
-        let source = source_of(rt.alloc(), *stop, sources, 0)?;
-        come_at(rt, &source, packets)?;
+        let source = source_of(rt, *stop, sources, 0);
+        come_at(rt, &source, packets);
     }
-    Ok(())
 }
 
 #[test]
-fn datagrams_when_the_run_stops(rt: HostRuntime) -> Result<(), Fail> {
+fn datagrams_when_the_run_stops(rt: HostRuntime) {
     come_before(
         &rt,
         THREE,
@@ -171,9 +158,9 @@ count = 2
 "#;
 
 #[test]
-fn datagrams_without_data(rt: HostRuntime) -> Result<(), Fail> {
-    let source = source_of(rt.alloc(), 1, NO_DATA, 0)?;
-    packets_are(&rt, &source, &[(0, 0, "00")])?;
+fn datagrams_without_data(rt: HostRuntime) {
+    let source = source_of(&rt, 1, NO_DATA, 0);
+    packets_are(&rt, &source, &[(0, 0, "00")]);
     come_at(&rt, &source, &[(1, None)])
 }
 
@@ -194,8 +181,8 @@ count = 1000000000
 "#;
 
 #[test]
-fn datagrams_past_64_bits(rt: HostRuntime) -> Result<(), Fail> {
-    let source = source_of(rt.alloc(), 1_000_000_000_000_000, FAR, 0)?;
+fn datagrams_past_64_bits(rt: HostRuntime) {
+    let source = source_of(&rt, 1_000_000_000_000_000, FAR, 0);
     come_at(
         &rt,
         &source,
@@ -233,8 +220,8 @@ count = 65538
 
 /// The sequence number begins anew after 65,536 requests.
 #[test]
-fn requests(rt: HostRuntime) -> Result<(), Fail> {
-    let source = source_of(rt.alloc(), 1_000_000, REQUESTS, 1)?;
+fn requests(rt: HostRuntime) {
+    let source = source_of(&rt, 1_000_000, REQUESTS, 1);
     packets_are(
         &rt,
         &source,
@@ -245,7 +232,7 @@ fn requests(rt: HostRuntime) -> Result<(), Fail> {
             (65_536, 65_636, "08008f1f12340000ababab"),
             (65_537, 65_637, "08008f1e12340001ababab"),
         ],
-    )?;
+    );
     come_at(
         &rt,
         &source,
@@ -267,8 +254,8 @@ count = 1
 "#;
 
 #[test]
-fn requests_without_data(rt: HostRuntime) -> Result<(), Fail> {
-    let source = source_of(rt.alloc(), 1, EMPTY, 0)?;
+fn requests_without_data(rt: HostRuntime) {
+    let source = source_of(&rt, 1, EMPTY, 0);
     packets_are(&rt, &source, &[(0, 0, "0800f7fe00010000")])
 }
 
@@ -282,18 +269,18 @@ packet = [ {at = 0, data = "45"}, {at = 3, data = "00ff"}, {at = 9, data = "0102
 "#;
 
 #[test]
-fn raw_packets(rt: HostRuntime) -> Result<(), Fail> {
-    let source = source_of(rt.alloc(), 10, RAW, 0)?;
+fn raw_packets(rt: HostRuntime) {
+    let source = source_of(&rt, 10, RAW, 0);
     packets_are(
         &rt,
         &source,
         &[(0, 0, "45"), (1, 3, "00ff"), (2, 9, "0102")],
-    )?;
+    );
     come_at(&rt, &source, &[(3, None), (u64::MAX, None)])
 }
 
 #[test]
-fn raw_packets_when_the_run_stops(rt: HostRuntime) -> Result<(), Fail> {
+fn raw_packets_when_the_run_stops(rt: HostRuntime) {
     come_before(
         &rt,
         RAW,

@@ -209,6 +209,15 @@ fn blocks_found<
     Ok(found)
 }
 
+/// Files by their names.
+fn files_of(alloc: Global, inputs: &[Input]) -> io::Result<Vec<(&str, &[u8])>> {
+    let mut files = Vec::new(alloc);
+    for input in inputs {
+        files.push((input.name.as_str(), input.octets.as_slice()))?;
+    }
+    Ok(files)
+}
+
 /// What a case shows, with these files.
 fn found_of<
     R: AllocGlobal
@@ -219,10 +228,7 @@ fn found_of<
         + Drop
         + Copy,
 >(rt: &R, standard: &[u8], inputs: &[Input], expected: &str) -> io::Result<String> {
-    let mut files = Vec::new(rt.alloc());
-    for input in inputs {
-        files.push((input.name.as_str(), input.octets.as_slice()))?;
-    }
+    let files = files_of(rt.alloc(), inputs)?;
     let given = Given {
         standard,
         files: files.as_slice(),
@@ -230,6 +236,23 @@ fn found_of<
         makes: MAX_FILES,
     };
     blocks_found(rt, given, expected)
+}
+
+/// What the case at a path shows.
+fn found_at<
+    R: Files
+        + AllocGlobal
+        + Net<Stream = std::net::TcpStream, Listener = std::net::TcpListener>
+        + std::thread::Threads
+        + Wait
+        + Sync
+        + Clone
+        + Drop
+        + Copy,
+>(rt: &R, stem: &str, expected: &str) -> io::Result<String> {
+    let inputs = inputs_of(rt, stem)?;
+    let standard = file_of(rt, stem, ".toml")?;
+    found_of(rt, &standard, &inputs, expected)
 }
 
 /// Runs the case of words at a path, which is without its end.
@@ -245,15 +268,8 @@ pub fn run_called_case<
         + Drop
         + Copy,
 >(rt: &R, stem: &str) -> io::Result<Tally> {
-    let inputs = inputs_of(rt, stem)?;
     let expected = expected_of(rt, stem)?;
-    let standard = file_of(rt, stem, ".toml")?;
-    let found = found_of(
-        rt,
-        standard.as_slice(),
-        inputs.as_slice(),
-        expected.as_str(),
-    )?;
+    let found = found_at(rt, stem, expected.as_str())?;
     let differs = differs(rt, stem, expected.as_str(), found.as_str())?;
     Ok(Tally::of_case(differs))
 }

@@ -1,6 +1,7 @@
 //! A text with another piece in the place of one of its pieces.
 
-use std::alloc::Global;
+use std::alloc::{AllocError, Global};
+use std::fmt::Write;
 use std::io;
 
 /// A change of a text.
@@ -42,4 +43,25 @@ pub fn changed(alloc: Global, text: &str, changes: &[Change]) -> io::Result<Stri
         text = change.made(alloc, text.as_str())?;
     }
     Ok(text)
+}
+
+/// Adds a piece with its number for each `#` in it, and for each `@` that number as two octets with
+/// a dot between them.
+fn push_numbered(text: &mut String, piece: &str, number: u32) -> Result<(), AllocError> {
+    for character in piece.chars() {
+        match character {
+            '#' => write!(text, "{number}")?,
+            '@' => write!(text, "{}.{}", number / 256, number % 256)?,
+            _ => text.push(character)?,
+        }
+    }
+    Ok(())
+}
+
+/// Adds a piece so many times, with the numbers from 0.
+pub fn push_times(text: &mut String, piece: &str, count: u32) -> Result<(), AllocError> {
+    for number in 0..count {
+        push_numbered(text, piece, number)?;
+    }
+    Ok(())
 }

@@ -52,6 +52,28 @@ fn counted(alloc: Global, expected: &str) -> io::Result<String> {
     Ok(lines)
 }
 
+/// The counters and drops that the report of the network at a path has.
+fn reported_at<
+    R: Files
+        + AllocGlobal
+        + Net<Stream = std::net::TcpStream, Listener = std::net::TcpListener>
+        + std::thread::Threads
+        + Wait
+        + Sync
+        + Drop
+        + Copy,
+>(rt: &R, stem: &str) -> io::Result<String> {
+    let topology = file_of(rt, stem, ".toml")?;
+    let ended = run_words(rt, &["report", "-", "csv"], topology.as_slice())?;
+    reported(rt.alloc(), text_in(&ended.out)?)
+}
+
+/// The counters and drops that the case at a path has.
+fn counted_at<R: Files + AllocGlobal>(rt: &R, stem: &str) -> io::Result<String> {
+    let expected = expected_of(rt, stem)?;
+    counted(rt.alloc(), expected.as_str())
+}
+
 /// Whether the report of the network at a path, which is without its end, differs from what it has.
 pub fn report_differs<
     R: Files
@@ -64,9 +86,7 @@ pub fn report_differs<
         + Drop
         + Copy,
 >(rt: &R, stem: &str) -> io::Result<bool> {
-    let topology = file_of(rt, stem, ".toml")?;
-    let ended = run_words(rt, &["report", "-", "csv"], topology.as_slice())?;
-    let found = reported(rt.alloc(), text_in(&ended.out)?)?;
-    let expected = counted(rt.alloc(), expected_of(rt, stem)?.as_str())?;
+    let found = reported_at(rt, stem)?;
+    let expected = counted_at(rt, stem)?;
     differs(rt, stem, expected.as_str(), found.as_str())
 }

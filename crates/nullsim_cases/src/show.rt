@@ -45,16 +45,23 @@ pub enum View {
     Files,
 }
 
+/// What tables call it.
+const NAMES: &[(&str, Show)] = &[
+    ("reading", Show::Reading),
+    ("network", Show::Network),
+    ("trace", Show::Run(View::Trace)),
+    ("counts", Show::Run(View::Counts)),
+];
+
 impl Show {
     /// What a table calls by this name.
     pub fn named(name: &str) -> Option<Show> {
-        match name {
-            "reading" => Some(Show::Reading),
-            "network" => Some(Show::Network),
-            "trace" => Some(Show::Run(View::Trace)),
-            "counts" => Some(Show::Run(View::Counts)),
-            _ => None,
+        for (other, show) in NAMES {
+            if *other == name {
+                return Some(*show);
+            }
         }
+        None
     }
 
     /// The lines that are shown of a text, of what was done before a time.

@@ -25,6 +25,7 @@
 //! | `old` | a piece of the text, which `new` replaces where it stands first |
 //! | `every` | a piece of the text, which `new` replaces wherever it stands |
 //! | `new` | what takes the place of the last piece, and may be nothing; of several such lines in a row, their lines |
+//! | `times` | a count, a space and a piece, which stands so many times behind the last `new`, with its number from 0 for each `#`, and that as two octets, as `1.44`, for each `@` |
 //! | `before` | a time in nanoseconds: what is shown is what was done before it, and before `stop` |
 //! | `>` | a line that is to be shown, in the order of what is shown |
 //!

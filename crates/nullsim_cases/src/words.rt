@@ -5,6 +5,7 @@ use nm_files::MemOutputs;
 use nm_files::mem_outputs::MemFile;
 use nm_program::{Means, MemInputs, NamedInputs, run};
 use nm_progress::Progress;
+use std::alloc::Global;
 use std::net::Net;
 use std::rt::Files;
 use std::sync::Wait;
@@ -49,6 +50,46 @@ pub fn text_in(sink: &MemSink) -> io::Result<&str> {
     str::from_utf8(sink.octets()).map_err(|_| io::Error::other("what was written is no text"))
 }
 
+/// Words, each a text of its own.
+fn owned(alloc: Global, words: &[&str]) -> io::Result<Vec<String>> {
+    let mut owned = Vec::new(alloc);
+    for word in words {
+        owned.push(String::from_str(alloc, word)?)?;
+    }
+    Ok(owned)
+}
+
+/// Runs the program with these words: its exit status, and standard output.
+fn run_program<
+    R: AllocGlobal
+        + Net<Stream = std::net::TcpStream, Listener = std::net::TcpListener>
+        + std::thread::Threads
+        + Wait
+        + Sync
+        + Drop
+        + Copy,
+>(
+    rt: &R,
+    words: &[String],
+    given: Given,
+    outputs: &mut MemOutputs,
+    out: MemSink,
+    errors: &mut MemSink,
+) -> (u8, MemSink) {
+    let mut inputs = NamedInputs::new(MemInputs {
+        standard: given.standard,
+        files: given.files,
+    });
+    let progress = Progress::new();
+    let means = Means {
+        rt,
+        alloc: rt.alloc(),
+        progress: &progress,
+    };
+    let (status, out) = run(&means, words, &mut inputs, outputs, out, errors);
+    (status.code(), out)
+}
+
 /// Runs the program with these words.
 pub fn run_given<
     R: AllocGlobal
@@ -60,14 +101,9 @@ pub fn run_given<
         + Copy,
 >(rt: &R, words: &[&str], given: Given) -> io::Result<Ended> {
     let alloc = rt.alloc();
-    let mut owned = Vec::new(alloc);
-    for word in words {
-        owned.push(String::from_str(alloc, word)?)?;
-    }
-    let mut inputs = NamedInputs::new(MemInputs {
-        standard: given.standard,
-        files: given.files,
-    });
+    let words = owned(alloc, words)?;
+    let out = MemSink::new(alloc, given.room)?;
+    let mut errors = MemSink::new(alloc, MAX_ERROR_OCTETS)?;
     let mut outputs = MemOutputs {
         alloc,
         file_octets: MAX_FILE_OCTETS,
@@ -75,24 +111,9 @@ pub fn run_given<
         places: given.makes,
         files: Vec::new(alloc),
     };
-    let out = MemSink::new(alloc, given.room)?;
-    let mut errors = MemSink::new(alloc, MAX_ERROR_OCTETS)?;
-    let progress = Progress::new();
-    let means = Means {
-        rt,
-        alloc,
-        progress: &progress,
-    };
-    let (status, out) = run(
-        &means,
-        owned.as_slice(),
-        &mut inputs,
-        &mut outputs,
-        out,
-        &mut errors,
-    );
+    let (code, out) = run_program(rt, &words, given, &mut outputs, out, &mut errors);
     Ok(Ended {
-        code: status.code(),
+        code,
         out,
         errors,
         files: outputs.files,

@@ -1,11 +1,41 @@
 //! Reading the lines of a table.
 
-use crate::change::Change;
+use crate::change::{Change, push_times};
 use crate::compare::push_line;
 use crate::show::Show;
 use nm_base::Time;
 use std::alloc::{AllocError, Global};
 use std::io;
+
+/// The keys of a case.
+#[derive(Clone, Copy)]
+enum Key {
+    Old,
+    Every,
+    New,
+    Times,
+    Before,
+    Shown,
+}
+
+const KEYS: &[(&str, Key)] = &[
+    ("old", Key::Old),
+    ("every", Key::Every),
+    ("new", Key::New),
+    ("times", Key::Times),
+    ("before", Key::Before),
+    (">", Key::Shown),
+];
+
+/// The key of this name.
+fn key_of(name: &str) -> Option<Key> {
+    for (other, key) in KEYS {
+        if *other == name {
+            return Some(*key);
+        }
+    }
+    None
+}
 
 /// A case: its text is the table's with these changes.
 #[derive(Drop)]
@@ -31,13 +61,14 @@ impl Case {
 
     /// Takes a line of this key.
     fn take(&mut self, alloc: Global, key: &str, rest: &str) -> io::Result<()> {
-        match key {
-            "old" => self.take_piece(alloc, false, rest),
-            "every" => self.take_piece(alloc, true, rest),
-            "new" => self.take_new(alloc, rest),
-            "before" => self.take_time(rest),
-            ">" => Ok(push_line(&mut self.expected, rest)?),
-            _ => Err(io::Error::other("a key that no case has")),
+        match key_of(key) {
+            Some(Key::Old) => self.take_piece(alloc, false, rest),
+            Some(Key::Every) => self.take_piece(alloc, true, rest),
+            Some(Key::New) => self.take_new(alloc, rest),
+            Some(Key::Times) => self.take_times(rest),
+            Some(Key::Before) => self.take_time(rest),
+            Some(Key::Shown) => Ok(push_line(&mut self.expected, rest)?),
+            None => Err(io::Error::other("a key that no case has")),
         }
     }
 
@@ -69,6 +100,22 @@ impl Case {
             }
         }
         Ok(())
+    }
+
+    /// Takes a count and a piece, which stands so many times behind what replaces the last piece.
+    fn take_times(&mut self, rest: &str) -> io::Result<()> {
+        let (count, piece) = rest.split_once(' ').unwrap_or((rest, ""));
+        let Ok(count) = count.parse::<u32>() else {
+            return Err(io::Error::other("a count that is no number"));
+        };
+        let new = self
+            .changes
+            .last_mut()
+            .and_then(|change| change.new.as_mut());
+        match new {
+            Some(new) => Ok(push_times(new, piece, count)?),
+            None => Err(io::Error::other("a count without new before")),
+        }
     }
 
     /// Takes the time before which is shown what was done.
