@@ -138,6 +138,17 @@ impl Callers {
         self.all.iter().any(|caller| caller.has_broken)
     }
 
+    /// How many links have not ended.
+    pub(crate) fn open_count(&self) -> usize {
+        let mut count = 0usize;
+        for caller in &self.all {
+            if !caller.ends.has_ended() {
+                count = count.saturating_add(1);
+            }
+        }
+        count
+    }
+
     /// Whether the links of all have ended.
     pub(crate) fn have_ended(&self) -> bool
         ensures { result ≡ list_all (λ c. has_ended c.ends) self.now.all.items }

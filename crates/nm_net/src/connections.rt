@@ -149,6 +149,30 @@ impl<W> Connections<W> {
         false
     }
 
+    /// How many connections are open that others began, and whose Hello came.
+    fn greeted_count(&self) -> usize {
+        let mut count = 0usize;
+        for key in 0..self.open.capacity() {
+            if let Some(connection) = self.open.get(key) {
+                if connection.peer.is_none() && connection.link.has_greeted() {
+                    count = count.saturating_add(1);
+                }
+            }
+        }
+        count
+    }
+
+    /// Whether somebody is not connected whose link has not ended: a peer that is called, or a
+    /// replica that is to call.
+    pub(crate) fn are_wanting(&self) -> bool {
+        for peer in &self.peers {
+            if peer.is_wanting() {
+                return true;
+            }
+        }
+        self.greeted_count() < self.callers.open_count()
+    }
+
     /// Whether more may be read that no wait reports.
     pub(crate) fn have_more(&self) -> bool {
         for key in 0..self.open.capacity() {

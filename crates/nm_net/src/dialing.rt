@@ -81,6 +81,11 @@ impl Dialing {
         self.session.is_some() && self.rest == 0
     }
 
+    /// Whether it is not connected, and its link has not ended.
+    pub(crate) fn is_wanting(&self) -> bool {
+        self.session.is_some() && !self.has_ended()
+    }
+
     /// The session for a new connection.
     pub(crate) fn give(&mut self) -> Option<Session>
         ensures session { IfSome result IsAtGreeting }

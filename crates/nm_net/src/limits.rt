@@ -51,8 +51,11 @@ pub const LINGER_POLLS: u64 = 40;
 /// lacks a Bye: such a one calls at once. A replica stays so long where connections broke.
 pub const QUIET_POLLS: u64 = 4;
 
-/// After so many polls that ran out, a second, a replica ends to which the system refuses
-/// connections.
+/// After so many polls that ran out, half a second, a replica to which the system refuses
+/// connections lets strangers go.
+pub const SCARCE_POLLS: u64 = 10;
+
+/// After so many polls that ran out, a second, it ends.
 pub const SHORT_POLLS: u64 = 20;
 
 /// After so many polls the sister's knowledge is merged.

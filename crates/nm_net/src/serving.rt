@@ -14,7 +14,9 @@ use crate::connections::Connections;
 use crate::counting::Frames;
 use crate::figuring::{note_figures, note_hold, note_loan, note_progress, note_wait};
 use crate::lasting::Lasted;
-use crate::limits::{MAX_REPORTS, MAX_TURNS, MERGE_POLLS, SHORT_POLLS, WAIT_MILLISECONDS};
+use crate::limits::{
+    MAX_REPORTS, MAX_TURNS, MERGE_POLLS, SCARCE_POLLS, SHORT_POLLS, WAIT_MILLISECONDS,
+};
 use crate::recording::write_records;
 use crate::replica::{Holdings, Service};
 use crate::served::{Served, file_served};
@@ -208,7 +210,9 @@ fn hear<T: Transport>(transport: &T, connections: &Connections<T::Connection>, r
     }
 }
 
-/// Where the system has too little for one more connection, lets the stranger go that came first.
+/// Where the system has too little for one more connection, and somebody is not connected whose
+/// link has not ended, strangers are let go once that has lasted for half a second. Where all are
+/// connected nothing is missing: the system refuses a connection that nobody began, too.
 ///
 /// # Errors
 ///
@@ -223,14 +227,16 @@ fn bear_shortage<T: Transport>(
     ensures short { IfErr result (λ _. has_lasted SHORT_POLLS
         (lasted_after serving.old.short.polls ran_out) ≡ true) }
 {
-    if !transport.is_short() {
+    if !transport.is_short() || !serving.connections.are_wanting() {
         serving.short = Lasted::new();
         return Ok(());
     }
-    serving.connections.drop_first(transport);
     serving.short.pass_poll(ran_out);
     if serving.short.is_past(SHORT_POLLS) {
         return Err(Served::Net);
+    }
+    if serving.short.is_past(SCARCE_POLLS) {
+        serving.connections.drop_first(transport);
     }
     Ok(())
 }
