@@ -15,17 +15,17 @@ use Rattle.nm_knowledge.specs.Gain.{Gain, IsGain}
 use Rattle.nm_sim.specs.Network.{net_of}
 use Rattle.nm_sim.specs.Part.{PartValue, Represents}
 use Rattle.nm_book.specs.Book.{IsBook, knowledge_of, pending_in}
-use Rattle.nm_book.specs.Merging.{AreJoined, AreTold, IsGainOf, IsGrown, IsTurnOf, is_incoming, joined, known, other, with_gain}
-use Rattle.nm_book.specs.Telling.{Follow, IsNext, known_of, told, told_one, with_message}
+use Rattle.nm_book.specs.Merging.{AreJoined, AreTold, IsGainOf, IsGrown, IsTurnOf, is_incoming, joined_at, known, other, with_gain}
+use Rattle.nm_book.specs.Telling.{Follow, IsNext, known_of, told_each, told_one, with_message}
 use Rattle.nm_book.specs.declared.message.Data.{Data}
 use Rattle.nm_book.proofs.Safety.{next_case}
 use Rattle.nm_book.proofs.Tellings.{known_here, set_elsewhere, set_here, set_same}
 
-pub told_more : (knows : List (Know (List ℕ))) (ms : List Data) (m : Data) → told knows (ms ++ m ∷ []) ≡ told_one (told knows ms) m
+pub told_more : (knows : List (Know (List ℕ))) (ms : List Data) (m : Data) → told_each knows (ms ++ m ∷ []) ≡ told_one (told_each knows ms) m
 told_more knows [] m = refl
 told_more knows (x ∷ ms) m = told_more (told_one knows x) ms m
 
-pub follow_more : (t : TopologyValue) (p : ℕ) (knows : List (Know (List ℕ))) (ms : List Data) (m : Data) → Follow t p knows ms → IsNext t p (told knows ms) m
+pub follow_more : (t : TopologyValue) (p : ℕ) (knows : List (Know (List ℕ))) (ms : List Data) (m : Data) → Follow t p knows ms → IsNext t p (told_each knows ms) m
     → Follow t p knows (ms ++ m ∷ [])
 follow_more t p knows [] m follow next = (next, tt)
 follow_more t p knows (x ∷ ms) m follow next = (follow.0, follow_more t p (told_one knows x) ms m follow.1 next)
@@ -127,7 +127,7 @@ module _ (t : TopologyValue) (p : ℕ) (knows others : List (Know (List ℕ))) (
 
 -- one channel's messages, one after another
 module _ (t : TopologyValue) (p : ℕ) (knows before : List (Know (List ℕ))) (c : ℕ) (a b : Know (List ℕ)) where
-  pub grown_first : (ms : List Data) → Follow t p knows ms → told knows ms ≡ before → slice_index_or before c nothing_known ≡ a
+  pub grown_first : (ms : List Data) → Follow t p knows ms → told_each knows ms ≡ before → slice_index_or before c nothing_known ≡ a
       → IsUnder a (join a b) → length a.list ≤ length b.list → IsGrown t p knows before c a b (length a.list) ms
   grown_first ms follow is at under h =
       let longer = join_longer a b h in
@@ -148,15 +148,15 @@ module _ (t : TopologyValue) (p : ℕ) (knows before : List (Know (List ℕ))) (
   grown_next n ms time x grown e is_know comes there =
       let k = grown.now_known in
       let m : Data = record { channel = c; number = n; time = time; packet = x } in
-      let at : known_of (told knows ms) c ≡ k = ap (λ l. known_of l c) grown.set ∙ set_here before c k there in
+      let at : known_of (told_each knows ms) c ≡ k = ap (λ l. known_of l c) grown.set ∙ set_here before c k there in
       let within = below_nth b.list n (time, x) e in
-      let counted : n ≡ length (known_of (told knows ms) c).list = sym (ap (λ (z : Know (List ℕ)). length z.list) at ∙ ap length grown.list ∙ length-take-le n b.list (omega (arith, within))) in
+      let counted : n ≡ length (known_of (told_each knows ms) c).list = sym (ap (λ (z : Know (List ℕ)). length z.list) at ∙ ap length grown.list ∙ length-take-le n b.list (omega (arith, within))) in
       let later = grown.later n (time, x) (omega arith) e in
       let clock = ap (λ (z : Know (List ℕ)). z.clock) at in
       let long = ap length grown.set ∙ length-set before c k in
-      let next : IsNext t p (told knows ms) m = record { there = omega (arith, there, long); incoming = comes; number = counted; later = omega (arith, later, clock) } in
-      let set : told knows (ms ++ m ∷ []) ≡ slice_set before c (with_message k time x) =
-      told_more knows ms m ∙ ap (λ z. slice_set (told knows ms) c (with_message z time x)) at
+      let next : IsNext t p (told_each knows ms) m = record { there = omega (arith, there, long); incoming = comes; number = counted; later = omega (arith, later, clock) } in
+      let set : told_each knows (ms ++ m ∷ []) ≡ slice_set before c (with_message k time x) =
+      told_more knows ms m ∙ ap (λ z. slice_set (told_each knows ms) c (with_message z time x)) at
       ∙ ap (λ l. slice_set l c (with_message k time x)) grown.set ∙ set_twice before c k (with_message k time x) in
       let last = is_know.last n (time, x) e in
       let over = grown.over in
@@ -172,12 +172,12 @@ module _ (t : TopologyValue) (p : ℕ) (knows before : List (Know (List ℕ))) (
 
 -- and so all of them
 pub grown_all : (t : TopologyValue) (p : ℕ) (knows others : List (Know (List ℕ))) (c : ℕ) (a b : Know (List ℕ)) (first ms : List Data) → IsTurnOf t p knows others c a b first
-    → length a.list < length b.list → is_incoming t p knows others c ≡ true → IsGrown t p knows (told knows first) c a b (length b.list) ms → AreTold t p knows others (c + 1) (told knows ms)
+    → length a.list < length b.list → is_incoming t p knows others c ≡ true → IsGrown t p knows (told_each knows first) c a b (length b.list) ms → AreTold t p knows others (c + 1) (told_each knows ms)
 grown_all t p knows others c a b first ms turn more comes grown =
     let ours : known t p knows others c ≡ a = turn.ours in
     let theirs : other t p knows others c ≡ b = turn.theirs in
     let list : grown.now_known.list ≡ (join a b).list = grown.list ∙ take_all b.list ∙ sym (join_longer a b (omega (arith, more))) in
-    told_at t p knows others c (told knows first) (told knows ms) grown.now_known turn.below turn.there
+    told_at t p knows others c (told_each knows first) (told_each knows ms) grown.now_known turn.below turn.there
     (λ h. (
       list ∙ ap (λ z. (join z b).list) (sym ours) ∙ ap (λ z. (join (known t p knows others c) z).list) (sym theirs),
       subst (λ z. grown.now_known.clock ≤ (join z (other t p knows others c)).clock) (sym ours) (subst (λ z. grown.now_known.clock ≤ (join a z).clock) (sym theirs) grown.under),
@@ -187,9 +187,9 @@ grown_all t p knows others c a b first ms turn more comes grown =
 
 -- or there is nothing new of it
 pub told_nothing : (t : TopologyValue) (p : ℕ) (knows others : List (Know (List ℕ))) (c : ℕ) (a b : Know (List ℕ)) (first : List Data) → IsTurnOf t p knows others c a b first
-    → (is_incoming t p knows others c ≡ true → a.list ≡ (join a b).list) → AreTold t p knows others (c + 1) (told knows first)
+    → (is_incoming t p knows others c ≡ true → a.list ≡ (join a b).list) → AreTold t p knows others (c + 1) (told_each knows first)
 told_nothing t p knows others c a b first turn same =
-    told_none t p knows others c (told knows first) turn.below turn.there
+    told_none t p knows others c (told_each knows first) turn.below turn.there
     (λ comes. ap (λ (z : Know (List ℕ)). z.list) turn.ours ∙ same comes ∙ ap (λ z. (join z b).list) (sym turn.ours) ∙ ap (λ z. (join (known t p knows others c) z).list) (sym turn.theirs))
 
 -- once all is told, greater clocks change no state
@@ -208,7 +208,7 @@ module _ (t : TopologyValue) (p : ℕ) (knows others : List (Know (List ℕ))) (
         within = within (knowledge_of t first) (knowledge_of t after) (λ i comes. under i comes (at i comes)) part.steps book.within;
       }
     where
-      joins : (d : ℕ) (z : Bool) → is_incoming t p knows others d ≡ z → z ≡ true → joined t p knows others d ≡ join (known t p knows others d) (other t p knows others d)
+      joins : (d : ℕ) (z : Bool) → is_incoming t p knows others d ≡ z → z ≡ true → joined_at t p knows others d ≡ join (known t p knows others d) (other t p knows others d)
       joins d true e h = ap (λ y. if y then join (known t p knows others d) (other t p knows others d) else known t p knows others d) e
       joins d false e h = let w : false ≡ true = h in absurd cc
 

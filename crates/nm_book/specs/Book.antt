@@ -60,8 +60,8 @@ abbrev pub is_outgoing : BookValue → ℕ → Bool
 is_outgoing b c = goes_out (net_of b.topology) b.partition (receiving_iface b.topology c)
 
 -- what it put on channel c so far, each packet with its time of arrival
-abbrev pub sent_on : BookValue → ℕ → List (ℕ × List ℕ)
-sent_on b c = (state_of b).sent (receiving_iface b.topology c)
+abbrev pub sent_over : BookValue → ℕ → List (ℕ × List ℕ)
+sent_over b c = (state_of b).sent (receiving_iface b.topology c)
 
 -- its promise of channel c
 abbrev pub promise_on : Promising → BookValue → ℕ → ℕ
@@ -73,7 +73,7 @@ safe_of b = safe_time (net_of b.topology) b.partition (knowledge b)
 
 -- the null message of channel c with this promise
 abbrev pub null_on : Promising → BookValue → ℕ → Null
-null_on kind b c = record { channel = c; count = length (sent_on b c); clock = promise_on kind b c }
+null_on kind b c = record { channel = c; count = length (sent_over b c); clock = promise_on kind b c }
 
 -- message n of channel c, if it was sent
 abbrev pub data_from : ℕ → ℕ → Option (ℕ × List ℕ) → Option Data

@@ -12,7 +12,7 @@ use Rattle.nm_knowledge.specs.Octets.{same_octets}
 use Rattle.nm_knowledge.specs.declared.answer.KnowFault.{KnowFault}
 use Rattle.nm_sim.specs.Network.{net_of}
 use Rattle.nm_book.specs.Book.{BookValue}
-use Rattle.nm_book.specs.Telling.{Follow, told}
+use Rattle.nm_book.specs.Telling.{Follow, told_each}
 use Rattle.nm_book.specs.declared.message.Data.{Data}
 use Rattle.nm_book.specs.declared.fault.MergeFault.{MergeFault}
 use Rattle.nm_book.specs.declared.fault.MergeFault.TheVariants.{Stranger, Channel, Memory}
@@ -43,16 +43,16 @@ module _ (t : TopologyValue) (p : ℕ) (knows others : List (Know (List ℕ))) w
   AreJoinable n = (c : ℕ) → c < n → is_incoming c ≡ true → join_fault same_octets (known c) (other c) ≡ None
 
   -- what is known of channel c after a merge: the join, where it comes in
-  abbrev pub joined : ℕ → Know (List ℕ)
-  joined c = if is_incoming c then join (known c) (other c) else known c
+  abbrev pub joined_at : ℕ → Know (List ℕ)
+  joined_at c = if is_incoming c then join (known c) (other c) else known c
 
   -- this is known after it, of each channel
   pub record AreJoined (after : List (Know (List ℕ))) : Type 0 where
     pub count : length after ≡ length knows
-    pub each : (c : ℕ) → c < length knows → slice_index_or after c nothing_known ≡ joined c
+    pub each : (c : ℕ) → c < length knows → slice_index_or after c nothing_known ≡ joined_at c
 
   -- the first channel that can't be joined, and why
-  pub record IsFirstFault (c : ℕ) (fault : KnowFault) : Type 0 where
+  pub record IsFirstMergeFault (c : ℕ) (fault : KnowFault) : Type 0 where
     pub there : c < length knows
     pub incoming : is_incoming c ≡ true
     pub shown : join_fault same_octets (known c) (other c) ≡ reason fault
@@ -61,11 +61,11 @@ module _ (t : TopologyValue) (p : ℕ) (knows others : List (Know (List ℕ))) w
 
   -- The answer of a merge. A refusal changes nothing: the knowledge of another partition or topology; else the first channel by number that can't be
   -- joined; else memory.
-  abbrev pub Merges : Bool → List (Know (List ℕ)) → Result Unit MergeFault → Type 0
-  Merges is_ours after (Ok u) = (is_ours ≡ true) × AreJoinable (length knows) × AreJoined after
-  Merges is_ours after (Err Stranger) = (is_ours ≡ false) × (after ≡ knows)
-  Merges is_ours after (Err (Channel c fault)) = (is_ours ≡ true) × IsFirstFault c fault × (after ≡ knows)
-  Merges is_ours after (Err Memory) = (is_ours ≡ true) × AreJoinable (length knows) × (after ≡ knows)
+  abbrev pub MergesChannels : Bool → List (Know (List ℕ)) → Result Unit MergeFault → Type 0
+  MergesChannels is_ours after (Ok u) = (is_ours ≡ true) × AreJoinable (length knows) × AreJoined after
+  MergesChannels is_ours after (Err Stranger) = (is_ours ≡ false) × (after ≡ knows)
+  MergesChannels is_ours after (Err (Channel c fault)) = (is_ours ≡ true) × IsFirstMergeFault c fault × (after ≡ knows)
+  MergesChannels is_ours after (Err Memory) = (is_ours ≡ true) × AreJoinable (length knows) × (after ≡ knows)
 
 -- what a channel gains, if it comes in: with it the join is known
 abbrev pub IsGainOf : Bool → Know (List ℕ) → Know (List ℕ) → Option Gain → Type 0
@@ -82,7 +82,7 @@ module _ (t : TopologyValue) (p : ℕ) (knows others : List (Know (List ℕ))) w
   abbrev pub Checks : Result Unit MergeFault → Type 0
   Checks (Ok u) = AreJoinable t p knows others (length knows)
   Checks (Err Stranger) = ⊥
-  Checks (Err (Channel c fault)) = IsFirstFault t p knows others c fault
+  Checks (Err (Channel c fault)) = IsFirstMergeFault t p knows others c fault
   Checks (Err Memory) = ⊥
 
   pub record AreGains (gains : List (Option Gain)) : Type 0 where
@@ -108,13 +108,13 @@ pub record IsTurnOf (t : TopologyValue) (p : ℕ) (knows others : List (Know (Li
   pub ours : slice_index_or knows c nothing_known ≡ a
   pub theirs : slice_index_or others c nothing_known ≡ b
   pub follow : Follow t p knows messages
-  pub below : AreTold t p knows others c (told knows messages)
+  pub below : AreTold t p knows others c (told_each knows messages)
 
 -- of channel c, of which a was known, the first n messages of b are told
 pub record IsGrown (t : TopologyValue) (p : ℕ) (knows before : List (Know (List ℕ))) (c : ℕ) (a b : Know (List ℕ)) (n : ℕ) (messages : List Data) : Type 0 where
   pub follow : Follow t p knows messages
   pub now_known : Know (List ℕ)
-  pub set : told knows messages ≡ slice_set before c now_known
+  pub set : told_each knows messages ≡ slice_set before c now_known
   pub list : now_known.list ≡ take n b.list
   pub over : a.clock ≤ now_known.clock
   pub under : now_known.clock ≤ max a.clock b.clock
@@ -122,5 +122,5 @@ pub record IsGrown (t : TopologyValue) (p : ℕ) (knows before : List (Know (Lis
 
 -- a book merges another's knowledge: nothing but what it knows changes
 pub record BookMerges (old new : BookValue) (other : KnowledgeValue) (result : Result Unit MergeFault) : Type 0 where
-  pub merges : Merges old.topology old.partition old.knows other.knows (is_of old.topology old.partition other) new.knows result
+  pub merges : MergesChannels old.topology old.partition old.knows other.knows (is_of old.topology old.partition other) new.knows result
   pub same : new ≡ record old { knows = new.knows }

@@ -19,9 +19,9 @@ abbrev pub told_one : List (Know (List ℕ)) → Data → List (Know (List ℕ))
 told_one knows m = slice_set knows m.channel (with_message (known_of knows m.channel) m.time m.packet)
 
 -- what is known once these messages are
-abbrev pub told : List (Know (List ℕ)) → List Data → List (Know (List ℕ))
-told knows [] = knows
-told knows (m ∷ ms) = told (told_one knows m) ms
+abbrev pub told_each : List (Know (List ℕ)) → List Data → List (Know (List ℕ))
+told_each knows [] = knows
+told_each knows (m ∷ ms) = told_each (told_one knows m) ms
 
 -- it is the next message of a channel that comes in, and is not before its clock
 pub record IsNext (t : TopologyValue) (p : ℕ) (knows : List (Know (List ℕ))) (m : Data) : Type 0 where

@@ -14,7 +14,7 @@ ghost use Rattle.nm_sim.specs.Records.{totals_at};
 ghost use Rattle.nm_book.specs.Book.{IsBook, Takes, data_taken, is_replica, message_channel};
 ghost use Rattle.nm_book.specs.Book.{message_taken, null_taken};
 ghost use Rattle.nm_book.specs.Book.{data_from, knowledge, is_incoming, is_outgoing, null_on};
-ghost use Rattle.nm_book.specs.Book.{only_if, promise_on, replica_of, safe_of, sent_on, state_of};
+ghost use Rattle.nm_book.specs.Book.{only_if, promise_on, replica_of, safe_of, sent_over, state_of};
 ghost use Rattle.nm_book.specs.Merging.{BookMerges};
 ghost use Rattle.nm_book.specs.Running.{Runs};
 ghost use Rattle.nm_book.specs.declared.fault.BookFault.TheVariants.{NoSuch};
@@ -357,7 +357,7 @@ impl Book {
     /// here. It takes no memory.
     pub fn out_len(&self, channel: ChanNo) -> Option<u64>
         ensures { result ≡ only_if (is_outgoing self.now channel)
-            (length (sent_on self.now channel)) }
+            (length (sent_over self.now channel)) }
     {
         if !goes_out(&self.topology, self.partition, channel) {
             return None;
@@ -370,7 +370,7 @@ impl Book {
     /// memory.
     pub fn sent(&self, channel: ChanNo) -> Option<&[(Time, Packet)]>
         ensures { option_map (λ messages. messages.now) result
-            ≡ only_if (is_outgoing self.now channel) (sent_on self.now channel) }
+            ≡ only_if (is_outgoing self.now channel) (sent_over self.now channel) }
     {
         if !goes_out(&self.topology, self.partition, channel) {
             return None;
@@ -387,7 +387,7 @@ impl Book {
     pub fn data(&self, channel: ChanNo, number: u64) -> Result<Option<Data>, AllocError>
         ensures { IfOk result (λ message. message ≡ option_and_then
             (λ sent. data_from channel number (nth sent number))
-            (only_if (is_outgoing self.now channel) (sent_on self.now channel))) }
+            (only_if (is_outgoing self.now channel) (sent_over self.now channel))) }
     {
         if !goes_out(&self.topology, self.partition, channel) {
             return Ok(None);

@@ -9,7 +9,7 @@ ghost use Rattle.nm_model.specs.Promise.{Plain, Promising, Tight};
 ghost use Rattle.nm_model.specs.Replica.{IsWithin, with_new};
 ghost use Rattle.nm_sim.specs.Network.{net_of};
 ghost use Rattle.nm_topology.specs.Topology.{channel_from, receiving_iface};
-ghost use Rattle.nm_book.specs.Book.{knowledge, promise_on, safe_of, sent_on, state_of};
+ghost use Rattle.nm_book.specs.Book.{knowledge, promise_on, safe_of, sent_over, state_of};
 ghost use Rattle.nm_book.specs.Laws.{IsUnderOf, KnowTheSame};
 
 use crate::book::Book;
@@ -73,7 +73,7 @@ pub fn more_knowledge_changes_nothing_done(less: &Book, more: &Book)
         → state_of more.now ≡ with_new (net_of less.now.topology) less.now.partition
         (knowledge less.now) (knowledge more.now) (state_of less.now) }
     ensures sent { IsUnderOf less.now more.now → less.now.events ≤ more.now.events
-        → (c : ℕ) → IsPrefix (sent_on less.now c) (sent_on more.now c) }
+        → (c : ℕ) → IsPrefix (sent_over less.now c) (sent_over more.now c) }
     ensures records { IsUnderOf less.now more.now → less.now.events ≤ more.now.events
         → IsPrefix (state_of less.now).records (state_of more.now).records }
     ensures safe { IsUnderOf less.now more.now → safe_of less.now ≤ safe_of more.now }

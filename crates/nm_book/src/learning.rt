@@ -9,7 +9,7 @@ ghost use Rattle.nm_knowledge.specs.declared.answer.KnowFault.TheVariants.{Memor
 ghost use Rattle.nm_sim.specs.Network.{net_of};
 ghost use Rattle.nm_topology.specs.Topology.{receiving_iface};
 ghost use Rattle.nm_book.specs.Book.{IsBook, Learns, data_taken, null_taken, room_in};
-ghost use Rattle.nm_book.specs.Telling.{Follow, IsNext, told, told_one};
+ghost use Rattle.nm_book.specs.Telling.{Follow, IsNext, told_each, told_one};
 ghost use Rattle.nm_book.specs.declared.fault.AcceptFault.TheVariants.{Known};
 
 use crate::fault::AcceptFault;
@@ -117,7 +117,7 @@ pub(crate) fn put_messages(
     ensures book { (knows : List (Knowledge (List ℕ)))
         → IsBook topology.now partition knows part.old
         → Follow topology.now partition knows messages.items
-        → IsBook topology.now partition (told knows messages.items) part.new }
+        → IsBook topology.now partition (told_each knows messages.items) part.new }
     ensures steps { part.new.steps ≡ part.old.steps }
     ensures handed { part.new.records.handed ≡ part.old.records.handed }
 {

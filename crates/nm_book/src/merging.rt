@@ -1,4 +1,4 @@
-//! Merges of what another replica knows.
+//! MergesChannels of what another replica knows.
 
 ghost use Rattle.std.specs.Prelude.{◌≡◌, ℕ, ◌+◌, ◌<◌, true, IfOk, IfSome, List, None, length};
 ghost use Rattle.nm_model.specs.Join.{join_fault};
@@ -11,8 +11,8 @@ ghost use Rattle.nm_topology.specs.Topology.{receiving_iface};
 ghost use Rattle.nm_topology.specs.TopologyValue.{TopologyValue};
 ghost use Rattle.nm_book.specs.Book.{IsBook};
 ghost use Rattle.nm_book.specs.Merging.{AreGains, AreJoinable, AreJoined, AreTold, Checks};
-ghost use Rattle.nm_book.specs.Merging.{IsGainOf, IsGrown, IsTurnOf, Merges, with_gain};
-ghost use Rattle.nm_book.specs.Telling.{Follow, told};
+ghost use Rattle.nm_book.specs.Merging.{IsGainOf, IsGrown, IsTurnOf, MergesChannels, with_gain};
+ghost use Rattle.nm_book.specs.Telling.{Follow, told_each};
 
 use crate::channels::comes_in;
 use crate::fault::MergeFault;
@@ -118,7 +118,7 @@ fn add_new(
     ensures { IfOk result (λ _. (t : TopologyValue) (p : ℕ) (knows others : List (Knowledge (List ℕ)))
         → IsTurnOf t p knows others channel know.now other.now messages.old.items
         → comes_in (net_of t) p (receiving_iface t channel) ≡ true
-        → IsGrown t p knows (told knows messages.old.items) channel know.now other.now
+        → IsGrown t p knows (told_each knows messages.old.items) channel know.now other.now
         (length other.now.list) messages.new.items) }
 {
     join_faults_are_right::<Packet>(); // law: the longer list goes on after the clock
@@ -157,7 +157,7 @@ fn add_messages(
         messages.old.items
         → Follow topology.now partition knows messages.new.items
         × AreTold topology.now partition knows others (channel + 1)
-        (told knows messages.new.items)) }
+        (told_each knows messages.new.items)) }
 {
     join_faults_are_right::<Packet>(); // law: the longer list begins with the other
     what_is_known(know); // law: times rise, up to the clock
@@ -186,7 +186,7 @@ fn new_messages(
     requires joinable { AreJoinable topology.now partition knows.now others.now (length knows.now) }
     ensures follow { IfOk result (λ v. Follow topology.now partition knows.now v.items) }
     ensures told { IfOk result (λ v. AreTold topology.now partition knows.now others.now
-        (length knows.now) (told knows.now v.items)) }
+        (length knows.now) (told_each knows.now v.items)) }
 {
     accepted_topologies_are_in_order(topology); // law: channels have numbers of 32 bits
     let mut messages = Vec::new(alloc);
@@ -237,7 +237,7 @@ pub(crate) fn merge_all(
     requires book { IsBook topology.now partition knows.old.items part.old }
     requires others { length others.now ≡ length topology.now.receivers }
     ensures book { IsBook topology.now partition knows.new.items part.new }
-    ensures merges { Merges topology.now partition knows.old.items others.now true knows.new.items result }
+    ensures merges { MergesChannels topology.now partition knows.old.items others.now true knows.new.items result }
     ensures steps { part.new.steps ≡ part.old.steps }
     ensures handed { part.new.records.handed ≡ part.old.records.handed }
 {

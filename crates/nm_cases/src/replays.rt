@@ -13,7 +13,7 @@ use crate::words::Words;
 use nm_book::Book;
 use nm_rounds::replay::replay;
 use nm_rounds::rounds::{Rounds, run_rounds};
-use nm_rounds::{Ending, ReplayFault, WorldReport, WorldStep};
+use nm_rounds::{ReplayEnd, ReplayFault, WorldReport, WorldStep};
 use nm_script::{read_script, report_text};
 use std::alloc::Global;
 use std::io;
@@ -30,9 +30,9 @@ fn steps_of(alloc: Global, script: &str) -> io::Result<Vec<WorldStep>> {
 fn ending_text(alloc: Global, report: &WorldReport) -> io::Result<String> {
     let count = report.answers.len();
     match report.ending {
-        Ending::Ended => Ok(format!(in alloc; "ended {count}")?),
-        Ending::NoSuch { step } => Ok(format!(in alloc; "nosuch {step} {count}")?),
-        Ending::Memory { step } => Ok(format!(in alloc; "memory {step} {count}")?),
+        ReplayEnd::Ended => Ok(format!(in alloc; "ended {count}")?),
+        ReplayEnd::NoSuch { step } => Ok(format!(in alloc; "nosuch {step} {count}")?),
+        ReplayEnd::Memory { step } => Ok(format!(in alloc; "memory {step} {count}")?),
     }
 }
 

@@ -26,7 +26,7 @@ use Rattle.nm_check.specs.declared.spot.FieldFault.{FieldFault}
 use Rattle.nm_check.specs.declared.spot.Spot.TheVariants as spot
 use Rattle.nm_check.specs.Keys.{array_key, key_text}
 use Rattle.nm_check.specs.declared.fields.TheConstants.{ARRAYS, HEAD}
-use Rattle.nm_check.specs.declared.place.Place.TheVariants as place
+use Rattle.nm_check.specs.declared.place.FaultPlace.TheVariants as place
 use Rattle.nm_check.specs.Place.{at_top, find_behind, find_in, find_in_arrays, found_by, head_by}
 use Rattle.nm_check.specs.Place.{head_of, no_head, place_in_value, place_of, place_refusal}
 use Rattle.nm_check.specs.Place.{refused_in, top_keys}

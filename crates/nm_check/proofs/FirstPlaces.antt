@@ -13,8 +13,8 @@ use Rattle.nm_check.specs.declared.field.Form.TheVariants as form
 use Rattle.nm_check.specs.declared.fields.TheConstants.{ARRAYS, HEAD}
 use Rattle.nm_check.specs.declared.first.MemberFault.{MemberFault}
 use Rattle.nm_check.specs.declared.place.Found.{Found}
-use Rattle.nm_check.specs.declared.place.Place.{Place}
-use Rattle.nm_check.specs.declared.place.Place.TheVariants as place
+use Rattle.nm_check.specs.declared.place.FaultPlace.{FaultPlace}
+use Rattle.nm_check.specs.declared.place.FaultPlace.TheVariants as place
 use Rattle.nm_check.specs.declared.spot.FieldFault.{FieldFault}
 use Rattle.nm_check.specs.declared.spot.Spot.{Spot}
 use Rattle.nm_check.specs.declared.spot.Spot.TheVariants as spot
@@ -34,7 +34,7 @@ use Rattle.nm_check.proofs.Firsts.{first-is}
 use Rattle.nm_check.proofs.Places.{place-refused}
 
 -- a place in an array is in its first table that is refused
-abbrev InArray : Head → Array → Items → Option Place → Type 0
+abbrev InArray : Head → Array → Items → Option FaultPlace → Type 0
 InArray head a ds None = Unit {0}
 InArray head a ds (Some (place.Top s)) = ⊥
 InArray head a ds (Some (place.Table b n s)) =
@@ -64,21 +64,21 @@ array-in head a ds = by_test (all_fit is_table ds && nat_le (count ds) (array_li
     by_test false = tt
 
 -- the same of what stands at the key of an array
-abbrev InValue : Head → Array → Option Data → Option Place → Type 0
+abbrev InValue : Head → Array → Option Data → Option FaultPlace → Type 0
 InValue head a v None = Unit {0}
 InValue head a v (Some p) = (ds : Items) × (v ≡ Some (array ds)) × InArray head a ds (Some p)
 
 value-in : (head : Head) (a : Array) (v : Option Data) → InValue head a v (place_in_value head (form.Tables a) v)
 value-in head a (Some (array ds)) = go (place_in_array head a ds) (array-in head a ds)
   where
-    go : (o : Option Place) → InArray head a ds o → InValue head a (Some (array ds)) o
+    go : (o : Option FaultPlace) → InArray head a ds o → InValue head a (Some (array ds)) o
     go None h = tt
     go (Some p) h = (ds, refl, h)
 value-in head a (Some _) = tt
 value-in head a None = tt
 
 -- the place of a fault of an array, in a text whose head is read
-array-first-place : (t : Members) (g : FieldFault) (a : Array) → first_fault no_head t HEAD ≡ None → first_fault (head_of t) t ARRAYS ≡ Some g → IsOfArray (head_of t) t g a → (o : Option Place)
+array-first-place : (t : Members) (g : FieldFault) (a : Array) → first_fault no_head t HEAD ≡ None → first_fault (head_of t) t ARRAYS ≡ Some g → IsOfArray (head_of t) t g a → (o : Option FaultPlace)
     → InValue (head_of t) a (get_member (key_text (array_key a)) t) o → place_refusal (unwrap_or o (place.Top (spot.Field g))) ≡ g.refusal → IsFirstPlace t (head_of t) (unwrap_or o (place.Top (spot.Field g)))
 array-first-place t g a h k of None i r = inr (h, k)
 array-first-place t g a h k of (Some (place.Top s)) i r = absurd i.2

@@ -19,8 +19,8 @@ use Rattle.nm_check.specs.declared.array.Array.TheVariants as array_of
 use Rattle.nm_check.specs.declared.field.Field.{Field}
 use Rattle.nm_check.specs.declared.field.Form.TheVariants as form
 use Rattle.nm_check.specs.declared.first.MemberFault.{MemberFault}
-use Rattle.nm_check.specs.declared.place.Place.{Place}
-use Rattle.nm_check.specs.declared.place.Place.TheVariants as place
+use Rattle.nm_check.specs.declared.place.FaultPlace.{FaultPlace}
+use Rattle.nm_check.specs.declared.place.FaultPlace.TheVariants as place
 use Rattle.nm_check.specs.declared.spot.Spot.{Spot}
 use Rattle.nm_check.specs.declared.spot.Spot.TheVariants as spot
 use Rattle.nm_check.specs.First.{first_from}
@@ -40,7 +40,7 @@ tables-first head array_of.Route ds e = array-first (in_table route_table_of) MA
 tables-first head array_of.Source ds e = array-first (in_table (source_table_of head.mtu)) MAX_SOURCES ds e
 
 -- a place, or the top table
-abbrev pub refused_or : Refusal → Option Place → Refusal
+abbrev pub refused_or : Refusal → Option FaultPlace → Refusal
 refused_or r None = r
 refused_or r (Some p) = place_refusal p
 
@@ -84,7 +84,7 @@ value-place head a (Some _) r e = refl
 pub place-refused : (head : Head) (a : Array) (f : Field) (v : Option Data) (r : Refusal) → tables_of head a v ≡ Err r → place_refusal (unwrap_or (place_in_value head (form.Tables a) v) (place.Top (spot.Field (record { field = f; refusal = r })))) ≡ r
 place-refused head a f v r e = go (place_in_value head (form.Tables a) v) (value-place head a v r e)
   where
-    go : (o : Option Place) → refused_or r o ≡ r → place_refusal (unwrap_or o (place.Top (spot.Field (record { field = f; refusal = r })))) ≡ r
+    go : (o : Option FaultPlace) → refused_or r o ≡ r → place_refusal (unwrap_or o (place.Top (spot.Field (record { field = f; refusal = r })))) ≡ r
     go None h = refl
     go (Some p) h = h
 

@@ -3,10 +3,10 @@ use Rattle.std.specs.Prelude.{ℕ, List, codes}
 use Rattle.nm_base.specs.declared.limits.TheConstants.{MAX_IFACES, MAX_LINKS, MAX_NODES, MAX_ROUTES, MAX_SOURCES}
 use Rattle.nm_check.specs.declared.array.Array.{Array}
 use Rattle.nm_check.specs.declared.array.Array.TheVariants as array
-use Rattle.nm_check.specs.declared.key.Key.{Key}
-use Rattle.nm_check.specs.declared.key.Key.TheVariants as key
+use Rattle.nm_check.specs.declared.key.TableKey.{TableKey}
+use Rattle.nm_check.specs.declared.key.TableKey.TheVariants as key
 
-abbrev pub key_text : Key → List ℕ
+abbrev pub key_text : TableKey → List ℕ
 key_text key.Format = codes "format"
 key_text key.Stop = codes "stop"
 key_text key.Mtu = codes "mtu"
@@ -42,7 +42,7 @@ key_text key.At = codes "at"
 key_text key.Data = codes "data"
 
 -- the key of an array
-abbrev pub array_key : Array → Key
+abbrev pub array_key : Array → TableKey
 array_key array.Node = key.Node
 array_key array.Iface = key.Iface
 array_key array.Link = key.Link

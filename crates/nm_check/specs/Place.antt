@@ -22,8 +22,8 @@ use Rattle.nm_check.specs.declared.fields.TheConstants.{IFACE_TABLE_ONE, IFACE_T
 use Rattle.nm_check.specs.declared.fields.TheConstants.{KIND_OF_SOURCE, LINK_TABLE, NODE_TABLE}
 use Rattle.nm_check.specs.declared.fields.TheConstants.{RAW_TABLE, ROUTE_TABLE}
 use Rattle.nm_check.specs.declared.place.Found.{Found}
-use Rattle.nm_check.specs.declared.place.Place.{Place}
-use Rattle.nm_check.specs.declared.place.Place.TheVariants as place
+use Rattle.nm_check.specs.declared.place.FaultPlace.{FaultPlace}
+use Rattle.nm_check.specs.declared.place.FaultPlace.TheVariants as place
 use Rattle.nm_check.specs.declared.spot.FieldFault.{FieldFault}
 use Rattle.nm_check.specs.declared.spot.Spot.{Spot}
 use Rattle.nm_check.specs.declared.spot.Spot.TheVariants as spot
@@ -49,12 +49,12 @@ iface_fields One = IFACE_TABLE_ONE
 iface_fields Two = IFACE_TABLE_TWO
 
 -- the fields of a table of an array, in a text with this head
-abbrev pub fields_of : Head → Array → Members → List Field
-fields_of head array.Node t = NODE_TABLE
-fields_of head array.Iface t = iface_fields head.format
-fields_of head array.Link t = LINK_TABLE
-fields_of head array.Route t = ROUTE_TABLE
-fields_of head array.Source t = source_fields t
+abbrev pub fields_in : Head → Array → Members → List Field
+fields_in head array.Node t = NODE_TABLE
+fields_in head array.Iface t = iface_fields head.format
+fields_in head array.Link t = LINK_TABLE
+fields_in head array.Route t = ROUTE_TABLE
+fields_in head array.Source t = source_fields t
 
 -- a fault of the kind of a source, and else what the other fields give
 abbrev pub or_spot : Option FieldFault → Option Spot → Option Spot
@@ -83,33 +83,33 @@ item_of head array.Route d = outcome (in_table route_table_of d)
 item_of head array.Source d = outcome (in_table (source_table_of head.mtu) d)
 
 -- in a table of an array
-abbrev pub in_table_at : Array → ℕ → Option Spot → Option Place
+abbrev pub in_table_at : Array → ℕ → Option Spot → Option FaultPlace
 in_table_at a n None = None
 in_table_at a n (Some s) = Some (place.Table a n s)
 
 -- where the member of this number is refused
-abbrev pub place_at : Head → Array → ℕ → Option Data → Option Place
+abbrev pub place_at : Head → Array → ℕ → Option Data → Option FaultPlace
 place_at head a n (Some (table t)) = in_table_at a n (spot_of head a t)
 place_at head a n _ = None
 
-abbrev pub place_of_member : Head → Array → Items → Option MemberFault → Option Place
+abbrev pub place_of_member : Head → Array → Items → Option MemberFault → Option FaultPlace
 place_of_member head a ds None = None
 place_of_member head a ds (Some f) = place_at head a f.number (get_item f.number ds)
 
 -- where the fault of an array lies, if it lies in a table and not in the array itself
-abbrev pub place_in_array : Head → Array → Items → Option Place
+abbrev pub place_in_array : Head → Array → Items → Option FaultPlace
 place_in_array head a ds =
     if all_fit is_table ds && nat_le (count ds) (array_limit a)
     then place_of_member head a ds (first_from (item_of head a) 0 ds) else None
 
-abbrev pub place_in_value : Head → Form → Option Data → Option Place
+abbrev pub place_in_value : Head → Form → Option Data → Option FaultPlace
 place_in_value head (form.Tables a) (Some (array ds)) = place_in_array head a ds
 place_in_value head _ _ = None
 
-abbrev pub place_in_field : Head → Members → Field → Option Place
+abbrev pub place_in_field : Head → Members → Field → Option FaultPlace
 place_in_field head t f = place_in_value head f.form (get_member (key_text f.key) t)
 
-abbrev pub place_of : Head → Members → FieldFault → Place
+abbrev pub place_of : Head → Members → FieldFault → FaultPlace
 place_of head t f = unwrap_or (place_in_field head t f.field) (place.Top (spot.Field f))
 
 -- the head of a text before it is read
@@ -152,7 +152,7 @@ find_in t =
     else Some (at_top spot.Unknown)
 
 -- what is refused at a place
-abbrev pub place_refusal : Place → Refusal
+abbrev pub place_refusal : FaultPlace → Refusal
 place_refusal (place.Top s) = spot_refusal s
 place_refusal (place.Table a n s) = spot_refusal s
 
@@ -171,7 +171,7 @@ pub record IsFirstTable (head : Head) (t : Members) (a : Array) (n : ℕ) (s : S
 
 -- the place is the first in the reading order: a key that the top table has not; the first field of
 -- its head, or of its arrays; or, in the first array that is refused, the first table
-abbrev pub IsFirstPlace : Members → Head → Place → Type 0
+abbrev pub IsFirstPlace : Members → Head → FaultPlace → Type 0
 IsFirstPlace t head (place.Top spot.Unknown) = all_among top_keys t ≡ false
 IsFirstPlace t head (place.Top (spot.Field f)) =
     (first_fault no_head t HEAD ≡ Some f)

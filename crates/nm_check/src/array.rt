@@ -3,7 +3,7 @@
 ghost use Rattle.std.specs.Prelude.{◌≡◌};
 ghost use Rattle.nm_check.specs.Keys.{array_key, array_limit};
 
-use crate::key::Key;
+use crate::key::TableKey;
 use nm_base::limits::{MAX_IFACES, MAX_LINKS, MAX_NODES, MAX_ROUTES, MAX_SOURCES};
 
 /// An array of tables of a topology text.
@@ -18,15 +18,15 @@ pub enum Array {
 
 impl Array {
     /// The key of the array.
-    pub fn key(self) -> Key
+    pub fn key(self) -> TableKey
         ensures { result ≡ array_key self }
     {
         match self {
-            Array::Node => Key::Node,
-            Array::Iface => Key::Iface,
-            Array::Link => Key::Link,
-            Array::Route => Key::Route,
-            Array::Source => Key::Source,
+            Array::Node => TableKey::Node,
+            Array::Iface => TableKey::Iface,
+            Array::Link => TableKey::Link,
+            Array::Route => TableKey::Route,
+            Array::Source => TableKey::Source,
         }
     }
 

@@ -11,7 +11,7 @@ use crate::field::Form;
 use crate::fields::ARRAYS;
 use crate::first::keys_of;
 use crate::line::{table_line, top_line};
-use crate::place::{Found, Place, TOP_KEYS, any_head, fields_of, spot_of};
+use crate::place::{FaultPlace, Found, TOP_KEYS, any_head, fields_of, spot_of};
 use crate::sentence::{member, push_found, unknown_key};
 use crate::spot::Spot;
 use crate::words::{Piece, push};
@@ -86,9 +86,9 @@ fn line_of(
     found: &Found,
 ) -> Result<Option<u64>, AllocError> {
     match &found.place {
-        Place::Top(Spot::Unknown) => Ok(top_line(text, unknown_key(top, &TOP_KEYS))),
-        Place::Top(spot) => Ok(top_line(text, key_of(spot))),
-        Place::Table {
+        FaultPlace::Top(Spot::Unknown) => Ok(top_line(text, unknown_key(top, &TOP_KEYS))),
+        FaultPlace::Top(spot) => Ok(top_line(text, key_of(spot))),
+        FaultPlace::Table {
             array,
             number,
             spot,
@@ -112,14 +112,14 @@ fn push_fault(
 }
 
 /// Whether a place is in the table of this number of an array.
-fn is_in(place: &Place, array: Array, number: usize) -> bool {
+fn is_in(place: &FaultPlace, array: Array, number: usize) -> bool {
     match place {
-        Place::Table {
+        FaultPlace::Table {
             array: other,
             number: at,
             ..
         } => *other == array && *at == number,
-        Place::Top(_) => false,
+        FaultPlace::Top(_) => false,
     }
 }
 
@@ -143,7 +143,7 @@ fn push_table_of(
     };
     if count < MAX_FAULTS {
         out.push(b'\n')?;
-        let place = Place::Table {
+        let place = FaultPlace::Table {
             array,
             number,
             spot,
@@ -161,7 +161,7 @@ fn push_array(
     top: &Table,
     head: Head,
     array: Array,
-    first: &Place,
+    first: &FaultPlace,
     count: usize,
 ) -> Result<usize, AllocError>
     requires { 28 ≤ head.mtu }
@@ -187,7 +187,7 @@ fn push_others(
     out: &mut Vec<u8>,
     text: &str,
     top: &Table,
-    first: &Place,
+    first: &FaultPlace,
 ) -> Result<usize, AllocError> {
     let head = any_head(top)?;
     let mut count = 1;

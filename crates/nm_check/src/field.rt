@@ -1,7 +1,7 @@
 //! What stands behind the keys of a table.
 
 use crate::array::Array;
-use crate::key::Key;
+use crate::key::TableKey;
 
 /// What stands behind a key.
 #[derive(Clone, Copy)]
@@ -35,6 +35,6 @@ pub enum Form {
 /// A key of a table, and what stands behind it.
 #[derive(Clone, Copy)]
 pub struct Field {
-    pub key: Key,
+    pub key: TableKey,
     pub form: Form,
 }

@@ -3,7 +3,7 @@
 use crate::expected::{form_fault, limit_of, range_of, type_due, type_of};
 use crate::field::{Field, Form};
 use crate::hint::push_hint;
-use crate::key::Key;
+use crate::key::TableKey;
 use crate::spot::FieldFault;
 use crate::units::unit_of;
 use crate::words::{Piece, push};
@@ -14,7 +14,7 @@ use std::alloc::AllocError;
 use toml::{Table, Value};
 
 /// Appends what the number behind a key counts, with an example.
-fn push_unit(out: &mut Vec<u8>, key: Key) -> Result<(), AllocError> {
+fn push_unit(out: &mut Vec<u8>, key: TableKey) -> Result<(), AllocError> {
     match unit_of(key) {
         Some(unit) => push(out, &[Piece::Text("; "), Piece::Text(unit)]),
         None => Ok(()),

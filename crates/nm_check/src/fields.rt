@@ -2,44 +2,44 @@
 
 use crate::array::Array;
 use crate::field::{Field, Form};
-use crate::key::Key;
+use crate::key::TableKey;
 use nm_base::limits::{
     MAX_COUNT, MAX_DELAY, MAX_INTERVAL, MAX_MTU, MAX_QUEUE, MAX_QUEUE_OCTETS, MAX_RATE, MAX_TIME,
     MIN_MTU, MIN_RATE,
 };
 
 const NAME: Field = Field {
-    key: Key::Name,
+    key: TableKey::Name,
     form: Form::Name,
 };
 
 const NODE: Field = Field {
-    key: Key::Node,
+    key: TableKey::Node,
     form: Form::Name,
 };
 
 const VIA: Field = Field {
-    key: Key::Via,
+    key: TableKey::Via,
     form: Form::Name,
 };
 
 const SOURCE_KIND: Field = Field {
-    key: Key::Kind,
+    key: TableKey::Kind,
     form: Form::SourceKind,
 };
 
 const DESTINATION: Field = Field {
-    key: Key::To,
+    key: TableKey::To,
     form: Form::Address,
 };
 
 const ADDRESS: Field = Field {
-    key: Key::Address,
+    key: TableKey::Address,
     form: Form::Address,
 };
 
 const QUEUE: Field = Field {
-    key: Key::Queue,
+    key: TableKey::Queue,
     form: Form::Number {
         least: 0,
         greatest: MAX_QUEUE,
@@ -49,21 +49,21 @@ const QUEUE: Field = Field {
 /// The head of the top table.
 pub const HEAD: [Field; 3] = [
     Field {
-        key: Key::Format,
+        key: TableKey::Format,
         form: Form::Number {
             least: 1,
             greatest: 2,
         },
     },
     Field {
-        key: Key::Stop,
+        key: TableKey::Stop,
         form: Form::Number {
             least: 1,
             greatest: MAX_TIME,
         },
     },
     Field {
-        key: Key::Mtu,
+        key: TableKey::Mtu,
         form: Form::Number {
             least: MIN_MTU,
             greatest: MAX_MTU,
@@ -74,23 +74,23 @@ pub const HEAD: [Field; 3] = [
 /// The arrays of the top table, which are read once its head is.
 pub const ARRAYS: [Field; 5] = [
     Field {
-        key: Key::Node,
+        key: TableKey::Node,
         form: Form::Tables(Array::Node),
     },
     Field {
-        key: Key::Iface,
+        key: TableKey::Iface,
         form: Form::Tables(Array::Iface),
     },
     Field {
-        key: Key::Link,
+        key: TableKey::Link,
         form: Form::Tables(Array::Link),
     },
     Field {
-        key: Key::Route,
+        key: TableKey::Route,
         form: Form::Tables(Array::Route),
     },
     Field {
-        key: Key::Source,
+        key: TableKey::Source,
         form: Form::Tables(Array::Source),
     },
 ];
@@ -99,18 +99,18 @@ pub const ARRAYS: [Field; 5] = [
 pub const NODE_TABLE: [Field; 4] = [
     NAME,
     Field {
-        key: Key::Kind,
+        key: TableKey::Kind,
         form: Form::NodeKind,
     },
     Field {
-        key: Key::Partition,
+        key: TableKey::Partition,
         form: Form::Number {
             least: 0,
             greatest: 63,
         },
     },
     Field {
-        key: Key::Ports,
+        key: TableKey::Ports,
         form: Form::Ports,
     },
 ];
@@ -125,7 +125,7 @@ pub const IFACE_TABLE_TWO: [Field; 5] = [
     ADDRESS,
     QUEUE,
     Field {
-        key: Key::QueueOctets,
+        key: TableKey::QueueOctets,
         form: Form::OptionalNumber {
             least: 0,
             greatest: MAX_QUEUE_OCTETS,
@@ -136,22 +136,22 @@ pub const IFACE_TABLE_TWO: [Field; 5] = [
 /// A table of `link`.
 pub const LINK_TABLE: [Field; 4] = [
     Field {
-        key: Key::A,
+        key: TableKey::A,
         form: Form::Name,
     },
     Field {
-        key: Key::B,
+        key: TableKey::B,
         form: Form::Name,
     },
     Field {
-        key: Key::Rate,
+        key: TableKey::Rate,
         form: Form::Number {
             least: MIN_RATE,
             greatest: MAX_RATE,
         },
     },
     Field {
-        key: Key::Delay,
+        key: TableKey::Delay,
         form: Form::Number {
             least: 0,
             greatest: MAX_DELAY,
@@ -163,7 +163,7 @@ pub const LINK_TABLE: [Field; 4] = [
 pub const ROUTE_TABLE: [Field; 3] = [
     NODE,
     Field {
-        key: Key::To,
+        key: TableKey::To,
         form: Form::Prefix,
     },
     VIA,
@@ -173,12 +173,12 @@ pub const ROUTE_TABLE: [Field; 3] = [
 pub const KIND_OF_SOURCE: [Field; 1] = [SOURCE_KIND];
 
 const SIZE: Field = Field {
-    key: Key::Size,
+    key: TableKey::Size,
     form: Form::Size,
 };
 
 const FILL: Field = Field {
-    key: Key::Fill,
+    key: TableKey::Fill,
     form: Form::OptionalNumber {
         least: 0,
         greatest: 255,
@@ -186,7 +186,7 @@ const FILL: Field = Field {
 };
 
 const START: Field = Field {
-    key: Key::Start,
+    key: TableKey::Start,
     form: Form::Number {
         least: 0,
         greatest: MAX_TIME,
@@ -194,7 +194,7 @@ const START: Field = Field {
 };
 
 const INTERVAL: Field = Field {
-    key: Key::Interval,
+    key: TableKey::Interval,
     form: Form::Number {
         least: 1,
         greatest: MAX_INTERVAL,
@@ -202,7 +202,7 @@ const INTERVAL: Field = Field {
 };
 
 const COUNT: Field = Field {
-    key: Key::Count,
+    key: TableKey::Count,
     form: Form::Number {
         least: 0,
         greatest: MAX_COUNT,
@@ -210,7 +210,7 @@ const COUNT: Field = Field {
 };
 
 const TTL: Field = Field {
-    key: Key::Ttl,
+    key: TableKey::Ttl,
     form: Form::OptionalNumber {
         least: 1,
         greatest: 255,
@@ -218,7 +218,7 @@ const TTL: Field = Field {
 };
 
 const SOURCE_PORT: Field = Field {
-    key: Key::SourcePort,
+    key: TableKey::SourcePort,
     form: Form::Number {
         least: 0,
         greatest: 65_535,
@@ -226,7 +226,7 @@ const SOURCE_PORT: Field = Field {
 };
 
 const DESTINATION_PORT: Field = Field {
-    key: Key::DestinationPort,
+    key: TableKey::DestinationPort,
     form: Form::Number {
         least: 0,
         greatest: 65_535,
@@ -234,7 +234,7 @@ const DESTINATION_PORT: Field = Field {
 };
 
 const IDENTIFIER: Field = Field {
-    key: Key::Identifier,
+    key: TableKey::Identifier,
     form: Form::Number {
         least: 0,
         greatest: 65_535,
@@ -276,7 +276,7 @@ pub const RAW_TABLE: [Field; 4] = [
     NODE,
     VIA,
     Field {
-        key: Key::Packet,
+        key: TableKey::Packet,
         form: Form::Packets,
     },
 ];

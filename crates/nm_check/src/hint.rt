@@ -1,7 +1,7 @@
 //! What would be right in place of a text that is not in the form of its field.
 
 use crate::field::{Field, Form};
-use crate::key::Key;
+use crate::key::TableKey;
 use crate::words::{Piece, push};
 use nm_packet::Address;
 use nm_topology::parse::forms::{address_of, is_name, length_of};
@@ -56,13 +56,13 @@ fn push_name_like(out: &mut Vec<u8>, text: &str) -> Result<(), AllocError> {
 }
 
 /// Appends what a name has to be the name of, where an address was given.
-fn push_name_due(out: &mut Vec<u8>, key: Key, text: &str) -> Result<(), AllocError> {
+fn push_name_due(out: &mut Vec<u8>, key: TableKey, text: &str) -> Result<(), AllocError> {
     match key {
-        Key::Via | Key::A | Key::B => push(
+        TableKey::Via | TableKey::A | TableKey::B => push(
             out,
             &[Piece::Text("; give the name of the interface that has this address")],
         ),
-        Key::Node => push(
+        TableKey::Node => push(
             out,
             &[Piece::Text("; give the name of the node that has this address")],
         ),

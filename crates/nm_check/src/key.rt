@@ -5,7 +5,7 @@ ghost use Rattle.nm_check.specs.Keys.{key_text};
 
 /// A key of a topology text.
 #[derive(Clone, Copy)]
-pub enum Key {
+pub enum TableKey {
     Format,
     Stop,
     Mtu,
@@ -41,45 +41,45 @@ pub enum Key {
     Data,
 }
 
-impl Key {
+impl TableKey {
     /// The key, as it stands in a text.
     pub fn text(self) -> &'static str
         ensures { result.now ≡ key_text self }
     {
         match self {
-            Key::Format => "format",
-            Key::Stop => "stop",
-            Key::Mtu => "mtu",
-            Key::Node => "node",
-            Key::Iface => "iface",
-            Key::Link => "link",
-            Key::Route => "route",
-            Key::Source => "source",
-            Key::Name => "name",
-            Key::Kind => "kind",
-            Key::Partition => "partition",
-            Key::Ports => "ports",
-            Key::Address => "address",
-            Key::Queue => "queue",
-            Key::QueueOctets => "queue_octets",
-            Key::A => "a",
-            Key::B => "b",
-            Key::Rate => "rate",
-            Key::Delay => "delay",
-            Key::To => "to",
-            Key::Via => "via",
-            Key::SourcePort => "sport",
-            Key::DestinationPort => "dport",
-            Key::Identifier => "ident",
-            Key::Size => "size",
-            Key::Fill => "fill",
-            Key::Start => "start",
-            Key::Interval => "interval",
-            Key::Count => "count",
-            Key::Ttl => "ttl",
-            Key::Packet => "packet",
-            Key::At => "at",
-            Key::Data => "data",
+            TableKey::Format => "format",
+            TableKey::Stop => "stop",
+            TableKey::Mtu => "mtu",
+            TableKey::Node => "node",
+            TableKey::Iface => "iface",
+            TableKey::Link => "link",
+            TableKey::Route => "route",
+            TableKey::Source => "source",
+            TableKey::Name => "name",
+            TableKey::Kind => "kind",
+            TableKey::Partition => "partition",
+            TableKey::Ports => "ports",
+            TableKey::Address => "address",
+            TableKey::Queue => "queue",
+            TableKey::QueueOctets => "queue_octets",
+            TableKey::A => "a",
+            TableKey::B => "b",
+            TableKey::Rate => "rate",
+            TableKey::Delay => "delay",
+            TableKey::To => "to",
+            TableKey::Via => "via",
+            TableKey::SourcePort => "sport",
+            TableKey::DestinationPort => "dport",
+            TableKey::Identifier => "ident",
+            TableKey::Size => "size",
+            TableKey::Fill => "fill",
+            TableKey::Start => "start",
+            TableKey::Interval => "interval",
+            TableKey::Count => "count",
+            TableKey::Ttl => "ttl",
+            TableKey::Packet => "packet",
+            TableKey::At => "at",
+            TableKey::Data => "data",
         }
     }
 }

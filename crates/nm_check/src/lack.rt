@@ -1,7 +1,7 @@
 //! The tables that name what is not there.
 
 use crate::array::Array;
-use crate::key::Key;
+use crate::key::TableKey;
 use nm_base::NodeNo;
 use nm_topology::names::Names;
 use nm_topology::parse::sources::{NamedTraffic, SourceTable};
@@ -14,7 +14,7 @@ pub enum Lack {
     /// A node of this name.
     Node,
     /// An interface of the name at this key.
-    Iface(Key),
+    Iface(TableKey),
     /// An interface of its node: `via` is one of another node.
     Own,
 }
@@ -38,10 +38,10 @@ fn iface_lack(nodes: &Names, table: &IfaceTable) -> Option<Lack> {
 /// What a table of `link` lacks.
 fn link_lack(ifaces: &Names, table: &LinkTable) -> Option<Lack> {
     if ifaces.number(table.a.as_str()).is_err() {
-        return Some(Lack::Iface(Key::A));
+        return Some(Lack::Iface(TableKey::A));
     }
     if ifaces.number(table.b.as_str()).is_err() {
-        return Some(Lack::Iface(Key::B));
+        return Some(Lack::Iface(TableKey::B));
     }
     None
 }
@@ -49,7 +49,7 @@ fn link_lack(ifaces: &Names, table: &LinkTable) -> Option<Lack> {
 /// What a node lacks, from which packets leave by an interface.
 fn via_lack(ifaces: &Names, owners: &[NodeNo], node: u32, via: &str) -> Option<Lack> {
     let Ok(iface) = ifaces.number(via) else {
-        return Some(Lack::Iface(Key::Via));
+        return Some(Lack::Iface(TableKey::Via));
     };
     match owners.get(iface as usize) {
         Some(owner) if owner.number() == node => None,

@@ -4,7 +4,7 @@ ghost use Rattle.std.specs.Prelude.{◌≤◌};
 
 use crate::field::{Field, Form};
 use crate::first::spot_in;
-use crate::key::Key;
+use crate::key::TableKey;
 use crate::spot::Spot;
 use nm_base::limits::MAX_TIME;
 use nm_topology::parse::fields::required_number;
@@ -24,14 +24,14 @@ pub struct PacketFault {
 pub fn packet_fields(least: u64) -> [Field; 2] {
     [
         Field {
-            key: Key::At,
+            key: TableKey::At,
             form: Form::Number {
                 least,
                 greatest: MAX_TIME,
             },
         },
         Field {
-            key: Key::Data,
+            key: TableKey::Data,
             form: Form::Octets,
         },
     ]

@@ -7,7 +7,7 @@ ghost use Rattle.toml.specs.View.{items_view, table_view, view};
 ghost use Rattle.nm_topology.specs.Parse.Fields.{number_in, required};
 ghost use Rattle.nm_check.specs.First.{first_from};
 ghost use Rattle.nm_check.specs.Keys.{key_text};
-ghost use Rattle.nm_check.specs.Place.{at_top, fields_of, find_in, find_in_arrays, head_of};
+ghost use Rattle.nm_check.specs.Place.{at_top, fields_in, find_in, find_in_arrays, head_of};
 ghost use Rattle.nm_check.specs.Place.{item_of, spot_of};
 ghost use Rattle.nm_check.specs.Place.{place_at, place_in_array, place_in_field, place_of};
 ghost use Rattle.nm_check.specs.Place.{IsFirstPlace, refused_in, source_fields, source_spot};
@@ -22,7 +22,7 @@ use crate::fields::{
     LINK_TABLE, NODE_TABLE, RAW_TABLE, ROUTE_TABLE,
 };
 use crate::first::{MemberFault, first_fault, first_member, has_unknown, spot_in};
-use crate::key::Key;
+use crate::key::TableKey;
 use crate::spot::{FieldFault, Spot};
 use nm_base::limits::{MAX_MTU, MIN_MTU};
 use nm_topology::TopoFault;
@@ -36,7 +36,7 @@ use toml::{Table, Value};
 
 /// Where in the tables of a text a fault lies.
 #[derive(Clone, Copy)]
-pub enum Place {
+pub enum FaultPlace {
     /// In the top table itself.
     Top(Spot),
     /// In a table of an array.
@@ -51,7 +51,7 @@ pub enum Place {
 #[derive(Clone, Copy)]
 pub struct Found {
     pub head: Head,
-    pub place: Place,
+    pub place: FaultPlace,
 }
 
 /// The head of a text before it is read.
@@ -61,7 +61,12 @@ const NO_HEAD: Head = Head {
 };
 
 /// A number of the top table; where it is refused, there is none.
-fn number_of(table: &Table, key: Key, least: u64, greatest: u64) -> Result<Option<u64>, AllocError>
+fn number_of(
+    table: &Table,
+    key: TableKey,
+    least: u64,
+    greatest: u64,
+) -> Result<Option<u64>, AllocError>
     ensures within { IfOk result (λ found. IfSome found (λ n. (least ≤ n) × (n ≤ greatest))) }
     ensures value { IfOk result (λ found. found
         ≡ result_ok (required (number_in least greatest)
@@ -79,8 +84,8 @@ fn head_of(table: &Table) -> Result<Head, AllocError>
     ensures room { IfOk result (λ head. 28 ≤ head.mtu) }
     ensures value { IfOk result (λ head. head ≡ head_of (table_view table.now)) }
 {
-    let format = number_of(table, Key::Format, 1, 2)?;
-    let mtu = number_of(table, Key::Mtu, MIN_MTU, MAX_MTU)?;
+    let format = number_of(table, TableKey::Format, 1, 2)?;
+    let mtu = number_of(table, TableKey::Mtu, MIN_MTU, MAX_MTU)?;
     match (format, mtu) {
         (Some(1), Some(mtu)) => Ok(Head {
             format: Format::One,
@@ -99,11 +104,11 @@ fn head_of(table: &Table) -> Result<Head, AllocError>
 pub fn any_head(table: &Table) -> Result<Head, AllocError>
     ensures { IfOk result (λ head. 28 ≤ head.mtu) }
 {
-    let format = match number_of(table, Key::Format, 1, 2)? {
+    let format = match number_of(table, TableKey::Format, 1, 2)? {
         Some(1) => Format::One,
         _ => Format::Two,
     };
-    let mtu = number_of(table, Key::Mtu, MIN_MTU, MAX_MTU)?;
+    let mtu = number_of(table, TableKey::Mtu, MIN_MTU, MAX_MTU)?;
     Ok(Head {
         format,
         mtu: mtu.unwrap_or(MAX_MTU) as u16,
@@ -124,7 +129,7 @@ fn source_fields(table: &Table) -> Result<&'static [Field], AllocError>
 
 /// The fields of a table of an array, in a text with this head.
 pub fn fields_of(head: Head, array: Array, table: &Table) -> Result<&'static [Field], AllocError>
-    ensures { IfOk result (λ fields. fields.now ≡ fields_of head array (table_view table.now)) }
+    ensures { IfOk result (λ fields. fields.now ≡ fields_in head array (table_view table.now)) }
 {
     match array {
         Array::Node => Ok(&NODE_TABLE),
@@ -194,7 +199,7 @@ fn place_of_member(
     array: Array,
     number: usize,
     value: &Value,
-) -> Result<Option<Place>, AllocError>
+) -> Result<Option<FaultPlace>, AllocError>
     requires { 28 ≤ head.mtu }
     ensures { IfOk result (λ found. found ≡ place_at head array number (Some (view value.now))) }
 {
@@ -202,7 +207,7 @@ fn place_of_member(
         return Ok(None);
     };
     match spot_of(alloc, head, array, table)? {
-        Some(spot) => Ok(Some(Place::Table {
+        Some(spot) => Ok(Some(FaultPlace::Table {
             array,
             number,
             spot,
@@ -218,7 +223,7 @@ fn place_at(
     array: Array,
     items: &[Value],
     number: usize,
-) -> Result<Option<Place>, AllocError>
+) -> Result<Option<FaultPlace>, AllocError>
     requires { 28 ≤ head.mtu }
     ensures { IfOk result (λ found. found
         ≡ place_at head array number (get_item number (items_view items.now))) }
@@ -236,7 +241,7 @@ fn place_in_array(
     head: Head,
     array: Array,
     items: &[Value],
-) -> Result<Option<Place>, AllocError>
+) -> Result<Option<FaultPlace>, AllocError>
     requires { 28 ≤ head.mtu }
     ensures { IfOk result (λ found. found ≡ place_in_array head array (items_view items.now)) }
 {
@@ -255,7 +260,7 @@ fn place_in_field(
     head: Head,
     table: &Table,
     wanted: Field,
-) -> Result<Option<Place>, AllocError>
+) -> Result<Option<FaultPlace>, AllocError>
     requires { 28 ≤ head.mtu }
     ensures { IfOk result (λ found. found ≡ place_in_field head (table_view table.now) wanted) }
 {
@@ -274,13 +279,13 @@ fn place_of(
     head: Head,
     table: &Table,
     fault: FieldFault,
-) -> Result<Place, AllocError>
+) -> Result<FaultPlace, AllocError>
     requires { 28 ≤ head.mtu }
     ensures { IfOk result (λ found. found ≡ place_of head (table_view table.now) fault) }
 {
     match place_in_field(alloc, head, table, fault.field)? {
         Some(place) => Ok(place),
-        None => Ok(Place::Top(Spot::Field(fault))),
+        None => Ok(FaultPlace::Top(Spot::Field(fault))),
     }
 }
 
@@ -305,7 +310,7 @@ fn at_top(spot: Spot) -> Found
 {
     Found {
         head: NO_HEAD,
-        place: Place::Top(spot),
+        place: FaultPlace::Top(spot),
     }
 }
 

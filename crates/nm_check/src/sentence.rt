@@ -8,7 +8,7 @@ use crate::field_sentence::push_field_fault;
 use crate::first::keys_of;
 use crate::nearest::nearest;
 use crate::packet::{first_packet, packet_fields};
-use crate::place::{Found, Place, TOP_KEYS, fields_of};
+use crate::place::{FaultPlace, Found, TOP_KEYS, fields_of};
 use crate::spot::{FieldFault, Spot};
 use crate::words::{Piece, push};
 use nm_topology::parse::fields::field;
@@ -161,14 +161,14 @@ pub fn push_found(
     requires { 28 ≤ found.head.mtu }
 {
     match found.place {
-        Place::Top(spot) => {
+        FaultPlace::Top(spot) => {
             push(out, &[Piece::Text("top: ")])?;
             match spot {
                 Spot::Unknown => push_unknown(out, top, &TOP_KEYS),
                 Spot::Field(fault) => push_field_fault(out, found.head, top, fault),
             }
         }
-        Place::Table {
+        FaultPlace::Table {
             array,
             number,
             spot,

@@ -3,7 +3,7 @@
 use crate::array::Array;
 use crate::doubles::Double;
 use crate::faults::{MAX_FAULTS, push_line, push_more};
-use crate::key::Key;
+use crate::key::TableKey;
 use crate::lack::{Lack, Lacking};
 use crate::line::table_line;
 use crate::names::names_of;
@@ -57,7 +57,7 @@ fn iface_of(document: &Document, lacking: Lacking) -> &str {
     let number = lacking.number;
     match lacking.array {
         Array::Link => match (document.links.get(number), lacking.lack) {
-            (Some(table), Lack::Iface(Key::A)) => table.a.as_str(),
+            (Some(table), Lack::Iface(TableKey::A)) => table.a.as_str(),
             (Some(table), _) => table.b.as_str(),
             (None, _) => "",
         },
@@ -316,11 +316,11 @@ fn push_cut(out: &mut Vec<u8>, link: usize, a: PartNo, b: PartNo) -> Result<(), 
 }
 
 /// The key at which a table names what is not there.
-fn key_of_lack(lack: Lack) -> Key {
+fn key_of_lack(lack: Lack) -> TableKey {
     match lack {
-        Lack::Node => Key::Node,
+        Lack::Node => TableKey::Node,
         Lack::Iface(key) => key,
-        Lack::Own => Key::Via,
+        Lack::Own => TableKey::Via,
     }
 }
 
@@ -352,14 +352,14 @@ fn push_lacks(
 /// The line of what the whole is refused for.
 fn line_of_fault(text: &str, fault: &WholeFault) -> Option<u64> {
     let (array, number, key) = match fault {
-        WholeFault::DoubleName { array, double } => (*array, double.second, Key::Name),
+        WholeFault::DoubleName { array, double } => (*array, double.second, TableKey::Name),
         WholeFault::NoSuch(lacking) => return line_of_lack(text, lacking.first()?),
-        WholeFault::IfaceUse { iface, .. } => (Array::Iface, *iface, Key::Name),
-        WholeFault::DoubleAddress(double) => (Array::Iface, double.second, Key::Address),
-        WholeFault::DoubleRoute(double) => (Array::Route, double.second, Key::To),
-        WholeFault::ManyRoutes { node, .. } => (Array::Node, *node, Key::Name),
+        WholeFault::IfaceUse { iface, .. } => (Array::Iface, *iface, TableKey::Name),
+        WholeFault::DoubleAddress(double) => (Array::Iface, double.second, TableKey::Address),
+        WholeFault::DoubleRoute(double) => (Array::Route, double.second, TableKey::To),
+        WholeFault::ManyRoutes { node, .. } => (Array::Node, *node, TableKey::Name),
         WholeFault::ManyChannels(_) => return None,
-        WholeFault::CutDelay { link, .. } => (Array::Link, *link, Key::Delay),
+        WholeFault::CutDelay { link, .. } => (Array::Link, *link, TableKey::Delay),
     };
     table_line(text, array.key().text(), number, key.text())
 }

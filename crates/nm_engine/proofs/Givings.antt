@@ -7,7 +7,7 @@ use Rattle.nm_book.specs.Book.{BookValue}
 use Rattle.nm_frames.specs.declared.frame.Frame.{Frame}
 use Rattle.nm_frames.specs.Frame.{IsFrame, frame_octets, stream_octets}
 use Rattle.nm_frames.specs.Lives.{SessionStep, Gave}
-use Rattle.nm_frames.specs.Owed.{given, given_maybe, owed}
+use Rattle.nm_frames.specs.Owed.{after_giving, given_maybe, owed}
 use Rattle.nm_frames.specs.Session.{SessionValue}
 use Rattle.nm_engine.specs.declared.answer.Cause.{Cause}
 use Rattle.nm_engine.specs.declared.answer.Cause.TheVariants.{End, Fault, Frame as BadFrame, Session as BadSession, Book, Memory}
@@ -21,7 +21,7 @@ module _ (h : Option AcceptorValue) where
   pub gives_one : {E : Type 0} (s t : SessionValue) (b : BookValue) (f : Frame) (o : Result (Option Frame) E) → o ≡ Ok (Some f) → IfOk o (λ x. x ≡ owed s b) → IfOk o (λ x. t ≡ given_maybe s x) → IsFrame f → (before after lost : List ℕ) → after ++ lost ≡ before ++ frame_octets f → GivesFrames h (Some s) (Some t) before after lost
   gives_one {E} s t b f o e is then fits before after lost put =
       let owes : Some f ≡ owed s b = subst (λ (x : Result (Option Frame) E). IfOk x (λ y. y ≡ owed s b)) e is in
-      let last : t ≡ given s f = subst (λ (x : Result (Option Frame) E). IfOk x (λ y. t ≡ given_maybe s y)) e then in
+      let last : t ≡ after_giving s f = subst (λ (x : Result (Option Frame) E). IfOk x (λ y. t ≡ given_maybe s y)) e then in
       record {
         outs = f ∷ [];
         gave = (s, b, refl, sym owes, fits, ap Some last);

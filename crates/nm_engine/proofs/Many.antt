@@ -7,7 +7,7 @@ use Rattle.nm_frames.specs.declared.session_fault.SessionFault.TheVariants.{Peer
 use Rattle.nm_frames.specs.Channels.{channels_between}
 use Rattle.nm_frames.specs.Frame.{frame_octets, stream_octets}
 use Rattle.nm_frames.specs.Lives.{SessionStep, Took, Gave, Broke, AreConsecutive, HasCursor, due_after, Lives as SessionLives}
-use Rattle.nm_frames.specs.Owed.{given, owed}
+use Rattle.nm_frames.specs.Owed.{after_giving, owed}
 use Rattle.nm_frames.specs.Session.{SessionValue, new_outgoing, taken}
 use Rattle.nm_frames.proofs.Consecutive.{from_cursor}
 use Rattle.nm_book.specs.Book.{BookValue}
@@ -178,8 +178,8 @@ session_lives h (Took f ∷ r) s t lives = let more = session_lives h r lives.0 
 session_lives h (Gave f ∷ r) s t lives =
     let same : s ≡ lives.0 = some_same s lives.0 lives.2 in
     let owes : owed s lives.1 ≡ Some f = ap (λ (x : SessionValue). owed x lives.1) same ∙ lives.3 in
-    let after = subst (λ (x : SessionValue). LinkLives h (Some (given x f)) r t) (sym same) lives.5 in
-    let more = session_lives h r (given s f) t after in (more.0, more.1, (lives.1, owes, more.2))
+    let after = subst (λ (x : SessionValue). LinkLives h (Some (after_giving x f)) r t) (sym same) lives.5 in
+    let more = session_lives h r (after_giving s f) t after in (more.0, more.1, (lives.1, owes, more.2))
 session_lives h (Broke ∷ r) s t lives = absurd lives
 
 none_yet : (c : ℕ) (ds : List ℕ) → HasCursor c None (map new_outgoing ds)

@@ -11,7 +11,7 @@ use Rattle.nm_frames.specs.declared.taken.Taken.{Taken}
 use Rattle.nm_frames.specs.declared.taken.Taken.TheVariants.{Greeted, Cursor, ForBook, Ended}
 use Rattle.nm_frames.specs.Frame.{IsFrame}
 use Rattle.nm_frames.specs.Lives.{SessionStep, Took, Gave, Broke}
-use Rattle.nm_frames.specs.Owed.{given, owed}
+use Rattle.nm_frames.specs.Owed.{after_giving, owed}
 use Rattle.nm_frames.specs.Session.{SessionValue, purpose}
 use Rattle.nm_engine.specs.Acceptor.{AcceptorValue, taken_at}
 
@@ -39,7 +39,7 @@ LinkLives h s [] t = t ≡ s
 LinkLives h s (Took f ∷ r) t =
     (m : SessionValue) × (taken_at h s f ≡ Ok m) × IsFrame f × IsServed (purpose f) × LinkLives h (Some m) r t
 LinkLives h s (Gave f ∷ r) t =
-    (m : SessionValue) × (b : BookValue) × (s ≡ Some m) × (owed m b ≡ Some f) × IsFrame f × LinkLives h (Some (given m f)) r t
+    (m : SessionValue) × (b : BookValue) × (s ≡ Some m) × (owed m b ≡ Some f) × IsFrame f × LinkLives h (Some (after_giving m f)) r t
 LinkLives h s (Broke ∷ r) t = ⊥
 
 -- the frames that were taken, in order, and those that were given

@@ -4,11 +4,11 @@ use Rattle.nm_packet.specs.declared.icmp.MessageKind.{MessageKind}
 use Rattle.nm_packet.specs.Ipv4.{fields_of, quote_of}
 use Rattle.nm_topology.specs.PartValues.{IfaceValue}
 use Rattle.nm_forward.specs.declared.counter.Counter.TheVariants.{Quiet}
-use Rattle.nm_forward.specs.State.{NodeTable}
-use Rattle.nm_forward.specs.Originate.{Consequence, Counts, Message, Outgoing, originate, is_quiet, error_about, error_of}
+use Rattle.nm_forward.specs.State.{NodeConfiguration}
+use Rattle.nm_forward.specs.Originate.{Consequence, Counts, Message, Draft, originate, is_quiet, error_about, error_of}
 
 -- an error of these parts
-abbrev error_from : MessageKind → ℕ → List ℕ → Outgoing
+abbrev error_from : MessageKind → ℕ → List ℕ → Draft
 error_from kind source quoted = record {
   source = None;
   destination = source;
@@ -16,7 +16,7 @@ error_from kind source quoted = record {
   body = Message kind (0 ∷ 0 ∷ 0 ∷ 0 ∷ []) quoted;
 }
 
-module _ (ifaces : List IfaceValue) (table : NodeTable) (identification : ℕ) (p : List ℕ)
+module _ (ifaces : List IfaceValue) (table : NodeConfiguration) (identification : ℕ) (p : List ℕ)
     (kind : MessageKind) where
   -- an error that is not withheld, of parts that are those of the definition
   pub error_of-loud : (source : ℕ) (quoted : List ℕ) → is_quiet p ≡ false

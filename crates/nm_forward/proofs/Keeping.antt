@@ -10,7 +10,7 @@ use Rattle.nm_topology.specs.declared.traffic.Traffic.TheVariants.{Cbr, Echo, Ra
 use Rattle.nm_topology.specs.PartValues.{IfaceValue}
 use Rattle.nm_forward.specs.declared.reaction.Reaction.{Reaction}
 use Rattle.nm_topology.specs.TopologyValue.{TopologyValue}
-use Rattle.nm_forward.specs.State.{NodeTable, NodeStateValue, table_of, state_counted}
+use Rattle.nm_forward.specs.State.{NodeConfiguration, NodeStateValue, table_of, state_counted}
 use Rattle.nm_forward.specs.Row.{arrival_row, row_counter}
 use Rattle.nm_forward.specs.Originate.{consequence_of, Consequence, Nothing, Counts, Sends, Originates, originate, concluded}
 use Rattle.nm_forward.specs.Reaction.{handed, handed_by, reaction, arrived, sent_of}
@@ -21,7 +21,7 @@ concluded-table (Counts c) n = refl
 concluded-table (Sends via x) n = refl
 concluded-table (Originates via x) n = refl
 
-pub arrived-table : (ifaces : List IfaceValue) (table : NodeTable) (n : NodeStateValue) (x : List ℕ)
+pub arrived-table : (ifaces : List IfaceValue) (table : NodeConfiguration) (n : NodeStateValue) (x : List ℕ)
     → (arrived ifaces table n x).0.table ≡ n.table
 unfolding arrived
 arrived-table ifaces table n x =

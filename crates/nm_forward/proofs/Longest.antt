@@ -10,7 +10,7 @@ use Rattle.nm_topology.specs.PartValues.{NodeValue}
 use Rattle.nm_topology.specs.TopologyValue.{TopologyValue}
 use Rattle.nm_topology.specs.Accepted.{IsInOrder}
 use Rattle.nm_forward.specs.Routes.{Holds, network, leads, longest_below, longest_route, route_of}
-use Rattle.nm_forward.specs.State.{IsIfaceOf, NodeTable, table_from, table_of}
+use Rattle.nm_forward.specs.State.{IsIfaceOf, NodeConfiguration, table_from, table_of}
 
 -- what is found is of the list
 pub find-all : {X : Type 0} (P : X → Type 0) (p : X → Bool) (xs : List X) (x : X) → All P xs
@@ -58,12 +58,12 @@ own_routes t order v = at (slice_get t.nodes v) (λ n. order.vias v n) where
   at None f = λ k d h. absurd (omega arith)
   at (Some n) f = f n refl
 
-pub own_via : (t : TopologyValue) → IsInOrder t.nodes t.ifaces t.links → (table : NodeTable)
+pub own_via : (t : TopologyValue) → IsInOrder t.nodes t.ifaces t.links → (table : NodeConfiguration)
     → table ≡ table_of t table.node → (a via : ℕ) → route_of table.routes a ≡ Some via
     → IsIfaceOf t.ifaces table.node via
 own_via t order table is a via e =
     routed-all (IsIfaceOf t.ifaces table.node) table.routes a via
-    (subst (λ (x : NodeTable). All (λ r. IsIfaceOf t.ifaces table.node r.via) x.routes) (sym is)
+    (subst (λ (x : NodeConfiguration). All (λ r. IsIfaceOf t.ifaces table.node r.via) x.routes) (sym is)
     (own_routes t order table.node)) e
 
 -- what is found passes, and what is not found does not

@@ -15,7 +15,7 @@ use Rattle.nm_topology.specs.Accepted.{IsInOrder, IsPlaced, LeavesByOwn, owners_
 use Rattle.nm_forward.specs.declared.counter.Counter.TheVariants as count
 use Rattle.nm_forward.specs.State.{IsIfaceOf, NodeStateValue, table_of, state_counted}
 use Rattle.nm_forward.specs.Row.{arrival_row, row_counter}
-use Rattle.nm_forward.specs.Originate.{consequence_of, Sends, originate, Outgoing}
+use Rattle.nm_forward.specs.Originate.{consequence_of, Sends, originate, Draft}
 use Rattle.nm_forward.specs.Reaction.{arrived, handed, handed_by, reaction}
 use Rattle.nm_forward.proofs.Longest.{own_routes, routed-all}
 use Rattle.nm_forward.proofs.Sending.{OnSent, concluded-sent, originate-sent, consequence_of-sent, forwarded-from}
@@ -36,7 +36,7 @@ module _ (t : TopologyValue) (order : IsInOrder t.nodes t.ifaces t.links) (v : �
   P via octets = IsIfaceOf t.ifaces v via
 
   -- what is originated leaves by a route of the node
-  out-own : (out : Outgoing) → OnSent P (originate t.ifaces (table_of t v) n.identification out)
+  out-own : (out : Draft) → OnSent P (originate t.ifaces (table_of t v) n.identification out)
   out-own out = originate-sent P t.ifaces (table_of t v) n.identification out
       (λ via source e. routed-all (IsIfaceOf t.ifaces v) (table_of t v).routes out.destination via
       (own_routes t order v) e)

@@ -13,9 +13,9 @@ use Rattle.nm_forward.specs.declared.counter.Counter.TheVariants.{Quiet, ToSelf}
 use Rattle.nm_forward.specs.declared.row.Row.{Row}
 use Rattle.nm_forward.specs.declared.row.Row.TheVariants.{BadHeader, BadDestination, NotMine, Unreachable, Expired, Forward, Fragment, BadIcmp, EchoRequest, OtherIcmp, BadUdp, Delivered, ClosedPort, UnknownProtocol}
 use Rattle.nm_forward.specs.Routes.{route_of}
-use Rattle.nm_forward.specs.State.{NodeTable, NodeStateValue, is_own, listens}
+use Rattle.nm_forward.specs.State.{NodeConfiguration, NodeStateValue, is_own, listens}
 use Rattle.nm_forward.specs.Row.{transit_row, is_echo_request, icmp_row, udp_row, is_fragment, local_row, packet_row, arrival_row}
-use Rattle.nm_forward.specs.Originate.{consequence_of, Consequence, Nothing, Counts, Sends, Originates, Outgoing, originated_header, packet_written, originate_by, originate, is_quiet, no_network, no_protocol, no_port, expired, error_about, error_of, reply_to, reply_of, concluded}
+use Rattle.nm_forward.specs.Originate.{consequence_of, Consequence, Nothing, Counts, Sends, Originates, Draft, originated_header, packet_written, originate_by, originate, is_quiet, no_network, no_protocol, no_port, expired, error_about, error_of, reply_to, reply_of, concluded}
 
 -- of the packet that a consequence sends, and its interface
 abbrev pub OnSent : (ℕ → List ℕ → Type 0) → Consequence → Type 0
@@ -33,10 +33,10 @@ concluded-sent P (Sends via x) n s h e = let g : ◌≡◌ {A = ℕ × List ℕ}
 concluded-sent P (Originates via x) n s h e = let g : ◌≡◌ {A = ℕ × List ℕ} (via, x) s =
     cc in subst (λ z. P z.0 z.1) g h
 
-module _ (P : ℕ → List ℕ → Type 0) (ifaces : List IfaceValue) (table : NodeTable)
+module _ (P : ℕ → List ℕ → Type 0) (ifaces : List IfaceValue) (table : NodeConfiguration)
     (identification : ℕ) where
   -- a packet that is originated leaves by a route
-  pub originate-sent : (out : Outgoing)
+  pub originate-sent : (out : Draft)
       → ((via source : ℕ) → route_of table.routes out.destination ≡ Some via
       → P via (packet_written (originated_header identification out source) out.body))
       → OnSent P (originate ifaces table identification out)
@@ -94,7 +94,7 @@ module _ (P : ℕ → List ℕ → Type 0) (ifaces : List IfaceValue) (table : N
   consequence_of-sent p UnknownProtocol errors replies forward = error_of-sent p no_protocol (errors no_protocol)
 
 -- where a row that sends something comes from: a route, or the payload; the header test passed
-abbrev pub ComesFrom : NodeTable → List ℕ → Row → Type 0
+abbrev pub ComesFrom : NodeConfiguration → List ℕ → Row → Type 0
 ComesFrom table x (Forward via) =
     (is_some (header_fault x) ≡ false) ×
     (route_of table.routes (fields_of (cut_of x)).destination ≡ Some via)
@@ -102,7 +102,7 @@ ComesFrom table x (EchoRequest request) =
     (is_some (header_fault x) ≡ false) × (request ≡ payload_of (cut_of x))
 ComesFrom table x row = Unit {0}
 
-module _ (table : NodeTable) (x : List ℕ) where
+module _ (table : NodeConfiguration) (x : List ℕ) where
   either : (b : Bool) (r q : Row) → ComesFrom table x r → ComesFrom table x q
       → ComesFrom table x (cond b r q)
   either true r q f g = f

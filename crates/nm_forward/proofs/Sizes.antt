@@ -20,7 +20,7 @@ use Rattle.nm_topology.specs.TopologyValue.{TopologyValue}
 use Rattle.nm_forward.specs.declared.counter.Counter.TheVariants as count
 use Rattle.nm_forward.specs.State.{NodeStateValue, table_of, state_counted}
 use Rattle.nm_forward.specs.Row.{arrival_row, row_counter}
-use Rattle.nm_forward.specs.Originate.{consequence_of, Sends, Body, Datagram, Message, Outgoing, body_octets, originated_header, packet_written, originate, echo_reply, error_about, reply_to}
+use Rattle.nm_forward.specs.Originate.{consequence_of, Sends, Body, Datagram, Message, Draft, body_octets, originated_header, packet_written, originate, echo_reply, error_about, reply_to}
 use Rattle.nm_forward.specs.Reaction.{arrived, handed, handed_by, reaction, FitsHeaders, FitsSource, FitsOrigin}
 use Rattle.nm_forward.proofs.Sending.{OnSent, concluded-sent, originate-sent, consequence_of-sent, forwarded-from, request-from}
 
@@ -114,7 +114,7 @@ cut-length x = omega (arith, length-take (word_at x 2) x)
 
 module _ (t : TopologyValue) (v : ℕ) (n : NodeStateValue) (x : List ℕ) (least : 1 ≤ length x)
     (most : length x ≤ 65535) where
-  out-sized : (out : Outgoing) → IsSmall out.body
+  out-sized : (out : Draft) → IsSmall out.body
       → OnSent IsSized (originate t.ifaces (table_of t v) n.identification out)
   out-sized out small = originate-sent IsSized t.ifaces (table_of t v) n.identification out
       (λ via source e. written-sized

@@ -16,7 +16,7 @@ use Rattle.nm_forward.specs.declared.counter.Counter.TheVariants.{Quiet, ToSelf,
 use Rattle.nm_forward.specs.declared.row.Row.{Row}
 use Rattle.nm_forward.specs.declared.row.Row.TheVariants.{BadHeader, BadDestination, NotMine, Unreachable, Expired, Forward, Fragment, BadIcmp, EchoRequest, OtherIcmp, BadUdp, Delivered, ClosedPort, UnknownProtocol}
 use Rattle.nm_forward.specs.Routes.{route_of}
-use Rattle.nm_forward.specs.State.{NodeTable, NodeStateValue, is_own, state_counted, after_originating}
+use Rattle.nm_forward.specs.State.{NodeConfiguration, NodeStateValue, is_own, state_counted, after_originating}
 
 -- what follows the counter of a row: nothing, a further counter alone, a packet that is sent on by
 -- an interface, or one that is originated
@@ -37,7 +37,7 @@ pub data Body : Type 0 where
 
 -- a packet that is to be originated, from the address of the interface by which it leaves unless it
 -- says another
-pub record Outgoing : Type 0 where
+pub record Draft : Type 0 where
   pub source : Option ℕ
   pub destination : ℕ
   pub time_to_live : ℕ
@@ -58,7 +58,7 @@ body_octets source destination (Whole octets) = octets
 
 -- the header of a packet of this identification from this address: no options, type of service 0,
 -- no flags
-abbrev pub originated_header : ℕ → Outgoing → ℕ → Ipv4Header
+abbrev pub originated_header : ℕ → Draft → ℕ → Ipv4Header
 originated_header identification out source = record {
   type_of_service = 0;
   identification = identification;
@@ -116,7 +116,7 @@ abbrev pub echo_reply : MessageKind
 echo_reply = record { message_type = ECHO_REPLY; code = ECHO_CODE }
 
 -- the error of this kind about the packet (RFC 792)
-abbrev pub error_about : List ℕ → MessageKind → Outgoing
+abbrev pub error_about : List ℕ → MessageKind → Draft
 error_about p kind = record {
   source = None;
   destination = (fields_of p).source;
@@ -126,7 +126,7 @@ error_about p kind = record {
 
 -- the reply to an echo request: from where it was sent to, with its identifier, sequence number and
 -- data (RFC 792)
-abbrev pub reply_to : Header → List ℕ → Outgoing
+abbrev pub reply_to : Header → List ℕ → Draft
 reply_to h request = record {
   source = Some h.destination;
   destination = h.source;
@@ -135,16 +135,16 @@ reply_to h request = record {
 }
 
 -- what a node with these interfaces, tables and identification originates
-module _ (ifaces : List IfaceValue) (table : NodeTable) (identification : ℕ) where
+module _ (ifaces : List IfaceValue) (table : NodeConfiguration) (identification : ℕ) where
   -- by this route
-  abbrev pub originate_by : Outgoing → Option ℕ → Consequence
+  abbrev pub originate_by : Draft → Option ℕ → Consequence
   originate_by out None = Counts NoRoute
   originate_by out (Some via) =
       let source : ℕ = unwrap_or out.source (iface_address ifaces via) in
       Originates via (packet_written (originated_header identification out source) out.body)
 
   -- never to an address of the node itself, and only where a route leads (own)
-  unfoldable pub originate : Outgoing → Consequence
+  unfoldable pub originate : Draft → Consequence
   originate out = if is_own table out.destination then Counts ToSelf
       else originate_by out (route_of table.routes out.destination)
 

@@ -3,8 +3,8 @@ use Rattle.nm_forward.specs.declared.prepared.Prepared.{Prepared}
 use Rattle.nm_forward.specs.declared.prepared.Prepared.TheVariants as prepared
 use Rattle.nm_forward.specs.declared.prepared.Body as program
 use Rattle.nm_forward.specs.declared.prepared.Body.TheVariants as body
-use Rattle.nm_forward.specs.declared.prepared.Outgoing as program_out
-use Rattle.nm_forward.specs.Originate.{Consequence, Nothing, Counts, Sends, Originates, Body, Datagram, Message, Whole, Outgoing}
+use Rattle.nm_forward.specs.declared.prepared.Draft as program_out
+use Rattle.nm_forward.specs.Originate.{Consequence, Nothing, Counts, Sends, Originates, Body, Datagram, Message, Whole, Draft}
 
 abbrev pub consequence : Prepared → Consequence
 consequence prepared.Nothing = Nothing
@@ -17,8 +17,8 @@ body_of (body.Datagram ports payload) = Datagram ports payload.now
 body_of (body.Message kind rest payload) = Message kind rest payload.now
 body_of (body.Whole octets) = Whole octets.now
 
-abbrev pub outgoing_of : program_out.Outgoing → Outgoing
-outgoing_of out = record {
+abbrev pub draft_of : program_out.Draft → Draft
+draft_of out = record {
   source = out.source;
   destination = out.destination;
   time_to_live = out.time_to_live;

@@ -15,18 +15,18 @@ use Rattle.nm_forward.specs.declared.row.Row.{Row}
 use Rattle.nm_forward.specs.declared.counter.Counter.TheVariants as count
 use Rattle.nm_forward.specs.declared.reaction.Reaction.{Reaction}
 use Rattle.nm_forward.specs.declared.reaction.Reaction.TheVariants as sent
-use Rattle.nm_forward.specs.State.{NodeTable, NodeStateValue, table_of, state_counted}
+use Rattle.nm_forward.specs.State.{NodeConfiguration, NodeStateValue, table_of, state_counted}
 use Rattle.nm_forward.specs.Row.{arrival_row, row_counter}
-use Rattle.nm_forward.specs.Originate.{Sends, Datagram, Whole, Outgoing, originate, consequence_of, Reacted, concluded}
+use Rattle.nm_forward.specs.Originate.{Sends, Datagram, Whole, Draft, originate, consequence_of, Reacted, concluded}
 
 -- octets arrive: the row's counter rises, and then comes what follows
-unfoldable pub arrived : List IfaceValue → NodeTable → NodeStateValue → List ℕ → Reacted
+unfoldable pub arrived : List IfaceValue → NodeConfiguration → NodeStateValue → List ℕ → Reacted
 arrived ifaces table n x = let row : Row = arrival_row table x in
     concluded (consequence_of ifaces table n.identification (cut_of x) row)
     (state_counted (row_counter row) n)
 
 -- the packet of a `cbr` source: its data, and where it has none not the octet that stands for them
-abbrev pub datagram_of : CbrTraffic → List ℕ → Outgoing
+abbrev pub datagram_of : CbrTraffic → List ℕ → Draft
 datagram_of c x = record {
   source = None;
   destination = c.to;
@@ -36,7 +36,7 @@ datagram_of c x = record {
 }
 
 -- the packet of an `echo` source, which hands over a whole ICMP message
-abbrev pub request_of : EchoTraffic → List ℕ → Outgoing
+abbrev pub request_of : EchoTraffic → List ℕ → Draft
 request_of e x = record {
   source = None;
   destination = e.to;
@@ -46,7 +46,7 @@ request_of e x = record {
 
 -- A source of the node hands over a packet. The octets of a `raw` source go by its interface as
 -- they are.
-abbrev pub handed : List IfaceValue → NodeTable → NodeStateValue → Traffic → List ℕ → Reacted
+abbrev pub handed : List IfaceValue → NodeConfiguration → NodeStateValue → Traffic → List ℕ → Reacted
 handed ifaces table n (Cbr c) x =
     concluded (originate ifaces table n.identification (datagram_of c x)) n
 handed ifaces table n (Echo e) x =

@@ -13,7 +13,7 @@ use Rattle.nm_forward.specs.declared.counter.Counter.TheVariants as count
 use Rattle.nm_forward.specs.declared.row.Row.{Row}
 use Rattle.nm_forward.specs.declared.row.Row.TheVariants.{BadHeader, BadDestination, NotMine, Unreachable, Expired, Forward, Fragment, BadIcmp, EchoRequest, OtherIcmp, BadUdp, Delivered, ClosedPort, UnknownProtocol}
 use Rattle.nm_forward.specs.Routes.{route_of}
-use Rattle.nm_forward.specs.State.{NodeTable, is_own, listens}
+use Rattle.nm_forward.specs.State.{NodeConfiguration, is_own, listens}
 
 -- a packet for another node, to which this route leads (RFC 1812, sections 5.2.7.1 and 5.3.1). That
 -- the route is looked up before the time to live is tested is own.
@@ -32,7 +32,7 @@ icmp_row payload = if is_some (icmp_fault payload) then BadIcmp
     else (if is_echo_request (icmp_fields_of payload) then EchoRequest payload else OtherIcmp)
 
 -- a UDP datagram for this node
-abbrev pub udp_row : NodeTable → Ipv4Fields → List ℕ → Row
+abbrev pub udp_row : NodeConfiguration → Ipv4Fields → List ℕ → Row
 udp_row table h payload = if is_some (udp_fault h.source h.destination payload) then BadUdp
     else (if listens table (udp_fields_of (udp_cut_of payload)).destination_port then Delivered
     else ClosedPort)
@@ -42,19 +42,19 @@ abbrev pub is_fragment : Ipv4Fields → Bool
 is_fragment h = (h.flags % 2 == 1) || not (h.fragment_offset == 0)
 
 -- a packet for this node; its time to live is not tested
-abbrev pub local_row : NodeTable → Ipv4Fields → List ℕ → Row
+abbrev pub local_row : NodeConfiguration → Ipv4Fields → List ℕ → Row
 local_row table h payload = if is_fragment h then Fragment
     else (if h.protocol == 1 then icmp_row payload
     else (if h.protocol == 17 then udp_row table h payload else UnknownProtocol))
 
 -- a packet that passes the header test
-unfoldable pub packet_row : NodeTable → Ipv4Fields → List ℕ → Row
+unfoldable pub packet_row : NodeConfiguration → Ipv4Fields → List ℕ → Row
 packet_row table h payload = if is_martian h.destination then BadDestination
     else (if is_own table h.destination then local_row table h payload
     else transit_row table.kind (route_of table.routes h.destination) h.time_to_live)
 
 -- octets that arrive
-abbrev pub arrival_row : NodeTable → List ℕ → Row
+abbrev pub arrival_row : NodeConfiguration → List ℕ → Row
 arrival_row table x = if is_some (header_fault x) then BadHeader
     else packet_row table (fields_of (cut_of x)) (payload_of (cut_of x))
 

@@ -12,7 +12,7 @@ use Rattle.nm_forward.specs.declared.counter.Counter.TheVariants.{Originated}
 use Rattle.nm_forward.specs.Counter.{raised, no_counts}
 
 -- what stays as it is: the node's number, and all that the topology says of it
-pub record NodeTable : Type 0 where
+pub record NodeConfiguration : Type 0 where
   pub node : ℕ
   pub kind : NodeKind
   pub ports : List ℕ
@@ -21,7 +21,7 @@ pub record NodeTable : Type 0 where
 
 -- what changes: the next identification, and the counts in the order of the counters' numbers
 pub record NodeStateValue : Type 0 where
-  pub table : NodeTable
+  pub table : NodeConfiguration
   pub identification : ℕ
   pub counters : List ℕ
 
@@ -30,7 +30,7 @@ abbrev pub addresses_at : ℕ → List IfaceValue → List ℕ
 addresses_at v ifaces = map (λ i. i.address) (filter (λ i. i.node == v) ifaces)
 
 -- a node that isn't there is a host that knows nothing
-abbrev pub table_from : ℕ → List IfaceValue → Option NodeValue → NodeTable
+abbrev pub table_from : ℕ → List IfaceValue → Option NodeValue → NodeConfiguration
 table_from v ifaces None = record { node = v; kind = Host; ports = []; routes = []; addresses = [] }
 table_from v ifaces (Some n) = record {
   node = v;
@@ -41,7 +41,7 @@ table_from v ifaces (Some n) = record {
 }
 
 -- what the topology says of node v
-unfoldable pub table_of : TopologyValue → ℕ → NodeTable
+unfoldable pub table_of : TopologyValue → ℕ → NodeConfiguration
 table_of t v = table_from v t.ifaces (slice_get t.nodes v)
 
 -- what the node knows of itself is what the topology says of it
@@ -53,11 +53,11 @@ abbrev pub first_state : TopologyValue → ℕ → NodeStateValue
 first_state t v = record { table = table_of t v; identification = 0; counters = no_counts }
 
 -- whether the address is one of the node's own
-abbrev pub is_own : NodeTable → ℕ → Bool
+abbrev pub is_own : NodeConfiguration → ℕ → Bool
 is_own table address = list_any (nat_eq address) table.addresses
 
 -- whether something listens at the UDP port
-abbrev pub listens : NodeTable → ℕ → Bool
+abbrev pub listens : NodeConfiguration → ℕ → Bool
 listens table port = list_any (nat_eq port) table.ports
 
 -- the interface is there, and is one of node v

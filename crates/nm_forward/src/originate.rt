@@ -6,10 +6,10 @@ ghost use Rattle.nm_packet.specs.Ipv4.{fields_of};
 ghost use Rattle.nm_forward.specs.State.{Knows};
 ghost use Rattle.nm_forward.specs.Originate.{FitsPacket, error_of, is_error_message, is_quiet};
 ghost use Rattle.nm_forward.specs.Originate.{originate, packet_written, protocol_of, reply_of};
-ghost use Rattle.nm_forward.specs.Prepared.{body_of, consequence, outgoing_of};
+ghost use Rattle.nm_forward.specs.Prepared.{body_of, consequence, draft_of};
 
 use crate::counter::Counter;
-use crate::prepared::{Body, Outgoing, Prepared};
+use crate::prepared::{Body, Draft, Prepared};
 use crate::state::NodeState;
 use nm_base::{Packet, Twin};
 use nm_packet::icmp::{
@@ -45,17 +45,17 @@ pub fn originate(
     alloc: Global,
     topology: &Topology,
     state: &NodeState,
-    outgoing: &Outgoing<'_>,
+    draft: &Draft<'_>,
 ) -> Result<Prepared, AllocError>
     requires table { Knows topology.now state.now }
-    requires fits { FitsPacket (body_of outgoing.now.body) }
+    requires fits { FitsPacket (body_of draft.now.body) }
     ensures { IfOk result (λ p. consequence p ≡ originate topology.now.ifaces state.now.table
-        state.now.identification (outgoing_of outgoing.now)) }
+        state.now.identification (draft_of draft.now)) }
 {
-    if state.is_own(outgoing.destination) {
+    if state.is_own(draft.destination) {
         return Ok(Prepared::Counts(Counter::ToSelf));
     }
-    let Some(via) = state.look(outgoing.destination) else {
+    let Some(via) = state.look(draft.destination) else {
         return Ok(Prepared::Counts(Counter::NoRoute));
     };
     accepted_topologies_are_in_order(topology); // law: the interface of a route is there
@@ -63,12 +63,12 @@ pub fn originate(
     let header = Ipv4Header {
         type_of_service: 0,
         identification: state.identification(),
-        time_to_live: outgoing.time_to_live,
-        protocol: outgoing.body.protocol(),
-        source: outgoing.source.unwrap_or(address),
-        destination: outgoing.destination,
+        time_to_live: draft.time_to_live,
+        protocol: draft.body.protocol(),
+        source: draft.source.unwrap_or(address),
+        destination: draft.destination,
     };
-    let packet = write(alloc, &header, &outgoing.body)?;
+    let packet = write(alloc, &header, &draft.body)?;
     Ok(Prepared::Originates(via, Twin::new(packet)?))
 }
 
@@ -114,7 +114,7 @@ pub fn error(
         return Ok(Prepared::Counts(Counter::Quiet));
     }
     let quoted = quote(alloc, packet)?;
-    let error = Outgoing {
+    let error = Draft {
         source: None,
         destination: packet.source(),
         time_to_live: TIME_TO_LIVE,
@@ -144,7 +144,7 @@ pub fn reply(
     if packet.source().is_martian() {
         return Ok(Prepared::Counts(Counter::Quiet));
     }
-    let reply = Outgoing {
+    let reply = Draft {
         source: Some(packet.destination()),
         destination: packet.source(),
         time_to_live: TIME_TO_LIVE,

@@ -52,7 +52,7 @@ impl Body<'_> {
 
 /// A packet that is to be originated.
 #[derive(Clone, Copy)]
-pub struct Outgoing<'a> {
+pub struct Draft<'a> {
     /// The address that it comes from, if not that of the interface by which it leaves.
     pub source: Option<Address>,
     pub destination: Address,

@@ -6,13 +6,13 @@ ghost use Rattle.nm_packet.specs.Ipv4.{fields_of};
 ghost use Rattle.nm_forward.specs.State.{Knows};
 ghost use Rattle.nm_forward.specs.Row.{IsPossible};
 ghost use Rattle.nm_forward.specs.Originate.{FitsPacket, concluded, consequence_of, originate};
-ghost use Rattle.nm_forward.specs.Prepared.{body_of, consequence, outgoing_of};
+ghost use Rattle.nm_forward.specs.Prepared.{body_of, consequence, draft_of};
 ghost use Rattle.nm_forward.specs.Reaction.{FitsOrigin, FitsSource, FitsHeaders, arrived};
 ghost use Rattle.nm_forward.specs.Reaction.{datagram_of, handed, handed_by, reaction, sent_of};
 
 use crate::counter::Counter;
 use crate::originate::{error, originate, reply};
-use crate::prepared::{Body, Outgoing, Prepared};
+use crate::prepared::{Body, Draft, Prepared};
 use crate::row::{Row, packet_row};
 use crate::state::NodeState;
 use nm_base::{IfaceNo, Origin, Packet, SourceNo, Twin};
@@ -209,7 +209,7 @@ fn accept_from_source(
             Ok(Reaction::Send(raw.via(), twin))
         }
         Traffic::Cbr(cbr) => {
-            let datagram = Outgoing {
+            let datagram = Draft {
                 source: None,
                 destination: cbr.to,
                 time_to_live: cbr.flow.ttl,
@@ -218,7 +218,7 @@ fn accept_from_source(
             send_originated(alloc, topology, state, &datagram)
         }
         Traffic::Echo(echo) => {
-            let request = Outgoing {
+            let request = Draft {
                 source: None,
                 destination: echo.to,
                 time_to_live: echo.flow.ttl,
@@ -254,14 +254,14 @@ fn send_originated(
     alloc: Global,
     topology: &Topology,
     state: &mut NodeState,
-    outgoing: &Outgoing<'_>,
+    draft: &Draft<'_>,
 ) -> Result<Reaction, AllocError>
     requires table { Knows topology.now state.old }
-    requires fits { FitsPacket (body_of outgoing.now.body) }
+    requires fits { FitsPacket (body_of draft.now.body) }
     ensures ok { IfOk result (λ r. (state.new, sent_of r) ≡ concluded (originate topology.now.ifaces
-        state.old.table state.old.identification (outgoing_of outgoing.now)) state.old) }
+        state.old.table state.old.identification (draft_of draft.now)) state.old) }
     ensures err { OnErr result (state.new ≡ state.old) }
 {
-    let prepared = originate(alloc, topology, state, outgoing)?;
+    let prepared = originate(alloc, topology, state, draft)?;
     Ok(carry_out(state, prepared))
 }

@@ -8,7 +8,7 @@ use Rattle.nm_frames.specs.declared.fault.FrameFault.{FrameFault}
 use Rattle.nm_frames.specs.declared.fault.FrameFault.TheVariants.{BadLength, BadKind, BadBody, Failed, Memory}
 use Rattle.nm_frames.specs.Frame.{IsFrame, frame_octets, stream_octets}
 use Rattle.nm_frames.specs.Stream.{fault_shown, IsShort}
-use Rattle.nm_frames.specs.Reader.{ReaderValue, Finds, Cuts, CutsTo, FedWhole}
+use Rattle.nm_frames.specs.Reader.{ReaderValue, FindsFrame, Cuts, CutsTo, FedWhole}
 
 pub each_append : (fs gs : List Frame) → AllByRecursion IsFrame fs → AllByRecursion IsFrame gs → AllByRecursion IsFrame (fs ++ gs)
 each_append [] gs one two = two
@@ -41,7 +41,7 @@ cuts_to Memory o p a b c one two = (one.frames ++ two.0, two.1 ∙ ap (λ l. l +
 pub shorter : (o r : List ℕ) (f : Frame) → o ≡ frame_octets f ++ r → length r < length o
 shorter o r f e = omega (arith, ap length e, length-append (frame_octets f) r)
 
-pub finds_to : (e : FrameFault) (o : List ℕ) (b : List Frame) → Finds o (Err e) → CutsTo e o b b
+pub finds_to : (e : FrameFault) (o : List ℕ) (b : List Frame) → FindsFrame o (Err e) → CutsTo e o b b
 finds_to BadLength o b is = (o, cuts_none o b, is)
 finds_to BadKind o b is = (o, cuts_none o b, is)
 finds_to BadBody o b is = (o, cuts_none o b, is)

@@ -7,16 +7,16 @@ use Rattle.nm_frames.specs.declared.frame.Frame.{Frame}
 use Rattle.nm_frames.specs.declared.frame.Frame.TheVariants.{Have, Data, Null}
 use Rattle.nm_frames.specs.declared.frame.Have.{Have as HaveValue}
 use Rattle.nm_frames.specs.declared.session_fault.SessionFault.TheVariants.{Channel}
-use Rattle.nm_frames.specs.declared.side.Incoming.{Incoming}
-use Rattle.nm_frames.specs.declared.side.Outgoing.{Outgoing}
-use Rattle.nm_frames.specs.Session.{SessionValue, at_channel, restarted, taken_later}
+use Rattle.nm_frames.specs.declared.side.ChannelIn.{ChannelIn}
+use Rattle.nm_frames.specs.declared.side.ChannelOut.{ChannelOut}
+use Rattle.nm_frames.specs.Session.{SessionValue, with_channel, restarted, taken_later}
 
-pub have_refused : (s : SessionValue) (f : Frame) (h : HaveValue) (os : List Outgoing) (b : Bool) → f ≡ Have h → s.outgoing ≡ os → b ≡ list_any (λ o. o.channel == h.channel) os → b ≡ false → taken_later s f ≡ Err Channel
+pub have_refused : (s : SessionValue) (f : Frame) (h : HaveValue) (os : List ChannelOut) (b : Bool) → f ≡ Have h → s.outgoing ≡ os → b ≡ list_any (λ o. o.channel == h.channel) os → b ≡ false → taken_later s f ≡ Err Channel
 have_refused s f h os b is same test out =
     ap (taken_later s) is
-    ∙ ap (λ (x : Bool). if x then Ok (record s { outgoing = map (at_channel h.channel (restarted h.count)) s.outgoing }) else Err Channel) (ap (λ l. list_any (λ o. o.channel == h.channel) l) same ∙ sym test ∙ out)
+    ∙ ap (λ (x : Bool). if x then Ok (record s { outgoing = map (with_channel h.channel (restarted h.count)) s.outgoing }) else Err Channel) (ap (λ l. list_any (λ o. o.channel == h.channel) l) same ∙ sym test ∙ out)
 
-module _ (s : SessionValue) (is : List Incoming) (b : Bool) (same : s.incoming ≡ is) where
+module _ (s : SessionValue) (is : List ChannelIn) (b : Bool) (same : s.incoming ≡ is) where
   test_is : (c : ℕ) (x : Bool) → b ≡ list_any (λ i. i.channel == c) is → b ≡ x → list_any (λ i. i.channel == c) s.incoming ≡ x
   test_is c x test e = ap (λ l. list_any (λ i. i.channel == c) l) same ∙ sym test ∙ e
 

@@ -4,8 +4,8 @@ use Rattle.std.specs.List.{AllByRecursion}
 use Rattle.nm_book.specs.Book.{BookValue}
 use Rattle.nm_frames.specs.declared.frame.Frame.{Frame}
 use Rattle.nm_frames.specs.declared.frame.Frame.TheVariants.{Hello, Have, Data, Null, Bye}
-use Rattle.nm_frames.specs.declared.side.Outgoing.{Outgoing}
-use Rattle.nm_frames.specs.Owed.{given, owed}
+use Rattle.nm_frames.specs.declared.side.ChannelOut.{ChannelOut}
+use Rattle.nm_frames.specs.Owed.{after_giving, owed}
 use Rattle.nm_frames.specs.Session.{SessionValue, broken, taken}
 
 pub data SessionStep : Type 0 where
@@ -18,7 +18,7 @@ pub data SessionStep : Type 0 where
 abbrev pub Lives : SessionValue → List SessionStep → SessionValue → Type 0
 Lives s [] t = t ≡ s
 Lives s (Took f ∷ r) t = (m : SessionValue) × (taken s f ≡ Ok m) × Lives m r t
-Lives s (Gave f ∷ r) t = (b : BookValue) × (owed s b ≡ Some f) × Lives (given s f) r t
+Lives s (Gave f ∷ r) t = (b : BookValue) × (owed s b ≡ Some f) × Lives (after_giving s f) r t
 Lives s (Broke ∷ r) t = Lives (broken s) r t
 
 -- the number that is due on channel c after a frame is taken, and after it is given
@@ -60,5 +60,5 @@ due_after c due (Gave f ∷ r) = due_after c (due_given c due f) r
 due_after c due (Broke ∷ r) = due_after c None r
 
 -- the cursor of channel c, where that is one of these
-abbrev pub HasCursor : ℕ → Option ℕ → List Outgoing → Type 0
+abbrev pub HasCursor : ℕ → Option ℕ → List ChannelOut → Type 0
 HasCursor c due os = AllByRecursion (λ o. o.channel ≡ c → o.cursor ≡ due) os

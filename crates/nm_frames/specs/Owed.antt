@@ -8,15 +8,15 @@ use Rattle.nm_model.specs.Knowledge.{nothing_known}
 use Rattle.nm_model.specs.Lists.{nth}
 use Rattle.nm_model.specs.Promise.{Promising}
 use Rattle.nm_sim.specs.Network.{net_of}
-use Rattle.nm_book.specs.Book.{BookValue, data_from, is_incoming, is_outgoing, null_on, replica_of, sent_on}
+use Rattle.nm_book.specs.Book.{BookValue, data_from, is_incoming, is_outgoing, null_on, replica_of, sent_over}
 use Rattle.nm_book.specs.declared.message.Null.{Null as NullMessage}
 use Rattle.nm_frames.specs.declared.frame.Frame.{Frame}
 use Rattle.nm_frames.specs.declared.frame.Frame.TheVariants.{Hello, Have, Data, Null, Bye}
-use Rattle.nm_frames.specs.declared.side.Incoming.{Incoming}
-use Rattle.nm_frames.specs.declared.side.Outgoing.{Outgoing}
+use Rattle.nm_frames.specs.declared.side.ChannelIn.{ChannelIn}
+use Rattle.nm_frames.specs.declared.side.ChannelOut.{ChannelOut}
 use Rattle.nm_frames.specs.declared.version.Version.TheVariants.{Two}
 use Rattle.nm_frames.specs.Frame.{hello_frame, have_frame}
-use Rattle.nm_frames.specs.Session.{SessionValue, at_channel, is_there, next_version, session_version}
+use Rattle.nm_frames.specs.Session.{SessionValue, with_channel, is_there, next_version, session_version}
 use Rattle.nm_frames.specs.Version.{promising, version_number}
 
 -- Hello
@@ -28,7 +28,7 @@ abbrev pub held_on : BookValue → ℕ → ℕ
 held_on b c = length (slice_index_or b.knows c nothing_known).list
 
 -- Have for the first channel for which it was not given
-abbrev pub have_owed : BookValue → List Incoming → Option Frame
+abbrev pub have_owed : BookValue → List ChannelIn → Option Frame
 have_owed b [] = None
 have_owed b (i ∷ is) =
     if i.have_given || not (is_incoming b i.channel) then have_owed b is
@@ -43,30 +43,30 @@ abbrev pub null_owed : Option NullMessage → NullMessage → Option Frame
 null_owed last null = if is_last last null then None else Some (Null null)
 
 -- of a channel the message at the cursor; once all were given, the null message, if it is not the last one; a cursor past them waits
-abbrev pub owed_at : BookValue → Promising → Outgoing → Option ℕ → Option Frame
+abbrev pub owed_at : BookValue → Promising → ChannelOut → Option ℕ → Option Frame
 owed_at b kind o None = None
 owed_at b kind o (Some n) =
-    if nat_lt n (length (sent_on b o.channel)) then option_map Data (data_from o.channel n (nth (sent_on b o.channel) n))
-    else if n == length (sent_on b o.channel) then null_owed o.last_null (null_on kind b o.channel)
+    if nat_lt n (length (sent_over b o.channel)) then option_map Data (data_from o.channel n (nth (sent_over b o.channel) n))
+    else if n == length (sent_over b o.channel) then null_owed o.last_null (null_on kind b o.channel)
     else None
 
 -- of the first channel that owes something
-abbrev pub message_owed : BookValue → Promising → List Outgoing → Option Frame
+abbrev pub message_owed : BookValue → Promising → List ChannelOut → Option Frame
 message_owed b kind [] = None
 message_owed b kind (o ∷ os) =
     or_else (if is_outgoing b o.channel then owed_at b kind o o.cursor else None) (message_owed b kind os)
 
-abbrev pub is_at : Option ℕ → ℕ → Bool
-is_at None n = false
-is_at (Some k) n = k == n
+abbrev pub is_cursor : Option ℕ → ℕ → Bool
+is_cursor None n = false
+is_cursor (Some k) n = k == n
 
 -- all messages of the channel were given, and its null message last
-abbrev pub is_told : BookValue → Promising → Outgoing → Bool
+abbrev pub is_told : BookValue → Promising → ChannelOut → Bool
 is_told b kind o =
-    is_outgoing b o.channel && is_at o.cursor (length (sent_on b o.channel)) && is_last o.last_null (null_on kind b o.channel)
+    is_outgoing b o.channel && is_cursor o.cursor (length (sent_over b o.channel)) && is_last o.last_null (null_on kind b o.channel)
 
 -- Bye, once the book is done and all was told
-abbrev pub bye_owed : BookValue → Promising → List Outgoing → Option Frame
+abbrev pub bye_owed : BookValue → Promising → List ChannelOut → Option Frame
 bye_owed b kind os =
     if is_done (net_of b.topology) b.partition (replica_of b) && list_all (λ o. is_told b kind o) os then Some Bye else None
 
@@ -83,13 +83,13 @@ owed s b =
 
 -- ---- what counts as given
 
-abbrev pub marked : ℕ → Incoming → Incoming
+abbrev pub marked : ℕ → ChannelIn → ChannelIn
 marked c i = if i.channel == c then record { channel = i.channel; have_given = true } else i
 
-abbrev pub moved_to : ℕ → Outgoing → Outgoing
+abbrev pub moved_to : ℕ → ChannelOut → ChannelOut
 moved_to n o = record { channel = o.channel; cursor = Some n; last_null = o.last_null }
 
-abbrev pub with_null : NullMessage → Outgoing → Outgoing
+abbrev pub with_null : NullMessage → ChannelOut → ChannelOut
 with_null null o = record { channel = o.channel; cursor = o.cursor; last_null = Some null }
 
 -- a message whose number is not the last of 64 bits
@@ -105,13 +105,13 @@ MayHaveNext None = Unit {0}
 MayHaveNext (Some f) = HasNext f
 
 -- the session after a frame is given
-abbrev pub given : SessionValue → Frame → SessionValue
-given s (Hello h) = record s { hello_given = Some (next_version s.hello_taken s.offered); offered = Two }
-given s (Have h) = record s { incoming = map (marked h.channel) s.incoming }
-given s (Data d) = record s { outgoing = map (at_channel d.channel (moved_to (d.number + 1))) s.outgoing }
-given s (Null n) = record s { outgoing = map (at_channel n.channel (with_null n)) s.outgoing }
-given s Bye = record s { bye_given = true }
+abbrev pub after_giving : SessionValue → Frame → SessionValue
+after_giving s (Hello h) = record s { hello_given = Some (next_version s.hello_taken s.offered); offered = Two }
+after_giving s (Have h) = record s { incoming = map (marked h.channel) s.incoming }
+after_giving s (Data d) = record s { outgoing = map (with_channel d.channel (moved_to (d.number + 1))) s.outgoing }
+after_giving s (Null n) = record s { outgoing = map (with_channel n.channel (with_null n)) s.outgoing }
+after_giving s Bye = record s { bye_given = true }
 
 abbrev pub given_maybe : SessionValue → Option Frame → SessionValue
 given_maybe s None = s
-given_maybe s (Some f) = given s f
+given_maybe s (Some f) = after_giving s f

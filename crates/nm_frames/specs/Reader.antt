@@ -13,20 +13,20 @@ pub record ReaderValue : Type 0 where
   pub failed : Bool
 
 -- what octets at the place of a frame came to
-abbrev pub Finds : List ℕ → Result (Option (Frame × List ℕ)) FrameFault → Type 0
-Finds octets (Ok None) = (fault_shown octets ≡ None) × IsShort octets
-Finds octets (Ok (Some found)) = IsFrame found.0 × (octets ≡ frame_octets found.0 ++ found.1)
-Finds octets (Err BadLength) = fault_shown octets ≡ Some BadLength
-Finds octets (Err BadKind) = fault_shown octets ≡ Some BadKind
-Finds octets (Err BadBody) = fault_shown octets ≡ Some BadBody
-Finds octets (Err Failed) = ⊥
-Finds octets (Err Memory) = Unit {0}
+abbrev pub FindsFrame : List ℕ → Result (Option (Frame × List ℕ)) FrameFault → Type 0
+FindsFrame octets (Ok None) = (fault_shown octets ≡ None) × IsShort octets
+FindsFrame octets (Ok (Some found)) = IsFrame found.0 × (octets ≡ frame_octets found.0 ++ found.1)
+FindsFrame octets (Err BadLength) = fault_shown octets ≡ Some BadLength
+FindsFrame octets (Err BadKind) = fault_shown octets ≡ Some BadKind
+FindsFrame octets (Err BadBody) = fault_shown octets ≡ Some BadBody
+FindsFrame octets (Err Failed) = ⊥
+FindsFrame octets (Err Memory) = Unit {0}
 
 -- The same of a call's answer, whose rest is lent.
 abbrev pub Found : {B : Type 0} → (B → List ℕ) → List ℕ → Result (Option (Frame × B)) FrameFault → Type 0
-Found now octets (Ok None) = Finds octets (Ok None)
-Found now octets (Ok (Some found)) = Finds octets (Ok (Some (found.0, now found.1)))
-Found now octets (Err e) = Finds octets (Err e)
+Found now octets (Ok None) = FindsFrame octets (Ok None)
+Found now octets (Ok (Some found)) = FindsFrame octets (Ok (Some (found.0, now found.1)))
+Found now octets (Err e) = FindsFrame octets (Err e)
 
 -- these frames stand before the rest and were added to a list
 pub record Cuts (octets rest : List ℕ) (before after : List Frame) : Type 0 where

@@ -9,8 +9,8 @@ use Rattle.nm_frames.specs.declared.frame.Frame.TheVariants.{Hello, Have, Data, 
 use Rattle.nm_frames.specs.declared.replica_name.ReplicaName.{ReplicaName}
 use Rattle.nm_frames.specs.declared.session_fault.SessionFault.{SessionFault}
 use Rattle.nm_frames.specs.declared.session_fault.SessionFault.TheVariants.{Order, Version as BadVersion, Topology, Peer, Channel}
-use Rattle.nm_frames.specs.declared.side.Incoming.{Incoming}
-use Rattle.nm_frames.specs.declared.side.Outgoing.{Outgoing}
+use Rattle.nm_frames.specs.declared.side.ChannelIn.{ChannelIn}
+use Rattle.nm_frames.specs.declared.side.ChannelOut.{ChannelOut}
 use Rattle.nm_frames.specs.declared.taken.Taken.{Taken}
 use Rattle.nm_frames.specs.declared.taken.Taken.TheVariants.{Greeted, Cursor, ForBook, Ended}
 use Rattle.nm_frames.specs.declared.version.Version.{Version}
@@ -26,8 +26,8 @@ pub record SessionValue : Type 0 where
   pub replica : ℕ
   pub peer : ℕ
   pub digest : List ℕ
-  pub incoming : List Incoming
-  pub outgoing : List Outgoing
+  pub incoming : List ChannelIn
+  pub outgoing : List ChannelOut
   pub hello_given : Option Version
   pub hello_taken : Option Version
   pub peer_replica : Option ℕ
@@ -36,10 +36,10 @@ pub record SessionValue : Type 0 where
   pub bye_taken : Bool
 
 -- a channel of which nothing was given or taken
-abbrev pub new_incoming : ℕ → Incoming
+abbrev pub new_incoming : ℕ → ChannelIn
 new_incoming c = record { channel = c; have_given = false }
 
-abbrev pub new_outgoing : ℕ → Outgoing
+abbrev pub new_outgoing : ℕ → ChannelOut
 new_outgoing c = record { channel = c; cursor = None; last_null = None }
 
 abbrev pub new_session : TopologyValue → ℕ → ℕ → ℕ → SessionValue
@@ -83,18 +83,18 @@ peer_name s = named_by s.peer s.peer_replica
 -- ---- what is taken
 
 -- a change of one channel
-abbrev pub at_channel : ℕ → (Outgoing → Outgoing) → Outgoing → Outgoing
-at_channel c change o = if o.channel == c then change o else o
+abbrev pub with_channel : ℕ → (ChannelOut → ChannelOut) → ChannelOut → ChannelOut
+with_channel c change o = if o.channel == c then change o else o
 
 -- the peer holds n messages: message n is next, and no null message was given
-abbrev pub restarted : ℕ → Outgoing → Outgoing
+abbrev pub restarted : ℕ → ChannelOut → ChannelOut
 restarted n o = record { channel = o.channel; cursor = Some n; last_null = None }
 
-abbrev pub comes_in : SessionValue → ℕ → Bool
-comes_in s c = list_any (λ i. i.channel == c) s.incoming
+abbrev pub comes_from_peer : SessionValue → ℕ → Bool
+comes_from_peer s c = list_any (λ i. i.channel == c) s.incoming
 
-abbrev pub goes_out : SessionValue → ℕ → Bool
-goes_out s c = list_any (λ o. o.channel == c) s.outgoing
+abbrev pub goes_to_peer : SessionValue → ℕ → Bool
+goes_to_peer s c = list_any (λ o. o.channel == c) s.outgoing
 
 -- a Hello of this version, partition, replica and digest
 abbrev pub greeted : SessionValue → Option Version → ℕ → ℕ → List ℕ → Result SessionValue SessionFault
@@ -116,10 +116,10 @@ taken_first s Bye = Err Order
 abbrev pub taken_later : SessionValue → Frame → Result SessionValue SessionFault
 taken_later s (Hello h) = Err Order
 taken_later s (Have h) =
-    if goes_out s h.channel then Ok (record s { outgoing = map (at_channel h.channel (restarted h.count)) s.outgoing })
+    if goes_to_peer s h.channel then Ok (record s { outgoing = map (with_channel h.channel (restarted h.count)) s.outgoing })
     else Err Channel
-taken_later s (Data d) = if comes_in s d.channel then Ok s else Err Channel
-taken_later s (Null n) = if comes_in s n.channel then Ok s else Err Channel
+taken_later s (Data d) = if comes_from_peer s d.channel then Ok s else Err Channel
+taken_later s (Null n) = if comes_from_peer s n.channel then Ok s else Err Channel
 taken_later s Bye = Ok (record s { bye_taken = true })
 
 -- the session after a frame, or why it is refused

@@ -1,7 +1,7 @@
 //! Which channels run between two partitions.
 
 ghost use Rattle.std.specs.Prelude.{◌≡◌, ◌<◌, length, IfOk};
-ghost use Rattle.nm_frames.specs.Channels.{runs, channels_between};
+ghost use Rattle.nm_frames.specs.Channels.{runs_between, channels_between};
 
 use nm_base::{ChanNo, PartNo};
 use nm_book::channels::{receiver_of, sender_of};
@@ -12,7 +12,7 @@ use std::alloc::{AllocError, Global};
 /// Whether a channel runs from one partition to the other.
 fn is_between(topology: &Topology, from: PartNo, to: PartNo, channel: ChanNo) -> bool
     requires { channel < length topology.now.receivers }
-    ensures { result ≡ runs topology.now from to channel }
+    ensures { result ≡ runs_between topology.now from to channel }
 {
     sender_of(topology, channel) == from && receiver_of(topology, channel) == to
 }

@@ -8,7 +8,7 @@ ghost use Rattle.nm_frames.specs.Owed.{null_owed, owed_at};
 ghost use Rattle.nm_frames.specs.Version.{promising};
 
 use crate::frame::{Frame, Have};
-use crate::side::{Incoming, Outgoing};
+use crate::side::{ChannelIn, ChannelOut};
 use crate::version::Version;
 use nm_base::ChanNo;
 use nm_book::Book;
@@ -16,7 +16,7 @@ use nm_book::message::Null;
 use std::alloc::AllocError;
 
 /// Have for the first channel for which it was not given.
-pub(crate) fn next_have(incoming: &[Incoming], book: &Book) -> Option<Frame>
+pub(crate) fn next_have(incoming: &[ChannelIn], book: &Book) -> Option<Frame>
     ensures owed { result ≡ have_owed book.now incoming.now }
     ensures next { MayHaveNext result }
 {
@@ -66,7 +66,7 @@ fn next_null(last: &Option<Null>, null: Null) -> Option<Frame>
 }
 
 /// What is owed on a channel.
-fn next_at(side: &Outgoing, version: Version, book: &Book) -> Result<Option<Frame>, AllocError>
+fn next_at(side: &ChannelOut, version: Version, book: &Book) -> Result<Option<Frame>, AllocError>
     ensures owed { IfOk result (λ f. f ≡ if is_outgoing book.now side.now.channel
         then owed_at book.now (promising version) side.now side.now.cursor else None) }
     ensures next { IfOk result MayHaveNext }
@@ -91,7 +91,7 @@ fn next_at(side: &Outgoing, version: Version, book: &Book) -> Result<Option<Fram
 
 /// What is owed on the first channel on which something is.
 pub(crate) fn next_message(
-    outgoing: &[Outgoing],
+    outgoing: &[ChannelOut],
     version: Version,
     book: &Book,
 ) -> Result<Option<Frame>, AllocError>
@@ -110,7 +110,7 @@ pub(crate) fn next_message(
 }
 
 /// Whether all messages of a channel were given, and its null message last.
-fn is_told(side: &Outgoing, version: Version, book: &Book) -> bool
+fn is_told(side: &ChannelOut, version: Version, book: &Book) -> bool
     ensures { result ≡ is_told book.now (promising version) side.now }
 {
     let Some(number) = side.cursor else {
@@ -123,7 +123,7 @@ fn is_told(side: &Outgoing, version: Version, book: &Book) -> bool
 }
 
 /// Whether that holds of each.
-pub(crate) fn are_told(outgoing: &[Outgoing], version: Version, book: &Book) -> bool
+pub(crate) fn are_told(outgoing: &[ChannelOut], version: Version, book: &Book) -> bool
     ensures { result ≡ list_all (λ o. is_told book.now (promising version) o) outgoing.now }
 {
     for side in outgoing {

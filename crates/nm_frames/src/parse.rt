@@ -5,7 +5,7 @@ ghost use Rattle.std.specs.Prelude.{IfOk};
 ghost use Rattle.std.specs.Int.{w16, w32, w64, to_be_bytes, from_be_bytes};
 ghost use Rattle.nm_frames.specs.Frame.{IsFrame, frame_body};
 ghost use Rattle.nm_frames.specs.Stream.{stated_length, has_first_word, fits_kind};
-ghost use Rattle.nm_frames.specs.Reader.{Finds, Found};
+ghost use Rattle.nm_frames.specs.Reader.{FindsFrame, Found};
 
 use crate::fault::FrameFault;
 use crate::frame::{Frame, Have, Hello};

@@ -2,7 +2,7 @@
 
 ghost use Rattle.std.specs.Prelude.{◌≡◌, Ok, Err, MatchResult, IfOk, OnErr, is_some, length};
 ghost use Rattle.std.specs.Prelude.{nat_lt};
-ghost use Rattle.nm_frames.specs.Owed.{HasNext, MayHaveNext, given, given_maybe, hello_of, owed};
+ghost use Rattle.nm_frames.specs.Owed.{HasNext, MayHaveNext, after_giving, given_maybe, hello_of, owed};
 ghost use Rattle.nm_frames.specs.Session.{broken, new_session, next_version, peer_name, purpose};
 ghost use Rattle.nm_frames.specs.Session.{session_version, taken, taken_first, taken_later};
 
@@ -12,8 +12,8 @@ use crate::owed::{are_told, next_have, next_message};
 use crate::replica_name::ReplicaName;
 use crate::session_fault::SessionFault;
 use crate::side::{
-    Incoming, Outgoing, comes_in, forget_cursors, forget_given, goes_out, mark_given, move_cursor,
-    new_incoming, new_outgoing, restart, set_last_null,
+    ChannelIn, ChannelOut, comes_in, forget_cursors, forget_given, goes_out, mark_given,
+    move_cursor, new_incoming, new_outgoing, restart, set_last_null,
 };
 use crate::taken::Taken;
 use crate::version::Version;
@@ -32,8 +32,8 @@ pub struct Session {
     replica: u8,
     peer: PartNo,
     digest: [u8; 32],
-    incoming: Vec<Incoming>,
-    outgoing: Vec<Outgoing>,
+    incoming: Vec<ChannelIn>,
+    outgoing: Vec<ChannelOut>,
     hello_given: Option<Version>,
     hello_taken: Option<Version>,
     /// The replica that the peer's Hello told.
@@ -158,7 +158,7 @@ impl Session {
     {
         match self.hello_given {
             None => next_version(self.hello_taken, Version::Two),
-            Some(given) => next_version(self.hello_taken, given),
+            Some(after_giving) => next_version(self.hello_taken, after_giving),
         }
     }
 
@@ -203,7 +203,7 @@ impl Session {
     /// A frame counts as given.
     fn give(&mut self, frame: &Frame)
         requires { HasNext frame.now }
-        ensures { self.new ≡ given self.old frame.now }
+        ensures { self.new ≡ after_giving self.old frame.now }
     {
         match frame {
             Frame::Hello(_) => {
@@ -227,7 +227,7 @@ impl Session {
     /// Where memory for a message was refused. The session is unchanged then.
     pub fn next_out(&mut self, book: &Book) -> Result<Option<Frame>, AllocError>
         ensures owed { IfOk result (λ f. f ≡ owed self.old book.now) }
-        ensures given { IfOk result (λ f. self.new ≡ given_maybe self.old f) }
+        ensures after_giving { IfOk result (λ f. self.new ≡ given_maybe self.old f) }
         ensures err { OnErr result (self.new ≡ self.old) }
     {
         let owed = self.owed(book)?;

@@ -21,7 +21,7 @@ use Rattle.nm_iface.specs.Transmission.{transmission_time}
 use Rattle.nm_traffic.specs.Orderly.{ArePackets, FitsMtu, FitTheMtu, HaveOctets}
 use Rattle.nm_traffic.specs.Source.{source_at}
 use Rattle.nm_sim.specs.Network.{far_of, net_of}
-use Rattle.nm_laws.specs.Transmissions.{AreOfPackets, arrivals_due, transmission_at}
+use Rattle.nm_laws.specs.Transmissions.{AreOfPackets, arrivals_due, time_to_transmit}
 use Rattle.nm_laws.proofs.Packets.{Came, recorded}
 use Rattle.nm_laws.proofs.Passings.{arrival_after, map_same, passed_from}
 
@@ -63,7 +63,7 @@ module _ (t : TopologyValue) where
     have_octets = record { least = λ m r e. (packets m r e).0; greatest = λ m r e. (packets m r e).1 }
 
   -- so the time that a transmission takes is that of its octets
-  pub takes_its_octets : (i : ℕ) (x : List ℕ) → 1 ≤ length x → (net_of t).tx i x ≡ transmission_at t i x
+  pub takes_its_octets : (i : ℕ) (x : List ℕ) → 1 ≤ length x → (net_of t).tx i x ≡ time_to_transmit t i x
   unfolding net_of
   takes_its_octets i x h = let e : max 1 (length x) ≡ length x = omega arith in ap (transmission_time (far_of t i).rate) e
 

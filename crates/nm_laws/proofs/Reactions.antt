@@ -22,8 +22,8 @@ use Rattle.nm_forward.specs.declared.row.Row.TheVariants as row
 use Rattle.nm_forward.specs.Counter.{counter_number, raised}
 use Rattle.nm_forward.specs.Row.{arrival_row, row_counter}
 use Rattle.nm_forward.specs.Routes.{route_of}
-use Rattle.nm_forward.specs.State.{NodeTable, NodeStateValue, first_state, is_own, state_counted, table_of}
-use Rattle.nm_forward.specs.Originate.{Consequence, Nothing, Counts, Sends, Originates, Outgoing, concluded, consequence_of, error_about, error_of, expired, is_quiet, no_network, no_port, no_protocol, originate, originate_by, reply_of, reply_to}
+use Rattle.nm_forward.specs.State.{NodeConfiguration, NodeStateValue, first_state, is_own, state_counted, table_of}
+use Rattle.nm_forward.specs.Originate.{Consequence, Nothing, Counts, Sends, Originates, Draft, concluded, consequence_of, error_about, error_of, expired, is_quiet, no_network, no_port, no_protocol, originate, originate_by, reply_of, reply_to}
 use Rattle.nm_forward.specs.Reaction.{arrived, handed, handed_by, reaction}
 use Rattle.nm_laws.specs.Counted.{arrival_counters, sending_counters, total_of}
 
@@ -126,16 +126,16 @@ concluded_whole (Originates via x) n w = raised-length Originated n.counters ∙
 
 -- what holds of what is originated, and of the counters of what is not
 module _ (P : Consequence → Type 0) (quiet : P (Counts Quiet)) (itself : P (Counts ToSelf)) (unrouted : P (Counts NoRoute)) (originates : (via : ℕ) (x : List ℕ) → P (Originates via x))
-    (ifaces : List IfaceValue) (table : NodeTable) (identification : ℕ) where
+    (ifaces : List IfaceValue) (table : NodeConfiguration) (identification : ℕ) where
   either : (b : Bool) (c d : Consequence) → P c → P d → P (cond b c d)
   either true c d p q = p
   either false c d p q = q
 
-  routed : (out : Outgoing) (o : Option ℕ) → P (originate_by ifaces table identification out o)
+  routed : (out : Draft) (o : Option ℕ) → P (originate_by ifaces table identification out o)
   routed out None = unrouted
   routed out (Some via) = originates via _
 
-  of_originate : (out : Outgoing) → P (originate ifaces table identification out)
+  of_originate : (out : Draft) → P (originate ifaces table identification out)
   unfolding originate
   of_originate out = either (is_own table out.destination) (Counts ToSelf) _ itself (routed out (route_of table.routes out.destination))
 
@@ -192,14 +192,14 @@ row_counts row.ClosedPort = refl
 row_counts row.UnknownProtocol = refl
 
 -- and what follows raises none
-module _ (l : List Counter) (of : OfArrivals l) (ifaces : List IfaceValue) (table : NodeTable) (identification : ℕ) where
+module _ (l : List Counter) (of : OfArrivals l) (ifaces : List IfaceValue) (table : NodeConfiguration) (identification : ℕ) where
   abbrev AddsNone : Consequence → Type 0
   AddsNone c = added l c ≡ 0
 
   none_of_error : (p : List ℕ) (kind : MessageKind) → AddsNone (error_of ifaces table identification p kind)
   none_of_error p kind = of_error AddsNone of.quiet of.itself of.unrouted (λ via x. of.made) ifaces table identification p kind
 
-  none_of_originate : (out : Outgoing) → AddsNone (originate ifaces table identification out)
+  none_of_originate : (out : Draft) → AddsNone (originate ifaces table identification out)
   none_of_originate out = of_originate AddsNone of.quiet of.itself of.unrouted (λ via x. of.made) ifaces table identification out
 
   row_adds : (p : List ℕ) (r : Row) → AddsNone (consequence_of ifaces table identification p r)
@@ -219,14 +219,14 @@ module _ (l : List Counter) (of : OfArrivals l) (ifaces : List IfaceValue) (tabl
   row_adds p row.UnknownProtocol = none_of_error p no_protocol
 
 -- the counters of sendings: one is raised where something is sent
-module _ (ifaces : List IfaceValue) (table : NodeTable) (identification : ℕ) where
+module _ (ifaces : List IfaceValue) (table : NodeConfiguration) (identification : ℕ) where
   abbrev SendsAll : Consequence → Type 0
   SendsAll c = added sending_counters c ≡ sendings c
 
   all_of_error : (p : List ℕ) (kind : MessageKind) → SendsAll (error_of ifaces table identification p kind)
   all_of_error p kind = of_error SendsAll refl refl refl (λ via x. refl) ifaces table identification p kind
 
-  all_of_originate : (out : Outgoing) → SendsAll (originate ifaces table identification out)
+  all_of_originate : (out : Draft) → SendsAll (originate ifaces table identification out)
   all_of_originate out = of_originate SendsAll refl refl refl (λ via x. refl) ifaces table identification out
 
   row_sends : (p : List ℕ) (r : Row) → weight sending_counters (row_counter r) + added sending_counters (consequence_of ifaces table identification p r) ≡ sendings (consequence_of ifaces table identification p r)
@@ -293,7 +293,7 @@ module _ (t : TopologyValue) (v : ℕ) (n : NodeStateValue) (x : List ℕ) (w : 
   abbrev CountsSent : NodeStateValue × Option (ℕ × List ℕ) → Type 0
   CountsSent r = total_of sending_counters n + length (option_list r.1) < 2 ^ 64 → total_of sending_counters r.0 ≡ total_of sending_counters n + length (option_list r.1)
 
-  out_sent : (out : Outgoing) → CountsSent (concluded (originate t.ifaces (table_of t v) n.identification out) n)
+  out_sent : (out : Draft) → CountsSent (concluded (originate t.ifaces (table_of t v) n.identification out) n)
   out_sent out below =
       let a = all_of_originate t.ifaces (table_of t v) n.identification out in
       let s = concluded_sends (originate t.ifaces (table_of t v) n.identification out) n in
@@ -329,7 +329,7 @@ module _ (t : TopologyValue) (v : ℕ) (n : NodeStateValue) (x : List ℕ) (w : 
     abbrev CountsNone : NodeStateValue × Option (ℕ × List ℕ) → Type 0
     CountsNone r = total_of l n + 0 < 2 ^ 64 → total_of l r.0 ≡ total_of l n + 0
 
-    out_none : (out : Outgoing) → CountsNone (concluded (originate t.ifaces (table_of t v) n.identification out) n)
+    out_none : (out : Draft) → CountsNone (concluded (originate t.ifaces (table_of t v) n.identification out) n)
     out_none out below =
         let a = none_of_originate l of t.ifaces (table_of t v) n.identification out in
         let b = concluded_total l (originate t.ifaces (table_of t v) n.identification out) n w (omega arith) in

@@ -14,7 +14,7 @@ use Rattle.nm_model.specs.Port.{Busy, Port, offered, completed, next_transmittin
 use Rattle.nm_model.specs.Run.{State, Effect, effect, at_iface, turned, turned_by, sent_on, in_record, out_record, step_at, one_list}
 use Rattle.nm_model.specs.Trace.{passed}
 use Rattle.nm_model.proofs.ListLemmas.{same_number, number_apart, number_tied, set_here, set_there, kept-append}
-use Rattle.nm_laws.specs.Offered.{IsSubsequence, answer_to, next_offer, offers, offered_to, packets_of}
+use Rattle.nm_laws.specs.Offered.{IsSubsequence, answer_to, next_offer, offers, offered_to, packets_in}
 use Rattle.nm_laws.proofs.Ports.{in_none, passed-append}
 
 module _ {A : Type 0} where
@@ -46,7 +46,7 @@ module _ {A : Type 0} where
   sub_follow new old more ys (inl e) h = subst (λ l. IsSubsequence l (ys ++ more)) (sym e) (sub_both old ys more h)
   sub_follow new old more ys (inr e) h = subst (λ l. IsSubsequence l (ys ++ more)) (sym e) (sub_more old ys more h)
 
-packets-append : {P : Type 0} (k l : List (ℕ × P)) → packets_of (k ++ l) ≡ packets_of k ++ packets_of l
+packets-append : {P : Type 0} (k l : List (ℕ × P)) → packets_in (k ++ l) ≡ packets_in k ++ packets_in l
 packets-append [] l = refl
 packets-append (a ∷ k) l = ap (λ z. a.1 ∷ z) (packets-append k l)
 
@@ -56,11 +56,11 @@ module _ {P : Type 0} where
   starting i None = []
   starting i (Some s) = cond (i == s.0) (s.1 ∷ []) []
 
-  out_is : (time i : ℕ) (o : Option (ℕ × P)) → packets_of (passed Out i (out_record time o)) ≡ starting i o
+  out_is : (time i : ℕ) (o : Option (ℕ × P)) → packets_in (passed Out i (out_record time o)) ≡ starting i o
   out_is time i None = refl
   out_is time i (Some s) = go (i == s.0)
     where
-      go : (z : Bool) → packets_of (cond {A = List (ℕ × P)} z ((time, s.1) ∷ []) []) ≡ cond z (s.1 ∷ []) []
+      go : (z : Bool) → packets_in (cond {A = List (ℕ × P)} z ((time, s.1) ∷ []) []) ≡ cond z (s.1 ∷ []) []
       go true = refl
       go false = refl
 
@@ -96,7 +96,7 @@ module _ {P N : Type 0} (net : Net P N) (i : ℕ) where
   line ports e = starting i e.transmission ++ waiting_of (turned ports e.turn i).busy
 
   abbrev new_offer : Option (ℕ × P) → List P
-  new_offer o = packets_of (offered_to i (option_list o))
+  new_offer o = packets_in (offered_to i (option_list o))
 
   module _ (ports : ℕ → Port P) (time : ℕ) (came : Option (ℕ × P)) (n : N) (follows : Option (ℕ × P)) where
     turned_line : (j : ℕ) (r : Port P × Option P) (more : List P) → Follow (option_list r.1 ++ waiting_of r.0.busy) (waiting_of (ports j).busy) more
@@ -123,7 +123,7 @@ module _ {P N : Type 0} (net : Net P N) (i : ℕ) where
     sent_line (Some s) = subst (Follow (line ports (sent_on net ports time came n (Some s) follows)) (waiting_of (ports i).busy)) (go (i == s.0))
         (turned_line s.0 (offered (net.room s.0) (net.tx s.0) time s.1 (ports s.0).dropped (ports s.0).busy) (s.1 ∷ []) (offered_turn (net.room s.0) (net.tx s.0) time s.1 (ports s.0).dropped (ports s.0).busy))
       where
-        go : (z : Bool) → cond z (s.1 ∷ []) [] ≡ packets_of (cond {A = List (ℕ × P)} z (s ∷ []) [])
+        go : (z : Bool) → cond z (s.1 ∷ []) [] ≡ packets_in (cond {A = List (ℕ × P)} z (s ∷ []) [])
         go true = refl
         go false = refl
 
@@ -143,29 +143,29 @@ module _ {P N : Type 0} (net : Net P N) (i : ℕ) where
 
   -- all that started, and then all that waits
   abbrev queued : State P N → List P
-  queued s = packets_of (passed Out i s.records) ++ waiting_of (s.port i).busy
+  queued s = packets_in (passed Out i s.records) ++ waiting_of (s.port i).busy
 
-  step_queued : (here : Place → Bool) (s : State P N) (o : Option (Key × Event P)) → Follow (queued (step_at net here s o)) (queued s) (packets_of (offered_to i (next_offer net s o)))
+  step_queued : (here : Place → Bool) (s : State P N) (o : Option (Key × Event P)) → Follow (queued (step_at net here s o)) (queued s) (packets_in (offered_to i (next_offer net s o)))
   step_queued here s None = inr refl
   step_queued here s (Some e) = ⊎_elim (λ h. inl (is ∙ ap (λ l. started ++ l) h ∙ sym (append_assoc started (waiting_of (s.port i).busy) _))) (λ h. inr (is ∙ ap (λ l. started ++ l) h)) (effect_line s.node s.port e.0.time e.0.place e.0.number e.1)
     where
       started : List P
-      started = packets_of (passed Out i s.records)
+      started = packets_in (passed Out i s.records)
 
-      is : queued (step_at net here s (Some e)) ≡ packets_of (passed Out i s.records) ++ line s.port (effect net s.node s.port e.0.time e.0.place e.0.number e.1)
+      is : queued (step_at net here s (Some e)) ≡ packets_in (passed Out i s.records) ++ line s.port (effect net s.node s.port e.0.time e.0.place e.0.number e.1)
       is = ap (λ l. l ++ waiting_of (turned s.port (effect net s.node s.port e.0.time e.0.place e.0.number e.1).turn i).busy)
-          (ap packets_of (passed-append Out i s.records _ ∙ ap (λ l. passed Out i s.records ++ l)
+          (ap packets_in (passed-append Out i s.records _ ∙ ap (λ l. passed Out i s.records ++ l)
           (passed-append Out i (in_record e.0.time (effect net s.node s.port e.0.time e.0.place e.0.number e.1).came) _
           ∙ ap (λ l. l ++ passed Out i (out_record e.0.time (effect net s.node s.port e.0.time e.0.place e.0.number e.1).transmission)) (in_none e.0.time i (effect net s.node s.port e.0.time e.0.place e.0.number e.1).came)))
           ∙ packets-append (passed Out i s.records) (passed Out i (out_record e.0.time (effect net s.node s.port e.0.time e.0.place e.0.number e.1).transmission))
-          ∙ ap (λ l. packets_of (passed Out i s.records) ++ l) (out_is e.0.time i (effect net s.node s.port e.0.time e.0.place e.0.number e.1).transmission))
-          ∙ append_assoc (packets_of (passed Out i s.records)) (starting i (effect net s.node s.port e.0.time e.0.place e.0.number e.1).transmission) _
+          ∙ ap (λ l. packets_in (passed Out i s.records) ++ l) (out_is e.0.time i (effect net s.node s.port e.0.time e.0.place e.0.number e.1).transmission))
+          ∙ append_assoc (packets_in (passed Out i s.records)) (starting i (effect net s.node s.port e.0.time e.0.place e.0.number e.1).transmission) _
 
-  pub in_turn : (n : ℕ) → IsSubsequence (packets_of (passed Out i (one_list net n).records) ++ waiting_of ((one_list net n).port i).busy) (packets_of (offered_to i (offers net n)))
+  pub in_turn : (n : ℕ) → IsSubsequence (packets_in (passed Out i (one_list net n).records) ++ waiting_of ((one_list net n).port i).busy) (packets_in (offered_to i (offers net n)))
   in_turn zero = tt
   in_turn (suc n) =
       subst (IsSubsequence (queued (one_list net (suc n))))
-      (sym (ap packets_of (kept-append (λ o. i == o.0) (offers net n) (next_offer net (one_list net n) (least (one_list net n).pending)))
+      (sym (ap packets_in (kept-append (λ o. i == o.0) (offers net n) (next_offer net (one_list net n) (least (one_list net n).pending)))
       ∙ packets-append (offered_to i (offers net n)) (offered_to i (next_offer net (one_list net n) (least (one_list net n).pending)))))
-      (sub_follow (queued (one_list net (suc n))) (queued (one_list net n)) (packets_of (offered_to i (next_offer net (one_list net n) (least (one_list net n).pending)))) (packets_of (offered_to i (offers net n)))
+      (sub_follow (queued (one_list net (suc n))) (queued (one_list net n)) (packets_in (offered_to i (next_offer net (one_list net n) (least (one_list net n).pending)))) (packets_in (offered_to i (offers net n)))
       (step_queued (λ q. true) (one_list net n) (least (one_list net n).pending)) (in_turn n))

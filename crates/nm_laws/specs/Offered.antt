@@ -47,8 +47,8 @@ IsSubsequence (x ∷ xs) [] = ⊥
 IsSubsequence (x ∷ xs) (y ∷ ys) = ((x ≡ y) × IsSubsequence xs ys) ⊎ IsSubsequence (x ∷ xs) ys
 
 -- packets without their interfaces, or their times
-abbrev pub packets_of : {P : Type 0} → List (ℕ × P) → List P
-packets_of l = map (λ a. a.1) l
+abbrev pub packets_in : {P : Type 0} → List (ℕ × P) → List P
+packets_in l = map (λ a. a.1) l
 
 -- What became of the packets that were offered to interface i in the first n events.
 pub record AreAccountedFor {P N : Type 0} (net : Net P N) (n i : ℕ) : Type 0 where
@@ -59,4 +59,4 @@ pub record AreAccountedFor {P N : Type 0} (net : Net P N) (n i : ℕ) : Type 0 w
       length (offered_to i (offers net n)) ≡ length (passed Out i s.records) + length (waiting_of (s.port i).busy) + (s.port i).dropped
   -- those that started, and then those that wait, are the offered ones in their order, without the dropped
   pub in_turn : let s : State P N = one_list net n in
-      IsSubsequence (packets_of (passed Out i s.records) ++ waiting_of (s.port i).busy) (packets_of (offered_to i (offers net n)))
+      IsSubsequence (packets_in (passed Out i s.records) ++ waiting_of (s.port i).busy) (packets_in (offered_to i (offers net n)))

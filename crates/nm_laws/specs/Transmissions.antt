@@ -15,18 +15,18 @@ pub record AreOfPackets (records : List (Record (List ℕ))) : Type 0 where
   pub greatest : (n : ℕ) (r : Record (List ℕ)) → nth records n ≡ Some r → length r.packet ≤ MAX_PACKET_OCTETS
 
 -- how long interface i transmits this packet: its octets, at the rate of the link, rounded up to nanoseconds
-abbrev pub transmission_at : TopologyValue → ℕ → List ℕ → ℕ
-transmission_at t i packet = transmission_time (far_of t i).rate (length packet)
+abbrev pub time_to_transmit : TopologyValue → ℕ → List ℕ → ℕ
+time_to_transmit t i packet = transmission_time (far_of t i).rate (length packet)
 
 -- Of two transmissions of one interface the later starts once the earlier is complete.
 pub record DoNotOverlap (t : TopologyValue) (records : List (Record (List ℕ))) : Type 0 where
   pub apart : (m n : ℕ) (a b : Record (List ℕ)) → m < n
       → nth records m ≡ Some a → nth records n ≡ Some b → a.dir ≡ Out → b.dir ≡ Out → a.iface ≡ b.iface
-      → a.time + transmission_at t a.iface a.packet ≤ b.time
+      → a.time + time_to_transmit t a.iface a.packet ≤ b.time
 
 -- what interface i starts to transmit at this time arrives at the far end once that is complete, and after the link's delay
 abbrev pub arrival_of : TopologyValue → ℕ → ℕ × List ℕ → ℕ × List ℕ
-arrival_of t i start = (start.0 + transmission_at t i start.1 + (far_of t i).delay, start.1)
+arrival_of t i start = (start.0 + time_to_transmit t i start.1 + (far_of t i).delay, start.1)
 
 -- when the packets that the far end of interface i started to transmit arrive at i, in the order of their starts
 abbrev pub arrivals_due : TopologyValue → List (Record (List ℕ)) → ℕ → List (ℕ × List ℕ)

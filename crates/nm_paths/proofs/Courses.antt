@@ -2,8 +2,8 @@
 use Rattle.std.proofs.Common.{◌≡◌, ℕ, ◌+◌, List, [], ◌∷◌, ◌++◌, ap, sym, refl, ◌∙◌, append_assoc, append-nil, add-one}
 use Rattle.nm_topology.specs.TopologyValue.{TopologyValue}
 use Rattle.nm_forward.specs.State.{table_of}
-use Rattle.nm_paths.specs.declared.turn.Ending.{Ending}
-use Rattle.nm_paths.specs.declared.turn.Ending.TheVariants.{Expired}
+use Rattle.nm_paths.specs.declared.turn.WalkEnd.{WalkEnd}
+use Rattle.nm_paths.specs.declared.turn.WalkEnd.TheVariants.{Expired}
 use Rattle.nm_paths.specs.declared.turn.Turn.TheVariants.{Stops, Leaves}
 use Rattle.nm_paths.specs.Walks.{Course, behind, course, node_behind, taken, turn_at}
 
@@ -17,7 +17,7 @@ unfolding course
 course-more t to n v = rw add-one refl
 
 -- the way ends at this node
-pub course-stops : (t : TopologyValue) (to n v : ℕ) (hops : List ℕ) (e : Ending)
+pub course-stops : (t : TopologyValue) (to n v : ℕ) (hops : List ℕ) (e : WalkEnd)
     → turn_at (table_of t v) to n ≡ Stops e → behind hops (course t to (n + 1) v) ≡ (hops, e)
 course-stops t to n v hops e stops =
     ap (behind hops) (course-more t to n v ∙ ap (λ u. taken u (λ via. course t to n (node_behind t.ifaces via))) stops)

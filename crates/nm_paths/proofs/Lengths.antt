@@ -7,8 +7,8 @@ use Rattle.nm_topology.specs.TopologyValue.{TopologyValue}
 use Rattle.nm_forward.specs.declared.row.Row.TheVariants as row
 use Rattle.nm_forward.specs.Routes.{route_of}
 use Rattle.nm_forward.specs.Row.{transit_row}
-use Rattle.nm_forward.specs.State.{NodeTable, is_own, table_of}
-use Rattle.nm_paths.specs.declared.turn.Ending.TheVariants.{Arrived}
+use Rattle.nm_forward.specs.State.{NodeConfiguration, is_own, table_of}
+use Rattle.nm_paths.specs.declared.turn.WalkEnd.TheVariants.{Arrived}
 use Rattle.nm_paths.specs.declared.turn.Turn.{Turn}
 use Rattle.nm_paths.specs.declared.turn.Turn.TheVariants.{Stops, Leaves}
 use Rattle.nm_paths.specs.Walks.{course, first_turn, node_behind, row_turn, taken, turn_at, walk_by, walk_of}
@@ -26,7 +26,7 @@ by_node false Router None n via leaves = absurd (cc)
 by_node false Router (Some r) n via leaves = by_route (nat_le n 1) n r via refl leaves
 
 -- a packet that comes with a time to live of 0 or 1 does not leave
-leaves_late : (table : NodeTable) (to n via : ℕ) → turn_at table to n ≡ Leaves via → 2 ≤ n
+leaves_late : (table : NodeConfiguration) (to n via : ℕ) → turn_at table to n ≡ Leaves via → 2 ≤ n
 leaves_late table to n via leaves =
     by_node (is_own table to) table.kind (route_of table.routes to) n via leaves
 

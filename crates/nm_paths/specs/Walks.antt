@@ -8,9 +8,9 @@ use Rattle.nm_forward.specs.declared.row.Row.{Row}
 use Rattle.nm_forward.specs.declared.row.Row.TheVariants as row
 use Rattle.nm_forward.specs.Routes.{route_of}
 use Rattle.nm_forward.specs.Row.{transit_row}
-use Rattle.nm_forward.specs.State.{NodeTable, is_own, table_of}
-use Rattle.nm_paths.specs.declared.turn.Ending.{Ending}
-use Rattle.nm_paths.specs.declared.turn.Ending.TheVariants.{Arrived, Host, NoRoute, Expired}
+use Rattle.nm_forward.specs.State.{NodeConfiguration, is_own, table_of}
+use Rattle.nm_paths.specs.declared.turn.WalkEnd.{WalkEnd}
+use Rattle.nm_paths.specs.declared.turn.WalkEnd.TheVariants.{Arrived, Host, NoRoute, Expired}
 use Rattle.nm_paths.specs.declared.turn.Turn.{Turn}
 use Rattle.nm_paths.specs.declared.turn.Turn.TheVariants.{Stops, Leaves}
 
@@ -24,7 +24,7 @@ row_turn (row.Forward via) = Leaves via
 row_turn r = Stops Arrived
 
 -- a node that has this table, and a packet to this address that comes with this time to live
-abbrev pub turn_at : NodeTable → ℕ → ℕ → Turn
+abbrev pub turn_at : NodeConfiguration → ℕ → ℕ → Turn
 turn_at table to time_to_live =
     if is_own table to then Stops Arrived
     else row_turn (transit_row table.kind (route_of table.routes to) time_to_live)
@@ -35,7 +35,7 @@ route_turn None = Stops NoRoute
 route_turn (Some via) = Leaves via
 
 -- a node that has this table, and a packet of its own to this address
-abbrev pub first_turn : NodeTable → ℕ → Turn
+abbrev pub first_turn : NodeConfiguration → ℕ → Turn
 first_turn table to =
     if is_own table to then Stops Arrived else route_turn (route_of table.routes to)
 
@@ -51,7 +51,7 @@ node_behind ifaces via = node_of_iface ifaces (linked_to ifaces via)
 
 -- the interfaces by which a packet leaves, one node after another, and what ends its way
 abbrev pub Course : Type 0
-Course = List ℕ × Ending
+Course = List ℕ × WalkEnd
 
 -- a turn, and where the packet leaves by an interface what follows
 abbrev pub taken : Turn → (ℕ → Course) → Course

@@ -1,7 +1,7 @@
 //! What ends a way, in words.
 
 use crate::places::{Return, first_return, last_node, node_name, nodes_of};
-use crate::turn::Ending;
+use crate::turn::WalkEnd;
 use crate::ways::Way;
 use nm_base::NodeNo;
 use nm_packet::Address;
@@ -25,7 +25,7 @@ pub fn loop_of(
     from: NodeNo,
     way: &Way,
 ) -> Result<Option<Return>, AllocError> {
-    if way.ending != Ending::Expired {
+    if way.ending != WalkEnd::Expired {
         return Ok(None);
     }
     let nodes = nodes_of(alloc, topology, from, way)?;
@@ -60,9 +60,9 @@ pub fn ending_text(
     let name = node_name(topology, last_node(topology, aim.from, way));
     let (to, time_to_live) = (aim.to, aim.time_to_live);
     match way.ending {
-        Ending::Arrived => format!(in alloc; "\"{name}\" has {to}"),
-        Ending::Host => format!(in alloc; "\"{name}\" is a host and does not forward"),
-        Ending::NoRoute => format!(in alloc; "\"{name}\" has no route to {to}"),
-        Ending::Expired => format!(in alloc; "time to live {time_to_live} is over at \"{name}\""),
+        WalkEnd::Arrived => format!(in alloc; "\"{name}\" has {to}"),
+        WalkEnd::Host => format!(in alloc; "\"{name}\" is a host and does not forward"),
+        WalkEnd::NoRoute => format!(in alloc; "\"{name}\" has no route to {to}"),
+        WalkEnd::Expired => format!(in alloc; "time to live {time_to_live} is over at \"{name}\""),
     }
 }

@@ -5,13 +5,13 @@ ghost use Rattle.nm_packet.specs.Address.{is_martian};
 ghost use Rattle.nm_packet.specs.Ipv4.{Header};
 ghost use Rattle.nm_topology.specs.TopologyValue.{TopologyValue};
 ghost use Rattle.nm_forward.specs.Row.{packet_row};
-ghost use Rattle.nm_forward.specs.State.{NodeTable, is_own};
+ghost use Rattle.nm_forward.specs.State.{NodeConfiguration, is_own};
 ghost use Rattle.nm_paths.specs.Walks.{row_turn, turn_at, walk_by, walk_of};
 
 /// A walk takes the turn of the row by which a node deals with a packet, whatever else is in it,
 /// where the packet is for another node and its destination is no martian.
 pub fn a_walk_takes_the_turns_of_packets()
-    ensures { (table : NodeTable) (h : Header) (payload : List ℕ)
+    ensures { (table : NodeConfiguration) (h : Header) (payload : List ℕ)
         → is_martian h.destination ≡ false → is_own table h.destination ≡ false
         → turn_at table h.destination h.time_to_live ≡ row_turn (packet_row table h payload) }
 {}

@@ -23,5 +23,5 @@ pub mod ways;
 pub use path::path_text;
 pub use survey::way_remarks;
 pub use tables::Tables;
-pub use turn::Ending;
+pub use turn::WalkEnd;
 pub use ways::{Way, walk, walk_by};

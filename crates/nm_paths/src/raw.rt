@@ -8,7 +8,7 @@ use crate::places::{last_node, listens, node_name};
 use crate::remarks::Remarks;
 use crate::sender::{Sender, Sending, remark, see_end, see_times};
 use crate::tables::Tables;
-use crate::turn::Ending;
+use crate::turn::WalkEnd;
 use crate::ways::{node_behind, walk_by};
 use nm_base::{IfaceNo, NodeNo, Packet, Time};
 use nm_packet::{Address, HeaderFault, Ipv4, Ipv4View, Udp, UdpFault, udp};
@@ -168,7 +168,7 @@ fn see_way(
         &way,
         remarks,
     )?;
-    if way.ending == Ending::Arrived {
+    if way.ending == WalkEnd::Arrived {
         let last = last_node(topology, aim.from, &way);
         see_payload(alloc, topology, handed, last, payload, remarks)?;
     }

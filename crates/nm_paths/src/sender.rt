@@ -3,7 +3,7 @@
 use crate::ending::{Aim, ending_text};
 use crate::places::node_name;
 use crate::remarks::Remarks;
-use crate::turn::Ending;
+use crate::turn::WalkEnd;
 use crate::ways::Way;
 use nm_base::{NodeNo, Time};
 use nm_topology::Topology;
@@ -79,7 +79,7 @@ pub fn see_end(
     way: &Way,
     remarks: &mut Remarks,
 ) -> Result<(), AllocError> {
-    if way.ending == Ending::Arrived {
+    if way.ending == WalkEnd::Arrived {
         return Ok(());
     }
     let to = aim.to;

@@ -14,7 +14,7 @@ use crate::raw::see_raw;
 use crate::remarks::Remarks;
 use crate::sender::{Sender, Sending, remark, see_end, see_times};
 use crate::tables::Tables;
-use crate::turn::Ending;
+use crate::turn::WalkEnd;
 use crate::ways::{Way, walk};
 use nm_base::{IfaceNo, NodeNo, Time};
 use nm_packet::Address;
@@ -149,7 +149,7 @@ fn see_ways(
     seen.events = seen.events.saturating_add(sent);
     note_way(topology, flow, &there, seen)?;
     // That nobody has the address is a remark of `nm_check`, and says enough but of a loop.
-    if there.ending != Ending::Expired && !is_known(topology, to) {
+    if there.ending != WalkEnd::Expired && !is_known(topology, to) {
         return Ok(());
     }
     let aim = Aim {
@@ -166,7 +166,7 @@ fn see_ways(
         &there,
         &mut seen.remarks,
     )?;
-    if there.ending != Ending::Arrived {
+    if there.ending != WalkEnd::Arrived {
         return Ok(());
     }
     let last = last_node(topology, from, &there);

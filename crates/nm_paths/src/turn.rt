@@ -9,7 +9,7 @@ use nm_topology::NodeKind;
 
 /// What ends the way of a packet.
 #[derive(Clone, Copy, PartialEq, Eq)]
-pub enum Ending {
+pub enum WalkEnd {
     /// The node has the destination's address.
     Arrived,
     /// The node is a host, and the packet is for another.
@@ -24,7 +24,7 @@ pub enum Ending {
 #[derive(Clone, Copy)]
 pub enum Turn {
     /// The packet's way ends here.
-    Stops(Ending),
+    Stops(WalkEnd),
     /// It leaves by this interface.
     Leaves(IfaceNo),
 }
@@ -34,9 +34,9 @@ pub(crate) fn transit_turn(kind: NodeKind, route: Option<IfaceNo>, time_to_live:
     ensures { result ≡ row_turn (transit_row kind route time_to_live) }
 {
     match (kind, route) {
-        (NodeKind::Host, _) => Turn::Stops(Ending::Host),
-        (NodeKind::Router, None) => Turn::Stops(Ending::NoRoute),
-        (NodeKind::Router, Some(_)) if time_to_live <= 1 => Turn::Stops(Ending::Expired),
+        (NodeKind::Host, _) => Turn::Stops(WalkEnd::Host),
+        (NodeKind::Router, None) => Turn::Stops(WalkEnd::NoRoute),
+        (NodeKind::Router, Some(_)) if time_to_live <= 1 => Turn::Stops(WalkEnd::Expired),
         (NodeKind::Router, Some(via)) => Turn::Leaves(via),
     }
 }
@@ -46,7 +46,7 @@ pub(crate) fn route_turn(route: Option<IfaceNo>) -> Turn
     ensures { result ≡ route_turn route }
 {
     match route {
-        None => Turn::Stops(Ending::NoRoute),
+        None => Turn::Stops(WalkEnd::NoRoute),
         Some(via) => Turn::Leaves(via),
     }
 }

@@ -9,7 +9,7 @@ ghost use Rattle.nm_paths.specs.Walks.{node_behind, nodes_with};
 ghost use Rattle.nm_paths.specs.Walks.{node_of_iface, routes_of_all, turn_at, walk_by, walk_of};
 
 use crate::tables::Tables;
-use crate::turn::{Ending, Turn, route_turn, transit_turn};
+use crate::turn::{Turn, WalkEnd, route_turn, transit_turn};
 use nm_base::{IfaceNo, NodeNo};
 use nm_packet::Address;
 use nm_topology::parts::Iface;
@@ -22,7 +22,7 @@ pub struct Way {
     /// The interfaces by which it leaves, one node after another: at most 255.
     pub hops: Vec<IfaceNo>,
     /// What ends it, at the last node that it comes to.
-    pub ending: Ending,
+    pub ending: WalkEnd,
 }
 
 /// The node of an interface; node 0 where it is not there.
@@ -117,7 +117,7 @@ fn turn_at(
     ensures { result ≡ turn_at (table_of topology.now node) to time_to_live }
 {
     if is_own(topology, holders, node) {
-        return Turn::Stops(Ending::Arrived);
+        return Turn::Stops(WalkEnd::Arrived);
     }
     let route = route_at(topology, tables, node, to);
     transit_turn(kind_of(topology, node), route, time_to_live)
@@ -136,7 +136,7 @@ fn first_turn(
     ensures { result ≡ first_turn (table_of topology.now node) to }
 {
     if is_own(topology, holders, node) {
-        return Turn::Stops(Ending::Arrived);
+        return Turn::Stops(WalkEnd::Arrived);
     }
     route_turn(route_at(topology, tables, node, to))
 }
@@ -151,7 +151,7 @@ fn go_on(
     time_to_live: u8,
     first: NodeNo,
     hops: &mut Vec<IfaceNo>,
-) -> Result<Ending, AllocError>
+) -> Result<WalkEnd, AllocError>
     requires tables { tables.now ≡ routes_of_all topology.now }
     requires holders { holders.now ≡ nodes_with topology.now.ifaces to }
     ensures { IfOk result (λ ending. (hops.new.items, ending)
@@ -167,7 +167,7 @@ fn go_on(
             }
         }
     }
-    Ok(Ending::Expired)
+    Ok(WalkEnd::Expired)
 }
 
 /// The way of a packet with this time to live that a node originates to an address: by the routes

@@ -7,7 +7,7 @@ use Rattle.nm_model.specs.Lists.{nth}
 use Rattle.nm_model.proofs.ListLemmas.{nth_below}
 use Rattle.nm_knowledge.specs.Octets.{same_octets}
 use Rattle.nm_book.specs.Book.{BookValue}
-use Rattle.nm_rounds.specs.Certify.{book_of, books_of, is_at}
+use Rattle.nm_rounds.specs.Certify.{book_of, books_of, is_same_entry}
 
 module _ {A : Type 0} (value : A → BookValue) (l : List A) (n : ℕ) (x : A) (there : n < length l) (is : x ≡ get_or l n x) where
   -- what holds of all holds of the n-th
@@ -45,25 +45,25 @@ first_past value l n past f rest = sym rest ∙ at_drop_all (λ z. first_of f (b
 module _ (c : ℕ) where
   prefix_on : (m n : ℕ) (k l : List (ℕ × List ℕ)) → n < length k
       → prefix_fault same_octets c m (drop n k) (drop n l)
-      ≡ cond (is_at (nth k n) (nth l n)) (prefix_fault same_octets c (suc m) (drop (suc n) k) (drop (suc n) l)) (Some (PrefixFault c m))
+      ≡ cond (is_same_entry (nth k n) (nth l n)) (prefix_fault same_octets c (suc m) (drop (suc n) k) (drop (suc n) l)) (Some (PrefixFault c m))
   prefix_on m n [] l h = absurd (omega arith)
   prefix_on m zero (x ∷ k) [] h = refl
   prefix_on m zero (x ∷ k) (y ∷ l) h = refl
   prefix_on m (suc n) (x ∷ k) [] h = past n k (nth_below k n (omega arith))
     where
       past : (n : ℕ) (k : List (ℕ × List ℕ)) → (y : ℕ × List ℕ) × (nth k n ≡ Some y)
-          → prefix_fault same_octets c m (drop n k) [] ≡ cond (is_at (nth k n) None) (prefix_fault same_octets c (suc m) (drop (suc n) k) []) (Some (PrefixFault c m))
+          → prefix_fault same_octets c m (drop n k) [] ≡ cond (is_same_entry (nth k n) None) (prefix_fault same_octets c (suc m) (drop (suc n) k) []) (Some (PrefixFault c m))
       past n [] there = let e = there.1 in absurd (cc)
       past zero (x ∷ k) there = refl
       past (suc n) (x ∷ k) there = past n k there
   prefix_on m (suc n) (x ∷ k) (y ∷ l) h = prefix_on m n k l (omega arith)
 
-  pub prefix_ends : (n : ℕ) (k l : List (ℕ × List ℕ)) → n < length k → is_at (nth k n) (nth l n) ≡ false
+  pub prefix_ends : (n : ℕ) (k l : List (ℕ × List ℕ)) → n < length k → is_same_entry (nth k n) (nth l n) ≡ false
       → prefix_fault same_octets c n (drop n k) (drop n l) ≡ Some (PrefixFault c n)
   prefix_ends n k l h apart =
       prefix_on n n k l h ∙ ap (λ z. cond z (prefix_fault same_octets c (suc n) (drop (suc n) k) (drop (suc n) l)) (Some (PrefixFault c n))) apart
 
-  pub prefix_goes_on : (n : ℕ) (k l : List (ℕ × List ℕ)) → n < length k → is_at (nth k n) (nth l n) ≡ true
+  pub prefix_goes_on : (n : ℕ) (k l : List (ℕ × List ℕ)) → n < length k → is_same_entry (nth k n) (nth l n) ≡ true
       → prefix_fault same_octets c n (drop n k) (drop n l) ≡ prefix_fault same_octets c (n + 1) (drop (n + 1) k) (drop (n + 1) l)
   prefix_goes_on n k l h alike =
       let more : suc n ≡ n + 1 = omega arith in

@@ -15,13 +15,13 @@ use Rattle.nm_model.specs.Replica.{IsWithin, from_scratch}
 use Rattle.nm_knowledge.specs.Octets.{same_octets}
 use Rattle.nm_sim.specs.Network.{net_of}
 use Rattle.nm_book.specs.Book.{BookValue, knowledge}
-use Rattle.nm_rounds.specs.Certify.{AreCertified, AreOf, Certifies, Finds, IsWithinSafe, book_of, books_of, list_fault}
+use Rattle.nm_rounds.specs.Certify.{AreCertified, AreOf, Certifies, FindsFault, IsWithinSafe, book_of, books_of, list_fault}
 use Rattle.nm_rounds.specs.SameTopology.{SaysSame}
 use Rattle.nm_rounds.specs.declared.certify.CertFault.{CertFault}
 use Rattle.nm_rounds.specs.declared.certify.CertFault.TheVariants.{Topology, Missing, Unfinished, Prefix, Clock, Promise}
 
 -- a fault that was found is the model's
-pub found : (t : TopologyValue) (o : Option Fault) (e : CertFault) → Finds t o (Err e) → (f : Fault) × (o ≡ Some f) × ((p : Option Fault) → p ≡ Some f → Finds t p (Err e))
+pub found : (t : TopologyValue) (o : Option Fault) (e : CertFault) → FindsFault t o (Err e) → (f : Fault) × (o ≡ Some f) × ((p : Option Fault) → p ≡ Some f → FindsFault t p (Err e))
 found t o Topology h = absurd h
 found t o (Missing p) h = (MissingPart p, h, λ q k. k)
 found t o (Unfinished p) h = (UnfinishedPart p, h, λ q k. k)
@@ -30,11 +30,11 @@ found t o (Clock c) h = (ClockFault (receiving_iface t c), h, λ q k. k)
 found t o (Promise c) h = (PromiseFault (receiving_iface t c), h, λ q k. k)
 
 -- a step's fault is that of all steps where those before it found none
-pub first_step : (t : TopologyValue) (o p : Option Fault) (e : CertFault) → Finds t o (Err e) → Finds t (or_else o p) (Err e)
+pub first_step : (t : TopologyValue) (o p : Option Fault) (e : CertFault) → FindsFault t o (Err e) → FindsFault t (or_else o p) (Err e)
 first_step t o p e h = let s = found t o e h in s.2 (or_else o p) (ap (λ z. or_else z p) s.1)
 
-pub next_step : (t : TopologyValue) (o p : Option Fault) (r : Result Unit CertFault) → o ≡ None → Finds t p r → Finds t (or_else o p) r
-next_step t o p r none h = subst (λ z. Finds t z r) (ap (λ z. or_else z p) (sym none)) h
+pub next_step : (t : TopologyValue) (o p : Option Fault) (r : Result Unit CertFault) → o ≡ None → FindsFault t p r → FindsFault t (or_else o p) r
+next_step t o p r none h = subst (λ z. FindsFault t z r) (ap (λ z. or_else z p) (sym none)) h
 
 pub parts_are : (t : TopologyValue) → (net_of t).parts ≡ t.partitions
 unfolding net_of
@@ -97,7 +97,7 @@ is_book (v ∷ l) (suc i) d h = is_book l i d (omega arith)
 module _ (t : TopologyValue) (books : List BookValue) (ours : AreOf t books) where
   -- a fault shows what the model's shows, and where there is none the books are certified
   pub refused : ((f : Fault) → certify (net_of t) same_octets Tight (books_of books) ≡ Some f → FaultShows (net_of t) Tight (books_of books) f)
-      → (e : CertFault) → Finds t (certify (net_of t) same_octets Tight (books_of books)) (Err e) → Certifies t books (Err e)
+      → (e : CertFault) → FindsFault t (certify (net_of t) same_octets Tight (books_of books)) (Err e) → Certifies t books (Err e)
   refused shows Topology h = absurd h
   refused shows (Missing p) h = (ours, shows _ h)
   refused shows (Unfinished p) h = (ours, shows _ h)
@@ -107,7 +107,7 @@ module _ (t : TopologyValue) (books : List BookValue) (ours : AreOf t books) whe
 
   pub answered : (certify (net_of t) same_octets Tight (books_of books) ≡ None → AreCertified t books)
       → ((f : Fault) → certify (net_of t) same_octets Tight (books_of books) ≡ Some f → FaultShows (net_of t) Tight (books_of books) f)
-      → (r : Result Unit CertFault) → Finds t (certify (net_of t) same_octets Tight (books_of books)) r → Certifies t books r
+      → (r : Result Unit CertFault) → FindsFault t (certify (net_of t) same_octets Tight (books_of books)) r → Certifies t books r
   answered sound shows (Ok u) h = sound h
   answered sound shows (Err e) h = refused shows e h
 
@@ -135,13 +135,13 @@ module _ (t : TopologyValue) (books : List BookValue) (ours : AreOf t books) whe
 
   -- the answer is Ok exactly where the books are certified
   module _ (complete : IsCertified (net_of t) Tight (books_of books) → certify (net_of t) same_octets Tight (books_of books) ≡ None) where
-    pub not_certified : (e : CertFault) → Finds t (certify (net_of t) same_octets Tight (books_of books)) (Err e)
+    pub not_certified : (e : CertFault) → FindsFault t (certify (net_of t) same_octets Tight (books_of books)) (Err e)
         → IsOk {T = Unit} (Err e) ↔ (AreOf t books × IsCertified (net_of t) Tight (books_of books))
     not_certified e h =
         let f = found t (certify (net_of t) same_octets Tight (books_of books)) e h in
         ((λ ok. absurd (cc)), (λ both. absurd (not_some f.0 (sym (complete both.1) ∙ f.1))))
 
-    pub exactly : (r : Result Unit CertFault) → Finds t (certify (net_of t) same_octets Tight (books_of books)) r → Certifies t books r
+    pub exactly : (r : Result Unit CertFault) → FindsFault t (certify (net_of t) same_octets Tight (books_of books)) r → Certifies t books r
         → IsOk r ↔ (AreOf t books × IsCertified (net_of t) Tight (books_of books))
     exactly (Ok u) h shown = ((λ ok. (ours, shown.certified)), (λ both. refl))
     exactly (Err e) h shown = not_certified e h

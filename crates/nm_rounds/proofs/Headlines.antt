@@ -15,7 +15,7 @@ use Rattle.nm_model.specs.Replica.{Agrees, IsWithin, from_scratch, safe_time}
 use Rattle.nm_model.specs.Run.{one_list, pends_before}
 use Rattle.nm_model.specs.World as model
 use Rattle.nm_sim.specs.Network.{net_of}
-use Rattle.nm_book.specs.Book.{BookValue, is_incoming, is_outgoing, knowledge, knowledge_of, promise_on, replica_of, safe_of, sent_on, state_of}
+use Rattle.nm_book.specs.Book.{BookValue, is_incoming, is_outgoing, knowledge, knowledge_of, promise_on, replica_of, safe_of, sent_over, state_of}
 use Rattle.nm_book.specs.Laws.{KnowTheSame}
 use Rattle.nm_book.specs.declared.fault.MergeFault.TheVariants as refusal
 use Rattle.nm_book.proofs.Incoming.{stop_is}
@@ -126,7 +126,7 @@ module _ (t : TopologyValue) where
     pub is_true : IsTrue t b
     is_true = record {
       knowledge = λ c messages h all. subst (λ z. IsValid z messages) (knows_it c h) (subst (IsValid (x.knowledge (receiving_iface t c))) (sym all.2) (valid all.0 all.1 (receiving_iface t c) (comes c h)));
-      sent = λ c messages h all. subst (IsPrefix (sent_on b c)) (sym all.2) (mine (λ t' p' x'. IsPrefix (model.outgoing (net_of t') p' x' (receiving_iface t' c)) (history (net_of t) all.0 (receiving_iface t c))) (sent (receiving_iface t c) all.0 all.1 (goes c h)));
+      sent = λ c messages h all. subst (IsPrefix (sent_over b c)) (sym all.2) (mine (λ t' p' x'. IsPrefix (model.outgoing (net_of t') p' x' (receiving_iface t' c)) (history (net_of t) all.0 (receiving_iface t c))) (sent (receiving_iface t c) all.0 all.1 (goes c h)));
       promises = λ c n messages m h all past at kind.
           mine (λ t' p' x'. length (model.outgoing (net_of t') p' x' (receiving_iface t' c)) ≤ n → promise (net_of t') kind p' x'.knowledge x'.ran (receiving_iface t' c) ≤ m.0)
           (λ le. promised (receiving_iface t c) all.0 all.1 (goes c h) n m le (ap (λ l. nth l n) (sym all.2) ∙ at) kind) past;

@@ -10,7 +10,7 @@ use Rattle.nm_book.specs.Book.{BookValue}
 use Rattle.nm_book.specs.declared.message.ChannelMessage.{ChannelMessage}
 use Rattle.nm_rounds.specs.World.{AreFirst, AreReplicas, IsReplicaOf, IsWorld, Steps, happens, outcome_of, step_of}
 use Rattle.nm_rounds.specs.Replay.{IsInterrupted, IsReplay, NamesNothing, answers_of, first_steps, world_after}
-use Rattle.nm_rounds.specs.declared.replay.Ending.TheVariants as ending
+use Rattle.nm_rounds.specs.declared.replay.ReplayEnd.TheVariants as ending
 use Rattle.nm_rounds.specs.declared.step.StepAnswer.{StepAnswer}
 use Rattle.nm_rounds.specs.declared.step.WorldStep.{WorldStep}
 use Rattle.nm_rounds.specs.declared.step.WorldStep.TheVariants as step

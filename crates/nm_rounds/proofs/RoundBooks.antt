@@ -17,7 +17,7 @@ use Rattle.nm_model.specs.Rounds.{given, hear, promised}
 use Rattle.nm_model.specs.World.{Replica, fresh}
 use Rattle.nm_model.proofs.ListLemmas.{same_number}
 use Rattle.nm_sim.specs.Network.{net_of}
-use Rattle.nm_book.specs.Book.{BookValue, is_incoming, is_outgoing, knowledge_of, promise_on, sent_on}
+use Rattle.nm_book.specs.Book.{BookValue, is_incoming, is_outgoing, knowledge_of, promise_on, sent_over}
 use Rattle.nm_book.specs.declared.message.ChannelMessage.{ChannelMessage}
 use Rattle.nm_book.proofs.Incoming.{goes_out_at, ifaces_are, peer_there}
 use Rattle.nm_book.proofs.Tellings.{known_here}
@@ -155,8 +155,8 @@ news_are t x c r s is_r is_s here messages news =
     let a : Know (List ℕ) = slice_index_or r.knows c nothing_known in
     let known : (x (receiver_of (net_of t) i)).knowledge i ≡ a =
     ap (λ z. z.knowledge i) (sym is_r.replica) ∙ ap (λ z. knowledge_of z r.knows i) is_r.topology ∙ known_here t r.knows c here in
-    let sent : sent_on s c ≡ given (net_of t) x i =
-    moved (λ t p z. sent_on s c ≡ (from_scratch (net_of t) p z.knowledge z.ran).sent (receiving_iface t c)) t q 0 s (x q) is_s refl in
+    let sent : sent_over s c ≡ given (net_of t) x i =
+    moved (λ t p z. sent_over s c ≡ (from_scratch (net_of t) p z.knowledge z.ran).sent (receiving_iface t c)) t q 0 s (x q) is_s refl in
     let promises : promise_on Tight s c ≡ promised (net_of t) x Tight i =
     moved (λ t p z. promise_on Tight s c ≡ promise (net_of t) Tight p z.knowledge z.ran (receiving_iface t c)) t q 0 s (x q) is_s refl in
     record {

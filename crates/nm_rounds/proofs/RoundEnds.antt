@@ -15,7 +15,7 @@ use Rattle.nm_model.specs.World.{Replica, fresh, state_of as model_state}
 use Rattle.nm_sim.specs.Network.{net_of}
 use Rattle.nm_book.specs.Book.{BookValue, state_of}
 use Rattle.nm_rounds.specs.World.{IsReplicaOf}
-use Rattle.nm_rounds.specs.Rounds.{AreBooks, AreDone, AreFinished, AreRounds, AreUnfinished, EndsRound, IsFinished, IsLeft, IsWhole, after_hearing, after_runs}
+use Rattle.nm_rounds.specs.Rounds.{AreBooks, AreDoneWithin, AllAreFinished, AreRounds, AreUnfinished, EndsRound, IsFinished, IsLeft, IsWhole, after_hearing, after_runs}
 use Rattle.nm_rounds.proofs.Acts.{moved}
 use Rattle.nm_rounds.proofs.RoundBooks.{as_others, is_there}
 
@@ -65,7 +65,7 @@ module _ (t : TopologyValue) where
     all_heard j books stand = as_others t t.partitions (after_hearing t (after_runs by_round j)) books stand (by_round (suc j))
         (λ p h. ap (λ K. record { knowledge = K; ran = (by_round (suc j) p).ran }) (sym (are.hears j p)))
 
-    pub one_left : (j : ℕ) (books : List BookValue) → AreBooks t t.partitions (after_runs by_round j) books → AreFinished books false → IsLeft t by_round j
+    pub one_left : (j : ℕ) (books : List BookValue) → AreBooks t t.partitions (after_runs by_round j) books → AllAreFinished books false → IsLeft t by_round j
     one_left j books stand found =
         let p : ℕ = found.0 in
         let low : p < t.partitions = let m = stand.count in let l = is_there books p found.1 found.2 in omega (arith, m, l) in
@@ -74,7 +74,7 @@ module _ (t : TopologyValue) where
     -- all are done
     module _ (early : (j p last : ℕ) → safe_time (net_of t) p (by_round j p).knowledge ≡ (net_of t).stop → IsBefore (net_of t) (net_of t).stop last
         → (from_scratch (net_of t) p (by_round j p).knowledge (by_round (suc j) p).ran).records ≡ trace (net_of t) p last) where
-      whole : (j : ℕ) (books : List BookValue) → AreBooks t t.partitions (after_runs by_round j) books → AreFinished books true → (p : ℕ) (b : BookValue) → slice_get books p ≡ Some b → IsWhole t p b
+      whole : (j : ℕ) (books : List BookValue) → AreBooks t t.partitions (after_runs by_round j) books → AllAreFinished books true → (p : ℕ) (b : BookValue) → slice_get books p ≡ Some b → IsWhole t p b
       whole j books stand fin p b e =
           let x : Replica (List ℕ) = after_runs by_round j p in
           let is : IsReplicaOf t p 0 b x = stand.each p b e in
@@ -86,7 +86,7 @@ module _ (t : TopologyValue) where
             trace = λ last before. records ∙ early j p last (done_safe p x done) before;
           }
 
-      pub all_done : (max j : ℕ) (books : List BookValue) → j < max → EndsRound t by_round j true books → AreDone t max (j + 1) books
+      pub all_done : (max j : ℕ) (books : List BookValue) → j < max → EndsRound t by_round j true books → AreDoneWithin t max (j + 1) books
       all_done max j books low ends =
           let n : (j + 1) - 1 ≡ j = omega arith in
           record {

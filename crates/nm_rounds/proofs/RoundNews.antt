@@ -6,12 +6,12 @@ use Rattle.nm_model.specs.Knowledge.{Know}
 use Rattle.nm_model.specs.Lists.{nth}
 use Rattle.nm_model.specs.Promise.{Tight}
 use Rattle.nm_model.specs.Rounds.{hear_list}
-use Rattle.nm_book.specs.Book.{BookValue, message_channel, null_on, sent_on}
+use Rattle.nm_book.specs.Book.{BookValue, message_channel, null_on, sent_over}
 use Rattle.nm_book.specs.declared.message.ChannelMessage.{ChannelMessage}
 use Rattle.nm_book.specs.declared.message.ChannelMessage.TheVariants.{Data as DataMessage, Null as NullMessage}
 use Rattle.nm_book.specs.declared.message.Null.{Null}
 use Rattle.nm_rounds.specs.World.{IsPushed}
-use Rattle.nm_rounds.specs.Rounds.{AreNews, AreOfChannel, told_all, told_one}
+use Rattle.nm_rounds.specs.Rounds.{AreNews, AreOfChannel, told_all, told_message}
 use Rattle.nm_rounds.proofs.Standing.{get_append}
 use Rattle.nm_rounds.proofs.RoundTells.{told_append}
 
@@ -37,7 +37,7 @@ of_one_more c messages m are same i x e = ⊎_elim (λ f. are i x f) (λ f. last
 module _ (a : Know (List ℕ)) (sender : BookValue) (c : ℕ) where
   -- the messages make what it hears of those below number n
   pub record AreNewsTo (n : ℕ) (messages : List ChannelMessage) : Type 0 where
-    pub told : hear_list same_octets (told_all a messages) n (drop n (sent_on sender c)) ≡ hear_list same_octets a (length a.list) (drop (length a.list) (sent_on sender c))
+    pub told : hear_list same_octets (told_all a messages) n (drop n (sent_over sender c)) ≡ hear_list same_octets a (length a.list) (drop (length a.list) (sent_over sender c))
     pub named : AreOfChannel c messages
 
   pub news_none : AreNewsTo (length a.list) []
@@ -48,19 +48,19 @@ module _ (a : Know (List ℕ)) (sender : BookValue) (c : ℕ) where
       let m : ℕ × List ℕ = (p.message.time, p.message.packet) in
       record {
         told =
-            ap (λ z. hear_list same_octets (told_all a z) (suc n) (drop (suc n) (sent_on sender c))) p.pushed
-            ∙ ap (λ z. hear_list same_octets z (suc n) (drop (suc n) (sent_on sender c))) (told_append a before (DataMessage p.message))
-            ∙ ap (λ k. hear_list same_octets (accept_data same_octets (told_all a before) k m).after (suc n) (drop (suc n) (sent_on sender c))) p.number
-            ∙ ap (hear_list same_octets (told_all a before) n) (sym (drop_next n (sent_on sender c) m p.sent))
+            ap (λ z. hear_list same_octets (told_all a z) (suc n) (drop (suc n) (sent_over sender c))) p.pushed
+            ∙ ap (λ z. hear_list same_octets z (suc n) (drop (suc n) (sent_over sender c))) (told_append a before (DataMessage p.message))
+            ∙ ap (λ k. hear_list same_octets (accept_data same_octets (told_all a before) k m).after (suc n) (drop (suc n) (sent_over sender c))) p.number
+            ∙ ap (hear_list same_octets (told_all a before) n) (sym (drop_next n (sent_over sender c) m p.sent))
             ∙ are.told;
         named = subst (AreOfChannel c) (sym p.pushed) (of_one_more c before (DataMessage p.message) are.named p.channel);
       }
 
-  pub news_all : (n : ℕ) (messages : List ChannelMessage) (null : Null) → AreNewsTo n messages → length (sent_on sender c) ≤ n → null ≡ null_on Tight sender c → AreNews a sender c (messages ++ NullMessage null ∷ [])
+  pub news_all : (n : ℕ) (messages : List ChannelMessage) (null : Null) → AreNewsTo n messages → length (sent_over sender c) ≤ n → null ≡ null_on Tight sender c → AreNews a sender c (messages ++ NullMessage null ∷ [])
   news_all n messages null are past is = record {
     told =
-        told_append a messages (NullMessage null) ∙ ap (λ z. told_one (told_all a messages) (NullMessage z)) is
-        ∙ ap (λ z. told_one z (NullMessage (null_on Tight sender c)))
-        (ap (hear_list same_octets (told_all a messages) n) (sym (drop_past n (sent_on sender c) past)) ∙ are.told);
+        told_append a messages (NullMessage null) ∙ ap (λ z. told_message (told_all a messages) (NullMessage z)) is
+        ∙ ap (λ z. told_message z (NullMessage (null_on Tight sender c)))
+        (ap (hear_list same_octets (told_all a messages) n) (sym (drop_past n (sent_over sender c) past)) ∙ are.told);
     named = of_one_more c messages (NullMessage null) are.named (ap (λ z. z.channel) is);
   }

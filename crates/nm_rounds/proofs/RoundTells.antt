@@ -13,7 +13,7 @@ use Rattle.nm_book.specs.declared.message.ChannelMessage.{ChannelMessage}
 use Rattle.nm_book.specs.declared.message.ChannelMessage.TheVariants.{Data as DataMessage, Null as NullMessage}
 use Rattle.nm_book.specs.declared.fault.AcceptFault.TheVariants.{Known, Stranger}
 use Rattle.nm_book.proofs.Tellings.{set_here, set_same}
-use Rattle.nm_rounds.specs.Rounds.{AreOfChannel, told_all, told_one}
+use Rattle.nm_rounds.specs.Rounds.{AreOfChannel, told_all, told_message}
 
 -- what a refusal leaves: only what is new, or a greater clock, changes what is known
 data_keeps : (o : Option (ℕ × List ℕ)) (a : Know (List ℕ)) (n : ℕ) (b : ℕ × List ℕ) → (accept.data_at same_octets o a n b).answer ≢ accept.New → (accept.data_at same_octets o a n b).after ≡ a
@@ -53,11 +53,11 @@ no_reason fault.NotRising a e = let g : a ≡ accept.NotRising = cc in ((λ h. l
 no_reason fault.Memory a e = absurd cc
 no_reason (fault.Contrary n) a e = let g : a ≡ accept.Contrary n = cc in ((λ h. let k : accept.Contrary n ≡ accept.New = sym g ∙ h in cc), (λ h. let k : accept.Contrary n ≡ accept.Raised = sym g ∙ h in cc))
 
-taken_is : (knows : List (Know (List ℕ))) (m : ChannelMessage) → (message_taken knows m).after ≡ told_one (slice_index_or knows (message_channel m) nothing_known) m
+taken_is : (knows : List (Know (List ℕ))) (m : ChannelMessage) → (message_taken knows m).after ≡ told_message (slice_index_or knows (message_channel m) nothing_known) m
 taken_is knows (DataMessage d) = refl
 taken_is knows (NullMessage n) = refl
 
-refused_keeps : (knows : List (Know (List ℕ))) (m : ChannelMessage) (f : KnowFault) → Some (message_taken knows m).answer ≡ reason f → told_one (slice_index_or knows (message_channel m) nothing_known) m ≡ slice_index_or knows (message_channel m) nothing_known
+refused_keeps : (knows : List (Know (List ℕ))) (m : ChannelMessage) (f : KnowFault) → Some (message_taken knows m).answer ≡ reason f → told_message (slice_index_or knows (message_channel m) nothing_known) m ≡ slice_index_or knows (message_channel m) nothing_known
 refused_keeps knows (DataMessage d) f e = let a = slice_index_or knows d.channel nothing_known in data_keeps (nth a.list d.number) a d.number (d.time, d.packet) (no_reason f _ e).0
 refused_keeps knows (NullMessage n) f e = let a = slice_index_or knows n.channel nothing_known in null_keeps (nth a.list n.count) a n.count n.clock (no_reason f _ e).1
 
@@ -70,7 +70,7 @@ module _ (b c : BookValue) (m : ChannelMessage) (comes : is_incoming b (message_
   known = slice_index_or b.knows ch nothing_known
 
   -- it took it in
-  pub took : (a : Accepted) → Takes b c ch (message_taken b.knows m) (Ok a) → c ≡ record b { knows = slice_set b.knows ch (told_one known m) }
+  pub took : (a : Accepted) → Takes b c ch (message_taken b.knows m) (Ok a) → c ≡ record b { knows = slice_set b.knows ch (told_message known m) }
   took a h =
       let learns : Learns b.knows c.knows ch (message_taken b.knows m) (Ok a) = subst (λ z. LearnsIf z b.knows c.knows ch (message_taken b.knows m) (Ok a)) comes h.learns in
       h.same ∙ ap (λ z. record b { knows = z }) (learns.1 ∙ ap (slice_set b.knows ch) (taken_is b.knows m))
@@ -79,14 +79,14 @@ module _ (b c : BookValue) (m : ChannelMessage) (comes : is_incoming b (message_
   no_stranger h = subst (λ z. LearnsIf z b.knows c.knows ch (message_taken b.knows m) (Err Stranger)) comes h.learns
 
   -- it refused it
-  pub refused : (f : KnowFault) → (f ≡ fault.Memory → ⊥) → Takes b c ch (message_taken b.knows m) (Err (Known f)) → c ≡ record b { knows = slice_set b.knows ch (told_one known m) }
+  pub refused : (f : KnowFault) → (f ≡ fault.Memory → ⊥) → Takes b c ch (message_taken b.knows m) (Err (Known f)) → c ≡ record b { knows = slice_set b.knows ch (told_message known m) }
   refused f other h = by_fault f other (subst (λ z. LearnsIf z b.knows c.knows ch (message_taken b.knows m) (Err (Known f))) comes h.learns)
     where
-      for_reason : (f : KnowFault) → Some (message_taken b.knows m).answer ≡ reason f → c.knows ≡ b.knows → c ≡ record b { knows = slice_set b.knows ch (told_one known m) }
+      for_reason : (f : KnowFault) → Some (message_taken b.knows m).answer ≡ reason f → c.knows ≡ b.knows → c ≡ record b { knows = slice_set b.knows ch (told_message known m) }
       for_reason f why same =
           h.same ∙ ap (λ z. record b { knows = z }) (same ∙ sym (set_same b.knows ch) ∙ ap (slice_set b.knows ch) (sym (refused_keeps b.knows m f why)))
 
-      by_fault : (f : KnowFault) → (f ≡ fault.Memory → ⊥) → Learns b.knows c.knows ch (message_taken b.knows m) (Err (Known f)) → c ≡ record b { knows = slice_set b.knows ch (told_one known m) }
+      by_fault : (f : KnowFault) → (f ≡ fault.Memory → ⊥) → Learns b.knows c.knows ch (message_taken b.knows m) (Err (Known f)) → c ≡ record b { knows = slice_set b.knows ch (told_message known m) }
       by_fault (fault.Gap n) other l = for_reason (fault.Gap n) l.0 l.1
       by_fault (fault.Differs n) other l = for_reason (fault.Differs n) l.0 l.1
       by_fault (fault.Late n) other l = for_reason (fault.Late n) l.0 l.1
@@ -95,14 +95,14 @@ module _ (b c : BookValue) (m : ChannelMessage) (comes : is_incoming b (message_
       by_fault (fault.Contrary n) other l = for_reason (fault.Contrary n) l.0 l.1
 
 -- one message more
-pub told_more : (a : Know (List ℕ)) (ms : List ChannelMessage) (i : ℕ) (m : ChannelMessage) → slice_get ms i ≡ Some m → told_all a (take (suc i) ms) ≡ told_one (told_all a (take i ms)) m
+pub told_more : (a : Know (List ℕ)) (ms : List ChannelMessage) (i : ℕ) (m : ChannelMessage) → slice_get ms i ≡ Some m → told_all a (take (suc i) ms) ≡ told_message (told_all a (take i ms)) m
 told_more a [] i m e = absurd (let g : None ≡ Some m = e in cc)
-told_more a (x ∷ ms) zero m e = let g : x ≡ m = cc in ap (told_one a) g
-told_more a (x ∷ ms) (suc i) m e = told_more (told_one a x) ms i m e
+told_more a (x ∷ ms) zero m e = let g : x ≡ m = cc in ap (told_message a) g
+told_more a (x ∷ ms) (suc i) m e = told_more (told_message a x) ms i m e
 
-pub told_append : (a : Know (List ℕ)) (ms : List ChannelMessage) (m : ChannelMessage) → told_all a (ms ++ m ∷ []) ≡ told_one (told_all a ms) m
+pub told_append : (a : Know (List ℕ)) (ms : List ChannelMessage) (m : ChannelMessage) → told_all a (ms ++ m ∷ []) ≡ told_message (told_all a ms) m
 told_append a [] m = refl
-told_append a (x ∷ ms) m = told_append (told_one a x) ms m
+told_append a (x ∷ ms) m = told_append (told_message a x) ms m
 
 -- what is set twice
 set_twice : (l : List (Know (List ℕ))) (c : ℕ) (a b : Know (List ℕ)) → slice_set (slice_set l c a) c b ≡ slice_set l c b
@@ -119,16 +119,16 @@ module _ (b : BookValue) (messages : List ChannelMessage) (c : ℕ) where
   told_none = ap (λ z. record b { knows = z }) (sym (set_same b.knows c))
 
   pub told_next : (now new : BookValue) (i : ℕ) (m : ChannelMessage) → now ≡ with_told i → is_incoming b c ≡ true → c < length b.knows → AreOfChannel c messages → slice_get messages i ≡ Some m
-      → (is_incoming now (message_channel m) ≡ true → new ≡ record now { knows = slice_set now.knows (message_channel m) (told_one (slice_index_or now.knows (message_channel m) nothing_known) m) })
+      → (is_incoming now (message_channel m) ≡ true → new ≡ record now { knows = slice_set now.knows (message_channel m) (told_message (slice_index_or now.knows (message_channel m) nothing_known) m) })
       → new ≡ with_told (suc i)
   told_next now new i m is comes within of_c here tells =
       let same : message_channel m ≡ c = of_c i m here in
       let a : Know (List ℕ) = told_all (slice_index_or b.knows c nothing_known) (take i messages) in
       let still : is_incoming now (message_channel m) ≡ true = ap₂ is_incoming is same ∙ comes in
-      tells still ∙ ap₂ (λ (z : BookValue) (k : ℕ). record z { knows = slice_set z.knows k (told_one (slice_index_or z.knows k nothing_known) m) }) is same
+      tells still ∙ ap₂ (λ (z : BookValue) (k : ℕ). record z { knows = slice_set z.knows k (told_message (slice_index_or z.knows k nothing_known) m) }) is same
       ∙ ap (λ z. record b { knows = z })
-      (set_twice b.knows c a (told_one (slice_index_or (slice_set b.knows c a) c nothing_known) m)
-      ∙ ap (λ z. slice_set b.knows c (told_one z m)) (set_here b.knows c a within)
+      (set_twice b.knows c a (told_message (slice_index_or (slice_set b.knows c a) c nothing_known) m)
+      ∙ ap (λ z. slice_set b.knows c (told_message z m)) (set_here b.knows c a within)
       ∙ ap (slice_set b.knows c) (sym (told_more (slice_index_or b.knows c nothing_known) messages i m here)))
 
 -- a weaker fact of what went well

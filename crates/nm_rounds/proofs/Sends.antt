@@ -10,7 +10,7 @@ use Rattle.nm_model.specs.Partition.{goes_out}
 use Rattle.nm_model.specs.Promise.{Promising, Plain, Tight, promise}
 use Rattle.nm_model.specs.World as model
 use Rattle.nm_sim.specs.Network.{net_of}
-use Rattle.nm_book.specs.Book.{BookValue, data_from, is_outgoing, is_replica, message_channel, null_on, only_if, promise_on, sent_on}
+use Rattle.nm_book.specs.Book.{BookValue, data_from, is_outgoing, is_replica, message_channel, null_on, only_if, promise_on, sent_over}
 use Rattle.nm_book.specs.declared.message.ChannelMessage.{ChannelMessage}
 use Rattle.nm_book.specs.declared.message.ChannelMessage.TheVariants.{Data as DataMessage, Null as NullMessage}
 use Rattle.nm_book.specs.declared.message.Data.{Data}
@@ -95,17 +95,17 @@ module _ (t : TopologyValue) (books : List BookValue) (bag : List ChannelMessage
     goes = let q = sym is.partition in let s = sym is.topology in
         subst (λ z. goes_out (net_of z) b.partition (receiving_iface z c) ≡ true) s (subst (λ z. goes_out (net_of t) z (receiving_iface t c) ≡ true) q (both _ _ yes).1)
 
-    pub lines_are : sent_on b c ≡ lines
-    lines_are = sym (moved (λ t p x. model.outgoing (net_of t) p x (receiving_iface t c) ≡ sent_on b c) t p r b x is refl)
+    pub lines_are : sent_over b c ≡ lines
+    lines_are = sym (moved (λ t p x. model.outgoing (net_of t) p x (receiving_iface t c) ≡ sent_over b c) t p r b x is refl)
 
     -- what the book says of the channel's number
     abbrev given : ℕ → Option Data → ℕ → Type 0
-    given n o z = o ≡ option_and_then (λ l. data_from z n (nth l n)) (only_if (is_outgoing b z) (sent_on b z))
+    given n o z = o ≡ option_and_then (λ l. data_from z n (nth l n)) (only_if (is_outgoing b z) (sent_over b z))
 
-    pub data_sent : (n : ℕ) (d : Data) → Some d ≡ option_and_then (λ l. data_from ch n (nth l n)) (only_if (is_outgoing b ch) (sent_on b ch))
+    pub data_sent : (n : ℕ) (d : Data) → Some d ≡ option_and_then (λ l. data_from ch n (nth l n)) (only_if (is_outgoing b ch) (sent_over b ch))
         → Steps t w (step.Data p r c n) (Ok (answer.Frames 1)) books (bag ++ DataMessage d ∷ [])
     data_sent n d e =
-        let sent = was_sent (is_outgoing b c) (sent_on b c) c n d (sym (subst (given n (Some d)) same e)) in
+        let sent = was_sent (is_outgoing b c) (sent_over b c) c n d (sym (subst (given n (Some d)) same e)) in
         let frame : frame_of t (DataMessage d) ≡ model.DataFrame i n (d.time, d.packet) = ap₂ (λ a z. model.DataFrame (receiving_iface t a) z (d.time, d.packet)) sent.2 sent.3 in
         step_done t w (step.Data p r c n) books (bag ++ DataMessage d ∷ []) (model.put_frames w (model.DataFrame i n (d.time, d.packet) ∷ [])) (model.Frames 1) (answer.Frames 1)
         (ap (λ z. cond z (model.sends w i n (nth lines n)) (w, model.NoSuch)) (model_sends t p r c true yes)
@@ -117,16 +117,16 @@ module _ (t : TopologyValue) (books : List BookValue) (bag : List ChannelMessage
         one_there same (suc j) m f = absurd (let g : None ≡ Some m = f in cc)
 
     -- no such message was sent
-    pub data_missing : (n : ℕ) → None ≡ option_and_then (λ l. data_from ch n (nth l n)) (only_if (is_outgoing b ch) (sent_on b ch)) → Steps t w (step.Data p r c n) (Err stop.NoSuch) books bag
+    pub data_missing : (n : ℕ) → None ≡ option_and_then (λ l. data_from ch n (nth l n)) (only_if (is_outgoing b ch) (sent_over b ch)) → Steps t w (step.Data p r c n) (Err stop.NoSuch) books bag
     data_missing n e =
         step_names_nothing t w (step.Data p r c n) books bag
         (ap (λ z. cond z (model.sends w i n (nth lines n)) (w, model.NoSuch)) (model_sends t p r c true yes)
-        ∙ ap (model.sends w i n) (ap (λ l. nth l n) (sym lines_are) ∙ was_not_sent (sent_on b c) c n (is_outgoing b c) goes (subst (given n None) same e))) stands
+        ∙ ap (model.sends w i n) (ap (λ l. nth l n) (sym lines_are) ∙ was_not_sent (sent_over b c) c n (is_outgoing b c) goes (subst (given n None) same e))) stands
 
     -- a null message with its promise
     null_frame : (kind : Promising) → frame_of t (NullMessage (null_on kind b c)) ≡ model.NullFrame i (length lines) (promise (net_of t) kind p x.knowledge x.ran i)
     null_frame kind = sym (moved (λ t p x. ◌≡◌ {A = model.Frame (List ℕ)} (model.NullFrame (receiving_iface t c) (length (model.outgoing (net_of t) p x (receiving_iface t c))) (promise (net_of t) kind p x.knowledge x.ran (receiving_iface t c)))
-        (model.NullFrame (receiving_iface t c) (length (sent_on b c)) (promise_on kind b c))) t p r b x is refl)
+        (model.NullFrame (receiving_iface t c) (length (sent_over b c)) (promise_on kind b c))) t p r b x is refl)
 
     null_there : (kind : Promising) (j : ℕ) (m : ChannelMessage) → slice_get (NullMessage (null_on kind b c) ∷ []) j ≡ Some m → message_channel m < length t.receivers
     null_there kind zero m f = let g : NullMessage (null_on kind b c) ≡ m = cc in subst (λ z. message_channel z < length t.receivers) g within
@@ -160,31 +160,31 @@ module _ (t : TopologyValue) (books : List BookValue) (bag : List ChannelMessage
     both_hold : (a d : Bool) → a ≡ true → d ≡ true → (a && d) ≡ true
     both_hold a d e f = ap₂ (λ y z. y && z) e f
 
-    again : (n : ℕ) (more : List ChannelMessage) → n ≤ length (sent_on b c) → AreMessages b c n more
-        → Steps t w (step.Resend p r c n) (Ok (answer.Frames (length (sent_on b c) - n))) books (bag ++ more)
+    again : (n : ℕ) (more : List ChannelMessage) → n ≤ length (sent_over b c) → AreMessages b c n more
+        → Steps t w (step.Resend p r c n) (Ok (answer.Frames (length (sent_over b c) - n))) books (bag ++ more)
     again n more le are =
         let few : leb n (length lines) ≡ true = let e = ap length lines_are in grind (arith, nat_tests, le, e) in
         let frames : map (frame_of t) more ≡ model.data_frames i n (drop n lines) =
-        ap (λ z. map (frame_of z) more) (sym is.topology) ∙ are.frames ∙ ap (λ z. model.data_frames (receiving_iface z c) n (drop n (sent_on b c))) is.topology ∙ ap (λ z. model.data_frames i n (drop n z)) lines_are in
-        step_done t w (step.Resend p r c n) books (bag ++ more) (model.put_frames w (model.data_frames i n (drop n lines))) (model.Frames (length lines - n)) (answer.Frames (length (sent_on b c) - n))
+        ap (λ z. map (frame_of z) more) (sym is.topology) ∙ are.frames ∙ ap (λ z. model.data_frames (receiving_iface z c) n (drop n (sent_over b c))) is.topology ∙ ap (λ z. model.data_frames i n (drop n z)) lines_are in
+        step_done t w (step.Resend p r c n) books (bag ++ more) (model.put_frames w (model.data_frames i n (drop n lines))) (model.Frames (length lines - n)) (answer.Frames (length (sent_over b c) - n))
         (ap (λ z. cond z (model.put_frames w (model.data_frames i n (drop n lines)), model.Frames (length lines - n)) (w, model.NoSuch)) (both_hold _ _ (model_sends t p r c true yes) few))
         (ap (λ z. Some (model.Frames (length z - n))) lines_are)
         (put_frames t books bag more w (model.data_frames i n (drop n lines)) stands frames (λ j m e. let s = are.named j m e in omega (arith, s, within)))
 
-    pub again_sent : (n : ℕ) (more : List ChannelMessage) → n ≤ length (sent_on b ch) → AreMessages b ch n more
-        → Steps t w (step.Resend p r c n) (Ok (answer.Frames (length (sent_on b ch) - n))) books (bag ++ more)
-    again_sent n more few are = subst (λ z. n ≤ length (sent_on b z) → AreMessages b z n more → Steps t w (step.Resend p r c n) (Ok (answer.Frames (length (sent_on b z) - n))) books (bag ++ more)) (sym same) (again n more) few are
+    pub again_sent : (n : ℕ) (more : List ChannelMessage) → n ≤ length (sent_over b ch) → AreMessages b ch n more
+        → Steps t w (step.Resend p r c n) (Ok (answer.Frames (length (sent_over b ch) - n))) books (bag ++ more)
+    again_sent n more few are = subst (λ z. n ≤ length (sent_over b z) → AreMessages b z n more → Steps t w (step.Resend p r c n) (Ok (answer.Frames (length (sent_over b z) - n))) books (bag ++ more)) (sym same) (again n more) few are
 
-    pub none_so_far : (n : ℕ) → length (sent_on b ch) < n → Steps t w (step.Resend p r c n) (Err stop.NoSuch) books bag
+    pub none_so_far : (n : ℕ) → length (sent_over b ch) < n → Steps t w (step.Resend p r c n) (Err stop.NoSuch) books bag
     none_so_far n lt =
-        let past : leb n (length lines) ≡ false = let e = ap length lines_are in let f = ap (λ z. length (sent_on b z)) same in grind (arith, nat_tests, lt, e, f) in
+        let past : leb n (length lines) ≡ false = let e = ap length lines_are in let f = ap (λ z. length (sent_over b z)) same in grind (arith, nat_tests, lt, e, f) in
         step_names_nothing t w (step.Resend p r c n) books bag
         (ap (λ z. cond z (model.put_frames w (model.data_frames i n (drop n lines)), model.Frames (length lines - n)) (w, model.NoSuch)) (not_and_right _ _ past)) stands
 
 -- What is gathered of a channel's messages.
 module _ (b : BookValue) (c : ℕ) where
   abbrev pub to_come : ℕ → List (model.Frame (List ℕ))
-  to_come n = model.data_frames (receiving_iface b.topology c) n (drop n (sent_on b c))
+  to_come n = model.data_frames (receiving_iface b.topology c) n (drop n (sent_over b c))
 
   -- those gathered from number first on, and those to come from number n on
   pub record AreGathered (first n : ℕ) (messages : List ChannelMessage) : Type 0 where
@@ -208,7 +208,7 @@ module _ (b : BookValue) (c : ℕ) where
             ap (λ z. map (frame_of b.topology) z ++ to_come (suc n)) p.pushed ∙ ap (λ z. z ++ to_come (suc n)) (map-append (frame_of b.topology) before (DataMessage p.message ∷ []))
             ∙ append_assoc (map (frame_of b.topology) before) (frame_of b.topology (DataMessage p.message) ∷ []) (to_come (suc n))
             ∙ ap (λ z. map (frame_of b.topology) before ++ z ∷ to_come (suc n)) one
-            ∙ ap (λ z. map (frame_of b.topology) before ++ z) (sym (next_frame (receiving_iface b.topology c) n (sent_on b c) (p.message.time, p.message.packet) p.sent n)) ∙ are.frames;
+            ∙ ap (λ z. map (frame_of b.topology) before ++ z) (sym (next_frame (receiving_iface b.topology c) n (sent_over b c) (p.message.time, p.message.packet) p.sent n)) ∙ are.frames;
         named = λ i m e. ⊎_elim (λ f. are.named i m f) (λ f. last f.0 m f.1) (get_append before (DataMessage p.message ∷ []) i m (ap (λ z. slice_get z i) (sym p.pushed) ∙ e));
       }
     where
@@ -216,9 +216,9 @@ module _ (b : BookValue) (c : ℕ) where
       last zero m e = let g : DataMessage p.message ≡ m = cc in ap message_channel (sym g) ∙ p.channel
       last (suc j) m e = absurd (let g : None ≡ Some m = e in cc)
 
-  pub gathered_all : (first n : ℕ) (messages : List ChannelMessage) → AreGathered first n messages → length (sent_on b c) ≤ n → AreMessages b c first messages
+  pub gathered_all : (first n : ℕ) (messages : List ChannelMessage) → AreGathered first n messages → length (sent_over b c) ≤ n → AreMessages b c first messages
   gathered_all first n messages are le = record {
-    frames = sym (append-nil (map (frame_of b.topology) messages)) ∙ ap (λ z. map (frame_of b.topology) messages ++ z) (sym (none_left n (sent_on b c) le n)) ∙ are.frames;
+    frames = sym (append-nil (map (frame_of b.topology) messages)) ∙ ap (λ z. map (frame_of b.topology) messages ++ z) (sym (none_left n (sent_over b c) le n)) ∙ are.frames;
     named = are.named;
   }
     where

@@ -38,28 +38,28 @@ pub record AreCertified (t : TopologyValue) (books : List BookValue) : Type 0 wh
       → All (λ b. (state_of b).records ≡ trace (net_of t) b.partition last) books
 
 -- all are books of this topology, and the model's certificate has this fault
-abbrev pub Shows : TopologyValue → List BookValue → Fault → Type 0
-Shows t books f = AreOf t books × FaultShows (net_of t) Tight (books_of books) f
+abbrev pub ShowsFault : TopologyValue → List BookValue → Fault → Type 0
+ShowsFault t books f = AreOf t books × FaultShows (net_of t) Tight (books_of books) f
 
 -- The answer of a certificate. The model names a channel by its receiving interface.
 abbrev pub Certifies : TopologyValue → List BookValue → Result Unit CertFault → Type 0
 Certifies t books (Ok u) = AreCertified t books
 Certifies t books (Err Topology) = (b : BookValue) × Contains books b × (SaysSame b.topology t → ⊥)
-Certifies t books (Err (Missing p)) = Shows t books (MissingPart p)
-Certifies t books (Err (Unfinished p)) = Shows t books (UnfinishedPart p)
-Certifies t books (Err (Prefix c n)) = Shows t books (PrefixFault (receiving_iface t c) n)
-Certifies t books (Err (Clock c)) = Shows t books (ClockFault (receiving_iface t c))
-Certifies t books (Err (Promise c)) = Shows t books (PromiseFault (receiving_iface t c))
+Certifies t books (Err (Missing p)) = ShowsFault t books (MissingPart p)
+Certifies t books (Err (Unfinished p)) = ShowsFault t books (UnfinishedPart p)
+Certifies t books (Err (Prefix c n)) = ShowsFault t books (PrefixFault (receiving_iface t c) n)
+Certifies t books (Err (Clock c)) = ShowsFault t books (ClockFault (receiving_iface t c))
+Certifies t books (Err (Promise c)) = ShowsFault t books (PromiseFault (receiving_iface t c))
 
 -- How it goes: a step's answer is what the model's certificate finds there.
-abbrev pub Finds : TopologyValue → Option Fault → Result Unit CertFault → Type 0
-Finds t found (Ok u) = found ≡ None
-Finds t found (Err Topology) = ⊥
-Finds t found (Err (Missing p)) = found ≡ Some (MissingPart p)
-Finds t found (Err (Unfinished p)) = found ≡ Some (UnfinishedPart p)
-Finds t found (Err (Prefix c n)) = found ≡ Some (PrefixFault (receiving_iface t c) n)
-Finds t found (Err (Clock c)) = found ≡ Some (ClockFault (receiving_iface t c))
-Finds t found (Err (Promise c)) = found ≡ Some (PromiseFault (receiving_iface t c))
+abbrev pub FindsFault : TopologyValue → Option Fault → Result Unit CertFault → Type 0
+FindsFault t found (Ok u) = found ≡ None
+FindsFault t found (Err Topology) = ⊥
+FindsFault t found (Err (Missing p)) = found ≡ Some (MissingPart p)
+FindsFault t found (Err (Unfinished p)) = found ≡ Some (UnfinishedPart p)
+FindsFault t found (Err (Prefix c n)) = found ≡ Some (PrefixFault (receiving_iface t c) n)
+FindsFault t found (Err (Clock c)) = found ≡ Some (ClockFault (receiving_iface t c))
+FindsFault t found (Err (Promise c)) = found ≡ Some (PromiseFault (receiving_iface t c))
 
 -- a partition has no book; a book is not done
 abbrev pub missing : List BookValue → ℕ → Option Fault
@@ -73,10 +73,10 @@ abbrev pub IsWithinSafe : TopologyValue → BookValue → Type 0
 IsWithinSafe t b = IsWithin (net_of t) b.partition (knowledge b) b.events
 
 -- both are there, and the same
-abbrev pub is_at : Option (ℕ × List ℕ) → Option (ℕ × List ℕ) → Bool
-is_at None o = false
-is_at (Some x) None = false
-is_at (Some x) (Some y) = same_message same_octets x y
+abbrev pub is_same_entry : Option (ℕ × List ℕ) → Option (ℕ × List ℕ) → Bool
+is_same_entry None o = false
+is_same_entry (Some x) None = false
+is_same_entry (Some x) (Some y) = same_message same_octets x y
 
 -- the fault of channel c, of which a is known and on which this was sent and promised
 abbrev pub list_fault : ℕ → Know (List ℕ) → List (ℕ × List ℕ) → ℕ → Option Fault

@@ -14,7 +14,7 @@ use Rattle.nm_model.specs.Replica.{Agrees}
 use Rattle.nm_model.specs.Run.{one_list, pends_before}
 use Rattle.nm_sim.specs.Network.{net_of}
 use Rattle.nm_sim.specs.Trace.{IsTraceBefore}
-use Rattle.nm_book.specs.Book.{BookValue, is_incoming, is_outgoing, promise_on, safe_of, sent_on, state_of}
+use Rattle.nm_book.specs.Book.{BookValue, is_incoming, is_outgoing, promise_on, safe_of, sent_over, state_of}
 use Rattle.nm_book.specs.Laws.{KnowTheSame}
 use Rattle.nm_rounds.specs.declared.step.StepAnswer.{StepAnswer}
 use Rattle.nm_rounds.specs.declared.step.StepAnswer.TheVariants.{All, Limit, Frames, Accepted, Refused, Merged, MergeRefused, Emptied}
@@ -58,9 +58,9 @@ module _ (t : TopologyValue) where
     pub knowledge : (c : ℕ) (messages : List (ℕ × List ℕ)) → is_incoming b c ≡ true → IsHistory t c messages
         → IsValid (slice_index_or b.knows c nothing_known) messages
     -- the history of a channel that goes out begins with what was sent on it, and goes on at or after each promise
-    pub sent : (c : ℕ) (messages : List (ℕ × List ℕ)) → is_outgoing b c ≡ true → IsHistory t c messages → IsPrefix (sent_on b c) messages
+    pub sent : (c : ℕ) (messages : List (ℕ × List ℕ)) → is_outgoing b c ≡ true → IsHistory t c messages → IsPrefix (sent_over b c) messages
     pub promises : (c n : ℕ) (messages : List (ℕ × List ℕ)) (m : ℕ × List ℕ) → is_outgoing b c ≡ true → IsHistory t c messages
-        → length (sent_on b c) ≤ n → nth messages n ≡ Some m → (kind : Promising) → promise_on kind b c ≤ m.0
+        → length (sent_over b c) ≤ n → nth messages n ≡ Some m → (kind : Promising) → promise_on kind b c ≤ m.0
     -- the trace begins the one event list's trace of the partition, and is all of it before the safe time once what is safe has run
     pub trace : (all : List (Record (List ℕ))) → IsTraceBefore t t.stop all → IsPrefix (state_of b).records (records_at t b.partition all)
     pub exact : (all : List (Record (List ℕ))) → HasRunAll b → IsTraceBefore t (safe_of b) all → (state_of b).records ≡ records_at t b.partition all

@@ -19,8 +19,8 @@ use Rattle.nm_rounds.specs.declared.step.WorldStep.TheVariants as step
 use Rattle.nm_rounds.specs.declared.fault.ReplayFault.{ReplayFault}
 use Rattle.nm_rounds.specs.declared.fault.ReplayFault.TheVariants.{Topo, Memory as OutOfMemory}
 use Rattle.nm_rounds.specs.declared.replay.WorldReport.{WorldReport}
-use Rattle.nm_rounds.specs.declared.replay.Ending.{Ending}
-use Rattle.nm_rounds.specs.declared.replay.Ending.TheVariants.{Ended, NoSuch, Memory}
+use Rattle.nm_rounds.specs.declared.replay.ReplayEnd.{ReplayEnd}
+use Rattle.nm_rounds.specs.declared.replay.ReplayEnd.TheVariants.{Ended, NoSuch, Memory}
 
 -- the model's steps of the first n steps
 abbrev pub first_steps : TopologyValue → List WorldStep → ℕ → List model.Step
@@ -51,13 +51,13 @@ NamesNothing t w None = ⊥
 NamesNothing t w (Some s) = (happens t w s).1 ≡ model.NoSuch
 
 -- which steps were done by the ending, of which so many were answered
-abbrev pub Ends : TopologyValue → List WorldStep → ℕ → Ending → List model.Step → Type 0
+abbrev pub Ends : TopologyValue → List WorldStep → ℕ → ReplayEnd → List model.Step → Type 0
 Ends t steps answered Ended did = (answered ≡ length steps) × (did ≡ first_steps t steps answered)
 Ends t steps answered (NoSuch k) did = (answered ≡ k) × (did ≡ first_steps t steps k) × NamesNothing t (world_after t did) (slice_get steps k)
 Ends t steps answered (Memory k) did = (answered ≡ k) × IsInterrupted (slice_get steps k) (first_steps t steps k) did
 
 -- The steps that were done are answered, and the books left, as the model says of these steps.
-pub record IsReplay (t : TopologyValue) (steps : List WorldStep) (answers : List StepAnswer) (books : List BookValue) (ending : Ending) : Type 0 where
+pub record IsReplay (t : TopologyValue) (steps : List WorldStep) (answers : List StepAnswer) (books : List BookValue) (ending : ReplayEnd) : Type 0 where
   pub did : List model.Step
   pub ends : Ends t steps (length answers) ending did
   pub answered : map (outcome_of t) answers ≡ map Some (answers_of t (first_steps t steps (length answers)))

@@ -12,7 +12,7 @@ use Rattle.nm_model.specs.Promise.{Tight, lookahead}
 use Rattle.nm_model.specs.Rounds.{IsRounds, given, hear, heard_on, promised, round_count}
 use Rattle.nm_model.specs.World.{Replica}
 use Rattle.nm_sim.specs.Network.{net_of}
-use Rattle.nm_book.specs.Book.{BookValue, knowledge, message_channel, promise_on, replica_of, sent_on, state_of}
+use Rattle.nm_book.specs.Book.{BookValue, knowledge, message_channel, promise_on, replica_of, sent_over, state_of}
 use Rattle.nm_book.specs.declared.message.ChannelMessage.{ChannelMessage}
 use Rattle.nm_book.specs.declared.message.ChannelMessage.TheVariants.{Data, Null}
 use Rattle.nm_rounds.specs.Replay.{Refuses}
@@ -43,14 +43,14 @@ pub record RunsAll (old new : BookValue) : Type 0 where
   pub same : new ≡ record old { events = new.events }
 
 -- what is known of a channel once a message of it was told
-abbrev pub told_one : Know (List ℕ) → ChannelMessage → Know (List ℕ)
-told_one a (Data d) = (accept.accept_data same_octets a d.number (d.time, d.packet)).after
-told_one a (Null n) = (accept.accept_null a n.count n.clock).after
+abbrev pub told_message : Know (List ℕ) → ChannelMessage → Know (List ℕ)
+told_message a (Data d) = (accept.accept_data same_octets a d.number (d.time, d.packet)).after
+told_message a (Null n) = (accept.accept_null a n.count n.clock).after
 
 -- once these were, one after another
 abbrev pub told_all : Know (List ℕ) → List ChannelMessage → Know (List ℕ)
 told_all a [] = a
-told_all a (m ∷ ms) = told_all (told_one a m) ms
+told_all a (m ∷ ms) = told_all (told_message a m) ms
 
 -- each of the messages is of channel c
 abbrev pub AreOfChannel : ℕ → List ChannelMessage → Type 0
@@ -58,7 +58,7 @@ AreOfChannel c messages = (i : ℕ) (m : ChannelMessage) → slice_get messages 
 
 -- told to who knows a of channel c, the messages make what it hears of the sender: all new messages, and then the null message
 pub record AreNews (a : Know (List ℕ)) (sender : BookValue) (c : ℕ) (messages : List ChannelMessage) : Type 0 where
-  pub told : told_all a messages ≡ hear same_octets a (sent_on sender c) (promise_on Tight sender c)
+  pub told : told_all a messages ≡ hear same_octets a (sent_over sender c) (promise_on Tight sender c)
   pub named : AreOfChannel c messages
 
 -- the same of the model's replicas
@@ -78,9 +78,9 @@ pub record AreAllNews (t : TopologyValue) (x : ℕ → Replica (List ℕ)) (n : 
 abbrev pub IsFinished : BookValue → Bool → Type 0
 IsFinished b v = is_done (net_of b.topology) b.partition (replica_of b) ≡ v
 
-abbrev pub AreFinished : List BookValue → Bool → Type 0
-AreFinished books true = (p : ℕ) (b : BookValue) → slice_get books p ≡ Some b → IsFinished b true
-AreFinished books false = (p : ℕ) × (b : BookValue) × (slice_get books p ≡ Some b) × IsFinished b false
+abbrev pub AllAreFinished : List BookValue → Bool → Type 0
+AllAreFinished books true = (p : ℕ) (b : BookValue) → slice_get books p ≡ Some b → IsFinished b true
+AllAreFinished books false = (p : ℕ) × (b : BookValue) × (slice_get books p ≡ Some b) × IsFinished b false
 
 -- a partition is not done in the round after j of them
 abbrev pub IsLeft : TopologyValue → (ℕ → ℕ → Replica (List ℕ)) → ℕ → Type 0
@@ -88,7 +88,7 @@ IsLeft t by_round j = (p : ℕ) × (p < t.partitions) × (is_done (net_of t) p (
 
 -- The books in the round after j of them: all are done, and none heard anything more; or one is not done, and all have heard.
 abbrev pub EndsRound : TopologyValue → (ℕ → ℕ → Replica (List ℕ)) → ℕ → Bool → List BookValue → Type 0
-EndsRound t by_round j true books = AreBooks t t.partitions (after_runs by_round j) books × AreFinished books true
+EndsRound t by_round j true books = AreBooks t t.partitions (after_runs by_round j) books × AllAreFinished books true
 EndsRound t by_round j false books = AreBooks t t.partitions (by_round (suc j)) books × IsLeft t by_round j
 
 -- nothing is left for the book of partition p to do, and it has the whole trace of the partition
@@ -97,7 +97,7 @@ pub record IsWhole (t : TopologyValue) (p : ℕ) (b : BookValue) : Type 0 where
   pub trace : (last : ℕ) → IsBefore (net_of t) (net_of t).stop last → (state_of b).records ≡ trace (net_of t) p last
 
 -- Each book is whole in this round, one of at most so many.
-pub record AreDone (t : TopologyValue) (max rounds : ℕ) (books : List BookValue) : Type 0 where
+pub record AreDoneWithin (t : TopologyValue) (max rounds : ℕ) (books : List BookValue) : Type 0 where
   pub some : 1 ≤ rounds
   pub few : rounds ≤ max
   pub by_round : ℕ → ℕ → Replica (List ℕ)
@@ -118,19 +118,19 @@ pub record AreUnfinished (t : TopologyValue) (max rounds : ℕ) (books : List Bo
 
 -- in which round all are done, or that none of so many is that
 abbrev pub AreEnded : TopologyValue → ℕ → Option ℕ → List BookValue → Type 0
-AreEnded t max (Some rounds) books = AreDone t max rounds books
+AreEnded t max (Some rounds) books = AreDoneWithin t max rounds books
 AreEnded t max None books = AreUnfinished t max max books
 
 -- What rounds over a network come to, of which at most so many are asked for.
 abbrev pub RunsTo : TopologyValue → ℕ → Rounds → Type 0
-RunsTo t max (Done rounds books) = AreDone t max rounds books.items
+RunsTo t max (Done rounds books) = AreDoneWithin t max rounds books.items
 RunsTo t max (Unfinished rounds books) = AreUnfinished t max rounds books.items
 RunsTo t max Memory = Unit {0}
 RunsTo t max (Topo f) = ⊥
 
 -- and over a text: it is read to the topology of these books, or it is refused
 abbrev pub ComesTo : List ℕ → ℕ → Rounds → Type 0
-ComesTo text max (Done rounds books) = (t : TopologyValue) × (topology_of text ≡ Ok t) × AreDone t max rounds books.items
+ComesTo text max (Done rounds books) = (t : TopologyValue) × (topology_of text ≡ Ok t) × AreDoneWithin t max rounds books.items
 ComesTo text max (Unfinished rounds books) = (t : TopologyValue) × (topology_of text ≡ Ok t) × AreUnfinished t max rounds books.items
 ComesTo text max Memory = Unit {0}
 ComesTo text max (Topo f) = Refuses (topology_of text) f

@@ -12,7 +12,7 @@ use Rattle.nm_model.specs.Lists.{nth}
 use Rattle.nm_model.specs.Promise.{Plain, Tight}
 use Rattle.nm_model.specs.World as model
 use Rattle.nm_sim.specs.Network.{net_of}
-use Rattle.nm_book.specs.Book.{BookValue, is_incoming, message_channel, replica_of, sent_on}
+use Rattle.nm_book.specs.Book.{BookValue, is_incoming, message_channel, replica_of, sent_over}
 use Rattle.nm_book.specs.declared.fault.MergeFault.{MergeFault}
 use Rattle.nm_book.specs.declared.fault.MergeFault.TheVariants.{Stranger, Channel, Memory as NoMemoryLeft}
 use Rattle.nm_book.specs.declared.message.ChannelMessage.{ChannelMessage}
@@ -97,7 +97,7 @@ pub record IsWorld (t : TopologyValue) (books : List BookValue) (bag : List Chan
 
 -- these are the messages of channel c from number n on
 pub record AreMessages (b : BookValue) (c n : ℕ) (messages : List ChannelMessage) : Type 0 where
-  pub frames : map (frame_of b.topology) messages ≡ model.data_frames (receiving_iface b.topology c) n (drop n (sent_on b c))
+  pub frames : map (frame_of b.topology) messages ≡ model.data_frames (receiving_iface b.topology c) n (drop n (sent_over b c))
   pub named : (i : ℕ) (m : ChannelMessage) → slice_get messages i ≡ Some m → message_channel m ≡ c
 
 -- message n of channel c was put behind others
@@ -106,7 +106,7 @@ pub record IsPushed (b : BookValue) (c n : ℕ) (before after : List ChannelMess
   pub pushed : after ≡ before ++ DataMessage message ∷ []
   pub channel : message.channel ≡ c
   pub number : message.number ≡ n
-  pub sent : nth (sent_on b c) n ≡ Some (message.time, message.packet)
+  pub sent : nth (sent_over b c) n ≡ Some (message.time, message.packet)
 
 abbrev pub happens : TopologyValue → model.World (List ℕ) → WorldStep → model.World (List ℕ) × model.Outcome
 happens t w s = model.happens (net_of t) same_octets w (step_of t s)

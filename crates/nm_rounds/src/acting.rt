@@ -2,7 +2,7 @@
 
 ghost use Rattle.std.specs.Prelude.{◌≡◌, ℕ, ◌<◌, ◌≤◌, true, List, IfOk, OnOk, length};
 ghost use Rattle.std.specs.Arc.{arc_value};
-ghost use Rattle.nm_book.specs.Book.{is_outgoing, sent_on};
+ghost use Rattle.nm_book.specs.Book.{is_outgoing, sent_over};
 ghost use Rattle.nm_book.specs.declared.message.ChannelMessage.{ChannelMessage as Message};
 ghost use Rattle.nm_model.specs.World.{World};
 ghost use Rattle.nm_rounds.specs.World.{AreMessages, IsPushed, IsWorld, Steps, merge_answer_of};
@@ -83,7 +83,7 @@ fn push_message(
     number: u64,
 ) -> Result<(), AllocError>
     requires goes { is_outgoing book.now channel ≡ true }
-    requires sent { number < length (sent_on book.now channel) }
+    requires sent { number < length (sent_over book.now channel) }
     ensures { OnOk result (IsPushed book.now channel number messages.old.items messages.new.items) }
 {
     if let Some(message) = book.data(channel, number)? {
@@ -101,7 +101,7 @@ fn messages_from(
     count: u64,
 ) -> Result<Vec<ChannelMessage>, AllocError>
     requires goes { is_outgoing book.now channel ≡ true }
-    requires sent { length (sent_on book.now channel) ≡ count }
+    requires sent { length (sent_over book.now channel) ≡ count }
     requires there { first ≤ count }
     ensures { IfOk result (λ v. AreMessages book.now channel first v.items) }
 {

@@ -17,9 +17,9 @@ ghost use Rattle.nm_model.specs.Promise.{Tight};
 ghost use Rattle.nm_knowledge.specs.Octets.{same_octets};
 ghost use Rattle.nm_sim.specs.Network.{net_of};
 ghost use Rattle.nm_book.specs.Book.{BookValue, replica_of};
-ghost use Rattle.nm_rounds.specs.Certify.{AreOf, Certifies, Finds, IsWithinSafe, book_of, books_of};
+ghost use Rattle.nm_rounds.specs.Certify.{AreOf, Certifies, FindsFault, IsWithinSafe, book_of, books_of};
 ghost use Rattle.nm_rounds.specs.Certify.{cert_fault_number};
-ghost use Rattle.nm_rounds.specs.Certify.{incoming_fault, is_at, list_fault, missing, sender_fault};
+ghost use Rattle.nm_rounds.specs.Certify.{incoming_fault, is_same_entry, list_fault, missing, sender_fault};
 ghost use Rattle.nm_rounds.specs.Certify.{unfinished};
 ghost use Rattle.nm_rounds.specs.SameTopology.{SaysSame};
 
@@ -124,7 +124,7 @@ fn has_book(books: &[&Book], partition: PartNo) -> bool
 
 /// Looks whether each partition has a book.
 fn check_partitions(topology: &Topology, books: &[&Book]) -> Result<(), CertFault>
-    ensures { Finds topology.now (first_below (missing (map (λ b. b.now) books.now))
+    ensures { FindsFault topology.now (first_below (missing (map (λ b. b.now) books.now))
         topology.now.partitions) result }
 {
     for number in 0..topology.partitions() {
@@ -157,7 +157,7 @@ fn is_finished(topology: &Topology, book: &Book) -> bool
 /// Looks whether each book is done.
 fn check_done(topology: &Topology, books: &[&Book]) -> Result<(), CertFault>
     requires { AreOf topology.now (map (λ b. b.now) books.now) }
-    ensures finds { Finds topology.now (first_of (unfinished topology.now)
+    ensures finds { FindsFault topology.now (first_of (unfinished topology.now)
         (books_of (map (λ b. b.now) books.now))) result }
     ensures within { OnOk result (All (IsWithinSafe topology.now) (map (λ b. b.now) books.now)) }
 {
@@ -175,7 +175,7 @@ fn check_done(topology: &Topology, books: &[&Book]) -> Result<(), CertFault>
 /// Whether the message of this number that is known is the one that was sent.
 fn is_sent(know: &Know, sent: &[(Time, Packet)], number: usize) -> bool
     requires { number < length know.now.list }
-    ensures { result ≡ is_at (nth know.now.list number) (nth sent.now number) }
+    ensures { result ≡ is_same_entry (nth know.now.list number) (nth sent.now number) }
 {
     match (know.message(number as u64), sent.get(number)) {
         (Some((time, packet)), Some((sent_time, sent_packet))) => {
@@ -230,7 +230,7 @@ fn check_channel(
     sent: &[(Time, Packet)],
     promise: Time,
 ) -> Result<(), CertFault>
-    ensures { (t : TopologyValue) → Finds t
+    ensures { (t : TopologyValue) → FindsFault t
         (list_fault (receiving_iface t channel) know.now sent.now promise) result }
 {
     if let Some(number) = first_difference(know, sent) {
@@ -257,7 +257,7 @@ fn check_sender(
     ensures { (r : ModelBook (List ℕ))
         → comes_in (net_of topology.now) r.part (receiving_iface topology.now channel) ≡ true
         → r.replica.knowledge (receiving_iface topology.now channel) ≡ know.now
-        → Finds topology.now (sender_fault topology.now (receiving_iface topology.now channel) r
+        → FindsFault topology.now (sender_fault topology.now (receiving_iface topology.now channel) r
         (book_of sender.now)) result }
 {
     the_digest_is_no_part_of_the_network(); // law: both have the same network
@@ -279,7 +279,7 @@ fn check_senders(
 ) -> Result<(), CertFault>
     requires ours { AreOf topology.now (map (λ b. b.now) books.now) }
     requires here { SaysSame receiver.now.topology topology.now }
-    ensures { Finds topology.now (incoming_fault topology.now (map (λ b. b.now) books.now)
+    ensures { FindsFault topology.now (incoming_fault topology.now (map (λ b. b.now) books.now)
         (book_of receiver.now) (receiving_iface topology.now channel)) result }
 {
     the_digest_is_no_part_of_the_network(); // law: both have the same network
@@ -298,7 +298,7 @@ fn check_senders(
 fn check_book(topology: &Topology, books: &[&Book], receiver: &Book) -> Result<(), CertFault>
     requires ours { AreOf topology.now (map (λ b. b.now) books.now) }
     requires here { SaysSame receiver.now.topology topology.now }
-    ensures { Finds topology.now (book_fault (net_of topology.now) same_octets Tight
+    ensures { FindsFault topology.now (book_fault (net_of topology.now) same_octets Tight
         (books_of (map (λ b. b.now) books.now)) (book_of receiver.now)) result }
 {
     accepted_topologies_are_in_order(topology); // law: receivers rise
@@ -314,7 +314,7 @@ fn check_book(topology: &Topology, books: &[&Book], receiver: &Book) -> Result<(
 /// Looks at each channel of each book.
 fn check_channels(topology: &Topology, books: &[&Book]) -> Result<(), CertFault>
     requires { AreOf topology.now (map (λ b. b.now) books.now) }
-    ensures { Finds topology.now (first_of (book_fault (net_of topology.now) same_octets Tight
+    ensures { FindsFault topology.now (first_of (book_fault (net_of topology.now) same_octets Tight
         (books_of (map (λ b. b.now) books.now))) (books_of (map (λ b. b.now) books.now))) result }
 {
     for receiver in books {

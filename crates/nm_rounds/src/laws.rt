@@ -4,7 +4,7 @@ ghost use Rattle.std.specs.Prelude.{List};
 ghost use Rattle.nm_book.specs.Book.{BookValue};
 ghost use Rattle.nm_rounds.specs.Headline.{Headline};
 ghost use Rattle.nm_rounds.specs.Replay.{IsReplay};
-ghost use Rattle.nm_rounds.specs.declared.replay.Ending.{Ending as AnEnding};
+ghost use Rattle.nm_rounds.specs.declared.replay.ReplayEnd.{ReplayEnd as AnEnding};
 ghost use Rattle.nm_rounds.specs.declared.step.StepAnswer.{StepAnswer as AnAnswer};
 ghost use Rattle.nm_rounds.specs.declared.step.WorldStep.{WorldStep as AStep};
 

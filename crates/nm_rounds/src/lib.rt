@@ -17,5 +17,5 @@ mod world;
 
 pub use certify::CertFault;
 pub use fault::ReplayFault;
-pub use replay::{Ending, WorldReport};
+pub use replay::{ReplayEnd, WorldReport};
 pub use step::{StepAnswer, WorldStep};

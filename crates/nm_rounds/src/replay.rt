@@ -19,7 +19,7 @@ use std::sync::Arc;
 
 /// Why a replay ended. Steps are counted from 0.
 #[derive(Clone, Copy)]
-pub enum Ending {
+pub enum ReplayEnd {
     /// All steps were done.
     Ended,
     /// This step names a partition, replica, channel, frame or message that is not there, or a
@@ -37,7 +37,7 @@ pub struct WorldReport {
     pub answers: Vec<StepAnswer>,
     /// Replica r of partition p is the book of number 2p + r.
     pub books: Vec<Book>,
-    pub ending: Ending,
+    pub ending: ReplayEnd,
 }
 
 /// Does the steps one after another, up to an ending.
@@ -47,7 +47,7 @@ fn do_steps(
     books: &mut Vec<Book>,
     steps: &[WorldStep],
     answers: &mut Vec<StepAnswer>,
-) -> Ending
+) -> ReplayEnd
     requires begins { IsWorld (arc_value topology.now) books.old.items [] opening }
     requires none { answers.old.items ≡ [] }
     requires empty { vec_len answers.old ≡ 0 }
@@ -59,19 +59,19 @@ fn do_steps(
         let answer = match do_step(alloc, topology, books, &mut bag, &steps[number]) {
             Ok(answer) => answer,
             Err(Stop::NoSuch) => {
-                return Ending::NoSuch {
+                return ReplayEnd::NoSuch {
                     step: number as u64,
                 };
             }
             Err(Stop::Memory) => {
-                return Ending::Memory {
+                return ReplayEnd::Memory {
                     step: number as u64,
                 };
             }
         };
         answers.push_reserved(answer);
     }
-    Ending::Ended
+    ReplayEnd::Ended
 }
 
 /// Reads a topology text.

@@ -8,11 +8,11 @@ ghost use Rattle.nm_model.specs.World.{Replica};
 ghost use Rattle.nm_sim.specs.Network.{net_of};
 ghost use Rattle.nm_knowledge.specs.declared.answer.KnowFault.TheVariants.{Memory};
 ghost use Rattle.nm_topology.specs.TopologyValue.{TopologyValue};
-ghost use Rattle.nm_book.specs.Book.{is_incoming, is_outgoing, message_channel, sent_on};
+ghost use Rattle.nm_book.specs.Book.{is_incoming, is_outgoing, message_channel, sent_over};
 ghost use Rattle.nm_rounds.specs.World.{IsPushed};
-ghost use Rattle.nm_rounds.specs.Rounds.{AreAllNews, AreBooks, AreFinished, AreNews, AreNewsOf};
+ghost use Rattle.nm_rounds.specs.Rounds.{AreAllNews, AreBooks, AllAreFinished, AreNews, AreNewsOf};
 ghost use Rattle.nm_rounds.specs.Rounds.{AreOfChannel, AreRounds, EndsRound, RunsAll};
-ghost use Rattle.nm_rounds.specs.Rounds.{after_hearing, told_all, told_one};
+ghost use Rattle.nm_rounds.specs.Rounds.{after_hearing, told_all, told_message};
 
 use nm_base::{ChanNo, Packet};
 use nm_book::channels::{receiver_of, sender_of};
@@ -57,7 +57,7 @@ fn run_all(alloc: Global, books: &mut Vec<Book>) -> Result<(), AllocError>
 
 /// Whether nothing is left to do for any book.
 fn all_done(books: &[Book]) -> bool
-    ensures { AreFinished books.now result }
+    ensures { AllAreFinished books.now result }
 {
     for book in books {
         if !book.done() {
@@ -86,7 +86,7 @@ fn push_data(
     number: u64,
 ) -> Result<(), AllocError>
     requires goes { is_outgoing sender.now channel ≡ true }
-    requires sent { number < length (sent_on sender.now channel) }
+    requires sent { number < length (sent_over sender.now channel) }
     ensures { OnOk result
         (IsPushed sender.now channel number messages.old.items messages.new.items) }
 {
@@ -184,7 +184,7 @@ fn tell_one(book: &mut Book, message: &ChannelMessage) -> Result<(), AllocError>
     ensures { OnOk result (is_incoming book.old (message_channel message.now) ≡ true
         → book.new ≡ record book.old {
           knows = slice_set book.old.knows (message_channel message.now)
-              (told_one (slice_index_or book.old.knows (message_channel message.now) nothing_known)
+              (told_message (slice_index_or book.old.knows (message_channel message.now) nothing_known)
               message.now);
         }) }
 {

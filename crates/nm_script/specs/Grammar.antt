@@ -6,7 +6,7 @@ use Rattle.nm_base.specs.Text.{parts_at}
 use Rattle.nm_rounds.specs.declared.step.WorldStep.{WorldStep}
 use Rattle.nm_script.specs.declared.line.Line.{Line}
 use Rattle.nm_script.specs.declared.line.Line.TheVariants.{Skipped, Step}
-use Rattle.nm_script.specs.Words.{step_of}
+use Rattle.nm_script.specs.Words.{step_said}
 
 -- the words of a line, which one space parts
 abbrev pub words_of : List ℕ → List (List ℕ)
@@ -18,7 +18,7 @@ pub record IsStep (line : List ℕ) (s : WorldStep) : Type 0 where
   pub numbers : List ℕ
   pub small : All (λ n. n < 2 ^ 64) numbers
   pub words : words_of line ≡ word ∷ map decimal numbers
-  pub named : step_of word numbers ≡ Some s
+  pub named : step_said word numbers ≡ Some s
 
 -- it is empty, or it begins with `#`
 abbrev pub is_idle : List ℕ → Bool

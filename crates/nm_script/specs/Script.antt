@@ -62,8 +62,8 @@ Tells text (Err (fault.Line number)) = IsFirstFault text number
 Tells text (Err fault.Memory) = Unit {0}
 
 -- A line of this number is taken in behind others: its steps come behind theirs. Or it is bad; or memory was refused.
-abbrev pub Takes : List WorldStep → List ℕ → ℕ → Result Unit ScriptFault → List WorldStep → Type 0
-Takes before line number (Ok done) after =
+abbrev pub AddsStep : List WorldStep → List ℕ → ℕ → Result Unit ScriptFault → List WorldStep → Type 0
+AddsStep before line number (Ok done) after =
     (said : Line) × Says line said × (after ≡ before ++ steps_in said) × (length after ≤ MAX_SCRIPT_STEPS)
-Takes before line number (Err (fault.Line n)) after = (n ≡ number) × IsBadLine (length before) line
-Takes before line number (Err fault.Memory) after = Unit {0}
+AddsStep before line number (Err (fault.Line n)) after = (n ≡ number) × IsBadLine (length before) line
+AddsStep before line number (Err fault.Memory) after = Unit {0}

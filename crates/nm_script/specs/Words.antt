@@ -32,10 +32,10 @@ step_of_four word p r c n =
     else (if bytes_eq word (codes "resend") then Some (Resend (to_u32 p) (to_u8 r) (to_u32 c) n) else None)
 
 -- the step of a word and its numbers
-abbrev pub step_of : List ℕ → List ℕ → Option WorldStep
-step_of word [] = None
-step_of word (a ∷ []) = None
-step_of word (a ∷ b ∷ []) = step_of_two word a b
-step_of word (a ∷ b ∷ c ∷ []) = step_of_three word a b c
-step_of word (a ∷ b ∷ c ∷ d ∷ []) = step_of_four word a b c d
-step_of word (a ∷ b ∷ c ∷ d ∷ e ∷ more) = None
+abbrev pub step_said : List ℕ → List ℕ → Option WorldStep
+step_said word [] = None
+step_said word (a ∷ []) = None
+step_said word (a ∷ b ∷ []) = step_of_two word a b
+step_said word (a ∷ b ∷ c ∷ []) = step_of_three word a b c
+step_said word (a ∷ b ∷ c ∷ d ∷ []) = step_of_four word a b c d
+step_said word (a ∷ b ∷ c ∷ d ∷ e ∷ more) = None

@@ -1,7 +1,7 @@
 //! The text of a script to its steps.
 
 ghost use Rattle.std.specs.Prelude.{◌≤◌, length};
-ghost use Rattle.nm_script.specs.Script.{Takes, Tells};
+ghost use Rattle.nm_script.specs.Script.{AddsStep, Tells};
 ghost use Rattle.nm_base.specs.declared.limits.TheConstants.{MAX_SCRIPT_STEPS};
 
 use crate::fault::ScriptFault;
@@ -14,7 +14,7 @@ use std::alloc::Global;
 /// Adds what a line says to the steps of the lines before it.
 fn take_line(steps: &mut Vec<WorldStep>, line: &[u8], number: u64) -> Result<(), ScriptFault>
     requires { length steps.old.items ≤ MAX_SCRIPT_STEPS }
-    ensures { Takes steps.old.items line.now number result steps.new.items }
+    ensures { AddsStep steps.old.items line.now number result steps.new.items }
 {
     match read_line(line) {
         Some(Line::Skipped) => Ok(()),

@@ -2,7 +2,7 @@
 
 ghost use Rattle.std.specs.Prelude.{◌≡◌};
 ghost use Rattle.std.specs.Str.{bytes_eq};
-ghost use Rattle.nm_script.specs.Words.{step_of, step_of_four, step_of_three, step_of_two, to_u8};
+ghost use Rattle.nm_script.specs.Words.{step_said, step_of_four, step_of_three, step_of_two, to_u8};
 ghost use Rattle.nm_script.specs.Words.{to_u32};
 
 use nm_base::{ChanNo, PartNo};
@@ -116,7 +116,7 @@ fn step_of_four(
 
 /// The step of a word and its numbers.
 pub(crate) fn step_of(word: &[u8], numbers: &[u64]) -> Option<WorldStep>
-    ensures { result ≡ step_of word.now numbers.now }
+    ensures { result ≡ step_said word.now numbers.now }
 {
     match numbers {
         [a, b] => step_of_two(word, *a, *b),

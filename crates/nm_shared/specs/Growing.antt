@@ -13,7 +13,7 @@ use Rattle.nm_knowledge.specs.declared.answer.Accepted.{Accepted}
 use Rattle.nm_knowledge.specs.declared.answer.KnowFault.TheVariants.{Gap, Differs, Late, NotRising, Memory as NoSpace, Contrary}
 use Rattle.nm_sim.specs.Network.{net_of}
 use Rattle.nm_book.specs.Book.{BookValue, Learns, LearnsIf, Takes, message_channel, message_taken}
-use Rattle.nm_book.specs.Merging.{AreJoined, BookMerges, KnowledgeValue, Merges, joined}
+use Rattle.nm_book.specs.Merging.{AreJoined, BookMerges, KnowledgeValue, MergesChannels, joined_at}
 use Rattle.nm_book.specs.Running.{Runs}
 use Rattle.nm_book.specs.declared.fault.AcceptFault.{AcceptFault}
 use Rattle.nm_book.specs.declared.fault.AcceptFault.TheVariants.{Known, Stranger}
@@ -157,10 +157,10 @@ joined_learned t p ks os js h = (h.count, λ n. ⊎_elim (λ (lt : n < length ks
     below : (n : ℕ) → n < length ks → count_at ks n ≤ count_at js n
     below n lt =
         let rises = joined_if_rises (comes_in (net_of t) p (receiving_iface t n)) (slice_index_or ks n nothing_known) (slice_index_or os n nothing_known) in
-        let same : count_at js n ≡ length (joined t p ks os n).list = ap (λ (k : Know (List ℕ)). length k.list) (h.each n lt) in
+        let same : count_at js n ≡ length (joined_at t p ks os n).list = ap (λ (k : Know (List ℕ)). length k.list) (h.each n lt) in
         omega (arith, rises, same)
 
-merges_learned : (q : Bool) (t : TopologyValue) (p : ℕ) (ks os js : List (Know (List ℕ))) (r : Result Unit MergeFault) → Merges t p ks os q js r → Learned ks js
+merges_learned : (q : Bool) (t : TopologyValue) (p : ℕ) (ks os js : List (Know (List ℕ))) (r : Result Unit MergeFault) → MergesChannels t p ks os q js r → Learned ks js
 merges_learned q t p ks os js (Ok u) h = joined_learned t p ks os js h.2
 merges_learned q t p ks os js (Err NotMine) h = same_learned ks js h.1
 merges_learned q t p ks os js (Err (Channel c f)) h = same_learned ks js h.2

@@ -33,7 +33,7 @@ use Rattle.std.proofs.lemmas.Option.{slice_get_cases, slice_get_past}
 use Rattle.nm_forward.specs.declared.counter.Counter.{Counter}
 use Rattle.nm_forward.specs.Counter.{counter_number}
 use Rattle.nm_base.specs.Count.{saturated}
-use Rattle.nm_sim.specs.Part.{IsUnderWay, PartValue, Represents, Taken, busy_at, completes_at, count_at, drops_at, waiting_at, with_arrival}
+use Rattle.nm_sim.specs.Part.{IsUnderWay, PartValue, Represents, IsTaken, busy_at, completes_at, count_at, drops_at, waiting_at, with_arrival}
 use Rattle.nm_sim.specs.Timelines.{TimelineRepresents}
 use Rattle.nm_sim.proofs.Schedules.{next_here, one_more, placed_insert, placed_next, placed_remove, placed_schedule, placed_transmission, schedule_append}
 use Rattle.nm_sim.proofs.Beginnings.{numbered_same}
@@ -120,7 +120,7 @@ represents_after pending t part k e done p q s order orderly way is_part devices
 
 -- an event that was taken out is put back
 pub represents_again : {L : Type 0} (pending : L → FinMap key_cmp (Event (List ℕ))) (t : TopologyValue) (part : Option ℕ) (k : Key) (e : Event (List ℕ)) (p q : PartValue L) → Kept p q
-    → (s : State (List ℕ) NodeStateValue) → Taken pending t part k e None None p s → DevicesRepresent t part p.devices s.node s.port
+    → (s : State (List ℕ) NodeStateValue) → IsTaken pending t part k e None None p s → DevicesRepresent t part p.devices s.node s.port
     → q.devices ≡ p.devices → q.records ≡ p.records → pending q.timeline.events ≡ insert (pending p.timeline.events) k e → Represents pending t part q s
 represents_again pending t part k e p q kept s h represented devices records events = record {
   is_part = kept.is_part ∙ h.is_part;

@@ -23,7 +23,7 @@ use Rattle.nm_sim.specs.Network.{here_of, net_of}
 use Rattle.nm_sim.specs.Outgoing.{OutgoingRepresents}
 use Rattle.nm_sim.specs.Records.{RecordsRepresent, RecordsValue}
 use Rattle.nm_base.specs.declared.record.Record.{Record}
-use Rattle.nm_sim.specs.Part.{HasMemory, HasReacted, IsReady, IsUnderWay, PartValue, Performed, Represents, Taken}
+use Rattle.nm_sim.specs.Part.{HasMemory, HasReacted, IsReady, IsUnderWay, PartValue, Performed, Represents, IsTaken}
 use Rattle.nm_sim.specs.Timelines.{AreFresh, TimelineValue, everywhere}
 use Rattle.nm_sim.proofs.Beginnings.{numbered_same}
 use Rattle.nm_sim.proofs.Kept.{Kept}
@@ -35,7 +35,7 @@ use Rattle.nm_model.proofs.Keys.{remove_same}
 module _ {L : Type 0} (pending : L → FinMap key_cmp (Event (List ℕ))) (t : TopologyValue) (part : Option ℕ) (k : Key) (e : Event (List ℕ)) (p q : PartValue L) (kept : Kept p q)
     (s : State (List ℕ) NodeStateValue) where
   pub taken_out : Represents pending t part p s → Some (k, e) ≡ least (pending p.timeline.events) → pending q.timeline.events ≡ remove (pending p.timeline.events) k
-      → q.records ≡ p.records → Taken pending t part k e None None q s
+      → q.records ≡ p.records → IsTaken pending t part k e None None q s
   taken_out h first events records = record {
     first = ap (λ m. least m) (sym h.events) ∙ sym first;
     is_part = kept.is_part ∙ h.is_part;
@@ -50,9 +50,9 @@ module _ {L : Type 0} (pending : L → FinMap key_cmp (Event (List ℕ))) (t : T
   }
 
   -- it goes on: what came is recorded, and what follows is pending
-  pub taken_on : {came follows : Option (ℕ × List ℕ)} (came' follows' : Option (ℕ × List ℕ)) → Taken pending t part k e came follows p s
+  pub taken_on : {came follows : Option (ℕ × List ℕ)} (came' follows' : Option (ℕ × List ℕ)) → IsTaken pending t part k e came follows p s
       → pending q.timeline.events ≡ schedule everywhere (next_events k.place k.number follows') (remove s.pending k)
-      → RecordsRepresent t q.records (s.records ++ in_record k.time came') → Taken pending t part k e came' follows' q s
+      → RecordsRepresent t q.records (s.records ++ in_record k.time came') → IsTaken pending t part k e came' follows' q s
   taken_on came' follows' h events records = record {
     first = h.first;
     is_part = kept.is_part ∙ h.is_part;
@@ -67,27 +67,27 @@ module _ {L : Type 0} (pending : L → FinMap key_cmp (Event (List ℕ))) (t : T
   }
 
   -- its devices change
-  pub taken_same : {came follows : Option (ℕ × List ℕ)} → Taken pending t part k e came follows p s → pending q.timeline.events ≡ pending p.timeline.events
-      → q.records ≡ p.records → Taken pending t part k e came follows q s
+  pub taken_same : {came follows : Option (ℕ × List ℕ)} → IsTaken pending t part k e came follows p s → pending q.timeline.events ≡ pending p.timeline.events
+      → q.records ≡ p.records → IsTaken pending t part k e came follows q s
   taken_same {came} {follows} h events records =
       taken_on came follows h (events ∙ h.events) (subst (λ (r : RecordsValue). RecordsRepresent t r (s.records ++ in_record k.time came)) (sym records) h.records)
 
   -- a packet came with it
-  pub taken_came : (came : Option (ℕ × List ℕ)) → Taken pending t part k e None None p s → pending q.timeline.events ≡ pending p.timeline.events
-      → ((trace : List (Record (List ℕ))) → RecordsRepresent t p.records trace → RecordsRepresent t q.records (trace ++ in_record k.time came)) → Taken pending t part k e came None q s
+  pub taken_came : (came : Option (ℕ × List ℕ)) → IsTaken pending t part k e None None p s → pending q.timeline.events ≡ pending p.timeline.events
+      → ((trace : List (Record (List ℕ))) → RecordsRepresent t p.records trace → RecordsRepresent t q.records (trace ++ in_record k.time came)) → IsTaken pending t part k e came None q s
   taken_came came h events records =
       taken_on came None h (events ∙ h.events) (records s.records (subst (RecordsRepresent t p.records) (append-nil s.records) h.records))
 
   -- another follows at its source
-  pub taken_follows : (follows : Option (ℕ × List ℕ)) → Taken pending t part k e None None p s
+  pub taken_follows : (follows : Option (ℕ × List ℕ)) → IsTaken pending t part k e None None p s
       → pending q.timeline.events ≡ schedule everywhere (next_events k.place k.number follows) (pending p.timeline.events)
-      → q.records ≡ p.records → Taken pending t part k e None follows q s
+      → q.records ≡ p.records → IsTaken pending t part k e None follows q s
   taken_follows follows h events records = taken_on None follows h (events ∙ ap (schedule everywhere (next_events k.place k.number follows)) h.events)
       (subst (λ (r : RecordsValue). RecordsRepresent t r (s.records ++ [])) (sym records) h.records)
 
 module _ {L : Type 0} (pending : L → FinMap key_cmp (Event (List ℕ))) (t : TopologyValue) (part : Option ℕ) (k : Key) (e : Event (List ℕ)) (p : PartValue L) (s : State (List ℕ) NodeStateValue) where
   -- its key is free
-  pub key_is_free : Taken pending t part k e None None p s → get (pending p.timeline.events) k ≡ None
+  pub key_is_free : IsTaken pending t part k e None None p s → get (pending p.timeline.events) k ≡ None
   key_is_free h = ap (λ m. get m k) h.events ∙ remove_same s.pending k
 
   abbrev does_at : Effect (List ℕ) NodeStateValue
@@ -97,13 +97,13 @@ module _ {L : Type 0} (pending : L → FinMap key_cmp (Event (List ℕ))) (t : T
       (fresh : (m : ℕ) (f : Key × Event (List ℕ)) → nth (made (net_of t) s (k, e)) m ≡ Some f → get (remove s.pending k) f.0 ≡ None)
       (apart : (m n : ℕ) (f g : Key × Event (List ℕ)) → m < n → nth (made (net_of t) s (k, e)) m ≡ Some f → nth (made (net_of t) s (k, e)) n ≡ Some g → f.0 ≢ g.0) where
     -- the source's next event is new
-    pub follows_fresh : Taken pending t part k e None None p s → AreFresh (pending p.timeline.events) (next_events k.place k.number follows)
+    pub follows_fresh : IsTaken pending t part k e None None p s → AreFresh (pending p.timeline.events) (next_events k.place k.number follows)
     follows_fresh h = subst (λ m. AreFresh m (next_events k.place k.number follows)) (sym h.events)
         (subst (λ o. AreFresh (remove s.pending k) (next_events k.place k.number o)) (sym same)
         (second_fresh (remove s.pending k) (transmission_events (net_of t) k.time s.sent does_at.transmission) k.place k.number does_at.follows fresh apart))
 
     -- and then those of the transmission that starts
-    pub transmission_fresh : (came : Option (ℕ × List ℕ)) (start : Option (ℕ × Start)) → transmission_of start ≡ does_at.transmission → Taken pending t part k e came follows p s
+    pub transmission_fresh : (came : Option (ℕ × List ℕ)) (start : Option (ℕ × Start)) → transmission_of start ≡ does_at.transmission → IsTaken pending t part k e came follows p s
         → AreFresh (pending p.timeline.events) (transmission_events (net_of t) k.time s.sent (transmission_of start))
     transmission_fresh came start transmits h = subst (λ m. AreFresh m (transmission_events (net_of t) k.time s.sent (transmission_of start))) (sym h.events)
         (subst (λ (o : Option (ℕ × List ℕ) × Option (ℕ × List ℕ)). AreFresh (schedule everywhere (next_events k.place k.number o.1) (remove s.pending k))

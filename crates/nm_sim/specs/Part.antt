@@ -51,7 +51,7 @@ pub record Represents {L : Type 0} (pending : L → FinMap key_cmp (Event (List 
 
 -- An event was taken out of a part that represented this state. If a packet came with it, the trace has it, and if another follows at its source,
 -- that is pending.
-pub record Taken {L : Type 0} (pending : L → FinMap key_cmp (Event (List ℕ))) (t : TopologyValue) (part : Option ℕ) (k : Key) (e : Event (List ℕ))
+pub record IsTaken {L : Type 0} (pending : L → FinMap key_cmp (Event (List ℕ))) (t : TopologyValue) (part : Option ℕ) (k : Key) (e : Event (List ℕ))
     (came follows : Option (ℕ × List ℕ)) (p : PartValue L) (s : State (List ℕ) NodeStateValue) : Type 0 where
   pub first : least s.pending ≡ Some (k, e)
   pub is_part : p.part ≡ part
@@ -74,7 +74,7 @@ pub record HasMemory {L : Type 0} (room_of : L → ℕ) (p : PartValue L) : Type
 -- it was taken out and nothing of it is done, and there is memory for all that it may do
 pub record IsReady {L : Type 0} (pending : L → FinMap key_cmp (Event (List ℕ))) (room_of : L → ℕ) (t : TopologyValue) (part : Option ℕ) (k : Key) (e : Event (List ℕ))
     (p : PartValue L) (s : State (List ℕ) NodeStateValue) : Type 0 where
-  pub taken : Taken pending t part k e None None p s
+  pub taken : IsTaken pending t part k e None None p s
   pub devices : DevicesRepresent t part p.devices s.node s.port
   pub time : k.time ≤ MAX_TIME
   pub steps : p.steps < 2 ^ 62
@@ -83,7 +83,7 @@ pub record IsReady {L : Type 0} (pending : L → FinMap key_cmp (Event (List ℕ
 -- its node has reacted, but nothing of what the node sends was offered to a port yet
 pub record HasReacted {L : Type 0} (pending : L → FinMap key_cmp (Event (List ℕ))) (t : TopologyValue) (part : Option ℕ) (k : Key) (e : Event (List ℕ))
     (came follows sent : Option (ℕ × List ℕ)) (node : ℕ → NodeStateValue) (p : PartValue L) (s : State (List ℕ) NodeStateValue) : Type 0 where
-  pub taken : Taken pending t part k e came follows p s
+  pub taken : IsTaken pending t part k e came follows p s
   pub represented : DevicesRepresent t part p.devices node s.port
   pub does : (d : DevicesValue) (start : Option (ℕ × Start)) → Sends t part node s.port k.time sent d start
       → Does t part s.node s.port k e d (record { came = came; transmission = start; follows = follows })
@@ -91,7 +91,7 @@ pub record HasReacted {L : Type 0} (pending : L → FinMap key_cmp (Event (List 
 -- it was done, but that no transmission started yet
 pub record IsUnderWay {L : Type 0} (pending : L → FinMap key_cmp (Event (List ℕ))) (t : TopologyValue) (part : Option ℕ) (k : Key) (e : Event (List ℕ))
     (done : Done) (p : PartValue L) (s : State (List ℕ) NodeStateValue) : Type 0 where
-  pub taken : Taken pending t part k e done.came done.follows p s
+  pub taken : IsTaken pending t part k e done.came done.follows p s
   pub does : Does t part s.node s.port k e p.devices done
 
 -- what became of it: it was done, or is back where it was

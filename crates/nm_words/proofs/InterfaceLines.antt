@@ -20,7 +20,7 @@ use Rattle.nm_sim.specs.Records.{totals_at, totals_of}
 use Rattle.nm_sim.specs.Trace.{IsTraceBefore}
 use Rattle.nm_book.specs.Book.{BookValue, state_of}
 use Rattle.nm_book.proofs.Incoming.{ifaces_are}
-use Rattle.nm_rounds.specs.Rounds.{AreBooks, AreDone, AreUnfinished}
+use Rattle.nm_rounds.specs.Rounds.{AreBooks, AreDoneWithin, AreUnfinished}
 use Rattle.nm_base.proofs.Numbered.{numbered_more}
 use Rattle.nm_words.specs.Lines.{AreOfPartitions, AreTotals, iface_line, iface_lines}
 use Rattle.nm_words.specs.Rounds.{SaysDone, SaysUnfinished}
@@ -64,7 +64,7 @@ stops t = omega arith
 -- once all are done, each interface has in its partition what it has in the whole network
 pub done_totals : (t : TopologyValue) (max rounds : ℕ) (books : List BookValue) (records : List (Record (List ℕ)))
     → ((p i last : ℕ) → p ≡ receiver_of (net_of t) i → keep_where (λ r. r.iface == i) (trace (net_of t) p last) ≡ keep_where (λ r. r.iface == i) (one_list (net_of t) last).records)
-    → AreDone t max rounds books → IsTraceBefore t t.stop records → AreTotals t books (λ i. totals_of i records)
+    → AreDoneWithin t max rounds books → IsTraceBefore t t.stop records → AreTotals t books (λ i. totals_of i records)
 done_totals t max rounds books records law done trace_is i b there at =
     let p = receiver_of (net_of t) i in
     let last = trace_is.0 in
@@ -83,7 +83,7 @@ HasSaid word number t books octets = (totals : ℕ → ℕ × ℕ) → AreTotals
 pub says_done : (t seen : TopologyValue) (max rounds : ℕ) (books shown : List BookValue) (records : List (Record (List ℕ))) (text octets : List ℕ)
     → seen ≡ t → shown ≡ books
     → ((p i last : ℕ) → p ≡ receiver_of (net_of t) i → keep_where (λ r. r.iface == i) (trace (net_of t) p last) ≡ keep_where (λ r. r.iface == i) (one_list (net_of t) last).records)
-    → AreDone t max rounds books → IsTraceBefore t t.stop records → topology_of text ≡ Ok t → HasSaid (codes "done ") rounds seen shown octets → SaysDone max text octets
+    → AreDoneWithin t max rounds books → IsTraceBefore t t.stop records → topology_of text ≡ Ok t → HasSaid (codes "done ") rounds seen shown octets → SaysDone max text octets
 says_done t seen max rounds books shown records text octets same is law done whole read said =
     let has = subst (λ z. HasSaid (codes "done ") rounds z books octets) same (subst (λ b. HasSaid (codes "done ") rounds seen b octets) is said) in
     record {

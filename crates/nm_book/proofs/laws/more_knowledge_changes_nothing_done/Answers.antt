@@ -4,7 +4,7 @@ use Rattle.nm_model.specs.Lists.{IsPrefix}
 use Rattle.nm_model.specs.Promise.{promise}
 use Rattle.nm_model.specs.Replica.{IsUnderAll, IsWithin, from_scratch, safe_time, with_new}
 use Rattle.nm_sim.specs.Network.{net_of}
-use Rattle.nm_book.specs.Book.{knowledge, knowledge_of, promise_on, safe_of, sent_on, state_of}
+use Rattle.nm_book.specs.Book.{knowledge, knowledge_of, promise_on, safe_of, sent_over, state_of}
 use Rattle.nm_book.proofs.Sisters.{back, over, under_at}
 use Rattle.nm_book.proofs.laws.more_knowledge_changes_nothing_done.Goals as goal
 
@@ -31,7 +31,7 @@ returns-clause-sent c = λ h le d.
     let J = knowledge_of a.topology b.knows in
     let under : IsUnderAll net a.partition K J = under_at a b c.replica_of.ensures.here (c.replica_of.ensures.numbered a.partition) h in
     let law = c.what_was_done_stays.ensures.sent net ok a.partition K J under a.events b.events le c.replica_of.ensures.within (receiving_iface a.topology d) in
-    over a b (λ t p. IsPrefix (sent_on a d) ((from_scratch (net_of t) p (knowledge_of t b.knows) b.events).sent (receiving_iface t d))) h.sisters law
+    over a b (λ t p. IsPrefix (sent_over a d) ((from_scratch (net_of t) p (knowledge_of t b.knows) b.events).sent (receiving_iface t d))) h.sisters law
 
 pub returns-clause-records : goal.returns-clause-records
 returns-clause-records c = λ h le.

@@ -1,7 +1,7 @@
 use Rattle.std.proofs.Common.{◌≡◌, ◌∷◌, [], length, rules, arith, sym, ◌∙◌, ap, subst, refl}
 use Rattle.std.specs.Vec.Iter.{into_iter_items}
 use Rattle.nm_book.specs.Book.{IsBook}
-use Rattle.nm_book.specs.Telling.{Follow, told, told_one}
+use Rattle.nm_book.specs.Telling.{Follow, told_each, told_one}
 use Rattle.nm_book.proofs.Gatherings.{none_left}
 use Rattle.nm_book.proofs.learning.put_messages.Goals as goal
 
@@ -16,7 +16,7 @@ loop-message-init c =
         knows,
         book,
         subst (Follow c.args.topology.now c.args.partition knows) (sym items) follow,
-        ap (told knows) items,
+        ap (told_each knows) items,
       );
     }
 
@@ -55,7 +55,7 @@ loop-message-preserved c =
             told_one now.0 m,
             c.put_message.ensures.book now.0 now.1 follows.0,
             follows.1,
-            sym (ap (told now.0) items) ∙ now.3,
+            sym (ap (told_each now.0) items) ∙ now.3,
           );
     }
 
@@ -66,4 +66,4 @@ returns-clause-book c = λ knows book follow.
     let len : length (into_iter_items c.loop-message.message-iterator) ≡ 0 = let h = c.in-None.ensures.steps.0 in search rules in
     let ended : into_iter_items c.loop-message.message-iterator ≡ [] = none_left (into_iter_items c.loop-message.message-iterator) len in
     let now = c.loop-message.invariant.book knows book follow in
-    subst (λ l. IsBook t p l c.loop-message.part) (sym (ap (told now.0) ended) ∙ now.3) now.1
+    subst (λ l. IsBook t p l c.loop-message.part) (sym (ap (told_each now.0) ended) ∙ now.3) now.1

@@ -3,7 +3,7 @@ use Rattle.nm_topology.specs.Topology.{receiving_iface}
 use Rattle.nm_sim.specs.Network.{net_of}
 use Rattle.nm_book.specs.Book.{IsBook}
 use Rattle.nm_book.specs.Merging.{AreGains, AreJoinable, AreJoined, AreTold}
-use Rattle.nm_book.specs.Telling.{Follow, told}
+use Rattle.nm_book.specs.Telling.{Follow, told_each}
 use Rattle.nm_book.proofs.Gatherings.{joined_book}
 use Rattle.nm_book.proofs.Runnings.{still_book}
 use Rattle.nm_book.proofs.merging.merge_all.Goals as goal
@@ -19,10 +19,10 @@ returns-clause-book c =
     let reserved : IsBook t p knows c.reserve.new.self =
     still_book t p knows c.args.part.now c.reserve.new.self c.requires.book (λ s h. c.reserve.ensures.same t (Some p) s h) c.reserve.ensures.steps in
     let follow : Follow t p knows messages = search rules in
-    let are_told : AreTold t p knows c.args.others.now (length knows) (told knows messages) = search rules in
+    let are_told : AreTold t p knows c.args.others.now (length knows) (told_each knows messages) = search rules in
     let gains = subst (λ l. AreGains t p l c.args.others.now c.in_ok-gains.gains.items) c.deref-2.ensures.value c.in_ok-gains.ensures in
     let joined : AreJoined t p knows c.args.others.now c.take_all.new.knows.items = c.take_all.ensures t p c.args.others.now gains in
-    joined_book t p knows c.args.others.now c.put_messages.new.part (told knows messages) c.take_all.new.knows.items c.requires.book.count
+    joined_book t p knows c.args.others.now c.put_messages.new.part (told_each knows messages) c.take_all.new.knows.items c.requires.book.count
     (c.put_messages.ensures.book knows reserved follow) are_told joined
     (λ d there. (c.channels_are_numbered_by_their_receivers.ensures.inverse (receiving_iface t d) d (c.channels_are_numbered_by_their_receivers.ensures.there d there)).1 refl)
     (λ i comes. let found = c.channels_are_those_of_the_network.ensures.numbered p i comes in (found.0, found.1, found.2))

@@ -1,7 +1,7 @@
 use Rattle.std.proofs.Common.{◌≡◌, ◌+◌, ◌<◌, length, slice_index_or, sym, subst, arith, refl, rules}
 use Rattle.nm_model.specs.Knowledge.{nothing_known}
 use Rattle.nm_book.specs.Merging.{AreTold, IsTurnOf}
-use Rattle.nm_book.specs.Telling.{told}
+use Rattle.nm_book.specs.Telling.{told_each}
 use Rattle.nm_book.proofs.Tellings.{read_known}
 use Rattle.nm_book.proofs.merging.new_messages.Goals as goal
 
@@ -23,5 +23,5 @@ loop-number-preserved c =
     let done = c.in_ok-add_messages.ensures knows others turn in
     record {
       follow = done.0;
-      below = subst (λ d. AreTold t p knows others (d + 1) (told knows c.add_messages.new.messages.items)) channel done.1;
+      below = subst (λ d. AreTold t p knows others (d + 1) (told_each knows c.add_messages.new.messages.items)) channel done.1;
     }

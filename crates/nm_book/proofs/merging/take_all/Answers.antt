@@ -3,7 +3,7 @@ use Rattle.std.proofs.lemmas.List.{length-set}
 use Rattle.std.specs.Vec.Iter.{into_iter_items}
 use Rattle.nm_model.specs.Knowledge.{nothing_known}
 use Rattle.nm_knowledge.specs.Gain.{IsGain}
-use Rattle.nm_book.specs.Merging.{is_incoming, joined, known, other, with_gain}
+use Rattle.nm_book.specs.Merging.{is_incoming, joined_at, known, other, with_gain}
 use Rattle.nm_book.proofs.Gatherings.{drop_first, gain_fits, with_gain_is}
 use Rattle.nm_book.proofs.Safety.{next_case}
 use Rattle.nm_book.proofs.Tellings.{read_known, set_elsewhere, set_here}
@@ -39,7 +39,7 @@ loop-gain-preserved c =
       rest = let e : n + 1 ≡ suc n = omega arith in sym (ap (λ k. drop k c.args.gains.items) e ∙ found.1);
       most = omega (arith, low);
       count = length-set now n c.take_gain.new.know ∙ count;
-      below = λ t p others gains d h. next_case (λ d. slice_index_or (slice_set now n c.take_gain.new.know) d nothing_known ≡ joined t p knows others d) d n h
+      below = λ t p others gains d h. next_case (λ d. slice_index_or (slice_set now n c.take_gain.new.know) d nothing_known ≡ joined_at t p knows others d) d n h
           (λ lt. set_elsewhere now n d c.take_gain.new.know (λ e. absurd (omega (arith, lt, e))) ∙ c.loop-gain.invariant.below t p others gains d lt)
           (set_here now n c.take_gain.new.know (let m = gains.count in omega (arith, m, low, count)) ∙ taken
           ∙ with_gain_is (is_incoming t p knows others n) (known t p knows others n) (other t p knows others n) c.in-Some.gain (gains.each n c.in-Some.gain found.0));

@@ -1,6 +1,6 @@
 use Rattle.std.proofs.Common.{◌≡◌, ◌∙◌, ◌<◌, ◌+◌, ◌++◌, length, map, take, drop, get_or, set, sym, ap, subst, arith}
 use Rattle.std.proofs.lemmas.List.Edits.{map_over_more}
-use Rattle.nm_frames.specs.declared.side.Outgoing.{Outgoing}
+use Rattle.nm_frames.specs.declared.side.ChannelOut.{ChannelOut}
 use Rattle.nm_frames.specs.Session.{new_outgoing}
 use Rattle.nm_frames.proofs.side.forget_cursors.Goals as goal
 
@@ -10,7 +10,7 @@ loop-side-preserved c =
     let ys = c.loop-side.outgoing in
     let i = c.loop-side.side-index in
     let d = c.side-item.result in
-    let f : Outgoing → Outgoing = λ o. new_outgoing o.channel in
+    let f : ChannelOut → ChannelOut = λ o. new_outgoing o.channel in
     let e : d ≡ get_or ys i d = c.side-item.is in
     let below : i < length xs = omega arith in
-    subst (λ (v : Outgoing). set ys i v ≡ map f (take (i + 1) xs) ++ drop (i + 1) xs) (sym (c.new.ensures ∙ ap f (sym e))) (map_over_more f xs ys i d below c.loop-side.invariant e)
+    subst (λ (v : ChannelOut). set ys i v ≡ map f (take (i + 1) xs) ++ drop (i + 1) xs) (sym (c.new.ensures ∙ ap f (sym e))) (map_over_more f xs ys i d below c.loop-side.invariant e)

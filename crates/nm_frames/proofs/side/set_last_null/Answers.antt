@@ -1,8 +1,8 @@
 use Rattle.std.proofs.Common.{◌≡◌, ◌∙◌, ◌<◌, ◌+◌, ◌++◌, length, map, take, drop, get_or, set, sym, ap, subst, arith}
 use Rattle.std.proofs.lemmas.List.Edits.{map_over_more}
-use Rattle.nm_frames.specs.declared.side.Outgoing.{Outgoing}
+use Rattle.nm_frames.specs.declared.side.ChannelOut.{ChannelOut}
 use Rattle.nm_frames.specs.Owed.{with_null}
-use Rattle.nm_frames.specs.Session.{at_channel}
+use Rattle.nm_frames.specs.Session.{with_channel}
 use Rattle.nm_frames.proofs.side.set_last_null.Goals as goal
 
 pub loop-side-preserved : goal.loop-side-preserved
@@ -11,7 +11,7 @@ loop-side-preserved c =
     let ys = c.loop-side.outgoing in
     let i = c.loop-side.side-index in
     let d = c.side-item.result in
-    let f : Outgoing → Outgoing = at_channel c.args.null.now.channel (with_null c.args.null.now) in
+    let f : ChannelOut → ChannelOut = with_channel c.args.null.now.channel (with_null c.args.null.now) in
     let e : d ≡ get_or ys i d = c.side-item.is in
     let below : i < length xs = omega arith in
-    subst (λ (v : Outgoing). set ys i v ≡ map f (take (i + 1) xs) ++ drop (i + 1) xs) (sym (c.with_null.ensures ∙ ap f (sym e))) (map_over_more f xs ys i d below c.loop-side.invariant e)
+    subst (λ (v : ChannelOut). set ys i v ≡ map f (take (i + 1) xs) ++ drop (i + 1) xs) (sym (c.with_null.ensures ∙ ap f (sym e))) (map_over_more f xs ys i d below c.loop-side.invariant e)

@@ -1,5 +1,5 @@
 use Rattle.std.proofs.Common.{◌≡◌, ◌-◌, ◌+◌, ap, sym, ◌∙◌, ap₂, arith, append-nil}
-use Rattle.nm_paths.specs.declared.turn.Ending.TheVariants.{Expired}
+use Rattle.nm_paths.specs.declared.turn.WalkEnd.TheVariants.{Expired}
 use Rattle.nm_paths.specs.Walks.{behind, course, node_behind}
 use Rattle.nm_paths.proofs.Courses.{course-leaves, course-none, course-stops}
 use Rattle.nm_paths.proofs.ways.go_on.Goals as goal

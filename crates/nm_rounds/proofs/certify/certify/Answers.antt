@@ -5,7 +5,7 @@ use Rattle.nm_model.specs.Join.{or_else}
 use Rattle.nm_model.specs.Promise.{Tight}
 use Rattle.nm_knowledge.specs.Octets.{same_octets}
 use Rattle.nm_sim.specs.Network.{net_of}
-use Rattle.nm_rounds.specs.Certify.{AreOf, Certifies, Finds, books_of, missing, unfinished}
+use Rattle.nm_rounds.specs.Certify.{AreOf, Certifies, FindsFault, books_of, missing, unfinished}
 use Rattle.nm_rounds.specs.SameTopology.{SaysSame}
 use Rattle.nm_rounds.proofs.CertifySteps.{all_certified, answered, exactly, first_step, next_step, not_certified, parts_are, refused}
 use Rattle.nm_rounds.proofs.certify.certify.Goals as goal
@@ -26,7 +26,7 @@ returns-in_err-check_partitions c =
     let books = map (λ b. b.now) c.args.books.now in
     let fault = c.in_err-check_partitions.field-0.0 in
     let e : c.from_residual.result ≡ Err fault = search rules in
-    let here = subst (λ n. Finds t (first_below (missing books) n) (Err fault)) (sym (parts_are t)) c.in_err-check_partitions.ensures in
+    let here = subst (λ n. FindsFault t (first_below (missing books) n) (Err fault)) (sym (parts_are t)) c.in_err-check_partitions.ensures in
     let rest = or_else (first_of (unfinished t) (books_of books)) (first_of (book_fault net same_octets Tight (books_of books)) (books_of books)) in
     let ours = c.are_of.ensures.all (search rules) in
     let finds = first_step t (first_below (missing books) net.parts) rest fault here in

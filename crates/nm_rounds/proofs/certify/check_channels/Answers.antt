@@ -3,7 +3,7 @@ use Rattle.nm_model.specs.Certificate.{book_fault, first_of}
 use Rattle.nm_model.specs.Promise.{Tight}
 use Rattle.nm_knowledge.specs.Octets.{same_octets}
 use Rattle.nm_sim.specs.Network.{net_of}
-use Rattle.nm_rounds.specs.Certify.{Finds, book_of, books_of}
+use Rattle.nm_rounds.specs.Certify.{FindsFault, book_of, books_of}
 use Rattle.nm_rounds.specs.SameTopology.{SaysSame}
 use Rattle.nm_rounds.proofs.CertifySteps.{found}
 use Rattle.nm_rounds.proofs.CertifyLists.{all_at, first_here}
@@ -24,4 +24,4 @@ returns-in_err-check_book c =
     let e : c.from_residual.result ≡ Err c.in_err-check_book.field-0.0 = search rules in
     let fault = book_fault (net_of t) same_octets Tight all in
     let f = found t (fault (book_of c.receiver-item.result.now)) c.in_err-check_book.field-0.0 c.in_err-check_book.ensures in
-    subst (λ z. Finds t (first_of fault all) z) (sym e) (f.2 (first_of fault all) (first_here (λ z. z.now) l n c.receiver-item.result there c.receiver-item.is fault f.0 f.1 c.loop-receiver.invariant))
+    subst (λ z. FindsFault t (first_of fault all) z) (sym e) (f.2 (first_of fault all) (first_here (λ z. z.now) l n c.receiver-item.result there c.receiver-item.is fault f.0 f.1 c.loop-receiver.invariant))

@@ -6,8 +6,8 @@ use Rattle.nm_model.specs.Promise.{Tight, promise}
 use Rattle.nm_model.specs.Replica.{from_scratch}
 use Rattle.nm_knowledge.specs.Octets.{same_octets}
 use Rattle.nm_sim.specs.Network.{net_of}
-use Rattle.nm_book.specs.Book.{is_outgoing, knowledge, promise_on, sent_on}
-use Rattle.nm_rounds.specs.Certify.{Finds, book_of, list_fault, sender_fault}
+use Rattle.nm_book.specs.Book.{is_outgoing, knowledge, promise_on, sent_over}
+use Rattle.nm_rounds.specs.Certify.{FindsFault, book_of, list_fault, sender_fault}
 use Rattle.nm_rounds.proofs.CertifyChannels.{sends}
 use Rattle.nm_rounds.proofs.CertifySteps.{same_net, same_receiver}
 use Rattle.nm_rounds.proofs.certify.check_sender.Goals as goal
@@ -36,7 +36,7 @@ returns c = λ r comes knows.
     let nets : net_of b.topology ≡ net = same_net c.the_digest_is_no_part_of_the_network.ensures b.topology t c.requires in
     let at : j ≡ i = same_receiver b.topology t c.requires c.args.channel in
     let goes : is_outgoing b c.args.channel ≡ true = search rules in
-    let sent : c.in-Some.sent.now ≡ sent_on b c.args.channel = search rules in
+    let sent : c.in-Some.sent.now ≡ sent_over b c.args.channel = search rules in
     let promised : c.in-Some-promise.promise ≡ promise_on Tight b c.args.channel = search rules in
     let from : (b.partition == sender_of net i) ≡ true =
     sym (sends net b.partition r.part i comes) ∙ subst (λ n. goes_out net b.partition n ≡ true) at (subst (λ z. goes_out z b.partition j ≡ true) nets goes) in
@@ -48,4 +48,4 @@ returns c = λ r comes knows.
     ap (λ z. cond z (channel_fault net same_octets Tight i r (book_of b)) None) from
     ∙ ap (λ a. list_fault i a ((from_scratch net b.partition (knowledge b) b.events).sent i) (promise net Tight b.partition (knowledge b) b.events i)) knows
     ∙ ap₂ (λ s p. list_fault i k s p) sent_here promised_here in
-    subst (λ o. Finds t o c.check_channel.result) (sym same) (c.check_channel.ensures t)
+    subst (λ o. FindsFault t o c.check_channel.result) (sym same) (c.check_channel.ensures t)

@@ -6,7 +6,7 @@ use Rattle.nm_model.specs.Partition.{comes_in}
 use Rattle.nm_sim.specs.Network.{net_of}
 use Rattle.nm_book.specs.Book.{is_incoming, knowledge}
 use Rattle.std.specs.Prelude.{slice_index_or}
-use Rattle.nm_rounds.specs.Certify.{Finds, book_of, books_of, incoming_fault, sender_fault}
+use Rattle.nm_rounds.specs.Certify.{FindsFault, book_of, books_of, incoming_fault, sender_fault}
 use Rattle.nm_rounds.specs.SameTopology.{SaysSame}
 use Rattle.nm_rounds.proofs.CertifyChannels.{comes_here, knows_of}
 use Rattle.nm_rounds.proofs.CertifySteps.{found}
@@ -36,7 +36,7 @@ returns-in_err-check_sender c =
     let f = found t (sender_fault t i (book_of b) (book_of c.sender-item.result.now)) c.in_err-check_sender.field-0.0 (c.in_err-check_sender.ensures (book_of b) comes knows) in
     let first = first_here (λ z. z.now) l n c.sender-item.result there c.sender-item.is (sender_fault t i (book_of b)) f.0 f.1 c.loop-sender.invariant in
     let all = incoming_fault t (map (λ z. z.now) l) (book_of b) i in
-    subst (λ r. Finds t all r) (sym e) (f.2 all (ap (λ z. cond z (first_of (sender_fault t i (book_of b)) (books_of (map (λ y. y.now) l))) None) comes ∙ first))
+    subst (λ r. FindsFault t all r) (sym e) (f.2 all (ap (λ z. cond z (first_of (sender_fault t i (book_of b)) (books_of (map (λ y. y.now) l))) None) comes ∙ first))
 
 pub loop-sender-preserved : goal.loop-sender-preserved
 loop-sender-preserved c =

@@ -1,5 +1,5 @@
 use Rattle.std.proofs.Common.{◌≡◌, ap, ◌∙◌}
-use Rattle.nm_script.specs.Words.{step_of}
+use Rattle.nm_script.specs.Words.{step_said}
 use Rattle.nm_script.proofs.Parts.{parts_at-split, parts_at-whole}
 use Rattle.nm_script.proofs.Steps.{at_most_four, named_step, one_word}
 use Rattle.nm_script.proofs.line.step_on.Goals as goal
@@ -18,7 +18,7 @@ returns-clause-found c =
     let split = parts_at-split 32 c.args.line.now c.in_ok-word.word.now c.in_ok-word.rest.now c.in_ok-word.ensures.0 c.in_ok-word.ensures.1 in
     named_step c.args.line.now c.in_ok-word.word.now c.in_ok-numbers.numbers.items c.step_of.result
     (cc (split, c.in_ok-numbers.ensures.found)) c.in_ok-numbers.ensures.small
-    (c.step_of.ensures ∙ ap (step_of c.in_ok-word.word.now) c.deref.ensures.0)
+    (c.step_of.ensures ∙ ap (step_said c.in_ok-word.word.now) c.deref.ensures.0)
 
 pub returns-clause-only : goal.returns-clause-only
 returns-clause-only c = λ s h.
