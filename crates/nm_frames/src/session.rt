@@ -158,7 +158,7 @@ impl Session {
     {
         match self.hello_given {
             None => next_version(self.hello_taken, Version::Two),
-            Some(after_giving) => next_version(self.hello_taken, after_giving),
+            Some(given) => next_version(self.hello_taken, given),
         }
     }
 
@@ -227,7 +227,7 @@ impl Session {
     /// Where memory for a message was refused. The session is unchanged then.
     pub fn next_out(&mut self, book: &Book) -> Result<Option<Frame>, AllocError>
         ensures owed { IfOk result (λ f. f ≡ owed self.old book.now) }
-        ensures after_giving { IfOk result (λ f. self.new ≡ given_maybe self.old f) }
+        ensures given { IfOk result (λ f. self.new ≡ given_maybe self.old f) }
         ensures err { OnErr result (self.new ≡ self.old) }
     {
         let owed = self.owed(book)?;
