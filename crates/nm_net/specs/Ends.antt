@@ -1,10 +1,10 @@
 -- How often links have ended.
-use Rattle.std.specs.Prelude.{ℕ, Bool, true, false, ◌==◌, ◌&&◌, ◌||◌, if◌then◌else◌}
+use Rattle.std.specs.Prelude.{ℕ, ◌-◌, Bool, true, false, ◌==◌, ◌&&◌, ◌||◌, if◌then◌else◌}
 use Rattle.nm_frames.specs.declared.replica_name.ReplicaName.{ReplicaName}
 use Rattle.nm_net.specs.declared.callers.Caller.{Caller}
 use Rattle.nm_net.specs.declared.ends.Ends.{Ends}
 use Rattle.nm_net.specs.declared.ends.Ends.TheVariants.{Open, Once, Sure}
-use Rattle.nm_net.specs.declared.limits.TheConstants.{REST_POLLS, RECALL_REST}
+use Rattle.nm_net.specs.declared.limits.TheConstants.{REST_PERIODS, RECALL_PERIODS}
 
 -- one end more: the second is sure
 abbrev pub once_more : Ends → Ends
@@ -28,12 +28,16 @@ is_sure Open = false
 is_sure Once = false
 is_sure Sure = true
 
--- For how many polls a peer is not called again: at once where it greeted last time, and seldom once the link has ended for sure, for one that was
+-- For how many periods a peer is not called again: at once where it greeted last time, and seldom once the link has ended for sure, for one that was
 -- lost and begun anew.
 abbrev pub rest_of : Ends → (has_greeted : Bool) → ℕ
-rest_of Open has_greeted = if has_greeted then 0 else REST_POLLS
-rest_of Once has_greeted = if has_greeted then 0 else REST_POLLS
-rest_of Sure has_greeted = RECALL_REST
+rest_of Open has_greeted = if has_greeted then 0 else REST_PERIODS
+rest_of Once has_greeted = if has_greeted then 0 else REST_PERIODS
+rest_of Sure has_greeted = RECALL_PERIODS
+
+-- for how many periods it is not called, after one more poll, at which a period was over or not
+abbrev pub rest_after : (before : ℕ) → (ran_out : Bool) → ℕ
+rest_after before ran_out = if ran_out then before - 1 else before
 
 -- How often a link has ended after a connection of it broke. Nobody was there where no Hello came and no octet could be written: a connection that
 -- took octets may have been cut before the peer's Hello came.

@@ -1,13 +1,11 @@
--- How long something has lasted, in polls.
-use Rattle.std.specs.Prelude.{ℕ, ◌+◌, ◌*◌, Bool, true, false, nat_le}
+-- How long something has lasted, in periods.
+use Rattle.std.specs.Prelude.{ℕ, ◌+◌, Bool, nat_le, if◌then◌else◌}
 use Rattle.nm_base.specs.Count.{saturated}
-use Rattle.nm_net.specs.declared.limits.TheConstants.{BUSY_POLLS}
 
--- how long something has lasted after one more poll, which ran out or not
+-- for how many periods something has lasted, after one more poll, at which a period was over or not
 abbrev pub lasted_after : (before : ℕ) → (ran_out : Bool) → ℕ
-lasted_after before true = saturated (before + BUSY_POLLS)
-lasted_after before false = saturated (before + 1)
+lasted_after before ran_out = if ran_out then saturated (before + 1) else before
 
--- whether it has lasted for so many polls that ran out
-abbrev pub has_lasted : (polls lasted : ℕ) → Bool
-has_lasted polls lasted = nat_le (polls * BUSY_POLLS) lasted
+-- whether it has lasted for so many
+abbrev pub has_lasted : (periods lasted : ℕ) → Bool
+has_lasted periods lasted = nat_le periods lasted

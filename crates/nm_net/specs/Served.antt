@@ -34,8 +34,8 @@ IsFinished b = is_done (net_of b.topology) b.partition (replica_of b) ≡ true
 abbrev pub WasFinished : Bool → Home → Type 0
 WasFinished exact own = (b : BookValue) × (exact ≡ true → home_of b ≡ own) × IsFinished b
 
--- Why serving ends: the replica was done; or no less polls with nothing ready than the limit were made since the transport had had `before`, and it
--- has had `after`, or no more polls may be made.
+-- Why serving ends: the replica was done; or no fewer waits ran out than the limit since the transport had had `before`, and it has had `after`, or
+-- no more polls may be made.
 abbrev pub EndsWith : Bool → Home → (limit before after : ℕ) → Served → Type 0
 EndsWith exact own limit before after Ended = WasFinished exact own
 EndsWith exact own limit before after Net = Unit {0}

@@ -1,5 +1,5 @@
 -- What contracts see of a transport and of its connections.
-use Rattle.std.specs.Prelude.{◌≡◌, ℕ, List, []}
+use Rattle.std.specs.Prelude.{◌≡◌, ℕ, ◌+◌, Bool, true, false, List, [], if◌then◌else◌}
 use Rattle.nm_net.specs.declared.transport.Waited.{Waited}
 use Rattle.nm_net.specs.declared.transport.Waited.TheVariants.{Ready, RanOut, Fault}
 
@@ -14,8 +14,12 @@ pub record WireValue : Type 0 where
 abbrev pub IsFresh : {W : Type 0} → (W → List ℕ) → (W → List ℕ) → (W → ℕ) → (W → ℕ) → W → Type 0
 IsFresh given taken ends failures w = (given w ≡ []) × (taken w ≡ []) × (ends w ≡ 0) × (failures w ≡ 0)
 
--- what a wait adds to those that ended with nothing ready
-abbrev pub one_if_idle : Waited → ℕ
-one_if_idle Ready = 0
-one_if_idle RanOut = 1
-one_if_idle Fault = 1
+-- a period was over when a wait ended, or it could not wait
+abbrev pub has_run_out : Waited → Bool
+has_run_out Ready = false
+has_run_out RanOut = true
+has_run_out Fault = true
+
+-- how many waits have ended so, after one more, which did or did not
+abbrev pub waits_after : (before : ℕ) → (ran_out : Bool) → ℕ
+waits_after before ran_out = if ran_out then before + 1 else before

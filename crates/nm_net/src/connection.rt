@@ -6,7 +6,7 @@ ghost use Rattle.nm_net.specs.Strangers.{is_stranger};
 
 use crate::counting::Frames;
 use crate::lasting::Lasted;
-use crate::limits::STRANGER_POLLS;
+use crate::limits::STRANGER_PERIODS;
 use crate::moved::CountingWire;
 use nm_engine::Link;
 use nm_frames::{ReplicaName, Session};
@@ -149,6 +149,6 @@ impl<W> Connection<W> {
             return false;
         }
         self.waited.pass_poll(ran_out);
-        self.waited.is_past(STRANGER_POLLS)
+        self.waited.is_past(STRANGER_PERIODS)
     }
 }

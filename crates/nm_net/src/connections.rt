@@ -1,6 +1,9 @@
 //! The connections of a replica: begun, accepted, and let go.
 
 ghost use Rattle.std.specs.Prelude.{◌≡◌, IfErr};
+ghost use Rattle.slab.specs.Slab.{get};
+ghost use Rattle.nm_net.specs.Breaks.{Leaves, break_at, fault_in};
+ghost use Rattle.nm_net.specs.Leaving.{IsServing};
 ghost use Rattle.nm_net.specs.Links.{are_sure, have_broken, have_ended};
 ghost use Rattle.nm_net.specs.Served.{EndsEarly};
 
@@ -138,7 +141,9 @@ impl<W> Connections<W> {
 
     /// Whether a connection is open whose peer said Hello: that may have been lost and begun anew,
     /// and be told all again.
-    pub(crate) fn are_serving(&self) -> bool {
+    pub(crate) fn are_serving(&self) -> bool
+        ensures { IsServing self.now.open result }
+    {
         for key in 0..self.open.capacity() {
             if let Some(connection) = self.open.get(key) {
                 if connection.link.has_greeted() {
@@ -197,15 +202,6 @@ impl<W> Connections<W> {
         for key in 0..self.open.capacity() {
             if let Some(connection) = self.open.get(key) {
                 connection.link.wire().report();
-            }
-        }
-    }
-
-    /// Nothing is written from now on, or it is again.
-    pub(crate) fn hold_all(&self, is_held: bool) {
-        for key in 0..self.open.capacity() {
-            if let Some(connection) = self.open.get(key) {
-                connection.link.wire().hold(is_held);
             }
         }
     }
@@ -423,7 +419,8 @@ impl<W> Connections<W> {
         transport: &mut T,
         key: usize,
     ) -> Option<Remains>
-        ensures { T.idle_waits transport.new ≡ T.idle_waits transport.old }
+        ensures idle { T.idle_waits transport.new ≡ T.idle_waits transport.old }
+        ensures leaves { Leaves (get self.old.open key) result }
     {
         let connection = self.open.try_remove(key)?;
         let name = connection.link.greeted_by();
@@ -469,6 +466,7 @@ impl<W> Connections<W> {
     ) -> Result<(), Served>
         ensures idle { T.idle_waits transport.new ≡ T.idle_waits transport.old }
         ensures early { IfErr result EndsEarly }
+        ensures served { fault_in result ≡ break_at (get self.old.open key) cause }
     {
         let Some(remains) = self.remove(transport, key) else {
             return Ok(());

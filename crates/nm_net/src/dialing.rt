@@ -1,14 +1,14 @@
 //! Peers to which the replica connects.
 
-ghost use Rattle.std.specs.Prelude.{◌≡◌, true, IfSome};
+ghost use Rattle.std.specs.Prelude.{◌≡◌, ◌&&◌, ◌==◌, true, IfSome, is_some, not};
 ghost use Rattle.std.proofs.Props.{props};
 ghost use Rattle.std.specs.List.{list_all};
 ghost use Rattle.nm_frames.specs.Session.{broken};
 ghost use Rattle.nm_net.specs.Dialing.{IsAtGreeting};
-ghost use Rattle.nm_net.specs.Ends.{after_break, has_ended, is_sure, once_more, rest_of};
+ghost use Rattle.nm_net.specs.Ends.{after_break, has_ended, is_sure, once_more, rest_after, rest_of};
 
 use crate::ends::Ends;
-use crate::limits::{RECALL_REST, REST_POLLS};
+use crate::limits::{RECALL_PERIODS, REST_PERIODS};
 use nm_base::PartNo;
 use nm_frames::Session;
 use nm_topology::Topology;
@@ -19,7 +19,7 @@ use std::alloc::{AllocError, Global};
 pub(crate) struct Dialing {
     /// The session of the next connection. `None` while a connection has it.
     session: Option<Session>,
-    /// The peer is not called before so many polls: one that ran out counts as `REST_POLLS`.
+    /// The peer is not called before so many periods are over.
     rest: u32,
     ends: Ends,
     ghost greeting: { IfSome session IsAtGreeting } by { Prim.hlevel props },
@@ -35,13 +35,13 @@ fn at_greeting(session: Session) -> Session
     session
 }
 
-/// For how many polls a peer is not called again whose link has ended so often.
+/// For how many periods a peer is not called again whose link has ended so often.
 fn rest_of(ends: Ends, has_greeted: bool) -> u32
     ensures { result ≡ rest_of ends has_greeted }
 {
     match ends {
-        Ends::Sure => RECALL_REST,
-        Ends::Open | Ends::Once => { if has_greeted { 0 } else { REST_POLLS } }
+        Ends::Sure => RECALL_PERIODS,
+        Ends::Open | Ends::Once => { if has_greeted { 0 } else { REST_PERIODS } }
     }
 }
 
@@ -77,12 +77,16 @@ impl Dialing {
     }
 
     /// Whether it is to be called now.
-    pub(crate) fn wants(&self) -> bool {
+    pub(crate) fn wants(&self) -> bool
+        ensures { result ≡ is_some self.now.session && (self.now.rest == 0) }
+    {
         self.session.is_some() && self.rest == 0
     }
 
     /// Whether it is not connected, and its link has not ended.
-    pub(crate) fn is_wanting(&self) -> bool {
+    pub(crate) fn is_wanting(&self) -> bool
+        ensures { result ≡ is_some self.now.session && not (has_ended self.now.ends) }
+    {
         self.session.is_some() && !self.has_ended()
     }
 
@@ -127,9 +131,11 @@ impl Dialing {
 
     /// A poll was made, and ran out or not.
     pub(crate) fn pass_poll(&mut self, ran_out: bool)
-        ensures { self.new.ends ≡ self.old.ends }
+        ensures ends { self.new.ends ≡ self.old.ends }
+        ensures rest { self.new.rest ≡ rest_after self.old.rest ran_out }
     {
-        let passed = if ran_out { REST_POLLS } else { 1 };
-        self.rest = self.rest.saturating_sub(passed);
+        if ran_out {
+            self.rest = self.rest.saturating_sub(1);
+        }
     }
 }

@@ -1,37 +1,35 @@
-//! How long something has lasted, in polls.
+//! How long something has lasted, in periods.
 
-ghost use Rattle.std.specs.Prelude.{◌≡◌, ◌≤◌};
+ghost use Rattle.std.specs.Prelude.{◌≡◌};
 ghost use Rattle.nm_net.specs.Lasting.{has_lasted, lasted_after};
 
-use crate::limits::{BUSY_POLLS, MAX_LASTING};
-
-/// How long something has lasted: `BUSY_POLLS` for each poll that ran out, and 1 for another.
+/// For how many periods something has lasted.
 #[derive(Clone, Copy, Drop)]
 pub(crate) struct Lasted {
-    polls: u64,
+    periods: u64,
 }
 
 impl Lasted {
     /// Not yet at all.
     pub(crate) fn new() -> Self
-        ensures { result.polls ≡ 0 }
+        ensures { result.periods ≡ 0 }
     {
-        Lasted { polls: 0 }
+        Lasted { periods: 0 }
     }
 
-    /// One more poll was made, and ran out or not.
+    /// One more poll was made, and ran out or not: whether a period was over then.
     pub(crate) fn pass_poll(&mut self, ran_out: bool)
-        ensures { self.new.polls ≡ lasted_after self.old.polls ran_out }
+        ensures { self.new.periods ≡ lasted_after self.old.periods ran_out }
     {
-        let more = if ran_out { BUSY_POLLS } else { 1 };
-        self.polls = self.polls.saturating_add(more);
+        if ran_out {
+            self.periods = self.periods.saturating_add(1);
+        }
     }
 
-    /// Whether it has lasted for so many polls that ran out, which are few.
-    pub(crate) fn is_past(&self, polls: u64) -> bool
-        requires { polls ≤ MAX_LASTING }
-        ensures { result ≡ has_lasted polls self.now.polls }
+    /// Whether it has lasted for so many periods.
+    pub(crate) fn is_past(&self, periods: u64) -> bool
+        ensures { result ≡ has_lasted periods self.now.periods }
     {
-        self.polls >= polls * BUSY_POLLS
+        self.periods >= periods
     }
 }

@@ -21,8 +21,6 @@ pub struct CountingWire<W> {
     frames: FrameCounter,
     /// Something may have come.
     is_ready: AtomicBool,
-    /// Nothing is written now: more is to come, and goes with it.
-    is_held: AtomicBool,
     /// A read found the end.
     has_ended: bool,
 }
@@ -45,7 +43,6 @@ impl<W> CountingWire<W> {
             written: 0,
             frames: FrameCounter::new(),
             is_ready: AtomicBool::new(true),
-            is_held: AtomicBool::new(false),
             has_ended: false,
         }
     }
@@ -78,11 +75,6 @@ impl<W> CountingWire<W> {
     /// Something may have come.
     pub fn report(&self) {
         self.is_ready.store(true, Ordering::Relaxed);
-    }
-
-    /// Nothing is written from now on, or it is again.
-    pub fn hold(&self, is_held: bool) {
-        self.is_held.store(is_held, Ordering::Relaxed);
     }
 
     /// The wire.
@@ -145,9 +137,6 @@ impl<W: Wire> Wire for CountingWire<W> {
     }
 
     fn write_some(&mut self, octets: &[u8]) -> Written {
-        if self.is_held.load(Ordering::Relaxed) {
-            return Written::Later;
-        }
         let written = self.wire.write_some(octets);
         if let Written::Took(count) = written {
             self.count_written(&octets[..count]);

@@ -40,7 +40,8 @@ fn write_some<C: Counts, S: Sink, R: Wait>(
     })
 }
 
-/// Writes the records that are kept, if there are any, and trace files.
+/// Takes the records that there are out of the book, unless it is to keep them, and writes those
+/// whose interfaces have trace files.
 ///
 /// # Errors
 ///
@@ -60,7 +61,7 @@ pub(crate) fn write_records<C: Counts, S: Sink, R: Wait>(
         written: 0,
         has_more: false,
     };
-    if files.is_empty() || !is_left {
+    if service.keeps_records || !is_left {
         return Ok(all);
     }
     for _ in 0..MAX_HAND_OUTS {

@@ -41,7 +41,7 @@ pub struct Service<'a, C: Counts> {
     pub books: &'a [SharedBook<C>],
     /// The place of its sister in that list, if it has one.
     pub sister: Option<usize>,
-    /// After so many polls in a row that ran out it is stalled.
+    /// After so many periods in a row in which nothing moved and nothing was done it is stalled.
     pub idle_limit: u64,
     /// How many events it does at most after each poll.
     pub run_limit: u64,
@@ -51,6 +51,9 @@ pub struct Service<'a, C: Counts> {
     pub progress: Option<&'a Progress>,
     /// It notes there how far its book is, too: nobody else does.
     pub notes_progress: bool,
+    /// Its book keeps its records, for who closes it. Else they leave it while it runs: to the trace
+    /// files, where it has any.
+    pub keeps_records: bool,
 }
 
 /// What a replica holds while it runs, and has still when it has ended.
@@ -62,12 +65,11 @@ pub struct Holdings<C: Counts, S> {
     pub passes: Vec<Pass<C>>,
     /// The seats of its outgoing channels on the board.
     pub seats: Vec<OwnerSeat>,
-    /// The trace files to which its records go while it runs. Where there are none the book keeps
-    /// its records.
+    /// The trace files to which its records go while it runs, unless its book keeps them.
     pub files: TraceFiles<S>,
 }
 
-/// How many polls in a row ran out and nothing was moved or done, after one more.
+/// For how many periods in a row nothing was moved or done, after one more poll.
 fn idle_polls(before: u64, polled: Polled) -> u64
     ensures { result ≡ idle_after before polled.was_active polled.ran_out }
 {
@@ -80,7 +82,7 @@ fn idle_polls(before: u64, polled: Polled) -> u64
     before
 }
 
-/// How serving ends after so many polls, the last so many of them idle in a row, if it does.
+/// How serving ends after so many polls and so many idle periods in a row, if it does.
 fn ending_of(is_done: bool, idle: u64, limit: u64, polls: u64) -> Option<Served>
     ensures { result ≡ ending_of is_done idle limit polls }
 {
@@ -103,7 +105,7 @@ fn ending_of(is_done: bool, idle: u64, limit: u64, polls: u64) -> Option<Served>
 /// asked, and told how many octets have moved.
 ///
 /// `Ended` where the replica was seen to be done. `File` where a trace file failed. `Stalled` after
-/// no fewer polls with nothing ready than its limit, or after 10^9 polls. `Net` where a peer broke
+/// no fewer periods than its limit, or after 10^9 polls. `Net` where a peer broke
 /// the rules, a message was refused, or the gate said so. `Memory` where memory was refused.
 pub fn run_replica<C: Counts, S: Sink, T: Transport, G: Gate, R: Wait>(
     rt: &R,

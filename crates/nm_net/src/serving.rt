@@ -5,25 +5,23 @@ ghost use Rattle.nm_shared.specs.Board.{IsOwnerOf};
 ghost use Rattle.nm_files.specs.Files.{IsSound};
 ghost use Rattle.nm_net.specs.Lasting.{has_lasted, lasted_after};
 ghost use Rattle.nm_net.specs.Leaving.{LeavesAfter};
-ghost use Rattle.nm_net.specs.Polls.{HasWaited};
 ghost use Rattle.nm_net.specs.Recording.{Streams};
 ghost use Rattle.nm_net.specs.Served.{EndsEarly, WasFinished};
+ghost use Rattle.nm_net.specs.Transport.{waits_after};
 
 use crate::acts::{Stand, Standing};
 use crate::connections::Connections;
 use crate::counting::Frames;
 use crate::figuring::{note_figures, note_hold, note_loan, note_progress, note_wait};
 use crate::lasting::Lasted;
-use crate::limits::{
-    MAX_REPORTS, MAX_TURNS, MERGE_POLLS, SCARCE_POLLS, SHORT_POLLS, WAIT_MILLISECONDS,
-};
+use crate::limits::{MAX_REPORTS, MAX_TURNS, MERGE_POLLS, SCARCE_PERIODS, SHORT_PERIODS};
 use crate::recording::write_records;
 use crate::replica::{Holdings, Service};
 use crate::served::{Served, file_served};
 use crate::sisters::{all_are_done, merge_sister};
 use crate::staying::Stay;
 use crate::telling::tell_all;
-use crate::transport::{Transport, Waited};
+use crate::transport::Transport;
 use nm_base::{Sink, Wire};
 use nm_book::Ran;
 use nm_engine::{ReadBuffer, Turn};
@@ -91,7 +89,7 @@ impl Moves {
 /// What a poll came to.
 #[derive(Clone, Copy)]
 pub(crate) struct Polled {
-    /// It waited, and nothing was ready.
+    /// A period was over, or it could not wait.
     pub ran_out: bool,
     /// Octets moved, the book did an event, or records were written.
     pub was_active: bool,
@@ -128,7 +126,7 @@ impl<W> Serving<W> {
     /// those that may call again. A poll was made, and ran out or not.
     fn may_leave(&mut self, ran_out: bool) -> bool
         ensures { LeavesAfter ran_out self.old.connections.callers.all.items
-            self.old.connections.peers.items self.old.stay result }
+            self.old.connections.peers.items self.old.connections.open self.old.stay result }
     {
         if !self.connections.have_ended() {
             return false;
@@ -141,6 +139,15 @@ impl<W> Serving<W> {
     }
 }
 
+/// What connections do in their turns.
+#[derive(Clone, Copy, PartialEq, Eq)]
+enum Does {
+    /// They take what came, and say nothing.
+    Hear,
+    /// They say what is owed, too.
+    Speak,
+}
+
 /// Gives the connection with this key its turns, if it is there: what moved, and what the last turn
 /// came to.
 fn turns<W: Wire, C: Counts, R: Wait>(
@@ -150,15 +157,18 @@ fn turns<W: Wire, C: Counts, R: Wait>(
     pass: &mut Pass<C>,
     serving: &mut Serving<W>,
     key: usize,
+    does: Does,
 ) -> (Moves, Turn) {
     let Some(connection) = serving.connections.open.get_mut(key) else {
         return (Moves::NONE, Turn::Idle);
     };
+    let (link, buffer) = (&mut connection.link, &mut serving.buffer);
     let mut last = Turn::Progress;
     for _ in 0..MAX_TURNS {
-        last = connection
-            .link
-            .turn(rt, alloc, book, pass, &mut serving.buffer);
+        last = match does {
+            Does::Hear => link.hear(rt, alloc, book, pass, buffer),
+            Does::Speak => link.turn(rt, alloc, book, pass, buffer),
+        };
         if last != Turn::Progress {
             break;
         }
@@ -181,13 +191,14 @@ fn serve_all<T: Transport, C: Counts, R: Wait>(
     pass: &mut Pass<C>,
     transport: &mut T,
     serving: &mut Serving<T::Connection>,
+    does: Does,
 ) -> Result<Moves, Served>
     ensures idle { T.idle_waits transport.new ≡ T.idle_waits transport.old }
     ensures early { IfErr result EndsEarly }
 {
     let mut all = Moves::NONE;
     for key in 0..serving.connections.open.capacity() {
-        let (moves, turn) = turns(rt, alloc, service.book, pass, serving, key);
+        let (moves, turn) = turns(rt, alloc, service.book, pass, serving, key, does);
         serving.connections.settle(transport, key, turn)?;
         all = all.with(moves);
     }
@@ -195,8 +206,8 @@ fn serve_all<T: Transport, C: Counts, R: Wait>(
     Ok(all)
 }
 
-/// Learns which connections are to be looked at: those that the wait reported, or all where it ran
-/// out.
+/// Learns which connections are to be looked at: those that the wait reported, or all where a period
+/// was over.
 fn hear<T: Transport>(transport: &T, connections: &Connections<T::Connection>, ran_out: bool) {
     if ran_out {
         connections.note_all();
@@ -224,25 +235,24 @@ fn bear_shortage<T: Transport>(
 ) -> Result<(), Served>
     ensures idle { T.idle_waits transport.new ≡ T.idle_waits transport.old }
     ensures early { IfErr result EndsEarly }
-    ensures short { IfErr result (λ _. has_lasted SHORT_POLLS
-        (lasted_after serving.old.short.polls ran_out) ≡ true) }
+    ensures short { IfErr result (λ _. has_lasted SHORT_PERIODS
+        (lasted_after serving.old.short.periods ran_out) ≡ true) }
 {
     if !transport.is_short() || !serving.connections.are_wanting() {
         serving.short = Lasted::new();
         return Ok(());
     }
     serving.short.pass_poll(ran_out);
-    if serving.short.is_past(SHORT_POLLS) {
+    if serving.short.is_past(SHORT_PERIODS) {
         return Err(Served::Net);
     }
-    if serving.short.is_past(SCARCE_POLLS) {
+    if serving.short.is_past(SCARCE_PERIODS) {
         serving.connections.drop_first(transport);
     }
     Ok(())
 }
 
-/// Waits, and takes what came: whether it waited and nothing was ready. Where more is left to do it
-/// only looks, which tells nothing of how long nothing moved.
+/// Waits, or only looks where more is left to do, and takes what came: whether a period was over.
 ///
 /// # Errors
 ///
@@ -253,24 +263,15 @@ fn await_transport<T: Transport, C: Counts>(
     transport: &mut T,
     serving: &mut Serving<T::Connection>,
 ) -> Result<bool, Served>
-    ensures idle { IfOk result (λ ran_out. HasWaited serving.old.is_busy
-        (T.idle_waits transport.old) (T.idle_waits transport.new) ran_out) }
+    ensures idle { IfOk result (λ ran_out. T.idle_waits transport.new
+        ≡ waits_after (T.idle_waits transport.old) ran_out) }
     ensures early { IfErr result EndsEarly }
 {
     serving.connections.dial_all(alloc, transport)?;
-    let milliseconds = if serving.is_busy {
-        0
-    } else {
-        WAIT_MILLISECONDS
-    };
-    note_wait(service, !serving.is_busy);
-    let waited = transport.wait(milliseconds);
+    let may_wait = !serving.is_busy;
+    note_wait(service, may_wait);
+    let ran_out = transport.wait(may_wait).has_run_out();
     note_wait(service, false);
-    let ran_out = match waited {
-        Waited::Ready => false,
-        Waited::RanOut => !serving.is_busy,
-        Waited::Fault => true,
-    };
     hear(transport, &serving.connections, ran_out);
     serving.connections.pass_poll(transport, ran_out);
     serving.connections.accept_all(alloc, service, transport)?;
@@ -360,8 +361,9 @@ struct Acted {
     moves: Moves,
 }
 
-/// The connections have their turns, in which nothing is written, and the replica does its own
-/// part. Then they have turns once more, and each peer is told at once all that is new.
+/// The connections have turns in which they hear, and the replica does its own part. Then they have
+/// turns in which they speak, so that each peer is told at once all that is new, and no promise that
+/// is overtaken.
 ///
 /// # Errors
 ///
@@ -381,19 +383,30 @@ fn serve_and_act<C: Counts, S, T: Transport, R: Wait>(
     ensures done { IfOk result (λ a. a.standing.is_done ≡ true → WasFinished C.exact C.home) }
     ensures early { IfErr result EndsEarly }
 {
-    serving.connections.hold_all(true);
-    let first = serve_all(rt, alloc, service, &mut holdings.pass, transport, serving)?;
-    serving.connections.hold_all(false);
+    let heard = serve_all(
+        rt,
+        alloc,
+        service,
+        &mut holdings.pass,
+        transport,
+        serving,
+        Does::Hear,
+    )?;
     let (standing, was_cut) = act_alone(rt, alloc, service, holdings, serving.polls)?;
     let was_run = standing.events != serving.events;
     serving.events = standing.events;
     serving.polls = serving.polls.saturating_add(1);
-    let second = serve_all(rt, alloc, service, &mut holdings.pass, transport, serving)?;
-    let mut moves = first.with(second);
-    moves.has_more = second.has_heard
-        || second.has_more
-        || was_cut
-        || serving.connections.have_more();
+    let said = serve_all(
+        rt,
+        alloc,
+        service,
+        &mut holdings.pass,
+        transport,
+        serving,
+        Does::Speak,
+    )?;
+    let mut moves = heard.with(said);
+    moves.has_more = said.has_heard || said.has_more || was_cut || serving.connections.have_more();
     Ok(Acted {
         standing,
         was_run,
@@ -430,8 +443,8 @@ pub(crate) fn poll<C: Counts, S: Sink, T: Transport, R: Wait>(
     ensures passes { length holdings.new.passes.items ≡ length holdings.old.passes.items }
     ensures streams { OnOk result (Streams S.taken S.failures
         holdings.old.files.files.items holdings.new.files.files.items) }
-    ensures idle { IfOk result (λ p. HasWaited serving.old.is_busy
-        (T.idle_waits transport.old) (T.idle_waits transport.new) p.ran_out) }
+    ensures idle { IfOk result (λ p. T.idle_waits transport.new
+        ≡ waits_after (T.idle_waits transport.old) p.ran_out) }
     ensures done { IfOk result (λ p. p.is_done ≡ true → WasFinished C.exact C.home) }
     ensures early { IfErr result EndsEarly }
 {

@@ -1,8 +1,9 @@
 //! Connections over TCP.
 
-ghost use Rattle.std.specs.Prelude.{◌≡◌, ◌↔◌, ◌+◌, [], true, IfSome};
+ghost use Rattle.std.specs.Prelude.{◌≡◌, ◌↔◌, [], true, IfSome};
 
 use crate::limits::MAX_REPORTS;
+use crate::period::Period;
 use crate::shortage::is_shortage;
 use crate::tcp_wire::TcpWire;
 use crate::transport::{Transport, Waited};
@@ -13,7 +14,7 @@ use std::alloc::Global;
 use std::io;
 use std::marker::Model;
 use std::net::{Net, SocketAddr};
-use std::time::Duration;
+use std::time::{Clock, Duration};
 
 /// The token of the listener. Connections have their keys, and wakers the tokens next below.
 const LISTENER: Token = Token(usize::MAX);
@@ -30,13 +31,15 @@ pub struct TcpTransport<R> {
     is_called: bool,
     /// The system has too little for one more connection, as it said last.
     is_short: bool,
+    /// The period that goes on.
+    period: Period,
     idle: FailureCount,
 }
 
 impl<R> Model for TcpTransport<R> {
     ghost use Rattle.std.specs.Prelude.{ℕ};
 
-    // How many waits ended with nothing ready.
+    // How many waits ran out.
     ghost Value = { ℕ };
 
     ghost view = { λ n. n.idle.count };
@@ -57,7 +60,7 @@ fn has_call(events: &Events) -> bool {
     events.iter().any(|event| event.token() == LISTENER)
 }
 
-impl<R: Net> TcpTransport<R> {
+impl<R: Net + Clock> TcpTransport<R> {
     /// Listens on this listener, and connects to the peers with these addresses. Who has a waker of
     /// the poll ends a wait by it.
     ///
@@ -77,6 +80,7 @@ impl<R: Net> TcpTransport<R> {
         let events = Events::with_capacity(alloc, MAX_REPORTS)?;
         poll.registry()
             .register(&mut listener, LISTENER, Interest::READABLE)?;
+        let period = Period::begin(&net);
         Ok(TcpTransport {
             net,
             poll,
@@ -85,12 +89,13 @@ impl<R: Net> TcpTransport<R> {
             peers,
             is_called: true,
             is_short: false,
+            period,
             idle: FailureCount::new(),
         })
     }
 }
 
-impl<R: Net> Transport for TcpTransport<R> {
+impl<R: Net + Clock> Transport for TcpTransport<R> {
     type Connection = TcpWire;
 
     ghost idle_waits = { λ n. n };
@@ -142,24 +147,25 @@ impl<R: Net> Transport for TcpTransport<R> {
         let _ = connection.deregister(self.poll.registry());
     }
 
-    fn wait(&mut self, milliseconds: u64) -> Waited {
-        let limit = Duration::from_millis(milliseconds);
-        match self.poll.poll(&mut self.events, Some(limit)) {
-            Ok(()) if !self.events.is_empty() => {
-                self.is_called = self.is_called || has_call(&self.events);
-                Waited::Ready
-            }
-            Ok(()) => {
-                // Whatever was reported of the listener, it is asked now and then.
-                self.is_called = self.is_called || milliseconds > 0;
-                self.idle.rise();
-                Waited::RanOut
-            }
-            Err(_) => {
-                self.is_called = true;
-                self.idle.rise();
-                Waited::Fault
-            }
+    fn wait(&mut self, may_wait: bool) -> Waited {
+        let limit = if may_wait {
+            self.period.left(&self.net)
+        } else {
+            Duration::ZERO
+        };
+        let has_waited = self.poll.poll(&mut self.events, Some(limit)).is_ok();
+        let was_quiet = may_wait && has_waited && self.events.is_empty();
+        let is_over = self.period.ends(&self.net, was_quiet);
+        // Whatever was reported of the listener, it is asked now and then.
+        self.is_called = self.is_called || is_over || !has_waited || has_call(&self.events);
+        if !is_over && has_waited {
+            return Waited::Ready;
+        }
+        self.idle.rise();
+        if is_over {
+            Waited::RanOut
+        } else {
+            Waited::Fault
         }
     }
 

@@ -1,29 +1,43 @@
 //! What the loop asks of what carries its octets. Each call may fail, and is then made again at a
 //! later poll.
 
-ghost use Rattle.std.specs.Prelude.{◌≡◌, ℕ, [], ◌+◌, IfSome};
+ghost use Rattle.std.specs.Prelude.{◌≡◌, ℕ, [], IfSome};
+ghost use Rattle.nm_net.specs.Transport.{has_run_out};
 
 use nm_base::Wire;
 
 /// What a wait came to.
 #[derive(Clone, Copy, Debug, PartialEq, Eq)]
 pub enum Waited {
-    /// A connection may be ready, or somebody asked the wait to end.
+    /// A connection may be ready, somebody asked the wait to end, or it was only to look.
     Ready,
-    /// The time was over.
+    /// A period was over, whatever was ready.
     RanOut,
     /// It could not wait.
     Fault,
 }
 
-/// Connections with other replicas, and a wait for them. No call waits but `wait`. A clause sees
-/// how many waits ended with nothing ready.
+impl Waited {
+    /// Whether a period was over, or it could not wait.
+    pub(crate) fn has_run_out(self) -> bool
+        ensures { result ≡ has_run_out self }
+    {
+        match self {
+            Waited::Ready => false,
+            Waited::RanOut | Waited::Fault => true,
+        }
+    }
+}
+
+/// Connections with other replicas, and a wait for them. No call waits but `wait`. Time passes in
+/// periods of `limits::PERIOD_MILLISECONDS`: whoever calls and speaks in one can't make it longer.
+/// A clause sees how many were over.
 pub trait Transport {
-    ghost use Rattle.nm_net.specs.Transport.{IsFresh, one_if_idle};
+    ghost use Rattle.nm_net.specs.Transport.{IsFresh, has_run_out, waits_after};
 
     type Connection: Wire + Drop;
 
-    // How many waits ended because the time was over, or because it could not wait.
+    // How many waits ended because a period was over, or because it could not wait.
     ghost idle_waits: { Self → ℕ };
 
     /// Begins a connection to the peer with this number, if it can. It may not be made yet.
@@ -54,12 +68,13 @@ pub trait Transport {
         ensures same { connection.new ≡ connection.old }
         ensures idle { idle_waits self.new ≡ idle_waits self.old };
 
-    /// Waits until a connection is ready, or until so many milliseconds are over.
-    fn wait(&mut self, milliseconds: u64) -> Waited
-        ensures { idle_waits self.new ≡ idle_waits self.old + one_if_idle result };
+    /// Waits until a connection is ready or the period is over, or only looks. The first call that
+    /// ends once a period is over says so, and the next period begins then.
+    fn wait(&mut self, may_wait: bool) -> Waited
+        ensures { idle_waits self.new ≡ waits_after (idle_waits self.old) (has_run_out result) };
 
     /// The key of the connection that the last wait reported with this number, if it reported so
-    /// many. A connection that is not reported is looked at when a wait runs out: to report all is
+    /// many. A connection that is not reported is looked at when a period is over: to report all is
     /// as right as to report nothing, and as slow.
     fn report(&self, number: usize) -> Option<usize>;
 }

@@ -88,8 +88,8 @@ impl<N: Transport> Transport for CutTransport<N> {
         self.transport.unwatch(&mut connection.wire);
     }
 
-    fn wait(&mut self, milliseconds: u64) -> Waited {
-        self.transport.wait(milliseconds)
+    fn wait(&mut self, may_wait: bool) -> Waited {
+        self.transport.wait(may_wait)
     }
 
     fn report(&self, number: usize) -> Option<usize> {

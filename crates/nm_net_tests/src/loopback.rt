@@ -13,6 +13,7 @@ use std::net::{Net, SocketAddr};
 use std::process::Abort;
 use std::sync::{Arc, Wait};
 use std::thread::{Threads, join};
+use std::time::Clock;
 
 /// A replica over TCP.
 #[derive(Clone, Copy)]
@@ -26,7 +27,7 @@ struct Side<'a> {
 }
 
 /// Serves a replica over TCP.
-fn serve_side<R: Net + Wait + Abort + Drop + Copy>(
+fn serve_side<R: Net + Wait + Clock + Abort + Drop + Copy>(
     rt: &R,
     alloc: Global,
     topology: &Arc<Topology>,
@@ -87,6 +88,7 @@ where
     R: Net<Stream = net::TcpStream, Listener = net::TcpListener>
         + Threads
         + Wait
+        + Clock
         + Abort
         + Sync
         + Drop

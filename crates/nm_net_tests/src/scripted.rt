@@ -118,9 +118,9 @@ impl Transport for Scripted {
         self.watched = self.watched.saturating_sub(1);
     }
 
-    fn wait(&mut self, milliseconds: u64) -> Waited {
+    fn wait(&mut self, may_wait: bool) -> Waited {
         let fails = self.fails();
-        if milliseconds == 0 && !fails {
+        if !may_wait && !fails {
             return Waited::Ready;
         }
         self.waited = self.waited.saturating_add(1);

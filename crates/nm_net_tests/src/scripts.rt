@@ -5,7 +5,7 @@ use crate::sides::{Company, Noting, STAYS, serve, topology_of};
 use crate::talks::{Voice, digest_of, said_by};
 use crate::texts::SPLIT;
 use nm_net::Served;
-use nm_net::limits::{LINGER_POLLS, MAX_STRANGERS, SHORT_POLLS, STRANGER_POLLS};
+use nm_net::limits::{LINGER_PERIODS, MAX_STRANGERS, SHORT_PERIODS, STRANGER_PERIODS};
 use std::alloc::Global;
 use std::process::Abort;
 use std::sync::Wait;
@@ -168,7 +168,7 @@ fn ends<R: Wait + Abort>(rt: &R, alloc: Global, number: usize, row: &Row) {
         came.given == row.given,
         "row {number}: how many connections"
     );
-    let stays = came.waited >= LINGER_POLLS;
+    let stays = came.waited >= LINGER_PERIODS;
     assert!(rt; stays == row.stays, "row {number}: how long it stays");
 }
 
@@ -265,9 +265,25 @@ fn open_after<R: Wait + Abort>(rt: &R, alloc: Global, idle_limit: u64) -> u64 {
 /// A stranger that says no Hello is let go after its polls, and not before.
 #[test]
 fn a_stranger_is_let_go(rt: HostRuntime) {
-    let limit = STRANGER_POLLS;
+    let limit = STRANGER_PERIODS;
     assert!(rt; open_after(&rt, rt.alloc(), limit.saturating_sub(1)) == 1);
     assert!(rt; open_after(&rt, rt.alloc(), limit.saturating_add(1)) == 0);
+}
+
+/// How many connections are open of partition 1 in the end, on which these said Hello.
+fn open_of<R: Wait + Abort>(rt: &R, alloc: Global, voices: &'static [(usize, Voice)]) -> u64 {
+    let came = came_of(rt, alloc, &called_by(voices, 4));
+    assert!(rt; came.given == 2 && came.most == 2);
+    came.open
+}
+
+/// A caller's second connection takes the place of its first, and not of another replica's.
+#[test]
+fn a_second_connection_takes_the_place_of_the_first(rt: HostRuntime) {
+    const TWICE: &[(usize, Voice)] = &[(2, Voice::Greeted(0))];
+    const BOTH: &[(usize, Voice)] = &[(1, Voice::Greeted(0)), (1, Voice::Greeted(1))];
+    assert!(rt; open_of(&rt, rt.alloc(), TWICE) == 1);
+    assert!(rt; open_of(&rt, rt.alloc(), BOTH) == 2);
 }
 
 /// Many strangers, and then the peer.
@@ -290,12 +306,17 @@ fn short_of<R: Wait + Abort>(rt: &R, alloc: Global, idle_limit: u64) -> Outcome 
 }
 
 /// A replica to which the system refuses connections lets strangers go, and ends after a second of
-/// polls that ran out, and not before.
+/// that, and not before.
 #[test]
 fn a_shortage_ends_a_replica(rt: HostRuntime) {
-    let before = short_of(&rt, rt.alloc(), SHORT_POLLS.saturating_sub(1));
-    assert!(rt; before.served == Served::Stalled { polls: SHORT_POLLS });
+    let before = short_of(&rt, rt.alloc(), SHORT_PERIODS.saturating_sub(1));
+    assert!(rt;
+        before.served
+            == Served::Stalled {
+                polls: SHORT_PERIODS
+            }
+    );
     assert!(rt; before.open == 0 && before.most == 1);
-    let after = short_of(&rt, rt.alloc(), SHORT_POLLS);
+    let after = short_of(&rt, rt.alloc(), SHORT_PERIODS);
     assert!(rt; after.served == Served::Net);
 }

@@ -10,7 +10,7 @@ use nm_base::{MemSink, PartNo};
 use nm_book::Book;
 use nm_files::TraceFiles;
 use nm_frames::ReplicaName;
-use nm_net::limits::LINGER_POLLS;
+use nm_net::limits::LINGER_PERIODS;
 use nm_net::seats::own_seats;
 use nm_net::{Holdings, Lending, Served, Service, TcpTransport, Transport, run_replica};
 use nm_shared::{ClockBoard, Gate, Pass, Plain, SharedBook};
@@ -20,6 +20,7 @@ use std::net::{Ipv4Addr, Net, SocketAddr};
 use std::process::Abort;
 use std::sync::atomic::{AtomicU64, Ordering};
 use std::sync::{Arc, Wait};
+use std::time::Clock;
 
 /// A replica that was served: what that came to, and its book.
 #[derive(Drop)]
@@ -29,7 +30,7 @@ pub struct Closed {
 }
 
 /// After so many idle polls a replica is stalled that may have to stay for a caller first.
-pub const STAYS: u64 = 2 * LINGER_POLLS;
+pub const STAYS: u64 = 2 * LINGER_PERIODS;
 
 /// A replica of partition 0, which calls those of partition 1.
 pub fn caller(replica: u8) -> ReplicaName {
@@ -140,6 +141,7 @@ fn serve_held<'x, N: Transport, R: Wait>(
         lending,
         progress: None,
         notes_progress: false,
+        keeps_records: true,
     };
     run_replica(rt, alloc, &replica, holdings, transport, gate)
 }
@@ -224,7 +226,7 @@ pub fn listen<R: Net + Abort>(net: &R, address: SocketAddr) -> TcpListener {
 }
 
 /// A transport over TCP with these peers.
-pub fn over_tcp<R: Net + Abort + Drop + Copy>(
+pub fn over_tcp<R: Net + Clock + Abort + Drop + Copy>(
     net: &R,
     alloc: Global,
     poll: Poll,

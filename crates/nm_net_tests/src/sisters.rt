@@ -4,7 +4,7 @@ ghost use Rattle.std.specs.Prelude.{All};
 ghost use Rattle.nm_files.specs.Files.{IsSound};
 ghost use Rattle.nm_shared.specs.Board.{IsOwnerOf};
 
-use crate::messages::null;
+use crate::messages::{message, null};
 use crate::scripted::{NEVER, Scripted};
 use crate::sides::{Noting, book_of, caller, topology_of};
 use crate::texts::SPLIT;
@@ -12,6 +12,7 @@ use nm_base::{MemSink, PartNo};
 use nm_book::ChannelMessage;
 use nm_files::TraceFiles;
 use nm_frames::ReplicaName;
+use nm_net::acts::Stand;
 use nm_net::seats::own_seats;
 use nm_net::{Holdings, Lending, Served, Service, run_replica};
 use nm_shared::{ClockBoard, Pass, Plain, SharedBook};
@@ -20,10 +21,12 @@ use std::alloc::Global;
 use std::process::Abort;
 use std::sync::{Arc, Wait};
 
-/// A pass of a book that is told that nothing comes, and does its events.
+/// A pass of a book that is told of one message and that nothing else comes, and does its events.
 fn finish<R: Wait + Abort>(rt: &R, alloc: Global, book: &SharedBook<Plain>) -> Pass<Plain> {
     let mut pass = book.pass(rt).expect(rt, "memory");
-    let told = ChannelMessage::Null(null(1, 0, 11_000_000));
+    let only = message(rt, alloc, 1, 0, 1_100_000);
+    book.accept(rt, &mut pass, &only).expect(rt, "it is taken");
+    let told = ChannelMessage::Null(null(1, 1, 11_000_000));
     book.accept(rt, &mut pass, &told).expect(rt, "it is taken");
     let _ran = book.run(rt, &mut pass, alloc, 100);
     pass
@@ -60,6 +63,7 @@ fn serve_sister<'x, R: Wait>(
         lending,
         progress: None,
         notes_progress: false,
+        keeps_records: false,
     };
     run_replica(
         rt,
@@ -118,7 +122,8 @@ fn serve_both<R: Wait + Abort>(
     serve_beside(rt, alloc, topology, books, &books[1], passes)
 }
 
-/// It merges what its sister knows, and ends once all replicas are done, without a link.
+/// It merges what its sister knows, and ends once all replicas are done, without a link. Of the
+/// records that it made it keeps none.
 #[test]
 fn a_sister_is_merged(rt: HostRuntime) {
     let alloc = rt.alloc();
@@ -128,4 +133,7 @@ fn a_sister_is_merged(rt: HostRuntime) {
         book_of(&rt, alloc, &topology, 1, 1),
     ];
     assert!(rt; serve_both(&rt, alloc, &topology, &books) == Served::Ended);
+    let mut pass = books[1].pass(&rt).expect(&rt, "memory");
+    let standing = books[1].act(&rt, &mut pass, Stand);
+    assert!(rt; standing.records == 1 && standing.handed == 1);
 }

@@ -30,6 +30,9 @@ const RUBBISH: &str = "00000001 4d";
 /// Where a Hello tells the replica.
 const REPLICA_AT: usize = 15;
 
+/// The octets of a Hello with its length.
+const HELLO_OCTETS: usize = 48;
+
 /// 72 octets of 0.
 const ZEROS: &str = "000000000000000000000000000000000000000000000000000000000000000000000000\
 000000000000000000000000000000000000000000000000000000000000000000000000";
@@ -39,6 +42,8 @@ const ZEROS: &str = "00000000000000000000000000000000000000000000000000000000000
 pub enum Voice {
     /// The peer's replica of this number, which says all.
     Peer(u8),
+    /// The peer's replica of this number, which says its Hello and no more.
+    Greeted(u8),
     /// One that stops in the middle of a Hello.
     Begun,
     /// One that says nothing.
@@ -52,7 +57,9 @@ pub enum Voice {
 /// The text in hexadecimal of what is said to a replica that is called, or to one that calls.
 fn text_of(voice: Voice, is_called: bool) -> &'static str {
     match voice {
-        Voice::Peer(_) | Voice::Begun => { if is_called { ZERO_SAYS } else { ONE_SAYS } }
+        Voice::Peer(_) | Voice::Greeted(_) | Voice::Begun => {
+            if is_called { ZERO_SAYS } else { ONE_SAYS }
+        }
         Voice::Silent => "",
         Voice::Rubbish => RUBBISH,
         Voice::RubbishBehindHello => HELLO_AND_RUBBISH,
@@ -77,6 +84,13 @@ pub fn digest_of<R: Abort>(rt: &R, alloc: Global) -> [u8; 32] {
         .digest()
 }
 
+/// The Hello that what is said begins with is that of this replica.
+fn set_replica(said: &mut [u8], replica: u8) {
+    if let Some(octet) = said.get_mut(REPLICA_AT) {
+        *octet = replica;
+    }
+}
+
 /// What somebody says to a replica that is called, or to one that calls.
 pub fn said_by<R: Abort>(
     rt: &R,
@@ -87,10 +101,10 @@ pub fn said_by<R: Abort>(
 ) -> Vec<u8> {
     let mut said = octets_of(rt, alloc, text_of(voice, is_called), digest);
     match voice {
-        Voice::Peer(replica) => {
-            if let Some(octet) = said.get_mut(REPLICA_AT) {
-                *octet = replica;
-            }
+        Voice::Peer(replica) => set_replica(&mut said, replica),
+        Voice::Greeted(replica) => {
+            said.truncate(HELLO_OCTETS);
+            set_replica(&mut said, replica);
         }
         Voice::Begun => said.truncate(40),
         _ => {}

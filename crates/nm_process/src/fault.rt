@@ -10,7 +10,8 @@ use thiserror::Error;
 /// Why the replica of a process is not done. Nothing of it is left.
 #[derive(Clone, Copy, Debug, PartialEq, Eq, Error)]
 pub enum ProcessFault {
-    /// It cannot listen at its address, or a peer broke the rules.
+    /// It cannot listen at its address, or a peer broke the rules. It is also the fault of what
+    /// cannot happen (`IMPOSSIBLE`).
     #[error("the network failed")]
     Net,
     /// Memory was refused.
@@ -19,6 +20,12 @@ pub enum ProcessFault {
     /// Nothing moved for a minute, and events are left to do: a peer is missing, or does not go on.
     #[error("stalled")]
     Stalled,
+}
+
+impl ProcessFault {
+    /// What the code rules out, and no contract does: a replica that is not there, a pass that is
+    /// missing, a trace file where there are none.
+    pub(crate) const IMPOSSIBLE: ProcessFault = ProcessFault::Net;
 }
 
 impl From<AllocError> for ProcessFault {

@@ -28,6 +28,7 @@ use std::marker::Brand;
 use std::net::Net;
 use std::sync::ledger::{Blank, Ledger};
 use std::sync::{Arc, Wait};
+use std::time::Clock;
 
 /// How many events a process does at most after each poll.
 const RUN_EVENTS: u64 = 4_096;
@@ -58,7 +59,7 @@ pub struct ProcessEnd {
 }
 
 /// Listens at the process's own address, and calls its peers.
-fn open_transport<R: Net + Drop + Copy>(
+fn open_transport<R: Net + Clock + Drop + Copy>(
     rt: &R,
     alloc: Global,
     process: &Process<'_>,
@@ -72,7 +73,7 @@ fn open_transport<R: Net + Drop + Copy>(
 }
 
 /// Serves a replica that is shared with nobody else: whether it was stalled, done or not.
-fn serve<C: Counts, R: Net + Wait + Drop + Copy>(
+fn serve<C: Counts, R: Net + Wait + Clock + Drop + Copy>(
     rt: &R,
     alloc: Global,
     process: &Process<'_>,
@@ -106,11 +107,14 @@ fn serve<C: Counts, R: Net + Wait + Drop + Copy>(
         lending: &lending,
         progress: Some(process.progress),
         notes_progress: true,
+        // Files are made of them once it is done.
+        keeps_records: true,
     };
     match run_replica(rt, alloc, &service, holdings, &mut transport, &OpenGate) {
         Served::Ended => Ok(false),
         Served::Stalled { .. } => Ok(true),
-        Served::Net | Served::File { .. } => Err(ProcessFault::Net),
+        Served::Net => Err(ProcessFault::Net),
+        Served::File { .. } => Err(ProcessFault::IMPOSSIBLE),
         Served::Memory => Err(ProcessFault::Memory),
     }
 }
@@ -138,12 +142,12 @@ fn shared_of<M: Naming + Send + Sync, E: Ledger + Send + Sync>(
     match SharedBook::new(alloc, topology, partition, replica, counts, whole) {
         Ok(book) => Ok(book),
         Err(BookFault::Memory) => Err(ProcessFault::Memory),
-        Err(BookFault::NoSuch) => Err(ProcessFault::Net),
+        Err(BookFault::NoSuch) => Err(ProcessFault::IMPOSSIBLE),
     }
 }
 
 /// Serves a replica with this pass of its book: the pass, and whether it was stalled.
-fn serve_with<C: Counts, R: Net + Wait + Drop + Copy>(
+fn serve_with<C: Counts, R: Net + Wait + Clock + Drop + Copy>(
     rt: &R,
     alloc: Global,
     process: &Process<'_>,
@@ -187,7 +191,7 @@ fn close<M: Naming + Send + Sync, E: Ledger + Send + Sync>(
     let mut passes = Vec::new(alloc);
     passes.push(pass)?;
     let Ok(closed) = shared.close(passes) else {
-        return Err(ProcessFault::Net);
+        return Err(ProcessFault::IMPOSSIBLE);
     };
     if !closed.book.done() || closed.book.handed() > 0 {
         return Err(ProcessFault::Stalled);
@@ -196,7 +200,7 @@ fn close<M: Naming + Send + Sync, E: Ledger + Send + Sync>(
 }
 
 /// Serves a replica whose book and passes types name: what it came to.
-fn run_named<M: Naming + Send + Sync, E: Ledger + Send + Sync, R: Net + Wait + Drop + Copy>(
+fn run_named<M: Naming + Send + Sync, E: Ledger + Send + Sync, R: Net + Wait + Clock + Drop + Copy>(
     rt: &R,
     alloc: Global,
     process: &Process<'_>,
@@ -231,7 +235,7 @@ fn run_named<M: Naming + Send + Sync, E: Ledger + Send + Sync, R: Net + Wait + D
 /// `Net` where it cannot listen at its address, a peer broke the rules or told what cannot be.
 /// `Stalled` where nothing moved for so long and the book is not done. `Memory` where memory was
 /// refused. The book is let go then.
-pub fn run_process<R: Net + Wait + Drop + Copy>(
+pub fn run_process<R: Net + Wait + Clock + Drop + Copy>(
     rt: &R,
     alloc: Global,
     process: &Process<'_>,

@@ -97,10 +97,11 @@ module _ (partition replica : ℕ) (made_before made : Option Files) where
       (lines : List ℕ) × (files : Files) × IsNodeDone text addresses folder partition replica lines files × HasMade made_before made files
       × SaysLines lines status octets
 
-  -- why nothing is said of two inputs: no replica was served, and no file was made; or it was served, and has no files, or not all
+  -- why nothing is said of two inputs: no replica was served, and no file was made; or they are a network and its listeners, and the replica was
+  -- served, and has no files, or not all
   abbrev pub FailsNode : Option (List ℕ) → Option (List ℕ) → ℕ → ℕ → Status → Type 0
   FailsNode one two failed_before failed status = (FailsOfInputs one two failed_before failed (IsNotServed partition replica) status × (made ≡ made_before))
-      ⊎ ((text : List ℕ) × (addresses : List ℕ) × (IsInput one text × IsInput two addresses) × StopsNode made_before made status)
+      ⊎ ((network : TopologyValue) × (listeners : List Listener) × HasListeners one two partition replica network listeners × StopsNode made_before made status)
 
 -- What each status says. Files are made only once the replica is done, whether it was stalled then or not; what files there are after a failure is not
 -- said, nor where memory was refused.

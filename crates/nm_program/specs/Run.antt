@@ -10,7 +10,7 @@ use Rattle.nm_rounds.specs.Certify.{AreCertified}
 use Rattle.nm_command.specs.declared.status.Status.{Status}
 use Rattle.nm_command.specs.declared.status.Status.TheVariants.{Done, Usage, NoInterface, ScriptLine, Step, Topology, File, Memory, NotCertified, Stalled}
 use Rattle.nm_files.specs.Outputs.{Files}
-use Rattle.nm_words.specs.Input.{IsInput, IsRefused}
+use Rattle.nm_words.specs.Input.{HasTopology, IsRefused}
 use Rattle.nm_words.specs.Lines.{iface_lines}
 use Rattle.nm_words.specs.Output.{EndsWord, FailsOfInput, SaysOfInput}
 
@@ -41,10 +41,10 @@ StopsRun before after Stalled = after ≡ before
 abbrev pub SaysRun : List ℕ → Status → List ℕ → Type 0
 SaysRun text status octets = (status ≡ Done) × SaysCertified text octets
 
--- why nothing is said of an input: there is no network, and no file was made; or its run stopped
+-- why nothing is said of an input: there is no network, and no file was made; or it is that of a network, whose run stopped
 abbrev pub FailsRun : Option (List ℕ) → ℕ → ℕ → Option Files → Option Files → Status → Type 0
 FailsRun told failed_before failed made_before made status = (FailsOfInput told failed_before failed IsRefused status × (made ≡ made_before))
-    ⊎ ((text : List ℕ) × IsInput told text × StopsRun made_before made status)
+    ⊎ ((network : TopologyValue) × HasTopology told network × StopsRun made_before made status)
 
 -- What each status says. Files are made once the books are certified; what is in them is not said.
 module _ {S : Type 0} (taken : S → Option (List ℕ)) (failures : S → ℕ) (told : List ℕ → Option (List ℕ)) (failed_before failed : ℕ) (old new : S) (made_before made : Option Files) where

@@ -25,7 +25,7 @@ use nm_book::channels::partition_of;
 use nm_book::laws::records_have_times_of_a_file;
 use nm_command::Status;
 use nm_files::Outputs;
-use nm_net::limits::MAX_IDLE_POLLS;
+use nm_net::limits::MAX_IDLE_PERIODS;
 use nm_peers::Listener;
 use nm_process::{Process, ProcessEnd, ProcessFault, run_process};
 use nm_topology::Topology;
@@ -37,6 +37,7 @@ use nm_words::output::{Output, end};
 use std::alloc::{AllocError, Global};
 use std::net::Net;
 use std::sync::{Arc, Wait};
+use std::time::Clock;
 
 /// The trace of a book of which nothing was handed out. A trace file can say its times.
 fn trace_of(book: &Book) -> &[Record]
@@ -120,7 +121,7 @@ fn write_book<F: Outputs>(
 }
 
 /// What a replica came to that was served.
-fn end_of<R: Net + Wait + Drop + Copy>(
+fn end_of<R: Net + Wait + Clock + Drop + Copy>(
     means: &Means<'_, R>,
     topology: &Arc<Topology>,
     listeners: &[Listener],
@@ -135,7 +136,7 @@ fn end_of<R: Net + Wait + Drop + Copy>(
         partition: words.partition,
         replica: words.replica,
         listeners,
-        idle_limit: MAX_IDLE_POLLS,
+        idle_limit: MAX_IDLE_PERIODS,
         progress: means.progress,
     };
     means.progress.begin(topology.stop());
@@ -149,7 +150,7 @@ fn end_of<R: Net + Wait + Drop + Copy>(
 
 /// Serves a replica until it is done, and makes its trace files: the lines of its interfaces. Where
 /// it was stalled and is done, the files are made too, and nothing is said.
-fn serve<F: Outputs, R: Net + Wait + Drop + Copy>(
+fn serve<F: Outputs, R: Net + Wait + Clock + Drop + Copy>(
     means: &Means<'_, R>,
     topology: &Arc<Topology>,
     listeners: &[Listener],
@@ -180,7 +181,7 @@ fn serve<F: Outputs, R: Net + Wait + Drop + Copy>(
 }
 
 /// What is said of one replica of a partition that is served over TCP.
-fn node_said<I: Inputs, F: Outputs, R: Net + Wait + Drop + Copy>(
+fn node_said<I: Inputs, F: Outputs, R: Net + Wait + Clock + Drop + Copy>(
     means: &Means<'_, R>,
     words: &NodeWords<'_>,
     inputs: &mut NamedInputs<I>,
@@ -204,7 +205,7 @@ fn node_said<I: Inputs, F: Outputs, R: Net + Wait + Drop + Copy>(
 
 /// Serves one replica of a partition over TCP until it is done. Then its trace files are made, and
 /// the lines of its interfaces are said.
-pub(crate) fn say_node<I: Inputs, F: Outputs, O: Sink + Drop, R: Net + Wait + Drop + Copy>(
+pub(crate) fn say_node<I: Inputs, F: Outputs, O: Sink + Drop, R: Net + Wait + Clock + Drop + Copy>(
     means: &Means<'_, R>,
     words: &NodeWords<'_>,
     inputs: &mut NamedInputs<I>,

@@ -27,6 +27,7 @@ use std::net;
 use std::net::Net;
 use std::sync::Wait;
 use std::thread::Threads;
+use std::time::Clock;
 
 /// Does what the words say, and gives the sink back. Inputs are those that the words name. What is
 /// asked for goes to `out`, a trace file as it is made, and a line to `errors` where the program is
@@ -51,6 +52,7 @@ where
     R: Net<Stream = net::TcpStream, Listener = net::TcpListener>
         + Threads
         + Wait
+        + Clock
         + Sync
         + Drop
         + Copy,
@@ -79,6 +81,7 @@ where
     R: Net<Stream = net::TcpStream, Listener = net::TcpListener>
         + Threads
         + Wait
+        + Clock
         + Sync
         + Drop
         + Copy,

@@ -36,6 +36,7 @@ use std::net;
 use std::net::Net;
 use std::sync::{Arc, Wait};
 use std::thread::Threads;
+use std::time::Clock;
 
 /// Appends the line of an interface that has these totals.
 fn push_total(
@@ -117,6 +118,7 @@ where
     R: Net<Stream = net::TcpStream, Listener = net::TcpListener>
         + Threads
         + Wait
+        + Clock
         + Sync
         + Drop
         + Copy,
@@ -155,6 +157,7 @@ where
     R: Net<Stream = net::TcpStream, Listener = net::TcpListener>
         + Threads
         + Wait
+        + Clock
         + Sync
         + Drop
         + Copy,
@@ -185,6 +188,7 @@ where
     R: Net<Stream = net::TcpStream, Listener = net::TcpListener>
         + Threads
         + Wait
+        + Clock
         + Sync
         + Drop
         + Copy,

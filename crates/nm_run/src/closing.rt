@@ -105,7 +105,7 @@ fn gather_jobs(passes: &mut Passes, dispatcher: Dispatcher) -> Result<(), AllocE
 ///
 /// # Errors
 ///
-/// `Net` where a pass is missing. `Memory` where memory was refused.
+/// `IMPOSSIBLE` where a pass is missing. `Memory` where memory was refused.
 fn close_books(
     alloc: Global,
     books: Vec<SharedBook<Plain>>,
@@ -115,7 +115,7 @@ fn close_books(
     for (number, book) in books.into_iter().enumerate() {
         match book.close(passes.take(alloc, number)) {
             Ok(one) => closed.push(one.book)?,
-            Err(_) => return Err(RunFault::Net),
+            Err(_) => return Err(RunFault::IMPOSSIBLE),
         }
     }
     Ok(closed)

@@ -9,7 +9,7 @@ use mio::{Events, Poll};
 use nm_base::Time;
 use nm_book::Ran;
 use nm_net::Lending;
-use nm_net::limits::WAIT_MILLISECONDS;
+use nm_net::limits::PERIOD_MILLISECONDS;
 use nm_progress::Figure;
 use nm_shared::workers::BookPass;
 use nm_shared::{Gate, Job, Plain, PoolReport, Seat, pool};
@@ -178,7 +178,7 @@ fn note_progress<G>(threaded: &Threaded<'_, G>, all: &[Watched]) {
 fn listen(dispatcher: &mut Dispatcher)
     ensures { dispatcher.new.seat ≡ dispatcher.old.seat }
 {
-    let limit = Duration::from_millis(WAIT_MILLISECONDS);
+    let limit = Duration::from_millis(PERIOD_MILLISECONDS);
     let waited = dispatcher.poll.poll(&mut dispatcher.events, Some(limit));
     dispatcher.looks_at_all = waited.is_err() || dispatcher.events.is_empty();
 }

@@ -19,7 +19,8 @@ pub enum RunFault {
     /// which stops at 2^64 - 1.
     #[error("a trace file failed after {written} octets")]
     File { iface: IfaceNo, written: u64 },
-    /// No replica can listen or wait, one was told what cannot be, or the gate said so.
+    /// No replica can listen or wait, one was told what cannot be, or the gate said so. It is also
+    /// the fault of what cannot happen (`IMPOSSIBLE`).
     #[error("the network failed")]
     Net,
     /// Memory was refused.
@@ -31,6 +32,12 @@ pub enum RunFault {
     /// A replica made so many polls, and the last of them moved nothing.
     #[error("stalled after {polls} polls")]
     Stalled { polls: u64 },
+}
+
+impl RunFault {
+    /// What the code rules out, and no contract does: no book, pass or address at an index that
+    /// was made with it.
+    pub(crate) const IMPOSSIBLE: RunFault = RunFault::Net;
 }
 
 impl From<AllocError> for RunFault {

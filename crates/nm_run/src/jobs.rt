@@ -20,8 +20,8 @@ use std::sync::Wait;
 /// How many events a job does at most.
 const JOB_EVENTS: u64 = 4_096;
 
-/// A book that keeps more records than these has no job until its replica has written some: as many
-/// as one job may make, so that one is done while those of the last are written.
+/// A book that keeps more records than these has no job until its replica has taken some out: as
+/// many as one job may make, so that one is done while those of the last are written.
 const MAX_KEPT: u64 = 2 * JOB_EVENTS;
 
 /// What the dispatcher remembers of a book.
@@ -74,6 +74,11 @@ fn has_news(board: &ClockBoard, seat: &mut Seat, words: &[usize], safe: u64) -> 
         }
     }
     false
+}
+
+/// Whether a book keeps so many records that its replica is to take some out first.
+fn is_full(standing: Standing) -> bool {
+    standing.records.saturating_sub(standing.handed) > MAX_KEPT
 }
 
 impl Watched {
@@ -129,14 +134,7 @@ impl Watched {
         self.records = standing.records;
         self.is_done = standing.is_done;
         self.is_stale = false;
-        is_lent && !self.is_done && !self.is_full(standing)
-    }
-
-    /// Whether the book keeps so many records that its replica is to write some first. Who writes
-    /// none keeps all.
-    fn is_full(&self, standing: Standing) -> bool {
-        let kept = standing.records.saturating_sub(standing.handed);
-        self.replica == 0 && kept > MAX_KEPT
+        is_lent && !self.is_done && !is_full(standing)
     }
 
     /// Does a job of the book with its own pass.

@@ -51,7 +51,7 @@ fn totals_in(topology: &Topology, book: &Book, iface: IfaceNo) -> IfaceTotals
 ///
 /// # Errors
 ///
-/// `Net` where no book is of its partition, which no certified list of books is.
+/// `IMPOSSIBLE` where no book is of its partition, which no certified list of books is.
 fn totals_of(topology: &Topology, books: &[Book], iface: IfaceNo) -> Result<IfaceTotals, RunFault>
     requires there { iface < length topology.now.ifaces }
     requires certified { AreCertified topology.now books.now }
@@ -63,7 +63,7 @@ fn totals_of(topology: &Topology, books: &[Book], iface: IfaceNo) -> Result<Ifac
             return Ok(totals_in(topology, &books[number], iface));
         }
     }
-    Err(RunFault::Net)
+    Err(RunFault::IMPOSSIBLE)
 }
 
 /// The report of certified books.

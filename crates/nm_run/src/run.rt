@@ -32,6 +32,7 @@ use std::net::Net;
 use std::sync::atomic::{AtomicBool, AtomicUsize};
 use std::sync::{Arc, Wait};
 use std::thread::Threads;
+use std::time::Clock;
 use std::{net, thread};
 
 /// A network whose partitions run at once.
@@ -59,7 +60,7 @@ fn share_one(
     let topology = Arc::try_clone(topology)?;
     match SharedBook::new(alloc, topology, partition, replica, counts, whole) {
         Ok(book) => Ok(book),
-        Err(BookFault::NoSuch) => Err(RunFault::Net),
+        Err(BookFault::NoSuch) => Err(RunFault::IMPOSSIBLE),
         Err(BookFault::Memory) => Err(RunFault::Memory),
     }
 }
@@ -158,7 +159,7 @@ fn side_of<F: Outputs, R: Wait>(
     ensures same { F.made outputs.new ≡ F.made outputs.old }
 {
     let (Some(listener), Some(book)) = (opened.listeners.get(index), opened.books.get(index)) else {
-        return Err(RunFault::Net);
+        return Err(RunFault::IMPOSSIBLE);
     };
     let peers = peers_of(
         opened.alloc,
@@ -208,7 +209,7 @@ fn own_and_others(
     ensures others { IfOk result (λ d. All (IsOwnerOf opened.now.board.now) d.1.items) }
 {
     let Some(listener) = opened.listeners.get(index) else {
-        return Err(RunFault::Net);
+        return Err(RunFault::IMPOSSIBLE);
     };
     let Dealt { own, others } = deal(
         opened.alloc,
@@ -260,6 +261,7 @@ where
     R: Net<Stream = net::TcpStream, Listener = net::TcpListener>
         + Threads
         + Wait
+        + Clock
         + Sync
         + Drop
         + Copy,
@@ -339,6 +341,7 @@ where
     R: Net<Stream = net::TcpStream, Listener = net::TcpListener>
         + Threads
         + Wait
+        + Clock
         + Sync
         + Drop
         + Copy,
@@ -347,7 +350,7 @@ where
 {
     let (board, owners, mut seats) = ClockBoard::new(alloc, plan.topology)?;
     let Some(seat) = seats.pop() else {
-        return Err(RunFault::Memory);
+        return Err(RunFault::IMPOSSIBLE);
     };
     let Posts {
         posts,
@@ -419,6 +422,7 @@ where
     R: Net<Stream = net::TcpStream, Listener = net::TcpListener>
         + Threads
         + Wait
+        + Clock
         + Sync
         + Drop
         + Copy,
@@ -457,6 +461,7 @@ where
     R: Net<Stream = net::TcpStream, Listener = net::TcpListener>
         + Threads
         + Wait
+        + Clock
         + Sync
         + Drop
         + Copy,

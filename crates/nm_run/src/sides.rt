@@ -10,7 +10,7 @@ use crate::posts::Post;
 use crate::threads::Threaded;
 use nm_base::{PartNo, Sink};
 use nm_frames::ReplicaName;
-use nm_net::limits::MAX_IDLE_POLLS;
+use nm_net::limits::MAX_IDLE_PERIODS;
 use nm_net::{Holdings, Served, Service, TcpTransport, run_replica};
 use nm_peers::Peers;
 use nm_shared::{Gate, Plain};
@@ -18,6 +18,7 @@ use std::alloc::Global;
 use std::io::{self, ErrorKind};
 use std::net::Net;
 use std::sync::Wait;
+use std::time::Clock;
 
 /// How many events a replica does itself after a poll. Where more are left they take longer than to
 /// wake another thread, and the pool does them.
@@ -55,7 +56,7 @@ pub(crate) struct SideEnd<S> {
 
 /// Serves a replica over its connections until it ends. It calls these partitions, and these
 /// replicas call it. The dispatcher notes how far it is.
-fn serve<S: Sink, G: Gate, R: Net + Wait + Drop + Copy>(
+fn serve<S: Sink, G: Gate, R: Net + Wait + Clock + Drop + Copy>(
     rt: &R,
     alloc: Global,
     threaded: &Threaded<'_, G>,
@@ -67,6 +68,7 @@ fn serve<S: Sink, G: Gate, R: Net + Wait + Drop + Copy>(
     requires owners { All (IsOwnerOf threaded.now.board.now) holdings.old.seats.items }
     requires files { All IsSound holdings.old.files.files.items }
 {
+    // There is a book for each replica.
     let Some(own) = threaded.own(role.index) else {
         return Served::Net;
     };
@@ -80,11 +82,12 @@ fn serve<S: Sink, G: Gate, R: Net + Wait + Drop + Copy>(
         callers: peers.1,
         books: threaded.books,
         sister: role.sister,
-        idle_limit: MAX_IDLE_POLLS,
+        idle_limit: MAX_IDLE_PERIODS,
         run_limit: OWN_EVENTS,
         lending: own.lending,
         progress: Some(threaded.progress),
         notes_progress: false,
+        keeps_records: false,
     };
     let gate = SideGate {
         gate: threaded.gate,
@@ -107,7 +110,7 @@ fn served_of(error: &io::Error) -> Served
 }
 
 /// Runs a replica until it ends. Where it was not done, all others are told to end too.
-pub(crate) fn run_side<S: Sink, G: Gate, R: Net + Wait + Drop + Copy>(
+pub(crate) fn run_side<S: Sink, G: Gate, R: Net + Wait + Clock + Drop + Copy>(
     rt: &R,
     alloc: Global,
     threaded: &Threaded<'_, G>,

@@ -65,6 +65,7 @@ where
     N: Net<Stream = net::TcpStream, Listener = net::TcpListener>
         + Threads
         + Wait
+        + Clock
         + Sync
         + Drop
         + Copy,
@@ -93,6 +94,7 @@ where
     N: Net<Stream = net::TcpStream, Listener = net::TcpListener>
         + Threads
         + Wait
+        + Clock
         + Sync
         + Drop
         + Copy,

@@ -24,6 +24,7 @@ use std::alloc::Global;
 use std::net::Net;
 use std::rt::Files;
 use std::sync::Wait;
+use std::time::Clock;
 use std::{fs, io};
 
 /// A file that the program can read.
@@ -86,6 +87,7 @@ fn is_as_one<
         + Net<Stream = std::net::TcpStream, Listener = std::net::TcpListener>
         + std::thread::Threads
         + Wait
+        + Clock
         + Sync
         + Drop
         + Copy,
@@ -107,6 +109,7 @@ fn push_files<
         + Net<Stream = std::net::TcpStream, Listener = std::net::TcpListener>
         + std::thread::Threads
         + Wait
+        + Clock
         + Sync
         + Drop
         + Copy,
@@ -148,6 +151,7 @@ fn push_ended<
         + Net<Stream = std::net::TcpStream, Listener = std::net::TcpListener>
         + std::thread::Threads
         + Wait
+        + Clock
         + Sync
         + Drop
         + Copy,
@@ -166,6 +170,7 @@ fn push_block<
         + Net<Stream = std::net::TcpStream, Listener = std::net::TcpListener>
         + std::thread::Threads
         + Wait
+        + Clock
         + Sync
         + Drop
         + Copy,
@@ -191,6 +196,7 @@ fn blocks_found<
         + Net<Stream = std::net::TcpStream, Listener = std::net::TcpListener>
         + std::thread::Threads
         + Wait
+        + Clock
         + Sync
         + Drop
         + Copy,
@@ -224,6 +230,7 @@ fn found_of<
         + Net<Stream = std::net::TcpStream, Listener = std::net::TcpListener>
         + std::thread::Threads
         + Wait
+        + Clock
         + Sync
         + Drop
         + Copy,
@@ -245,6 +252,7 @@ fn found_at<
         + Net<Stream = std::net::TcpStream, Listener = std::net::TcpListener>
         + std::thread::Threads
         + Wait
+        + Clock
         + Sync
         + Clone
         + Drop
@@ -263,6 +271,7 @@ pub fn run_called_case<
         + Net<Stream = std::net::TcpStream, Listener = std::net::TcpListener>
         + std::thread::Threads
         + Wait
+        + Clock
         + Sync
         + Clone
         + Drop

@@ -10,6 +10,7 @@ use std::fs::DirEntry;
 use std::net::Net;
 use std::rt::Files;
 use std::sync::Wait;
+use std::time::Clock;
 use std::{fs, io};
 
 /// The name of an entry of a folder.
@@ -62,6 +63,7 @@ fn run_text<
         + Net<Stream = std::net::TcpStream, Listener = std::net::TcpListener>
         + std::thread::Threads
         + Wait
+        + Clock
         + Sync
         + Clone
         + Drop
@@ -85,6 +87,7 @@ fn run_file<
         + Net<Stream = std::net::TcpStream, Listener = std::net::TcpListener>
         + std::thread::Threads
         + Wait
+        + Clock
         + Sync
         + Clone
         + Drop
@@ -113,6 +116,7 @@ fn run_named<
         + Net<Stream = std::net::TcpStream, Listener = std::net::TcpListener>
         + std::thread::Threads
         + Wait
+        + Clock
         + Sync
         + Clone
         + Drop
@@ -134,6 +138,7 @@ fn run_all<
         + Net<Stream = std::net::TcpStream, Listener = std::net::TcpListener>
         + std::thread::Threads
         + Wait
+        + Clock
         + Sync
         + Clone
         + Drop
@@ -154,6 +159,7 @@ pub fn run_folder<
         + Net<Stream = std::net::TcpStream, Listener = std::net::TcpListener>
         + std::thread::Threads
         + Wait
+        + Clock
         + Sync
         + Clone
         + Drop

@@ -8,6 +8,7 @@ use std::io;
 use std::net::Net;
 use std::rt::Files;
 use std::sync::Wait;
+use std::time::Clock;
 
 /// Appends the line that a case has for a line of a report, if it has one: of a counter or of drops
 /// above 0.
@@ -59,6 +60,7 @@ fn reported_at<
         + Net<Stream = std::net::TcpStream, Listener = std::net::TcpListener>
         + std::thread::Threads
         + Wait
+        + Clock
         + Sync
         + Drop
         + Copy,
@@ -82,6 +84,7 @@ pub fn report_differs<
         + Net<Stream = std::net::TcpStream, Listener = std::net::TcpListener>
         + std::thread::Threads
         + Wait
+        + Clock
         + Sync
         + Drop
         + Copy,

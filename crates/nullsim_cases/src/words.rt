@@ -9,6 +9,7 @@ use std::alloc::Global;
 use std::net::Net;
 use std::rt::Files;
 use std::sync::Wait;
+use std::time::Clock;
 use std::{fs, io};
 
 /// The greatest number of octets that a case writes.
@@ -65,6 +66,7 @@ fn run_program<
         + Net<Stream = std::net::TcpStream, Listener = std::net::TcpListener>
         + std::thread::Threads
         + Wait
+        + Clock
         + Sync
         + Drop
         + Copy,
@@ -96,6 +98,7 @@ pub fn run_given<
         + Net<Stream = std::net::TcpStream, Listener = std::net::TcpListener>
         + std::thread::Threads
         + Wait
+        + Clock
         + Sync
         + Drop
         + Copy,
@@ -126,6 +129,7 @@ pub fn run_words<
         + Net<Stream = std::net::TcpStream, Listener = std::net::TcpListener>
         + std::thread::Threads
         + Wait
+        + Clock
         + Sync
         + Drop
         + Copy,

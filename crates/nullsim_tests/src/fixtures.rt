@@ -10,6 +10,7 @@ use std::alloc::{AllocError, Global};
 use std::io;
 use std::net::Net;
 use std::sync::Wait;
+use std::time::Clock;
 
 /// The words of a line.
 fn words_of(alloc: Global, line: &str) -> Result<Vec<String>, AllocError> {
@@ -37,6 +38,7 @@ pub fn run_line<
         + Net<Stream = std::net::TcpStream, Listener = std::net::TcpListener>
         + std::thread::Threads
         + Wait
+        + Clock
         + Sync
         + Drop
         + Copy,

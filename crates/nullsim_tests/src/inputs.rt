@@ -11,6 +11,7 @@ use std::net::Net;
 use std::process::Abort;
 use std::sync::Wait;
 use std::test::Fail;
+use std::time::Clock;
 
 /// The program ends with this status, and writes nothing.
 fn ends<
@@ -20,6 +21,7 @@ fn ends<
         + Net<Stream = std::net::TcpStream, Listener = std::net::TcpListener>
         + std::thread::Threads
         + Wait
+        + Clock
         + Sync
         + Drop
         + Copy,
@@ -110,6 +112,7 @@ fn ends_with_steps(
         + Net<Stream = std::net::TcpStream, Listener = std::net::TcpListener>
         + std::thread::Threads
         + Wait
+        + Clock
         + Sync
         + Drop
         + Copy),

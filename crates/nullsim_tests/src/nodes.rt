@@ -10,6 +10,7 @@ use std::process::Abort;
 use std::sync::Wait;
 use std::test::Fail;
 use std::thread::{Threads, join};
+use std::time::Clock;
 use std::{io, net};
 
 /// Two hosts in two partitions and one packet.
@@ -33,6 +34,7 @@ fn run_split<
         + Net<Stream = std::net::TcpStream, Listener = std::net::TcpListener>
         + std::thread::Threads
         + Wait
+        + Clock
         + Sync
         + Drop
         + Copy,
@@ -64,6 +66,7 @@ fn is_done<
         + Net<Stream = std::net::TcpStream, Listener = std::net::TcpListener>
         + std::thread::Threads
         + Wait
+        + Clock
         + Sync
         + Drop
         + Copy,
@@ -89,6 +92,7 @@ where
     R: Net<Stream = net::TcpStream, Listener = net::TcpListener>
         + Threads
         + Wait
+        + Clock
         + Abort
         + AllocGlobal
         + Sync

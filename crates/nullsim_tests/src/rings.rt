@@ -14,6 +14,7 @@ use std::sync::atomic::Ordering;
 use std::sync::{Arc, Wait};
 use std::test::Fail;
 use std::thread::Threads;
+use std::time::Clock;
 use std::{io, net};
 
 /// Files in memory: so many, of so many octets at most.
@@ -40,6 +41,7 @@ where
     R: Net<Stream = net::TcpStream, Listener = net::TcpListener>
         + Threads
         + Wait
+        + Clock
         + Sync
         + Drop
         + Copy,

@@ -1,7 +1,7 @@
 use Rattle.std.proofs.Common.{◌≤◌, ◌+◌, refl, sym, ◌∙◌, subst, rules}
 use Rattle.nm_net.specs.Served.{EndsEarly}
 use Rattle.nm_net.proofs.Endings.{early_ends}
-use Rattle.nm_net.proofs.Polls.{ends_after, idles_wait, waits_rise}
+use Rattle.nm_net.proofs.Polls.{ends_after, idles_wait}
 use Rattle.nm_net.proofs.Recordings.{streams_more, streams_none}
 use Rattle.nm_net.proofs.replica.run_replica.Goals as goal
 
@@ -33,8 +33,7 @@ returns-in-Some-clause-ends g c =
     let before = g.T.Transport.idle_waits c.loop-polls.transport in
     let after = g.T.Transport.idle_waits c.poll-in-loop-polls.new.transport in
     let polled = c.in-Ok-poll.polled in
-    let one = waits_rise c.loop-polls.serving.is_busy before after polled.ran_out c.in-Ok-poll.ensures.idle in
-    let many = idles_wait c.loop-polls.idle polled.was_active polled.ran_out start before after c.loop-polls.invariant.idle one in
+    let many = idles_wait c.loop-polls.idle polled.was_active polled.ran_out start before after c.loop-polls.invariant.idle c.in-Ok-poll.ensures.idle in
     let idles = subst (λ idle. start + idle ≤ after) (sym c.idle_polls-idle.ensures) many in
     ends_after g.C.Counts.exact g.C.Counts.home c.args.service.now.idle_limit start after c.idle_polls-idle.result (c.loop-polls.polls + 1) polled.is_done
     c.in-Some.served c.in-Ok-poll.ensures.done idles (sym c.ending_of.ensures ∙ c.in-Some.is)
@@ -45,8 +44,7 @@ loop-polls-preserved g c =
     let before = g.T.Transport.idle_waits c.loop-polls.transport in
     let after = g.T.Transport.idle_waits c.poll-in-loop-polls.new.transport in
     let polled = c.in-Ok-poll.polled in
-    let one = waits_rise c.loop-polls.serving.is_busy before after polled.ran_out c.in-Ok-poll.ensures.idle in
-    let many = idles_wait c.loop-polls.idle polled.was_active polled.ran_out start before after c.loop-polls.invariant.idle one in
+    let many = idles_wait c.loop-polls.idle polled.was_active polled.ran_out start before after c.loop-polls.invariant.idle c.in-Ok-poll.ensures.idle in
     record {
       owners = c.in-Ok-poll.ensures.owners;
       seats = c.in-Ok-poll.ensures.seats ∙ c.loop-polls.invariant.seats;

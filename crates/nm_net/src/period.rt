@@ -1,0 +1,54 @@
+//! Time by a clock, in periods that follow one another.
+
+ghost use Rattle.std.specs.Prelude.{◌≡◌, ◌-◌, ◌*◌};
+ghost use Rattle.std.specs.Duration.{as_nanos};
+ghost use Rattle.std.specs.Time.{instant_nanos};
+ghost use Rattle.nm_net.specs.declared.limits.TheConstants.{PERIOD_MILLISECONDS};
+
+use crate::limits::PERIOD_MILLISECONDS;
+use std::time::{Clock, Duration, Instant};
+
+/// A period, and when it began, where the clock could be read then.
+#[derive(Clone, Copy, Drop)]
+pub(crate) struct Period {
+    begun: Option<Instant>,
+}
+
+/// How much is left of a period that began then.
+fn left_of(begun: Instant, now: Instant) -> Duration
+    ensures { as_nanos result ≡ PERIOD_MILLISECONDS * 1000000
+        - (instant_nanos now - instant_nanos begun) }
+{
+    Duration::from_millis(PERIOD_MILLISECONDS).saturating_sub(now.duration_since(begun))
+}
+
+impl Period {
+    /// One begins now.
+    pub(crate) fn begin(clock: &impl Clock) -> Self {
+        Period {
+            begun: Instant::now(clock).ok(),
+        }
+    }
+
+    /// How much of it is left, and all of it where the clock can't be read.
+    pub(crate) fn left(&self, clock: &impl Clock) -> Duration {
+        match (self.begun, Instant::now(clock)) {
+            (Some(begun), Ok(now)) => left_of(begun, now),
+            _ => Duration::from_millis(PERIOD_MILLISECONDS),
+        }
+    }
+
+    /// Whether it is over, and the next one begins now. Where the clock can't be read it is over
+    /// once a wait for the rest of it found nothing.
+    pub(crate) fn ends(&mut self, clock: &impl Clock, was_waited_for: bool) -> bool {
+        let now = Instant::now(clock).ok();
+        let is_over = match (self.begun, now) {
+            (Some(begun), Some(now)) => left_of(begun, now).is_zero(),
+            _ => was_waited_for,
+        };
+        if is_over || self.begun.is_none() {
+            self.begun = now;
+        }
+        is_over
+    }
+}
