@@ -2,7 +2,7 @@
 
 ghost use Rattle.std.specs.Prelude.{◌≡◌, ◌<◌, false, true, length, vec_len, ◌≤◌, IfOk, [], ◌&&◌};
 ghost use Rattle.nm_engine.specs.Turn.{HasEnded, Works, answer_of};
-ghost use Rattle.nm_engine.specs.Link.{IsBounded};
+ghost use Rattle.nm_engine.specs.Link.{IsBounded, bye_taken};
 
 use crate::acceptor::Acceptor;
 use crate::answer::{Cause, Turn};
@@ -17,7 +17,9 @@ use std::alloc::Global;
 use std::sync::Wait;
 
 /// Whether the peer has said Bye.
-fn bye_taken(session: &Option<Session>) -> bool {
+fn bye_taken(session: &Option<Session>) -> bool
+    ensures { result ≡ bye_taken session.now }
+{
     match session {
         Some(session) => session.bye_taken(),
         None => false,
@@ -26,7 +28,8 @@ fn bye_taken(session: &Option<Session>) -> bool {
 
 /// Whether both sides have said Bye and nothing waits.
 fn has_ended(session: &Option<Session>, out: &[u8]) -> bool
-    ensures { result ≡ true → HasEnded session.now out.now }
+    ensures ended { result ≡ true → HasEnded session.now out.now }
+    ensures only { HasEnded session.now out.now → result ≡ true }
 {
     match session {
         Some(session) => session.bye_taken() && session.bye_given() && out.is_empty(),
