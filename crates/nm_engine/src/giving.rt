@@ -56,10 +56,8 @@ pub(crate) fn give_all<C: Counts, R: Wait>(
     ensures most { vec_len out.new ≤ MAX_OUT_OCTETS }
 {
     while out.len() < FULL_OUT_OCTETS {
-        match give_one(rt, session, book, pass, out) {
-            Ok(true) => {}
-            Ok(false) => return Ok(()),
-            Err(cause) => return Err(cause),
+        if !give_one(rt, session, book, pass, out)? {
+            return Ok(());
         }
     }
     Ok(())
