@@ -1,5 +1,5 @@
 -- A read from what the wire answered and what the reader made of it.
-use Rattle.std.proofs.Common.{◌≡◌, ℕ, ◌+◌, ◌<◌, ◌≤◌, false, List, [], ◌++◌, length, take, Option, Some, Result, Ok, Err, refl, sym, ◌∙◌, ap, subst, append-nil, arith}
+use Rattle.std.proofs.Common.{◌≡◌, ℕ, ◌+◌, ◌<◌, ◌≤◌, inl, inr, Bool, false, List, [], ◌++◌, length, take, Option, Some, None, Result, Ok, Err, refl, sym, ◌∙◌, ap, subst, append-nil, arith}
 use Rattle.std.specs.List.{AllByRecursion}
 use Rattle.std.proofs.lemmas.Grind.{common_steps}
 use Rattle.nm_base.specs.Wire.{Goes}
@@ -7,10 +7,11 @@ use Rattle.nm_frames.specs.declared.frame.Frame.{Frame}
 use Rattle.nm_frames.specs.declared.fault.FrameFault.{FrameFault}
 use Rattle.nm_frames.specs.Frame.{IsFrame, stream_octets}
 use Rattle.nm_frames.specs.Reader.{FedFault, ReaderValue}
-use Rattle.nm_frames.specs.Stream.{fault_shown}
+use Rattle.nm_frames.specs.Stream.{IsShort, fault_shown, stated_length}
 use Rattle.nm_engine.specs.declared.answer.Cause.{Cause}
 use Rattle.nm_engine.specs.declared.answer.Cause.TheVariants.{End, Fault, Frame as BadFrame, Session as BadSession, Book, Memory}
 use Rattle.nm_base.specs.declared.limits.TheConstants.{MAX_FRAME_OCTETS, MAX_READ_OCTETS}
+use Rattle.nm_engine.specs.Link.{IsPart}
 use Rattle.nm_engine.specs.Reading.{Came, FeedsReader, IsFramed, Reads}
 
 -- no octets, no frames
@@ -27,22 +28,28 @@ module _ {W : Type 0} (given : W → List ℕ) (ends failures : W → ℕ) (old 
     framed = subst (λ (fs : List Frame). IsFramed (held ++ []) fs held) (sym none) (none_framed held);
   }
 
-  pub read_none : (r : ReaderValue) (frames : List Frame) → frames ≡ [] → given new ≡ given old → failures new ≡ failures old → r.failed ≡ false → Reads given ends failures old new r frames r (Ok 0)
+  pub read_none : (e : Bool) (r : ReaderValue) (frames : List Frame) → frames ≡ [] → given new ≡ given old → failures new ≡ failures old → r.failed ≡ false → (e ≡ false → ends new ≡ ends old) → Reads given ends failures old new e r frames r (Ok 0)
   unfolding came_none
-  read_none r frames none same sound whole = (came_none r.rest frames none same, refl, sound, whole)
+  read_none e r frames none same sound whole no_end = record { came = came_none r.rest frames none same; count = refl; sound = sound; no_end = no_end; whole = whole }
 
   taken_within : (n : ℕ) (octets : List ℕ) → length octets ≡ MAX_READ_OCTETS → length (take n octets) ≤ MAX_READ_OCTETS
   taken_within n octets e = grind (arith, common_steps, e)
 
   -- octets came and were fed
-  pub read_some : (n : ℕ) (octets : List ℕ) (r q : ReaderValue) (frames : List Frame) (result : Result ℕ Cause) → length octets ≡ MAX_READ_OCTETS → Goes given failures old new n octets → FeedsReader r (take n octets) frames q result → Reads given ends failures old new r frames q result
-  read_some n octets r q frames (Ok m) size goes fed = (record { came = take n octets; most = taken_within n octets size; came_in = goes.2; framed = fed.1 }, sym fed.0, goes.3, fed.2)
-  read_some n octets r q frames (Err End) size goes fed = absurd fed
-  read_some n octets r q frames (Err Fault) size goes fed = absurd fed
-  read_some n octets r q frames (Err BadFrame) size goes fed = (fed.0, record { came = take n octets; most = taken_within n octets size; came_in = goes.2; framed = fed.1 }, (fed.2, goes.3))
-  read_some n octets r q frames (Err BadSession) size goes fed = absurd fed
-  read_some n octets r q frames (Err Book) size goes fed = absurd fed
-  read_some n octets r q frames (Err Memory) size goes fed = (
+  pub read_some : (e : Bool) (n : ℕ) (octets : List ℕ) (r q : ReaderValue) (frames : List Frame) (result : Result ℕ Cause) → length octets ≡ MAX_READ_OCTETS → Goes given failures old new n octets → ends new ≡ ends old → FeedsReader r (take n octets) frames q result → Reads given ends failures old new e r frames q result
+  read_some e n octets r q frames (Ok m) size goes same fed = record {
+    came = record { came = take n octets; most = taken_within n octets size; came_in = goes.2; framed = fed.1 };
+    count = sym fed.0;
+    sound = goes.3;
+    no_end = λ is. same;
+    whole = fed.2;
+  }
+  read_some e n octets r q frames (Err End) size goes same fed = absurd fed
+  read_some e n octets r q frames (Err Fault) size goes same fed = absurd fed
+  read_some e n octets r q frames (Err BadFrame) size goes same fed = (fed.0, record { came = take n octets; most = taken_within n octets size; came_in = goes.2; framed = fed.1 }, (fed.2, goes.3))
+  read_some e n octets r q frames (Err BadSession) size goes same fed = absurd fed
+  read_some e n octets r q frames (Err Book) size goes same fed = absurd fed
+  read_some e n octets r q frames (Err Memory) size goes same fed = (
     r.rest ++ take n octets,
     record {
       came = take n octets;
@@ -61,3 +68,18 @@ fed_fault old new piece before after e none fed =
 
 pub rest_fault : (old new : ReaderValue) (piece : List ℕ) (before after : List Frame) (e : FrameFault) → FedFault old new piece before after e → length new.rest < MAX_FRAME_OCTETS
 rest_fault old new piece before after e fed = let none : length new.rest ≡ 0 = ap (λ (r : ReaderValue). length r.rest) fed.over in omega (arith, none)
+
+-- no octets are a part of a frame
+pub none_part : IsPart []
+none_part = record { none = refl; short = omega arith }
+
+pub part_fault : (old new : ReaderValue) (piece : List ℕ) (before after : List Frame) (e : FrameFault) → FedFault old new piece before after e → IsPart new.rest
+unfolding none_part
+part_fault old new piece before after e fed = subst (λ (r : ReaderValue). IsPart r.rest) (sym fed.over) none_part
+
+short_length : (rest : List ℕ) → IsShort rest → length rest < 4 + stated_length rest
+short_length rest (inl lt) = omega (arith, lt)
+short_length rest (inr lt) = lt
+
+pub short_part : (rest : List ℕ) → fault_shown rest ≡ None → IsShort rest → IsPart rest
+short_part rest none short = record { none = none; short = short_length rest short }

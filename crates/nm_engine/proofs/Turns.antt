@@ -12,8 +12,9 @@ use Rattle.nm_engine.specs.declared.answer.Cause.{Cause}
 use Rattle.nm_engine.specs.declared.answer.Cause.TheVariants.{End, Fault, Frame as BadFrame, Session as BadSession, Book, Memory}
 use Rattle.nm_engine.specs.declared.answer.Turn.TheVariants.{Progress, Idle}
 use Rattle.nm_base.specs.declared.limits.TheConstants.{MAX_READ_OCTETS}
-use Rattle.nm_engine.specs.Giving.{GivesFrames, GivesOr}
+use Rattle.nm_engine.specs.Giving.{GivesFrames, GivesOr, HoldsNone}
 use Rattle.nm_engine.specs.Acceptor.{AcceptorValue}
+use Rattle.nm_engine.specs.Link.{IsPart, bye_taken}
 use Rattle.nm_engine.specs.Lives.{LinkLives}
 use Rattle.nm_engine.specs.Reading.{Came, Reads}
 use Rattle.nm_engine.specs.Taking.{Stops, TakesAll}
@@ -26,6 +27,9 @@ from_frame octets rest frames front back f e split =
     e ∙ ap (λ fs. stream_octets fs ++ rest) split ∙ ap (λ l. l ++ rest) (flat_map-append frame_octets front (f ∷ back))
     ∙ append_assoc (stream_octets front) (frame_octets f ++ stream_octets back) rest ∙ ap (λ l. stream_octets front ++ l) (append_assoc (frame_octets f) (stream_octets back) rest)
 
+never : false ≡ true → ⊥
+never e = cc
+
 not_none : (front back : List Frame) (f : Frame) → front ++ f ∷ back ≡ [] → ⊥
 not_none [] back f e = cc
 not_none (x ∷ front) back f e = cc
@@ -34,11 +38,11 @@ each_mid : (front back : List Frame) (f : Frame) → AllByRecursion IsFrame (fro
 each_mid [] back f each = each.0
 each_mid (x ∷ front) back f each = each_mid front back f each.1
 
-module _ {W : Type 0} (given taken : W → List ℕ) (ends failures : W → ℕ) (v w : W) (h : Option AcceptorValue) (s t : Option SessionValue) (r q : ReaderValue) (o : List ℕ) (frames : List Frame) where
+module _ {W : Type 0} (given taken : W → List ℕ) (ends failures : W → ℕ) (v w : W) (h : Option AcceptorValue) (s t : Option SessionValue) (r q : ReaderValue) (o : List ℕ) (frames : List Frame) (e : Bool) (bye : e ≡ bye_taken s) where
   -- what came, whatever the read's answer, and that the wire has not failed if there are frames
-  read_came : (read : Result ℕ Cause) → Reads given ends failures v w r frames q read → (rest : List ℕ) × Came given ends failures v w r.rest frames rest × ((failures w ≡ failures v) ⊎ (frames ≡ []))
-  read_came (Ok n) c = (q.rest, c.0, inl c.2)
-  read_came (Err End) c = (c.0, c.1, inl c.2.1)
+  read_came : (read : Result ℕ Cause) → Reads given ends failures v w e r frames q read → (rest : List ℕ) × Came given ends failures v w r.rest frames rest × ((failures w ≡ failures v) ⊎ (frames ≡ []))
+  read_came (Ok n) c = (q.rest, c.came, inl c.sound)
+  read_came (Err End) c = (c.0, c.1, inl c.2.2)
   read_came (Err Fault) c = (c.0, c.1, inr c.2.0)
   read_came (Err BadFrame) c = (c.0, c.1, inl c.2.1)
   read_came (Err BadSession) c = absurd c.2
@@ -79,7 +83,7 @@ module _ {W : Type 0} (given taken : W → List ℕ) (ends failures : W → ℕ)
     over = refl;
   }
 
-  pub breaks_take : (read : Result ℕ Cause) (cause : Cause) → Reads given ends failures v w r frames q read → TakesAll h s frames t (Err cause) → taken w ≡ taken v → Breaks given taken ends failures (link_of v h s r.rest o false) (link_of w h t q.rest o true) cause
+  pub breaks_take : (read : Result ℕ Cause) (cause : Cause) → Reads given ends failures v w e r frames q read → TakesAll h s frames t (Err cause) → taken w ≡ taken v → Breaks given taken ends failures (link_of v h s r.rest o false) (link_of w h t q.rest o true) cause
   breaks_take read End reads takes kept = absurd takes.5
   breaks_take read Fault reads takes kept = absurd takes.5
   breaks_take read BadFrame reads takes kept = absurd takes.5
@@ -88,13 +92,13 @@ module _ {W : Type 0} (given taken : W → List ℕ) (ends failures : W → ℕ)
   breaks_take read Memory reads takes kept = let c = read_came read reads in stopped_by Memory c.0 c.1 takes.0 takes.2 takes.1 refl (sound_if takes.0 takes.2 takes.1 takes.3 c.2) (λ fits. tt) takes.3 takes.4 kept
 
   -- the read ended
-  pub breaks_read : (cause : Cause) → Reads given ends failures v w r frames q (Err cause) → LinkLives h s (map Took frames) t → taken w ≡ taken v → Breaks given taken ends failures (link_of v h s r.rest o false) (link_of w h t q.rest o true) cause
+  pub breaks_read : (cause : Cause) → Reads given ends failures v w e r frames q (Err cause) → LinkLives h s (map Took frames) t → taken w ≡ taken v → Breaks given taken ends failures (link_of v h s r.rest o false) (link_of w h t q.rest o true) cause
   breaks_read End c took kept = record {
     rest = c.0;
     left = o;
     moves = still c.1.came c.0 o t frames true c.1.most c.1.came_in c.1.framed.parts took kept refl;
-    reason = c.2.0;
-    faults = omega (arith, c.2.1);
+    reason = (c.2.0, sym bye ∙ c.2.1);
+    faults = omega (arith, c.2.2);
     over = refl;
   }
   breaks_read Fault c took kept = record {
@@ -179,18 +183,21 @@ module _ {W : Type 0} (given taken : W → List ℕ) (ends failures : W → ℕ)
       breaks_write Book l = absurd l
       breaks_write Memory l = absurd l
 
-      module _ (m : ℕ) (count : length c.came ≡ n) (l : Writes taken failures w x p y (Ok m)) where
+      module _ (m : ℕ) (count : length c.came ≡ n) (l : Writes taken failures w x p y (Ok m)) (still_on : ends x ≡ ends w) (no_end : e ≡ false → ends w ≡ ends v) (part : IsPart q.rest) (all : HoldsNone z p) where
         abbrev well : Went given taken ends failures (link_of v h s r.rest o false) (link_of x h z q.rest y false)
         well = record {
           moves = gave_moves l.0.went [] [] y y false gives same l.0.went_out (l.0.front ∙ sym (append-nil p));
           sound = l.2 ∙ sound;
+          no_end = λ is. still_on ∙ no_end (bye ∙ is);
+          part = part;
+          all = subst (λ (octets : List ℕ). HoldsNone z octets) (sym l.0.front) all;
           whole = refl;
         }
 
-        by_count : (b : Bool) → nat_lt 0 (n + m) ≡ b → Turns given taken ends failures (link_of v h s r.rest o false) (link_of x h z q.rest y false) (if b then Progress else Idle)
-        by_count true e = (well, (let k = l.1 in grind (arith, nat_tests, e, count, k)))
-        by_count false e = (well, (let k = l.1 in grind (arith, nat_tests, e, count, k)))
+        by_count : (HasEnded z y → ⊥) → (b : Bool) → nat_lt 0 (n + m) ≡ b → Turns given taken ends failures (link_of v h s r.rest o false) (link_of x h z q.rest y false) (if b then Progress else Idle)
+        by_count on true is = (well, (let k = l.1 in grind (arith, nat_tests, is, count, k)), on)
+        by_count on false is = (well, (let k = l.1 in grind (arith, nat_tests, is, count, k)), on)
 
-        pub turns_well : (ended : Bool) → (ended ≡ true → HasEnded z y) → Turns given taken ends failures (link_of v h s r.rest o false) (link_of x h z q.rest y false) (answer_of ended (n + m))
-        turns_well true over = (well, over refl)
-        turns_well false over = by_count (nat_lt 0 (n + m)) refl
+        pub turns_well : (ended : Bool) → (ended ≡ true → HasEnded z y) → (HasEnded z y → ended ≡ true) → Turns given taken ends failures (link_of v h s r.rest o false) (link_of x h z q.rest y false) (answer_of ended (n + m))
+        turns_well true over only = (well, over refl)
+        turns_well false over only = by_count (λ is. never (only is)) (nat_lt 0 (n + m)) refl

@@ -1,5 +1,5 @@
 -- A peer that connected says who it is by its first frame, which makes the session.
-use Rattle.std.specs.Prelude.{ℕ, nat_lt, ◌&&◌, length, Option, Some, None, Result, Ok, Err, if◌then◌else◌}
+use Rattle.std.specs.Prelude.{ℕ, ◌<◌, nat_lt, ◌&&◌, length, Option, Some, None, Result, Ok, Err, if◌then◌else◌}
 use Rattle.nm_topology.specs.TopologyValue.{TopologyValue}
 use Rattle.nm_frames.specs.declared.frame.Frame.{Frame}
 use Rattle.nm_frames.specs.declared.frame.Frame.TheVariants.{Hello, Have, Data, Null, Bye}
@@ -28,6 +28,14 @@ first_taken h (Have count) = Err Order
 first_taken h (Data message) = Err Order
 first_taken h (Null promise) = Err Order
 first_taken h Bye = Err Order
+
+-- a first frame for which a session is made: a Hello of a partition below
+abbrev pub IsFromBelow : AcceptorValue → Frame → Type 0
+IsFromBelow h (Hello hello) = hello.partition < h.me
+IsFromBelow h (Have count) = ⊥
+IsFromBelow h (Data message) = ⊥
+IsFromBelow h (Null promise) = ⊥
+IsFromBelow h Bye = ⊥
 
 -- the session after a frame, or why it is refused; a link has a session or an acceptor that awaits one
 abbrev pub taken_at : Option AcceptorValue → Option SessionValue → Frame → Result SessionValue SessionFault

@@ -1,5 +1,5 @@
 -- What a session gave, and what of it stands in the buffer.
-use Rattle.std.specs.Prelude.{◌≡◌, ℕ, Bool, List, [], ◌++◌, map, Option, Some, Result, Ok, Err}
+use Rattle.std.specs.Prelude.{◌≡◌, ℕ, ◌≤◌, ◌⊎◌, Bool, List, [], ◌++◌, length, map, Option, Some, None, Result, Ok, Err}
 use Rattle.std.specs.Prelude.{IfOk, OnErr}
 use Rattle.nm_book.specs.Book.{BookValue}
 use Rattle.nm_frames.specs.declared.frame.Frame.{Frame}
@@ -27,3 +27,12 @@ GivesOr h s t before after (Err BadFrame) = ⊥
 GivesOr h s t before after (Err BadSession) = ⊥
 GivesOr h s t before after (Err Book) = ⊥
 GivesOr h s t before after (Err Memory) = (lost : List ℕ) × GivesFrames h s t before after lost
+
+-- a session owes nothing of a book as it then was; where there is no session, nothing is owed
+abbrev pub OwesNone : Option SessionValue → Type 0
+OwesNone None = Unit {0}
+OwesNone (Some s) = (b : BookValue) × (owed s b ≡ None)
+
+-- nothing is held back without a reason: the session owes nothing, or so many octets wait
+abbrev pub HoldsNone : Option SessionValue → List ℕ → Type 0
+HoldsNone s waiting = OwesNone s ⊎ (131072 ≤ length waiting)

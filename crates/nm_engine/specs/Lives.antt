@@ -25,6 +25,10 @@ IsRefused m =
     (b : BookValue) × (c : BookValue) × (e : AcceptFault) × (e ≡ Known Memory → ⊥)
     × Takes b c (message_channel m) (message_taken b.knows m) (Err e)
 
+-- a book had no memory for it
+abbrev pub LacksMemory : ChannelMessage → Type 0
+LacksMemory m = (b : BookValue) × (c : BookValue) × Takes b c (message_channel m) (message_taken b.knows m) (Err (Known Memory))
+
 -- what a frame was for was done
 abbrev pub IsServed : Taken → Type 0
 IsServed Greeted = Unit {0}

@@ -1,5 +1,5 @@
 -- What one read of a link came to.
-use Rattle.std.specs.Prelude.{◌≡◌, ℕ, ◌+◌, ◌≤◌, true, false, List, [], ◌++◌, length, Result, Ok, Err, Some}
+use Rattle.std.specs.Prelude.{◌≡◌, ℕ, ◌+◌, ◌≤◌, Bool, true, false, List, [], ◌++◌, length, Result, Ok, Err, Some}
 use Rattle.std.specs.List.{AllByRecursion}
 use Rattle.nm_frames.specs.declared.frame.Frame.{Frame}
 use Rattle.nm_frames.specs.declared.fault.FrameFault.{FrameFault}
@@ -34,17 +34,24 @@ module _ {W : Type 0} (given : W → List ℕ) (ends failures : W → ℕ) (old 
     pub came_in : given new ≡ given old ++ came
     pub framed : IsFramed (held ++ came) frames rest
 
-  -- why nothing more is read
-  abbrev pub ReadEnds : Cause → List Frame → List ℕ → Type 0
-  ReadEnds End frames rest = (ends new ≡ ends old + 1) × (failures new ≡ failures old)
-  ReadEnds Fault frames rest = (frames ≡ []) × (failures new ≡ failures old + 1)
-  ReadEnds BadFrame frames rest = ((e : FrameFault) × (fault_shown rest ≡ Some e)) × (failures new ≡ failures old)
-  ReadEnds BadSession frames rest = ⊥
-  ReadEnds Book frames rest = ⊥
-  ReadEnds Memory frames rest = failures new ≡ failures old
+  -- so many octets came, and the reader goes on; the end is not found, unless it may be
+  pub record ReadsOn (may_end : Bool) (r : ReaderValue) (frames : List Frame) (q : ReaderValue) (n : ℕ) : Type 0 where
+    pub came : Came r.rest frames q.rest
+    pub count : length came.came ≡ n
+    pub sound : failures new ≡ failures old
+    pub no_end : may_end ≡ false → ends new ≡ ends old
+    pub whole : q.failed ≡ false
 
-  -- so many octets came and the reader goes on, or it ends there
-  abbrev pub Reads : ReaderValue → List Frame → ReaderValue → Result ℕ Cause → Type 0
-  Reads r frames q (Ok n) =
-      (c : Came r.rest frames q.rest) × (length c.came ≡ n) × (failures new ≡ failures old) × (q.failed ≡ false)
-  Reads r frames q (Err cause) = (rest : List ℕ) × Came r.rest frames rest × ReadEnds cause frames rest
+  -- why nothing more is read
+  abbrev pub ReadEnds : Bool → Cause → List Frame → List ℕ → Type 0
+  ReadEnds may_end End frames rest = (ends new ≡ ends old + 1) × (may_end ≡ false) × (failures new ≡ failures old)
+  ReadEnds may_end Fault frames rest = (frames ≡ []) × (failures new ≡ failures old + 1)
+  ReadEnds may_end BadFrame frames rest = ((e : FrameFault) × (fault_shown rest ≡ Some e)) × (failures new ≡ failures old)
+  ReadEnds may_end BadSession frames rest = ⊥
+  ReadEnds may_end Book frames rest = ⊥
+  ReadEnds may_end Memory frames rest = failures new ≡ failures old
+
+  -- the reader goes on, or ends there
+  abbrev pub Reads : Bool → ReaderValue → List Frame → ReaderValue → Result ℕ Cause → Type 0
+  Reads may_end r frames q (Ok n) = ReadsOn may_end r frames q n
+  Reads may_end r frames q (Err cause) = (rest : List ℕ) × Came r.rest frames rest × ReadEnds may_end cause frames rest

@@ -1,5 +1,5 @@
 -- What a session took of the frames that came, and why it took no more.
-use Rattle.std.specs.Prelude.{◌≡◌, ℕ, List, ◌∷◌, ◌++◌, map, Option, Some, Result, Ok, Err}
+use Rattle.std.specs.Prelude.{◌≡◌, ℕ, List, ◌∷◌, ◌++◌, map, Option, Some, None, Result, Ok, Err}
 use Rattle.nm_book.specs.declared.message.ChannelMessage.{ChannelMessage}
 use Rattle.nm_frames.specs.declared.frame.Frame.{Frame}
 use Rattle.nm_frames.specs.declared.session_fault.SessionFault.{SessionFault}
@@ -8,8 +8,8 @@ use Rattle.nm_frames.specs.Lives.{Took}
 use Rattle.nm_frames.specs.Session.{SessionValue, purpose, taken}
 use Rattle.nm_engine.specs.declared.answer.Cause.{Cause}
 use Rattle.nm_engine.specs.declared.answer.Cause.TheVariants.{End, Fault, Frame as BadFrame, Session as BadSession, Book, Memory}
-use Rattle.nm_engine.specs.Acceptor.{AcceptorValue, first_taken, taken_at}
-use Rattle.nm_engine.specs.Lives.{IsRefused, IsServed, IsTold, LinkLives}
+use Rattle.nm_engine.specs.Acceptor.{AcceptorValue, IsFromBelow, first_taken, taken_at}
+use Rattle.nm_engine.specs.Lives.{IsRefused, IsServed, IsTold, LacksMemory, LinkLives}
 
 -- a book took a message in, or why not
 abbrev pub Tells : ChannelMessage → Result Unit Cause → Type 0
@@ -19,16 +19,23 @@ Tells m (Err Fault) = ⊥
 Tells m (Err BadFrame) = ⊥
 Tells m (Err BadSession) = ⊥
 Tells m (Err Book) = IsRefused m
-Tells m (Err Memory) = Unit {0}
+Tells m (Err Memory) = LacksMemory m
 
--- why a frame is not taken: the session refuses it, or a book refuses what it is for
+-- memory for a frame was refused: to a book, for the message that the session takes; or to the session that a first frame makes
+abbrev pub RunsShort : Option AcceptorValue → Option SessionValue → Frame → Type 0
+RunsShort h (Some s) f =
+    (t : SessionValue) × (taken_at h (Some s) f ≡ Ok t) × ((m : ChannelMessage) × (purpose f ≡ ForBook m) × LacksMemory m)
+RunsShort (Some h) None f = IsFromBelow h f
+RunsShort None None f = ⊥
+
+-- why a frame is not taken: the session refuses it, or a book refuses what it is for, or memory is refused
 abbrev pub Stops : Cause → Option AcceptorValue → Option SessionValue → Frame → Type 0
 Stops End h s f = ⊥
 Stops Fault h s f = ⊥
 Stops BadFrame h s f = ⊥
 Stops BadSession h s f = (e : SessionFault) × (taken_at h s f ≡ Err e)
 Stops Book h s f = (m : ChannelMessage) × (purpose f ≡ ForBook m) × IsRefused m
-Stops Memory h s f = Unit {0}
+Stops Memory h s f = RunsShort h s f
 
 -- a frame was taken, or changed nothing
 abbrev pub TakesOne : Option AcceptorValue → Option SessionValue → Frame → Option SessionValue → Result Unit Cause → Type 0
@@ -50,4 +57,4 @@ Greets h f (Err Fault) = ⊥
 Greets h f (Err BadFrame) = ⊥
 Greets h f (Err BadSession) = (e : SessionFault) × (first_taken h f ≡ Err e)
 Greets h f (Err Book) = ⊥
-Greets h f (Err Memory) = Unit {0}
+Greets h f (Err Memory) = IsFromBelow h f

@@ -12,7 +12,8 @@ use Rattle.nm_engine.specs.declared.answer.Turn.{Turn}
 use Rattle.nm_engine.specs.declared.answer.Turn.TheVariants.{Progress, Idle, Ended, Broken, Failed}
 use Rattle.nm_base.specs.declared.limits.TheConstants.{MAX_READ_OCTETS}
 use Rattle.nm_engine.specs.Acceptor.{AcceptorValue}
-use Rattle.nm_engine.specs.Link.{LinkValue}
+use Rattle.nm_engine.specs.Giving.{HoldsNone}
+use Rattle.nm_engine.specs.Link.{IsPart, LinkValue, bye_taken}
 use Rattle.nm_engine.specs.Lives.{LinkLives}
 use Rattle.nm_engine.specs.Taking.{Stops}
 
@@ -56,10 +57,14 @@ module _ {W : Type 0} (given taken : W → List ℕ) (ends failures : W → ℕ)
     pub sent : went ++ left ≡ old.out ++ stream_octets outs
     pub acceptor : new.acceptor ≡ old.acceptor
 
-  -- a turn that went well: the link holds the rest and what is left
+  -- A turn that went well: the link holds the rest and what is left. The end of what the peer sends was not found, unless its Bye was taken
+  -- before. The rest is no whole frame, and shows no fault. What stood in the buffer before the write is all that the session owed, or enough.
   pub record Went : Type 0 where
     pub moves : Moves new.rest new.out
     pub sound : failures new.wire ≡ failures old.wire
+    pub no_end : bye_taken old.session ≡ false → ends new.wire ≡ ends old.wire
+    pub part : IsPart new.rest
+    pub all : HoldsNone new.session (moves.went ++ new.out)
     pub whole : new.failed ≡ false
 
   -- the rest begins with a frame that was not taken, for this cause
@@ -69,7 +74,7 @@ module _ {W : Type 0} (given taken : W → List ℕ) (ends failures : W → ℕ)
 
   -- the reason of a cause
   abbrev pub IsReason : Cause → List ℕ → Option SessionValue → Type 0
-  IsReason End rest mid = ends new.wire ≡ ends old.wire + 1
+  IsReason End rest mid = (ends new.wire ≡ ends old.wire + 1) × (bye_taken old.session ≡ false)
   IsReason Fault rest mid = Unit {0}
   IsReason BadFrame rest mid = (e : FrameFault) × (fault_shown rest ≡ Some e)
   IsReason BadSession rest mid = StopsAt BadSession rest mid
@@ -86,8 +91,8 @@ module _ {W : Type 0} (given taken : W → List ℕ) (ends failures : W → ℕ)
     pub over : new.failed ≡ true
 
   abbrev pub Turns : Turn → Type 0
-  Turns Progress = (w : Went) × (0 < length w.moves.came + length w.moves.went)
-  Turns Idle = (w : Went) × (length w.moves.came + length w.moves.went ≡ 0)
+  Turns Progress = (w : Went) × (0 < length w.moves.came + length w.moves.went) × (HasEnded new.session new.out → ⊥)
+  Turns Idle = (w : Went) × (length w.moves.came + length w.moves.went ≡ 0) × (HasEnded new.session new.out → ⊥)
   Turns Ended = Went × HasEnded new.session new.out
   Turns (Broken cause) = Breaks cause
   Turns Failed = (old.failed ≡ true) × (new ≡ old)

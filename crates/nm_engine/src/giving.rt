@@ -1,7 +1,7 @@
 //! What a link puts into its buffer.
 
-ghost use Rattle.std.specs.Prelude.{◌≡◌, ◌+◌, ◌<◌, ◌≤◌, true, Ok, vec_len};
-ghost use Rattle.nm_engine.specs.Giving.{GivesOr};
+ghost use Rattle.std.specs.Prelude.{◌≡◌, ◌+◌, ◌<◌, ◌≤◌, true, false, Ok, IfOk, vec_len};
+ghost use Rattle.nm_engine.specs.Giving.{GivesOr, HoldsNone, OwesNone};
 ghost use Rattle.nm_engine.specs.Acceptor.{AcceptorValue};
 ghost use Rattle.std.specs.Prelude.{Option};
 
@@ -22,6 +22,7 @@ fn give_one<C: Counts, R: Wait>(
 ) -> Result<bool, Cause>
     ensures gives { (h : Option AcceptorValue) → GivesOr h session.old session.new out.old.items
         out.new.items result }
+    ensures none { result ≡ Ok false → OwesNone session.new }
     ensures more { result ≡ Ok true → vec_len out.old < vec_len out.new }
     ensures most { vec_len out.new ≤ vec_len out.old + MAX_FRAME_OCTETS }
 {
@@ -51,13 +52,12 @@ pub(crate) fn give_all<C: Counts, R: Wait>(
     requires { vec_len out.old ≤ MAX_OUT_OCTETS }
     ensures gives { (h : Option AcceptorValue) → GivesOr h session.old session.new out.old.items
         out.new.items result }
+    ensures all { IfOk result (λ _. HoldsNone session.new out.new.items) }
     ensures most { vec_len out.new ≤ MAX_OUT_OCTETS }
 {
     while out.len() < FULL_OUT_OCTETS {
-        match give_one(rt, session, book, pass, out) {
-            Ok(true) => {}
-            Ok(false) => return Ok(()),
-            Err(cause) => return Err(cause),
+        if !give_one(rt, session, book, pass, out)? {
+            return Ok(());
         }
     }
     Ok(())

@@ -6,6 +6,7 @@ ghost use Rattle.nm_engine.specs.Turn.{Turns};
 
 use crate::acceptor::Acceptor;
 use crate::answer::Turn;
+use crate::parts::{Parts, Party};
 use crate::reading::ReadBuffer;
 use crate::turning::work;
 use nm_base::Wire;
@@ -19,12 +20,7 @@ use std::sync::Wait;
 /// connected.
 #[derive(Drop)]
 pub struct Link<W> {
-    wire: W,
-    acceptor: Option<Acceptor>,
-    session: Option<Session>,
-    reader: Reader,
-    /// The octets that the wire has not taken.
-    out: Vec<u8>,
+    parts: Parts<W>,
     failed: bool,
 }
 
@@ -35,16 +31,38 @@ impl<W> Model for Link<W> {
     ghost Value = { LinkValue W };
 
     ghost view = { λ l. record {
-      wire = l.wire;
-      acceptor = l.acceptor;
-      session = l.session;
-      rest = l.reader.rest;
-      out = l.out.items;
+      wire = l.parts.wire;
+      acceptor = l.parts.party.acceptor;
+      session = l.parts.party.session;
+      rest = l.parts.reader.rest;
+      out = l.parts.out.items;
       failed = l.failed;
     } };
 
-    ghost invariant = { λ l. IsBounded l.reader.rest l.out.items
-        × (l.failed ≡ false → l.reader.failed ≡ false) };
+    ghost invariant = { λ l. IsBounded l.parts.reader.rest l.parts.out.items
+        × (l.failed ≡ false → l.parts.reader.failed ≡ false) };
+}
+
+/// A link over which nothing has come or gone.
+fn begun<W>(alloc: Global, wire: W, party: Party) -> Link<W>
+    ensures { result ≡ record {
+      wire = wire;
+      acceptor = party.acceptor;
+      session = party.session;
+      rest = [];
+      out = [];
+      failed = false;
+    } }
+{
+    Link {
+        parts: Parts {
+            wire,
+            party,
+            reader: Reader::new(alloc),
+            out: Vec::new(alloc),
+        },
+        failed: false,
+    }
 }
 
 impl<W> Link<W> {
@@ -59,14 +77,11 @@ impl<W> Link<W> {
           failed = false;
         } }
     {
-        Link {
-            wire,
+        let party = Party {
             acceptor: None,
             session: Some(session),
-            reader: Reader::new(alloc),
-            out: Vec::new(alloc),
-            failed: false,
-        }
+        };
+        begun(alloc, wire, party)
     }
 
     /// A link over a wire that a peer connected, which says who it is by its first frame.
@@ -80,28 +95,25 @@ impl<W> Link<W> {
           failed = false;
         } }
     {
-        Link {
-            wire,
+        let party = Party {
             acceptor: Some(acceptor),
             session: None,
-            reader: Reader::new(alloc),
-            out: Vec::new(alloc),
-            failed: false,
-        }
+        };
+        begun(alloc, wire, party)
     }
 
     /// The wire.
     pub fn wire(&self) -> &W
         ensures { result.now ≡ self.now.wire }
     {
-        &self.wire
+        &self.parts.wire
     }
 
     /// Whether the peer's Hello was taken.
     pub fn has_greeted(&self) -> bool
         ensures { result ≡ has_greeted self.now.session }
     {
-        match &self.session {
+        match &self.parts.party.session {
             Some(session) => session.hello_taken(),
             None => false,
         }
@@ -111,7 +123,7 @@ impl<W> Link<W> {
     pub fn greeted_by(&self) -> Option<ReplicaName>
         ensures { result ≡ greeted_by self.now.session }
     {
-        match &self.session {
+        match &self.parts.party.session {
             Some(session) => session.peer_name(),
             None => None,
         }
@@ -122,15 +134,14 @@ impl<W> Link<W> {
     pub fn back(self) -> (W, Option<Session>)
         ensures { (result.0 ≡ self.wire) × (result.1 ≡ self.session) }
     {
-        let Link {
+        let Link { parts, failed: _ } = self;
+        let Parts {
             wire,
-            acceptor: _,
-            session,
+            party,
             reader: _,
             out: _,
-            failed: _,
-        } = self;
-        (wire, session)
+        } = parts;
+        (wire, party.session)
     }
 }
 
@@ -152,19 +163,7 @@ impl<W: Wire> Link<W> {
         if self.failed {
             return Turn::Failed;
         }
-        let done = work(
-            rt,
-            alloc,
-            &mut self.wire,
-            &self.acceptor,
-            &mut self.session,
-            &mut self.reader,
-            &mut self.out,
-            book,
-            pass,
-            buffer,
-        );
-        match done {
+        match work(rt, alloc, &mut self.parts, book, pass, buffer) {
             Ok(turn) => turn,
             Err(cause) => {
                 self.failed = true;

@@ -2,6 +2,7 @@
 
 ghost use Rattle.std.specs.Prelude.{◌≡◌, ◌+◌, ◌<◌, [], true, false, length, IfOk};
 ghost use Rattle.nm_base.specs.declared.limits.TheConstants.{MAX_READ_OCTETS};
+ghost use Rattle.nm_engine.specs.Link.{IsPart};
 ghost use Rattle.nm_engine.specs.Reading.{FeedsReader, Reads};
 
 use crate::answer::Cause;
@@ -41,8 +42,10 @@ fn feed(
     requires sound { reader.old.failed ≡ false }
     requires none { frames.old.items ≡ [] }
     requires rest { length reader.old.rest < MAX_FRAME_OCTETS }
+    requires part { IsPart reader.old.rest }
     ensures feeds { FeedsReader reader.old octets.now frames.new.items reader.new result }
     ensures rest { length reader.new.rest < MAX_FRAME_OCTETS }
+    ensures part { IsPart reader.new.rest }
 {
     match reader.feed(alloc, octets, frames) {
         Ok(()) => Ok(octets.len()),
@@ -67,9 +70,11 @@ fn read_into<W: Wire>(
     requires sound { reader.old.failed ≡ false }
     requires none { frames.old.items ≡ [] }
     requires rest { length reader.old.rest < MAX_FRAME_OCTETS }
-    ensures reads { Reads W.given W.ends W.failures wire.old wire.new reader.old frames.new.items
-        reader.new result }
+    requires part { IsPart reader.old.rest }
+    ensures reads { Reads W.given W.ends W.failures wire.old wire.new may_end reader.old
+        frames.new.items reader.new result }
     ensures rest { length reader.new.rest < MAX_FRAME_OCTETS }
+    ensures part { IsPart reader.new.rest }
     ensures keeps { W.taken wire.new ≡ W.taken wire.old }
 {
     match wire.read_some(octets) {
@@ -92,9 +97,11 @@ pub(crate) fn read_in<W: Wire>(
     requires sound { reader.old.failed ≡ false }
     requires none { frames.old.items ≡ [] }
     requires rest { length reader.old.rest < MAX_FRAME_OCTETS }
-    ensures reads { Reads W.given W.ends W.failures wire.old wire.new reader.old frames.new.items
-        reader.new result }
+    requires part { IsPart reader.old.rest }
+    ensures reads { Reads W.given W.ends W.failures wire.old wire.new may_end reader.old
+        frames.new.items reader.new result }
     ensures rest { length reader.new.rest < MAX_FRAME_OCTETS }
+    ensures part { IsPart reader.new.rest }
     ensures keeps { W.taken wire.new ≡ W.taken wire.old }
 {
     read_into(alloc, wire, reader, may_end, &mut buffer.octets, frames)

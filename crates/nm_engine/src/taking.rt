@@ -6,8 +6,8 @@ ghost use Rattle.nm_frames.specs.Frame.{IsFrame};
 ghost use Rattle.nm_engine.specs.Acceptor.{AcceptorValue};
 ghost use Rattle.nm_engine.specs.Taking.{TakesAll, TakesOne, Tells};
 
-use crate::acceptor::Acceptor;
 use crate::answer::Cause;
+use crate::parts::Party;
 use nm_book::{AcceptFault, ChannelMessage};
 use nm_frames::{Frame, Session, Taken};
 use nm_knowledge::KnowFault;
@@ -53,46 +53,40 @@ fn take_later<C: Counts, R: Wait>(
 fn take_one<C: Counts, R: Wait>(
     rt: &R,
     alloc: Global,
-    acceptor: &Option<Acceptor>,
-    session: &mut Option<Session>,
+    party: &mut Party,
     book: &SharedBook<C>,
     pass: &mut Pass<C>,
     frame: Frame,
 ) -> Result<(), Cause>
-    ensures { TakesOne acceptor.now session.old frame session.new result }
+    ensures takes { TakesOne party.old.acceptor party.old.session frame party.new.session result }
+    ensures keeps { party.new.acceptor ≡ party.old.acceptor }
 {
-    if let Some(session) = session {
+    if let Some(session) = &mut party.session {
         return take_later(rt, session, book, pass, frame);
     }
-    let Some(acceptor) = acceptor else {
+    let Some(acceptor) = &party.acceptor else {
         return Err(Cause::Session);
     };
-    match acceptor.greet(alloc, frame) {
-        Ok(greeted) => {
-            *session = Some(greeted);
-            Ok(())
-        }
-        Err(cause) => Err(cause),
-    }
+    party.session = Some(acceptor.greet(alloc, frame)?);
+    Ok(())
 }
 
 /// Takes frames, up to the first that is refused.
 pub(crate) fn take_all<C: Counts, R: Wait>(
     rt: &R,
     alloc: Global,
-    acceptor: &Option<Acceptor>,
-    session: &mut Option<Session>,
+    party: &mut Party,
     book: &SharedBook<C>,
     pass: &mut Pass<C>,
     frames: Vec<Frame>,
 ) -> Result<(), Cause>
     requires { AllByRecursion IsFrame frames.items }
-    ensures { TakesAll acceptor.now session.old frames.items session.new result }
+    ensures takes { TakesAll party.old.acceptor party.old.session frames.items party.new.session
+        result }
+    ensures keeps { party.new.acceptor ≡ party.old.acceptor }
 {
     for frame in frames {
-        if let Err(cause) = take_one(rt, alloc, acceptor, session, book, pass, frame) {
-            return Err(cause);
-        }
+        take_one(rt, alloc, party, book, pass, frame)?;
     }
     Ok(())
 }

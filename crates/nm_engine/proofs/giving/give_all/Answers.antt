@@ -1,18 +1,20 @@
 use Rattle.std.proofs.Common.{[], arith, Bool}
+use Rattle.std.proofs.lemmas.Result.{err_from_is_err_and}
 use Rattle.nm_engine.proofs.Givings.{gives_more, gives_then}
 use Rattle.nm_engine.proofs.giving.give_all.Goals as goal
 
-pub returns-in-Ok-false-clause-gives : goal.returns-in-Ok-false-clause-gives
-returns-in-Ok-false-clause-gives g c = λ h.
-    gives_more h c.args.session.now c.loop-session.session c.give_one.new.session c.args.out.now.items c.loop-session.out.items c.give_one.new.out.items [] (c.loop-session.invariant.gives h) (c.in-Ok-false.ensures.gives h)
+pub returns-then-not-branch-clause-gives : goal.returns-then-not-branch-clause-gives
+returns-then-not-branch-clause-gives g c = λ h.
+    gives_more h c.args.session.now c.loop-session.session c.give_one.new.session c.args.out.now.items c.loop-session.out.items c.give_one.new.out.items [] (c.loop-session.invariant.gives h) (c.in_ok-give_one.ensures.gives h)
 
-pub returns-in-Err-clause-gives : goal.returns-in-Err-clause-gives
-returns-in-Err-clause-gives g c = λ h.
-    gives_then h Bool (Unit {0}) c.args.session.now c.loop-session.session c.give_one.new.session c.args.out.now.items c.loop-session.out.items c.give_one.new.out.items c.in-Err.cause (c.loop-session.invariant.gives h) (c.in-Err.ensures.gives h)
+pub returns-in_err-give_one-clause-gives : goal.returns-in_err-give_one-clause-gives
+returns-in_err-give_one-clause-gives g c = λ h.
+    let p = err_from_is_err_and c.from_residual.result c.from_residual.ensures.1 in
+    rw (p.1, p.2) (gives_then h Bool (Unit {0}) c.args.session.now c.loop-session.session c.give_one.new.session c.args.out.now.items c.loop-session.out.items c.give_one.new.out.items c.in_err-give_one.field-0.0 (c.loop-session.invariant.gives h) (c.in_err-give_one.ensures.gives h))
 
 pub loop-session-preserved : goal.loop-session-preserved
 loop-session-preserved g c = record {
   gives = λ h.
-      gives_more h c.args.session.now c.loop-session.session c.give_one.new.session c.args.out.now.items c.loop-session.out.items c.give_one.new.out.items [] (c.loop-session.invariant.gives h) (c.in-Ok-true.ensures.gives h);
+      gives_more h c.args.session.now c.loop-session.session c.give_one.new.session c.args.out.now.items c.loop-session.out.items c.give_one.new.out.items [] (c.loop-session.invariant.gives h) (c.in_ok-give_one.ensures.gives h);
   most = omega (arith, c.give_one.ensures.most);
 }

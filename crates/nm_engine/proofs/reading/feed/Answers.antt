@@ -2,7 +2,7 @@ use Rattle.std.proofs.Common.{Err, subst}
 use Rattle.nm_frames.specs.Reader.{Feeds}
 use Rattle.nm_frames.specs.declared.fault.FrameFault.{FrameFault}
 use Rattle.nm_frames.specs.declared.fault.FrameFault.TheVariants.{BadLength, BadKind, BadBody}
-use Rattle.nm_engine.proofs.Readings.{fed_fault, rest_fault}
+use Rattle.nm_engine.proofs.Readings.{fed_fault, part_fault, rest_fault}
 use Rattle.nm_engine.proofs.reading.feed.Goals as goal
 
 pub returns-in-Err-BadLength : goal.returns-in-Err-BadLength
@@ -11,6 +11,7 @@ returns-in-Err-BadLength c =
     record {
       feeds = fed_fault c.args.reader.now c.feed.new.self c.args.octets.now c.args.frames.now.items c.feed.new.frames.items BadLength c.requires.none fed;
       rest = rest_fault c.args.reader.now c.feed.new.self c.args.octets.now c.args.frames.now.items c.feed.new.frames.items BadLength fed;
+      part = part_fault c.args.reader.now c.feed.new.self c.args.octets.now c.args.frames.now.items c.feed.new.frames.items BadLength fed;
     }
 
 pub returns-in-Err-BadKind : goal.returns-in-Err-BadKind
@@ -19,6 +20,7 @@ returns-in-Err-BadKind c =
     record {
       feeds = fed_fault c.args.reader.now c.feed.new.self c.args.octets.now c.args.frames.now.items c.feed.new.frames.items BadKind c.requires.none fed;
       rest = rest_fault c.args.reader.now c.feed.new.self c.args.octets.now c.args.frames.now.items c.feed.new.frames.items BadKind fed;
+      part = part_fault c.args.reader.now c.feed.new.self c.args.octets.now c.args.frames.now.items c.feed.new.frames.items BadKind fed;
     }
 
 pub returns-in-Err-BadBody : goal.returns-in-Err-BadBody
@@ -27,4 +29,5 @@ returns-in-Err-BadBody c =
     record {
       feeds = fed_fault c.args.reader.now c.feed.new.self c.args.octets.now c.args.frames.now.items c.feed.new.frames.items BadBody c.requires.none fed;
       rest = rest_fault c.args.reader.now c.feed.new.self c.args.octets.now c.args.frames.now.items c.feed.new.frames.items BadBody fed;
+      part = part_fault c.args.reader.now c.feed.new.self c.args.octets.now c.args.frames.now.items c.feed.new.frames.items BadBody fed;
     }

@@ -3,6 +3,6 @@ use Rattle.nm_frames.specs.Session.{SessionValue}
 use Rattle.nm_engine.specs.Taking.{TakesOne}
 use Rattle.nm_engine.proofs.taking.take_one.Goals as goal
 
-pub returns-in-Some : goal.returns-in-Some
-returns-in-Some g c =
-    subst (λ (x : Option SessionValue). TakesOne c.args.acceptor.now x c.args.frame (Some c.take_later.new.session) c.take_later.result) (sym c.in-Some.is) (c.take_later.ensures c.args.acceptor.now)
+pub returns-in-Some-clause-takes : goal.returns-in-Some-clause-takes
+returns-in-Some-clause-takes g c =
+    subst (λ (x : Option SessionValue). TakesOne c.args.party.now.acceptor x c.args.frame (Some c.take_later.new.session) c.take_later.result) (sym c.in-Some.is) (c.take_later.ensures c.args.party.now.acceptor)

@@ -1,0 +1,21 @@
+//! The parts of a link.
+
+use crate::acceptor::Acceptor;
+use nm_frames::{Reader, Session};
+
+/// Who speaks at this side: a session; before it, where the peer connected, who awaits one.
+#[derive(Drop)]
+pub(crate) struct Party {
+    pub(crate) acceptor: Option<Acceptor>,
+    pub(crate) session: Option<Session>,
+}
+
+/// What a turn works on.
+#[derive(Drop)]
+pub(crate) struct Parts<W> {
+    pub(crate) wire: W,
+    pub(crate) party: Party,
+    pub(crate) reader: Reader,
+    /// The octets that the wire has not taken.
+    pub(crate) out: Vec<u8>,
+}
