@@ -18,7 +18,7 @@ use Rattle.nm_engine.specs.Acceptor.{AcceptorValue, session_with, taken_at}
 use Rattle.nm_engine.specs.Link.{LinkValue}
 use Rattle.nm_engine.specs.Lives.{LinkLives, frames_in, frames_out}
 use Rattle.nm_engine.specs.Many.{Accounts, GoesOn, HasDue}
-use Rattle.nm_engine.specs.Turn.{Breaks, Moves, Turns, Went}
+use Rattle.nm_engine.specs.Turn.{Breaks, Heard, Hears, Moves, Turns, Went}
 use Rattle.nm_engine.proofs.Steps.{lives_append}
 
 -- octets in two parts, and the frames of both
@@ -147,10 +147,21 @@ module _ {W : Type 0} (given taken : W → List ℕ) (ends failures : W → ℕ)
   stays_turn (Broken cause) old new over t = absurd (never (sym over ∙ t.moves.was_whole))
   stays_turn Failed old new over t = t.1
 
+  stays_heard : (turn : Turn) (old new : LinkValue W) → old.failed ≡ true → Hears given taken ends failures old new turn → new ≡ old
+  stays_heard Progress old new over t = absurd (never (sym over ∙ t.0.moves.was_whole))
+  stays_heard Idle old new over t = absurd (never (sym over ∙ t.0.moves.was_whole))
+  stays_heard Ended old new over t = absurd (never (sym over ∙ t.0.moves.was_whole))
+  stays_heard (Broken cause) old new over t = absurd (never (sym over ∙ t.moves.was_whole))
+  stays_heard Failed old new over t = t.1
+
+  stays : (turn : Turn) (old new : LinkValue W) → old.failed ≡ true → Turns given taken ends failures old new turn ⊎ Hears given taken ends failures old new turn → new ≡ old
+  stays turn old new over (inl t) = stays_turn turn old new over t
+  stays turn old new over (inr t) = stays_heard turn old new over t
+
   stays_failed : (path : List (Turn × LinkValue W)) (old new : LinkValue W) → old.failed ≡ true → GoesOn given taken ends failures old path new → new ≡ old
   stays_failed [] old new over g = g
   stays_failed (p ∷ path) old new over g =
-      let same = stays_turn p.0 old p.1 over g.0 in
+      let same = stays p.0 old p.1 over g.0 in
       stays_failed path p.1 new (ap (λ (l : LinkValue W). l.failed) same ∙ over) g.1 ∙ same
 
   well_turn : (old new : LinkValue W) → Went given taken ends failures old new → Accounts given taken old new × ((new.failed ≡ false) ⊎ (new.failed ≡ true))
@@ -163,13 +174,27 @@ module _ {W : Type 0} (given taken : W → List ℕ) (ends failures : W → ℕ)
   of_turn (Broken cause) old new t = (of_moves old new t.rest t.left t.moves (λ e. absurd (never (sym t.over ∙ e))), inr t.over)
   of_turn Failed old new t = (subst (λ (x : LinkValue W). Accounts given taken old x) (sym t.1) (of_none old), inr (ap (λ (l : LinkValue W). l.failed) t.1 ∙ t.0))
 
+  well_heard : (old new : LinkValue W) → Heard given taken ends failures old new → Accounts given taken old new × ((new.failed ≡ false) ⊎ (new.failed ≡ true))
+  well_heard old new h = (of_moves old new new.rest new.out h.moves (λ e. (refl, refl)), inl h.whole)
+
+  of_heard : (turn : Turn) (old new : LinkValue W) → Hears given taken ends failures old new turn → Accounts given taken old new × ((new.failed ≡ false) ⊎ (new.failed ≡ true))
+  of_heard Progress old new t = well_heard old new t.0
+  of_heard Idle old new t = well_heard old new t.0
+  of_heard Ended old new t = well_heard old new t.0
+  of_heard (Broken cause) old new t = (of_moves old new t.rest t.left t.moves (λ e. absurd (never (sym t.over ∙ e))), inr t.over)
+  of_heard Failed old new t = (subst (λ (x : LinkValue W). Accounts given taken old x) (sym t.1) (of_none old), inr (ap (λ (l : LinkValue W). l.failed) t.1 ∙ t.0))
+
+  of_step : (turn : Turn) (old new : LinkValue W) → Turns given taken ends failures old new turn ⊎ Hears given taken ends failures old new turn → Accounts given taken old new × ((new.failed ≡ false) ⊎ (new.failed ≡ true))
+  of_step turn old new (inl t) = of_turn turn old new t
+  of_step turn old new (inr t) = of_heard turn old new t
+
   go_on : (path : List (Turn × LinkValue W)) (first mid last : LinkValue W) → Accounts given taken first mid × ((mid.failed ≡ false) ⊎ (mid.failed ≡ true)) → GoesOn given taken ends failures mid path last → Accounts given taken mid last → Accounts given taken first last
   go_on path first mid last (a, inl fine) g rest = of_both first mid last fine a rest
   go_on path first mid last (a, inr over) g rest = subst (λ (x : LinkValue W). Accounts given taken first x) (sym (stays_failed path mid last over g)) a
 
   pub accounts : (path : List (Turn × LinkValue W)) (first last : LinkValue W) → GoesOn given taken ends failures first path last → Accounts given taken first last
   accounts [] first last e = subst (λ (x : LinkValue W). Accounts given taken first x) (sym e) (of_none first)
-  accounts (p ∷ path) first last g = go_on path first p.1 last (of_turn p.0 first p.1 g.0) g.1 (accounts path p.1 last g.1)
+  accounts (p ∷ path) first last g = go_on path first p.1 last (of_step p.0 first p.1 g.0) g.1 (accounts path p.1 last g.1)
 
 -- ---- the numbers of messages
 session_lives : (h : Option AcceptorValue) (steps : List SessionStep) (s : SessionValue) (t : Option SessionValue) → LinkLives h (Some s) steps t → (u : SessionValue) × (t ≡ Some u) × SessionLives s steps u

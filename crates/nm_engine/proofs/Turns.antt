@@ -18,7 +18,7 @@ use Rattle.nm_engine.specs.Link.{IsPart, bye_taken}
 use Rattle.nm_engine.specs.Lives.{LinkLives}
 use Rattle.nm_engine.specs.Reading.{Came, Reads}
 use Rattle.nm_engine.specs.Taking.{Stops, TakesAll}
-use Rattle.nm_engine.specs.Turn.{Breaks, HasEnded, IsReason, Moves, Turns, Went, answer_of, faults_of, link_of}
+use Rattle.nm_engine.specs.Turn.{Breaks, HasEnded, Heard, Hears, IsReason, Moves, Turns, Went, answer_of, faults_of, link_of}
 use Rattle.nm_engine.specs.Writing.{Leaves, Writes}
 
 -- the octets from a frame on
@@ -127,6 +127,27 @@ module _ {W : Type 0} (given taken : W → List ℕ) (ends failures : W → ℕ)
     faults = omega (arith, c.2);
     over = refl;
   }
+
+  -- the frames were taken, and nothing else was done
+  module _ (n : ℕ) (c : Came given ends failures v w r.rest frames q.rest) (took : LinkLives h s (map Took frames) t) (sound : failures w ≡ failures v) (kept : taken w ≡ taken v) (count : length c.came ≡ n) (no_end : e ≡ false → ends w ≡ ends v) (part : IsPart q.rest) where
+    abbrev only_heard : Heard given taken ends failures (link_of v h s r.rest o false) (link_of w h t q.rest o false)
+    only_heard = record {
+      moves = still c.came q.rest o t frames false c.most c.came_in c.framed.parts took kept refl;
+      none_given = refl;
+      none_went = refl;
+      sound = sound;
+      no_end = λ is. no_end (bye ∙ is);
+      part = part;
+      whole = refl;
+    }
+
+    heard_by : (HasEnded t o → ⊥) → (b : Bool) → nat_lt 0 n ≡ b → Hears given taken ends failures (link_of v h s r.rest o false) (link_of w h t q.rest o false) (if b then Progress else Idle)
+    heard_by on true is = (only_heard, (grind (arith, nat_tests, is, count)), on)
+    heard_by on false is = (only_heard, (grind (arith, nat_tests, is, count)), on)
+
+    pub hears_well : (ended : Bool) → (ended ≡ true → HasEnded t o) → (HasEnded t o → ended ≡ true) → Hears given taken ends failures (link_of v h s r.rest o false) (link_of w h t q.rest o false) (answer_of ended n)
+    hears_well true over only = (only_heard, over refl)
+    hears_well false over only = heard_by (λ is. never (only is)) (nat_lt 0 n) refl
 
   -- what was given, after the frames were taken
   module _ (z : Option SessionValue) (x : W) (p : List ℕ) (n : ℕ) (c : Came given ends failures v w r.rest frames q.rest) (took : LinkLives h s (map Took frames) t) (sound : failures w ≡ failures v) (kept : taken w ≡ taken v) where

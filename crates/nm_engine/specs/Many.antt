@@ -1,18 +1,18 @@
 -- A link over many turns.
-use Rattle.std.specs.Prelude.{◌≡◌, ℕ, false, List, [], ◌∷◌, ◌++◌, Option, Some, None}
+use Rattle.std.specs.Prelude.{◌≡◌, ◌⊎◌, ℕ, false, List, [], ◌∷◌, ◌++◌, Option, Some, None}
 use Rattle.nm_frames.specs.Frame.{stream_octets}
 use Rattle.nm_frames.specs.Lives.{HasCursor, SessionStep}
 use Rattle.nm_frames.specs.Session.{SessionValue}
 use Rattle.nm_engine.specs.declared.answer.Turn.{Turn}
 use Rattle.nm_engine.specs.Link.{LinkValue}
 use Rattle.nm_engine.specs.Lives.{LinkLives, frames_in, frames_out}
-use Rattle.nm_engine.specs.Turn.{Turns}
+use Rattle.nm_engine.specs.Turn.{Hears, Turns}
 
--- turn by turn: each answer, and the link after it
+-- turn by turn, or half of one in which the link only heard: each answer, and the link after it
 abbrev pub GoesOn : {W : Type 0} → (W → List ℕ) → (W → List ℕ) → (W → ℕ) → (W → ℕ) → LinkValue W → List (Turn × LinkValue W) → LinkValue W → Type 0
 GoesOn given taken ends failures old [] new = new ≡ old
 GoesOn given taken ends failures old (p ∷ path) new =
-    Turns given taken ends failures old p.1 p.0 × GoesOn given taken ends failures p.1 path new
+    (Turns given taken ends failures old p.1 p.0 ⊎ Hears given taken ends failures old p.1 p.0) × GoesOn given taken ends failures p.1 path new
 
 -- What came over all turns, with the octets held at first, are the octets of the frames that were taken, and then the rest, which a link
 -- that has not failed holds. What went, and then what is left, which it holds too, is what waited at first and the octets of the frames

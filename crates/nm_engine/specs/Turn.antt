@@ -90,6 +90,23 @@ module _ {W : Type 0} (given taken : W → List ℕ) (ends failures : W → ℕ)
     pub faults : failures new.wire ≡ failures old.wire + faults_of cause
     pub over : new.failed ≡ true
 
+  -- a turn in which the link only heard: the session gave nothing, and nothing was written
+  pub record Heard : Type 0 where
+    pub moves : Moves new.rest new.out
+    pub none_given : moves.outs ≡ []
+    pub none_went : moves.went ≡ []
+    pub sound : failures new.wire ≡ failures old.wire
+    pub no_end : bye_taken old.session ≡ false → ends new.wire ≡ ends old.wire
+    pub part : IsPart new.rest
+    pub whole : new.failed ≡ false
+
+  abbrev pub Hears : Turn → Type 0
+  Hears Progress = (h : Heard) × (0 < length h.moves.came) × (HasEnded new.session new.out → ⊥)
+  Hears Idle = (h : Heard) × (length h.moves.came ≡ 0) × (HasEnded new.session new.out → ⊥)
+  Hears Ended = Heard × HasEnded new.session new.out
+  Hears (Broken cause) = Breaks cause
+  Hears Failed = (old.failed ≡ true) × (new ≡ old)
+
   abbrev pub Turns : Turn → Type 0
   Turns Progress = (w : Went) × (0 < length w.moves.came + length w.moves.went) × (HasEnded new.session new.out → ⊥)
   Turns Idle = (w : Went) × (length w.moves.came + length w.moves.went ≡ 0) × (HasEnded new.session new.out → ⊥)
@@ -106,4 +123,11 @@ abbrev pub Works : {W : Type 0} → (W → List ℕ) → (W → List ℕ) → (W
 Works given taken ends failures v w h s t r q o p (Ok turn) =
     Turns given taken ends failures (link_of v h s r o false) (link_of w h t q p false) turn
 Works given taken ends failures v w h s t r q o p (Err cause) =
+    Breaks given taken ends failures (link_of v h s r o false) (link_of w h t q p true) cause
+
+-- the same of what a link heard
+abbrev pub Listens : {W : Type 0} → (W → List ℕ) → (W → List ℕ) → (W → ℕ) → (W → ℕ) → W → W → Option AcceptorValue → Option SessionValue → Option SessionValue → List ℕ → List ℕ → List ℕ → List ℕ → Result Turn Cause → Type 0
+Listens given taken ends failures v w h s t r q o p (Ok turn) =
+    Hears given taken ends failures (link_of v h s r o false) (link_of w h t q p false) turn
+Listens given taken ends failures v w h s t r q o p (Err cause) =
     Breaks given taken ends failures (link_of v h s r o false) (link_of w h t q p true) cause

@@ -2,13 +2,13 @@
 
 ghost use Rattle.std.specs.Prelude.{◌≡◌, Some, None, [], false};
 ghost use Rattle.nm_engine.specs.Link.{IsBounded, greeted_by, has_greeted};
-ghost use Rattle.nm_engine.specs.Turn.{Turns};
+ghost use Rattle.nm_engine.specs.Turn.{Hears, Turns};
 
 use crate::acceptor::Acceptor;
 use crate::answer::Turn;
 use crate::parts::{Parts, Party};
 use crate::reading::ReadBuffer;
-use crate::turning::work;
+use crate::turning::{listen, work};
 use nm_base::Wire;
 use nm_frames::{Reader, ReplicaName, Session};
 use nm_shared::{Counts, Pass, SharedBook};
@@ -146,6 +146,32 @@ impl<W> Link<W> {
 }
 
 impl<W: Wire> Link<W> {
+    /// The first half of a turn: reads at most 65,536 octets once and takes the frames that came
+    /// whole. Nothing is given or written, so that what is owed may first grow by what the book
+    /// does with them.
+    pub fn hear<C: Counts, R: Wait>(
+        &mut self,
+        rt: &R,
+        alloc: Global,
+        book: &SharedBook<C>,
+        pass: &mut Pass<C>,
+        buffer: &mut ReadBuffer,
+    ) -> Turn
+        ensures hears { Hears W.given W.taken W.ends W.failures self.old self.new result }
+        ensures bounded { IsBounded self.new.rest self.new.out }
+    {
+        if self.failed {
+            return Turn::Failed;
+        }
+        match listen(rt, alloc, &mut self.parts, book, pass, buffer) {
+            Ok(turn) => turn,
+            Err(cause) => {
+                self.failed = true;
+                Turn::Broken(cause)
+            }
+        }
+    }
+
     /// Reads at most 65,536 octets once and takes the frames that came whole; then puts the frames
     /// that the session owes into the buffer, until it has 131,072 octets or more; then writes
     /// once. What the frames were for is told the book.

@@ -1,7 +1,7 @@
 //! A turn, over the parts of a link that has not failed.
 
 ghost use Rattle.std.specs.Prelude.{◌≡◌, false, true, IfOk};
-ghost use Rattle.nm_engine.specs.Turn.{HasEnded, Works, answer_of};
+ghost use Rattle.nm_engine.specs.Turn.{HasEnded, Listens, Works, answer_of};
 ghost use Rattle.nm_engine.specs.Link.{IsBounded, bye_taken};
 
 use crate::answer::{Cause, Turn};
@@ -48,6 +48,39 @@ fn answer(ended: bool, moved: usize) -> Turn
     } else {
         Turn::Idle
     }
+}
+
+/// Reads once, and takes the frames that came. Nothing is given or written.
+pub(crate) fn listen<W: Wire, C: Counts, R: Wait>(
+    rt: &R,
+    alloc: Global,
+    parts: &mut Parts<W>,
+    book: &SharedBook<C>,
+    pass: &mut Pass<C>,
+    buffer: &mut ReadBuffer,
+) -> Result<Turn, Cause>
+    requires sound { parts.old.reader.failed ≡ false }
+    requires bounded { IsBounded parts.old.reader.rest parts.old.out.items }
+    ensures hears { Listens W.given W.taken W.ends W.failures parts.old.wire parts.new.wire
+        parts.old.party.acceptor parts.old.party.session parts.new.party.session
+        parts.old.reader.rest parts.new.reader.rest parts.old.out.items parts.new.out.items result }
+    ensures keeps { parts.new.party.acceptor ≡ parts.old.party.acceptor }
+    ensures bounded { IsBounded parts.new.reader.rest parts.new.out.items }
+    ensures sound { IfOk result (λ _. parts.new.reader.failed ≡ false) }
+{
+    let may_end = bye_taken(&parts.party.session);
+    let mut frames = Vec::new(alloc);
+    let read = read_in(
+        alloc,
+        &mut parts.wire,
+        &mut parts.reader,
+        may_end,
+        buffer,
+        &mut frames,
+    );
+    take_all(rt, alloc, &mut parts.party, book, pass, frames)?;
+    let came = read?;
+    Ok(answer(has_ended(&parts.party.session, &parts.out), came))
 }
 
 /// Reads once, takes the frames that came, puts the frames that are owed into the buffer, and
