@@ -140,7 +140,7 @@ impl<W> Serving<W> {
 }
 
 /// What connections do in their turns.
-#[derive(Clone, Copy, PartialEq, Eq)]
+#[derive(Clone, Copy)]
 enum Does {
     /// They take what came, and say nothing.
     Hear,

@@ -5,7 +5,7 @@ use Rattle.nm_topology.specs.TopologyValue.{TopologyValue}
 use Rattle.nm_book.specs.Book.{BookValue}
 use Rattle.nm_rounds.specs.Headline.{Headline}
 use Rattle.nm_rounds.specs.Replay.{IsReplay}
-use Rattle.nm_rounds.specs.declared.replay.Ending.TheVariants.{Ended, NoSuch}
+use Rattle.nm_rounds.specs.declared.replay.ReplayEnd.TheVariants.{Ended, NoSuch}
 use Rattle.nm_rounds.specs.declared.step.StepAnswer.{StepAnswer}
 use Rattle.nm_rounds.specs.declared.step.WorldStep.{WorldStep}
 use Rattle.nm_script.specs.Printed.{report_text}

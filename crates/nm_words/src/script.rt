@@ -13,7 +13,7 @@ use crate::reading::{read_network, read_text};
 use nm_base::Sink;
 use nm_command::Status;
 use nm_rounds::replay::replay;
-use nm_rounds::{Ending, ReplayFault, WorldStep};
+use nm_rounds::{ReplayEnd, ReplayFault, WorldStep};
 use nm_script::{ScriptFault, read_script, report_text};
 use nm_topology::TopoFault;
 use std::alloc::Global;
@@ -63,9 +63,9 @@ fn steps_output(
         }
     };
     match report.ending {
-        Ending::Ended => Output::of(report_text(alloc, &report), Status::Done),
-        Ending::NoSuch { step } => Err(Status::Step(step)),
-        Ending::Memory { .. } => Err(Status::Memory),
+        ReplayEnd::Ended => Output::of(report_text(alloc, &report), Status::Done),
+        ReplayEnd::NoSuch { step } => Err(Status::Step(step)),
+        ReplayEnd::Memory { .. } => Err(Status::Memory),
     }
 }
 

@@ -6,7 +6,7 @@ use nm_base::{ChanNo, PartNo};
 use nm_book::MergeFault;
 use nm_knowledge::{Accepted, KnowFault};
 use nm_rounds::replay::replay;
-use nm_rounds::{Ending, ReplayFault, StepAnswer, WorldReport, WorldStep};
+use nm_rounds::{ReplayEnd, ReplayFault, StepAnswer, WorldReport, WorldStep};
 use std::process::Abort;
 use std::test::Fail;
 
@@ -79,11 +79,11 @@ fn answered(answer: &StepAnswer) -> (&'static str, u64) {
 }
 
 /// An ending in a word and its step.
-fn ended(ending: Ending) -> (&'static str, u64) {
+fn ended(ending: ReplayEnd) -> (&'static str, u64) {
     match ending {
-        Ending::Ended => ("ended", 0),
-        Ending::NoSuch { step } => ("nosuch", step),
-        Ending::Memory { step } => ("memory", step),
+        ReplayEnd::Ended => ("ended", 0),
+        ReplayEnd::NoSuch { step } => ("nosuch", step),
+        ReplayEnd::Memory { step } => ("memory", step),
     }
 }
 
@@ -193,7 +193,7 @@ fn a_replay_ends_at_the_step(rt: HostRuntime) -> Result<(), Fail> {
             again(&rt, &rows, &steps)
         }
         Ok(report) => match report.ending {
-            Ending::Memory { step } => {
+            ReplayEnd::Memory { step } => {
                 stopped_at(&rt, &report, &rows, &steps, step)?;
                 again(&rt, &rows, &steps)
             }

@@ -1,8 +1,8 @@
 use Rattle.nm_net.proofs.Recordings.{streams_more, streams_none}
 use Rattle.nm_net.proofs.recording.write_records.Goals as goal
 
-pub returns-then-is_empty : goal.returns-then-is_empty
-returns-then-is_empty g c = streams_none g.S.Sink.taken g.S.Sink.failures c.args.files.now.files.items c.requires
+pub returns-then-service : goal.returns-then-service
+returns-then-service g c = streams_none g.S.Sink.taken g.S.Sink.failures c.args.files.now.files.items c.requires
 
 pub loop-init : goal.loop-init
 loop-init g c = streams_none g.S.Sink.taken g.S.Sink.failures c.args.files.now.files.items c.requires
