@@ -1,13 +1,15 @@
 -- A read from what the wire answered and what the reader made of it.
-use Rattle.std.proofs.Common.{◌≡◌, ℕ, ◌+◌, ◌<◌, ◌≤◌, inl, inr, Bool, false, List, [], ◌++◌, length, take, Option, Some, None, Result, Ok, Err, refl, sym, ◌∙◌, ap, subst, append-nil, arith}
+use Rattle.std.proofs.Common.{◌≡◌, ℕ, ◌+◌, ◌<◌, ◌≤◌, inl, inr, Bool, true, false, nat_lt, if◌then◌else◌, List, [], ◌++◌, length, take, Option, Some, None, Result, Ok, Err, refl, sym, ◌∙◌, ap, subst, append-nil, arith}
 use Rattle.std.specs.List.{AllByRecursion}
+use Rattle.std.proofs.lemmas.Bool.Decides.{nat_tests}
 use Rattle.std.proofs.lemmas.Grind.{common_steps}
 use Rattle.nm_base.specs.Wire.{Goes}
 use Rattle.nm_frames.specs.declared.frame.Frame.{Frame}
 use Rattle.nm_frames.specs.declared.fault.FrameFault.{FrameFault}
+use Rattle.nm_frames.specs.declared.fault.FrameFault.TheVariants.{BadLength}
 use Rattle.nm_frames.specs.Frame.{IsFrame, stream_octets}
 use Rattle.nm_frames.specs.Reader.{FedFault, ReaderValue}
-use Rattle.nm_frames.specs.Stream.{IsShort, fault_shown, stated_length}
+use Rattle.nm_frames.specs.Stream.{IsShort, fault_shown, is_bad_length, stated_length}
 use Rattle.nm_engine.specs.declared.answer.Cause.{Cause}
 use Rattle.nm_engine.specs.declared.answer.Cause.TheVariants.{End, Fault, Frame as BadFrame, Session as BadSession, Book, Memory}
 use Rattle.nm_base.specs.declared.limits.TheConstants.{MAX_FRAME_OCTETS, MAX_READ_OCTETS}
@@ -66,12 +68,9 @@ fed_fault old new piece before after e none fed =
     let same : after ≡ fed.cut.frames = fed.cut.added ∙ ap (λ (l : List Frame). l ++ fed.cut.frames) none in
     (fed.rest, record { parts = fed.cut.parts ∙ ap (λ fs. stream_octets fs ++ fed.rest) (sym same); each = subst (λ (fs : List Frame). AllByRecursion IsFrame fs) (sym same) fed.cut.each }, (e, fed.shown))
 
-pub rest_fault : (old new : ReaderValue) (piece : List ℕ) (before after : List Frame) (e : FrameFault) → FedFault old new piece before after e → length new.rest < MAX_FRAME_OCTETS
-rest_fault old new piece before after e fed = let none : length new.rest ≡ 0 = ap (λ (r : ReaderValue). length r.rest) fed.over in omega (arith, none)
-
 -- no octets are a part of a frame
 pub none_part : IsPart []
-none_part = record { none = refl; short = omega arith }
+none_part = record { none = refl; short = omega arith; most = omega arith }
 
 pub part_fault : (old new : ReaderValue) (piece : List ℕ) (before after : List Frame) (e : FrameFault) → FedFault old new piece before after e → IsPart new.rest
 unfolding none_part
@@ -81,5 +80,13 @@ short_length : (rest : List ℕ) → IsShort rest → length rest < 4 + stated_l
 short_length rest (inl lt) = omega (arith, lt)
 short_length rest (inr lt) = lt
 
+-- octets that show no bad length, and are fewer than their length says, are fewer than the longest frame has
+most_if : (n k : ℕ) (more : Option FrameFault) (b c : Bool) → nat_lt n 4 ≡ b → is_bad_length k ≡ c → (if b then None else if c then Some BadLength else more) ≡ None → n < 4 + k → n < MAX_FRAME_OCTETS
+most_if n k more true c few bad none lt = grind (arith, nat_tests, few)
+most_if n k more false true few bad none lt = cc
+most_if n k more false false few bad none lt = grind (arith, nat_tests, bad, lt)
+
 pub short_part : (rest : List ℕ) → fault_shown rest ≡ None → IsShort rest → IsPart rest
-short_part rest none short = record { none = none; short = short_length rest short }
+short_part rest none short =
+    let lt = short_length rest short in
+    record { none = none; short = lt; most = most_if (length rest) (stated_length rest) _ _ _ refl refl none lt }

@@ -22,11 +22,11 @@ pub record LinkValue (W : Type 0) : Type 0 where
 pub record IsPart (rest : List ℕ) : Type 0 where
   pub none : fault_shown rest ≡ None
   pub short : length rest < 4 + stated_length rest
+  pub most : length rest < MAX_FRAME_OCTETS
 
 -- what a link keeps of octets has limits, whatever the peer sends and takes
 pub record IsBounded (rest out : List ℕ) : Type 0 where
   pub part : IsPart rest
-  pub rest_most : length rest < MAX_FRAME_OCTETS
   pub out_most : length out ≤ MAX_OUT_OCTETS
 
 -- the peer's Hello was taken

@@ -1,13 +1,13 @@
 //! One read of a link.
 
-ghost use Rattle.std.specs.Prelude.{◌≡◌, ◌+◌, ◌<◌, [], true, false, length, IfOk};
+ghost use Rattle.std.specs.Prelude.{◌≡◌, [], false, length};
 ghost use Rattle.nm_base.specs.declared.limits.TheConstants.{MAX_READ_OCTETS};
 ghost use Rattle.nm_engine.specs.Link.{IsPart};
 ghost use Rattle.nm_engine.specs.Reading.{FeedsReader, Reads};
 
 use crate::answer::Cause;
 use nm_base::Wire;
-use nm_base::limits::{MAX_FRAME_OCTETS, MAX_READ_OCTETS};
+use nm_base::limits::MAX_READ_OCTETS;
 use nm_base::wire::Read;
 use nm_frames::{Frame, FrameFault, Reader};
 use std::alloc::{AllocError, Global};
@@ -33,6 +33,7 @@ impl ReadBuffer {
 }
 
 /// Hands octets that came to the reader, and puts the frames that are whole now into a list.
+#[tactic(auto, using(crate::proofs::Readings::short_part))]
 fn feed(
     alloc: Global,
     reader: &mut Reader,
@@ -41,10 +42,8 @@ fn feed(
 ) -> Result<usize, Cause>
     requires sound { reader.old.failed ≡ false }
     requires none { frames.old.items ≡ [] }
-    requires rest { length reader.old.rest < MAX_FRAME_OCTETS }
     requires part { IsPart reader.old.rest }
     ensures feeds { FeedsReader reader.old octets.now frames.new.items reader.new result }
-    ensures rest { length reader.new.rest < MAX_FRAME_OCTETS }
     ensures part { IsPart reader.new.rest }
 {
     match reader.feed(alloc, octets, frames) {
@@ -69,11 +68,9 @@ fn read_into<W: Wire>(
     requires size { length octets.old ≡ MAX_READ_OCTETS }
     requires sound { reader.old.failed ≡ false }
     requires none { frames.old.items ≡ [] }
-    requires rest { length reader.old.rest < MAX_FRAME_OCTETS }
     requires part { IsPart reader.old.rest }
     ensures reads { Reads W.given W.ends W.failures wire.old wire.new may_end reader.old
         frames.new.items reader.new result }
-    ensures rest { length reader.new.rest < MAX_FRAME_OCTETS }
     ensures part { IsPart reader.new.rest }
     ensures keeps { W.taken wire.new ≡ W.taken wire.old }
 {
@@ -96,11 +93,9 @@ pub(crate) fn read_in<W: Wire>(
 ) -> Result<usize, Cause>
     requires sound { reader.old.failed ≡ false }
     requires none { frames.old.items ≡ [] }
-    requires rest { length reader.old.rest < MAX_FRAME_OCTETS }
     requires part { IsPart reader.old.rest }
     ensures reads { Reads W.given W.ends W.failures wire.old wire.new may_end reader.old
         frames.new.items reader.new result }
-    ensures rest { length reader.new.rest < MAX_FRAME_OCTETS }
     ensures part { IsPart reader.new.rest }
     ensures keeps { W.taken wire.new ≡ W.taken wire.old }
 {
