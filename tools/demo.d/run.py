@@ -52,8 +52,8 @@ class Run:
                     if (key, other) in ports:
                         host, port = self.places.proxy_host, ports[key, other]
                     file.write(f"{other[0]} {other[1]} {host}:{port}\n")
-            words = [self.program, "node", self.network.path, folder, str(key[0]), str(key[1]), os.path.join(folder, "addresses")]
-            self.processes[key] = Process(key, words, folder, self.places.entrance(key))
+            words = [self.program, "node", self.network.path, folder, str(key[0]), str(key[1]), os.path.join(folder, "addresses"), "stats"]
+            self.processes[key] = Process(key, words, folder, self.network.stop, self.places.entrance(key))
 
     def name(self, key):
         return f"{self.names[key[0]]}, replica {key[1]}"
@@ -62,12 +62,12 @@ class Run:
         """Kills one process in the midst, and begins it anew a little later, while all others run."""
         process = self.processes[KILLED]
         others = [other for key, other in self.processes.items() if key != KILLED]
-        if process.times_begun == 1 and not self.away and process.share >= KILLED_AT_SHARE:
+        if process.times_begun == 1 and not self.away and process.share() >= KILLED_AT_SHARE:
             process.kill()
             self.counts.forget(KILLED)
             self.check_running(others, "killed")
             self.away[KILLED] = time.monotonic()
-            self.say(f"{self.seconds():4.0f} s: {self.name(KILLED)} is killed at {process.share} % (SIGKILL); the {len(others)} others go on", "bad")
+            self.say(f"{self.seconds():4.0f} s: {self.name(KILLED)} is killed at {process.share()} % (SIGKILL); the {len(others)} others go on", "bad")
         elif self.away and time.monotonic() - self.away[KILLED] >= AWAY_SECONDS:
             self.away.clear()
             self.check_running(others, "begun anew")
@@ -85,13 +85,13 @@ class Run:
                 continue
             process.look()
             if process.status() not in (None, 0):
-                raise Failed(f"{self.name(key)} ended with status {process.status()} {process.last_line()}".strip())
+                raise Failed(f"{self.name(key)} ended with status {process.status()} {process.fault()}".strip())
         return not self.away and all(process.status() == 0 for process in self.processes.values())
 
     async def until_all_ended(self, view):
         while not self.look():
             if self.seconds() > self.places.max_seconds:
-                left = "; ".join(f"{self.name(key)} at {process.share} %" for key, process in self.processes.items() if process.status() is None)
+                left = "; ".join(f"{self.name(key)} at {process.share()} %" for key, process in self.processes.items() if process.status() is None)
                 raise Failed(f"after {self.places.max_seconds} s these had not ended: {left}")
             self.kill_and_begin_anew()
             resent = self.places.resent_segments(self.processes.values())
@@ -148,7 +148,7 @@ class Run:
         anew = sum(process.times_begun - 1 for process in self.processes.values())
         lines = [f"{len(self.processes)} processes ended with status 0; {anew} was killed and begun anew in the midst",
                  f"{counts.broken.total():,} connections broken, {counts.cuts:,} of them cut; each of the {len(self.network.pairs())} at least {least} times",
-                 f"{counts.packets.total():,} messages carried, {counts.again.total():,} of them sent again, {counts.lost()} lost"]
+                 f"{counts.messages.total():,} messages carried, {counts.again.total():,} of them sent again, {counts.lost()} lost"]
         if self.resent is not None:
             lines.append(f"{self.resent:,} TCP segments sent again by the systems of the {len(self.processes)} namespaces")
         return lines + [f"{files} files of {len(self.network.partition_of)} interfaces: each is what the one event list writes"]

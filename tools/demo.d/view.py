@@ -3,41 +3,54 @@
 import shutil
 import sys
 import time
+from collections import namedtuple
 
-BAR = 8
-NUMBERS = ("packets", "nulls", "hellos", "broken", "again")
-COLUMN = 7
+# What is shown: how wide a bar is, and what processes counted, each with its heading and the width of its column.
+Layout = namedtuple("Layout", "bar counted")
+EVENTS, CONNECTIONS = ("events", "events", 8), [("connections", "begun", 7), ("broken", "broken", 8)]
+WIDE = Layout(8, [EVENTS, ("records", "records", 9), ("messages", "messages", 9), *CONNECTIONS])
+NARROW = Layout(6, [EVENTS, *CONNECTIONS])
+WIDE_COLUMNS = 99
+SAFE, AGAIN = 8, 7
+MILLISECOND = 1_000_000
 REFRESH_SECONDS = {True: 0.2, False: 2.0}
 COLOURS = {"": "", "bold": "\033[1m", "dim": "\033[2m", "good": "\033[32m", "bad": "\033[31m", "bar": "\033[36m"}
 PLAIN = "\033[0m"
 
 
-def bar(process, is_away):
+def bar(process, is_away, width):
     """How far a process is."""
     if is_away:
-        return [("killed".ljust(BAR + 6), "bad")]
-    full = process.share * BAR // 100
-    return [("█" * full, "good" if process.share == 100 else "bar"), ("·" * (BAR - full), "dim"), (f" {process.share:3} %", "")]
+        return [("killed".ljust(width + 6), "bad")]
+    share = process.share()
+    full = share * width // 100
+    return [("█" * full, "good" if share == 100 else "bar"), ("·" * (width - full), "dim"), (f" {share:3} %", "")]
 
 
-def partition_line(name, partition, processes, away, counts):
-    """One line of the table."""
-    line = [(f"{partition} {name:<9}", "bold")]
+def heading(layout):
+    """The first line of the table."""
+    bars = "".join(f"{name:<{layout.bar + 8}}" for name in ("replica 0", "replica 1"))
+    counted = "".join(f"{name:>{width}}" for _, name, width in layout.counted)
+    return f"{'partition':<11}{bars}{'safe ms':>{SAFE}}{counted}{'again':>{AGAIN}}"
+
+
+def partition_line(run, partition, layout):
+    """The line of a partition."""
+    line = [(f"{partition} {run.names[partition]:<9}", "bold")]
+    processes = [run.processes[partition, replica] for replica in (0, 1)]
     for process in processes:
-        line += [*bar(process, process.key in away), ("  ", "")]
-    numbers = [counts.of_partition(counter, partition) for counter in (counts.packets, counts.nulls, counts.hellos)]
-    numbers += [counts.broken_of(partition), counts.of_partition(counts.again, partition)]
-    return line + [("".join(f"{number:>{COLUMN},}" for number in numbers), "")]
+        line += [*bar(process, process.key in run.away, layout.bar), ("  ", "")]
+    safe = max(process.safe() for process in processes if process.key not in run.away)
+    numbers = f"{safe / MILLISECOND:>{SAFE}.1f}"
+    for word, _, width in layout.counted:
+        numbers += f"{sum(process.total(word) for process in processes):>{width},}"
+    return line + [(f"{numbers}{run.counts.again_of(partition):>{AGAIN},}", "")]
 
 
-def screen(run, seconds):
+def screen(run, seconds, layout):
     """All lines: each a list of pieces of text with their styles."""
-    head = f"{run.title}; {seconds:.0f} s"
-    table = f"{'partition':<11}{'replica 0':<{BAR + 8}}{'replica 1':<{BAR + 8}}" + "".join(f"{name:>{COLUMN}}" for name in NUMBERS)
-    lines = [[(head, "bold")], [], [(table, "dim")]]
-    for partition, name in enumerate(run.names):
-        processes = [run.processes[partition, replica] for replica in (0, 1)]
-        lines.append(partition_line(name, partition, processes, run.away, run.counts))
+    lines = [[(f"{run.title}; {seconds:.0f} s", "bold")], [], [(heading(layout), "dim")]]
+    lines += [partition_line(run, partition, layout) for partition in range(len(run.names))]
     return lines + [[]] + [[(text, style)] for text, style in run.said]
 
 
@@ -64,15 +77,16 @@ class View:
         if not at_once and time.monotonic() - self.last < REFRESH_SECONDS[self.is_live]:
             return
         self.last = time.monotonic()
-        self.lines = screen(run, seconds)
-        self.show_live() if self.is_live else self.show_line(run, seconds)
+        self.lines = screen(run, seconds, WIDE)
+        self.show_live(run, seconds) if self.is_live else self.show_line(run, seconds)
 
-    def show_live(self):
+    def show_live(self, run, seconds):
         up = f"\033[{self.height}A" if self.height else "\033[?25l"
         width = shutil.get_terminal_size().columns
-        sys.stdout.write(up + "".join(coloured(line, width) + "\033[K\n" for line in self.lines))
+        lines = self.lines if width >= WIDE_COLUMNS else screen(run, seconds, NARROW)
+        sys.stdout.write(up + "".join(f"\033[K{coloured(line, width)}\n" for line in lines))
         sys.stdout.flush()
-        self.height = len(self.lines)
+        self.height = len(lines)
 
     def show_line(self, run, seconds):
         """What happened since, and a line of how far all are."""
@@ -80,7 +94,7 @@ class View:
             print(text, flush=True)
         self.told = len(run.said)
         if not run.is_over:
-            shares = ", ".join(f"{name} {'/'.join(str(run.processes[p, r].share) for r in (0, 1))} %" for p, name in enumerate(run.names))
+            shares = ", ".join(f"{name} {'/'.join(str(run.processes[p, r].share()) for r in (0, 1))} %" for p, name in enumerate(run.names))
             counts = run.counts
             print(f"{seconds:4.0f} s: {shares}; {counts.broken.total():,} connections broken, {counts.again.total():,} sent again", flush=True)
 

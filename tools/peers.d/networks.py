@@ -24,7 +24,7 @@ class Network:
     def __init__(self, path, replicas=1):
         with open(path, "rb") as file:
             text = tomllib.load(file)
-        self.path, self.replicas = path, range(replicas)
+        self.path, self.replicas, self.stop = path, range(replicas), text["stop"]
         places = {node["name"]: node["partition"] for node in text["node"]}
         self.partition_of = {iface["name"]: places[iface["node"]] for iface in text["iface"]}
         self.partitions = sorted(set(places.values()))
