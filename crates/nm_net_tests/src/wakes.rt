@@ -25,7 +25,7 @@ fn a_wake_ends_one_wait(rt: HostRuntime) {
     for _ in 0..20 {
         waker.wake().expect(&rt, "a wake");
         if transport.wait(true) == Waited::Ready {
-            ended += 1;
+            ended = ended.saturating_add(1);
         }
     }
     // Where the host stops this test for longer than a period, that wait runs out.
@@ -42,7 +42,7 @@ fn pass<R: Net + Clock + Abort + Drop + Copy>(rt: &R, alloc: Global, may_wait: b
     for _ in 0..100_000_000u64 {
         waker.wake().expect(rt, "a wake");
         if transport.wait(may_wait) == Waited::RanOut {
-            periods += 1;
+            periods = periods.saturating_add(1);
             if periods == 4 {
                 break;
             }
