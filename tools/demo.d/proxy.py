@@ -14,7 +14,7 @@ CUT_SECONDS = 1.8
 # One piece of so many is trickled: at most so many octets at a time, with so long a pause, so many times; then comes the rest.
 TRICKLED_ONE_OF, TRICKLE_OCTETS, TRICKLE_PAUSE, TRICKLE_TIMES = 16, 24, 0.001, 20
 # Once a Bye came so many connections of a pair are cut at most: one Bye of so many is cut away, of which at least its last octet is not handed on.
-LATE_CUTS, BYES_ONE_OF, BYE_OCTETS = 2, 2, 5
+LATE_CUTS, BYES_ONE_OF, BYE_OCTETS = 1, 2, 5
 PIECE = 65_536
 
 
