@@ -12,7 +12,8 @@ class Counts:
         self.messages = Counter()
         self.again = Counter()
         self.broken = Counter()
-        self.cuts = 0
+        # Connections that were cut; those of them on whose pair a Bye had come; and Byes that were lost with a connection.
+        self.cuts = self.late = self.byes = 0
         self.faults = []
         # The numbers of the messages that a sender began to send to a receiver on a channel.
         self.sent = defaultdict(set)
@@ -47,3 +48,9 @@ class Counts:
     def again_of(self, partition):
         """How many messages the processes of a partition sent again to the same receiver."""
         return sum(count for process, count in self.again.items() if process[0] == partition)
+
+    def note_cut(self, is_late, lost):
+        """A connection was cut, and these frames that had been read were lost with it."""
+        self.cuts += 1
+        self.late += is_late
+        self.byes += sum(frame.kind == frames.BYE for frame in lost)

@@ -13,6 +13,8 @@ HELD_LEAST, HELD_MORE = 0.025, 0.035
 CUT_SECONDS = 1.8
 # One piece of so many is trickled: at most so many octets at a time, with so long a pause, so many times; then comes the rest.
 TRICKLED_ONE_OF, TRICKLE_OCTETS, TRICKLE_PAUSE, TRICKLE_TIMES = 16, 24, 0.001, 20
+# Once a Bye came so many connections of a pair are cut at most: one Bye of so many is cut away, of which at least its last octet is not handed on.
+LATE_CUTS, BYES_ONE_OF, BYE_OCTETS = 1, 2, 5
 PIECE = 65_536
 
 
@@ -30,17 +32,31 @@ class Way:
         self.handed = 0
         self.has_bye = False
 
+    def has_bye_within(self, count):
+        """Whether a Bye, which is the last frame of a way, ends within so many next octets."""
+        return bool(self.whole) and self.whole[-1].kind == BYE and self.whole[-1].end <= self.handed + count
+
+
+class Pair:
+    """Two processes of which one calls the other: how many connections there were, and how many may be cut once a Bye came."""
+
+    def __init__(self):
+        self.count, self.late_left, self.has_bye = 0, LATE_CUTS, False
+
+    def may_cut(self):
+        """Whether a connection may be cut. After a Bye only some are: a process that is done stays two seconds for a peer that lacks its Bye."""
+        return not self.has_bye or self.late_left > 0
+
+    def note_cut(self):
+        self.late_left -= self.has_bye
+
 
 class Connection:
     """A connection that is carried."""
 
-    def __init__(self, ways, chance, counts):
-        self.ways, self.chance, self.counts = ways, chance, counts
+    def __init__(self, pair, ways, chance, counts):
+        self.pair, self.ways, self.chance, self.counts = pair, ways, chance, counts
         self.cut_at = time.monotonic() + chance.random() * CUT_SECONDS
-
-    def is_to_be_cut(self):
-        """Whether its time has come; never once a Bye came: who has taken it may have ended, and would not answer another call."""
-        return time.monotonic() >= self.cut_at and not any(way.has_bye for way in self.ways)
 
     async def hear(self, way):
         """Reads what a sender says, and notes when it is to be handed on."""
@@ -49,7 +65,7 @@ class Connection:
             octets = await way.reader.read(PIECE)
             for frame in way.frames.feed(octets):
                 self.counts.note_sent(frame, way.sender, way.receiver)
-                way.has_bye |= frame.kind == BYE
+                self.pair.has_bye |= frame.kind == BYE
                 way.whole.append(frame)
             await way.pieces.put((loop.time() + HELD_LEAST + self.chance.random() * HELD_MORE, octets))
             if not octets:
@@ -76,21 +92,32 @@ class Connection:
             await asyncio.sleep(TRICKLE_PAUSE)
         return octets
 
+    def cut_after(self, way, count):
+        """After how many of so many next octets the connection is cut, or nothing: at a random one, if its time has come, or within a Bye."""
+        if not self.pair.may_cut():
+            return None
+        if time.monotonic() >= self.cut_at:
+            return self.chance.randrange(count + 1)
+        if way.has_bye_within(count) and self.chance.randrange(BYES_ONE_OF) == 0:
+            return max(0, way.whole[-1].end - way.handed - 1 - self.chance.randrange(BYE_OCTETS))
+        return None
+
     async def hand_on(self, way, octets):
-        """Hands on octets; where the time has come, up to a random one, and the connection is cut there."""
-        is_cut = self.is_to_be_cut()
-        if is_cut:
-            octets = octets[:self.chance.randrange(len(octets) + 1)]
+        """Hands on octets; where the connection is to be cut among them, up to there."""
+        keep = self.cut_after(way, len(octets))
+        octets = octets[:keep]
         way.writer.write(octets)
         way.handed += len(octets)
         while way.whole and way.whole[0].end <= way.handed:
-            self.counts.note_handed(way.whole.popleft(), way.receiver)
+            frame = way.whole.popleft()
+            way.has_bye |= frame.kind == BYE
+            self.counts.note_handed(frame, way.receiver)
         await way.writer.drain()
-        if is_cut:
+        if keep is not None:
             raise Cut
 
     async def carry(self):
-        """Carries the connection to its end: whether it ended as it should, with both Byes."""
+        """Carries the connection to its end: whether it ended as it should, with both Byes handed on."""
         says = [asyncio.ensure_future(self.say(way)) for way in self.ways]
         hears = [asyncio.ensure_future(self.hear(way)) for way in self.ways]
         try:
@@ -100,7 +127,8 @@ class Connection:
                 for task in done:
                     task.result()
         except Cut:
-            self.counts.cuts += 1
+            self.counts.note_cut(self.pair.has_bye, [frame for way in self.ways for frame in way.whole])
+            self.pair.note_cut()
         except OSError:
             pass
         finally:
@@ -116,15 +144,16 @@ class Proxy:
     def __init__(self, host, seed, counts):
         self.host, self.seed, self.counts = host, seed, counts
         self.servers, self.carriers = [], set()
-        self.called = {}
 
     async def open(self, caller, answerer, address):
         """The port at which this caller reaches the process that answers at an address."""
+        pair = Pair()
+
         async def take(reader, writer):
             carrier = asyncio.current_task()
             self.carriers.add(carrier)
             try:
-                await self.take((caller, answerer), address, reader, writer)
+                await self.take(pair, (caller, answerer), address, reader, writer)
             except asyncio.CancelledError:
                 pass
             finally:
@@ -133,19 +162,19 @@ class Proxy:
         self.servers.append(server)
         return server.sockets[0].getsockname()[1]
 
-    async def take(self, pair, address, reader, writer):
-        """Joins one who calls with the process that he wants."""
-        number = self.called[pair] = self.called.get(pair, 0) + 1
-        far = None
+    async def take(self, pair, ends, address, reader, writer):
+        """Joins one who calls with the process that he wants: `ends` are both."""
+        pair.count += 1
+        number, far = pair.count, None
         try:
             far_reader, far = await asyncio.open_connection(*address)
-            ways = [Way(*pair, reader, far), Way(*reversed(pair), far_reader, writer)]
-            if not await Connection(ways, random.Random(f"{self.seed} {pair} {number}"), self.counts).carry():
-                self.counts.broken[pair] += 1
+            ways = [Way(*ends, reader, far), Way(*reversed(ends), far_reader, writer)]
+            if not await Connection(pair, ways, random.Random(f"{self.seed} {ends} {number}"), self.counts).carry():
+                self.counts.broken[ends] += 1
         except OSError:
             pass
         except ValueError as fault:
-            self.counts.faults.append(f"{pair}: {fault}")
+            self.counts.faults.append(f"{ends}: {fault}")
         finally:
             for end in (writer, far):
                 if end is not None:

@@ -133,11 +133,13 @@ class Run:
         return count
 
     def check_counts(self):
-        """What the proxy saw: no message was lost, and each connection broke several times."""
+        """What the proxy saw: no message was lost, some Byes were, and each connection broke several times."""
         if self.counts.faults:
             raise Failed(f"the proxy read what is no frame: {self.counts.faults[0]}")
         if self.counts.lost():
             raise Failed(f"{self.counts.lost()} messages never came whole")
+        if not self.counts.byes:
+            raise Failed("no Bye was lost")
         least = min(self.counts.broken[pair] for pair in self.network.pairs())
         if least < 2:
             raise Failed(f"a connection broke {least} times only")
@@ -148,6 +150,7 @@ class Run:
         anew = sum(process.times_begun - 1 for process in self.processes.values())
         lines = [f"{len(self.processes)} processes ended with status 0; {anew} was killed and begun anew in the midst",
                  f"{counts.broken.total():,} connections broken, {counts.cuts:,} of them cut; each of the {len(self.network.pairs())} at least {least} times",
+                 f"{counts.late:,} connections cut once a Bye had come; {counts.byes:,} Byes lost with them, and said again",
                  f"{counts.messages.total():,} messages carried, {counts.again.total():,} of them sent again, {counts.lost()} lost"]
         if self.resent is not None:
             lines.append(f"{self.resent:,} TCP segments sent again by the systems of the {len(self.processes)} namespaces")
