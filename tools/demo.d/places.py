@@ -1,22 +1,17 @@
 """Where the processes and the proxy listen: over loopback, or in network namespaces."""
 
-import socket
-
+import nodes
 import spaces
 
 
 class Loopback:
-    """All at 127.0.0.1, at free ports."""
+    """All at 127.0.0.1, at ports that the system gives to no connection, so that a process which is begun anew finds its own."""
     title = "over loopback"
     max_seconds = 60
     proxy_host = "127.0.0.1"
 
     def __init__(self, keys):
-        self.ports = {}
-        held = [socket.create_server((self.proxy_host, 0)) for _ in keys]
-        for key, door in zip(keys, held):
-            self.ports[key] = door.getsockname()[1]
-            door.close()
+        self.ports = {key: nodes.free_port() for key in keys}
 
     def address(self, key):
         return self.proxy_host, self.ports[key]

@@ -38,7 +38,7 @@ class Way:
 
 
 class Pair:
-    """Two processes of which one calls the other: how many connections there were, and how many may be cut once a Bye came."""
+    """Two processes of which one calls the other: how many connections there were, and how many may lose a Bye, or be cut once one came."""
 
     def __init__(self):
         self.count, self.late_left, self.has_bye = 0, LATE_CUTS, False
@@ -47,8 +47,9 @@ class Pair:
         """Whether a connection may be cut. After a Bye only some are: a process that is done stays two seconds for a peer that lacks its Bye."""
         return not self.has_bye or self.late_left > 0
 
-    def note_cut(self):
-        self.late_left -= self.has_bye
+    def note_end(self, has_broken, lost):
+        """A connection ended. One end may have let it go before it read the Bye, as when the next connection's Hello overtakes it."""
+        self.late_left -= (has_broken and self.has_bye) or any(frame.kind == BYE for frame in lost)
 
 
 class Connection:
@@ -116,8 +117,13 @@ class Connection:
         if keep is not None:
             raise Cut
 
+    def lost(self):
+        """The frames that came whole and were not handed on whole."""
+        return [frame for way in self.ways for frame in way.whole]
+
     async def carry(self):
         """Carries the connection to its end: whether it ended as it should, with both Byes handed on."""
+        has_broken = False
         says = [asyncio.ensure_future(self.say(way)) for way in self.ways]
         hears = [asyncio.ensure_future(self.hear(way)) for way in self.ways]
         try:
@@ -127,11 +133,12 @@ class Connection:
                 for task in done:
                     task.result()
         except Cut:
-            self.counts.note_cut(self.pair.has_bye, [frame for way in self.ways for frame in way.whole])
-            self.pair.note_cut()
+            has_broken = True
+            self.counts.note_cut(self.pair.has_bye, self.lost())
         except OSError:
-            pass
+            has_broken = True
         finally:
+            self.pair.note_end(has_broken, self.lost())
             for task in says + hears:
                 task.cancel()
             await asyncio.gather(*says, *hears, return_exceptions=True)
