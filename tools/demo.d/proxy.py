@@ -13,8 +13,8 @@ HELD_LEAST, HELD_MORE = 0.025, 0.035
 CUT_SECONDS = 1.8
 # One piece of so many is trickled: at most so many octets at a time, with so long a pause, so many times; then comes the rest.
 TRICKLED_ONE_OF, TRICKLE_OCTETS, TRICKLE_PAUSE, TRICKLE_TIMES = 16, 24, 0.001, 20
-# Once a Bye came so many connections of a pair are cut at most: one Bye of so many is cut away, of which at least its last octet is not handed on.
-LATE_CUTS, BYES_ONE_OF, BYE_OCTETS = 1, 2, 5
+# One Bye of so many is cut away, of which at least its last octet is not handed on.
+BYES_ONE_OF, BYE_OCTETS = 2, 5
 PIECE = 65_536
 
 
@@ -38,18 +38,10 @@ class Way:
 
 
 class Pair:
-    """Two processes of which one calls the other: how many connections there were, and how many may lose a Bye, or be cut once one came."""
+    """Two processes of which one calls the other: how many connections there were, and whether a Bye came over one of them."""
 
     def __init__(self):
-        self.count, self.late_left, self.has_bye = 0, LATE_CUTS, False
-
-    def may_cut(self):
-        """Whether a connection may be cut. After a Bye only some are: a process that is done stays two seconds for a peer that lacks its Bye."""
-        return not self.has_bye or self.late_left > 0
-
-    def note_end(self, has_broken, lost):
-        """A connection ended. One end may have let it go before it read the Bye, as when the next connection's Hello overtakes it."""
-        self.late_left -= (has_broken and self.has_bye) or any(frame.kind == BYE for frame in lost)
+        self.count, self.has_bye = 0, False
 
 
 class Connection:
@@ -57,6 +49,8 @@ class Connection:
 
     def __init__(self, pair, ways, chance, counts):
         self.pair, self.ways, self.chance, self.counts = pair, ways, chance, counts
+        # Of all connections of a pair over which a Bye comes only the first may be cut, since an end that was made twice is sure.
+        self.may_be_cut = not pair.has_bye
         self.cut_at = time.monotonic() + chance.random() * CUT_SECONDS
 
     async def hear(self, way):
@@ -95,7 +89,7 @@ class Connection:
 
     def cut_after(self, way, count):
         """After how many of so many next octets the connection is cut, or nothing: at a random one, if its time has come, or within a Bye."""
-        if not self.pair.may_cut():
+        if not self.may_be_cut:
             return None
         if time.monotonic() >= self.cut_at:
             return self.chance.randrange(count + 1)
@@ -117,13 +111,8 @@ class Connection:
         if keep is not None:
             raise Cut
 
-    def lost(self):
-        """The frames that came whole and were not handed on whole."""
-        return [frame for way in self.ways for frame in way.whole]
-
     async def carry(self):
         """Carries the connection to its end: whether it ended as it should, with both Byes handed on."""
-        has_broken = False
         says = [asyncio.ensure_future(self.say(way)) for way in self.ways]
         hears = [asyncio.ensure_future(self.hear(way)) for way in self.ways]
         try:
@@ -133,12 +122,10 @@ class Connection:
                 for task in done:
                     task.result()
         except Cut:
-            has_broken = True
-            self.counts.note_cut(self.pair.has_bye, self.lost())
+            self.counts.note_cut(self.pair.has_bye, [frame for way in self.ways for frame in way.whole])
         except OSError:
-            has_broken = True
+            pass
         finally:
-            self.pair.note_end(has_broken, self.lost())
             for task in says + hears:
                 task.cancel()
             await asyncio.gather(*says, *hears, return_exceptions=True)
