@@ -51,6 +51,7 @@ pub(crate) struct Serving<W> {
     /// More may be left to do that no connection tells of: the next poll does not wait.
     pub is_busy: bool,
     buffer: ReadBuffer,
+    alloc: Global,
 }
 
 /// What turns of connections came to.
@@ -119,6 +120,7 @@ impl<W> Serving<W> {
             short: Lasted::new(),
             is_busy: true,
             buffer,
+            alloc,
         })
     }
 
@@ -152,13 +154,13 @@ enum Does {
 /// came to.
 fn turns<W: Wire, C: Counts, R: Wait>(
     rt: &R,
-    alloc: Global,
     book: &SharedBook<C>,
     pass: &mut Pass<C>,
     serving: &mut Serving<W>,
     key: usize,
     does: Does,
 ) -> (Moves, Turn) {
+    let alloc = serving.alloc;
     let Some(connection) = serving.connections.open.get_mut(key) else {
         return (Moves::NONE, Turn::Idle);
     };
@@ -186,7 +188,6 @@ fn turns<W: Wire, C: Counts, R: Wait>(
 /// serving ends.
 fn serve_all<T: Transport, C: Counts, R: Wait>(
     rt: &R,
-    alloc: Global,
     service: &Service<'_, C>,
     pass: &mut Pass<C>,
     transport: &mut T,
@@ -198,7 +199,7 @@ fn serve_all<T: Transport, C: Counts, R: Wait>(
 {
     let mut all = Moves::NONE;
     for key in 0..serving.connections.open.capacity() {
-        let (moves, turn) = turns(rt, alloc, service.book, pass, serving, key, does);
+        let (moves, turn) = turns(rt, service.book, pass, serving, key, does);
         serving.connections.settle(transport, key, turn)?;
         all = all.with(moves);
     }
@@ -385,7 +386,6 @@ fn serve_and_act<C: Counts, S, T: Transport, R: Wait>(
 {
     let heard = serve_all(
         rt,
-        alloc,
         service,
         &mut holdings.pass,
         transport,
@@ -398,7 +398,6 @@ fn serve_and_act<C: Counts, S, T: Transport, R: Wait>(
     serving.polls = serving.polls.saturating_add(1);
     let said = serve_all(
         rt,
-        alloc,
         service,
         &mut holdings.pass,
         transport,

@@ -369,6 +369,7 @@ where
     let (ended, has_failed) = (AtomicUsize::new(0), AtomicBool::new(false));
     let lendings = lendings_for(alloc, books)?;
     let threaded = Threaded {
+        alloc,
         topology: &*plan.topology,
         books: &*books,
         board: &board,

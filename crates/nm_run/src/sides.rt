@@ -58,7 +58,6 @@ pub(crate) struct SideEnd<S> {
 /// replicas call it. The dispatcher notes how far it is.
 fn serve<S: Sink, G: Gate, R: Net + Wait + Clock + Drop + Copy>(
     rt: &R,
-    alloc: Global,
     threaded: &Threaded<'_, G>,
     role: Role,
     peers: (&[PartNo], &[ReplicaName]),
@@ -95,6 +94,7 @@ fn serve<S: Sink, G: Gate, R: Net + Wait + Clock + Drop + Copy>(
         dispatcher: threaded.dispatcher,
         lending: own.lending,
     };
+    let alloc = threaded.alloc;
     run_replica(rt, alloc, &service, holdings, transport, &gate)
 }
 
@@ -136,15 +136,7 @@ pub(crate) fn run_side<S: Sink, G: Gate, R: Net + Wait + Clock + Drop + Copy>(
         Err(error) => served_of(&error),
         Ok(mut transport) => {
             let peers = (partitions.as_slice(), callers.as_slice());
-            serve(
-                rt,
-                alloc,
-                threaded,
-                role,
-                peers,
-                &mut holdings,
-                &mut transport,
-            )
+            serve(rt, threaded, role, peers, &mut holdings, &mut transport)
         }
     };
     if served != Served::Ended {

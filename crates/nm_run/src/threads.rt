@@ -7,6 +7,7 @@ use nm_net::Lending;
 use nm_progress::Progress;
 use nm_shared::{ClockBoard, Plain, SharedBook};
 use nm_topology::Topology;
+use std::alloc::Global;
 use std::sync::Arc;
 use std::sync::atomic::{AtomicBool, AtomicUsize, Ordering};
 
@@ -20,6 +21,8 @@ pub(crate) struct Own<'a> {
 /// What all threads of a run share.
 #[derive(Clone, Copy)]
 pub(crate) struct Threaded<'a, G> {
+    /// Where memory comes from.
+    pub alloc: Global,
     pub topology: &'a Arc<Topology>,
     /// The books of all replicas, by partition and replica.
     pub books: &'a [SharedBook<Plain>],
