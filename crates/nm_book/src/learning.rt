@@ -28,8 +28,8 @@ use nm_topology::topology::channels_are_numbered_by_their_receivers;
 /// A new message of a channel is known from now on.
 fn add_data(knows: &mut Vec<Know>, message: &Data) -> Result<(), AcceptFault>
     requires there { message.now.channel < length knows.old.items }
-    requires next { (data_taken knows.old.items message.now.channel message.now.number message.now.time
-        message.now.packet).answer ≡ IsNew }
+    requires next { (data_taken knows.old.items message.now.channel message.now.number
+        message.now.time message.now.packet).answer ≡ IsNew }
     ensures ok { OnOk result (knows.new.items ≡ slice_set knows.old.items message.now.channel
         (data_taken knows.old.items message.now.channel message.now.number message.now.time
         message.now.packet).after) }
@@ -56,8 +56,8 @@ pub(crate) fn take_data(
         (receiving_iface topology.now message.now.channel) ≡ true }
     ensures book { IsBook topology.now partition knows.new.items part.new }
     ensures learns { Learns knows.old.items knows.new.items message.now.channel
-        (data_taken knows.old.items message.now.channel message.now.number message.now.time message.now.packet)
-        result }
+        (data_taken knows.old.items message.now.channel message.now.number message.now.time
+        message.now.packet) result }
     ensures steps { part.new.steps ≡ part.old.steps }
     ensures handed { part.new.records.handed ≡ part.old.records.handed }
 {
@@ -78,7 +78,8 @@ pub(crate) fn take_data(
 
 /// The next message of a channel that comes in: its arrival, for which there is room, is to come.
 fn put_message(topology: &Topology, partition: PartNo, part: &mut Part<HeapList>, message: Data)
-    requires next { (knows : List (Knowledge (List ℕ))) × IsBook topology.now partition knows part.old
+    requires next { (knows : List (Knowledge (List ℕ)))
+        × IsBook topology.now partition knows part.old
         × IsNext topology.now partition knows message }
     requires room { 1 ≤ room_in part.old.timeline.events }
     ensures book { (knows : List (Knowledge (List ℕ)))
@@ -111,7 +112,8 @@ pub(crate) fn put_messages(
     part: &mut Part<HeapList>,
     messages: Vec<Data>,
 )
-    requires next { (knows : List (Knowledge (List ℕ))) × IsBook topology.now partition knows part.old
+    requires next { (knows : List (Knowledge (List ℕ)))
+        × IsBook topology.now partition knows part.old
         × Follow topology.now partition knows messages.items }
     requires room { length messages.items ≤ room_in part.old.timeline.events }
     ensures book { (knows : List (Knowledge (List ℕ)))
@@ -140,8 +142,8 @@ fn put_data(
     requires there { message.now.channel < length topology.now.receivers }
     requires comes { comes_in (net_of topology.now) partition
         (receiving_iface topology.now message.now.channel) ≡ true }
-    requires next { (data_taken knows.old.items message.now.channel message.now.number message.now.time
-        message.now.packet).answer ≡ IsNew }
+    requires next { (data_taken knows.old.items message.now.channel message.now.number
+        message.now.time message.now.packet).answer ≡ IsNew }
     requires room { 1 ≤ room_in part.old.timeline.events }
     ensures book { IsBook topology.now partition knows.new.items part.new }
     ensures ok { OnOk result (knows.new.items ≡ slice_set knows.old.items message.now.channel

@@ -115,7 +115,8 @@ fn add_new(
 ) -> Result<(), AllocError>
     requires more { length know.now.list < length other.now.list }
     requires joinable { join_fault same_octets know.now other.now ≡ None }
-    ensures { IfOk result (λ _. (t : TopologyValue) (p : ℕ) (knows others : List (Knowledge (List ℕ)))
+    ensures { IfOk result (λ _. (t : TopologyValue) (p : ℕ)
+        (knows others : List (Knowledge (List ℕ)))
         → IsTurnOf t p knows others channel know.now other.now messages.old.items
         → comes_in (net_of t) p (receiving_iface t channel) ≡ true
         → IsGrown t p knows (told_each knows messages.old.items) channel know.now other.now
@@ -237,7 +238,8 @@ pub(crate) fn merge_all(
     requires book { IsBook topology.now partition knows.old.items part.old }
     requires others { length others.now ≡ length topology.now.receivers }
     ensures book { IsBook topology.now partition knows.new.items part.new }
-    ensures merges { MergesChannels topology.now partition knows.old.items others.now true knows.new.items result }
+    ensures merges { MergesChannels topology.now partition knows.old.items others.now true
+        knows.new.items result }
     ensures steps { part.new.steps ≡ part.old.steps }
     ensures handed { part.new.records.handed ≡ part.old.records.handed }
 {

@@ -36,7 +36,8 @@ fn clock_of(topology: &Topology, partition: PartNo, channel: ChanNo, know: &Know
 /// of the channels that come in.
 pub(crate) fn safe_time(topology: &Topology, partition: PartNo, knows: &[Know]) -> Time
     requires { length knows.now ≡ length topology.now.receivers }
-    ensures { result ≡ safe_time (net_of topology.now) partition (knowledge_of topology.now knows.now) }
+    ensures { result ≡ safe_time (net_of topology.now) partition
+        (knowledge_of topology.now knows.now) }
 {
     accepted_topologies_are_in_order(topology); // law: channels have numbers of 32 bits
     channels_are_numbered_by_their_receivers(topology); // law: a channel has its own interface

@@ -1,6 +1,7 @@
 -- What a session gave, and what of it stands in the buffer.
 use Rattle.std.specs.Prelude.{◌≡◌, ℕ, ◌≤◌, ◌⊎◌, Bool, List, [], ◌++◌, length, map, Option, Some, None, Result, Ok, Err}
 use Rattle.std.specs.Prelude.{IfOk, OnErr}
+use Rattle.nm_base.specs.declared.limits.TheConstants.{FULL_OUT_OCTETS}
 use Rattle.nm_book.specs.Book.{BookValue}
 use Rattle.nm_frames.specs.declared.frame.Frame.{Frame}
 use Rattle.nm_frames.specs.Frame.{stream_octets}
@@ -28,11 +29,11 @@ GivesOr h s t before after (Err BadSession) = ⊥
 GivesOr h s t before after (Err Book) = ⊥
 GivesOr h s t before after (Err Memory) = (lost : List ℕ) × GivesFrames h s t before after lost
 
--- a session owes nothing of a book as it then was; where there is no session, nothing is owed
+-- a session owes nothing of a book as it then was (which book, this does not say); where there is no session, nothing is owed
 abbrev pub OwesNone : Option SessionValue → Type 0
 OwesNone None = Unit {0}
 OwesNone (Some s) = (b : BookValue) × (owed s b ≡ None)
 
--- nothing is held back without a reason: the session owes nothing, or so many octets wait
+-- nothing is held back without a reason: the session owes nothing of some book, or the buffer is full
 abbrev pub HoldsNone : Option SessionValue → List ℕ → Type 0
-HoldsNone s waiting = OwesNone s ⊎ (131072 ≤ length waiting)
+HoldsNone s waiting = OwesNone s ⊎ (FULL_OUT_OCTETS ≤ length waiting)

@@ -9,9 +9,9 @@ ghost use Rattle.nm_engine.specs.Many.{Accounts, GoesOn, HasDue};
 ghost use Rattle.nm_frames.specs.Lives.{AreConsecutive, SessionStep, due_after};
 ghost use Rattle.nm_frames.specs.Session.{SessionValue};
 
-/// Over any number of turns and halves of turns, whatever they answered, nothing that was taken over
-/// is lost and nothing is made up: the octets that came are those of the frames that were taken and a rest, and
-/// those that went begin the octets of the frames that were given.
+/// Over any number of turns and halves of turns, whatever they answered, nothing that was taken
+/// over is lost and nothing is made up: the octets that came are those of the frames that were
+/// taken and a rest, and those that went begin the octets of the frames that were given.
 pub fn nothing_is_lost<W>()
     ensures { (given taken : W → List ℕ) (ends failures : W → ℕ) (first last : LinkValue W)
         (path : List (Turn × LinkValue W)) → GoesOn given taken ends failures first path last

@@ -2,7 +2,8 @@
 
 ghost use Rattle.std.specs.Prelude.{◌≡◌, Ok, Err, MatchResult, IfOk, OnErr, is_some, length};
 ghost use Rattle.std.specs.Prelude.{nat_lt};
-ghost use Rattle.nm_frames.specs.Owed.{HasNext, MayHaveNext, after_giving, given_maybe, hello_of, owed};
+ghost use Rattle.nm_frames.specs.Owed.{HasNext, MayHaveNext, after_giving, given_maybe};
+ghost use Rattle.nm_frames.specs.Owed.{hello_of, owed};
 ghost use Rattle.nm_frames.specs.Session.{broken, new_session, next_version, peer_name, purpose};
 ghost use Rattle.nm_frames.specs.Session.{session_version, taken, taken_first, taken_later};
 

@@ -4,14 +4,14 @@ use Rattle.std.proofs.lemmas.Bool.Decides.{nat_tests}
 use Rattle.std.specs.Prelude.{nat_le}
 use Rattle.nm_shared.specs.Known.{Home}
 use Rattle.nm_net.specs.Polls.{ending_of, idle_after}
-use Rattle.nm_net.specs.Transport.{waits_after}
+use Rattle.nm_net.specs.Transport.{elapsed_after}
 use Rattle.nm_net.specs.Served.{EndsWith, WasFinished}
 use Rattle.nm_net.specs.declared.served.Served.{Served}
 use Rattle.nm_net.specs.declared.served.Served.TheVariants.{Ended, Stalled}
 
 -- there are no more idle periods in a row than waits that ran out
 pub idles_wait : (idle : ℕ) (was_active ran_out : Bool) (start before after : ℕ) → start + idle ≤ before
-    → after ≡ waits_after before ran_out → start + idle_after idle was_active ran_out ≤ after
+    → after ≡ elapsed_after before ran_out → start + idle_after idle was_active ran_out ≤ after
 idles_wait idle true true start before after so_far one = omega (arith, so_far, one)
 idles_wait idle true false start before after so_far one = omega (arith, so_far, one)
 idles_wait idle false true start before after so_far one = omega (arith, so_far, one)

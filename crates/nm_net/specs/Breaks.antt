@@ -17,10 +17,10 @@ break_at None cause = None
 break_at (Some c) cause = break_served cause (is_peer c)
 
 -- what a connection that is taken out leaves: whose it was, and its session
-abbrev pub Leaves : {W : Type 0} → Option (Connection W) → Option Remains → Type 0
-Leaves None remains = remains ≡ None
-Leaves (Some c) None = ⊥
-Leaves (Some c) (Some r) = (r.peer ≡ c.peer) × (r.session ≡ c.link.session)
+abbrev pub Removes : {W : Type 0} → Option (Connection W) → Option Remains → Type 0
+Removes None remains = remains ≡ None
+Removes (Some c) None = ⊥
+Removes (Some c) (Some r) = (r.peer ≡ c.peer) × (r.session ≡ c.link.session)
 
 -- the fault of a result, if it is one
 abbrev pub fault_in : {T E : Type 0} → Result T E → Option E

@@ -4,6 +4,7 @@ pub mod Ends
 pub mod Lasting
 pub mod Leaving
 pub mod Links
+pub mod Period
 pub mod Polls
 pub mod Recording
 pub mod Served

@@ -21,5 +21,5 @@ has_run_out RanOut = true
 has_run_out Fault = true
 
 -- how many waits have ended so, after one more, which did or did not
-abbrev pub waits_after : (before : ℕ) → (ran_out : Bool) → ℕ
-waits_after before ran_out = if ran_out then before + 1 else before
+abbrev pub elapsed_after : (before : ℕ) → (ran_out : Bool) → ℕ
+elapsed_after before ran_out = if ran_out then before + 1 else before

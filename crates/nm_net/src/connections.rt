@@ -2,7 +2,7 @@
 
 ghost use Rattle.std.specs.Prelude.{◌≡◌, IfErr};
 ghost use Rattle.slab.specs.Slab.{get};
-ghost use Rattle.nm_net.specs.Breaks.{Leaves, break_at, fault_in};
+ghost use Rattle.nm_net.specs.Breaks.{Removes, break_at, fault_in};
 ghost use Rattle.nm_net.specs.Leaving.{IsServing};
 ghost use Rattle.nm_net.specs.Links.{are_sure, have_broken, have_ended};
 ghost use Rattle.nm_net.specs.Served.{EndsEarly};
@@ -43,7 +43,7 @@ fn dial<T: Transport>(
     dialing: &mut Dialing,
     peer: usize,
 ) -> Result<(), AllocError>
-    ensures { T.idle_waits transport.new ≡ T.idle_waits transport.old }
+    ensures { T.elapsed_periods transport.new ≡ T.elapsed_periods transport.old }
 {
     if !dialing.wants() {
         return Ok(());
@@ -72,7 +72,7 @@ fn keep<T: Transport, C: Counts>(
     came: u64,
     wire: T::Connection,
 ) -> Result<(), AllocError>
-    ensures { T.idle_waits transport.new ≡ T.idle_waits transport.old }
+    ensures { T.elapsed_periods transport.new ≡ T.elapsed_periods transport.old }
 {
     let mut wire = wire;
     let topology = Arc::try_clone(service.topology)?;
@@ -212,7 +212,7 @@ impl<W> Connections<W> {
         transport: &mut T,
         ran_out: bool,
     )
-        ensures { T.idle_waits transport.new ≡ T.idle_waits transport.old }
+        ensures { T.elapsed_periods transport.new ≡ T.elapsed_periods transport.old }
     {
         for number in 0..self.peers.len() {
             self.peers[number].pass_poll(ran_out);
@@ -222,7 +222,7 @@ impl<W> Connections<W> {
 
     /// Lets strangers go that said no Hello for so many polls.
     fn drop_overdue<T: Transport<Connection = W>>(&mut self, transport: &mut T, ran_out: bool)
-        ensures { T.idle_waits transport.new ≡ T.idle_waits transport.old }
+        ensures { T.elapsed_periods transport.new ≡ T.elapsed_periods transport.old }
     {
         for key in 0..self.open.capacity() {
             let is_overdue = match self.open.get_mut(key) {
@@ -254,7 +254,7 @@ impl<W> Connections<W> {
 
     /// Lets the stranger go that came first, if there is one.
     pub(crate) fn drop_first<T: Transport<Connection = W>>(&mut self, transport: &mut T)
-        ensures { T.idle_waits transport.new ≡ T.idle_waits transport.old }
+        ensures { T.elapsed_periods transport.new ≡ T.elapsed_periods transport.old }
     {
         if let Some(key) = self.first_of(1) {
             let _ = self.remove(transport, key);
@@ -271,7 +271,7 @@ impl<W> Connections<W> {
         alloc: Global,
         transport: &mut T,
     ) -> Result<(), AllocError>
-        ensures { T.idle_waits transport.new ≡ T.idle_waits transport.old }
+        ensures { T.elapsed_periods transport.new ≡ T.elapsed_periods transport.old }
     {
         for peer in 0..self.peers.len() {
             dial(
@@ -297,7 +297,7 @@ impl<W> Connections<W> {
         service: &Service<'_, C>,
         transport: &mut T,
     ) -> Result<(), AllocError>
-        ensures { T.idle_waits transport.new ≡ T.idle_waits transport.old }
+        ensures { T.elapsed_periods transport.new ≡ T.elapsed_periods transport.old }
     {
         for _ in 0..MAX_ACCEPTED {
             let Some(wire) = transport.accept() else {
@@ -330,7 +330,7 @@ impl<W> Connections<W> {
         key: usize,
         turn: Turn,
     ) -> Result<(), Served>
-        ensures idle { T.idle_waits transport.new ≡ T.idle_waits transport.old }
+        ensures idle { T.elapsed_periods transport.new ≡ T.elapsed_periods transport.old }
         ensures early { IfErr result EndsEarly }
     {
         self.meet(transport, key);
@@ -360,7 +360,7 @@ impl<W> Connections<W> {
     /// Where the peer began it, it takes the place of others that the same replica began: that has
     /// let go of those.
     fn meet<T: Transport<Connection = W>>(&mut self, transport: &mut T, key: usize)
-        ensures { T.idle_waits transport.new ≡ T.idle_waits transport.old }
+        ensures { T.elapsed_periods transport.new ≡ T.elapsed_periods transport.old }
     {
         let Some(connection) = self.open.get_mut(key) else {
             return;
@@ -381,7 +381,7 @@ impl<W> Connections<W> {
     /// Lets the connection with this key go, since its peer has begun another: at once, or, where
     /// something may have come that is not read, a Bye maybe, after its next turn.
     fn replace<T: Transport<Connection = W>>(&mut self, transport: &mut T, key: usize)
-        ensures { T.idle_waits transport.new ≡ T.idle_waits transport.old }
+        ensures { T.elapsed_periods transport.new ≡ T.elapsed_periods transport.old }
     {
         if let Some(connection) = self.open.get_mut(key) {
             if connection.link.wire().is_ready() {
@@ -399,7 +399,7 @@ impl<W> Connections<W> {
         key: usize,
         name: &ReplicaName,
     )
-        ensures { T.idle_waits transport.new ≡ T.idle_waits transport.old }
+        ensures { T.elapsed_periods transport.new ≡ T.elapsed_periods transport.old }
     {
         for other in 0..self.open.capacity() {
             let is_other = match self.open.get(other) {
@@ -419,8 +419,8 @@ impl<W> Connections<W> {
         transport: &mut T,
         key: usize,
     ) -> Option<Remains>
-        ensures idle { T.idle_waits transport.new ≡ T.idle_waits transport.old }
-        ensures leaves { Leaves (get self.old.open key) result }
+        ensures idle { T.elapsed_periods transport.new ≡ T.elapsed_periods transport.old }
+        ensures removes { Removes (get self.old.open key) result }
     {
         let connection = self.open.try_remove(key)?;
         let name = connection.link.greeted_by();
@@ -439,7 +439,7 @@ impl<W> Connections<W> {
 
     /// Lets a connection go whose link has ended, and notes whose it was.
     fn end<T: Transport<Connection = W>>(&mut self, transport: &mut T, key: usize)
-        ensures { T.idle_waits transport.new ≡ T.idle_waits transport.old }
+        ensures { T.elapsed_periods transport.new ≡ T.elapsed_periods transport.old }
     {
         let Some(remains) = self.remove(transport, key) else {
             return;
@@ -464,7 +464,7 @@ impl<W> Connections<W> {
         key: usize,
         cause: Cause,
     ) -> Result<(), Served>
-        ensures idle { T.idle_waits transport.new ≡ T.idle_waits transport.old }
+        ensures idle { T.elapsed_periods transport.new ≡ T.elapsed_periods transport.old }
         ensures early { IfErr result EndsEarly }
         ensures served { fault_in result ≡ break_at (get self.old.open key) cause }
     {

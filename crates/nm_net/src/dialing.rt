@@ -5,7 +5,8 @@ ghost use Rattle.std.proofs.Props.{props};
 ghost use Rattle.std.specs.List.{list_all};
 ghost use Rattle.nm_frames.specs.Session.{broken};
 ghost use Rattle.nm_net.specs.Dialing.{IsAtGreeting};
-ghost use Rattle.nm_net.specs.Ends.{after_break, has_ended, is_sure, once_more, rest_after, rest_of};
+ghost use Rattle.nm_net.specs.Ends.{after_break, has_ended, is_sure, once_more};
+ghost use Rattle.nm_net.specs.Ends.{rest_after, rest_of};
 
 use crate::ends::Ends;
 use crate::limits::{RECALL_PERIODS, REST_PERIODS};

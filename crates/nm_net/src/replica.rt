@@ -51,8 +51,8 @@ pub struct Service<'a, C: Counts> {
     pub progress: Option<&'a Progress>,
     /// It notes there how far its book is, too: nobody else does.
     pub notes_progress: bool,
-    /// Its book keeps its records, for who closes it. Else they leave it while it runs: to the trace
-    /// files, where it has any.
+    /// Its book keeps its records, for who closes it. Else they leave it while it runs: to the
+    /// trace files, where it has any.
     pub keeps_records: bool,
 }
 
@@ -70,7 +70,7 @@ pub struct Holdings<C: Counts, S> {
 }
 
 /// For how many periods in a row nothing was moved or done, after one more poll.
-fn idle_polls(before: u64, polled: Polled) -> u64
+fn idle_periods(before: u64, polled: Polled) -> u64
     ensures { result ≡ idle_after before polled.was_active polled.ran_out }
 {
     if polled.was_active {
@@ -119,8 +119,8 @@ pub fn run_replica<C: Counts, S: Sink, T: Transport, G: Gate, R: Wait>(
     requires files { All IsSound holdings.old.files.files.items }
     ensures streams { result ≡ Ended → Streams S.taken S.failures
         holdings.old.files.files.items holdings.new.files.files.items }
-    ensures ends { EndsWith C.exact C.home service.now.idle_limit (T.idle_waits transport.old)
-        (T.idle_waits transport.new) result }
+    ensures ends { EndsWith C.exact C.home service.now.idle_limit (T.elapsed_periods transport.old)
+        (T.elapsed_periods transport.new) result }
     ensures owners { All (IsOwnerOf service.now.board.now) holdings.new.seats.items }
     ensures seats { length holdings.new.seats.items ≡ length holdings.old.seats.items }
     ensures passes { length holdings.new.passes.items ≡ length holdings.old.passes.items }
@@ -137,7 +137,7 @@ pub fn run_replica<C: Counts, S: Sink, T: Transport, G: Gate, R: Wait>(
             Ok(polled) => polled,
             Err(served) => return served,
         };
-        idle = idle_polls(idle, polled);
+        idle = idle_periods(idle, polled);
         if let Some(served) = ending_of(polled.is_done, idle, service.idle_limit, polls + 1) {
             return served;
         }

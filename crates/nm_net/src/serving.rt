@@ -7,7 +7,7 @@ ghost use Rattle.nm_net.specs.Lasting.{has_lasted, lasted_after};
 ghost use Rattle.nm_net.specs.Leaving.{LeavesAfter};
 ghost use Rattle.nm_net.specs.Recording.{Streams};
 ghost use Rattle.nm_net.specs.Served.{EndsEarly, WasFinished};
-ghost use Rattle.nm_net.specs.Transport.{waits_after};
+ghost use Rattle.nm_net.specs.Transport.{elapsed_after};
 
 use crate::acts::{Stand, Standing};
 use crate::connections::Connections;
@@ -194,7 +194,7 @@ fn serve_all<T: Transport, C: Counts, R: Wait>(
     serving: &mut Serving<T::Connection>,
     does: Does,
 ) -> Result<Moves, Served>
-    ensures idle { T.idle_waits transport.new ≡ T.idle_waits transport.old }
+    ensures idle { T.elapsed_periods transport.new ≡ T.elapsed_periods transport.old }
     ensures early { IfErr result EndsEarly }
 {
     let mut all = Moves::NONE;
@@ -207,9 +207,13 @@ fn serve_all<T: Transport, C: Counts, R: Wait>(
     Ok(all)
 }
 
-/// Learns which connections are to be looked at: those that the wait reported, or all where a period
-/// was over.
-fn hear<T: Transport>(transport: &T, connections: &Connections<T::Connection>, ran_out: bool) {
+/// Learns which connections are to be looked at: those that the wait reported, or all where a
+/// period was over.
+fn note_reports<T: Transport>(
+    transport: &T,
+    connections: &Connections<T::Connection>,
+    ran_out: bool,
+) {
     if ran_out {
         connections.note_all();
         return;
@@ -234,7 +238,7 @@ fn bear_shortage<T: Transport>(
     serving: &mut Serving<T::Connection>,
     ran_out: bool,
 ) -> Result<(), Served>
-    ensures idle { T.idle_waits transport.new ≡ T.idle_waits transport.old }
+    ensures idle { T.elapsed_periods transport.new ≡ T.elapsed_periods transport.old }
     ensures early { IfErr result EndsEarly }
     ensures short { IfErr result (λ _. has_lasted SHORT_PERIODS
         (lasted_after serving.old.short.periods ran_out) ≡ true) }
@@ -264,8 +268,8 @@ fn await_transport<T: Transport, C: Counts>(
     transport: &mut T,
     serving: &mut Serving<T::Connection>,
 ) -> Result<bool, Served>
-    ensures idle { IfOk result (λ ran_out. T.idle_waits transport.new
-        ≡ waits_after (T.idle_waits transport.old) ran_out) }
+    ensures idle { IfOk result (λ ran_out. T.elapsed_periods transport.new
+        ≡ elapsed_after (T.elapsed_periods transport.old) ran_out) }
     ensures early { IfErr result EndsEarly }
 {
     serving.connections.dial_all(alloc, transport)?;
@@ -273,7 +277,7 @@ fn await_transport<T: Transport, C: Counts>(
     note_wait(service, may_wait);
     let ran_out = transport.wait(may_wait).has_run_out();
     note_wait(service, false);
-    hear(transport, &serving.connections, ran_out);
+    note_reports(transport, &serving.connections, ran_out);
     serving.connections.pass_poll(transport, ran_out);
     serving.connections.accept_all(alloc, service, transport)?;
     bear_shortage(transport, serving, ran_out)?;
@@ -362,9 +366,9 @@ struct Acted {
     moves: Moves,
 }
 
-/// The connections have turns in which they hear, and the replica does its own part. Then they have
-/// turns in which they speak, so that each peer is told at once all that is new, and no promise that
-/// is overtaken.
+/// The connections have turns in which they hear, and the replica does its own part. Then they
+/// have turns in which they speak, so that each peer is told at once all that is new, and no
+/// promise that is overtaken.
 ///
 /// # Errors
 ///
@@ -377,7 +381,7 @@ fn serve_and_act<C: Counts, S, T: Transport, R: Wait>(
     transport: &mut T,
     serving: &mut Serving<T::Connection>,
 ) -> Result<Acted, Served>
-    ensures idle { T.idle_waits transport.new ≡ T.idle_waits transport.old }
+    ensures idle { T.elapsed_periods transport.new ≡ T.elapsed_periods transport.old }
     ensures files { holdings.new.files ≡ holdings.old.files }
     ensures seats { holdings.new.seats ≡ holdings.old.seats }
     ensures passes { length holdings.new.passes.items ≡ length holdings.old.passes.items }
@@ -442,8 +446,8 @@ pub(crate) fn poll<C: Counts, S: Sink, T: Transport, R: Wait>(
     ensures passes { length holdings.new.passes.items ≡ length holdings.old.passes.items }
     ensures streams { OnOk result (Streams S.taken S.failures
         holdings.old.files.files.items holdings.new.files.files.items) }
-    ensures idle { IfOk result (λ p. T.idle_waits transport.new
-        ≡ waits_after (T.idle_waits transport.old) p.ran_out) }
+    ensures idle { IfOk result (λ p. T.elapsed_periods transport.new
+        ≡ elapsed_after (T.elapsed_periods transport.old) p.ran_out) }
     ensures done { IfOk result (λ p. p.is_done ≡ true → WasFinished C.exact C.home) }
     ensures early { IfErr result EndsEarly }
 {

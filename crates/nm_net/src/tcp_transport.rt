@@ -98,7 +98,7 @@ impl<R: Net + Clock> TcpTransport<R> {
 impl<R: Net + Clock> Transport for TcpTransport<R> {
     type Connection = TcpWire;
 
-    ghost idle_waits = { λ n. n };
+    ghost elapsed_periods = { λ n. n };
 
     fn connect(&mut self, peer: usize) -> Option<TcpWire> {
         let address = *self.peers.get(peer)?;

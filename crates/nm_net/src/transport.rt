@@ -33,24 +33,24 @@ impl Waited {
 /// periods of `limits::PERIOD_MILLISECONDS`: whoever calls and speaks in one can't make it longer.
 /// A clause sees how many were over.
 pub trait Transport {
-    ghost use Rattle.nm_net.specs.Transport.{IsFresh, has_run_out, waits_after};
+    ghost use Rattle.nm_net.specs.Transport.{IsFresh, has_run_out, elapsed_after};
 
     type Connection: Wire + Drop;
 
     // How many waits ended because a period was over, or because it could not wait.
-    ghost idle_waits: { Self → ℕ };
+    ghost elapsed_periods: { Self → ℕ };
 
     /// Begins a connection to the peer with this number, if it can. It may not be made yet.
     fn connect(&mut self, peer: usize) -> Option<Self::Connection>
         ensures fresh { IfSome result (IsFresh Self.Connection.given Self.Connection.taken
             Self.Connection.ends Self.Connection.failures) }
-        ensures idle { idle_waits self.new ≡ idle_waits self.old };
+        ensures idle { elapsed_periods self.new ≡ elapsed_periods self.old };
 
     /// The next connection that a peer began, if there is one.
     fn accept(&mut self) -> Option<Self::Connection>
         ensures fresh { IfSome result (IsFresh Self.Connection.given Self.Connection.taken
             Self.Connection.ends Self.Connection.failures) }
-        ensures idle { idle_waits self.new ≡ idle_waits self.old };
+        ensures idle { elapsed_periods self.new ≡ elapsed_periods self.old };
 
     /// Whether the system refused the connection that was asked for last, or that somebody began,
     /// because it has too little for one more: no peer is to blame.
@@ -61,17 +61,18 @@ pub trait Transport {
     /// Has `wait` end when the connection with this key is ready. It answers whether it will.
     fn watch(&mut self, connection: &mut Self::Connection, key: usize) -> bool
         ensures same { connection.new ≡ connection.old }
-        ensures idle { idle_waits self.new ≡ idle_waits self.old };
+        ensures idle { elapsed_periods self.new ≡ elapsed_periods self.old };
 
     /// Ends that.
     fn unwatch(&mut self, connection: &mut Self::Connection)
         ensures same { connection.new ≡ connection.old }
-        ensures idle { idle_waits self.new ≡ idle_waits self.old };
+        ensures idle { elapsed_periods self.new ≡ elapsed_periods self.old };
 
     /// Waits until a connection is ready or the period is over, or only looks. The first call that
     /// ends once a period is over says so, and the next period begins then.
     fn wait(&mut self, may_wait: bool) -> Waited
-        ensures { idle_waits self.new ≡ waits_after (idle_waits self.old) (has_run_out result) };
+        ensures { elapsed_periods self.new
+            ≡ elapsed_after (elapsed_periods self.old) (has_run_out result) };
 
     /// The key of the connection that the last wait reported with this number, if it reported so
     /// many. A connection that is not reported is looked at when a period is over: to report all is

@@ -59,7 +59,7 @@ impl<N: Transport> CutTransport<N> {
 impl<N: Transport> Transport for CutTransport<N> {
     type Connection = CutWire<N::Connection>;
 
-    ghost idle_waits = { λ n. N.idle_waits n.transport };
+    ghost elapsed_periods = { λ n. N.elapsed_periods n.transport };
 
     fn connect(&mut self, peer: usize) -> Option<CutWire<N::Connection>> {
         let wire = self.transport.connect(peer)?;

@@ -85,7 +85,7 @@ impl Scripted {
 impl Transport for Scripted {
     type Connection = MemWire;
 
-    ghost idle_waits = { λ n. n.idle.count };
+    ghost elapsed_periods = { λ n. n.idle.count };
 
     fn connect(&mut self, _peer: usize) -> Option<MemWire> {
         if self.fails() || self.called {

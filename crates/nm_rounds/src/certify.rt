@@ -17,10 +17,10 @@ ghost use Rattle.nm_model.specs.Promise.{Tight};
 ghost use Rattle.nm_knowledge.specs.Octets.{same_octets};
 ghost use Rattle.nm_sim.specs.Network.{net_of};
 ghost use Rattle.nm_book.specs.Book.{BookValue, replica_of};
-ghost use Rattle.nm_rounds.specs.Certify.{AreOf, Certifies, FindsFault, IsWithinSafe, book_of, books_of};
-ghost use Rattle.nm_rounds.specs.Certify.{cert_fault_number};
-ghost use Rattle.nm_rounds.specs.Certify.{incoming_fault, is_same_entry, list_fault, missing, sender_fault};
-ghost use Rattle.nm_rounds.specs.Certify.{unfinished};
+ghost use Rattle.nm_rounds.specs.Certify.{AreOf, Certifies, FindsFault, IsWithinSafe};
+ghost use Rattle.nm_rounds.specs.Certify.{book_of, books_of, cert_fault_number};
+ghost use Rattle.nm_rounds.specs.Certify.{incoming_fault, is_same_entry, list_fault, missing};
+ghost use Rattle.nm_rounds.specs.Certify.{sender_fault, unfinished};
 ghost use Rattle.nm_rounds.specs.SameTopology.{SaysSame};
 
 use crate::same_topology::same_topology;
@@ -257,8 +257,8 @@ fn check_sender(
     ensures { (r : ModelBook (List ℕ))
         → comes_in (net_of topology.now) r.part (receiving_iface topology.now channel) ≡ true
         → r.replica.knowledge (receiving_iface topology.now channel) ≡ know.now
-        → FindsFault topology.now (sender_fault topology.now (receiving_iface topology.now channel) r
-        (book_of sender.now)) result }
+        → FindsFault topology.now (sender_fault topology.now
+        (receiving_iface topology.now channel) r (book_of sender.now)) result }
 {
     the_digest_is_no_part_of_the_network(); // law: both have the same network
     let Some(sent) = sender.sent(channel) else {

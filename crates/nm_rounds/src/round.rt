@@ -184,8 +184,8 @@ fn tell_one(book: &mut Book, message: &ChannelMessage) -> Result<(), AllocError>
     ensures { OnOk result (is_incoming book.old (message_channel message.now) ≡ true
         → book.new ≡ record book.old {
           knows = slice_set book.old.knows (message_channel message.now)
-              (told_message (slice_index_or book.old.knows (message_channel message.now) nothing_known)
-              message.now);
+              (told_message (slice_index_or book.old.knows (message_channel message.now)
+              nothing_known) message.now);
         }) }
 {
     match book.accept(message) {

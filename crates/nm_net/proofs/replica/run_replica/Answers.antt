@@ -7,7 +7,7 @@ use Rattle.nm_net.proofs.replica.run_replica.Goals as goal
 
 pub returns-in-Err-clause-ends : goal.returns-in-Err-clause-ends
 returns-in-Err-clause-ends g c =
-    early_ends g.C.Counts.exact g.C.Counts.home c.args.service.now.idle_limit (g.T.Transport.idle_waits c.args.transport.now) (g.T.Transport.idle_waits c.poll-in-loop-polls.new.transport)
+    early_ends g.C.Counts.exact g.C.Counts.home c.args.service.now.idle_limit (g.T.Transport.elapsed_periods c.args.transport.now) (g.T.Transport.elapsed_periods c.poll-in-loop-polls.new.transport)
     c.in-Err.served c.in-Err.ensures.early
 
 pub returns-in-Err-clause-streams : goal.returns-in-Err-clause-streams
@@ -29,27 +29,27 @@ returns-in-Some-clause-streams g c = λ _.
 
 pub returns-in-Some-clause-ends : goal.returns-in-Some-clause-ends
 returns-in-Some-clause-ends g c =
-    let start = g.T.Transport.idle_waits c.args.transport.now in
-    let before = g.T.Transport.idle_waits c.loop-polls.transport in
-    let after = g.T.Transport.idle_waits c.poll-in-loop-polls.new.transport in
+    let start = g.T.Transport.elapsed_periods c.args.transport.now in
+    let before = g.T.Transport.elapsed_periods c.loop-polls.transport in
+    let after = g.T.Transport.elapsed_periods c.poll-in-loop-polls.new.transport in
     let polled = c.in-Ok-poll.polled in
     let many = idles_wait c.loop-polls.idle polled.was_active polled.ran_out start before after c.loop-polls.invariant.idle c.in-Ok-poll.ensures.idle in
-    let idles = subst (λ idle. start + idle ≤ after) (sym c.idle_polls-idle.ensures) many in
-    ends_after g.C.Counts.exact g.C.Counts.home c.args.service.now.idle_limit start after c.idle_polls-idle.result (c.loop-polls.polls + 1) polled.is_done
+    let idles = subst (λ idle. start + idle ≤ after) (sym c.idle_periods-idle.ensures) many in
+    ends_after g.C.Counts.exact g.C.Counts.home c.args.service.now.idle_limit start after c.idle_periods-idle.result (c.loop-polls.polls + 1) polled.is_done
     c.in-Some.served c.in-Ok-poll.ensures.done idles (sym c.ending_of.ensures ∙ c.in-Some.is)
 
 pub loop-polls-preserved : goal.loop-polls-preserved
 loop-polls-preserved g c =
-    let start = g.T.Transport.idle_waits c.args.transport.now in
-    let before = g.T.Transport.idle_waits c.loop-polls.transport in
-    let after = g.T.Transport.idle_waits c.poll-in-loop-polls.new.transport in
+    let start = g.T.Transport.elapsed_periods c.args.transport.now in
+    let before = g.T.Transport.elapsed_periods c.loop-polls.transport in
+    let after = g.T.Transport.elapsed_periods c.poll-in-loop-polls.new.transport in
     let polled = c.in-Ok-poll.polled in
     let many = idles_wait c.loop-polls.idle polled.was_active polled.ran_out start before after c.loop-polls.invariant.idle c.in-Ok-poll.ensures.idle in
     record {
       owners = c.in-Ok-poll.ensures.owners;
       seats = c.in-Ok-poll.ensures.seats ∙ c.loop-polls.invariant.seats;
       passes = c.in-Ok-poll.ensures.passes ∙ c.loop-polls.invariant.passes;
-      idle = subst (λ idle. start + idle ≤ after) (sym c.idle_polls-idle.ensures) many;
+      idle = subst (λ idle. start + idle ≤ after) (sym c.idle_periods-idle.ensures) many;
       streams = streams_more g.S.Sink.taken g.S.Sink.failures c.args.holdings.now.files.files.items c.loop-polls.holdings.files.files.items
           c.poll-in-loop-polls.new.holdings.files.files.items c.loop-polls.invariant.streams c.in-Ok-poll.ensures.streams;
     }

@@ -8,6 +8,6 @@ invariant-loop-polls g l = record {
   owners : All (IsOwnerOf l.service.board.now) l.holdings.seats.items;
   seats : length l.holdings.seats.items ≡ length l.fn.holdings.seats.items;
   passes : length l.holdings.passes.items ≡ length l.fn.holdings.passes.items;
-  idle : g.T.Transport.idle_waits l.fn.transport + l.idle ≤ g.T.Transport.idle_waits l.transport;
+  idle : g.T.Transport.elapsed_periods l.fn.transport + l.idle ≤ g.T.Transport.elapsed_periods l.transport;
   streams : Streams g.S.Sink.taken g.S.Sink.failures l.fn.holdings.files.files.items l.holdings.files.files.items;
 }

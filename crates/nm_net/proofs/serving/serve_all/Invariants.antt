@@ -2,4 +2,4 @@ use Rattle.std.proofs.Common.{◌≡◌}
 use Rattle.nm_net.proofs.serving.serve_all.Given as goal
 
 abbrev pub invariant-loop-key : goal.invariant-loop-key
-invariant-loop-key g l = g.T.Transport.idle_waits l.transport ≡ g.T.Transport.idle_waits l.fn.transport
+invariant-loop-key g l = g.T.Transport.elapsed_periods l.transport ≡ g.T.Transport.elapsed_periods l.fn.transport
