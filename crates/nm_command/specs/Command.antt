@@ -3,9 +3,12 @@ use Rattle.std.specs.Prelude.{ℕ, ◌+◌, ◌≤◌, ◌&&◌, leb, if◌then�
 use Rattle.std.specs.Str.{bytes_eq}
 use Rattle.nm_command.specs.declared.command.Command.{Command}
 use Rattle.nm_command.specs.declared.command.Command.TheVariants as command
-use Rattle.nm_base.specs.declared.limits.TheConstants.{MAX_PARTITION, MAX_REPLICA, MAX_REPLICAS, MAX_ROUNDS, MAX_WORKERS}
+use Rattle.nm_base.specs.declared.limits.TheConstants.{MAX_PARTITION, MAX_REPLICA, MAX_REPLICAS, MAX_ROUNDS, MAX_TIME, MAX_WORKERS}
+use Rattle.nm_command.specs.declared.command.TheConstants.{MAX_SOURCE}
+use Rattle.nm_command.specs.declared.view.Subject.{Subject}
+use Rattle.nm_command.specs.declared.view.Subject.TheVariants.{Interfaces, Sources}
 use Rattle.nm_command.specs.declared.view.View.{View}
-use Rattle.nm_command.specs.declared.view.View.TheVariants.{Tables, Values, Graph, Load}
+use Rattle.nm_command.specs.declared.view.View.TheVariants.{Tables, Values, Delays, Graph, Load}
 use Rattle.nm_command.specs.declared.ways.Ways.{Ways}
 use Rattle.nm_command.specs.declared.ways.Ways.TheVariants.{Both, Sent, Received}
 use Rattle.nm_pcap.specs.declared.form.Form.{Form}
@@ -28,6 +31,10 @@ pub data CommandValue : Type 0 where
   Show : List ℕ → View → CommandValue
   -- to say in words what passed an interface: the topology, and the name of the interface
   Text : List ℕ → List ℕ → CommandValue
+  -- to say what interfaces or sources do over time: the topology, how long a step is, and of what
+  Series : List ℕ → ℕ → Subject → CommandValue
+  -- to say the ways of packets: the topology, and the number of their source
+  Packets : List ℕ → ℕ → CommandValue
   -- to say the way of a packet: the topology, the name of the node that sends it, and the address
   Path : List ℕ → List ℕ → List ℕ → CommandValue
   -- to run all partitions: the topology, the folder of their trace files, how many threads run books, and how many replicas each partition has
@@ -43,6 +50,8 @@ command_value (command.Script topology steps) = Script topology.now steps.now
 command_value (command.Check topology) = Check topology.now
 command_value (command.Show topology view) = Show topology.now view
 command_value (command.Text topology iface) = Text topology.now iface.now
+command_value (command.Series words) = Series words.topology.now words.step words.subject
+command_value (command.Packets words) = Packets words.topology.now words.source
 command_value (command.Path words) = Path words.topology.now words.node.now words.address.now
 command_value (command.Run words) = Run words.topology.now words.folder.now words.workers words.replicas
 command_value (command.Node words) = Node words.topology.now words.folder.now words.partition words.replica words.addresses.now
@@ -56,6 +65,8 @@ AsksWithinLimits (command.Script topology steps) = Unit {0}
 AsksWithinLimits (command.Check topology) = Unit {0}
 AsksWithinLimits (command.Show topology view) = Unit {0}
 AsksWithinLimits (command.Text topology iface) = Unit {0}
+AsksWithinLimits (command.Series words) = (1 ≤ words.step) × (words.step ≤ MAX_TIME)
+AsksWithinLimits (command.Packets words) = words.source ≤ MAX_SOURCE
 AsksWithinLimits (command.Path words) = Unit {0}
 AsksWithinLimits (command.Run words) = (1 ≤ words.workers) × (words.workers ≤ MAX_WORKERS) × (1 ≤ words.replicas) × (words.replicas ≤ MAX_REPLICAS)
 AsksWithinLimits (command.Node words) = (words.partition ≤ MAX_PARTITION) × (words.replica ≤ MAX_REPLICA)
@@ -86,24 +97,41 @@ of_two word topology =
     else (if bytes_eq word (codes "dot") then Some (Show topology Graph)
     else trace_from topology None (form_of word)))
 
--- `text TOPO IFACE`, `report TOPO csv` and `dot TOPO load`; of other words what else they are
+-- `text TOPO IFACE`, `report TOPO csv`, `report TOPO delays` and `dot TOPO load`; of other words what else they are
 abbrev pub shown_of : List ℕ → List ℕ → List ℕ → Option CommandValue → Option CommandValue
 shown_of word topology third other =
     if bytes_eq word (codes "text") then Some (Text topology third)
-    else (if bytes_eq word (codes "report") then (if bytes_eq third (codes "csv") then Some (Show topology Values) else None)
+    else (if bytes_eq word (codes "report") then (if bytes_eq third (codes "csv") then Some (Show topology Values) else (if bytes_eq third (codes "delays") then Some (Show topology Delays) else None))
     else (if bytes_eq word (codes "dot") then (if bytes_eq third (codes "load") then Some (Show topology Load) else None)
     else other))
+
+-- `series`, if its number is such
+abbrev pub series_of : List ℕ → Subject → Option ℕ → Option CommandValue
+series_of topology subject step = option_map (λ n. Series topology n subject) step
+
+-- `series TOPO STEP` and `packets TOPO SOURCE`; of other words what else they are
+abbrev pub timed_of : List ℕ → List ℕ → List ℕ → Option CommandValue → Option CommandValue
+timed_of word topology third other =
+    if bytes_eq word (codes "series") then series_of topology Interfaces (asked_number 1 MAX_TIME third)
+    else (if bytes_eq word (codes "packets") then option_map (λ n. Packets topology n) (asked_number 0 MAX_SOURCE third)
+    else other)
 
 -- `rounds TOPO MAX`, `script TOPO STEPS`, those above, and else a trace file, as `one TOPO IFACE`
 abbrev pub of_three : List ℕ → List ℕ → List ℕ → Option CommandValue
 of_three word topology third =
     if bytes_eq word (codes "rounds") then option_map (λ max. Rounds topology max) (asked_number 1 MAX_ROUNDS third)
     else (if bytes_eq word (codes "script") then Some (Script topology third)
-    else shown_of word topology third (trace_from topology (Some third) (form_of word)))
+    else timed_of word topology third (shown_of word topology third (trace_from topology (Some third) (form_of word))))
 
 -- `path TOPO NODE ADDRESS`
+abbrev pub of_path : List ℕ → List ℕ → List ℕ → List ℕ → Option CommandValue
+of_path word topology node address = if bytes_eq word (codes "path") then Some (Path topology node address) else None
+
+-- `series TOPO STEP flows`, and else a path
 abbrev pub of_four : List ℕ → List ℕ → List ℕ → List ℕ → Option CommandValue
-of_four word topology node address = if bytes_eq word (codes "path") then Some (Path topology node address) else None
+of_four word topology third fourth =
+    if bytes_eq word (codes "series") && bytes_eq fourth (codes "flows") then series_of topology Sources (asked_number 1 MAX_TIME third)
+    else of_path word topology third fourth
 
 -- `run`, if its two numbers are such
 abbrev pub run_of : List ℕ → List ℕ → Option ℕ → Option ℕ → Option CommandValue

@@ -5,16 +5,24 @@ ghost use Rattle.std.specs.Prelude.{string_bytes};
 ghost use Rattle.nm_command.specs.Command.{AsksWithinLimits, asked_number, command_of};
 ghost use Rattle.nm_command.specs.Command.{command_value, form_of, node_of, of_five, of_four};
 ghost use Rattle.nm_command.specs.Command.{of_number, of_six, of_three, of_two, run_of, shown_of};
-ghost use Rattle.nm_command.specs.Command.{trace_from};
+ghost use Rattle.nm_command.specs.Command.{of_path, series_of, timed_of, trace_from};
+ghost use Rattle.nm_command.specs.declared.command.TheConstants.{MAX_SOURCE};
 ghost use Rattle.nm_base.specs.declared.limits.TheConstants.{MAX_PARTITION, MAX_REPLICA};
-ghost use Rattle.nm_base.specs.declared.limits.TheConstants.{MAX_REPLICAS, MAX_WORKERS};
+ghost use Rattle.nm_base.specs.declared.limits.TheConstants.{MAX_REPLICAS, MAX_TIME, MAX_WORKERS};
 
-use crate::view::View;
+use crate::view::{Subject, View};
 use crate::ways::Ways;
-use crate::words::{AllWords, NodeWords, PathWords, RunWords, TraceWords};
-use nm_base::limits::{MAX_PARTITION, MAX_REPLICA, MAX_REPLICAS, MAX_ROUNDS, MAX_WORKERS};
-use nm_base::{PartNo, number_of};
+use crate::words::{
+    AllWords, NodeWords, PacketsWords, PathWords, RunWords, SeriesWords, TraceWords,
+};
+use nm_base::limits::{
+    MAX_PARTITION, MAX_REPLICA, MAX_REPLICAS, MAX_ROUNDS, MAX_TIME, MAX_WORKERS,
+};
+use nm_base::{PartNo, SourceNo, number_of};
 use nm_pcap::Form;
+
+/// The greatest number of a source.
+pub const MAX_SOURCE: u64 = 1_023;
 
 /// What the program is to do. Each input is named by the file that has it, or by `-`, which is
 /// standard input. A clause sees the names as octets.
@@ -56,6 +64,10 @@ pub enum Command<'a> {
         /// The name of the interface.
         iface: &'a str,
     },
+    /// To say what interfaces or sources do over time.
+    Series(SeriesWords<'a>),
+    /// To say the ways of the packets of a source.
+    Packets(PacketsWords<'a>),
     /// To say the way of a packet from a node to an address, a line a hop.
     Path(PathWords<'a>),
     /// To run all partitions at once, each as one or two replicas, and to certify what they come
@@ -148,6 +160,10 @@ fn shown_of<'a>(word: &str, topology: &'a str, third: &'a str) -> Option<Command
             topology,
             view: View::Values,
         }),
+        "report" if third == "delays" => Some(Command::Show {
+            topology,
+            view: View::Delays,
+        }),
         "report" => None,
         "dot" if third == "load" => Some(Command::Show {
             topology,
@@ -156,6 +172,40 @@ fn shown_of<'a>(word: &str, topology: &'a str, third: &'a str) -> Option<Command
         "dot" => None,
         _ => trace_of(word, topology, Some(third)),
     }
+}
+
+/// The command `series` of interfaces or of sources, where its number is such.
+fn series_of<'a>(topology: &'a str, step: &str, subject: Subject) -> Option<Command<'a>>
+    ensures value { option_map command_value result
+        ≡ series_of topology.now subject (asked_number 1 MAX_TIME step.now) }
+    ensures limits { IfSome result AsksWithinLimits }
+{
+    let step = asked_number(step, 1, MAX_TIME)?;
+    Some(Command::Series(SeriesWords {
+        topology,
+        step,
+        subject,
+    }))
+}
+
+/// The command `series` or `packets` of three words, or else one that shows or traces.
+fn timed_of<'a>(word: &'a str, topology: &'a str, third: &'a str) -> Option<Command<'a>>
+    ensures value { option_map command_value result ≡ timed_of word.now topology.now third.now
+        (shown_of word.now topology.now third.now
+        (trace_from topology.now (Some third.now) (form_of word.now))) }
+    ensures limits { IfSome result AsksWithinLimits }
+{
+    if word == "series" {
+        return series_of(topology, third, Subject::Interfaces);
+    }
+    if word == "packets" {
+        let source = asked_number(third, 0, MAX_SOURCE)?;
+        return Some(Command::Packets(PacketsWords {
+            topology,
+            source: SourceNo::new(source as u32),
+        }));
+    }
+    shown_of(word, topology, third)
 }
 
 /// The command of three words.
@@ -173,18 +223,18 @@ fn of_three<'a>(word: &'a str, topology: &'a str, third: &'a str) -> Option<Comm
             steps: third,
         });
     }
-    shown_of(word, topology, third)
+    timed_of(word, topology, third)
 }
 
-/// The command of four words.
-fn of_four<'a>(
+/// The command `path`, or none.
+fn of_path<'a>(
     word: &'a str,
     topology: &'a str,
     node: &'a str,
     address: &'a str,
 ) -> Option<Command<'a>>
     ensures value { option_map command_value result
-        ≡ of_four word.now topology.now node.now address.now }
+        ≡ of_path word.now topology.now node.now address.now }
     ensures limits { IfSome result AsksWithinLimits }
 {
     if word == "path" {
@@ -195,6 +245,23 @@ fn of_four<'a>(
         }));
     }
     None
+}
+
+/// The command of four words.
+fn of_four<'a>(
+    word: &'a str,
+    topology: &'a str,
+    third: &'a str,
+    fourth: &'a str,
+) -> Option<Command<'a>>
+    ensures value { option_map command_value result
+        ≡ of_four word.now topology.now third.now fourth.now }
+    ensures limits { IfSome result AsksWithinLimits }
+{
+    if word == "series" && fourth == "flows" {
+        return series_of(topology, third, Subject::Sources);
+    }
+    of_path(word, topology, third, fourth)
 }
 
 /// The command of five words.
@@ -324,9 +391,11 @@ impl<'a> Command<'a> {
     /// The command of the words after the program's name: `one TOPO IFACE`, `onehex TOPO IFACE`,
     /// `sent TOPO IFACE` or `received TOPO IFACE`, where IFACE may be left out, `all TOPO DIR` with
     /// or without names of interfaces behind it, `rounds TOPO MAX`, `script TOPO STEPS`, `check
-    /// TOPO`, `report TOPO` or `report TOPO csv`, `dot TOPO` or `dot TOPO load`, `text TOPO IFACE`,
-    /// `path TOPO NODE ADDRESS`, `run TOPO DIR WORKERS REPLICAS`, or `node TOPO DIR PARTITION
-    /// REPLICA ADDRESSES`. No words are `onehex -`. `None` where the words are no command.
+    /// TOPO`, `report TOPO`, `report TOPO csv` or `report TOPO delays`, `dot TOPO` or `dot TOPO
+    /// load`, `text TOPO IFACE`, `series TOPO STEP` or `series TOPO STEP flows`, `packets TOPO
+    /// SOURCE`, `path TOPO NODE ADDRESS`, `run TOPO DIR WORKERS REPLICAS`, or `node TOPO DIR
+    /// PARTITION REPLICA ADDRESSES`. No words are `onehex -`. `None` where the words are no
+    /// command.
     pub fn of(words: &'a [String]) -> Option<Command<'a>>
         ensures value { option_map command_value result
             ≡ command_of (map (λ w. string_bytes w) words.now) }

@@ -10,6 +10,6 @@ pub mod words;
 pub use command::Command;
 pub use nm_pcap::Form;
 pub use status::Status;
-pub use view::View;
+pub use view::{Subject, View};
 pub use ways::Ways;
-pub use words::{AllWords, NodeWords, PathWords, RunWords, TraceWords};
+pub use words::{AllWords, NodeWords, PacketsWords, PathWords, RunWords, SeriesWords, TraceWords};

@@ -25,6 +25,8 @@ pub enum Status {
     ScriptLine(u64),
     /// This step of a script, counted from 0, names what is not there.
     Step(u64),
+    /// A series would have so many rows, more than 10,000,000.
+    Rows(u64),
     /// The topology is refused.
     Topology(Refusal),
     /// An input could not be read or is too long, or a sink failed.
@@ -100,7 +102,11 @@ impl Status {
     {
         match self {
             Status::Done => 0,
-            Status::Usage | Status::NoInterface | Status::ScriptLine(_) | Status::Step(_) => 2,
+            Status::Usage
+            | Status::NoInterface
+            | Status::ScriptLine(_)
+            | Status::Step(_)
+            | Status::Rows(_) => 2,
             Status::Topology(_) => 3,
             Status::File => 4,
             Status::Memory => 5,
@@ -125,6 +131,7 @@ impl Status {
             Status::NoInterface => put(sink, b"nullsim: no interface\n"),
             Status::ScriptLine(line) => put_number(sink, b"nullsim: script line ", line),
             Status::Step(step) => put_number(sink, b"nullsim: step ", step),
+            Status::Rows(rows) => put_number(sink, b"nullsim: rows ", rows),
             Status::Topology(refusal) => {
                 put_number(sink, b"nullsim: topology ", refusal.number() as u64)
             }

@@ -7,8 +7,19 @@ pub enum View {
     Tables,
     /// The measures of its run as comma-separated values, for a program.
     Values,
+    /// How the delays of each source are spread, as comma-separated values.
+    Delays,
     /// It as a graph.
     Graph,
     /// It as a graph, coloured by the use of its links in a run.
     Load,
+}
+
+/// Of what a series tells.
+#[derive(Clone, Copy)]
+pub enum Subject {
+    /// Of each interface.
+    Interfaces,
+    /// Of each source.
+    Sources,
 }

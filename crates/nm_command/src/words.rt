@@ -1,8 +1,9 @@
 //! What the words of a command name. Each input is named by the file that has it, or by `-`, which
 //! is standard input. A clause sees the names as octets.
 
+use crate::view::Subject;
 use crate::ways::Ways;
-use nm_base::PartNo;
+use nm_base::{PartNo, SourceNo};
 use nm_pcap::Form;
 
 /// What the words of a trace file name.
@@ -36,6 +37,25 @@ pub struct PathWords<'a> {
     pub node: &'a str,
     /// Where it goes: four numbers joined by dots.
     pub address: &'a str,
+}
+
+/// What the words of `series` name.
+#[derive(Clone, Copy)]
+pub struct SeriesWords<'a> {
+    /// The input with the topology text.
+    pub topology: &'a str,
+    /// How long a step is: 1 to 10^15 nanoseconds.
+    pub step: u64,
+    pub subject: Subject,
+}
+
+/// What the words of `packets` name.
+#[derive(Clone, Copy)]
+pub struct PacketsWords<'a> {
+    /// The input with the topology text.
+    pub topology: &'a str,
+    /// The number of the source: 0 to 1,023.
+    pub source: SourceNo,
 }
 
 /// What the words of `run` name.

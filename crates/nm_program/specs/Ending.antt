@@ -2,15 +2,17 @@
 use Rattle.std.specs.Prelude.{◌≡◌, Bool, false, ℕ, List, Option, Some, None}
 use Rattle.nm_command.specs.declared.status.Status.{Status}
 use Rattle.nm_command.specs.declared.status.Status.TheVariants.{Done, Usage, File}
-use Rattle.nm_command.specs.Command.{CommandValue, Trace, All, Rounds, Script, Check, Show, Text, Path, Run, Node}
+use Rattle.nm_command.specs.Command.{CommandValue, Trace, All, Rounds, Script, Check, Show, Text, Series, Packets, Path, Run, Node}
 use Rattle.nm_program.specs.Node.{EndsNode}
 use Rattle.nm_files.specs.Outputs.{Files}
 use Rattle.nm_words.specs.Rounds.{EndsRounds}
 use Rattle.nm_program.specs.Run.{EndsRun}
 use Rattle.nm_words.specs.All.{MakesAll}
 use Rattle.nm_words.specs.Check.{EndsCheck}
+use Rattle.nm_words.specs.Packets.{EndsPackets}
 use Rattle.nm_words.specs.Path.{EndsPath}
 use Rattle.nm_words.specs.Script.{EndsScript}
+use Rattle.nm_words.specs.Series.{EndsSeries}
 use Rattle.nm_words.specs.Shown.{EndsShown, EndsText}
 use Rattle.nm_words.specs.Traces.{EndsTrace}
 
@@ -26,6 +28,8 @@ module _ {S : Type 0} (taken : S → Option (List ℕ)) (failures : S → ℕ) (
   ProgramEnds (Some (Check topology)) status = EndsCheck taken failures told failed_before failed old new topology status × (made ≡ made_before)
   ProgramEnds (Some (Show topology view)) status = EndsShown taken failures told failed_before failed old new topology status × (made ≡ made_before)
   ProgramEnds (Some (Text topology iface)) status = EndsText taken failures told failed_before failed old new topology iface status × (made ≡ made_before)
+  ProgramEnds (Some (Series topology step subject)) status = EndsSeries taken failures told failed_before failed old new topology step subject status × (made ≡ made_before)
+  ProgramEnds (Some (Packets topology source)) status = EndsPackets taken failures told failed_before failed old new topology source status × (made ≡ made_before)
   ProgramEnds (Some (Path topology node address)) status = EndsPath taken failures told failed_before failed old new topology node address status × (made ≡ made_before)
   ProgramEnds (Some (Run topology folder workers replicas)) status = EndsRun taken failures told failed_before failed old new made_before made topology status
   ProgramEnds (Some (Node topology folder partition replica addresses)) status =

@@ -14,7 +14,7 @@ use Rattle.nm_peers.specs.Listeners.{AreListeners}
 use Rattle.nm_peers.specs.declared.listener.Listener.{Listener}
 use Rattle.nm_process.specs.Process.{IsDoneReplica}
 use Rattle.nm_command.specs.declared.status.Status.{Status}
-use Rattle.nm_command.specs.declared.status.Status.TheVariants.{Done, Usage, NoInterface, ScriptLine, Step, Topology, File, Memory, NotCertified, Stalled}
+use Rattle.nm_command.specs.declared.status.Status.TheVariants.{Done, Usage, NoInterface, ScriptLine, Step, Rows, Topology, File, Memory, NotCertified, Stalled}
 use Rattle.nm_words.specs.Input.{IsInput}
 use Rattle.nm_words.specs.Lines.{iface_line}
 use Rattle.nm_words.specs.Output.{EndsWord, FailsOfInputs, SaysOfInputs}
@@ -71,6 +71,7 @@ IsNotServed partition replica text addresses Usage = HasNoAddresses text address
 IsNotServed partition replica text addresses NoInterface = ⊥
 IsNotServed partition replica text addresses (ScriptLine n) = ⊥
 IsNotServed partition replica text addresses (Step n) = ⊥
+IsNotServed partition replica text addresses (Rows n) = ⊥
 IsNotServed partition replica text addresses (Topology refusal) = topology_of text ≡ Err refusal
 IsNotServed partition replica text addresses File = ⊥
 IsNotServed partition replica text addresses Memory = Unit {0}
@@ -84,6 +85,7 @@ StopsNode before after Usage = ⊥
 StopsNode before after NoInterface = ⊥
 StopsNode before after (ScriptLine n) = ⊥
 StopsNode before after (Step n) = ⊥
+StopsNode before after (Rows n) = ⊥
 StopsNode before after (Topology refusal) = ⊥
 StopsNode before after File = Unit {0}
 StopsNode before after Memory = Unit {0}

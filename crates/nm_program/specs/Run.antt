@@ -8,7 +8,7 @@ use Rattle.nm_sim.specs.Trace.{IsTraceBefore}
 use Rattle.nm_book.specs.Book.{BookValue}
 use Rattle.nm_rounds.specs.Certify.{AreCertified}
 use Rattle.nm_command.specs.declared.status.Status.{Status}
-use Rattle.nm_command.specs.declared.status.Status.TheVariants.{Done, Usage, NoInterface, ScriptLine, Step, Topology, File, Memory, NotCertified, Stalled}
+use Rattle.nm_command.specs.declared.status.Status.TheVariants.{Done, Usage, NoInterface, ScriptLine, Step, Rows, Topology, File, Memory, NotCertified, Stalled}
 use Rattle.nm_files.specs.Outputs.{Files}
 use Rattle.nm_words.specs.Input.{HasTopology, IsRefused}
 use Rattle.nm_words.specs.Lines.{iface_lines}
@@ -31,6 +31,7 @@ StopsRun before after Usage = ⊥
 StopsRun before after NoInterface = ⊥
 StopsRun before after (ScriptLine n) = ⊥
 StopsRun before after (Step n) = ⊥
+StopsRun before after (Rows n) = ⊥
 StopsRun before after (Topology refusal) = ⊥
 StopsRun before after File = Unit {0}
 StopsRun before after Memory = Unit {0}

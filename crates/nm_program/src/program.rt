@@ -18,9 +18,11 @@ use nm_words::all::write_all_traces;
 use nm_words::checking::say_check;
 use nm_words::input::NamedInputs;
 use nm_words::inputs::Inputs;
+use nm_words::packets::say_packets;
 use nm_words::path::say_path;
 use nm_words::rounds::say_rounds;
 use nm_words::script::say_script;
+use nm_words::series::write_series;
 use nm_words::shown::{say_text, say_view};
 use nm_words::traces::write_trace;
 use std::net;
@@ -34,11 +36,11 @@ use std::time::Clock;
 /// not done; where `errors` fails there is nobody to tell, and the status stays.
 ///
 /// The first of these decides: the words, the inputs in the words' order, the topology, the lines
-/// of a script, all else. Words that are no command open no input. Only `run` makes files, as its
-/// replicas run, and `node`, once its replica is done; only these use the network. Memory may be
-/// refused at any place: the sink has a prefix of the trace file then, which may be empty. Where
-/// the sink fails it has a prefix of what was asked for too; with every other status but `Done` and
-/// `Stalled` it took nothing.
+/// of a script, all else. Words that are no command open no input. Files are made by `all`, by
+/// `run`, as its replicas run, and by `node`, once its replica is done; only the last two use the
+/// network. Memory may be refused at any place: the sink has a prefix of a trace file or a series
+/// then, which may be empty. Where the sink fails it has a prefix of what was asked for too; with
+/// every other status but `Done` and `Stalled` it took nothing.
 pub fn run<I: Inputs, F: Outputs, O: Sink + Drop, E: Sink, R>(
     means: &Means<'_, R>,
     words: &[String],
@@ -113,6 +115,8 @@ where
             say_view(alloc, topology, view, inputs, out, progress)
         }
         Some(Command::Text { topology, iface }) => say_text(alloc, topology, iface, inputs, out),
+        Some(Command::Series(words)) => write_series(alloc, &words, inputs, out, progress),
+        Some(Command::Packets(words)) => say_packets(alloc, &words, inputs, out, progress),
         Some(Command::Path(words)) => say_path(alloc, &words, inputs, out),
         Some(Command::Run(words)) => say_run(means, &words, inputs, outputs, out),
         Some(Command::Node(words)) => say_node(means, &words, inputs, outputs, out),

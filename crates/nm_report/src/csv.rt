@@ -1,19 +1,14 @@
 //! The measures of a run as comma-separated values for a program (RFC 4180).
 
 ghost use Rattle.std.specs.Prelude.{IfOk, OnOk};
-ghost use Rattle.nm_report.specs.Lines.{EndsLine};
+ghost use Rattle.nm_measure.specs.Lines.{EndsLine};
 
-use crate::amounts::IfaceTraffic;
-use crate::delays::Delays;
-use crate::flow_counts::FlowCounts;
-use crate::flow_times::FlowTimes;
 use crate::iface_table::traffic_at;
-use crate::measured::Measured;
 use crate::source_rows::push_source_rows;
 use crate::source_tables::flow_of;
-use crate::table::end_line;
 use nm_base::{IfaceNo, NodeNo, SourceNo, push_number, push_text};
 use nm_forward::Counter;
+use nm_measure::{Delays, FlowCounts, FlowTimes, IfaceTraffic, Measured, end_line};
 use nm_topology::Topology;
 use nm_topology::traffic::{Source, Traffic};
 use std::alloc::{AllocError, Global};

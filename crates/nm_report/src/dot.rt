@@ -1,11 +1,11 @@
 //! The network as a graph in the language of Graphviz (dot).
 
 ghost use Rattle.std.specs.Prelude.{IfOk};
-ghost use Rattle.nm_report.specs.Lines.{EndsLine};
+ghost use Rattle.nm_measure.specs.Lines.{EndsLine};
 
-use crate::table::end_line;
 use crate::units::{push_rate, push_time};
 use nm_base::{IfaceNo, push_number, push_text};
+use nm_measure::end_line;
 use nm_topology::parts::Link;
 use nm_topology::{NodeKind, Topology};
 use std::alloc::{AllocError, Global};

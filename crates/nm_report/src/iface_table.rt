@@ -1,10 +1,9 @@
 //! The table of interfaces.
 
-use crate::amounts::{Amount, IfaceTraffic};
-use crate::measured::Measured;
 use crate::table::{Table, push_left_out};
-use crate::units::{push_percentage, thousandths};
+use crate::units::push_percentage;
 use nm_base::IfaceNo;
+use nm_measure::{Amount, IfaceTraffic, Measured, thousandths};
 use nm_topology::Topology;
 use std::alloc::{AllocError, Global};
 use std::cmp::Reverse;

@@ -1,11 +1,11 @@
 //! A packet as a line, in the manner of tcpdump.
 
 ghost use Rattle.std.specs.Prelude.{OnOk};
-ghost use Rattle.nm_report.specs.Lines.{EndsLine};
+ghost use Rattle.nm_measure.specs.Lines.{EndsLine};
 
-use crate::table::end_line;
 use crate::units::push_address;
 use nm_base::{Dir, Record, push_number, push_text};
+use nm_measure::end_line;
 use nm_packet::icmp::IcmpView;
 use nm_packet::ipv4::Ipv4View;
 use nm_packet::{HeaderFault, Icmp, Ipv4, Udp};

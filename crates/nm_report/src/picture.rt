@@ -1,15 +1,14 @@
 //! The network as a graph for Graphviz (dot) that shows how it was used.
 
 ghost use Rattle.std.specs.Prelude.{IfOk};
-ghost use Rattle.nm_report.specs.Lines.{EndsLine};
+ghost use Rattle.nm_measure.specs.Lines.{EndsLine};
 
 use crate::dot::{push_owner, push_partitions, push_quality};
 use crate::iface_table::traffic_at;
 use crate::legend::{colour_of, push_legend};
-use crate::measured::Measured;
-use crate::table::end_line;
-use crate::units::{push_percentage, push_time, thousandths};
+use crate::units::{push_percentage, push_time};
 use nm_base::{IfaceNo, push_number, push_text};
+use nm_measure::{Measured, end_line, thousandths};
 use nm_topology::Topology;
 use nm_topology::parts::Link;
 use std::alloc::{AllocError, Global};

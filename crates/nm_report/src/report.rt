@@ -1,14 +1,14 @@
 //! The measures of a run as tables for a reader.
 
 ghost use Rattle.std.specs.Prelude.{IfOk};
-ghost use Rattle.nm_report.specs.Lines.{EndsLine};
+ghost use Rattle.nm_measure.specs.Lines.{EndsLine};
 
 use crate::iface_table::push_ifaces;
-use crate::measured::Measured;
 use crate::source_tables::{push_delays, push_echoes, push_sources};
-use crate::table::{Table, end_line, push_left_out};
+use crate::table::{Table, push_left_out};
 use nm_base::{NodeNo, push_text};
 use nm_forward::Counter;
+use nm_measure::{Measured, end_line};
 use nm_topology::Topology;
 use std::alloc::{AllocError, Global};
 

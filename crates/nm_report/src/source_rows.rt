@@ -1,16 +1,12 @@
 //! The measures of each source in one row of comma-separated values (RFC 4180).
 
 ghost use Rattle.std.specs.Prelude.{OnOk};
-ghost use Rattle.nm_report.specs.Lines.{EndsLine};
+ghost use Rattle.nm_measure.specs.Lines.{EndsLine};
 
-use crate::delays::Delays;
-use crate::flow_counts::FlowCounts;
-use crate::flow_times::FlowTimes;
-use crate::measured::Measured;
 use crate::source_tables::{flow_of, kind_of, node_name, push_destination};
-use crate::table::end_line;
 use crate::units::PERCENTILES;
 use nm_base::{SourceNo, push_number, push_text};
+use nm_measure::{Delays, FlowCounts, FlowTimes, Measured, end_line};
 use nm_topology::Topology;
 use nm_topology::traffic::Source;
 use std::alloc::AllocError;

@@ -1,12 +1,9 @@
 //! The tables of sources.
 
-use crate::delays::Delays;
-use crate::flow_counts::FlowCounts;
-use crate::flow_times::FlowTimes;
-use crate::measured::Measured;
 use crate::table::{Table, push_left_out};
 use crate::units::{PERCENTILES, push_address};
 use nm_base::{SourceNo, push_number, push_text};
+use nm_measure::{Delays, FlowCounts, FlowTimes, Measured};
 use nm_topology::Topology;
 use nm_topology::traffic::{Source, Traffic};
 use std::alloc::{AllocError, Global};

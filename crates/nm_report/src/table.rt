@@ -1,9 +1,7 @@
 //! Tables with aligned columns.
 
-ghost use Rattle.std.specs.Prelude.{OnOk};
-ghost use Rattle.nm_report.specs.Lines.{EndsLine};
-
 use nm_base::{push_number, push_text};
+use nm_measure::end_line;
 use std::alloc::{AllocError, Global};
 
 /// A table of cells, row by row. Its first columns are texts, which stand at the left, and all
@@ -123,13 +121,6 @@ impl Table {
         }
         Ok(())
     }
-}
-
-/// Appends a line feed.
-pub(crate) fn end_line(text: &mut Vec<u8>) -> Result<(), AllocError>
-    ensures { OnOk result (EndsLine text.new.items) }
-{
-    push_text(text, b"\n")
 }
 
 /// Appends how many rows of a table were left out since they would say nothing, if any were.

@@ -1,7 +1,5 @@
 //! Numbers with the units that people use.
 
-ghost use Rattle.std.specs.Prelude.{◌≤◌};
-
 use nm_base::{push_number, push_text};
 use nm_packet::Address;
 use std::alloc::AllocError;
@@ -56,17 +54,6 @@ pub(crate) fn push_address(text: &mut Vec<u8>, address: Address) -> Result<(), A
         push_number(text, u64::from(octet))?;
     }
     Ok(())
-}
-
-/// A part of a whole in thousandths, rounded down: 0 where there is no whole, 1,000 at most.
-pub(crate) fn thousandths(part: u64, whole: u64) -> u64
-    ensures { result ≤ 1000 }
-{
-    if whole == 0 {
-        return 0;
-    }
-    let share = u128::from(part) * 1_000 / u128::from(whole);
-    u64::try_from(share).unwrap_or(1_000).min(1_000)
 }
 
 /// Appends thousandths as a percentage with one decimal.

@@ -5,3 +5,4 @@ pub mod Endings
 pub mod Ways
 mod Faults
 mod Held
+mod Stepping

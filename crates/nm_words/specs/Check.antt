@@ -4,7 +4,7 @@ use Rattle.nm_topology.specs.Topology.{topology_of}
 use Rattle.nm_topology.specs.TopologyValue.{TopologyValue}
 use Rattle.nm_check.specs.Lines.{EndsLine}
 use Rattle.nm_command.specs.declared.status.Status.{Status}
-use Rattle.nm_command.specs.declared.status.Status.TheVariants.{Done, Usage, NoInterface, ScriptLine, Step, Topology, File, Memory, NotCertified, Stalled}
+use Rattle.nm_command.specs.declared.status.Status.TheVariants.{Done, Usage, NoInterface, ScriptLine, Step, Rows, Topology, File, Memory, NotCertified, Stalled}
 use Rattle.nm_words.specs.Input.{IsUnread}
 use Rattle.nm_words.specs.Output.{EndsWord, SaysOfInput}
 
@@ -15,6 +15,7 @@ SaysOf text Usage octets = ⊥
 SaysOf text NoInterface octets = ⊥
 SaysOf text (ScriptLine n) octets = ⊥
 SaysOf text (Step n) octets = ⊥
+SaysOf text (Rows n) octets = ⊥
 SaysOf text (Topology refusal) octets = (topology_of text ≡ Err refusal) × EndsLine octets
 SaysOf text File octets = ⊥
 SaysOf text Memory octets = ⊥

@@ -6,7 +6,7 @@ use Rattle.std.specs.declared.io.ErrorKind.TheVariants.{OutOfMemory}
 use Rattle.nm_topology.specs.Topology.{topology_of}
 use Rattle.nm_topology.specs.TopologyValue.{TopologyValue}
 use Rattle.nm_command.specs.declared.status.Status.{Status}
-use Rattle.nm_command.specs.declared.status.Status.TheVariants.{Done, Usage, NoInterface, ScriptLine, Step, Topology, File, Memory, NotCertified, Stalled}
+use Rattle.nm_command.specs.declared.status.Status.TheVariants.{Done, Usage, NoInterface, ScriptLine, Step, Rows, Topology, File, Memory, NotCertified, Stalled}
 use Rattle.nm_base.specs.declared.limits.TheConstants.{MAX_INPUT_OCTETS}
 use Rattle.nm_words.specs.declared.input.InputFault.{InputFault}
 use Rattle.nm_words.specs.declared.input.InputFault.TheVariants.{Failed, Memory as NoMemory}
@@ -41,6 +41,7 @@ IsUnread told failed_before failed Usage = ⊥
 IsUnread told failed_before failed NoInterface = ⊥
 IsUnread told failed_before failed (ScriptLine n) = ⊥
 IsUnread told failed_before failed (Step n) = ⊥
+IsUnread told failed_before failed (Rows n) = ⊥
 IsUnread told failed_before failed (Topology refusal) = ⊥
 IsUnread told failed_before failed File = IsNotRead told failed_before failed
 IsUnread told failed_before failed Memory = Unit {0}
@@ -54,6 +55,7 @@ IsRefused text Usage = ⊥
 IsRefused text NoInterface = ⊥
 IsRefused text (ScriptLine n) = ⊥
 IsRefused text (Step n) = ⊥
+IsRefused text (Rows n) = ⊥
 IsRefused text (Topology refusal) = topology_of text ≡ Err refusal
 IsRefused text File = ⊥
 IsRefused text Memory = Unit {0}

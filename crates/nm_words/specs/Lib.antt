@@ -9,3 +9,5 @@ pub mod Check
 pub mod All
 pub mod Held
 pub mod Path
+pub mod Series
+pub mod Packets

@@ -8,7 +8,7 @@ use Rattle.nm_sim.specs.Trace.{IsTraceBefore}
 use Rattle.nm_book.specs.Book.{BookValue}
 use Rattle.nm_rounds.specs.Rounds.{AreUnfinished}
 use Rattle.nm_command.specs.declared.status.Status.{Status}
-use Rattle.nm_command.specs.declared.status.Status.TheVariants.{Done, Usage, NoInterface, ScriptLine, Step, Topology, File, Memory, NotCertified, Stalled}
+use Rattle.nm_command.specs.declared.status.Status.TheVariants.{Done, Usage, NoInterface, ScriptLine, Step, Rows, Topology, File, Memory, NotCertified, Stalled}
 use Rattle.nm_words.specs.Input.{IsRefused}
 use Rattle.nm_words.specs.Lines.{AreTotals, iface_lines}
 use Rattle.nm_words.specs.Output.{EndsWord, FailsOfInput, SaysOfInput}
@@ -41,6 +41,7 @@ SaysRounds max text Usage octets = ⊥
 SaysRounds max text NoInterface octets = ⊥
 SaysRounds max text (ScriptLine n) octets = ⊥
 SaysRounds max text (Step n) octets = ⊥
+SaysRounds max text (Rows n) octets = ⊥
 SaysRounds max text (Topology refusal) octets = ⊥
 SaysRounds max text File octets = ⊥
 SaysRounds max text Memory octets = ⊥

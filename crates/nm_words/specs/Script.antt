@@ -11,7 +11,7 @@ use Rattle.nm_rounds.specs.declared.step.WorldStep.{WorldStep}
 use Rattle.nm_script.specs.Printed.{report_text}
 use Rattle.nm_script.specs.Script.{IsFirstFault, IsScript}
 use Rattle.nm_command.specs.declared.status.Status.{Status}
-use Rattle.nm_command.specs.declared.status.Status.TheVariants.{Done, Usage, NoInterface, ScriptLine, Step, Topology, File, Memory, NotCertified, Stalled}
+use Rattle.nm_command.specs.declared.status.Status.TheVariants.{Done, Usage, NoInterface, ScriptLine, Step, Rows, Topology, File, Memory, NotCertified, Stalled}
 use Rattle.nm_words.specs.Output.{EndsWord, FailsOfInputs, SaysOfInputs}
 
 -- What is said are the answers to all steps of the script, and the books that they left, as the model's world has them. So the headline holds of them.
@@ -53,6 +53,7 @@ FailsScript text script Usage = ⊥
 FailsScript text script NoInterface = ⊥
 FailsScript text script (ScriptLine line) = HasBadLine text script line
 FailsScript text script (Step step) = StopsAt text script step
+FailsScript text script (Rows n) = ⊥
 FailsScript text script (Topology refusal) = topology_of text ≡ Err refusal
 FailsScript text script File = ⊥
 FailsScript text script Memory = Unit {0}

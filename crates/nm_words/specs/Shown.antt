@@ -4,7 +4,7 @@ use Rattle.nm_topology.specs.Topology.{topology_of}
 use Rattle.nm_topology.specs.TopologyValue.{TopologyValue}
 use Rattle.nm_command.specs.declared.status.Status.{Status}
 use Rattle.nm_command.specs.declared.status.Status.TheVariants.{Done}
-use Rattle.nm_report.specs.Lines.{EndsLine}
+use Rattle.nm_measure.specs.Lines.{EndsLine}
 use Rattle.nm_words.specs.Input.{IsRefused}
 use Rattle.nm_words.specs.Output.{EndsWord, FailsOfInput, SaysOfInput}
 use Rattle.nm_words.specs.Traces.{HasNoIface, iface_named}

@@ -5,7 +5,7 @@ ghost use Rattle.nm_words.specs.Input.{IsRefused, text_of};
 ghost use Rattle.nm_words.specs.Output.{FailsOfInput, SaysOfInput};
 ghost use Rattle.nm_words.specs.Shown.{ArePacketLines, EndsShown, EndsText, SaysShown, SaysText};
 ghost use Rattle.nm_words.specs.Traces.{HasNoIface};
-ghost use Rattle.nm_report.specs.Lines.{EndsLine};
+ghost use Rattle.nm_measure.specs.Lines.{EndsLine};
 
 use crate::input::NamedInputs;
 use crate::inputs::Inputs;
@@ -14,8 +14,10 @@ use crate::reading::read_topology;
 use crate::traces::read_iface;
 use nm_base::{IfaceNo, Record, Sink};
 use nm_command::{Status, View};
+use nm_measure::measure;
 use nm_progress::Progress;
-use nm_report::{csv_text, dot_text, load_text, measure, push_packet_line, report_text};
+use nm_report::{csv_text, dot_text, load_text, push_packet_line, report_text};
+use nm_series::delays_text;
 use nm_sim::Tracer;
 use nm_topology::Topology;
 use std::alloc::{AllocError, Global};
@@ -37,6 +39,7 @@ fn view_text(
     match view {
         View::Tables => report_text(alloc, network, &measured),
         View::Values => csv_text(alloc, network, &measured),
+        View::Delays => delays_text(alloc, network, &measured),
         View::Graph | View::Load => load_text(alloc, network, &measured),
     }
 }

@@ -8,7 +8,9 @@ nullsim simulates an IPv4 network; its traces are proved to be those of one even
   nullsim sent TOPO [IFACE]       the same, of what leaves alone; received: of what arrives
   nullsim all TOPO DIR [IFACE..]  the traces of all interfaces, or of these, as files in DIR
   nullsim check TOPO              what is in a topology, or where its first mistake is
-  nullsim report TOPO [csv]       drops, queues, use and delays as tables
+  nullsim report TOPO [csv]       drops, queues, use and delays as tables; delays: their spread
+  nullsim series TOPO STEP        what interfaces do over time; STEP flows: what sources do
+  nullsim packets TOPO SOURCE     the way of each packet of a source, and where it ended
   nullsim text TOPO IFACE         the packets of an interface, a line each
   nullsim path TOPO NODE ADDRESS  the way of a packet, a line a hop
   nullsim dot TOPO [load]         the network as a graph for Graphviz, coloured by use
@@ -73,9 +75,26 @@ status 3, and where the first mistake is.
     (
         "report",
         "\
-nullsim report TOPO [csv]
+nullsim report TOPO [csv | delays]
 Runs the network and prints what nodes counted, what interfaces carried and dropped, and
-what became of the packets of each source. csv: as comma-separated values.
+what became of the packets of each source. csv: as comma-separated values. delays: how
+often each delay came, as comma-separated values.
+",
+    ),
+    (
+        "series",
+        "\
+nullsim series TOPO STEP [flows]
+Prints a row for each interface and STEP nanoseconds, as comma-separated values: what
+came, went and was dropped, its queue, and its use. flows: a row for each source.
+",
+    ),
+    (
+        "packets",
+        "\
+nullsim packets TOPO SOURCE
+Prints a row for each packet of the source with this number, as comma-separated values:
+when it was sent, each interface that it passed and when, and where and why it ended.
 ",
     ),
     (

@@ -9,6 +9,7 @@ use nm_command::Status;
 fn hint(status: Status) -> &'static str {
     match status {
         Status::Usage => "see nullsim help\n",
+        Status::Rows(_) => "a series has at most 10,000,000 rows: take a longer STEP\n",
         Status::NoInterface => "nullsim dot TOPO shows the names of all interfaces\n",
         Status::Topology(_) => "nullsim check TOPO says where the mistake is\n",
         Status::NotCertified(_) => "see Runs in docs/FORMATS.md\n",

@@ -1,4 +1,4 @@
-use Rattle.nm_report.specs.Lines.{EndsLine}
+use Rattle.nm_measure.specs.Lines.{EndsLine}
 use Rattle.nm_report.proofs.csv.push_ifaces.Given as goal
 
 abbrev pub invariant-loop-iface : goal.invariant-loop-iface

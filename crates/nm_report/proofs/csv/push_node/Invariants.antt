@@ -1,4 +1,4 @@
-use Rattle.nm_report.specs.Lines.{EndsLine}
+use Rattle.nm_measure.specs.Lines.{EndsLine}
 use Rattle.nm_report.proofs.csv.push_node.Given as goal
 
 abbrev pub invariant-loop-counter : goal.invariant-loop-counter

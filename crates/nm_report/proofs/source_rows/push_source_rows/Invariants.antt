@@ -1,4 +1,4 @@
-use Rattle.nm_report.specs.Lines.{EndsLine}
+use Rattle.nm_measure.specs.Lines.{EndsLine}
 use Rattle.nm_report.proofs.source_rows.push_source_rows.Given as goal
 
 abbrev pub invariant-loop-source : goal.invariant-loop-source

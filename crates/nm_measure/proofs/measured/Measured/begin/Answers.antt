@@ -1,0 +1,18 @@
+use Rattle.std.proofs.Common.{List, ℕ, arith}
+use Rattle.nm_model.specs.EventList.{least}
+use Rattle.nm_model.specs.Run.{one_list}
+use Rattle.nm_sim.specs.Network.{net_of}
+use Rattle.nm_measure.proofs.Counting.{none_before}
+use Rattle.nm_measure.proofs.measured.Measured.begin.Goals as goal
+
+pub returns : goal.returns
+returns c = record {
+  events = 0;
+  over = record {
+    over = none_before {P = List ℕ} (least (one_list (net_of c.args.topology.now) 0).pending);
+    first = λ m l. absurd (omega (arith, l));
+  };
+  represents = c.in_ok-part.ensures.represents;
+  traffic = c.in_ok-traffic.ensures;
+  all = c.in_ok-part.ensures.handed;
+}

@@ -1,0 +1,45 @@
+-- How many packets came to an interface and how many it transmitted, with their octets.
+use Rattle.std.specs.Prelude.{◌≡◌, ℕ, ◌+◌, ◌==◌, ◌&&◌, Bool, true, false, not, cond, List, length, sum_by, slice_get, Some}
+use Rattle.nm_base.specs.Count.{saturated}
+use Rattle.nm_base.specs.declared.record.Dir.{Dir}
+use Rattle.nm_base.specs.declared.record.Dir.TheVariants.{In, Out}
+use Rattle.nm_base.specs.declared.record.Record.{Record}
+use Rattle.nm_model.specs.Lists.{keep_where}
+use Rattle.nm_topology.specs.TopologyValue.{TopologyValue}
+use Rattle.nm_measure.specs.declared.amounts.Amount.{Amount}
+use Rattle.nm_measure.specs.declared.amounts.IfaceTraffic.{IfaceTraffic}
+
+abbrev pub is_in : Dir → Bool
+is_in In = true
+is_in Out = false
+
+-- a packet arrived at interface i, or it began to transmit one
+abbrev pub came_to : ℕ → Record (List ℕ) → Bool
+came_to i r = (r.iface == i) && is_in r.dir
+
+abbrev pub went_from : ℕ → Record (List ℕ) → Bool
+went_from i r = (r.iface == i) && not (is_in r.dir)
+
+-- how many records are such, and the octets of their packets; both stop at the greatest of their type
+abbrev pub amount_of : (Record (List ℕ) → Bool) → List (Record (List ℕ)) → Amount
+amount_of f records = record {
+  packets = saturated (length (keep_where f records));
+  octets = saturated (sum_by (λ r. length r.packet) (keep_where f records));
+}
+
+abbrev pub traffic_of : ℕ → List (Record (List ℕ)) → IfaceTraffic
+traffic_of i records = record { came = amount_of (came_to i) records; went = amount_of (went_from i) records }
+
+-- with one packet more, and with one record more at the interface
+abbrev pub amount_after : Amount → ℕ → Amount
+amount_after a octets = record { packets = saturated (a.packets + 1); octets = saturated (a.octets + octets) }
+
+abbrev pub traffic_after : IfaceTraffic → Record (List ℕ) → IfaceTraffic
+traffic_after x r = cond (is_in r.dir)
+    (record { came = amount_after x.came (length r.packet); went = x.went })
+    (record { came = x.came; went = amount_after x.went (length r.packet) })
+
+-- each interface's, by number
+pub record AreTraffic (t : TopologyValue) (found : List IfaceTraffic) (records : List (Record (List ℕ))) : Type 0 where
+  pub count : length found ≡ length t.ifaces
+  pub each : (i : ℕ) (x : IfaceTraffic) → slice_get found i ≡ Some x → x ≡ traffic_of i records

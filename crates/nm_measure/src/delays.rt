@@ -1,0 +1,143 @@
+//! How long packets took.
+
+ghost use Rattle.std.specs.Prelude.{◌≡◌, ◌+◌, min, max, OnOk};
+ghost use Rattle.nm_base.specs.Count.{saturated};
+ghost use Rattle.nm_measure.specs.Delays.{least_after};
+
+use crate::spread::{Bucket, Spread};
+use std::alloc::{AllocError, Global};
+
+/// How long packets took, in nanoseconds, in the order in which they arrived.
+#[derive(Drop)]
+pub struct Delays {
+    spread: Spread,
+    least: u64,
+    greatest: u64,
+    /// The sum of all.
+    total: u128,
+    /// That of the last packet.
+    last: u64,
+    /// The sum of the differences of successive ones.
+    differences: u128,
+    /// The greatest since it was taken last.
+    recent: u64,
+}
+
+/// The mean of so many, rounded down; 0 where there are none.
+fn mean_of(total: u128, count: u64) -> u64 {
+    if count == 0 {
+        return 0;
+    }
+    u64::try_from(total / u128::from(count)).unwrap_or(u64::MAX)
+}
+
+impl Delays {
+    /// Of no packets.
+    pub(crate) fn new(alloc: Global) -> Self
+        ensures { result.spread.count ≡ 0 }
+    {
+        Delays {
+            spread: Spread::new(alloc),
+            least: 0,
+            greatest: 0,
+            total: 0,
+            last: 0,
+            differences: 0,
+            recent: 0,
+        }
+    }
+
+    /// Of how many packets, up to 2^64 - 1.
+    pub fn count(&self) -> u64
+        ensures { result ≡ self.now.spread.count }
+    {
+        self.spread.count()
+    }
+
+    /// The least; 0 where there are no packets.
+    pub fn least(&self) -> u64
+        ensures { result ≡ self.now.least }
+    {
+        self.least
+    }
+
+    /// The greatest; 0 where there are no packets.
+    pub fn greatest(&self) -> u64
+        ensures { result ≡ self.now.greatest }
+    {
+        self.greatest
+    }
+
+    /// The sum of all.
+    pub fn total(&self) -> u128
+        ensures { result ≡ self.now.total }
+    {
+        self.total
+    }
+
+    /// The greatest since this was asked last; 0 where none came.
+    pub(crate) fn take_recent(&mut self) -> u64
+        ensures { result ≡ self.old.recent }
+    {
+        let recent = self.recent;
+        self.recent = 0;
+        recent
+    }
+
+    /// How often delays came of the row with this place, and the least and the greatest of which
+    /// that is said, by rising delays: each delay by itself, or where they are rounded all that are
+    /// rounded to one. `None` where there are no more rows.
+    pub fn bucket(&self, place: usize) -> Option<Bucket> {
+        self.spread.bucket(place)
+    }
+
+    /// The mean, rounded down; 0 where there are no packets.
+    pub fn mean(&self) -> u64 {
+        mean_of(self.total, self.spread.count())
+    }
+
+    /// The mean difference of the delays of two successive arrivals, whichever is greater, rounded
+    /// down; 0 where there are fewer than two.
+    pub fn jitter(&self) -> u64 {
+        mean_of(self.differences, self.spread.count().saturating_sub(1))
+    }
+
+    /// The least delay such that at least so many thousandths of all are at most it (nearest rank);
+    /// 0 where there are no packets. Where `is_rounded` it may be less than that, by at most 1/128
+    /// of itself.
+    pub fn percentile(&self, thousandths: u64) -> u64 {
+        self.spread.percentile(thousandths).max(self.least)
+    }
+
+    /// Whether percentiles are rounded down, since more than 1,024 different delays came.
+    pub fn is_rounded(&self) -> bool {
+        self.spread.is_rounded()
+    }
+
+    /// One more packet took so many nanoseconds.
+    ///
+    /// # Errors
+    ///
+    /// Where memory was refused. The delay may have been noted in part.
+    pub(crate) fn add(&mut self, delay: u64) -> Result<(), AllocError>
+        ensures count { OnOk result (self.new.spread.count
+            ≡ saturated (self.old.spread.count + 1)) }
+        ensures least { OnOk result (self.new.least
+            ≡ least_after self.old.spread.count self.old.least delay) }
+        ensures greatest { OnOk result (self.new.greatest ≡ max self.old.greatest delay) }
+    {
+        if self.spread.count() == 0 {
+            self.least = delay;
+        } else {
+            self.least = delay.min(self.least);
+            self.differences = self
+                .differences
+                .saturating_add(u128::from(delay.abs_diff(self.last)));
+        }
+        self.greatest = self.greatest.max(delay);
+        self.recent = self.recent.max(delay);
+        self.total = self.total.saturating_add(u128::from(delay));
+        self.last = delay;
+        self.spread.add(delay)
+    }
+}

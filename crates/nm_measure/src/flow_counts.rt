@@ -1,0 +1,89 @@
+//! What became of the packets of a source.
+
+ghost use Rattle.std.specs.Prelude.{◌≡◌, ◌+◌, ◌<◌, ◌^◌, ltb};
+ghost use Rattle.nm_base.specs.Count.{saturated};
+
+/// What became of the packets of a source. Each that it handed over was delivered, refused, dropped
+/// or discarded, or is under way.
+#[derive(Clone, Copy, Drop)]
+pub struct FlowCounts {
+    /// How many packets it handed over, up to 2^64 - 1.
+    pub sent: u64,
+    /// How many came to where they were to go, and were taken there.
+    pub delivered: u64,
+    /// How many came to where they were to go, and nothing takes them there: to a closed port, or
+    /// of an unknown protocol.
+    pub refused: u64,
+    /// How many came to a queue without room.
+    pub dropped: u64,
+    /// How many a rule of a node ended: at the source, on the way or where they were to go.
+    pub discarded: u64,
+    /// How many wait at an interface or are on a link.
+    pub under_way: u64,
+    /// How many echo replies came to another node than the source's, up to 2^64 - 1.
+    pub astray: u64,
+    pub ghost balances: { sent ≡ delivered + refused + dropped + discarded + under_way },
+}
+
+/// How a packet ends.
+#[derive(Clone, Copy, Drop)]
+pub enum Outcome {
+    Delivered,
+    Refused,
+    Dropped,
+    Discarded,
+}
+
+impl FlowCounts {
+    ghost use Rattle.nm_measure.specs.Flows.{Ends, counts_of};
+
+    /// No packets.
+    pub const NONE: FlowCounts = FlowCounts {
+        sent: 0,
+        delivered: 0,
+        refused: 0,
+        dropped: 0,
+        discarded: 0,
+        under_way: 0,
+        astray: 0,
+    };
+
+    /// One more is handed over, and is under way. From 2^64 - 1 on no more are counted.
+    pub(crate) fn send(&mut self)
+        ensures sent { self.old.sent + 1 < 2 ^ 64 → self.new.sent ≡ self.old.sent + 1 }
+        ensures way { self.old.sent + 1 < 2 ^ 64 → self.new.under_way ≡ self.old.under_way + 1 }
+    {
+        if self.sent < u64::MAX {
+            self.sent += 1;
+            self.under_way += 1;
+        }
+    }
+
+    /// One that was under way ends so: whether there was one.
+    pub(crate) fn end(&mut self, outcome: Outcome) -> bool
+        ensures ends { 0 < self.old.under_way → Ends outcome self.old self.new }
+        ensures none { self.old.under_way ≡ 0 → counts_of self.new ≡ counts_of self.old }
+        ensures result { result ≡ ltb 0 self.old.under_way }
+        ensures astray { self.new.astray ≡ self.old.astray }
+    {
+        if self.under_way == 0 {
+            return false;
+        }
+        self.under_way -= 1;
+        match outcome {
+            Outcome::Delivered => self.delivered += 1,
+            Outcome::Refused => self.refused += 1,
+            Outcome::Dropped => self.dropped += 1,
+            Outcome::Discarded => self.discarded += 1,
+        }
+        true
+    }
+
+    /// An echo reply came to another node than the source's.
+    pub(crate) fn go_astray(&mut self)
+        ensures same { counts_of self.new ≡ counts_of self.old }
+        ensures astray { self.new.astray ≡ saturated (self.old.astray + 1) }
+    {
+        self.astray = self.astray.saturating_add(1);
+    }
+}

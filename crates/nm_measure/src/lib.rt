@@ -1,0 +1,33 @@
+//! What a run of a whole network comes to, event by event: traffic, drops, queues, busy times, and
+//! what becomes of the packets of sources.
+#![tactic(auto)]
+
+pub mod amounts;
+pub mod courses;
+pub mod delays;
+mod fates;
+pub mod flow_counts;
+pub mod flow_times;
+mod flows;
+mod guesses;
+mod lane;
+pub mod lines;
+pub mod measured;
+mod measuring;
+pub mod share;
+pub mod spread;
+mod tag;
+pub mod totals;
+mod usage;
+mod watched;
+
+pub use amounts::{Amount, IfaceTraffic};
+pub use courses::{Course, Ended, Hop};
+pub use delays::Delays;
+pub use flow_counts::{FlowCounts, Outcome};
+pub use flow_times::FlowTimes;
+pub use lines::end_line;
+pub use measured::Measured;
+pub use measuring::measure;
+pub use share::thousandths;
+pub use totals::{FlowTotals, IfaceTotals};

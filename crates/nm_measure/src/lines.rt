@@ -1,0 +1,18 @@
+//! Texts of whole lines.
+
+ghost use Rattle.std.specs.Prelude.{OnOk};
+ghost use Rattle.nm_measure.specs.Lines.{EndsLine};
+
+use nm_base::push_text;
+use std::alloc::AllocError;
+
+/// Appends a line feed.
+///
+/// # Errors
+///
+/// Where memory was refused.
+pub fn end_line(text: &mut Vec<u8>) -> Result<(), AllocError>
+    ensures { OnOk result (EndsLine text.new.items) }
+{
+    push_text(text, b"\n")
+}

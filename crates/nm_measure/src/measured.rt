@@ -1,0 +1,216 @@
+//! A network at a time of its run, and what was measured of it.
+
+ghost use Rattle.std.specs.Prelude.{◌≡◌, ℕ, ◌<◌, ◌≤◌, None, Some, IfOk, IfSome, OnOk, length};
+ghost use Rattle.nm_model.specs.Run.{one_list};
+ghost use Rattle.nm_measure.specs.Amounts.{traffic_of};
+ghost use Rattle.nm_measure.specs.Flows.{Balances};
+ghost use Rattle.nm_measure.specs.Measured.{IsMeasuredBefore, drops_of};
+ghost use Rattle.nm_sim.specs.Network.{net_of};
+ghost use Rattle.nm_sim.specs.Part.{count_at, drops_at};
+ghost use Rattle.nm_topology.specs.TopologyValue.{TopologyValue};
+
+use crate::amounts::{IfaceTraffic, count_all, no_traffic};
+use crate::courses::{Course, Ended};
+use crate::flow_counts::FlowCounts;
+use crate::flow_times::FlowTimes;
+use crate::totals::{FlowTotals, IfaceTotals};
+use crate::watched::Watched;
+use nm_base::limits::MAX_PART_STEPS;
+use nm_base::{IfaceNo, NodeNo, SourceNo, Time};
+use nm_events::SortedList;
+use nm_forward::Counter;
+use nm_progress::Progress;
+use nm_sim::Part;
+use nm_topology::Topology;
+use std::alloc::{AllocError, Global};
+use std::marker::Model;
+
+/// A whole network at a time of its run, and what was measured of it: counters, drops and traffic
+/// are those of the one event list; flows, queues and busy times are what was seen event by event.
+#[derive(Drop)]
+pub struct Measured {
+    part: Part<SortedList>,
+    traffic: Vec<IfaceTraffic>,
+    watched: Watched,
+}
+
+impl Model for Measured {
+    ghost use Rattle.nm_measure.specs.Measured.{MeasuredValue};
+
+    ghost Value = { MeasuredValue };
+
+    ghost view = { λ m. record { part = m.part; traffic = m.traffic.items } };
+}
+
+impl Measured {
+    /// A network at the begin of its run. The ways of the packets of a source are followed, if one
+    /// is named.
+    ///
+    /// # Errors
+    ///
+    /// Where memory was refused.
+    pub fn begin(
+        alloc: Global,
+        topology: &Topology,
+        followed: Option<SourceNo>,
+    ) -> Result<Self, AllocError>
+        ensures { IfOk result (IsMeasuredBefore topology.now 0) }
+    {
+        let traffic = no_traffic(alloc, topology)?;
+        let watched = Watched::new(alloc, topology, followed)?;
+        let part = Part::<SortedList>::start(alloc, topology, None)?;
+        Ok(Measured {
+            part,
+            traffic,
+            watched,
+        })
+    }
+
+    /// Runs the network on to a time that is not before the one where it is and not after `stop`.
+    /// Now and then it is noted how far the run is.
+    ///
+    /// # Errors
+    ///
+    /// Where memory was refused: nothing is said of what was measured then.
+    pub fn advance(
+        &mut self,
+        alloc: Global,
+        topology: &Topology,
+        until: Time,
+        progress: &Progress,
+    ) -> Result<(), AllocError>
+        requires before { until ≤ topology.now.stop }
+        requires from { (from : ℕ) × (from ≤ until) × IsMeasuredBefore topology.now from self.old }
+        ensures { OnOk result (IsMeasuredBefore topology.now until self.new) }
+    {
+        for done in 0..MAX_PART_STEPS + 1 {
+            let Some(key) = self.part.step(alloc, topology, until)? else {
+                return Ok(());
+            };
+            progress.note_record(self.part.handed(), key.time);
+            self.watched
+                .see(topology, &self.part, key.time, &key.place)?;
+            count_all(&mut self.part, &mut self.traffic)?;
+        }
+        Err(AllocError)
+    }
+
+    /// What a node counted. `None` where there is no such node.
+    pub fn counter(&self, node: NodeNo, counter: Counter) -> Option<u64>
+        ensures { (t : TopologyValue) (until : ℕ) (m : IsMeasuredBefore t until self.now)
+            → result ≡ count_at t None (one_list (net_of t) m.events) node counter }
+    {
+        self.part.counter(node, counter)
+    }
+
+    /// How many packets were dropped at an interface. `None` where there is no such interface.
+    pub fn dropped(&self, iface: IfaceNo) -> Option<u64>
+        ensures { (t : TopologyValue) (until : ℕ) (m : IsMeasuredBefore t until self.now)
+            → result ≡ drops_at t None (one_list (net_of t) m.events) iface }
+    {
+        self.part.dropped(iface)
+    }
+
+    /// What came to an interface and what it transmitted. `None` where there is no such interface.
+    pub fn traffic(&self, iface: IfaceNo) -> Option<IfaceTraffic>
+        ensures { (t : TopologyValue) (until : ℕ) (m : IsMeasuredBefore t until self.now)
+            → iface < length t.ifaces → result ≡ Some (traffic_of iface (one_list (net_of t) m.events).records) }
+    {
+        self.traffic.get(iface.index()).copied()
+    }
+
+    /// What an interface had up to this time, before which all events were done.
+    pub fn totals(&self, iface: IfaceNo, time: Time) -> IfaceTotals
+        requires there { iface < length self.now.traffic }
+        ensures traffic { (t : TopologyValue) (until : ℕ) (m : IsMeasuredBefore t until self.now)
+            → result.traffic ≡ traffic_of iface (one_list (net_of t) m.events).records }
+        ensures dropped { (t : TopologyValue) (until : ℕ) (m : IsMeasuredBefore t until self.now)
+            → result.dropped ≡ drops_of iface (one_list (net_of t) m.events) }
+    {
+        IfaceTotals {
+            traffic: self.traffic[iface.index()],
+            dropped: self.part.dropped(iface).unwrap_or(0),
+            waited: self.watched.waited(iface, time),
+            busy: self.watched.busy_before(iface, time),
+        }
+    }
+
+    /// What became of the packets of a source so far.
+    pub fn flow_totals(&self, source: SourceNo) -> FlowTotals {
+        let counts = self.flow(source).unwrap_or(FlowCounts::NONE);
+        let (octets, delayed) = match self.times(source) {
+            Some(times) => (times.octets(), times.delays.total()),
+            None => (0, 0),
+        };
+        FlowTotals {
+            sent: counts.sent,
+            delivered: counts.delivered,
+            lost: counts.refused + counts.dropped + counts.discarded,
+            octets,
+            delayed,
+        }
+    }
+
+    /// The most packets that waited at an interface at one time since this was asked last.
+    pub fn take_recent_queue(&mut self, iface: IfaceNo) -> u64
+        ensures { self.new ≡ self.old }
+    {
+        self.watched.take_recent_queue(iface)
+    }
+
+    /// The greatest delay of what arrived of a source since this was asked last, in nanoseconds; 0
+    /// where nothing did.
+    pub fn take_greatest(&mut self, source: SourceNo) -> u64
+        ensures { self.new ≡ self.old }
+    {
+        self.watched.take_greatest(source)
+    }
+
+    /// The packet of the followed source that ended first and was not taken yet.
+    pub fn take_ended(&mut self) -> Option<Ended>
+        ensures { self.new ≡ self.old }
+    {
+        self.watched.take_ended()
+    }
+
+    /// The packet of the followed source with the least number that is under way.
+    pub fn take_under_way(&mut self) -> Option<Course>
+        ensures { self.new ≡ self.old }
+    {
+        self.watched.take_open()
+    }
+
+    /// The most packets that waited at an interface at one time, behind the one that it transmits.
+    pub fn longest_queue(&self, iface: IfaceNo) -> u64 {
+        self.watched.longest_queue(iface)
+    }
+
+    /// For how many nanoseconds before `stop` an interface transmitted.
+    pub fn busy(&self, iface: IfaceNo) -> u64 {
+        match self.watched.usage(iface) {
+            Some(usage) => usage.busy(),
+            None => 0,
+        }
+    }
+
+    /// The share of the time from the start of its first packet to that of its last in which an
+    /// interface transmitted, in thousandths. `None` where there are fewer than two packets.
+    pub fn busy_share(&self, iface: IfaceNo) -> Option<u64>
+        ensures { IfSome result (λ share. share ≤ 1000) }
+    {
+        let usage = self.watched.usage(iface)?;
+        usage.share()
+    }
+
+    /// What became of the packets of a source. `None` where there is no such source.
+    pub fn flow(&self, source: SourceNo) -> Option<FlowCounts>
+        ensures { IfSome result Balances }
+    {
+        self.watched.flow(source)
+    }
+
+    /// How much of what a source sent arrived, and how late. `None` where there is no such source.
+    pub fn times(&self, source: SourceNo) -> Option<&FlowTimes> {
+        self.watched.times(source)
+    }
+}

@@ -1,0 +1,27 @@
+//! A run of a whole network that is measured.
+
+ghost use Rattle.std.specs.Prelude.{IfOk};
+ghost use Rattle.nm_measure.specs.Measured.{IsMeasured};
+
+use crate::measured::Measured;
+use nm_progress::Progress;
+use nm_topology::Topology;
+use std::alloc::{AllocError, Global};
+
+/// Runs a whole network by one event list to its `stop`, and measures it. Now and then it is noted
+/// how far the run is.
+///
+/// # Errors
+///
+/// Where memory was refused.
+pub fn measure(
+    alloc: Global,
+    topology: &Topology,
+    progress: &Progress,
+) -> Result<Measured, AllocError>
+    ensures { IfOk result (IsMeasured topology.now) }
+{
+    let mut measured = Measured::begin(alloc, topology, None)?;
+    measured.advance(alloc, topology, topology.stop(), progress)?;
+    Ok(measured)
+}

@@ -1,0 +1,186 @@
+//! How often delays came.
+
+ghost use Rattle.std.specs.Prelude.{◌≡◌, ◌≤◌, ◌<◌, ◌+◌, ◌-◌, ◌*◌, ◌^◌, OnOk, OnErr, IfOk, sum_by};
+ghost use Rattle.nm_base.specs.Count.{saturated};
+
+use std::alloc::{AllocError, Global};
+
+/// So many different delays are kept as they are.
+const EXACT_ROWS: usize = 1_024;
+
+/// So many of the highest bits of a delay are kept where more different ones come.
+const KEPT_BITS: u32 = 8;
+
+/// How often a delay came.
+#[derive(Clone, Copy, Drop)]
+struct Row {
+    /// In nanoseconds.
+    delay: u64,
+    /// From 1 on.
+    times: u64,
+}
+
+/// How often a delay from the least to the greatest of these came.
+#[derive(Clone, Copy, Drop)]
+pub struct Bucket {
+    /// In nanoseconds.
+    pub least: u64,
+    pub greatest: u64,
+    /// From 1 on.
+    pub times: u64,
+}
+
+/// How often each delay came. Up to 1,024 different ones are kept as they are. Once there are more,
+/// each is rounded down by less than 1/128 of what is left of it, so that there are never more than
+/// 7,424 rows: 256 of delays below 256 ns, and 128 for each power of two from there.
+#[derive(Drop)]
+pub(crate) struct Spread {
+    alloc: Global,
+    /// By delay, in rising order.
+    rows: Vec<Row>,
+    /// How many delays came, up to 2^64 - 1.
+    count: u64,
+    is_rounded: bool,
+    ghost all: { sum_by (λ r. r.times) rows.items ≡ count },
+}
+
+/// A delay, rounded down to its eight highest bits: by at most 1/128 of what is left.
+fn rounded(delay: u64) -> u64
+    ensures most { result ≤ delay }
+    ensures near { 128 * (delay - result) ≤ result }
+{
+    let bits = u64::BITS - delay.leading_zeros();
+    if bits <= KEPT_BITS {
+        return delay;
+    }
+    let step = 1u64 << (bits - KEPT_BITS);
+    delay - delay % step
+}
+
+/// The greatest delay that is rounded down to this one.
+fn greatest_of(rounded: u64) -> u64
+    ensures { rounded ≤ result }
+{
+    let bits = u64::BITS - rounded.leading_zeros();
+    if bits <= KEPT_BITS {
+        return rounded;
+    }
+    let step = 1u64 << (bits - KEPT_BITS);
+    rounded.saturating_add(step - 1)
+}
+
+/// Notes that a delay came so many times more.
+fn note(rows: &mut Vec<Row>, delay: u64, times: u64) -> Result<(), AllocError>
+    requires { sum_by (λ r. r.times) rows.old.items + times < 2 ^ 64 }
+    ensures more { OnOk result (sum_by (λ r. r.times) rows.new.items
+        ≡ sum_by (λ r. r.times) rows.old.items + times) }
+    ensures same { OnErr result (rows.new.items ≡ rows.old.items) }
+{
+    let place = rows.partition_point(|row| row.delay < delay);
+    if place < rows.len() && rows[place].delay == delay {
+        rows[place].times += times;
+        return Ok(());
+    }
+    rows.insert(place, Row { delay, times })?;
+    Ok(())
+}
+
+/// The rows with each delay rounded.
+fn rounded_rows(alloc: Global, rows: &[Row]) -> Result<Vec<Row>, AllocError>
+    requires { sum_by (λ r. r.times) rows.now < 2 ^ 64 }
+    ensures { IfOk result (λ all. sum_by (λ r. r.times) all.items
+        ≡ sum_by (λ r. r.times) rows.now) }
+{
+    let mut all = Vec::new(alloc);
+    for row in rows {
+        note(&mut all, rounded(row.delay), row.times)?;
+    }
+    Ok(all)
+}
+
+/// How many of so many delays have to be at most a percentile of so many thousandths: all that are
+/// asked for, rounded up, and one at least (nearest rank).
+fn rank_of(count: u64, thousandths: u64) -> u64 {
+    let asked = (u128::from(count) * u128::from(thousandths)).div_ceil(1_000);
+    u64::try_from(asked).unwrap_or(u64::MAX).max(1)
+}
+
+impl Spread {
+    /// No delays.
+    pub(crate) fn new(alloc: Global) -> Self
+        ensures { result.count ≡ 0 }
+    {
+        Spread {
+            alloc,
+            rows: Vec::new(alloc),
+            count: 0,
+            is_rounded: false,
+        }
+    }
+
+    /// How many delays came, up to 2^64 - 1.
+    pub(crate) fn count(&self) -> u64
+        ensures { result ≡ self.now.count }
+    {
+        self.count
+    }
+
+    /// Whether delays were rounded.
+    pub(crate) fn is_rounded(&self) -> bool {
+        self.is_rounded
+    }
+
+    /// The row with this place, by rising delays.
+    pub(crate) fn bucket(&self, place: usize) -> Option<Bucket> {
+        let row = self.rows.get(place)?;
+        let greatest = if self.is_rounded {
+            greatest_of(row.delay)
+        } else {
+            row.delay
+        };
+        Some(Bucket {
+            least: row.delay,
+            greatest,
+            times: row.times,
+        })
+    }
+
+    /// One more delay came. From 2^64 - 1 on no more are noted.
+    ///
+    /// # Errors
+    ///
+    /// Where memory was refused. The delay may have been noted.
+    pub(crate) fn add(&mut self, delay: u64) -> Result<(), AllocError>
+        ensures { OnOk result (self.new.count ≡ saturated (self.old.count + 1)) }
+    {
+        if self.count == u64::MAX {
+            return Ok(());
+        }
+        let kept = if self.is_rounded {
+            rounded(delay)
+        } else {
+            delay
+        };
+        note(&mut self.rows, kept, 1)?;
+        self.count += 1;
+        if !self.is_rounded && self.rows.len() > EXACT_ROWS {
+            self.rows = rounded_rows(self.alloc, self.rows.as_slice())?;
+            self.is_rounded = true;
+        }
+        Ok(())
+    }
+
+    /// The least delay that is kept such that at least so many thousandths of all are at most it
+    /// (nearest rank); 0 where there are none.
+    pub(crate) fn percentile(&self, thousandths: u64) -> u64 {
+        let rank = rank_of(self.count, thousandths);
+        let mut passed = 0u64;
+        for row in &self.rows {
+            passed = passed.saturating_add(row.times);
+            if passed >= rank {
+                return row.delay;
+            }
+        }
+        0
+    }
+}

@@ -1,0 +1,28 @@
+//! What interfaces and sources had in all, up to a time.
+
+use crate::amounts::IfaceTraffic;
+
+/// What an interface had up to a time. The difference of two is what it had between.
+#[derive(Clone, Copy, Drop)]
+pub struct IfaceTotals {
+    pub traffic: IfaceTraffic,
+    /// How many packets were dropped at its queue, up to 2^64 - 1.
+    pub dropped: u64,
+    /// For how many nanoseconds packets waited, all together.
+    pub waited: u128,
+    /// For how many nanoseconds it transmitted.
+    pub busy: u64,
+}
+
+/// What became of the packets of a source up to a time.
+#[derive(Clone, Copy, Drop)]
+pub struct FlowTotals {
+    pub sent: u64,
+    pub delivered: u64,
+    /// How many were refused, dropped or discarded.
+    pub lost: u64,
+    /// The octets of the IPv4 packets that were delivered, up to 2^64 - 1.
+    pub octets: u64,
+    /// How long those that were delivered took, all together, in nanoseconds.
+    pub delayed: u128,
+}

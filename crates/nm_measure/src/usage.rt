@@ -1,0 +1,112 @@
+//! How interfaces transmit.
+
+ghost use Rattle.std.specs.Prelude.{◌≡◌, ◌≤◌, ◌+◌, min, IfSome};
+ghost use Rattle.nm_base.specs.Count.{saturated};
+ghost use Rattle.nm_base.specs.declared.limits.TheConstants.{MAX_PACKET_OCTETS, MAX_RATE};
+ghost use Rattle.nm_iface.specs.Transmission.{transmission_time as time_of};
+
+use crate::share::thousandths;
+use nm_base::Time;
+use nm_iface::transmission_time;
+
+/// How an interface transmits.
+#[derive(Drop)]
+pub(crate) struct Usage {
+    /// Bits per second.
+    rate: u64,
+    /// The octets of the last packet.
+    octets: usize,
+    /// How long a packet of so many takes, in nanoseconds. Packets mostly have as many octets as
+    /// the one before, so that nothing is to be divided.
+    time: u64,
+    /// For how many nanoseconds before `stop`.
+    busy: u64,
+    /// For how many of these the last packet.
+    last_busy: u64,
+    /// When the first packet started and when the last.
+    starts: Option<(Time, Time)>,
+    ghost least: { 1 ≤ rate },
+    ghost greatest: { rate ≤ MAX_RATE },
+    ghost takes: { time ≡ time_of rate octets },
+}
+
+impl Usage {
+    /// Nothing was transmitted yet, at this rate in bits per second.
+    pub(crate) fn new(rate: u64) -> Self
+        requires least { 1 ≤ rate }
+        requires greatest { rate ≤ MAX_RATE }
+        ensures rate { result.rate ≡ rate }
+        ensures busy { result.busy ≡ 0 }
+    {
+        Usage {
+            rate,
+            octets: 0,
+            time: transmission_time(rate, 0),
+            busy: 0,
+            last_busy: 0,
+            starts: None,
+        }
+    }
+
+    /// For how many nanoseconds before `stop` it transmitted.
+    pub(crate) fn busy(&self) -> u64
+        ensures { result ≡ self.now.busy }
+    {
+        self.busy
+    }
+
+    /// For how many nanoseconds before this time it transmitted. No transmission started later.
+    pub(crate) fn busy_before(&self, time: Time) -> u64
+        ensures { result ≤ self.now.busy }
+    {
+        let Some((_, last)) = self.starts else {
+            return self.busy;
+        };
+        let end = last.nanoseconds().saturating_add(self.last_busy);
+        self.busy
+            .saturating_sub(end.saturating_sub(time.nanoseconds()))
+    }
+
+    /// The share of the time from the start of its first packet to that of its last in which it
+    /// transmitted, in thousandths, rounded down. `None` where there are fewer than two.
+    pub(crate) fn share(&self) -> Option<u64>
+        ensures { IfSome result (λ share. share ≤ 1000) }
+    {
+        let (first, last) = self.starts?;
+        let time = last.nanoseconds().saturating_sub(first.nanoseconds());
+        if time == 0 {
+            return None;
+        }
+        Some(thousandths(self.busy.saturating_sub(self.last_busy), time))
+    }
+
+    /// How long a packet of so many octets takes, in nanoseconds.
+    fn time_of(&mut self, octets: usize) -> u64
+        requires { octets ≤ MAX_PACKET_OCTETS }
+        ensures time { result ≡ time_of self.old.rate octets }
+        ensures rate { self.new.rate ≡ self.old.rate }
+        ensures busy { self.new.busy ≡ self.old.busy }
+    {
+        if octets != self.octets {
+            self.time = transmission_time(self.rate, octets);
+            self.octets = octets;
+        }
+        self.time
+    }
+
+    /// The transmission of a packet of so many octets starts, so many nanoseconds before `stop`.
+    pub(crate) fn start(&mut self, octets: usize, now: Time, left: u64)
+        requires { octets ≤ MAX_PACKET_OCTETS }
+        ensures busy { self.new.busy
+            ≡ saturated (self.old.busy + min (time_of self.old.rate octets) left) }
+        ensures rate { self.new.rate ≡ self.old.rate }
+    {
+        let busy = self.time_of(octets).min(left);
+        self.starts = match self.starts {
+            Some((first, _)) => Some((first, now)),
+            None => Some((now, now)),
+        };
+        self.last_busy = busy;
+        self.busy = self.busy.saturating_add(busy);
+    }
+}

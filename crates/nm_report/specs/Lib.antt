@@ -1,5 +1,0 @@
-pub mod Amounts
-pub mod Flows
-pub mod Delays
-pub mod Measured
-pub mod Lines

@@ -1,0 +1,76 @@
+-- One row more.
+use Rattle.std.proofs.Common.{◌≡◌, ℕ, zero, suc, ◌+◌, List, [], ◌∷◌, ◌++◌, length, Some, slice_get, get_or, ◌⊎◌, inl, inr, ◌<◌, refl, sym, ap, ◌∙◌, arith, append_assoc, append-nil}
+use Rattle.nm_forward.specs.State.{NodeStateValue}
+use Rattle.nm_model.specs.Run.{State}
+use Rattle.nm_topology.specs.PartValues.{IfaceValue}
+use Rattle.nm_measure.specs.declared.totals.IfaceTotals.{IfaceTotals}
+use Rattle.std.proofs.lemmas.Option.{slice_get-get_or}
+use Rattle.nm_topology.specs.TopologyValue.{TopologyValue}
+use Rattle.nm_series.specs.Rows.{AreTotals, Had, had, iface_row, rows_of}
+use Rattle.nm_series.specs.declared.iface_rows.Seen.{Seen}
+
+module _ (from : ℕ) (old new : State (List ℕ) NodeStateValue) where
+  -- the rows with one more behind them, of interface n + k
+  pub rows_more : (n k : ℕ) (ifaces : List IfaceValue) (seen : List Seen) (i : IfaceValue) (x : Seen) → length seen ≡ k → slice_get ifaces k ≡ Some i
+      → rows_of from old new n ifaces (seen ++ x ∷ []) ≡ rows_of from old new n ifaces seen ++ iface_row from i.name (had (n + k) old) (had (n + k) new) x
+  rows_more n k [] seen i x count at = absurd (cc)
+  rows_more n zero (j ∷ ifaces) [] i x count at =
+      let same : j ≡ i = cc in
+      let e : n + zero ≡ n = omega arith in
+      append_nil_row j ∙ ap (λ v. iface_row from v.name (had n old) (had n new) x) same ∙ ap (λ m. iface_row from i.name (had m old) (had m new) x) (sym e)
+    where
+      empty : (m : ℕ) (l : List IfaceValue) → rows_of from old new m l [] ≡ []
+      empty m [] = refl
+      empty m (_ ∷ l) = refl
+
+      append_nil_row : (v : IfaceValue) → iface_row from v.name (had n old) (had n new) x ++ rows_of from old new (suc n) ifaces [] ≡ iface_row from v.name (had n old) (had n new) x
+      append_nil_row v = ap (λ l. iface_row from v.name (had n old) (had n new) x ++ l) (empty (suc n) ifaces) ∙ append-nil (iface_row from v.name (had n old) (had n new) x)
+  rows_more n zero (j ∷ ifaces) (y ∷ seen) i x count at = absurd (cc)
+  rows_more n (suc k) (j ∷ ifaces) [] i x count at = absurd (cc)
+  rows_more n (suc k) (j ∷ ifaces) (y ∷ seen) i x count at =
+      let fewer : length seen ≡ k = omega (arith, count) in
+      let e : suc n + k ≡ n + suc k = omega arith in
+      let first = iface_row from j.name (had n old) (had n new) y in
+      ap (λ l. first ++ l) (rows_more (suc n) k ifaces seen i x fewer at ∙ ap (λ m. rows_of from old new (suc n) ifaces seen ++ iface_row from i.name (had m old) (had m new) x) e)
+      ∙ sym (append_assoc first (rows_of from old new (suc n) ifaces seen) (iface_row from i.name (had (n + suc k) old) (had (n + suc k) new) x))
+
+  pub no_rows : (n : ℕ) (ifaces : List IfaceValue) → rows_of from old new n ifaces [] ≡ []
+  no_rows n [] = refl
+  no_rows n (i ∷ ifaces) = refl
+
+-- what stands in a list with one more element is that element, or stood there before
+pub pushed : {X : Type 0} (xs : List X) (v : X) (i : ℕ) (x : X) → slice_get (xs ++ v ∷ []) i ≡ Some x → (slice_get xs i ≡ Some x) ⊎ ((i ≡ length xs) × (x ≡ v))
+pushed [] v zero x h = inr (refl, cc)
+pushed [] v (suc i) x h = absurd (cc)
+pushed (y ∷ xs) v zero x h = inl h
+pushed (y ∷ xs) v (suc i) x h = go (pushed xs v i x h)
+  where
+    go : (slice_get xs i ≡ Some x) ⊎ ((i ≡ length xs) × (x ≡ v)) → (slice_get xs i ≡ Some x) ⊎ ((suc i ≡ suc (length xs)) × (x ≡ v))
+    go (inl g) = inl g
+    go (inr (e, g)) = inr (ap suc e, g)
+
+module _ (t : TopologyValue) (from n : ℕ) (old new : State (List ℕ) NodeStateValue) (before after : List IfaceTotals) where
+  had_is : (s : State (List ℕ) NodeStateValue) (all : List IfaceTotals) (d : IfaceTotals) → AreTotals t s all → n < length t.ifaces
+      → (let x = get_or all n d in let y : Had = record { traffic = x.traffic; dropped = x.dropped } in y ≡ had n s)
+  had_is s all d are low =
+      let few : n < length all = let c = are.count in omega (arith, c, low) in
+      let e = are.each n (get_or all n d) (slice_get-get_or all n d few) in
+      (λ k. record { traffic = e.0 k; dropped = e.1 k })
+
+  -- the text with the row of interface n behind it
+  pub row_next : (d e : IfaceTotals) (seen : List Seen) (x : Seen) (i : IfaceValue) (name initial mid next : List ℕ)
+      → AreTotals t old before → AreTotals t new after → n < length t.ifaces → length seen ≡ n → slice_get t.ifaces n ≡ Some i → name ≡ i.name
+      → mid ≡ initial ++ rows_of from old new 0 t.ifaces seen
+      → next ≡ mid ++ iface_row from name (record { traffic = (get_or before n d).traffic; dropped = (get_or before n d).dropped })
+      (record { traffic = (get_or after n e).traffic; dropped = (get_or after n e).dropped }) x
+      → next ≡ initial ++ rows_of from old new 0 t.ifaces (seen ++ x ∷ [])
+  row_next d e seen x i name initial mid next was is low count at named so_far more =
+      let z : 0 + n ≡ n = omega arith in
+      let rows = rows_of from old new 0 t.ifaces seen in
+      more ∙ ap (λ a. mid ++ iface_row from name a (record { traffic = (get_or after n e).traffic; dropped = (get_or after n e).dropped }) x) (had_is old before d was low)
+      ∙ ap (λ b. mid ++ iface_row from name (had n old) b x) (had_is new after e is low)
+      ∙ ap (λ v. mid ++ iface_row from v (had n old) (had n new) x) named
+      ∙ ap (λ m. m ++ iface_row from i.name (had n old) (had n new) x) so_far
+      ∙ append_assoc initial rows (iface_row from i.name (had n old) (had n new) x)
+      ∙ ap (λ m. initial ++ (rows ++ iface_row from i.name (had m old) (had m new) x)) (sym z)
+      ∙ ap (λ l. initial ++ l) (sym (rows_more from old new 0 n t.ifaces seen i x count at))

@@ -1,0 +1,40 @@
+use Rattle.std.proofs.Common.{◌≡◌, ◌<◌, ◌≤◌, length, slice_get, rules, sym, ap, subst, ◌∙◌, arith, ⊎_elim}
+use Rattle.nm_model.specs.Run.{one_list}
+use Rattle.nm_sim.specs.Network.{net_of}
+use Rattle.nm_series.specs.Rows.{had}
+use Rattle.nm_series.proofs.RowsMore.{pushed}
+use Rattle.nm_series.proofs.iface_rows.totals_of.Goals as goal
+
+pub loop-number-preserved : goal.loop-number-preserved
+loop-number-preserved c =
+    let t = c.args.topology.now in
+    let n = c.loop-number.number in
+    let low : n < length t.ifaces = search rules in
+    let same : c.new.result ≡ n = search rules in
+    let count = c.loop-number.invariant.count in
+    let more = c.in_ok-push.ensures.items in
+    record {
+      within = omega (arith, low);
+      count = search rules;
+      each = λ until m i x got.
+          let s = one_list (net_of t) m.events in
+          ⊎_elim
+          (λ before. c.loop-number.invariant.each until m i x before)
+          (λ last.
+          let at : c.new.result ≡ i = same ∙ sym count ∙ sym last.0 in (
+            ap (λ v. v.traffic) last.1 ∙ subst (λ j. c.totals.result.traffic ≡ (had j s).traffic) at (c.totals.ensures.traffic t until m),
+            ap (λ v. v.dropped) last.1 ∙ subst (λ j. c.totals.result.dropped ≡ (had j s).dropped) at (c.totals.ensures.dropped t until m),
+          ))
+          (pushed c.loop-number.all.items c.totals.result i x (sym (ap (λ l. slice_get l i) more) ∙ got));
+    }
+
+pub returns : goal.returns
+returns c = λ until m.
+    let n = c.loop-number.number in
+    let low = c.loop-number.invariant.within in
+    let over : length c.args.topology.now.ifaces ≤ n = search rules in
+    let count = c.loop-number.invariant.count in
+    record {
+      count = omega (arith, low, over, count);
+      each = c.loop-number.invariant.each until m;
+    }

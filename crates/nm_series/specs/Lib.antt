@@ -1,0 +1,4 @@
+pub mod Rows
+pub mod Steps
+pub mod Series
+pub mod Flows

@@ -1,0 +1,176 @@
+//! The rows of interfaces in a step.
+
+ghost use Rattle.std.specs.Prelude.{◌≡◌, ℕ, ◌<◌, ◌++◌, List, IfOk, OnOk, Some, length, slice_get};
+ghost use Rattle.nm_base.specs.declared.limits.TheConstants.{MAX_IFACES};
+ghost use Rattle.nm_forward.specs.State.{NodeStateValue};
+ghost use Rattle.nm_model.specs.Run.{State, one_list};
+ghost use Rattle.nm_sim.specs.Network.{net_of};
+ghost use Rattle.nm_measure.specs.Measured.{IsMeasuredBefore};
+ghost use Rattle.nm_series.specs.Rows.{AreTotals, Had, counts_text, iface_row, rows_of, seen_text};
+
+use crate::cells::push_cell;
+use nm_base::{IfaceNo, Time, push_number, push_text};
+use nm_measure::{IfaceTotals, Measured, thousandths};
+use nm_topology::Topology;
+use nm_topology::topology::accepted_topologies_are_in_order;
+use std::alloc::{AllocError, Global};
+
+/// What was seen of an interface in a step.
+#[derive(Clone, Copy, Drop)]
+pub struct Seen {
+    /// The most packets that waited at one time.
+    pub longest: u64,
+    /// How many waited in the mean over time, in thousandths, rounded down.
+    pub mean: u64,
+    /// In which share of the time it transmitted, in thousandths, rounded down.
+    pub busy: u64,
+}
+
+/// A step: from when to when.
+#[derive(Clone, Copy)]
+pub(crate) struct Span {
+    pub from: Time,
+    pub until: Time,
+}
+
+impl Span {
+    /// How long it is, in nanoseconds.
+    fn length(&self) -> u64 {
+        self.until
+            .nanoseconds()
+            .saturating_sub(self.from.nanoseconds())
+    }
+}
+
+/// What all interfaces had up to this time, before which all events were done, by number.
+pub(crate) fn totals_of(
+    alloc: Global,
+    topology: &Topology,
+    measured: &Measured,
+    time: Time,
+) -> Result<Vec<IfaceTotals>, AllocError>
+    requires { (until : ℕ) × IsMeasuredBefore topology.now until measured.now }
+    ensures { IfOk result (λ all. (until : ℕ)
+        (m : IsMeasuredBefore topology.now until measured.now)
+        → AreTotals topology.now (one_list (net_of topology.now) m.events) all.items) }
+{
+    accepted_topologies_are_in_order(topology); // law: there are few interfaces
+    let mut all = Vec::new(alloc);
+    for number in 0..topology.ifaces().len() {
+        all.push(measured.totals(IfaceNo::new(number as u32), time))?;
+    }
+    Ok(all)
+}
+
+/// How many packets waited in the mean in a step, in thousandths, rounded down, where they waited
+/// for so many nanoseconds all together.
+fn mean_of(waited: u128, length: u64) -> u64 {
+    if length == 0 {
+        return 0;
+    }
+    u64::try_from(waited.saturating_mul(1_000) / u128::from(length)).unwrap_or(u64::MAX)
+}
+
+/// What was seen of an interface in a step, before which it had this and after which that.
+fn seen_of(
+    measured: &mut Measured,
+    iface: IfaceNo,
+    before: &IfaceTotals,
+    after: &IfaceTotals,
+    length: u64,
+) -> Seen
+    ensures { measured.new ≡ measured.old }
+{
+    Seen {
+        longest: measured.take_recent_queue(iface),
+        mean: mean_of(after.waited.saturating_sub(before.waited), length),
+        busy: thousandths(after.busy.saturating_sub(before.busy), length),
+    }
+}
+
+/// Appends what came, went and was dropped in a step.
+fn push_counts(
+    text: &mut Vec<u8>,
+    before: &IfaceTotals,
+    after: &IfaceTotals,
+) -> Result<(), AllocError>
+    ensures { OnOk result (text.new.items ≡ text.old.items ++ counts_text
+        (record { traffic = before.now.traffic; dropped = before.now.dropped })
+        (record { traffic = after.now.traffic; dropped = after.now.dropped })) }
+{
+    let (old, new) = (&before.traffic, &after.traffic);
+    push_cell(text, new.came.packets.saturating_sub(old.came.packets))?;
+    push_cell(text, new.came.octets.saturating_sub(old.came.octets))?;
+    push_cell(text, new.went.packets.saturating_sub(old.went.packets))?;
+    push_cell(text, new.went.octets.saturating_sub(old.went.octets))?;
+    push_cell(text, after.dropped.saturating_sub(before.dropped))
+}
+
+/// Appends what was seen of an interface.
+fn push_seen(text: &mut Vec<u8>, seen: &Seen) -> Result<(), AllocError>
+    ensures { OnOk result (text.new.items ≡ text.old.items ++ seen_text seen.now) }
+{
+    push_cell(text, seen.longest)?;
+    push_cell(text, seen.mean)?;
+    push_cell(text, seen.busy)
+}
+
+/// Appends the row of an interface.
+fn push_row(
+    text: &mut Vec<u8>,
+    from: Time,
+    name: &str,
+    before: &IfaceTotals,
+    after: &IfaceTotals,
+    seen: &Seen,
+) -> Result<(), AllocError>
+    ensures { OnOk result (text.new.items ≡ text.old.items ++ iface_row from name.now
+        (record { traffic = before.now.traffic; dropped = before.now.dropped })
+        (record { traffic = after.now.traffic; dropped = after.now.dropped }) seen.now) }
+{
+    push_number(text, from.nanoseconds())?;
+    push_text(text, b",")?;
+    push_text(text, name.as_bytes())?;
+    push_counts(text, before, after)?;
+    push_seen(text, seen)?;
+    push_text(text, b"\n")
+}
+
+/// Appends the rows of all interfaces in a step, in the order of the topology's text.
+pub(crate) fn push_rows(
+    text: &mut Vec<u8>,
+    topology: &Topology,
+    measured: &mut Measured,
+    before: &[IfaceTotals],
+    after: &[IfaceTotals],
+    span: &Span,
+) -> Result<(), AllocError>
+    requires before { length before.now ≡ length topology.now.ifaces }
+    requires after { length after.now ≡ length topology.now.ifaces }
+    ensures same { measured.new ≡ measured.old }
+    ensures rows { OnOk result ((seen : List Seen) × (length seen ≡ length topology.now.ifaces)
+        × ((old new : State (List ℕ) NodeStateValue) → AreTotals topology.now old before.now
+        → AreTotals topology.now new after.now → text.new.items ≡ text.old.items
+        ++ rows_of span.now.from old new 0 topology.now.ifaces seen)) }
+{
+    accepted_topologies_are_in_order(topology); // law: there are few interfaces
+    for number in 0..topology.ifaces().len() {
+        let iface = IfaceNo::new(number as u32);
+        let seen = seen_of(
+            measured,
+            iface,
+            &before[number],
+            &after[number],
+            span.length(),
+        );
+        push_row(
+            text,
+            span.from,
+            topology.iface(iface).name(),
+            &before[number],
+            &after[number],
+            &seen,
+        )?;
+    }
+    Ok(())
+}

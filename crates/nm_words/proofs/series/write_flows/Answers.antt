@@ -1,0 +1,10 @@
+use Rattle.std.proofs.Common.{subst}
+use Rattle.nm_command.specs.Status.{ended}
+use Rattle.nm_command.specs.declared.view.Subject.TheVariants.{Sources}
+use Rattle.nm_words.specs.Series.{WritesSteps}
+use Rattle.nm_words.proofs.series.write_flows.Goals as goal
+
+pub returns : goal.returns
+returns g c =
+    subst (λ step. WritesSteps g.S.Sink.taken g.S.Sink.failures c.args.sink.now c.write_flow_steps.new.sink Sources step c.args.topology.now (ended c.write_flow_steps.result))
+    c.in_ok-series.ensures.begin.1 c.write_flow_steps.ensures

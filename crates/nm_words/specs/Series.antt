@@ -1,0 +1,67 @@
+-- The word `series`: what interfaces or sources do over time.
+use Rattle.std.specs.Prelude.{◌≡◌, ◌⊎◌, ℕ, ◌*◌, ◌<◌, List, length, Option, Ok, codes}
+use Rattle.nm_topology.specs.Topology.{topology_of}
+use Rattle.nm_topology.specs.TopologyValue.{TopologyValue}
+use Rattle.nm_command.specs.declared.status.Status.{Status}
+use Rattle.nm_command.specs.declared.status.Status.TheVariants.{Done, Usage, NoInterface, ScriptLine, Step, Rows, Topology, File, Memory, NotCertified, Stalled}
+use Rattle.nm_command.specs.declared.view.Subject.{Subject}
+use Rattle.nm_command.specs.declared.view.Subject.TheVariants.{Interfaces, Sources}
+use Rattle.nm_files.specs.Writing.{WroteAll, WrotePrefix}
+use Rattle.nm_series.specs.Flows.{AreLines}
+use Rattle.nm_series.specs.Series.{IsIfaceStep}
+use Rattle.nm_series.specs.Steps.{AreAllSteps, AreSteps, steps_in}
+use Rattle.nm_series.specs.declared.steps.TheConstants.{MAX_ROWS}
+use Rattle.nm_words.specs.Input.{HasTopology, IsRefused}
+use Rattle.nm_words.specs.Output.{FailsOfInput}
+
+-- the names of the columns
+abbrev pub head_of : Subject → List ℕ
+head_of Interfaces =
+    codes "from_nanoseconds,interface,packets_in,octets_in,packets_out,octets_out,dropped,longest_queue,mean_queue_thousandths,busy_thousandths\n"
+head_of Sources = codes "from_nanoseconds,source,sent,delivered,lost,octets,mean_delay_nanoseconds,greatest_delay_nanoseconds\n"
+
+-- the text of a step: the rows of interfaces, or whole lines of sources
+abbrev pub IsStepOf : Subject → TopologyValue → (from until : ℕ) → List ℕ → Type 0
+IsStepOf Interfaces t from until text = IsIfaceStep t from until text
+IsStepOf Sources t from until text = AreLines text
+
+-- the names of the columns, and the first so many steps
+abbrev pub TellsSteps : Subject → (step : ℕ) → TopologyValue → ℕ → List ℕ → Type 0
+TellsSteps subject step t = AreSteps (IsStepOf subject t) (head_of subject) step t.stop
+
+-- and all steps up to stop
+abbrev pub TellsAll : Subject → (step : ℕ) → TopologyValue → List ℕ → Type 0
+TellsAll subject step t = AreAllSteps (IsStepOf subject t) (head_of subject) step t.stop
+
+-- how many rows a step has
+abbrev pub rows_in : Subject → TopologyValue → ℕ
+rows_in Interfaces t = length t.ifaces
+rows_in Sources t = length t.sources
+
+-- why there is no series: the text is refused, or there would be so many rows
+abbrev pub HasManyRows : Subject → (step : ℕ) → List ℕ → Status → Type 0
+HasManyRows subject step text status = IsRefused text status
+    ⊎ ((rows : ℕ) × (status ≡ Rows rows) × (MAX_ROWS < rows)
+    × ((network : TopologyValue) × (topology_of text ≡ Ok network) × (rows ≡ steps_in step network.stop * rows_in subject network)))
+
+module _ {S : Type 0} (taken : S → Option (List ℕ)) (failures : S → ℕ) (old new : S) (subject : Subject) (step : ℕ) (t : TopologyValue) where
+  -- what the sink took: all; or a part of the first so many steps, where it failed; or nothing, or those, where memory was refused
+  abbrev pub WritesSteps : Status → Type 0
+  WritesSteps Done = (octets : List ℕ) × TellsAll subject step t octets × WroteAll taken failures old new octets
+  WritesSteps Usage = ⊥
+  WritesSteps NoInterface = ⊥
+  WritesSteps (ScriptLine n) = ⊥
+  WritesSteps (Step n) = ⊥
+  WritesSteps (Rows n) = ⊥
+  WritesSteps (Topology refusal) = ⊥
+  WritesSteps File = (steps : ℕ) × (octets : List ℕ) × TellsSteps subject step t steps octets × WrotePrefix taken failures old new octets
+  WritesSteps Memory = (new ≡ old) ⊎ ((steps : ℕ) × (octets : List ℕ) × TellsSteps subject step t steps octets × WroteAll taken failures old new octets)
+  WritesSteps (NotCertified n) = ⊥
+  WritesSteps Stalled = ⊥
+
+-- What each status says.
+module _ {S : Type 0} (taken : S → Option (List ℕ)) (failures : S → ℕ) (told : List ℕ → Option (List ℕ)) (failed_before failed : ℕ) (old new : S) where
+  abbrev pub EndsSeries : List ℕ → ℕ → Subject → Status → Type 0
+  EndsSeries topology step subject status =
+      ((network : TopologyValue) × HasTopology (told topology) network × WritesSteps taken failures old new subject step network status)
+      ⊎ (FailsOfInput (told topology) failed_before failed (HasManyRows subject step) status × (new ≡ old))

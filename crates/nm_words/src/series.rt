@@ -1,0 +1,221 @@
+//! The word `series`: what interfaces or sources do over time, written step by step.
+
+ghost use Rattle.std.specs.Prelude.{◌≡◌, ◌*◌, ◌≤◌, ◌<◌, IfErr, IfOk, OnOk, Ok, length};
+ghost use Rattle.nm_base.specs.declared.limits.TheConstants.{MAX_IFACES, MAX_TIME};
+ghost use Rattle.nm_command.specs.Status.{ended};
+ghost use Rattle.nm_command.specs.declared.status.Status.TheVariants.{File};
+ghost use Rattle.nm_command.specs.declared.view.Subject.TheVariants.{Interfaces, Sources};
+ghost use Rattle.nm_files.specs.Writing.{WroteAll, WrotePrefix};
+ghost use Rattle.nm_series.specs.Flows.{IsFlowSeries};
+ghost use Rattle.nm_series.specs.Series.{IsSeries};
+ghost use Rattle.nm_series.specs.Steps.{steps_in};
+ghost use Rattle.nm_series.specs.declared.steps.TheConstants.{MAX_ROWS};
+ghost use Rattle.nm_words.specs.Input.{HasTopology, text_of};
+ghost use Rattle.nm_words.specs.Output.{FailsOfInput};
+ghost use Rattle.nm_words.specs.Series.{EndsSeries, HasManyRows, WritesSteps, head_of, rows_in};
+
+use crate::input::NamedInputs;
+use crate::inputs::Inputs;
+use crate::reading::read_topology;
+use nm_base::Sink;
+use nm_base::sink::write_all;
+use nm_command::{SeriesWords, Status, Subject};
+use nm_progress::Progress;
+use nm_series::steps::{MAX_ROWS, steps_in};
+use nm_series::{FlowSeries, IfaceSeries};
+use nm_topology::Topology;
+use nm_topology::topology::accepted_topologies_are_in_order;
+use std::alloc::Global;
+
+/// The names of the columns.
+fn head_of(subject: Subject) -> &'static [u8]
+    ensures { result.now ≡ head_of subject }
+{
+    match subject {
+        Subject::Interfaces => {
+            b"from_nanoseconds,interface,packets_in,octets_in,packets_out,octets_out,dropped,\
+longest_queue,mean_queue_thousandths,busy_thousandths\n"
+        }
+        Subject::Sources => {
+            b"from_nanoseconds,source,sent,delivered,lost,octets,mean_delay_nanoseconds,\
+greatest_delay_nanoseconds\n"
+        }
+    }
+}
+
+/// How many rows a step has.
+fn rows_in(topology: &Topology, subject: Subject) -> usize
+    ensures rows { result ≡ rows_in subject topology.now }
+    ensures few { result ≤ MAX_IFACES }
+{
+    accepted_topologies_are_in_order(topology); // law: there are few interfaces and sources
+    match subject {
+        Subject::Interfaces => topology.ifaces().len(),
+        Subject::Sources => topology.sources().len(),
+    }
+}
+
+/// How many rows a series has.
+fn rows_of(topology: &Topology, step: u64, subject: Subject) -> u64
+    requires some { 1 ≤ step }
+    requires short { step ≤ MAX_TIME }
+    ensures { result ≡ steps_in step topology.now.stop * rows_in subject topology.now }
+{
+    accepted_topologies_are_in_order(topology); // law: `stop` is within its limit
+    steps_in(topology, step) * rows_in(topology, subject) as u64
+}
+
+/// Gives a sink octets.
+fn put<S: Sink>(sink: &mut S, octets: &[u8]) -> Result<(), Status>
+    ensures whole { OnOk result (WroteAll S.taken S.failures sink.old sink.new octets.now) }
+    ensures cut { IfErr result (λ status. (status ≡ File)
+        × WrotePrefix S.taken S.failures sink.old sink.new octets.now) }
+{
+    match write_all(sink, octets) {
+        Ok(()) => Ok(()),
+        Err(_) => Err(Status::File),
+    }
+}
+
+/// Writes what interfaces do, step by step, from the begin of a series.
+fn write_iface_steps<S: Sink>(
+    alloc: Global,
+    topology: &Topology,
+    series: &mut IfaceSeries,
+    sink: &mut S,
+    progress: &Progress,
+) -> Result<(), Status>
+    requires series { IsSeries topology.now series.old }
+    requires begin { series.old.time ≡ 0 }
+    ensures { WritesSteps S.taken S.failures sink.old sink.new Interfaces series.old.step
+        topology.now (ended result) }
+{
+    put(sink, head_of(Subject::Interfaces))?;
+    for _ in 0..u64::MAX {
+        let Some(text) = series.next(alloc, topology, progress)? else {
+            return Ok(());
+        };
+        put(sink, text.as_slice())?;
+    }
+    Err(Status::Memory)
+}
+
+/// Writes what interfaces do, step by step.
+fn write_ifaces<S: Sink>(
+    alloc: Global,
+    topology: &Topology,
+    step: u64,
+    sink: &mut S,
+    progress: &Progress,
+) -> Result<(), Status>
+    ensures { WritesSteps S.taken S.failures sink.old sink.new Interfaces step topology.now
+        (ended result) }
+{
+    let mut series = IfaceSeries::begin(alloc, topology, step)?;
+    write_iface_steps(alloc, topology, &mut series, sink, progress)
+}
+
+/// Writes what becomes of the packets of sources, step by step, from the begin of a series.
+fn write_flow_steps<S: Sink>(
+    alloc: Global,
+    topology: &Topology,
+    series: &mut FlowSeries,
+    sink: &mut S,
+    progress: &Progress,
+) -> Result<(), Status>
+    requires series { IsFlowSeries topology.now series.old }
+    requires begin { series.old.time ≡ 0 }
+    ensures { WritesSteps S.taken S.failures sink.old sink.new Sources series.old.step
+        topology.now (ended result) }
+{
+    put(sink, head_of(Subject::Sources))?;
+    for _ in 0..u64::MAX {
+        let Some(text) = series.next(alloc, topology, progress)? else {
+            return Ok(());
+        };
+        put(sink, text.as_slice())?;
+    }
+    Err(Status::Memory)
+}
+
+/// Writes what becomes of the packets of sources, step by step.
+fn write_flows<S: Sink>(
+    alloc: Global,
+    topology: &Topology,
+    step: u64,
+    sink: &mut S,
+    progress: &Progress,
+) -> Result<(), Status>
+    ensures { WritesSteps S.taken S.failures sink.old sink.new Sources step topology.now
+        (ended result) }
+{
+    let mut series = FlowSeries::begin(alloc, topology, step)?;
+    write_flow_steps(alloc, topology, &mut series, sink, progress)
+}
+
+/// Writes a series, step by step.
+fn write_steps<S: Sink>(
+    alloc: Global,
+    topology: &Topology,
+    words: &SeriesWords<'_>,
+    sink: &mut S,
+    progress: &Progress,
+) -> Result<(), Status>
+    ensures { WritesSteps S.taken S.failures sink.old sink.new words.now.subject words.now.step
+        topology.now (ended result) }
+{
+    match words.subject {
+        Subject::Interfaces => write_ifaces(alloc, topology, words.step, sink, progress),
+        Subject::Sources => write_flows(alloc, topology, words.step, sink, progress),
+    }
+}
+
+/// The topology whose series is asked for, which has not too many rows.
+fn read_series<I: Inputs>(
+    alloc: Global,
+    words: &SeriesWords<'_>,
+    inputs: &mut NamedInputs<I>,
+) -> Result<Topology, Status>
+    requires some { 1 ≤ words.now.step }
+    requires short { words.now.step ≤ MAX_TIME }
+    ensures network { IfOk result (λ network. HasTopology
+        (text_of I.standard_text I.file_text inputs.old.inputs words.now.topology.now) network) }
+    ensures fault { IfErr result (λ status. FailsOfInput
+        (text_of I.standard_text I.file_text inputs.old.inputs words.now.topology.now)
+        inputs.old.failures inputs.new.failures
+        (HasManyRows words.now.subject words.now.step) status) }
+{
+    let network = read_topology(alloc, inputs, words.topology)?;
+    let rows = rows_of(&network, words.step, words.subject);
+    if rows > MAX_ROWS {
+        return Err(Status::Rows(rows));
+    }
+    Ok(network)
+}
+
+/// Writes what interfaces or sources do over time, and gives the sink back. The network runs as the
+/// series is written: what its steps need is kept of it, however long it runs.
+pub fn write_series<I: Inputs, O: Sink + Drop>(
+    alloc: Global,
+    words: &SeriesWords<'_>,
+    inputs: &mut NamedInputs<I>,
+    out: O,
+    progress: &Progress,
+) -> (Status, O)
+    requires some { 1 ≤ words.now.step }
+    requires short { words.now.step ≤ MAX_TIME }
+    ensures { EndsSeries O.taken O.failures
+        (text_of I.standard_text I.file_text inputs.old.inputs)
+        inputs.old.failures inputs.new.failures
+        out result.1 words.now.topology.now words.now.step words.now.subject result.0 }
+{
+    match read_series(alloc, words, inputs) {
+        Ok(network) => {
+            progress.begin(network.stop());
+            let mut out = out;
+            let outcome = write_steps(alloc, &network, words, &mut out, progress);
+            (Status::of(outcome), out)
+        }
+        Err(status) => (status, out),
+    }
+}
