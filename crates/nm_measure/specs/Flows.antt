@@ -1,8 +1,8 @@
 -- What became of the packets of a source.
 use Rattle.std.specs.Prelude.{◌≡◌, ℕ, ◌+◌, ◌-◌, List, [], ◌∷◌}
 use Rattle.nm_measure.specs.declared.flow_counts.FlowCounts.{FlowCounts}
-use Rattle.nm_measure.specs.declared.flow_counts.Outcome.{Outcome}
-use Rattle.nm_measure.specs.declared.flow_counts.Outcome.TheVariants.{Delivered, Refused, Dropped, Discarded}
+use Rattle.nm_measure.specs.declared.flow_counts.PacketOutcome.{PacketOutcome}
+use Rattle.nm_measure.specs.declared.flow_counts.PacketOutcome.TheVariants.{Delivered, Refused, Dropped, Discarded}
 
 -- each packet that a source handed over was delivered, refused, dropped or discarded, or is under way
 abbrev pub Balances : FlowCounts → Type 0
@@ -13,7 +13,7 @@ abbrev pub counts_of : FlowCounts → List ℕ
 counts_of f = f.sent ∷ f.delivered ∷ f.refused ∷ f.dropped ∷ f.discarded ∷ f.under_way ∷ []
 
 -- one that was under way ended so, and all others are as they were
-abbrev pub Ends : Outcome → FlowCounts → FlowCounts → Type 0
+abbrev pub Ends : PacketOutcome → FlowCounts → FlowCounts → Type 0
 Ends Delivered f g = counts_of g ≡ f.sent ∷ (f.delivered + 1) ∷ f.refused ∷ f.dropped ∷ f.discarded ∷ (f.under_way - 1) ∷ []
 Ends Refused f g = counts_of g ≡ f.sent ∷ f.delivered ∷ (f.refused + 1) ∷ f.dropped ∷ f.discarded ∷ (f.under_way - 1) ∷ []
 Ends Dropped f g = counts_of g ≡ f.sent ∷ f.delivered ∷ f.refused ∷ (f.dropped + 1) ∷ f.discarded ∷ (f.under_way - 1) ∷ []

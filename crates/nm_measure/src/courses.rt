@@ -1,6 +1,6 @@
 //! The ways of the packets of one source, from their source to their end.
 
-use crate::flow_counts::Outcome;
+use crate::flow_counts::PacketOutcome;
 use crate::tag::{Role, Tag};
 use nm_base::{Dir, IfaceNo, NodeNo, SourceNo, Time};
 use nm_forward::Counter;
@@ -27,7 +27,7 @@ pub struct Course {
 
 /// Where a packet ended.
 #[derive(Clone, Copy, Drop)]
-pub enum Place {
+pub enum EndPlace {
     Node(NodeNo),
     /// At its queue.
     Iface(IfaceNo),
@@ -47,9 +47,9 @@ pub enum Reason {
 /// How a packet ended, where and when.
 #[derive(Clone, Copy, Drop)]
 pub struct End {
-    pub outcome: Outcome,
+    pub outcome: PacketOutcome,
     pub reason: Reason,
-    pub place: Place,
+    pub place: EndPlace,
     pub time: Time,
 }
 

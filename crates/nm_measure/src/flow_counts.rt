@@ -27,7 +27,7 @@ pub struct FlowCounts {
 
 /// How a packet ends.
 #[derive(Clone, Copy, Drop)]
-pub enum Outcome {
+pub enum PacketOutcome {
     Delivered,
     Refused,
     Dropped,
@@ -60,7 +60,7 @@ impl FlowCounts {
     }
 
     /// One that was under way ends so: whether there was one.
-    pub(crate) fn end(&mut self, outcome: Outcome) -> bool
+    pub(crate) fn end(&mut self, outcome: PacketOutcome) -> bool
         ensures ends { 0 < self.old.under_way → Ends outcome self.old self.new }
         ensures none { self.old.under_way ≡ 0 → counts_of self.new ≡ counts_of self.old }
         ensures result { result ≡ ltb 0 self.old.under_way }
@@ -71,10 +71,10 @@ impl FlowCounts {
         }
         self.under_way -= 1;
         match outcome {
-            Outcome::Delivered => self.delivered += 1,
-            Outcome::Refused => self.refused += 1,
-            Outcome::Dropped => self.dropped += 1,
-            Outcome::Discarded => self.discarded += 1,
+            PacketOutcome::Delivered => self.delivered += 1,
+            PacketOutcome::Refused => self.refused += 1,
+            PacketOutcome::Dropped => self.dropped += 1,
+            PacketOutcome::Discarded => self.discarded += 1,
         }
         true
     }

@@ -1,6 +1,6 @@
 //! What becomes of the packets of all sources.
 
-use crate::flow_counts::{FlowCounts, Outcome};
+use crate::flow_counts::{FlowCounts, PacketOutcome};
 use crate::flow_times::FlowTimes;
 use crate::tag::{Role, Tag};
 use nm_base::{NodeNo, SourceNo, Time};
@@ -87,7 +87,7 @@ impl Flows {
 
     /// The packet of a tag ends so, if it is a source's: the source and the time of its event, if
     /// the packet was under way.
-    pub(crate) fn end(&mut self, tag: &Tag, outcome: Outcome) -> Option<(SourceNo, Time)> {
+    pub(crate) fn end(&mut self, tag: &Tag, outcome: PacketOutcome) -> Option<(SourceNo, Time)> {
         let Role::Sent = tag.role else {
             return None;
         };
@@ -100,7 +100,7 @@ impl Flows {
 
     /// The packet of a tag is delivered, if it is a source's.
     pub(crate) fn deliver(&mut self, tag: &Tag, arrival: Arrival) -> Result<(), AllocError> {
-        let Some((source, at)) = self.end(tag, Outcome::Delivered) else {
+        let Some((source, at)) = self.end(tag, PacketOutcome::Delivered) else {
             return Ok(());
         };
         match self.times.get_mut(source.index()) {

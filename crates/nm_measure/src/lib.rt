@@ -24,7 +24,7 @@ mod watched;
 pub use amounts::{Amount, IfaceTraffic};
 pub use courses::{Course, Ended, Hop};
 pub use delays::Delays;
-pub use flow_counts::{FlowCounts, Outcome};
+pub use flow_counts::{FlowCounts, PacketOutcome};
 pub use flow_times::FlowTimes;
 pub use lines::end_line;
 pub use measured::Measured;

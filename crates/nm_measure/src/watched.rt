@@ -1,8 +1,8 @@
 //! What is seen of a run, event by event.
 
-use crate::courses::{Course, Courses, End, Ended, Hop, Place as Where, Reason};
+use crate::courses::{Course, Courses, End, EndPlace, Ended, Hop, Reason};
 use crate::fates::{Fate, Tallies, Told};
-use crate::flow_counts::{FlowCounts, Outcome};
+use crate::flow_counts::{FlowCounts, PacketOutcome};
 use crate::flow_times::FlowTimes;
 use crate::flows::{Arrival, Flows};
 use crate::guesses::Guesses;
@@ -101,12 +101,12 @@ fn time_left(topology: &Topology, record: &Record) -> u64 {
 }
 
 /// The outcome that a fate is, if it is the end of a way.
-fn outcome_of(fate: Fate) -> Option<Outcome> {
+fn outcome_of(fate: Fate) -> Option<PacketOutcome> {
     match fate {
         Fate::SentOn => None,
-        Fate::Told | Fate::Delivered | Fate::Requested => Some(Outcome::Delivered),
-        Fate::Refused => Some(Outcome::Refused),
-        Fate::Discarded => Some(Outcome::Discarded),
+        Fate::Told | Fate::Delivered | Fate::Requested => Some(PacketOutcome::Delivered),
+        Fate::Refused => Some(PacketOutcome::Refused),
+        Fate::Discarded => Some(PacketOutcome::Discarded),
     }
 }
 
@@ -308,7 +308,7 @@ impl Watched {
         let end = End {
             outcome,
             reason: told.reason,
-            place: Where::Node(arrival.node),
+            place: EndPlace::Node(arrival.node),
             time: arrival.now,
         };
         self.end(tag, end)?;
@@ -358,11 +358,11 @@ impl Watched {
         if is_raw || self.tallies.has_originated(part, from.node) {
             return self.see_offer(topology, part, from.node, tag, now);
         }
-        self.flows.end(&tag, Outcome::Discarded);
+        self.flows.end(&tag, PacketOutcome::Discarded);
         let end = End {
-            outcome: Outcome::Discarded,
+            outcome: PacketOutcome::Discarded,
             reason: Reason::Counted(self.tallies.refusal(part, from.node)),
-            place: Where::Node(from.node),
+            place: EndPlace::Node(from.node),
             time: now,
         };
         self.end(&tag, end)
@@ -401,7 +401,7 @@ impl Watched {
     ) -> Result<(), AllocError> {
         let guess = self.guesses.guess(node, &tag);
         let Some((iface, offered)) = self.offer_at(part, node, guess) else {
-            return self.see_drop(&tag, Where::Node(node), now);
+            return self.see_drop(&tag, EndPlace::Node(node), now);
         };
         self.guesses.note(node, &tag, iface);
         let Some(lane) = self.lanes.get_mut(iface.index()) else {
@@ -411,16 +411,16 @@ impl Watched {
             Unstarted::Waits => lane.wait(tag, now),
             Unstarted::Dropped => {
                 lane.drop_one();
-                self.see_drop(&tag, Where::Iface(iface), now)
+                self.see_drop(&tag, EndPlace::Iface(iface), now)
             }
         }
     }
 
     /// Sees a packet dropped at a queue.
-    fn see_drop(&mut self, tag: &Tag, place: Where, now: Time) -> Result<(), AllocError> {
-        self.flows.end(tag, Outcome::Dropped);
+    fn see_drop(&mut self, tag: &Tag, place: EndPlace, now: Time) -> Result<(), AllocError> {
+        self.flows.end(tag, PacketOutcome::Dropped);
         let end = End {
-            outcome: Outcome::Dropped,
+            outcome: PacketOutcome::Dropped,
             reason: Reason::NoRoom,
             place,
             time: now,

@@ -6,12 +6,12 @@ use Rattle.nm_topology.specs.PartValues.{IfaceValue}
 use Rattle.nm_measure.specs.declared.totals.IfaceTotals.{IfaceTotals}
 use Rattle.std.proofs.lemmas.Option.{slice_get-get_or}
 use Rattle.nm_topology.specs.TopologyValue.{TopologyValue}
-use Rattle.nm_series.specs.Rows.{AreTotals, Had, had, iface_row, rows_of}
-use Rattle.nm_series.specs.declared.iface_rows.Seen.{Seen}
+use Rattle.nm_series.specs.Rows.{AreIfaceTotals, Had, had, iface_row, rows_of}
+use Rattle.nm_series.specs.declared.iface_rows.IfaceSeen.{IfaceSeen}
 
 module _ (from : ℕ) (old new : State (List ℕ) NodeStateValue) where
   -- the rows with one more behind them, of interface n + k
-  pub rows_more : (n k : ℕ) (ifaces : List IfaceValue) (seen : List Seen) (i : IfaceValue) (x : Seen) → length seen ≡ k → slice_get ifaces k ≡ Some i
+  pub rows_more : (n k : ℕ) (ifaces : List IfaceValue) (seen : List IfaceSeen) (i : IfaceValue) (x : IfaceSeen) → length seen ≡ k → slice_get ifaces k ≡ Some i
       → rows_of from old new n ifaces (seen ++ x ∷ []) ≡ rows_of from old new n ifaces seen ++ iface_row from i.name (had (n + k) old) (had (n + k) new) x
   rows_more n k [] seen i x count at = absurd (cc)
   rows_more n zero (j ∷ ifaces) [] i x count at =
@@ -50,7 +50,7 @@ pushed (y ∷ xs) v (suc i) x h = go (pushed xs v i x h)
     go (inr (e, g)) = inr (ap suc e, g)
 
 module _ (t : TopologyValue) (from n : ℕ) (old new : State (List ℕ) NodeStateValue) (before after : List IfaceTotals) where
-  had_is : (s : State (List ℕ) NodeStateValue) (all : List IfaceTotals) (d : IfaceTotals) → AreTotals t s all → n < length t.ifaces
+  had_is : (s : State (List ℕ) NodeStateValue) (all : List IfaceTotals) (d : IfaceTotals) → AreIfaceTotals t s all → n < length t.ifaces
       → (let x = get_or all n d in let y : Had = record { traffic = x.traffic; dropped = x.dropped } in y ≡ had n s)
   had_is s all d are low =
       let few : n < length all = let c = are.count in omega (arith, c, low) in
@@ -58,8 +58,8 @@ module _ (t : TopologyValue) (from n : ℕ) (old new : State (List ℕ) NodeStat
       (λ k. record { traffic = e.0 k; dropped = e.1 k })
 
   -- the text with the row of interface n behind it
-  pub row_next : (d e : IfaceTotals) (seen : List Seen) (x : Seen) (i : IfaceValue) (name initial mid next : List ℕ)
-      → AreTotals t old before → AreTotals t new after → n < length t.ifaces → length seen ≡ n → slice_get t.ifaces n ≡ Some i → name ≡ i.name
+  pub row_next : (d e : IfaceTotals) (seen : List IfaceSeen) (x : IfaceSeen) (i : IfaceValue) (name initial mid next : List ℕ)
+      → AreIfaceTotals t old before → AreIfaceTotals t new after → n < length t.ifaces → length seen ≡ n → slice_get t.ifaces n ≡ Some i → name ≡ i.name
       → mid ≡ initial ++ rows_of from old new 0 t.ifaces seen
       → next ≡ mid ++ iface_row from name (record { traffic = (get_or before n d).traffic; dropped = (get_or before n d).dropped })
       (record { traffic = (get_or after n e).traffic; dropped = (get_or after n e).dropped }) x

@@ -8,7 +8,7 @@ use Rattle.nm_measure.specs.Amounts.{traffic_of}
 use Rattle.nm_measure.specs.Measured.{drops_of}
 use Rattle.nm_measure.specs.declared.amounts.IfaceTraffic.{IfaceTraffic}
 use Rattle.nm_measure.specs.declared.totals.IfaceTotals.{IfaceTotals}
-use Rattle.nm_series.specs.declared.iface_rows.Seen.{Seen}
+use Rattle.nm_series.specs.declared.iface_rows.IfaceSeen.{IfaceSeen}
 
 -- what an interface had up to a time: its traffic, and how many packets were dropped at its queue
 pub record Had : Type 0 where
@@ -20,7 +20,7 @@ abbrev pub had : ℕ → State (List ℕ) NodeStateValue → Had
 had i s = record { traffic = traffic_of i s.records; dropped = drops_of i s }
 
 -- each interface's, by number
-pub record AreTotals (t : TopologyValue) (s : State (List ℕ) NodeStateValue) (all : List IfaceTotals) : Type 0 where
+pub record AreIfaceTotals (t : TopologyValue) (s : State (List ℕ) NodeStateValue) (all : List IfaceTotals) : Type 0 where
   pub count : length all ≡ length t.ifaces
   pub each : (i : ℕ) (x : IfaceTotals) → slice_get all i ≡ Some x → (x.traffic ≡ (had i s).traffic) × (x.dropped ≡ (had i s).dropped)
 
@@ -37,15 +37,15 @@ counts_text before after =
     ++ cell (after.traffic.went.octets - before.traffic.went.octets)
     ++ cell (after.dropped - before.dropped)
 
-abbrev pub seen_text : Seen → List ℕ
+abbrev pub seen_text : IfaceSeen → List ℕ
 seen_text seen = cell seen.longest ++ cell seen.mean ++ cell seen.busy
 
 -- the row of an interface in the step from this time on
-abbrev pub iface_row : (from : ℕ) (name : List ℕ) (before after : Had) → Seen → List ℕ
+abbrev pub iface_row : (from : ℕ) (name : List ℕ) (before after : Had) → IfaceSeen → List ℕ
 iface_row from name before after seen = decimal from ++ codes "," ++ name ++ counts_text before after ++ seen_text seen ++ codes "\n"
 
 -- the rows of interfaces from number n on, as far as what was seen of them goes; the state was `old` before the step and is `new` after it
-abbrev pub rows_of : (from : ℕ) (old new : State (List ℕ) NodeStateValue) → ℕ → List IfaceValue → List Seen → List ℕ
+abbrev pub rows_of : (from : ℕ) (old new : State (List ℕ) NodeStateValue) → ℕ → List IfaceValue → List IfaceSeen → List ℕ
 rows_of from old new n [] seen = []
 rows_of from old new n (i ∷ ifaces) [] = []
 rows_of from old new n (i ∷ ifaces) (x ∷ seen) = iface_row from i.name (had n old) (had n new) x ++ rows_of from old new (suc n) ifaces seen

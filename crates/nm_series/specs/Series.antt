@@ -6,8 +6,8 @@ use Rattle.nm_topology.specs.TopologyValue.{TopologyValue}
 use Rattle.nm_sim.specs.Network.{net_of}
 use Rattle.nm_measure.specs.Measured.{IsMeasuredBefore, MeasuredValue}
 use Rattle.nm_measure.specs.declared.totals.IfaceTotals.{IfaceTotals}
-use Rattle.nm_series.specs.Rows.{AreTotals, rows_of}
-use Rattle.nm_series.specs.declared.iface_rows.Seen.{Seen}
+use Rattle.nm_series.specs.Rows.{AreIfaceTotals, rows_of}
+use Rattle.nm_series.specs.declared.iface_rows.IfaceSeen.{IfaceSeen}
 
 -- the rows of a step: what each interface had more in the one event list before its end than before its begin
 pub record IsIfaceStep (t : TopologyValue) (from until : ℕ) (text : List ℕ) : Type 0 where
@@ -15,7 +15,7 @@ pub record IsIfaceStep (t : TopologyValue) (from until : ℕ) (text : List ℕ) 
   pub after : ℕ
   pub begins : IsBefore (net_of t) from before
   pub ends : IsBefore (net_of t) until after
-  pub seen : List Seen
+  pub seen : List IfaceSeen
   pub all : length seen ≡ length t.ifaces
   pub rows : text ≡ rows_of from (one_list (net_of t) before) (one_list (net_of t) after) 0 t.ifaces seen
 
@@ -28,7 +28,7 @@ pub record SeriesValue : Type 0 where
 
 pub record IsSeries (t : TopologyValue) (x : SeriesValue) : Type 0 where
   pub measured : IsMeasuredBefore t x.time x.measured
-  pub before : AreTotals t (one_list (net_of t) measured.events) x.before
+  pub before : AreIfaceTotals t (one_list (net_of t) measured.events) x.before
   pub within : x.time ≤ t.stop
 
 -- the next step was made, or there is none

@@ -6,7 +6,7 @@ ghost use Rattle.nm_forward.specs.State.{NodeStateValue};
 ghost use Rattle.nm_model.specs.Run.{State, one_list};
 ghost use Rattle.nm_sim.specs.Network.{net_of};
 ghost use Rattle.nm_measure.specs.Measured.{IsMeasuredBefore};
-ghost use Rattle.nm_series.specs.Rows.{AreTotals, Had, counts_text, iface_row, rows_of, seen_text};
+ghost use Rattle.nm_series.specs.Rows.{AreIfaceTotals, Had, counts_text, iface_row, rows_of, seen_text};
 
 use crate::cells::push_cell;
 use nm_base::{IfaceNo, Time, push_number, push_text};
@@ -17,7 +17,7 @@ use std::alloc::{AllocError, Global};
 
 /// What was seen of an interface in a step.
 #[derive(Clone, Copy, Drop)]
-pub struct Seen {
+pub struct IfaceSeen {
     /// The most packets that waited at one time.
     pub longest: u64,
     /// How many waited in the mean over time, in thousandths, rounded down.
@@ -52,7 +52,7 @@ pub(crate) fn totals_of(
     requires { (until : ℕ) × IsMeasuredBefore topology.now until measured.now }
     ensures { IfOk result (λ all. (until : ℕ)
         (m : IsMeasuredBefore topology.now until measured.now)
-        → AreTotals topology.now (one_list (net_of topology.now) m.events) all.items) }
+        → AreIfaceTotals topology.now (one_list (net_of topology.now) m.events) all.items) }
 {
     accepted_topologies_are_in_order(topology); // law: there are few interfaces
     let mut all = Vec::new(alloc);
@@ -78,10 +78,10 @@ fn seen_of(
     before: &IfaceTotals,
     after: &IfaceTotals,
     length: u64,
-) -> Seen
+) -> IfaceSeen
     ensures { measured.new ≡ measured.old }
 {
-    Seen {
+    IfaceSeen {
         longest: measured.take_recent_queue(iface),
         mean: mean_of(after.waited.saturating_sub(before.waited), length),
         busy: thousandths(after.busy.saturating_sub(before.busy), length),
@@ -107,7 +107,7 @@ fn push_counts(
 }
 
 /// Appends what was seen of an interface.
-fn push_seen(text: &mut Vec<u8>, seen: &Seen) -> Result<(), AllocError>
+fn push_seen(text: &mut Vec<u8>, seen: &IfaceSeen) -> Result<(), AllocError>
     ensures { OnOk result (text.new.items ≡ text.old.items ++ seen_text seen.now) }
 {
     push_cell(text, seen.longest)?;
@@ -122,7 +122,7 @@ fn push_row(
     name: &str,
     before: &IfaceTotals,
     after: &IfaceTotals,
-    seen: &Seen,
+    seen: &IfaceSeen,
 ) -> Result<(), AllocError>
     ensures { OnOk result (text.new.items ≡ text.old.items ++ iface_row from name.now
         (record { traffic = before.now.traffic; dropped = before.now.dropped })
@@ -148,9 +148,9 @@ pub(crate) fn push_rows(
     requires before { length before.now ≡ length topology.now.ifaces }
     requires after { length after.now ≡ length topology.now.ifaces }
     ensures same { measured.new ≡ measured.old }
-    ensures rows { OnOk result ((seen : List Seen) × (length seen ≡ length topology.now.ifaces)
-        × ((old new : State (List ℕ) NodeStateValue) → AreTotals topology.now old before.now
-        → AreTotals topology.now new after.now → text.new.items ≡ text.old.items
+    ensures rows { OnOk result ((seen : List IfaceSeen) × (length seen ≡ length topology.now.ifaces)
+        × ((old new : State (List ℕ) NodeStateValue) → AreIfaceTotals topology.now old before.now
+        → AreIfaceTotals topology.now new after.now → text.new.items ≡ text.old.items
         ++ rows_of span.now.from old new 0 topology.now.ifaces seen)) }
 {
     accepted_topologies_are_in_order(topology); // law: there are few interfaces

@@ -7,8 +7,8 @@ ghost use Rattle.nm_measure.specs.Measured.{IsMeasuredBefore};
 use crate::cells::{push_cell, push_word};
 use crate::steps::end_of;
 use nm_base::{Dir, IfaceNo, NodeNo, SourceNo, Time, push_number, push_text};
-use nm_measure::courses::{Ended, Place, Reason};
-use nm_measure::{Course, Hop, Measured, Outcome, end_line};
+use nm_measure::courses::{EndPlace, Ended, Reason};
+use nm_measure::{Course, Hop, Measured, PacketOutcome, end_line};
 use nm_progress::Progress;
 use nm_topology::Topology;
 use std::alloc::{AllocError, Global};
@@ -20,12 +20,12 @@ const HEAD: &[u8] = b"packet,sent_nanoseconds,outcome,reason,place,ended_nanosec
 const STEPS: u64 = 4_096;
 
 /// The outcome in a word.
-fn outcome_word(outcome: Outcome) -> &'static str {
+fn outcome_word(outcome: PacketOutcome) -> &'static str {
     match outcome {
-        Outcome::Delivered => "delivered",
-        Outcome::Refused => "refused",
-        Outcome::Dropped => "dropped",
-        Outcome::Discarded => "discarded",
+        PacketOutcome::Delivered => "delivered",
+        PacketOutcome::Refused => "refused",
+        PacketOutcome::Dropped => "dropped",
+        PacketOutcome::Discarded => "discarded",
     }
 }
 
@@ -97,8 +97,8 @@ fn push_ended(text: &mut Vec<u8>, topology: &Topology, ended: &Ended) -> Result<
     push_word(text, outcome_word(ended.end.outcome))?;
     push_word(text, reason_word(ended.end.reason))?;
     match ended.end.place {
-        Place::Node(node) => push_word(text, node_name(topology, node))?,
-        Place::Iface(iface) => push_word(text, iface_name(topology, iface))?,
+        EndPlace::Node(node) => push_word(text, node_name(topology, node))?,
+        EndPlace::Iface(iface) => push_word(text, iface_name(topology, iface))?,
     }
     push_cell(text, ended.end.time.nanoseconds())?;
     push_way(text, topology, ended.course.hops.as_slice())

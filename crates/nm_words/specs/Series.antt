@@ -15,10 +15,10 @@ use Rattle.nm_words.specs.Input.{HasTopology, IsRefused}
 use Rattle.nm_words.specs.Output.{FailsOfInput}
 
 -- the names of the columns
-abbrev pub head_of : Subject → List ℕ
-head_of Interfaces =
+abbrev pub columns_of : Subject → List ℕ
+columns_of Interfaces =
     codes "from_nanoseconds,interface,packets_in,octets_in,packets_out,octets_out,dropped,longest_queue,mean_queue_thousandths,busy_thousandths\n"
-head_of Sources = codes "from_nanoseconds,source,sent,delivered,lost,octets,mean_delay_nanoseconds,greatest_delay_nanoseconds\n"
+columns_of Sources = codes "from_nanoseconds,source,sent,delivered,lost,octets,mean_delay_nanoseconds,greatest_delay_nanoseconds\n"
 
 -- the text of a step: the rows of interfaces, or whole lines of sources
 abbrev pub IsStepOf : Subject → TopologyValue → (from until : ℕ) → List ℕ → Type 0
@@ -27,11 +27,11 @@ IsStepOf Sources t from until text = AreLines text
 
 -- the names of the columns, and the first so many steps
 abbrev pub TellsSteps : Subject → (step : ℕ) → TopologyValue → ℕ → List ℕ → Type 0
-TellsSteps subject step t = AreSteps (IsStepOf subject t) (head_of subject) step t.stop
+TellsSteps subject step t = AreSteps (IsStepOf subject t) (columns_of subject) step t.stop
 
 -- and all steps up to stop
 abbrev pub TellsAll : Subject → (step : ℕ) → TopologyValue → List ℕ → Type 0
-TellsAll subject step t = AreAllSteps (IsStepOf subject t) (head_of subject) step t.stop
+TellsAll subject step t = AreAllSteps (IsStepOf subject t) (columns_of subject) step t.stop
 
 -- how many rows a step has
 abbrev pub rows_in : Subject → TopologyValue → ℕ

@@ -12,7 +12,7 @@ ghost use Rattle.nm_series.specs.Steps.{steps_in};
 ghost use Rattle.nm_series.specs.declared.steps.TheConstants.{MAX_ROWS};
 ghost use Rattle.nm_words.specs.Input.{HasTopology, text_of};
 ghost use Rattle.nm_words.specs.Output.{FailsOfInput};
-ghost use Rattle.nm_words.specs.Series.{EndsSeries, HasManyRows, WritesSteps, head_of, rows_in};
+ghost use Rattle.nm_words.specs.Series.{EndsSeries, HasManyRows, WritesSteps, columns_of, rows_in};
 
 use crate::input::NamedInputs;
 use crate::inputs::Inputs;
@@ -28,8 +28,8 @@ use nm_topology::topology::accepted_topologies_are_in_order;
 use std::alloc::Global;
 
 /// The names of the columns.
-fn head_of(subject: Subject) -> &'static [u8]
-    ensures { result.now ≡ head_of subject }
+fn columns_of(subject: Subject) -> &'static [u8]
+    ensures { result.now ≡ columns_of subject }
 {
     match subject {
         Subject::Interfaces => {
@@ -90,7 +90,7 @@ fn write_iface_steps<S: Sink>(
     ensures { WritesSteps S.taken S.failures sink.old sink.new Interfaces series.old.step
         topology.now (ended result) }
 {
-    put(sink, head_of(Subject::Interfaces))?;
+    put(sink, columns_of(Subject::Interfaces))?;
     for _ in 0..u64::MAX {
         let Some(text) = series.next(alloc, topology, progress)? else {
             return Ok(());
@@ -128,7 +128,7 @@ fn write_flow_steps<S: Sink>(
     ensures { WritesSteps S.taken S.failures sink.old sink.new Sources series.old.step
         topology.now (ended result) }
 {
-    put(sink, head_of(Subject::Sources))?;
+    put(sink, columns_of(Subject::Sources))?;
     for _ in 0..u64::MAX {
         let Some(text) = series.next(alloc, topology, progress)? else {
             return Ok(());

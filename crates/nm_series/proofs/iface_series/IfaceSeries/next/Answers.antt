@@ -1,7 +1,7 @@
 use Rattle.std.proofs.Common.{◌≤◌, ◌<◌, ◌++◌, Some, length, refl, rules, sym, ap, subst, ◌∙◌, arith}
 use Rattle.nm_model.specs.Run.{one_list}
 use Rattle.nm_sim.specs.Network.{net_of}
-use Rattle.nm_series.specs.Rows.{AreTotals, rows_of}
+use Rattle.nm_series.specs.Rows.{AreIfaceTotals, rows_of}
 use Rattle.nm_series.specs.Series.{IsSeries, Nexts, SeriesValue}
 use Rattle.nm_series.proofs.iface_series.IfaceSeries.next.Goals as goal
 
@@ -37,8 +37,8 @@ returns c =
         seen = rows.0;
         all = rows.1;
         rows = rows.2 before_it after_it
-            (subst (λ l. AreTotals t before_it l) (sym c.as_slice.ensures.value) was.before)
-            (subst (λ l. AreTotals t after_it l) (sym c.as_slice-2.ensures.value) after)
+            (subst (λ l. AreIfaceTotals t before_it l) (sym c.as_slice.ensures.value) was.before)
+            (subst (λ l. AreIfaceTotals t after_it l) (sym c.as_slice-2.ensures.value) after)
             ∙ ap (λ l. l ++ rows_of c.self.inside.time before_it after_it 0 t.ifaces rows.0) c.new-text.ensures.items;
       },
     )
