@@ -30,7 +30,7 @@ pub struct IfaceTraffic {
 }
 
 /// No packets.
-const NONE: Amount = Amount {
+pub(crate) const NONE: Amount = Amount {
     packets: 0,
     octets: 0,
 };

@@ -7,6 +7,7 @@ ghost use Rattle.nm_base.specs.declared.limits.TheConstants.{MAX_PACKET_OCTETS, 
 ghost use Rattle.nm_iface.specs.Transmission.{transmission_time as time_of};
 ghost use Rattle.nm_measure.specs.Waiting.{waited_at};
 
+use crate::amounts::{Amount, NONE};
 use crate::tag::Tag;
 use crate::usage::Usage;
 use nm_base::Time;
@@ -21,29 +22,31 @@ use std::collections::VecDeque;
 pub(crate) struct Lane {
     /// What is on the link, from the start of its transmission on, and behind it what waits.
     line: VecDeque<Tag>,
-    /// How many packets wait at the interface.
+    /// How many packets wait at the interface, and how many octets they have, up to 2^64 - 1.
     waiting: usize,
+    waiting_octets: u64,
     /// How many were dropped there, up to 2^64 - 1.
     dropped: u64,
     /// The most packets that waited at one time.
     longest_queue: usize,
-    /// The most packets that waited at one time since that was taken last.
-    recent_queue: usize,
+    /// The most packets that waited at one time since that was taken last, and the most octets.
+    recent: Amount,
     /// For how many nanoseconds packets waited, all together, up to the time from which on so many
-    /// wait.
+    /// wait, and the same of their octets.
     waited: u128,
+    octets_waited: u128,
     since: Time,
     usage: Usage,
     ghost within: { waiting ≤ deque_len line },
 }
 
-/// For how many nanoseconds packets waited up to a time, all together: so many up to an earlier
-/// time, from which on this many wait.
-fn waited_at(waited: u128, waiting: usize, since: Time, now: Time) -> u128
+/// For how many nanoseconds packets, or octets, waited up to a time, all together: so many up to an
+/// earlier time, from which on this many wait.
+fn waited_at(waited: u128, waiting: u64, since: Time, now: Time) -> u128
     ensures { result ≡ waited_at waited waiting since now }
 {
     let time = now.nanoseconds().saturating_sub(since.nanoseconds());
-    waited.saturating_add(waiting as u128 * u128::from(time))
+    waited.saturating_add(u128::from(waiting) * u128::from(time))
 }
 
 impl Lane {
@@ -57,10 +60,12 @@ impl Lane {
         Lane {
             line: VecDeque::new(alloc),
             waiting: 0,
+            waiting_octets: 0,
             dropped: 0,
             longest_queue: 0,
-            recent_queue: 0,
+            recent: NONE,
             waited: 0,
+            octets_waited: 0,
             since: Time::from_nanoseconds(0),
             usage: Usage::new(rate),
         }
@@ -87,14 +92,17 @@ impl Lane {
         self.longest_queue
     }
 
-    /// The most packets that waited at one time since this was asked last.
-    pub(crate) fn take_recent_queue(&mut self) -> usize
-        ensures queue { result ≡ self.old.recent_queue }
+    /// The most packets that waited at one time since this was asked last, and the most octets.
+    pub(crate) fn take_recent_queue(&mut self) -> Amount
+        ensures queue { result ≡ self.old.recent }
         ensures line { self.new.line.items ≡ self.old.line.items }
         ensures waiting { self.new.waiting ≡ self.old.waiting }
     {
-        let recent = self.recent_queue;
-        self.recent_queue = self.waiting;
+        let recent = self.recent;
+        self.recent = Amount {
+            packets: self.waiting as u64,
+            octets: self.waiting_octets,
+        };
         recent
     }
 
@@ -102,7 +110,32 @@ impl Lane {
     pub(crate) fn waited(&self, now: Time) -> u128
         ensures { result ≡ waited_at self.now.waited self.now.waiting self.now.since now }
     {
-        waited_at(self.waited, self.waiting, self.since, now)
+        waited_at(self.waited, self.waiting as u64, self.since, now)
+    }
+
+    /// The same of their octets.
+    pub(crate) fn octets_waited(&self, now: Time) -> u128
+        ensures { result ≡ waited_at self.now.octets_waited self.now.waiting_octets
+            self.now.since now }
+    {
+        waited_at(self.octets_waited, self.waiting_octets, self.since, now)
+    }
+
+    /// As many wait from now on.
+    fn pass_time(&mut self, now: Time)
+        ensures waited { self.new.waited
+            ≡ waited_at self.old.waited self.old.waiting self.old.since now }
+        ensures octets { self.new.octets_waited
+            ≡ waited_at self.old.octets_waited self.old.waiting_octets self.old.since now }
+        ensures rest { self.new ≡ record self.old {
+          waited = self.new.waited;
+          octets_waited = self.new.octets_waited;
+          since = now;
+        } }
+    {
+        self.octets_waited = self.octets_waited(now);
+        self.waited = self.waited(now);
+        self.since = now;
     }
 
     /// The packet that waits longest, if one does.
@@ -147,13 +180,13 @@ impl Lane {
             ≡ saturated (self.old.usage.busy + min (time_of self.old.usage.rate octets) left) }
     {
         self.usage.start(octets, now, left);
-        self.waited = waited_at(self.waited, self.waiting, self.since, now);
-        self.since = now;
+        self.pass_time(now);
         self.waiting = self.waiting.saturating_sub(1);
+        self.waiting_octets = self.waiting_octets.saturating_sub(octets as u64);
     }
 
-    /// A packet waits, behind all others.
-    pub(crate) fn wait(&mut self, tag: Tag, now: Time) -> Result<(), AllocError>
+    /// A packet of so many octets waits, behind all others.
+    pub(crate) fn wait(&mut self, tag: Tag, octets: u64, now: Time) -> Result<(), AllocError>
         ensures line { OnOk result (self.new.line.items ≡ self.old.line.items ++ tag ∷ []) }
         ensures waiting { OnOk result (self.new.waiting ≡ self.old.waiting + 1) }
         ensures longest { OnOk result (self.new.longest_queue
@@ -162,10 +195,11 @@ impl Lane {
             ≡ waited_at self.old.waited self.old.waiting self.old.since now) }
     {
         self.line.push_back(tag)?;
-        self.waited = waited_at(self.waited, self.waiting, self.since, now);
-        self.since = now;
+        self.pass_time(now);
         self.waiting += 1;
-        self.recent_queue = self.recent_queue.max(self.waiting);
+        self.waiting_octets = self.waiting_octets.saturating_add(octets);
+        self.recent.packets = self.recent.packets.max(self.waiting as u64);
+        self.recent.octets = self.recent.octets.max(self.waiting_octets);
         self.longest_queue = self.longest_queue.max(self.waiting);
         Ok(())
     }

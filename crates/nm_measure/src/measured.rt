@@ -9,7 +9,7 @@ ghost use Rattle.nm_sim.specs.Network.{net_of};
 ghost use Rattle.nm_sim.specs.Part.{count_at, drops_at};
 ghost use Rattle.nm_topology.specs.TopologyValue.{TopologyValue};
 
-use crate::amounts::{IfaceTraffic, count_all, no_traffic};
+use crate::amounts::{Amount, IfaceTraffic, count_all, no_traffic};
 use crate::courses::{Course, Ended};
 use crate::flow_counts::FlowCounts;
 use crate::flow_times::FlowTimes;
@@ -131,6 +131,7 @@ impl Measured {
             traffic: self.traffic[iface.index()],
             dropped: self.part.dropped(iface).unwrap_or(0),
             waited: self.watched.waited(iface, time),
+            octets_waited: self.watched.octets_waited(iface, time),
             busy: self.watched.busy_before(iface, time),
         }
     }
@@ -151,8 +152,9 @@ impl Measured {
         }
     }
 
-    /// The most packets that waited at an interface at one time since this was asked last.
-    pub fn take_recent_queue(&mut self, iface: IfaceNo) -> u64
+    /// The most packets that waited at an interface at one time since this was asked last, and the
+    /// most octets.
+    pub fn take_recent_queue(&mut self, iface: IfaceNo) -> Amount
         ensures { self.new ≡ self.old }
     {
         self.watched.take_recent_queue(iface)

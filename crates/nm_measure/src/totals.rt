@@ -8,8 +8,9 @@ pub struct IfaceTotals {
     pub traffic: IfaceTraffic,
     /// How many packets were dropped at its queue, up to 2^64 - 1.
     pub dropped: u64,
-    /// For how many nanoseconds packets waited, all together.
+    /// For how many nanoseconds packets waited, all together, and the same of their octets.
     pub waited: u128,
+    pub octets_waited: u128,
     /// For how many nanoseconds it transmitted.
     pub busy: u64,
 }

@@ -1,5 +1,6 @@
 //! What is seen of a run, event by event.
 
+use crate::amounts::{Amount, NONE};
 use crate::courses::{Course, Courses, End, EndPlace, Ended, Hop, Reason};
 use crate::fates::{Fate, Tallies, Told};
 use crate::flow_counts::{FlowCounts, PacketOutcome};
@@ -30,6 +31,15 @@ pub(crate) struct Watched {
     guesses: Guesses,
     /// The ways of the packets of one source, if they are asked for.
     courses: Option<Courses>,
+}
+
+/// A packet that a node offers to an interface.
+#[derive(Drop)]
+struct Offer {
+    node: NodeNo,
+    tag: Tag,
+    octets: u64,
+    now: Time,
 }
 
 /// What an interface did with a packet that it did not transmit at once.
@@ -80,6 +90,38 @@ fn octets_of_arrival(part: &Part<SortedList>) -> u64 {
     match part.trace().first() {
         Some(record) => record.packet.octet_count() as u64,
         None => 0,
+    }
+}
+
+/// The octets of the ICMP error that answers the packet of the last event: its own headers, and
+/// what it quotes, which is the packet's header and at most eight octets behind it (RFC 792).
+fn octets_of_error(part: &Part<SortedList>) -> u64 {
+    let Some(record) = part.trace().first() else {
+        return 0;
+    };
+    match record.packet.octets() {
+        [first, _, high, low, ..] => {
+            let header = u64::from(*first % 16) * 4;
+            let total = u64::from(*high) * 256 + u64::from(*low);
+            28 + total.min(header + 8)
+        }
+        _ => 0,
+    }
+}
+
+/// The octets of the packet with this number of a source: of one without a payload 28, those of its
+/// headers.
+fn octets_of_sent(traffic: &Traffic, number: u64) -> u64 {
+    match traffic {
+        Traffic::Cbr(cbr) => 28 + u64::from(cbr.flow.size),
+        Traffic::Echo(echo) => 28 + u64::from(echo.flow.size),
+        Traffic::Raw(raw) => match raw
+            .packets()
+            .get(usize::try_from(number).unwrap_or(usize::MAX))
+        {
+            Some(sent) => sent.packet.octet_count() as u64,
+            None => 0,
+        },
     }
 }
 
@@ -139,11 +181,12 @@ impl Watched {
         }
     }
 
-    /// The most packets that waited at an interface at one time since this was asked last.
-    pub(crate) fn take_recent_queue(&mut self, iface: IfaceNo) -> u64 {
+    /// The most packets that waited at an interface at one time since this was asked last, and the
+    /// most octets.
+    pub(crate) fn take_recent_queue(&mut self, iface: IfaceNo) -> Amount {
         match self.lanes.get_mut(iface.index()) {
-            Some(lane) => lane.take_recent_queue() as u64,
-            None => 0,
+            Some(lane) => lane.take_recent_queue(),
+            None => NONE,
         }
     }
 
@@ -151,6 +194,14 @@ impl Watched {
     pub(crate) fn waited(&self, iface: IfaceNo, now: Time) -> u128 {
         match self.lanes.get(iface.index()) {
             Some(lane) => lane.waited(now),
+            None => 0,
+        }
+    }
+
+    /// The same of their octets.
+    pub(crate) fn octets_waited(&self, iface: IfaceNo, now: Time) -> u128 {
+        match self.lanes.get(iface.index()) {
+            Some(lane) => lane.octets_waited(now),
             None => 0,
         }
     }
@@ -280,16 +331,32 @@ impl Watched {
             },
         )?;
         let told = self.tallies.fate(part, node);
-        if let Fate::SentOn = told.fate {
-            return self.see_offer(topology, part, node, tag, now);
-        }
         let octets = octets_of_arrival(part);
+        if let Fate::SentOn = told.fate {
+            let offer = Offer {
+                node,
+                tag,
+                octets,
+                now,
+            };
+            return self.see_offer(topology, part, offer);
+        }
         self.see_end(&tag, told, Arrival { node, octets, now })?;
-        let answer = match told.fate {
-            Fate::Requested => tag.of_reply(),
-            _ => Tag::of_nobody(),
+        let offer = match told.fate {
+            Fate::Requested => Offer {
+                node,
+                tag: tag.of_reply(),
+                octets,
+                now,
+            },
+            _ => Offer {
+                node,
+                tag: Tag::of_nobody(),
+                octets: octets_of_error(part),
+                now,
+            },
         };
-        self.see_answer(topology, part, node, answer, now)
+        self.see_answer(topology, part, offer)
     }
 
     /// The packet that is longest on the link from an interface leaves it.
@@ -327,12 +394,10 @@ impl Watched {
         &mut self,
         topology: &Topology,
         part: &Part<SortedList>,
-        node: NodeNo,
-        answer: Tag,
-        now: Time,
+        answer: Offer,
     ) -> Result<(), AllocError> {
-        if self.tallies.has_originated(part, node) {
-            self.see_offer(topology, part, node, answer, now)
+        if self.tallies.has_originated(part, answer.node) {
+            self.see_offer(topology, part, answer)
         } else {
             Ok(())
         }
@@ -356,7 +421,13 @@ impl Watched {
         }
         let is_raw = matches!(from.traffic, Traffic::Raw(_));
         if is_raw || self.tallies.has_originated(part, from.node) {
-            return self.see_offer(topology, part, from.node, tag, now);
+            let offer = Offer {
+                node: from.node,
+                octets: octets_of_sent(&from.traffic, tag.number),
+                tag,
+                now,
+            };
+            return self.see_offer(topology, part, offer);
         }
         self.flows.end(&tag, PacketOutcome::Discarded);
         let end = End {
@@ -373,18 +444,16 @@ impl Watched {
         &mut self,
         topology: &Topology,
         part: &Part<SortedList>,
-        node: NodeNo,
-        tag: Tag,
-        now: Time,
+        offer: Offer,
     ) -> Result<(), AllocError> {
         let Some(record) = start_in(part) else {
-            return self.see_no_start(part, node, tag, now);
+            return self.see_no_start(part, offer);
         };
-        self.pass(&tag, hop_of(record))?;
+        self.pass(&offer.tag, hop_of(record))?;
         match self.lanes.get_mut(record.iface.index()) {
             Some(lane) => {
                 let octets = record.packet.octet_count();
-                lane.send(tag, octets, record.time, time_left(topology, record))
+                lane.send(offer.tag, octets, record.time, time_left(topology, record))
             }
             None => Ok(()),
         }
@@ -392,26 +461,20 @@ impl Watched {
 
     /// Sees a packet offered to an interface of a node whose transmission does not start: it waits,
     /// or is dropped.
-    fn see_no_start(
-        &mut self,
-        part: &Part<SortedList>,
-        node: NodeNo,
-        tag: Tag,
-        now: Time,
-    ) -> Result<(), AllocError> {
-        let guess = self.guesses.guess(node, &tag);
-        let Some((iface, offered)) = self.offer_at(part, node, guess) else {
-            return self.see_drop(&tag, EndPlace::Node(node), now);
+    fn see_no_start(&mut self, part: &Part<SortedList>, offer: Offer) -> Result<(), AllocError> {
+        let guess = self.guesses.guess(offer.node, &offer.tag);
+        let Some((iface, offered)) = self.offer_at(part, offer.node, guess) else {
+            return self.see_drop(&offer.tag, EndPlace::Node(offer.node), offer.now);
         };
-        self.guesses.note(node, &tag, iface);
+        self.guesses.note(offer.node, &offer.tag, iface);
         let Some(lane) = self.lanes.get_mut(iface.index()) else {
             return Ok(());
         };
         match offered {
-            Unstarted::Waits => lane.wait(tag, now),
+            Unstarted::Waits => lane.wait(offer.tag, offer.octets, offer.now),
             Unstarted::Dropped => {
                 lane.drop_one();
-                self.see_drop(&tag, EndPlace::Iface(iface), now)
+                self.see_drop(&offer.tag, EndPlace::Iface(iface), offer.now)
             }
         }
     }

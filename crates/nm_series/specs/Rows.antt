@@ -38,7 +38,7 @@ counts_text before after =
     ++ cell (after.dropped - before.dropped)
 
 abbrev pub seen_text : IfaceSeen → List ℕ
-seen_text seen = cell seen.longest ++ cell seen.mean ++ cell seen.busy
+seen_text seen = cell seen.longest ++ cell seen.mean ++ cell seen.longest_octets ++ cell seen.mean_octets ++ cell seen.busy
 
 -- the row of an interface in the step from this time on
 abbrev pub iface_row : (from : ℕ) (name : List ℕ) (before after : Had) → IfaceSeen → List ℕ

@@ -22,6 +22,10 @@ pub struct IfaceSeen {
     pub longest: u64,
     /// How many waited in the mean over time, in thousandths, rounded down.
     pub mean: u64,
+    /// The most octets that waited at one time.
+    pub longest_octets: u64,
+    /// How many octets waited in the mean over time, rounded down.
+    pub mean_octets: u64,
     /// In which share of the time it transmitted, in thousandths, rounded down.
     pub busy: u64,
 }
@@ -62,13 +66,13 @@ pub(crate) fn totals_of(
     Ok(all)
 }
 
-/// How many packets waited in the mean in a step, in thousandths, rounded down, where they waited
-/// for so many nanoseconds all together.
+/// How many waited in the mean in a step, rounded down, where all waited for so many nanoseconds
+/// together.
 fn mean_of(waited: u128, length: u64) -> u64 {
     if length == 0 {
         return 0;
     }
-    u64::try_from(waited.saturating_mul(1_000) / u128::from(length)).unwrap_or(u64::MAX)
+    u64::try_from(waited / u128::from(length)).unwrap_or(u64::MAX)
 }
 
 /// What was seen of an interface in a step, before which it had this and after which that.
@@ -81,9 +85,14 @@ fn seen_of(
 ) -> IfaceSeen
     ensures { measured.new ≡ measured.old }
 {
+    let longest = measured.take_recent_queue(iface);
+    let waited = after.waited.saturating_sub(before.waited);
+    let octets = after.octets_waited.saturating_sub(before.octets_waited);
     IfaceSeen {
-        longest: measured.take_recent_queue(iface),
-        mean: mean_of(after.waited.saturating_sub(before.waited), length),
+        longest: longest.packets,
+        mean: mean_of(waited.saturating_mul(1_000), length),
+        longest_octets: longest.octets,
+        mean_octets: mean_of(octets, length),
         busy: thousandths(after.busy.saturating_sub(before.busy), length),
     }
 }
@@ -112,6 +121,8 @@ fn push_seen(text: &mut Vec<u8>, seen: &IfaceSeen) -> Result<(), AllocError>
 {
     push_cell(text, seen.longest)?;
     push_cell(text, seen.mean)?;
+    push_cell(text, seen.longest_octets)?;
+    push_cell(text, seen.mean_octets)?;
     push_cell(text, seen.busy)
 }
 

@@ -34,7 +34,7 @@ fn columns_of(subject: Subject) -> &'static [u8]
     match subject {
         Subject::Interfaces => {
             b"from_nanoseconds,interface,packets_in,octets_in,packets_out,octets_out,dropped,\
-longest_queue,mean_queue_thousandths,busy_thousandths\n"
+longest_queue,mean_queue_thousandths,longest_queue_octets,mean_queue_octets,busy_thousandths\n"
         }
         Subject::Sources => {
             b"from_nanoseconds,source,sent,delivered,lost,octets,mean_delay_nanoseconds,\
