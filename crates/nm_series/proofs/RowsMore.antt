@@ -1,5 +1,5 @@
 -- One row more.
-use Rattle.std.proofs.Common.{◌≡◌, ℕ, zero, suc, ◌+◌, List, [], ◌∷◌, ◌++◌, length, Some, slice_get, get_or, ◌⊎◌, inl, inr, ◌<◌, refl, sym, ap, ◌∙◌, arith, append_assoc, append-nil}
+use Rattle.std.proofs.Common.{◌≡◌, ℕ, zero, suc, ◌+◌, List, [], ◌∷◌, ◌++◌, length, Some, slice_get, get_or, ◌⊎◌, inl, inr, ◌<◌, refl, sym, ap, ◌∙◌, arith, append_assoc, append-nil, OnOk, Result, Ok, Err}
 use Rattle.nm_forward.specs.State.{NodeStateValue}
 use Rattle.nm_model.specs.Run.{State}
 use Rattle.nm_topology.specs.PartValues.{IfaceValue}
@@ -8,6 +8,16 @@ use Rattle.std.proofs.lemmas.Option.{slice_get-get_or}
 use Rattle.nm_topology.specs.TopologyValue.{TopologyValue}
 use Rattle.nm_series.specs.Rows.{AreIfaceTotals, Had, had, iface_row, rows_of}
 use Rattle.nm_series.specs.declared.iface_rows.IfaceSeen.{IfaceSeen}
+
+-- six texts, one behind another
+pub put_together : (a b c d e f old one two three four five six : List ℕ) → one ≡ old ++ a → two ≡ one ++ b → three ≡ two ++ c → four ≡ three ++ d
+    → five ≡ four ++ e → six ≡ five ++ f → six ≡ old ++ (a ++ b ++ c ++ d ++ e ++ f)
+put_together a b c d e f old one two three four five six h1 h2 h3 h4 h5 h6 =
+    h6 ∙ ap (λ t. t ++ f) (h5 ∙ ap (λ t. t ++ e) (h4 ∙ ap (λ t. t ++ d) (h3 ∙ ap (λ t. t ++ c) (h2 ∙ ap (λ t. t ++ b) h1)))) ∙ simp append_assoc
+
+pub on_ok : {T E : Type 0} {P Q : Type 0} (r : Result T E) → (P → Q) → OnOk r P → OnOk r Q
+on_ok (Ok x) f h = f h
+on_ok (Err e) f h = tt
 
 module _ (from : ℕ) (old new : State (List ℕ) NodeStateValue) where
   -- the rows with one more behind them, of interface n + k

@@ -1,6 +1,6 @@
 //! Values of a row.
 
-ghost use Rattle.std.specs.Prelude.{◌≡◌, ◌++◌, OnOk};
+ghost use Rattle.std.specs.Prelude.{◌≡◌, ◌++◌, OnOk, codes};
 ghost use Rattle.nm_series.specs.Rows.{cell};
 
 use nm_base::{push_number, push_text};
@@ -12,6 +12,13 @@ pub(crate) fn push_cell(text: &mut Vec<u8>, value: u64) -> Result<(), AllocError
 {
     push_text(text, b",")?;
     push_number(text, value)
+}
+
+/// Ends a row.
+pub(crate) fn end_row(text: &mut Vec<u8>) -> Result<(), AllocError>
+    ensures { OnOk result (text.new.items ≡ text.old.items ++ codes "\n") }
+{
+    push_text(text, b"\n")
 }
 
 /// Appends a text behind others.

@@ -8,7 +8,7 @@ ghost use Rattle.nm_sim.specs.Network.{net_of};
 ghost use Rattle.nm_measure.specs.Measured.{IsMeasuredBefore};
 ghost use Rattle.nm_series.specs.Rows.{AreIfaceTotals, Had, counts_text, iface_row, rows_of, seen_text};
 
-use crate::cells::push_cell;
+use crate::cells::{end_row, push_cell};
 use nm_base::{IfaceNo, Time, push_number, push_text};
 use nm_measure::{IfaceTotals, Measured, thousandths};
 use nm_topology::Topology;
@@ -144,7 +144,7 @@ fn push_row(
     push_text(text, name.as_bytes())?;
     push_counts(text, before, after)?;
     push_seen(text, seen)?;
-    push_text(text, b"\n")
+    end_row(text)
 }
 
 /// Appends the rows of all interfaces in a step, in the order of the topology's text.
