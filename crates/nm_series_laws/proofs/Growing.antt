@@ -1,0 +1,132 @@
+-- What an interface has never falls.
+use Rattle.std.proofs.Common.{◌≡◌, ℕ, zero, suc, ◌+◌, ◌-◌, ◌≤◌, ◌<◌, ◌==◌, Bool, true, false, cond, List, [], ◌∷◌, ◌++◌, length, sum_by, Option, Some, None, refl, sym, ap, subst, ◌∙◌, arith, ⊎_elim, append-nil, length-append}
+use Rattle.std.proofs.lemmas.Bool.Decides.{nat_tests}
+use Rattle.std.proofs.lemmas.List.Sums.{sum_by-append}
+use Rattle.std.proofs.lemmas.Bool.{cases_lt}
+use Rattle.nm_base.specs.declared.event.Event.{Event}
+use Rattle.nm_base.specs.declared.event.Event.TheVariants.{Completion, Delivery}
+use Rattle.nm_base.specs.declared.key.Key.{Key}
+use Rattle.nm_base.specs.declared.key.Place.{Place}
+use Rattle.nm_base.specs.declared.key.Place.TheVariants.{Arrive, Complete, Fire}
+use Rattle.nm_base.specs.declared.record.Record.{Record}
+use Rattle.nm_model.specs.EventList.{least}
+use Rattle.nm_model.specs.Lists.{keep_where, set_at}
+use Rattle.nm_model.specs.Network.{Net}
+use Rattle.nm_model.specs.Port.{Busy, Port, completed, offered}
+use Rattle.nm_model.specs.Run.{State, effect, one_list, sent_on, step_at, turned}
+use Rattle.nm_model.proofs.ListLemmas.{kept-append}
+use Rattle.nm_forward.specs.State.{NodeStateValue}
+use Rattle.nm_measure.specs.Amounts.{amount_of, came_to, went_from}
+use Rattle.nm_series.specs.Rows.{had}
+use Rattle.nm_series_laws.specs.Adding.{AddUp, Rises}
+
+module _ {P N : Type 0} (net : Net P N) where
+  -- one step more records what the steps before recorded, and maybe more
+  step_more : (s : State P N) (o : Option (Key × Event P)) → (more : List (Record P)) × ((step_at net (λ q. true) s o).records ≡ s.records ++ more)
+  step_more s None = ([], sym (append-nil s.records))
+  step_more s (Some e) = (_, refl)
+
+  -- a port's count of dropped packets does not fall
+  offered_drops : (room : List P → P → Bool) (tx : P → ℕ) (now : ℕ) (x : P) (d : ℕ) (b : Option (Busy P)) → d ≤ (offered room tx now x d b).0.dropped
+  offered_drops room tx now x d None = omega arith
+  offered_drops room tx now x d (Some b) = go (room b.waiting x)
+    where
+      go : (z : Bool) → d ≤ (cond {A = Port P × Option P} z (record { busy = Some (record { completes = b.completes; waiting = b.waiting ++ x ∷ [] }); dropped = d }, None)
+          (record { busy = Some b; dropped = d + 1 }, None)).0.dropped
+      go true = omega arith
+      go false = omega arith
+
+  completed_drops : (tx : P → ℕ) (now d : ℕ) (b : Option (Busy P)) → d ≤ (completed tx now d b).0.dropped
+  completed_drops tx now d None = omega arith
+  completed_drops tx now d (Some b) = go b.waiting
+    where
+      go : (l : List P) → d ≤ (completed tx now d (Some (record { completes = b.completes; waiting = l }))).0.dropped
+      go [] = omega arith
+      go (x ∷ l) = omega arith
+
+  -- an event's turn of a port
+  abbrev Keeps : (ℕ → Port P) → Option (ℕ × Port P) → Type 0
+  Keeps ports None = Unit {0}
+  Keeps ports (Some w) = (ports w.0).dropped ≤ w.1.dropped
+
+  sent_keeps : (ports : ℕ → Port P) (time : ℕ) (came : Option (ℕ × P)) (n : N) (sent follows : Option (ℕ × P)) → Keeps ports (sent_on net ports time came n sent follows).turn
+  sent_keeps ports time came n None follows = tt
+  sent_keeps ports time came n (Some s) follows = offered_drops (net.room s.0) (net.tx s.0) time s.1 (ports s.0).dropped (ports s.0).busy
+
+  effect_keeps : (nodes : ℕ → N) (ports : ℕ → Port P) (time : ℕ) (place : Place) (number : ℕ) (e : Event P) → Keeps ports (effect net nodes ports time place number e).turn
+  effect_keeps nodes ports time (Arrive i) number (Delivery x) = sent_keeps ports time _ _ _ _
+  effect_keeps nodes ports time (Complete i) number Completion = completed_drops (net.tx i) time (ports i).dropped (ports i).busy
+  effect_keeps nodes ports time (Fire j) number (Delivery x) = sent_keeps ports time _ _ _ _
+  effect_keeps nodes ports time (Arrive i) number Completion = tt
+  effect_keeps nodes ports time (Complete i) number (Delivery x) = tt
+  effect_keeps nodes ports time (Fire j) number Completion = tt
+
+  set_keeps : (ports : ℕ → Port P) (j : ℕ) (w : Port P) (i : ℕ) → (ports j).dropped ≤ w.dropped → (ports i).dropped ≤ (set_at ports j w i).dropped
+  unfolding set_at
+  set_keeps ports j w i h = go (i == j) refl
+    where
+      go : (z : Bool) → (i == j) ≡ z → (ports i).dropped ≤ (cond z w (ports i)).dropped
+      go true e = let same : j ≡ i = grind (arith, nat_tests, e) in subst (λ k. (ports k).dropped ≤ w.dropped) same h
+      go false e = omega arith
+
+  turned_keeps : (ports : ℕ → Port P) (turn : Option (ℕ × Port P)) (i : ℕ) → Keeps ports turn → (ports i).dropped ≤ (turned ports turn i).dropped
+  turned_keeps ports None i h = omega arith
+  turned_keeps ports (Some w) i h = set_keeps ports w.0 w.1 i h
+
+  step_drops : (s : State P N) (o : Option (Key × Event P)) (i : ℕ) → (s.port i).dropped ≤ ((step_at net (λ q. true) s o).port i).dropped
+  step_drops s None i = omega arith
+  step_drops s (Some e) i = turned_keeps s.port _ i (effect_keeps s.node s.port e.0.time e.0.place e.0.number e.1)
+
+-- a number that never falls from one event to the next does not fall over more of them
+rises_over : (f : ℕ → ℕ) → ((n : ℕ) → f n ≤ f (suc n)) → (n m : ℕ) → n ≤ m → f n ≤ f m
+rises_over f h n zero l = let same : n ≡ zero = omega (arith, l) in subst (λ k. f n ≤ f k) same (omega arith)
+rises_over f h n (suc m) l = ⊎_elim
+    (λ (o : m < n). let same : n ≡ suc m = omega (arith, o, l) in subst (λ k. f n ≤ f k) same (omega arith))
+    (λ (o : n ≤ m). let a = rises_over f h n m o in let b = h m in omega (arith, a, b))
+    (cases_lt m n)
+
+adds_up : (total : ℕ → ℕ) → ((k : ℕ) → total k ≤ total (suc k)) → (count : ℕ) → AddUp total count
+adds_up total h zero = omega arith
+adds_up total h (suc n) =
+    let so_far = adds_up total h n in
+    let more = h n in
+    let from = rises_over total h 0 n (omega arith) in
+    ap (λ x. x + (total (suc n) - total n)) so_far ∙ omega (arith, more, from)
+
+module _ (net : Net (List ℕ) NodeStateValue) (i : ℕ) where
+  packets_grow : (f : Record (List ℕ) → Bool) (n : ℕ) → (amount_of f (one_list net n).records).packets ≤ (amount_of f (one_list net (suc n)).records).packets
+  packets_grow f n =
+      let s = one_list net n in
+      let m = step_more net s (least s.pending) in
+      let e = ap (λ l. length (keep_where f l)) m.1 ∙ ap length (kept-append f s.records m.0) ∙ length-append (keep_where f s.records) (keep_where f m.0) in
+      omega (arith, e)
+
+  octets_grow : (f : Record (List ℕ) → Bool) (n : ℕ) → (amount_of f (one_list net n).records).octets ≤ (amount_of f (one_list net (suc n)).records).octets
+  octets_grow f n =
+      let s = one_list net n in
+      let m = step_more net s (least s.pending) in
+      let size = λ (r : Record (List ℕ)). length r.packet in
+      let e = ap (λ l. sum_by size (keep_where f l)) m.1 ∙ ap (sum_by size) (kept-append f s.records m.0) ∙ sum_by-append size (keep_where f s.records) (keep_where f m.0) in
+      omega (arith, e)
+
+  drops_grow : (n : ℕ) → (had i (one_list net n)).dropped ≤ (had i (one_list net (suc n))).dropped
+  drops_grow n = let s = one_list net n in let d = step_drops net s (least s.pending) i in omega (arith, d)
+
+  -- over the events that were done at each step
+  pub over_steps : (f : ℕ → ℕ) → ((n : ℕ) → f n ≤ f (suc n)) → (events : ℕ → ℕ) → Rises events → (count : ℕ) → AddUp (λ k. f (events k)) count
+  over_steps f h events rises count = adds_up (λ k. f (events k)) (λ k. rises_over f h (events k) (events (suc k)) (rises k)) count
+
+  pub came_add : (events : ℕ → ℕ) → Rises events → (count : ℕ) → AddUp (λ k. (had i (one_list net (events k))).traffic.came.packets) count
+  came_add = over_steps (λ n. (had i (one_list net n)).traffic.came.packets) (packets_grow (came_to i))
+
+  pub octets_came_add : (events : ℕ → ℕ) → Rises events → (count : ℕ) → AddUp (λ k. (had i (one_list net (events k))).traffic.came.octets) count
+  octets_came_add = over_steps (λ n. (had i (one_list net n)).traffic.came.octets) (octets_grow (came_to i))
+
+  pub went_add : (events : ℕ → ℕ) → Rises events → (count : ℕ) → AddUp (λ k. (had i (one_list net (events k))).traffic.went.packets) count
+  went_add = over_steps (λ n. (had i (one_list net n)).traffic.went.packets) (packets_grow (went_from i))
+
+  pub octets_went_add : (events : ℕ → ℕ) → Rises events → (count : ℕ) → AddUp (λ k. (had i (one_list net (events k))).traffic.went.octets) count
+  octets_went_add = over_steps (λ n. (had i (one_list net n)).traffic.went.octets) (octets_grow (went_from i))
+
+  pub dropped_add : (events : ℕ → ℕ) → Rises events → (count : ℕ) → AddUp (λ k. (had i (one_list net (events k))).dropped) count
+  dropped_add = over_steps (λ n. (had i (one_list net n)).dropped) drops_grow
