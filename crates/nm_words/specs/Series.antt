@@ -1,5 +1,5 @@
 -- The word `series`: what interfaces or sources do over time.
-use Rattle.std.specs.Prelude.{◌≡◌, ◌⊎◌, ℕ, ◌*◌, ◌<◌, List, length, Option, Ok, codes}
+use Rattle.std.specs.Prelude.{◌≡◌, ◌⊎◌, ℕ, ◌*◌, ◌<◌, ◌≤◌, List, length, Option, Ok, codes}
 use Rattle.nm_topology.specs.Topology.{topology_of}
 use Rattle.nm_topology.specs.TopologyValue.{TopologyValue}
 use Rattle.nm_command.specs.declared.status.Status.{Status}
@@ -38,6 +38,10 @@ abbrev pub rows_in : Subject → TopologyValue → ℕ
 rows_in Interfaces t = length t.ifaces
 rows_in Sources t = length t.sources
 
+-- there are so many rows as may be written at most, or fewer
+abbrev pub HasFewRows : Subject → (step : ℕ) → TopologyValue → Type 0
+HasFewRows subject step t = steps_in step t.stop * rows_in subject t ≤ MAX_ROWS
+
 -- why there is no series: the text is refused, or there would be so many rows
 abbrev pub HasManyRows : Subject → (step : ℕ) → List ℕ → Status → Type 0
 HasManyRows subject step text status = IsRefused text status
@@ -63,5 +67,6 @@ module _ {S : Type 0} (taken : S → Option (List ℕ)) (failures : S → ℕ) (
 module _ {S : Type 0} (taken : S → Option (List ℕ)) (failures : S → ℕ) (told : List ℕ → Option (List ℕ)) (failed_before failed : ℕ) (old new : S) where
   abbrev pub EndsSeries : List ℕ → ℕ → Subject → Status → Type 0
   EndsSeries topology step subject status =
-      ((network : TopologyValue) × HasTopology (told topology) network × WritesSteps taken failures old new subject step network status)
+      ((network : TopologyValue) × HasTopology (told topology) network × HasFewRows subject step network
+      × WritesSteps taken failures old new subject step network status)
       ⊎ (FailsOfInput (told topology) failed_before failed (HasManyRows subject step) status × (new ≡ old))

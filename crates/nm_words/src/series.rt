@@ -12,7 +12,7 @@ ghost use Rattle.nm_series.specs.Steps.{steps_in};
 ghost use Rattle.nm_series.specs.declared.steps.TheConstants.{MAX_ROWS};
 ghost use Rattle.nm_words.specs.Input.{HasTopology, text_of};
 ghost use Rattle.nm_words.specs.Output.{FailsOfInput};
-ghost use Rattle.nm_words.specs.Series.{EndsSeries, HasManyRows, WritesSteps, columns_of, rows_in};
+ghost use Rattle.nm_words.specs.Series.{EndsSeries, HasFewRows, HasManyRows, WritesSteps, columns_of, rows_in};
 
 use crate::input::NamedInputs;
 use crate::inputs::Inputs;
@@ -180,6 +180,7 @@ fn read_series<I: Inputs>(
     requires short { words.now.step ≤ MAX_TIME }
     ensures network { IfOk result (λ network. HasTopology
         (text_of I.standard_text I.file_text inputs.old.inputs words.now.topology.now) network) }
+    ensures rows { IfOk result (HasFewRows words.now.subject words.now.step) }
     ensures fault { IfErr result (λ status. FailsOfInput
         (text_of I.standard_text I.file_text inputs.old.inputs words.now.topology.now)
         inputs.old.failures inputs.new.failures
