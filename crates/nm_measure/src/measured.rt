@@ -114,7 +114,8 @@ impl Measured {
     /// What came to an interface and what it transmitted. `None` where there is no such interface.
     pub fn traffic(&self, iface: IfaceNo) -> Option<IfaceTraffic>
         ensures { (t : TopologyValue) (until : ℕ) (m : IsMeasuredBefore t until self.now)
-            → iface < length t.ifaces → result ≡ Some (traffic_of iface (one_list (net_of t) m.events).records) }
+            → iface < length t.ifaces
+            → result ≡ Some (traffic_of iface (one_list (net_of t) m.events).records) }
     {
         self.traffic.get(iface.index()).copied()
     }

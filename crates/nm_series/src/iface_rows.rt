@@ -6,7 +6,8 @@ ghost use Rattle.nm_forward.specs.State.{NodeStateValue};
 ghost use Rattle.nm_model.specs.Run.{State, one_list};
 ghost use Rattle.nm_sim.specs.Network.{net_of};
 ghost use Rattle.nm_measure.specs.Measured.{IsMeasuredBefore};
-ghost use Rattle.nm_series.specs.Rows.{AreIfaceTotals, Had, counts_text, iface_row, rows_of, seen_text};
+ghost use Rattle.nm_series.specs.Rows.{AreIfaceTotals, Had, counts_text, iface_row};
+ghost use Rattle.nm_series.specs.Rows.{rows_of, seen_text};
 
 use crate::cells::{end_row, push_cell};
 use nm_base::{IfaceNo, Time, push_number, push_text};

@@ -1,24 +1,30 @@
 -- What an interface has never falls.
-use Rattle.std.proofs.Common.{◌≡◌, ℕ, zero, suc, ◌+◌, ◌-◌, ◌≤◌, ◌<◌, ◌==◌, Bool, true, false, cond, List, [], ◌∷◌, ◌++◌, length, sum_by, Option, Some, None, refl, sym, ap, subst, ◌∙◌, arith, ⊎_elim, append-nil, length-append}
+use Rattle.std.proofs.Common.{◌≡◌, ℕ, zero, suc, ◌+◌, ◌-◌, ◌≤◌, ◌<◌, ◌==◌, min, ltb, true≢false, Bool, true, false, cond, List, [], ◌∷◌, ◌++◌, length, sum_by, Option, Some, None, refl, sym, ap, subst, ◌∙◌, arith, ⊎_elim, append-nil, length-append}
+use Rattle.std.specs.Int.{sum_through}
 use Rattle.std.proofs.lemmas.Bool.Decides.{nat_tests}
 use Rattle.std.proofs.lemmas.List.Sums.{sum_by-append}
 use Rattle.std.proofs.lemmas.Bool.{cases_lt}
+use Rattle.std.proofs.Math.Nat.{min-le_right, min-eq_left}
 use Rattle.nm_base.specs.declared.event.Event.{Event}
 use Rattle.nm_base.specs.declared.event.Event.TheVariants.{Completion, Delivery}
 use Rattle.nm_base.specs.declared.key.Key.{Key}
 use Rattle.nm_base.specs.declared.key.Place.{Place}
 use Rattle.nm_base.specs.declared.key.Place.TheVariants.{Arrive, Complete, Fire}
 use Rattle.nm_base.specs.declared.record.Record.{Record}
-use Rattle.nm_model.specs.EventList.{least}
+use Rattle.nm_model.specs.Before.{IsBefore}
+use Rattle.nm_model.specs.EventList.{is_before, least}
 use Rattle.nm_model.specs.Lists.{keep_where, set_at}
 use Rattle.nm_model.specs.Network.{Net}
 use Rattle.nm_model.specs.Port.{Busy, Port, completed, offered}
 use Rattle.nm_model.specs.Run.{State, effect, one_list, sent_on, step_at, turned}
 use Rattle.nm_model.proofs.ListLemmas.{kept-append}
+use Rattle.nm_topology.specs.TopologyValue.{TopologyValue}
+use Rattle.nm_sim.specs.Network.{net_of}
 use Rattle.nm_forward.specs.State.{NodeStateValue}
 use Rattle.nm_measure.specs.Amounts.{amount_of, came_to, went_from}
 use Rattle.nm_series.specs.Rows.{had}
-use Rattle.nm_series_laws.specs.Adding.{AddUp, Rises}
+use Rattle.nm_series.specs.Steps.{step_time}
+use Rattle.nm_series_laws.specs.Adding.{AddUp, AllAddUp, BeginAt, drops, octets_in, octets_out, packets_in, packets_out}
 
 module _ {P N : Type 0} (net : Net P N) where
   -- one step more records what the steps before recorded, and maybe more
@@ -77,6 +83,39 @@ module _ {P N : Type 0} (net : Net P N) where
   step_drops s None i = omega arith
   step_drops s (Some e) i = turned_keeps s.port _ i (effect_keeps s.node s.port e.0.time e.0.place e.0.number e.1)
 
+-- the lesser of what is later and a limit is not earlier
+min_over : (a more limit : ℕ) → a ≤ limit → a ≤ min (a + more) limit
+min_over a more limit l = omega (arith, l)
+
+-- what is before a time is before a later one
+stays_before : {X : Type 0} (o : Option (Key × X)) (t u : ℕ) → t ≤ u → is_before t o ≡ true → is_before u o ≡ true
+stays_before None t u l h = h
+stays_before (Some e) t u l h = grind (arith, nat_tests, l, h)
+
+none_at_begin : {X : Type 0} (o : Option (Key × X)) → is_before 0 o ≡ true → false ≡ true
+none_at_begin None h = h
+none_at_begin (Some e) h = grind (arith, nat_tests, h)
+
+module _ {P N : Type 0} (net : Net P N) where
+  -- no fewer events are before a later time
+  later_has_more : (t u n m : ℕ) → t ≤ u → IsBefore net t n → IsBefore net u m → n ≤ m
+  later_has_more t u n m l a b = ⊎_elim
+      (λ (o : m < n). absurd (true≢false (sym (stays_before (least (one_list net m).pending) t u l (a.first m o)) ∙ b.over)))
+      (λ (o : n ≤ m). o)
+      (cases_lt m n)
+
+  -- and none before the begin of the run
+  none_before_begin : (n : ℕ) → IsBefore net 0 n → n ≡ 0
+  none_before_begin zero a = refl
+  none_before_begin (suc n) a = absurd (true≢false (sym (none_at_begin (least (one_list net 0).pending) (a.first 0 (omega arith)))))
+
+within_stop : (step stop k : ℕ) → step_time step stop k ≤ stop
+within_stop step stop zero = omega arith
+within_stop step stop (suc k) = min-le_right (step_time step stop k + step) stop
+
+steps_follow : (step stop k : ℕ) → step_time step stop k ≤ step_time step stop (suc k)
+steps_follow step stop k = let w = within_stop step stop k in min_over (step_time step stop k) step stop w
+
 -- a number that never falls from one event to the next does not fall over more of them
 rises_over : (f : ℕ → ℕ) → ((n : ℕ) → f n ≤ f (suc n)) → (n m : ℕ) → n ≤ m → f n ≤ f m
 rises_over f h n zero l = let same : n ≡ zero = omega (arith, l) in subst (λ k. f n ≤ f k) same (omega arith)
@@ -85,13 +124,12 @@ rises_over f h n (suc m) l = ⊎_elim
     (λ (o : n ≤ m). let a = rises_over f h n m o in let b = h m in omega (arith, a, b))
     (cases_lt m n)
 
-adds_up : (total : ℕ → ℕ) → ((k : ℕ) → total k ≤ total (suc k)) → (count : ℕ) → AddUp total count
-adds_up total h zero = omega arith
-adds_up total h (suc n) =
-    let so_far = adds_up total h n in
-    let more = h n in
-    let from = rises_over total h 0 n (omega arith) in
-    ap (λ x. x + (total (suc n) - total n)) so_far ∙ omega (arith, more, from)
+-- what is added in each step is all together what there is at the end, where there was nothing at the begin
+adds_up : (total : ℕ → ℕ) → ((k : ℕ) → total k ≤ total (suc k)) → total 0 ≡ 0 → (last : ℕ) → sum_through (λ k. total (suc k) - total k) last ≡ total (suc last)
+adds_up total h none zero = omega (arith, none)
+adds_up total h none (suc n) =
+    let more = h (suc n) in
+    ap (λ x. x + (total (suc (suc n)) - total (suc n))) (adds_up total h none n) ∙ omega (arith, more)
 
 module _ (net : Net (List ℕ) NodeStateValue) (i : ℕ) where
   packets_grow : (f : Record (List ℕ) → Bool) (n : ℕ) → (amount_of f (one_list net n).records).packets ≤ (amount_of f (one_list net (suc n)).records).packets
@@ -112,21 +150,25 @@ module _ (net : Net (List ℕ) NodeStateValue) (i : ℕ) where
   drops_grow : (n : ℕ) → (had i (one_list net n)).dropped ≤ (had i (one_list net (suc n))).dropped
   drops_grow n = let s = one_list net n in let d = step_drops net s (least s.pending) i in omega (arith, d)
 
-  -- over the events that were done at each step
-  pub over_steps : (f : ℕ → ℕ) → ((n : ℕ) → f n ≤ f (suc n)) → (events : ℕ → ℕ) → Rises events → (count : ℕ) → AddUp (λ k. f (events k)) count
-  over_steps f h events rises count = adds_up (λ k. f (events k)) (λ k. rises_over f h (events k) (events (suc k)) (rises k)) count
+module _ (t : TopologyValue) (step : ℕ) (events : ℕ → ℕ) (begins : BeginAt t events step) where
+  rises : (k : ℕ) → events k ≤ events (suc k)
+  rises k = later_has_more (net_of t) (step_time step t.stop k) (step_time step t.stop (suc k)) (events k) (events (suc k)) (steps_follow step t.stop k) (begins k) (begins (suc k))
 
-  pub came_add : (events : ℕ → ℕ) → Rises events → (count : ℕ) → AddUp (λ k. (had i (one_list net (events k))).traffic.came.packets) count
-  came_add = over_steps (λ n. (had i (one_list net n)).traffic.came.packets) (packets_grow (came_to i))
+  -- what never falls from one event to the next, and is nothing at the begin, adds up over steps
+  over_steps : (f : ℕ → ℕ) → ((n : ℕ) → f n ≤ f (suc n)) → f 0 ≡ 0 → (last : ℕ) → sum_through (λ k. f (events (suc k)) - f (events k)) last ≡ f (events (suc last))
+  over_steps f h none last = adds_up (λ k. f (events k)) (λ k. rises_over f h (events k) (events (suc k)) (rises k)) (ap f (none_before_begin (net_of t) (events 0) (begins 0)) ∙ none) last
 
-  pub octets_came_add : (events : ℕ → ℕ) → Rises events → (count : ℕ) → AddUp (λ k. (had i (one_list net (events k))).traffic.came.octets) count
-  octets_came_add = over_steps (λ n. (had i (one_list net n)).traffic.came.octets) (octets_grow (came_to i))
+  pub came_add : AllAddUp t events packets_in
+  came_add i = over_steps (λ n. packets_in (had i (one_list (net_of t) n))) (packets_grow (net_of t) i (came_to i)) refl
 
-  pub went_add : (events : ℕ → ℕ) → Rises events → (count : ℕ) → AddUp (λ k. (had i (one_list net (events k))).traffic.went.packets) count
-  went_add = over_steps (λ n. (had i (one_list net n)).traffic.went.packets) (packets_grow (went_from i))
+  pub octets_came_add : AllAddUp t events octets_in
+  octets_came_add i = over_steps (λ n. octets_in (had i (one_list (net_of t) n))) (octets_grow (net_of t) i (came_to i)) refl
 
-  pub octets_went_add : (events : ℕ → ℕ) → Rises events → (count : ℕ) → AddUp (λ k. (had i (one_list net (events k))).traffic.went.octets) count
-  octets_went_add = over_steps (λ n. (had i (one_list net n)).traffic.went.octets) (octets_grow (went_from i))
+  pub went_add : AllAddUp t events packets_out
+  went_add i = over_steps (λ n. packets_out (had i (one_list (net_of t) n))) (packets_grow (net_of t) i (went_from i)) refl
 
-  pub dropped_add : (events : ℕ → ℕ) → Rises events → (count : ℕ) → AddUp (λ k. (had i (one_list net (events k))).dropped) count
-  dropped_add = over_steps (λ n. (had i (one_list net n)).dropped) drops_grow
+  pub octets_went_add : AllAddUp t events octets_out
+  octets_went_add i = over_steps (λ n. octets_out (had i (one_list (net_of t) n))) (octets_grow (net_of t) i (went_from i)) refl
+
+  pub dropped_add : AllAddUp t events drops
+  dropped_add i = over_steps (λ n. drops (had i (one_list (net_of t) n))) (drops_grow (net_of t) i) refl

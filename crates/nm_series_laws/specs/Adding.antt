@@ -1,14 +1,42 @@
--- Sums over steps.
-use Rattle.std.specs.Prelude.{◌≡◌, ℕ, zero, suc, ◌+◌, ◌-◌, ◌≤◌}
+-- The sums over the steps of a series.
+use Rattle.std.specs.Prelude.{◌≡◌, ℕ, suc, ◌-◌}
+use Rattle.std.specs.Int.{sum_through}
+use Rattle.nm_model.specs.Before.{IsBefore}
+use Rattle.nm_model.specs.Run.{one_list}
+use Rattle.nm_topology.specs.TopologyValue.{TopologyValue}
+use Rattle.nm_sim.specs.Network.{net_of}
+use Rattle.nm_series.specs.Rows.{Had, had}
+use Rattle.nm_series.specs.Steps.{step_time}
 
--- how many events were done never falls from one step to the next
-abbrev pub Rises : (ℕ → ℕ) → Type 0
-Rises events = (k : ℕ) → events k ≤ events (suc k)
+-- what a row says was added
+abbrev pub packets_in : Had → ℕ
+packets_in h = h.traffic.came.packets
 
-abbrev pub sum_below : ℕ → (ℕ → ℕ) → ℕ
-sum_below zero f = 0
-sum_below (suc n) f = sum_below n f + f n
+abbrev pub octets_in : Had → ℕ
+octets_in h = h.traffic.came.octets
 
--- what is added in each step is all together what there is more at the end than at the begin
-abbrev pub AddUp : (ℕ → ℕ) → ℕ → Type 0
-AddUp total count = sum_below count (λ k. total (suc k) - total k) ≡ total count - total 0
+abbrev pub packets_out : Had → ℕ
+packets_out h = h.traffic.went.packets
+
+abbrev pub octets_out : Had → ℕ
+octets_out h = h.traffic.went.octets
+
+abbrev pub drops : Had → ℕ
+drops h = h.dropped
+
+module _ (t : TopologyValue) (events : ℕ → ℕ) where
+  -- so many events of the one event list are before the begin of each step
+  abbrev pub BeginAt : (step : ℕ) → Type 0
+  BeginAt step = (k : ℕ) → IsBefore (net_of t) (step_time step t.stop k) (events k)
+
+  -- what an interface has of this when step k begins
+  abbrev pub had_at : (Had → ℕ) → (i k : ℕ) → ℕ
+  had_at amount i k = amount (had i (one_list (net_of t) (events k)))
+
+  -- what it has more in each of the steps 0 to `last` is all together what it has at the end of the last
+  abbrev pub AddUp : (Had → ℕ) → (i last : ℕ) → Type 0
+  AddUp amount i last = sum_through (λ k. had_at amount i (suc k) - had_at amount i k) last ≡ had_at amount i (suc last)
+
+  -- for each interface and each last step
+  abbrev pub AllAddUp : (Had → ℕ) → Type 0
+  AllAddUp amount = (i last : ℕ) → AddUp amount i last

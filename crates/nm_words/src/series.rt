@@ -12,7 +12,8 @@ ghost use Rattle.nm_series.specs.Steps.{steps_in};
 ghost use Rattle.nm_series.specs.declared.steps.TheConstants.{MAX_ROWS};
 ghost use Rattle.nm_words.specs.Input.{HasTopology, text_of};
 ghost use Rattle.nm_words.specs.Output.{FailsOfInput};
-ghost use Rattle.nm_words.specs.Series.{EndsSeries, HasFewRows, HasManyRows, WritesSteps, columns_of, rows_in};
+ghost use Rattle.nm_words.specs.Series.{EndsSeries, HasFewRows, HasManyRows, WritesSteps};
+ghost use Rattle.nm_words.specs.Series.{columns_of, rows_in};
 
 use crate::input::NamedInputs;
 use crate::inputs::Inputs;
