@@ -29,7 +29,7 @@ help:
 	@echo 'make check-edge  checks the help, and what is said of faults on a terminal'
 	@echo 'make check-frames compares the reader of frames with a model of its own over generated streams'
 	@echo 'make check-links breaks the connections of replicas at random octets, with ten thousand seeds, and certifies what they come to'
-	@echo 'make check-network runs the tests of tools/network, which wants networkx, METIS and Graphviz (docs/NETWORKS.md); a test passed over is no pass'
+	@echo 'make check-network runs the tests of tools/network, which wants networkx, METIS and Graphviz (docs/FORMATS.md); a test passed over is no pass'
 	@echo 'make check-pcap  reads the traces of the examples with tshark, or else tcpdump, one of which it needs'
 	@echo 'make cut-connections cuts the connection of two nodes a thousand times, and compares their files with those of the one event list'
 	@echo 'make demo        eight processes whose connections are cut again and again, one of which is killed and begun anew; half a minute'

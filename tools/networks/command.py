@@ -66,7 +66,7 @@ def do_show(words):
 def parser():
     """What the words mean."""
     top = argparse.ArgumentParser(
-        prog="network", description="Makes topology texts for nullsim; docs/NETWORKS.md says more. What was chosen is said on standard error.", allow_abbrev=False
+        prog="network", description="Makes topology texts for nullsim; docs/FORMATS.md says more. What was chosen is said on standard error.", allow_abbrev=False
     )
     some = top.add_subparsers(dest="word", required=True, metavar="WORD")
     one = some.add_parser("make", help="SPEC.toml > x.toml: a whole topology from a short description")
