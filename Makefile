@@ -1,6 +1,6 @@
 # `make help` lists the targets.
 
-.PHONY: all help try run bench compare cases run-cases check-docs check-edge check-frames check-links check-network check-pcap cut-connections deep demo tutorial trust words test gate-times install uninstall clean toolchain
+.PHONY: all help try run bench compare cases run-cases check-docs check-edge check-frames check-links check-network check-pcap cut-connections deep demo tutorial words test gate-times install uninstall clean toolchain
 
 # The topology and the interface of `make try` and `make run`; the folder of `make cases`; how many jobs `make` proves with; which steps of `make deep`;
 # whether `make compare` writes the times of a busy host; where `make install` puts the program, its manual page and its completion for bash (DESTDIR stands
@@ -24,7 +24,7 @@ help:
 	@echo 'make compare     compares traces, speed and memory with ns-3 (docs/COMPARED.md); needs Debian'"'"'s ns3, libns3-dev and g++; ANYWAY=1: on a busy host too'
 	@echo 'make cases       compares it with cases of an independent model; CASES=FOLDER: with those of a folder'
 	@echo 'make run-cases   runs the partitions of many topologies at once, and compares each file with what one writes'
-	@echo 'make tutorial    runs the commands of docs/TUTORIAL.md, and compares what they print; make trust writes the list of docs/TRUST.md anew'
+	@echo 'make tutorial    runs the commands of docs/TUTORIAL.md, and compares what they print'
 	@echo 'make check-docs  checks that links and names in the documents are right, and runs the commands of README'
 	@echo 'make check-edge  checks the help, and what is said of faults on a terminal'
 	@echo 'make check-frames compares the reader of frames with a model of its own over generated streams'
@@ -36,7 +36,7 @@ help:
 	@echo 'make deep        all that is too long for the gate: refused memory, frames, links, connections, networks, runs and planted bugs; STEPS=WORD: some of it'
 	@echo 'make words       lists names that two crates define, one of which sees the other; the gate refuses a new one'
 	@echo 'make test        the gate: proves everything from nothing and runs every test; the last line is N passed, M failed'
-	@echo 'make gate-times  the gate, with the processor minutes of each crate (docs/GATE.md)'
+	@echo 'make gate-times  the gate, with the processor minutes of each crate (docs/CONTRIBUTING.md)'
 	@echo 'make install     puts bin/nullsim, its manual page and its completion for bash below PREFIX (/usr/local); make uninstall removes them'
 	@echo 'make clean       removes what was built'
 	@echo 'All need the Rattle toolchain (rt) on PATH and python3; check-network, check-pcap, compare and demo python3 of 3.11 or later; none needs a network.'
@@ -107,9 +107,6 @@ run-cases: bin/nullsim
 
 tutorial: bin/nullsim
 	@tools/tutorial
-
-trust:
-	@tools/trust --write
 
 words:
 	@tools/words --all

@@ -101,7 +101,7 @@ def try_bug(folder, bug):
 
 def write_table(crate, rows):
     with open(os.path.join(ROOT, "tools", "planted", crate + ".md"), "w", encoding="utf-8") as table:
-        table.write(f"# Planted bugs of `{crate}`\n\n`tools/planted.py {crate} --write` made this table; `docs/PROOFS.md` says what a row shows.\n\n")
+        table.write(f"# Planted bugs of `{crate}`\n\n`tools/planted.py {crate} --write` made this table; `docs/PROVED.md` says what a row shows.\n\n")
         table.write("\n".join(["| Planted bug | Refused by |", "|---|---|", *rows]) + "\n")
 
 
