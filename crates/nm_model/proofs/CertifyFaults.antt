@@ -13,7 +13,7 @@ use Rattle.nm_model.proofs.ListLemmas.{not_some, number_is, number_tied}
 use Rattle.nm_model.proofs.Cut.{and_both, not_true, channel_inside}
 use Rattle.nm_model.proofs.Accepting.{same_self}
 use Rattle.nm_model.proofs.Faults.{same_is}
-use Rattle.nm_model.proofs.Certifying.{below_none, guard_none, test_true, of_none, part_there, there_part, prefix_none, channel_none}
+use Rattle.nm_model.proofs.Certifying.{below_none, clock_none, guard_none, test_true, of_none, part_there, there_part, prefix_none, channel_none}
 
 either : {A : Type 0} (o p : Option A) (x : A) → or_else o p ≡ Some x → (o ≡ Some x) ⊎ ((o ≡ None) × (p ≡ Some x))
 either None p x e = inr (refl, e)
@@ -99,7 +99,8 @@ module _ {P N : Type 0} (net : Net P N) (ok : IsNet net) (same : P → P → Boo
       (λ h. let begins = prefix_none same eq tells c 0 a.list out h.0 in
       ⊎_elim
       (λ g. let w = clock_some same eq tells c a.clock (nth out (length a.list)) f g in subst (Misses net kind c r s) w.0 (refl, begins, w.1))
-      (λ g. let w = promise_some same eq tells c p a.clock (last_from a.clock a.list) f g.1 in subst (Misses net kind c r s) w.0 (refl, begins, w.1, w.2))
+      (λ g. let w = promise_some same eq tells c p a.clock (last_from a.clock a.list) f g.1 in subst (Misses net kind c r s) w.0
+      (refl, begins, (λ b h. clock_none same eq tells c a.clock (nth out (length a.list)) g.0 b h), w.1, w.2))
       (either (clock_fault c a.clock (nth out (length a.list))) _ f h.1))
       (either (prefix_fault same c 0 a.list out) _ f e)
 

@@ -106,7 +106,7 @@ module _ {P : Type 0} where
         let s : x ≡ y = cc in
         ap (λ z. cond z (prefix_fault same c (suc n) k l) (Some (PrefixFault c n))) (same_self same eq x y s) ∙ none_prefix (suc n) k l (h.0, t)
 
-    clock_none : (t : ℕ) (o : Option (ℕ × P)) → clock_fault c t o ≡ None → (b : ℕ × P) → o ≡ Some b → t ≤ b.0
+    pub clock_none : (t : ℕ) (o : Option (ℕ × P)) → clock_fault c t o ≡ None → (b : ℕ × P) → o ≡ Some b → t ≤ b.0
     clock_none t None e b f = absurd (cc)
     clock_none t (Some m) e b f = go (ltb m.0 t) refl e
       where

@@ -45,7 +45,7 @@ module _ {P N : Type 0} (net : Net P N) where
     pub record Matches (c : ℕ) (r s : Book P) : Type 0 where
       pub begins : IsPrefix (r.replica.knowledge c).list (outgoing net s.part s.replica c)
       pub next : (b : ℕ × P) → nth (outgoing net s.part s.replica c) (length (r.replica.knowledge c).list) ≡ Some b → (r.replica.knowledge c).clock ≤ b.0
-      -- a message may raise the clock past a promise that stop bounds, up to its own time
+      -- a message may raise the clock past the plain promise, which stop bounds, up to its own time
       pub promised : ((r.replica.knowledge c).clock ≤ promise net kind s.part s.replica.knowledge s.replica.ran c) ⊎ (last_from (r.replica.knowledge c).clock (r.replica.knowledge c).list ≡ true)
 
     -- each partition has a book, each book is done, and on each channel each receiving book matches each sending one
@@ -100,7 +100,7 @@ module _ {P N : Type 0} (net : Net P N) (same : P → P → Bool) (kind : Promis
 
 module _ {P N : Type 0} (net : Net P N) (kind : Promising) where
   -- what a fault shows of book r's knowledge of channel c beside book s: the first number at which the sender's message is another or none; the sender's next
-  -- message and that it is before the clock; or that the clock is past both the promise and the last message
+  -- message and that it is before the clock; or that the clock, which is not past the sender's next message, is past both the promise and the last message
   abbrev pub Misses : ℕ → Book P → Book P → Fault → Type 0
   Misses c r s (PrefixFault d n) =
       (d ≡ c) × ((x : ℕ × P) × (nth (r.replica.knowledge c).list n ≡ Some x) × (nth (outgoing net s.part s.replica c) n ≢ Some x)
@@ -110,6 +110,7 @@ module _ {P N : Type 0} (net : Net P N) (kind : Promising) where
       × ((b : ℕ × P) × (nth (outgoing net s.part s.replica c) (length (r.replica.knowledge c).list) ≡ Some b) × (b.0 < (r.replica.knowledge c).clock))
   Misses c r s (PromiseFault d) =
       (d ≡ c) × IsPrefix (r.replica.knowledge c).list (outgoing net s.part s.replica c)
+      × ((b : ℕ × P) → nth (outgoing net s.part s.replica c) (length (r.replica.knowledge c).list) ≡ Some b → (r.replica.knowledge c).clock ≤ b.0)
       × (promise net kind s.part s.replica.knowledge s.replica.ran c < (r.replica.knowledge c).clock)
       × (last_from (r.replica.knowledge c).clock (r.replica.knowledge c).list ≡ false)
   Misses c r s (MissingPart p) = ⊥

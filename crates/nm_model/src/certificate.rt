@@ -1,11 +1,12 @@
 //! Laws of the certificate.
 
-ghost use Rattle.std.specs.Prelude.{◌≡◌, ℕ, ◌≤◌, true, Bool, List, [], Option, Some, None};
+ghost use Rattle.std.specs.Prelude.{◌≡◌, ◌⊎◌, ℕ, ◌≤◌, true, Bool, List, [], Option, Some, None};
 ghost use Rattle.nm_model.specs.Lists.{nth};
 ghost use Rattle.nm_model.specs.Network.{Net, IsNet, IsParted};
-ghost use Rattle.nm_model.specs.Accept.{IsReflexive, TellsApart};
+ghost use Rattle.nm_model.specs.Accept.{IsReflexive, TellsApart, last_from};
+ghost use Rattle.nm_model.specs.Partition.{comes_in, sender_of};
 ghost use Rattle.nm_model.specs.Replica.{IsWithin};
-ghost use Rattle.nm_model.specs.Promise.{Promising};
+ghost use Rattle.nm_model.specs.Promise.{Promising, promise};
 ghost use Rattle.nm_model.specs.Before.{IsBefore, trace};
 ghost use Rattle.nm_model.specs.World.{Replica, fresh, state_of};
 ghost use Rattle.nm_model.specs.Certificate.{Book, Fault, FaultShows, AreFinished, IsCertified};
@@ -28,7 +29,8 @@ pub fn certificate<P, N>()
 {}
 
 /// The certificate finds no fault exactly where each partition has a book, each book is done and
-/// all match.
+/// all match. Then no receiver's clock is past its sender's promise, but where its last message
+/// raised it.
 pub fn certify_is_exact<P, N>()
     ensures sound { (net : Net P N) → IsNet net → (same : P → P → Bool) → IsReflexive same
         → TellsApart same → (kind : Promising) (books : List (Book P))
@@ -36,6 +38,14 @@ pub fn certify_is_exact<P, N>()
     ensures complete { (net : Net P N) (same : P → P → Bool) → IsReflexive same → TellsApart same
         → (kind : Promising) (books : List (Book P))
         → IsCertified net kind books → certify net same kind books ≡ None }
+    ensures promised { (net : Net P N) → IsNet net → (same : P → P → Bool) → IsReflexive same
+        → TellsApart same → (kind : Promising) (books : List (Book P))
+        → certify net same kind books ≡ None → (i j c : ℕ) (r s : Book P)
+        → nth books i ≡ Some r → nth books j ≡ Some s
+        → comes_in net r.part c ≡ true → s.part ≡ sender_of net c
+        → ((r.replica.knowledge c).clock
+        ≤ promise net kind s.part s.replica.knowledge s.replica.ran c)
+        ⊎ (last_from (r.replica.knowledge c).clock (r.replica.knowledge c).list ≡ true) }
 {}
 
 /// A fault of the certificate shows what it says: the least partition that has no book; else the
