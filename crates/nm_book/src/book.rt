@@ -130,6 +130,8 @@ impl Book {
             (λ b. is_replica (arc_value topology) partition replica ≡ true) }
         ensures no_such { result ≡ Err NoSuch
             → is_replica (arc_value topology) partition replica ≡ false }
+        ensures refused { is_replica (arc_value topology) partition replica ≡ false
+            → result ≡ Err NoSuch }
     {
         if partition.index() >= topology.partitions() as usize || replica >= MAX_REPLICAS {
             return Err(BookFault::NoSuch);

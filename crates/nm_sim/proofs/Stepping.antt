@@ -17,4 +17,4 @@ pub represents_stepped : {L : Type 0} (pending : L → FinMap key_cmp (Event (Li
     → (x : State (List ℕ) NodeStateValue) × Represents pending t part new x
 represents_stepped pending t part before s old new (Ok None) represents h = (s, subst (λ p. Represents pending t part p s) (sym h.0) represents)
 represents_stepped pending t part before s old new (Ok (Some k)) represents h = (step (net_of t) (here_of t part) s, h.0)
-represents_stepped pending t part before s old new (Err e) represents h = (s, h)
+represents_stepped pending t part before s old new (Err e) represents h = (s, h.0)

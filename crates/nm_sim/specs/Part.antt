@@ -102,13 +102,13 @@ Performed pending room t k e old new (Ok u) = ((part : Option ℕ) (s : State (L
 Performed pending room t k e old new (Err x) = ((part : Option ℕ) (s : State (List ℕ) NodeStateValue) → IsReady pending room t part k e old s
     → Represents pending t part new s) × (new.steps ≡ old.steps) × (new.records.handed ≡ old.records.handed)
 
--- what a step answers, and what the part represents after it
+-- what a step answers, and what the part represents after it: that memory was refused only where an event was due
 abbrev pub Stepped : {L : Type 0} → (L → FinMap key_cmp (Event (List ℕ))) → TopologyValue → Option ℕ → ℕ → State (List ℕ) NodeStateValue
     → PartValue L → PartValue L → Result (Option Key) AllocError → Type 0
 Stepped pending t part before s old new (Ok None) = (new ≡ old) × (pends_before before s ≡ false)
 Stepped pending t part before s old new (Ok (Some k)) = Represents pending t part new (step (net_of t) (here_of t part) s)
     × (pends_before before s ≡ true) × (option_map (λ e. e.0) (least s.pending) ≡ Some k)
-Stepped pending t part before s old new (Err e) = Represents pending t part new s
+Stepped pending t part before s old new (Err e) = Represents pending t part new s × (pends_before before s ≡ true)
 
 -- how many events a step did
 abbrev pub events_done : Result (Option Key) AllocError → ℕ
@@ -127,7 +127,7 @@ abbrev pub Advanced : {L : Type 0} → (L → FinMap key_cmp (Event (List ℕ)))
     → PartValue L → PartValue L → Result Bool AllocError → Type 0
 Advanced pending t part before s old new (Ok false) = (new ≡ old) × (pends_before before s ≡ false)
 Advanced pending t part before s old new (Ok true) = Represents pending t part new (step (net_of t) (here_of t part) s) × (pends_before before s ≡ true)
-Advanced pending t part before s old new (Err e) = Represents pending t part new s
+Advanced pending t part before s old new (Err e) = Represents pending t part new s × (pends_before before s ≡ true)
 
 -- a packet's arrival at an interface, with its number, is pending too
 abbrev pub with_arrival : ℕ → ℕ → ℕ → List ℕ → State (List ℕ) NodeStateValue → State (List ℕ) NodeStateValue

@@ -199,7 +199,8 @@ impl<L: EventList> Part<L> {
     ///
     /// # Errors
     ///
-    /// `AllocError` where memory was refused, or after 2^62 events: no part of the event was done.
+    /// `AllocError` where an event was to be done, and memory was refused or 2^62 events were done:
+    /// no part of it was done.
     pub fn step(
         &mut self,
         alloc: Global,

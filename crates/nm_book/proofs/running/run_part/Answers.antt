@@ -1,5 +1,5 @@
 use Rattle.std.proofs.Common.{◌≡◌, ◌+◌, Ok, Some, true, arith, sym, ◌∙◌, ap, subst}
-use Rattle.nm_model.specs.Replica.{IsWithin, from_scratch}
+use Rattle.nm_model.specs.Replica.{IsWithin, from_scratch, safe_time}
 use Rattle.nm_model.specs.Run.{pends_before}
 use Rattle.nm_sim.specs.Network.{net_of}
 use Rattle.nm_sim.specs.Part.{Advanced, events_counted}
@@ -28,7 +28,7 @@ returns-in-Err-clause-book c = λ p knows book safe.
     let t = c.args.topology.now in
     let now = c.loop-done.invariant.book p knows book safe in
     let steps = c.in-Err.ensures.steps in
-    still_book t p knows c.loop-done.part c.advance.new.self now (λ s h. c.in-Err.ensures.advance (Some p) s h) (omega (arith, steps))
+    still_book t p knows c.loop-done.part c.advance.new.self now (λ s h. (c.in-Err.ensures.advance (Some p) s h).0) (omega (arith, steps))
 
 pub returns-in-Err-clause-run : goal.returns-in-Err-clause-run
 returns-in-Err-clause-run c = λ p knows book safe.
@@ -40,11 +40,15 @@ returns-in-Err-clause-run c = λ p knows book safe.
     let steps = c.in-Err.ensures.steps in
     let before = c.loop-done.invariant.steps in
     let total : c.advance.new.self.steps ≡ c.args.part.now.steps + c.loop-done.done = omega (arith, steps, before) in
-    let same : c.loop-done.part.steps ≡ c.advance.new.self.steps = omega (arith, steps) in (
+    let same : c.loop-done.part.steps ≡ c.advance.new.self.steps = omega (arith, steps) in
+    let due : pends_before c.args.safe (from_scratch net p K c.loop-done.part.steps) ≡ true
+    = (c.in-Err.ensures.advance (Some p) (from_scratch net p K c.loop-done.part.steps) now.represents).1 in (
       total,
       ran_whole t p K (c.times_pass.ensures.count net ok p K) (λ j k. c.times_pass.ensures.within_only net ok p K j k) (λ n m k. c.prefix_theorem.ensures.runs net ok p K n m k)
           c.args.part.now.steps c.advance.new.self.steps c.loop-done.done total (subst (IsWithin net p K) same now.within),
       c.loop-done-test.true,
+      subst (λ n. pends_before (safe_time net p K) (from_scratch net p K n) ≡ true) same
+          (subst (λ b. pends_before b (from_scratch net p K c.loop-done.part.steps) ≡ true) safe due),
     )
 
 pub loop-done-preserved : goal.loop-done-preserved
