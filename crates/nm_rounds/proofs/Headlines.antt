@@ -7,8 +7,9 @@ use Rattle.nm_topology.specs.TopologyValue.{TopologyValue}
 use Rattle.nm_knowledge.specs.Answers.{reason}
 use Rattle.nm_knowledge.specs.declared.answer.KnowFault.TheVariants as fault
 use Rattle.nm_model.specs.Before.{IsBefore, IsCount, IsKnowledge, events_at, history, trace}
-use Rattle.nm_model.specs.Knowledge.{IsValid, Knowledge, nothing_known}
-use Rattle.nm_model.specs.Lists.{nth, IsPrefix}
+use Rattle.nm_model.specs.Join.{join}
+use Rattle.nm_model.specs.Knowledge.{IsUnder, IsValid, Know, Knowledge, nothing_known}
+use Rattle.nm_model.specs.Lists.{nth, IsPrefix, IsRising}
 use Rattle.nm_model.specs.Partition.{comes_in, goes_out, in_part}
 use Rattle.nm_model.specs.Promise.{Promising, promise}
 use Rattle.nm_model.specs.Replica.{Agrees, IsWithin, from_scratch, safe_time}
@@ -21,7 +22,7 @@ use Rattle.nm_book.specs.declared.fault.MergeFault.TheVariants as refusal
 use Rattle.nm_book.proofs.Incoming.{stop_is}
 use Rattle.nm_book.proofs.Sisters.{back, over, same_at}
 use Rattle.nm_book.proofs.Tellings.{known_here}
-use Rattle.nm_rounds.specs.Headline.{AreEqual, HasRunAll, IsNoRefusal, IsTrue, records_at}
+use Rattle.nm_rounds.specs.Headline.{AreEqual, HasRunAll, HaveJoin, IsNoRefusal, IsTrue, records_at}
 use Rattle.nm_rounds.specs.Replay.{world_after}
 use Rattle.nm_rounds.specs.World.{IsReplicaOf, outcome_of}
 use Rattle.nm_rounds.specs.declared.step.StepAnswer.{StepAnswer}
@@ -88,7 +89,8 @@ module _ (t : TopologyValue) where
       (promised : (c last : ℕ) → IsBefore (net_of t) (net_of t).stop last → goes_out (net_of t) p c ≡ true → (i : ℕ) (m : ℕ × List ℕ)
       → length (model.outgoing (net_of t) p (after did p r) c) ≤ i → nth (history (net_of t) last c) i ≡ Some m → (kind : Promising)
       → promise (net_of t) kind p (after did p r).knowledge (after did p r).ran c ≤ m.0)
-      (low : safe_time (net_of t) p (after did p r).knowledge ≤ (net_of t).stop) where
+      (low : safe_time (net_of t) p (after did p r).knowledge ≤ (net_of t).stop)
+      (reached : (n : ℕ) × (events_at (net_of t) (in_part (net_of t) p) n ≡ (after did p r).ran)) where
     abbrev x : model.Replica (List ℕ)
     x = after did p r
 
@@ -136,11 +138,22 @@ module _ (t : TopologyValue) where
       exact = λ all ran h.
           mine (λ t' p' x'. (model.state_of (net_of t') p' x').records ≡ records_at t p' (one_list (net_of t) h.0).records) (exact h.0 (count_is ran) (subst (λ s. IsBefore (net_of t) s h.0) safe_low h.1))
           ∙ ap (records_at t b.partition) (sym h.2);
+      reached = mine (λ t' p' x'. (n : ℕ) × (events_at (net_of t) (in_part (net_of t) p') n ≡ x'.ran)) reached;
       state = λ n e. mine (λ t' p' x'. events_at (net_of t) (in_part (net_of t) p') n ≡ x'.ran → Agrees (net_of t) p' (one_list (net_of t) n) (model.state_of (net_of t') p' x')) (agrees n) e;
     }
 
     pub book_within : IsWithin (net_of b.topology) b.partition (knowledge b) b.events
     book_within = mine (λ t p x. IsWithin (net_of t) p x.knowledge x.ran) within
+
+-- what is known of one history has a join
+pub have_join : (a b : Know (List ℕ)) (H : List (ℕ × List ℕ)) → IsRising H → IsValid a H → IsValid b H
+    → IsUnder a (join a b) → IsUnder b (join a b) → ((d : Know (List ℕ)) → IsUnder a d → IsUnder b d → IsUnder (join a b) d) → HaveJoin a b
+have_join a b H rising va vb left right least = record {
+  compatible = record { history = H; rising = rising; left = va; right = vb };
+  left = left;
+  right = right;
+  least = least;
+}
 
 -- replicas that know the same
 module _ (a b : BookValue) (h : KnowTheSame a b) (here : (c : ℕ) → c < length a.topology.receivers → channel_from 0 a.topology.receivers (receiving_iface a.topology c) ≡ Some c)

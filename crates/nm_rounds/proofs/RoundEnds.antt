@@ -1,5 +1,5 @@
 -- What holds after so many rounds, and at their end.
-use Rattle.std.proofs.Common.{◌≡◌, ℕ, zero, suc, ◌+◌, ◌*◌, ◌-◌, ◌<◌, ◌≤◌, ◌==◌, ◌&&◌, not, Bool, true, false, List, length, slice_get, Some, refl, sym, ◌∙◌, ap, ap₂, subst, arith}
+use Rattle.std.proofs.Common.{◌≡◌, ◌⊎◌, inl, inr, ⊎_elim, ltb, ℕ, zero, suc, ◌+◌, ◌*◌, ◌-◌, ◌<◌, ◌≤◌, ◌==◌, ◌&&◌, not, Bool, true, false, List, length, slice_get, Some, refl, sym, ◌∙◌, ap, ap₂, subst, arith}
 use Rattle.std.proofs.lemmas.Bool.Decides.{nat_tests}
 use Rattle.nm_topology.specs.Topology.{receiving_iface}
 use Rattle.nm_topology.specs.TopologyValue.{TopologyValue}
@@ -22,6 +22,14 @@ use Rattle.nm_rounds.proofs.RoundBooks.{as_others, is_there}
 both : (a b : Bool) → (a && b) ≡ true → (a ≡ true) × (b ≡ true)
 both true b h = (refl, h)
 both false b h = absurd (let e : false ≡ true = h in cc)
+
+-- what is below the number after n is below n, or n
+below_next : (j n : ℕ) → j < suc n → (j < n) ⊎ (j ≡ n)
+below_next j n h = go (ltb j n) refl
+  where
+    go : (b : Bool) → ltb j n ≡ b → (j < n) ⊎ (j ≡ n)
+    go true e = inl (grind (arith, nat_tests, e))
+    go false e = let le : n ≤ j = grind (arith, nat_tests, e) in inr (omega (arith, h, le))
 
 more_times : (a b n : ℕ) → a ≤ b → a * n ≤ b * n
 more_times zero b n h = omega arith
@@ -46,19 +54,22 @@ module _ (t : TopologyValue) where
   finished_is p x b is v fin = moved (λ t p z. is_done (net_of t) p z ≡ v) t p 0 b x is fin
 
   module _ (by_round : ℕ → ℕ → Replica (List ℕ)) (are : AreRounds t by_round) where
-    -- the books after n rounds, in the last of which not all were done
+    -- the books after n rounds, in each of which not all were done
     pub record HaveRun (n : ℕ) (books : List BookValue) : Type 0 where
       pub stand : AreBooks t t.partitions (by_round n) books
-      pub left : (j : ℕ) → n ≡ suc j → IsLeft t by_round j
+      pub left : (j : ℕ) → j < n → IsLeft t by_round j
 
     pub run_none : (books : List BookValue) → AreBooks t t.partitions (λ p. fresh) books → HaveRun 0 books
     run_none books first = record {
       stand = as_others t t.partitions (λ p. fresh) books first (by_round 0) (λ p h. sym (are.opens p));
-      left = λ j e. absurd (omega (arith, e));
+      left = λ j low. absurd (omega (arith, low));
     }
 
-    pub run_more : (n : ℕ) (books : List BookValue) → EndsRound t by_round n false books → HaveRun (suc n) books
-    run_more n books ends = record { stand = ends.0; left = λ j e. let same : n ≡ j = omega (arith, e) in subst (IsLeft t by_round) same ends.1 }
+    pub run_more : (n : ℕ) (old books : List BookValue) → HaveRun n old → EndsRound t by_round n false books → HaveRun (suc n) books
+    run_more n old books have ends = record {
+      stand = ends.0;
+      left = λ j low. ⊎_elim (λ l. have.left j l) (λ e. subst (IsLeft t by_round) (sym e) ends.1) (below_next j n low);
+    }
 
     -- no round was left out of what a book hears
     pub all_heard : (j : ℕ) (books : List BookValue) → AreBooks t t.partitions (after_hearing t (after_runs by_round j)) books → AreBooks t t.partitions (by_round (suc j)) books
@@ -86,8 +97,8 @@ module _ (t : TopologyValue) where
             trace = λ last before. records ∙ early j p last (done_safe p x done) before;
           }
 
-      pub all_done : (max j : ℕ) (books : List BookValue) → j < max → EndsRound t by_round j true books → AreDoneWithin t max (j + 1) books
-      all_done max j books low ends =
+      pub all_done : (max j : ℕ) (old books : List BookValue) → j < max → HaveRun j old → EndsRound t by_round j true books → AreDoneWithin t max (j + 1) books
+      all_done max j old books low have ends =
           let n : (j + 1) - 1 ≡ j = omega arith in
           record {
             some = omega arith;
@@ -95,8 +106,12 @@ module _ (t : TopologyValue) where
             by_round = by_round;
             are = are;
             stand = subst (λ k. AreBooks t t.partitions (after_runs by_round k) books) (sym n) ends.0;
+            first = λ i l. have.left i (before i l);
             whole = whole j books ends.0 ends.1;
           }
+        where
+          before : (i : ℕ) → i + 1 < j + 1 → i < j
+          before i l = omega (arith, l)
 
     -- one is not
     module _ (alone : (p : ℕ) → ((c : ℕ) → comes_in (net_of t) p c ≡ true → ⊥) → (K : Knowledge (List ℕ)) → safe_time (net_of t) p K ≡ (net_of t).stop)
@@ -131,15 +146,19 @@ module _ (t : TopologyValue) where
       pub not_done : (max : ℕ) (books : List BookValue) → 1 ≤ max → (n : ℕ) → n ≡ max → HaveRun n books → AreUnfinished t max max books
       not_done zero books some n is have = absurd (omega (arith, some))
       not_done (suc j) books some n is have =
-          let left : IsLeft t by_round j = have.left j is in
+          let left : IsLeft t by_round j = have.left j (omega (arith, is)) in
           record {
             all = refl;
             by_round = by_round;
             are = are;
             stand = subst (λ k. AreBooks t t.partitions (by_round k) books) is have.stand;
+            left = λ i low. have.left i (to_all i low);
             channels = no_channel j left;
             enough = λ lead one all le. in_time j lead left one all (less _ le);
           }
         where
+          to_all : (i : ℕ) → i < suc j → i < n
+          to_all i low = omega (arith, low, is)
+
           less : (a : ℕ) → a + 1 ≤ suc j → a ≤ j
           less a h = omega (arith, h)

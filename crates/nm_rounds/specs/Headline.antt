@@ -6,7 +6,8 @@ use Rattle.nm_topology.specs.TopologyValue.{TopologyValue}
 use Rattle.nm_knowledge.specs.declared.answer.KnowFault.{KnowFault}
 use Rattle.nm_knowledge.specs.declared.answer.KnowFault.TheVariants.{Gap, Differs, Late, NotRising, Memory as NoMemory, Contrary}
 use Rattle.nm_model.specs.Before.{IsBefore, events_at, history}
-use Rattle.nm_model.specs.Knowledge.{IsValid, nothing_known}
+use Rattle.nm_model.specs.Join.{join}
+use Rattle.nm_model.specs.Knowledge.{IsCompatible, IsUnder, IsValid, Know, nothing_known}
 use Rattle.nm_model.specs.Lists.{nth, keep_where, IsPrefix}
 use Rattle.nm_model.specs.Partition.{in_part, is_own_record}
 use Rattle.nm_model.specs.Promise.{Promising}
@@ -15,7 +16,7 @@ use Rattle.nm_model.specs.Run.{one_list, pends_before}
 use Rattle.nm_sim.specs.Network.{net_of}
 use Rattle.nm_sim.specs.Trace.{IsTraceBefore}
 use Rattle.nm_book.specs.Book.{BookValue, is_incoming, is_outgoing, promise_on, safe_of, sent_over, state_of}
-use Rattle.nm_book.specs.Laws.{KnowTheSame}
+use Rattle.nm_book.specs.Laws.{AreSisters, KnowTheSame}
 use Rattle.nm_rounds.specs.declared.step.StepAnswer.{StepAnswer}
 use Rattle.nm_rounds.specs.declared.step.StepAnswer.TheVariants.{All, Limit, Frames, Accepted, Refused, Merged, MergeRefused, Emptied}
 
@@ -64,7 +65,8 @@ module _ (t : TopologyValue) where
     -- the trace begins the one event list's trace of the partition, and is all of it before the safe time once what is safe has run
     pub trace : (all : List (Record (List ℕ))) → IsTraceBefore t t.stop all → IsPrefix (state_of b).records (records_at t b.partition all)
     pub exact : (all : List (Record (List ℕ))) → HasRunAll b → IsTraceBefore t (safe_of b) all → (state_of b).records ≡ records_at t b.partition all
-    -- its state is the partition's in every state of the one event list that has done as many events there
+    -- its state is the partition's in every state of the one event list that has done as many events there, and there is one
+    pub reached : (n : ℕ) × (events_at (net_of t) (in_part (net_of t) b.partition) n ≡ b.events)
     pub state : (n : ℕ) → events_at (net_of t) (in_part (net_of t) b.partition) n ≡ b.events → Agrees (net_of t) b.partition (one_list (net_of t) n) (state_of b)
 
 -- replicas that know the same are the same once both have run what is safe, or done as many events
@@ -73,9 +75,18 @@ pub record AreEqual (a b : BookValue) : Type 0 where
   pub states : a.events ≡ b.events → state_of a ≡ state_of b
   pub promises : a.events ≡ b.events → (kind : Promising) (c : ℕ) → promise_on kind a c ≡ promise_on kind b c
 
+-- What two replicas know of a channel: some history has both, and their join is the least that both are under. A merge leaves the join.
+pub record HaveJoin (a b : Know (List ℕ)) : Type 0 where
+  pub compatible : IsCompatible a b
+  pub left : IsUnder a (join a b)
+  pub right : IsUnder b (join a b)
+  pub least : (d : Know (List ℕ)) → IsUnder a d → IsUnder b d → IsUnder (join a b) d
+
 -- The headline. Whatever ran, was sent, came late, again, out of order or never, was merged or began anew: of each replica all is true of the network that the
--- one event list runs; only a gap is refused, and no merge; and equal knowledge makes equal replicas.
+-- one event list runs; only a gap is refused, and no merge; equal knowledge makes equal replicas; and what two replicas of a partition know has a join.
 pub record Headline (t : TopologyValue) (answers : List StepAnswer) (books : List BookValue) : Type 0 where
   pub true_books : (i : ℕ) (b : BookValue) → slice_get books i ≡ Some b → IsTrue t b
   pub no_refusals : (i : ℕ) (a : StepAnswer) → slice_get answers i ≡ Some a → IsNoRefusal a
   pub equal_books : (i j : ℕ) (a b : BookValue) → slice_get books i ≡ Some a → slice_get books j ≡ Some b → KnowTheSame a b → AreEqual a b
+  pub joins : (i j c : ℕ) (a b : BookValue) → slice_get books i ≡ Some a → slice_get books j ≡ Some b → AreSisters a b → is_incoming a c ≡ true
+      → HaveJoin (slice_index_or a.knows c nothing_known) (slice_index_or b.knows c nothing_known)

@@ -96,22 +96,24 @@ pub record IsWhole (t : TopologyValue) (p : ℕ) (b : BookValue) : Type 0 where
   pub done : is_done (net_of t) p (replica_of b) ≡ true
   pub trace : (last : ℕ) → IsBefore (net_of t) (net_of t).stop last → (state_of b).records ≡ trace (net_of t) p last
 
--- Each book is whole in this round, one of at most so many.
+-- Each book is whole in this round, one of at most so many, and it is the first in which all are done.
 pub record AreDoneWithin (t : TopologyValue) (max rounds : ℕ) (books : List BookValue) : Type 0 where
   pub some : 1 ≤ rounds
   pub few : rounds ≤ max
   pub by_round : ℕ → ℕ → Replica (List ℕ)
   pub are : AreRounds t by_round
   pub stand : AreBooks t t.partitions (after_runs by_round (rounds - 1)) books
+  pub first : (j : ℕ) → j + 1 < rounds → IsLeft t by_round j
   pub whole : (p : ℕ) (b : BookValue) → slice_get books p ≡ Some b → IsWhole t p b
 
--- A book was not done in any of the rounds, of which there were as many as were asked for. That is so only where there is a channel, and where stop divided
--- by any lookahead that each channel has, rounded up, and one more are past the rounds.
+-- In each of the rounds some book was not done, and there were as many rounds as were asked for. That is so only where there is a channel, and where stop
+-- divided by any lookahead that each channel has, rounded up, and one more are past the rounds.
 pub record AreUnfinished (t : TopologyValue) (max rounds : ℕ) (books : List BookValue) : Type 0 where
   pub all : rounds ≡ max
   pub by_round : ℕ → ℕ → Replica (List ℕ)
   pub are : AreRounds t by_round
   pub stand : AreBooks t t.partitions (by_round max) books
+  pub left : (j : ℕ) → j < max → IsLeft t by_round j
   pub channels : length t.receivers ≡ 0 → ⊥
   pub enough : (lead : ℕ) → 1 ≤ lead → ((p c : ℕ) → comes_in (net_of t) p c ≡ true → lead ≤ lookahead (net_of t) Tight c)
       → round_count (net_of t).stop lead + 1 ≤ max → ⊥

@@ -23,9 +23,10 @@ use std::sync::Arc;
 /// What rounds come to. The book of number p is replica 0 of partition p.
 #[derive(Drop)]
 pub enum Rounds {
-    /// In this round, counted from 1, each book was done: it has the whole trace of its partition.
+    /// In this round, counted from 1, and in none before it, each book was done: it has the whole
+    /// trace of its partition.
     Done { rounds: u64, books: Vec<Book> },
-    /// So many rounds were asked for, and some book was not done in the last of them.
+    /// So many rounds were asked for, and in each of them some book was not done.
     Unfinished { rounds: u64, books: Vec<Book> },
     /// Memory was refused.
     Memory,

@@ -90,8 +90,8 @@ says_done t seen max rounds books shown records text octets same is law done who
       network = t;
       read = read;
       rounds = rounds;
-      some = done.some;
-      few = done.few;
+      books = books;
+      done = done;
       records = records;
       trace = whole;
       said = has (λ i. totals_of i records) (done_totals t max rounds books records law done whole);

@@ -1,25 +1,25 @@
 -- The word `rounds`: all partitions in rounds.
-use Rattle.std.specs.Prelude.{◌≡◌, ℕ, ◌≤◌, List, ◌++◌, Option, Ok, codes, decimal}
+use Rattle.std.specs.Prelude.{◌≡◌, ℕ, List, ◌++◌, Option, Ok, codes, decimal}
 use Rattle.nm_base.specs.declared.record.Record.{Record}
 use Rattle.nm_topology.specs.Topology.{topology_of}
 use Rattle.nm_topology.specs.TopologyValue.{TopologyValue}
 use Rattle.nm_sim.specs.Records.{totals_of}
 use Rattle.nm_sim.specs.Trace.{IsTraceBefore}
 use Rattle.nm_book.specs.Book.{BookValue}
-use Rattle.nm_rounds.specs.Rounds.{AreUnfinished}
+use Rattle.nm_rounds.specs.Rounds.{AreDoneWithin, AreUnfinished}
 use Rattle.nm_command.specs.declared.status.Status.{Status}
 use Rattle.nm_command.specs.declared.status.Status.TheVariants.{Done, Usage, NoInterface, ScriptLine, Step, Rows, Topology, File, Memory, NotCertified, Stalled}
 use Rattle.nm_words.specs.Input.{IsRefused}
 use Rattle.nm_words.specs.Lines.{AreTotals, iface_lines}
 use Rattle.nm_words.specs.Output.{EndsWord, FailsOfInput, SaysOfInput}
 
--- All was done in one of so many rounds. Each interface has what it has in the trace of the one event list, over the whole run.
+-- All was first done in this round, one of at most so many. Each interface has what it has in the trace of the one event list, over the whole run.
 pub record SaysDone (max : ℕ) (text octets : List ℕ) : Type 0 where
   pub network : TopologyValue
   pub read : topology_of text ≡ Ok network
   pub rounds : ℕ
-  pub some : 1 ≤ rounds
-  pub few : rounds ≤ max
+  pub books : List BookValue
+  pub done : AreDoneWithin network max rounds books
   pub records : List (Record (List ℕ))
   pub trace : IsTraceBefore network network.stop records
   pub said : octets ≡ codes "done " ++ decimal rounds ++ codes "\n" ++ iface_lines (λ i. totals_of i records) network

@@ -1,6 +1,8 @@
-use Rattle.std.proofs.Common.{◌≡◌, ℕ, ◌<◌, true, Some, length, slice_get, refl, sym, ◌∙◌, ap, subst}
+use Rattle.std.proofs.Common.{◌≡◌, ℕ, ◌<◌, true, Some, length, slice_get, slice_index_or, refl, sym, ◌∙◌, ap, subst}
 use Rattle.nm_topology.specs.Topology.{channel_from, receiving_iface}
 use Rattle.nm_knowledge.specs.Octets.{same_octets}
+use Rattle.nm_model.specs.Before.{history}
+use Rattle.nm_model.specs.Knowledge.{nothing_known}
 use Rattle.nm_model.specs.Network.{IsNet}
 use Rattle.nm_model.specs.Partition.{comes_in}
 use Rattle.nm_model.specs.Replica.{IsWithin}
@@ -9,7 +11,9 @@ use Rattle.nm_sim.specs.Network.{net_of}
 use Rattle.nm_book.specs.Book.{BookValue, knowledge, knowledge_of}
 use Rattle.nm_rounds.specs.World.{IsReplicaOf}
 use Rattle.nm_rounds.specs.Replay.{first_steps}
-use Rattle.nm_rounds.proofs.Headlines.{are_equal, fine_at, is_true, place_of}
+use Rattle.nm_book.proofs.Sisters.{over}
+use Rattle.nm_rounds.specs.Headline.{IsHistory, IsTrue}
+use Rattle.nm_rounds.proofs.Headlines.{are_equal, fine_at, have_join, is_true, place_of}
 use Rattle.nm_rounds.proofs.laws.the_headline_holds_of_every_replay.Goals as goal
 
 pub returns : goal.returns
@@ -30,12 +34,17 @@ returns c = λ steps answers books ending h.
     (subst (λ z. IsWithin net z (knowledge_of t b.knows) b.events) (sym is.partition)
     (subst (λ z. IsWithin net q.0 z b.events) (ap (λ z. z.knowledge) (sym is.replica) ∙ ap (λ z. knowledge_of z b.knows) is.topology)
     (subst (λ z. IsWithin net q.0 (replica_after net same_octets did q.0 q.1).knowledge z) (ap (λ z. z.ran) (sym is.replica)) (law.within net ok same_octets same did q.0 q.1)))) in
+    let last = c.times_pass.ensures.before net ok net.stop in
+    let true_of : (i : ℕ) (b : BookValue) → slice_get books i ≡ Some b → IsTrue t b =
+    λ i b e.
+    let q = place_of i in
+    let reached = c.cut_law.ensures.reached net ok q.0 (replica_after net same_octets did q.0 q.1).knowledge (law.valid net ok same_octets same did q.0 q.1)
+    (replica_after net same_octets did q.0 q.1).ran last.0 (law.within net ok same_octets same did q.0 q.1) last.1 in
+    is_true t did q.0 q.1 b (at i b e) here c.channels_are_those_of_the_network.ensures.none (law.within net ok same_octets same did q.0 q.1) (law.valid net ok same_octets same did q.0 q.1)
+    (law.prefix net ok same_octets same did q.0 q.1) (law.exact net ok same_octets same did q.0 q.1) (law.agrees net ok same_octets same did q.0 q.1) (law.sent net ok same_octets same did q.0 q.1)
+    (law.promised net ok same_octets same did q.0 q.1) (c.safe_time_is_the_least.ensures.stop net q.0 (replica_after net same_octets did q.0 q.1).knowledge) (reached.0, reached.2) in
     record {
-      true_books = λ i b e.
-          let q = place_of i in
-          is_true t did q.0 q.1 b (at i b e) here c.channels_are_those_of_the_network.ensures.none (law.within net ok same_octets same did q.0 q.1) (law.valid net ok same_octets same did q.0 q.1)
-          (law.prefix net ok same_octets same did q.0 q.1) (law.exact net ok same_octets same did q.0 q.1) (law.agrees net ok same_octets same did q.0 q.1) (law.sent net ok same_octets same did q.0 q.1)
-          (law.promised net ok same_octets same did q.0 q.1) (c.safe_time_is_the_least.ensures.stop net q.0 (replica_after net same_octets did q.0 q.1).knowledge);
+      true_books = true_of;
       no_refusals = fine_at t answers _ h.answered (law.only_gaps net ok same_octets same (first_steps t steps (length answers)));
       equal_books = λ i j a b e f k.
           let is = at i a e in
@@ -46,4 +55,13 @@ returns c = λ steps answers books ending h.
           (within i a e) (within j b f)
           (c.equal_knowledge_gives_equal_states.ensures.states (net_of a.topology) ok_a a.partition) (c.equal_knowledge_gives_equal_states.ensures.promises (net_of a.topology) ok_a a.partition)
           (c.equal_knowledge_gives_equal_replicas.ensures.counts (net_of a.topology) ok_a a.partition);
+      joins = λ i j d a b e f sisters comes.
+          let u = slice_index_or a.knows d nothing_known in
+          let v = slice_index_or b.knows d nothing_known in
+          let H = history net last.0 (receiving_iface t d) in
+          let is : IsHistory t d H = (last.0, last.1, refl) in
+          let first = (true_of i a e).knowledge d H comes is in
+          let second = (true_of j b f).knowledge d H (over a b (λ z p. comes_in (net_of z) p (receiving_iface z d) ≡ true) sisters comes) is in
+          have_join u v H (c.keys_rise.ensures.times net ok last.0 (receiving_iface t d)) first second
+          (c.join_laws.ensures.left H u v first second) (c.join_laws.ensures.right H u v first second) (c.join_laws.ensures.least u v);
     }

@@ -24,7 +24,7 @@ returns-then-branch c =
     let j = c.loop-round.round in
     let books = c.do_round.new.books.items in
     let low : j < c.args.max = search rules in
-    all_done t r.0 r.1 (c.rounds_bound.ensures.early (net_of t) net same_octets same Tight r.0 r.1) c.args.max j books low
+    all_done t r.0 r.1 (c.rounds_bound.ensures.early (net_of t) net same_octets same Tight r.0 r.1) c.args.max j c.loop-round.books.items books low (c.loop-round.invariant r.0 r.1)
     (subst (λ v. EndsRound t r.0 j v books) c.if-branch.true (c.in_ok-do_round.ensures j r.0 r.1 (c.loop-round.invariant r.0 r.1).stand))
 
 pub loop-round-preserved : goal.loop-round-preserved
@@ -34,7 +34,7 @@ loop-round-preserved c by_round are =
     let books = c.do_round.new.books.items in
     let next : suc j ≡ j + 1 = omega arith in
     subst (λ n. HaveRun t by_round are n books) next
-    (run_more t by_round are j books
+    (run_more t by_round are j c.loop-round.books.items books (c.loop-round.invariant by_round are)
     (subst (λ v. EndsRound t by_round j v books) c.if-branch.false (c.in_ok-do_round.ensures j by_round are (c.loop-round.invariant by_round are).stand)))
 
 pub returns : goal.returns
