@@ -7,3 +7,4 @@ pub mod Feeding
 pub mod Taking
 pub mod Consecutive
 pub mod Splitting
+pub mod Telling

@@ -8,3 +8,4 @@ pub mod Version
 pub mod Session
 pub mod Owed
 pub mod Lives
+pub mod Told

@@ -1,7 +1,15 @@
 //! Laws of the definitions: each function's contract is a law, and its body is empty.
 
-ghost use Rattle.std.specs.Prelude.{◌≡◌, ℕ, ◌<◌, ◌++◌, List, [], All};
+ghost use Rattle.std.specs.Prelude.{◌≡◌, ℕ, ◌<◌, ◌++◌, List, [], All, true, false, Ok};
 ghost use Rattle.std.specs.Prelude.{None, Some, Option, Result, if◌then◌else◌, nat_lt, take};
+ghost use Rattle.std.specs.List.{AllByRecursion};
+ghost use Rattle.nm_model.specs.Certificate.{is_done};
+ghost use Rattle.nm_sim.specs.Network.{net_of};
+ghost use Rattle.nm_book.specs.Book.{BookValue, replica_of};
+ghost use Rattle.nm_frames.specs.declared.frame.Frame.TheVariants.{Have, Bye};
+ghost use Rattle.nm_frames.specs.declared.frame.Have.{Have as HaveValue};
+ghost use Rattle.nm_frames.specs.Owed.{owed, promising_of};
+ghost use Rattle.nm_frames.specs.Told.{HasAsked, HasTold, IsOwedFrom, IsTold, IsUnasked, IsUntold};
 ghost use Rattle.nm_frames.specs.declared.frame.Frame.{Frame};
 ghost use Rattle.nm_frames.specs.declared.fault.FrameFault.{FrameFault};
 ghost use Rattle.nm_frames.specs.Frame.{IsFrame, frame_octets};
@@ -9,7 +17,7 @@ ghost use Rattle.nm_frames.specs.Stream.{Splits, deciding_octets, fault_shown};
 ghost use Rattle.nm_frames.specs.Reader.{ReaderValue};
 ghost use Rattle.nm_frames.specs.Pieces.{FeedsAll, HasRead, new_reader, stream_of};
 ghost use Rattle.nm_topology.specs.TopologyValue.{TopologyValue};
-ghost use Rattle.nm_frames.specs.Session.{SessionValue, new_session};
+ghost use Rattle.nm_frames.specs.Session.{SessionValue, broken, is_there, new_session, taken};
 ghost use Rattle.nm_frames.specs.Lives.{AreConsecutive, HasCursor, Lives, SessionStep, due_after};
 
 /// No frame's octets begin another's.
@@ -50,6 +58,38 @@ pub fn cuts_do_not_matter()
         (fs gs : List Frame) → FeedsAll new_reader [] ps one fs
         → FeedsAll new_reader [] qs other gs → stream_of ps ≡ stream_of qs
         → (fs ≡ gs) × (one ≡ other) }
+{}
+
+/// A session that owes nothing, and has not said Bye, has greeted its peer, has asked for each
+/// channel that comes in, and has told all of each channel for which the peer has asked, its last
+/// promise too; and the book has something left to do, or the peer has not asked for some channel.
+/// So what is there to tell is told.
+pub fn a_silent_session_has_told_all()
+    ensures { (s : SessionValue) (b : BookValue) → owed s b ≡ None → s.bye_given ≡ false
+        → (is_there s.hello_given ≡ true) × AllByRecursion (HasAsked b) s.incoming
+        × AllByRecursion (HasTold b (promising_of s)) s.outgoing
+        × (is_done (net_of b.topology) b.partition (replica_of b) ≡ true
+        → AllByRecursion (IsTold b (promising_of s)) s.outgoing → ⊥) }
+{}
+
+/// Bye comes last, and once: nothing is left for the book to do, and each channel was asked for and
+/// told, its last promise too.
+pub fn bye_comes_last()
+    ensures { (s : SessionValue) (b : BookValue) → owed s b ≡ Some Bye
+        → (s.bye_given ≡ false)
+        × (is_done (net_of b.topology) b.partition (replica_of b) ≡ true)
+        × AllByRecursion (HasAsked b) s.incoming
+        × AllByRecursion (IsTold b (promising_of s)) s.outgoing }
+{}
+
+/// After a Have all that follows is owed, and the promise too, whatever was given before. After a
+/// break nothing counts as said, and the session greets anew.
+pub fn what_was_lost_is_owed_again()
+    ensures asked { (s t : SessionValue) (h : HaveValue) → taken s (Have h) ≡ Ok t
+        → AllByRecursion (IsOwedFrom h.channel h.count) t.outgoing }
+    ensures broken { (s : SessionValue) → AllByRecursion IsUnasked (broken s).incoming
+        × AllByRecursion IsUntold (broken s).outgoing
+        × (is_there (broken s).hello_given ≡ false) × ((broken s).bye_given ≡ false) }
 {}
 
 /// Over any frames taken and given, and breaks, each message that a session gives on a channel has

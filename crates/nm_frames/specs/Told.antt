@@ -1,0 +1,41 @@
+-- What a peer was told, in the words of the book and not of the rules by which a session goes.
+use Rattle.std.specs.Prelude.{◌≡◌, ◌⊎◌, ℕ, ◌<◌, true, false, length, Option, Some, None}
+use Rattle.nm_model.specs.Promise.{Promising}
+use Rattle.nm_book.specs.Book.{BookValue, is_incoming, is_outgoing, null_on, sent_over}
+use Rattle.nm_book.specs.declared.message.Null.{Null as NullMessage}
+use Rattle.nm_frames.specs.declared.side.ChannelIn.{ChannelIn}
+use Rattle.nm_frames.specs.declared.side.ChannelOut.{ChannelOut}
+
+-- the peer was asked for what is not held of this channel, if it comes in
+abbrev pub HasAsked : BookValue → ChannelIn → Type 0
+HasAsked b i = is_incoming b i.channel ≡ true → i.have_given ≡ true
+
+-- the last null message said the same
+abbrev pub HasSaid : Option NullMessage → NullMessage → Type 0
+HasSaid last null = (said : NullMessage) × (last ≡ Some said) × (said.count ≡ null.count) × (said.clock ≡ null.clock)
+
+-- All messages of this channel were given, and the promise of the moment, to a peer that held n of them; one that says that it holds more waits.
+abbrev pub HasToldFrom : BookValue → Promising → ChannelOut → ℕ → Type 0
+HasToldFrom b kind o n =
+    (length (sent_over b o.channel) < n) ⊎ ((n ≡ length (sent_over b o.channel)) × HasSaid o.last_null (null_on kind b o.channel))
+
+-- the same once the peer has said what it holds
+abbrev pub HasTold : BookValue → Promising → ChannelOut → Type 0
+HasTold b kind o = is_outgoing b o.channel ≡ true → (n : ℕ) → o.cursor ≡ Some n → HasToldFrom b kind o n
+
+-- the peer has said what it holds, and all was told
+pub record IsTold (b : BookValue) (kind : Promising) (o : ChannelOut) : Type 0 where
+  pub goes_out : is_outgoing b o.channel ≡ true
+  pub all : o.cursor ≡ Some (length (sent_over b o.channel))
+  pub promise : HasSaid o.last_null (null_on kind b o.channel)
+
+-- the peer holds n messages of this channel, and no null message: all from there on is owed
+abbrev pub IsOwedFrom : ℕ → ℕ → ChannelOut → Type 0
+IsOwedFrom c n o = o.channel ≡ c → (o.cursor ≡ Some n) × (o.last_null ≡ None)
+
+-- nothing was said of this channel yet
+abbrev pub IsUnasked : ChannelIn → Type 0
+IsUnasked i = i.have_given ≡ false
+
+abbrev pub IsUntold : ChannelOut → Type 0
+IsUntold o = (o.cursor ≡ None) × (o.last_null ≡ None)
