@@ -1,6 +1,7 @@
 -- What a pool's done jobs say, as lists of numbers.
 use Rattle.std.proofs.Common.{◌≡◌, ℕ, zero, suc, ◌+◌, ◌-◌, ◌<◌, ◌≤◌, ◌^◌, take, List, [], ◌∷◌, ◌++◌, length, map, get_or, Bool, true, false, cond, refl, sym, ap, ◌∙◌, subst, arith}
-use Rattle.std.specs.Prelude.{slice_index}
+use Rattle.std.specs.Prelude.{slice_get, slice_index, Some, None}
+use Rattle.std.proofs.lemmas.Bool.Decides.{nat_tests}
 use Rattle.std.proofs.lemmas.List.{map-append, length-map, take_more}
 use mathlib.Core.Logic.{dite}
 use native.Mathlib.Decide.{ℕ_discrete}
@@ -16,6 +17,7 @@ use Rattle.nm_book.specs.declared.running.Ran.{Ran}
 use Rattle.nm_book.specs.declared.running.Ran.TheVariants.{All, Limit, Memory}
 use Rattle.nm_shared.specs.Counted.{Rises}
 use Rattle.nm_shared.specs.Known.{ran}
+use Rattle.nm_shared.specs.Pool.{is_answer}
 
 pub index_map : {A : Type 0} (f : A → ℕ) (xs : List A) (k : ℕ) (d : A) (ns : List ℕ) → ns ≡ map f xs → k < length xs → slice_index ns k ≡ f (get_or xs k d)
 index_map f xs k d ns e lt = ap (λ l. slice_index l k) e ∙ at f xs k d lt
@@ -45,6 +47,18 @@ run_within limit b (All n) c h = let most = advance_most b.topology b.partition 
 run_within limit b (Limit n) c h = omega (arith, h.run.2)
 run_within limit b (Memory n) c h = omega (arith, h.run.2)
 
+-- its answer is one to its limit
+pub answer_is : (limit : ℕ) (b : BookValue) (r : Ran) (c : BookValue) → Runs b c limit r → is_answer limit r ≡ true
+answer_is limit b (All n) c h = let most = run_within limit b (All n) c h in grind (arith, nat_tests, most)
+answer_is limit b (Limit n) c h = let same = h.run.2 in grind (arith, nat_tests, same)
+answer_is limit b (Memory n) c h = let low = h.run.2 in grind (arith, nat_tests, low)
+
+-- and so within it
+pub answer_within : (limit : ℕ) (r : Ran) → is_answer limit r ≡ true → ran r ≤ limit
+answer_within limit (All n) h = grind (arith, nat_tests, h)
+answer_within limit (Limit n) h = grind (arith, nat_tests, h)
+answer_within limit (Memory n) h = grind (arith, nat_tests, h)
+
 pub counted_is : (exact : Bool) (limit : ℕ) (b : BookValue) (r : Ran) (c : BookValue) (old new n : ℕ) → Runs b c limit r → old ≡ 0 → Rises exact old (c.events - b.events) new → n ≡ ran r → n < 2 ^ 64 → new ≡ ran r
 counted_is exact limit b r c old new n runs none rises is fits =
     let e = run_adds limit b r c runs in
@@ -62,6 +76,14 @@ map_both f g xs ys x y e is =
     let l : map f (xs ++ x ∷ []) ≡ map f xs ++ f x ∷ [] = map-append f xs (x ∷ []) in
     let r : map g (ys ++ y ∷ []) ≡ map g ys ++ g y ∷ [] = map-append g ys (y ∷ []) in
     l ∙ (λ i. e i ++ is i ∷ []) ∙ sym r
+
+-- what holds of each member at its place holds with one more
+pub all_more : {A : Type 0} (P : ℕ → A → Type 0) (xs : List A) (x : A) → ((j : ℕ) (a : A) → slice_get xs j ≡ Some a → P j a) → P (length xs) x
+    → (j : ℕ) (a : A) → slice_get (xs ++ x ∷ []) j ≡ Some a → P j a
+all_more P [] x all is zero a e = let same : x ≡ a = cc in subst (P 0) same is
+all_more P [] x all is (suc j) a e = absurd (let none : None ≡ Some a = e in cc)
+all_more P (y ∷ xs) x all is zero a e = all zero a e
+all_more P (y ∷ xs) x all is (suc j) a e = all_more (λ n b. P (suc n) b) xs x (λ i b h. all (suc i) b h) is j a e
 
 index_front : (ns : List ℕ) (m j : ℕ) → j < length ns → slice_index (ns ++ m ∷ []) j ≡ slice_index ns j
 index_front [] m j lt = absurd (omega arith)

@@ -1,17 +1,24 @@
 -- How the amounts of a pass rise.
 use Rattle.std.specs.Prelude.{◌≡◌, ℕ, ◌+◌, ◌-◌, ◌^◌, ◌<◌, ◌≤◌, Bool, true, false, []}
-use Rattle.nm_book.specs.Book.{BookValue}
+use Rattle.nm_model.specs.Replica.{IsWithin}
+use Rattle.nm_sim.specs.Network.{net_of}
+use Rattle.nm_book.specs.Book.{BookValue, knowledge}
 use Rattle.nm_shared.specs.Known.{Grows, HasAllChannels, Home, home_of, messages_known}
 
 -- n is added to a; where counts aren't exact, only if the sum fits 64 bits
 abbrev pub Rises : Bool → ℕ → ℕ → ℕ → Type 0
 Rises exact a n b = (exact ≡ false → a + n < 2 ^ 64) → b ≡ a + n
 
+-- each event that a book did was before its safe time
+abbrev pub RanWithin : BookValue → Type 0
+RanWithin b = IsWithin (net_of b.topology) b.partition (knowledge b) b.events
+
 -- An act took the book b to c in one go, by a pass that had counted m messages and e events, and then m' and e'. The book had at least what the
 -- pass had counted, and the pass then counts what was added.
 pub record Meets (exact : Bool) (own : Home) (m e m' e' : ℕ) (b c : BookValue) : Type 0 where
   pub home : exact ≡ true → home_of b ≡ own
   pub channels : HasAllChannels b
+  pub within : RanWithin b × RanWithin c
   pub grows : Grows b c
   pub at_least : exact ≡ true → (m ≤ messages_known b) × (e ≤ b.events)
   pub messages : Rises exact m (messages_known c - messages_known b) m'

@@ -4,3 +4,4 @@ pub mod Closing
 pub mod Known
 pub mod Counted
 pub mod Growing
+pub mod Pool

@@ -103,11 +103,12 @@ impl<C: Counts> Held<C> {
     /// The book and its totals, where no pass is missing.
     fn close(self, passes: Vec<Pass<C>>) -> Result<Closed, PassesOut<C>>
         requires { C.cut true }
+        ensures book { IfOk result (λ r. r.book ≡ self.book) }
         ensures home { C.exact ≡ true → IfOk result (λ r. home_of r.book ≡ C.home) }
         ensures sums { C.exact ≡ true → IfOk result (λ r.
             (r.messages ≡ sum_by (λ p. C.messages_of p.share) passes.items)
             × (r.events ≡ sum_by (λ p. C.events_of p.share) passes.items)) }
-        ensures missing { IfErr result (λ e. (e.passes.items ≡ passes.items)
+        ensures missing { IfErr result (λ e. (e.held ≡ self) × (e.passes.items ≡ passes.items)
             × (vec_len passes < e.held.made) × (C.parts e.held.rest + e.held.made ≡ 2 ^ 32)) }
     {
         if (passes.len() as u64) < self.made {
@@ -198,6 +199,8 @@ impl<C: Counts> SharedBook<C> {
             (λ _. is_replica (arc_value topology) partition replica ≡ true) }
         ensures no_such { result ≡ Err NoSuch
             → is_replica (arc_value topology) partition replica ≡ false }
+        ensures refused { is_replica (arc_value topology) partition replica ≡ false
+            → result ≡ Err NoSuch }
     {
         let book = Book::new(alloc, topology, partition, replica)?;
         Ok(SharedBook {

@@ -2,6 +2,7 @@
 
 ghost use Rattle.std.specs.Prelude.{◌≡◌, ℕ, ◌<◌, ◌≤◌, length, map, slice_index, vec_len, IfOk, All};
 ghost use Rattle.nm_shared.specs.Known.{ran};
+ghost use Rattle.nm_shared.specs.Pool.{AreAnswers};
 
 mod report;
 mod work;
@@ -90,6 +91,7 @@ fn pool_of<C: Counts, J: Jobs + Send + Sync, G: Gate + Sync, R: Threads + Wait +
     ensures within { IfOk result (λ r. (vec_len r.answers ≡ length jobs.now)
         × ((k : ℕ) → k < length jobs.now
         → slice_index (map ran r.answers.items) k ≤ slice_index J.limits k)) }
+    ensures runs { IfOk result (λ r. AreAnswers J.limits r.answers.items) }
 {
     let mut slots = slots_for(alloc, jobs.len())?;
     let (to, from) = crossbeam_channel::bounded(alloc, QUEUE)?;
@@ -126,8 +128,9 @@ fn pool_of<C: Counts, J: Jobs + Send + Sync, G: Gate + Sync, R: Threads + Wait +
     report_of::<C, J, G, R>(rt, alloc, books, jobs, slots, gate)
 }
 
-/// Does the jobs, by so many threads: one answer for each job, in their order, and a pass for each,
-/// of the job's book, which has counted what the answer says.
+/// Does the jobs, by so many threads: one answer for each job, in their order, as a book gives it
+/// that is asked for at most as many events; and a pass for each, of the job's book, which has
+/// counted what the answer says.
 ///
 /// # Errors
 ///
@@ -149,6 +152,7 @@ pub fn pool<C: Counts, G: Gate + Sync, R: Threads + Wait + Sync>(
     ensures within { IfOk result (λ r. (vec_len r.answers ≡ length jobs.now)
         × ((k : ℕ) → k < length jobs.now → slice_index (map ran r.answers.items) k
         ≤ slice_index (map (λ j. j.limit) jobs.now) k)) }
+    ensures runs { IfOk result (λ r. AreAnswers (map (λ j. j.limit) jobs.now) r.answers.items) }
 {
     pool_of::<C, Brand, G, R>(rt, alloc, books, jobs, workers, gate)
 }

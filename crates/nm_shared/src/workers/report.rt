@@ -2,6 +2,7 @@
 
 ghost use Rattle.std.specs.Prelude.{◌≡◌, ℕ, ◌<◌, ◌≤◌, length, map, slice_index, vec_len, IfOk, All};
 ghost use Rattle.nm_shared.specs.Known.{ran};
+ghost use Rattle.nm_shared.specs.Pool.{AreAnswers};
 
 use super::work::{Done, Jobs, run_one};
 use super::{BookPass, Gate, Job, PoolReport};
@@ -78,6 +79,7 @@ pub(super) fn report_of<C: Counts, J: Jobs, G: Gate, R: Wait>(
     ensures within { IfOk result (λ r. (vec_len r.answers ≡ length jobs.now)
         × ((k : ℕ) → k < length jobs.now
         → slice_index (map ran r.answers.items) k ≤ slice_index J.limits k)) }
+    ensures runs { IfOk result (λ r. AreAnswers J.limits r.answers.items) }
 {
     let mut slots = slots;
     let mut answers = Vec::with_capacity(alloc, jobs.len())?;
