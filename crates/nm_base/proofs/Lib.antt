@@ -1,3 +1,4 @@
 pub mod Numbered
 mod Order
 pub mod Sinks
+pub mod Splits

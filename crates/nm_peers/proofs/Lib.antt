@@ -1,4 +1,3 @@
-mod Splits
 mod Words
 mod Apart
 mod Lines

@@ -9,7 +9,7 @@ use Rattle.nm_base.specs.Text.{HasNo}
 use Rattle.nm_peers.specs.declared.listener.Listener.{Listener}
 use Rattle.nm_peers.specs.Listeners.{Fits, AreListeners, listener_line, listener_words, is_of, is_same}
 use Rattle.nm_peers.proofs.Apart.{apart_before, apart_more, apart_none}
-use Rattle.nm_peers.proofs.Splits.{has_it, not_empty, one_split}
+use Rattle.nm_base.proofs.Splits.{has_it, not_empty, one_split}
 use Rattle.nm_peers.proofs.Words.{no_line_feed, same_words}
 
 -- a line and what follows it, at its line feed

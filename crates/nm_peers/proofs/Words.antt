@@ -16,7 +16,7 @@ use Rattle.std.proofs.NetLemmas.Theorems.{IsIpv4Text_unique}
 use Rattle.nm_base.specs.Text.{HasNo}
 use Rattle.nm_peers.specs.declared.listener.Listener.{Listener}
 use Rattle.nm_peers.specs.Listeners.{Fits, listener_words}
-use Rattle.nm_peers.proofs.Splits.{IsNot, has_it, no_digit, one_split}
+use Rattle.nm_base.proofs.Splits.{IsNot, has_it, no_digit, one_split}
 
 -- an octet that is no digit and no dot, as a line feed, a space and a colon
 abbrev pub IsMark : ℕ → Type 0
