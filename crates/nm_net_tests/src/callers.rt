@@ -19,11 +19,12 @@ use std::sync::ledger::{Blank, Ledger};
 use std::sync::{Arc, Wait};
 use std::thread::{Threads, map_indices};
 
-/// The book of a network's partition 1, with a name of its own.
-fn shared_of<M: Naming + Send + Sync, E: Ledger + Send + Sync, R: Abort>(
+/// The book of a replica of a network's partition 1, with a name of its own.
+pub(crate) fn shared_of<M: Naming + Send + Sync, E: Ledger + Send + Sync, R: Abort>(
     rt: &R,
     alloc: Global,
     topology: Arc<Topology>,
+    replica: u8,
     messages: Blank,
     events: Blank,
 ) -> SharedBook<Ledgers<M, E>>
@@ -34,11 +35,11 @@ fn shared_of<M: Naming + Send + Sync, E: Ledger + Send + Sync, R: Abort>(
     requires home { M.home ≡ record {
       topology = arc_value topology;
       partition = 1;
-      replica = 0;
+      replica = replica;
     } }
 {
     let (counts, whole) = Ledgers::<M, E>::open(messages, events);
-    SharedBook::new(alloc, topology, PartNo::new(1), 0, counts, whole).expect(rt, "a replica")
+    SharedBook::new(alloc, topology, PartNo::new(1), replica, counts, whole).expect(rt, "a replica")
 }
 
 /// What a thread was answered, and what it then saw.
@@ -148,7 +149,7 @@ fn handed_by_many<
       replica = 0;
     } }
 {
-    let shared = shared_of::<M, E, R>(rt, alloc, topology, messages, events);
+    let shared = shared_of::<M, E, R>(rt, alloc, topology, 0, messages, events);
     let told = hand_at_once(rt, alloc, &shared, threads, all);
     let mut passes = Vec::new(alloc);
     let handed = gather(rt, told, &mut passes);
@@ -213,7 +214,7 @@ fn held_back_of<M: Naming + Send + Sync, E: Ledger + Send + Sync, R: Wait + Abor
       replica = 0;
     } }
 {
-    let shared = shared_of::<M, E, R>(rt, alloc, topology, messages, events);
+    let shared = shared_of::<M, E, R>(rt, alloc, topology, 0, messages, events);
     let mut one = shared.pass(rt).expect(rt, "memory");
     let two = shared.pass(rt).expect(rt, "memory");
     let told = shared.accept(rt, &mut one, message);

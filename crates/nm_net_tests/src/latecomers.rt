@@ -1,121 +1,178 @@
 //! A replica that is made anew, and takes in what its sister knows.
 
+ghost use Rattle.std.specs.Prelude.{◌≡◌, ◌^◌};
+ghost use Rattle.std.specs.Arc.{arc_value};
+
+use crate::callers::shared_of;
 use crate::messages::{message, null};
-use crate::sides::{book_of, close, topology_of};
+use crate::sides::topology_of;
 use crate::texts::SPLIT;
-use nm_book::{ChannelMessage, Null, Ran};
+use nm_base::Record;
+use nm_book::{Book, ChannelMessage, Knowledge, Null, Ran};
 use nm_shared::acts::{CopyKnowledge, MakeNull, Merge};
-use nm_shared::{Pass, Plain, SharedBook};
+use nm_shared::counts::PARTS;
+use nm_shared::{Ledgers, Naming, Pass, SharedBook};
 use nm_topology::Topology;
 use std::alloc::Global;
+use std::marker::Brand;
 use std::process::Abort;
+use std::sync::ledger::{Blank, Ledger};
 use std::sync::{Arc, Wait};
 
-/// A locked replica of SPLIT's partition 1, and its one pass.
+/// What a replica came to: its book, the totals of all its passes, and the null message of channel
+/// 0, which goes out.
 #[derive(Drop)]
-struct Replica {
-    shared: SharedBook<Plain>,
-    pass: Pass<Plain>,
+struct Finished {
+    book: Book,
+    messages: u64,
+    events: u64,
+    promise: Option<Null>,
 }
 
-/// A replica that knows nothing.
-fn new_replica<R: Wait + Abort>(
+/// A replica does its one event, and closes with the sums of its passes.
+fn finish<M: Naming + Send + Sync, E: Ledger + Send + Sync, R: Wait + Abort>(
     rt: &R,
     alloc: Global,
-    topology: &Arc<Topology>,
-    number: u8,
-) -> Replica {
-    let shared = book_of(rt, alloc, topology, 1, number);
-    let pass = shared.pass(rt).expect(rt, "memory");
-    Replica { shared, pass }
-}
-
-/// It is told something that is taken.
-fn hears<R: Wait + Abort>(rt: &R, replica: &mut Replica, told: &ChannelMessage) {
-    let answer = replica.shared.accept(rt, &mut replica.pass, told);
-    assert!(rt; answer.is_ok(), "it is taken");
-}
-
-/// It does its one event.
-fn runs<R: Wait + Abort>(rt: &R, alloc: Global, replica: &mut Replica) {
-    let ran = replica.shared.run(rt, &mut replica.pass, alloc, 10);
+    shared: SharedBook<Ledgers<M, E>>,
+    pass: Pass<Ledgers<M, E>>,
+) -> Finished {
+    let mut pass = pass;
+    let ran = shared.run(rt, &mut pass, alloc, 10);
     assert!(rt; matches!(ran, Ran::All(1)), "it does its event");
+    let channel = null(0, 0, 0).channel;
+    let promise = shared.act(rt, &mut pass, MakeNull { channel });
+    let mut passes = Vec::new(alloc);
+    passes.push(pass).expect(rt, "memory");
+    match shared.close(passes) {
+        Ok(closed) => Finished {
+            book: closed.book,
+            messages: closed.messages,
+            events: closed.events,
+            promise,
+        },
+        Err(_) => panic!(rt; "no pass is missing"),
+    }
 }
 
-/// It merges what the other knows.
-fn merges<R: Wait + Abort>(rt: &R, alloc: Global, late: &mut Replica, other: &mut Replica) {
-    let knowledge = other
-        .shared
-        .act(rt, &mut other.pass, CopyKnowledge { alloc })
+/// Replica 0 is told all and does its event: what it came to, and what it knows.
+fn first_of<M: Naming + Send + Sync, E: Ledger + Send + Sync, R: Wait + Abort>(
+    rt: &R,
+    alloc: Global,
+    topology: Arc<Topology>,
+    messages: Blank,
+    events: Blank,
+) -> (Finished, Knowledge)
+    requires messages { (messages.name ≡ M.name) × (messages.parts ≡ M.parts)
+        × (messages.parts ≡ 2 ^ 32) }
+    requires events { (events.name ≡ E.name) × (events.parts ≡ E.parts)
+        × (events.parts ≡ 2 ^ 32) }
+    requires home { M.home ≡ record {
+      topology = arc_value topology;
+      partition = 1;
+      replica = 0;
+    } }
+{
+    let shared = shared_of::<M, E, R>(rt, alloc, topology, 0, messages, events);
+    let mut pass = shared.pass(rt).expect(rt, "memory");
+    let told = [
+        message(rt, alloc, 1, 0, 1_100_000),
+        ChannelMessage::Null(null(1, 1, 2_000_000)),
+    ];
+    for one in &told {
+        assert!(rt; shared.accept(rt, &mut pass, one).is_ok(), "it is taken");
+    }
+    let knowledge = shared
+        .act(rt, &mut pass, CopyKnowledge { alloc })
         .expect(rt, "memory");
-    let merge = Merge {
-        alloc,
-        knowledge: &knowledge,
-    };
-    let answer = late.shared.act(rt, &mut late.pass, merge);
-    assert!(rt; answer.is_ok(), "it is merged");
+    (finish(rt, alloc, shared, pass), knowledge)
 }
 
-/// Its null message of channel 0, which goes out.
-fn promise<R: Wait + Abort>(rt: &R, replica: &mut Replica) -> Option<Null> {
-    let make = MakeNull {
-        channel: null(0, 0, 0).channel,
-    };
-    replica.shared.act(rt, &mut replica.pass, make)
+/// Replica 1 is made, merges what its sister knows, and does its event: what it came to.
+fn second_of<M: Naming + Send + Sync, E: Ledger + Send + Sync, R: Wait + Abort>(
+    rt: &R,
+    alloc: Global,
+    topology: Arc<Topology>,
+    messages: Blank,
+    events: Blank,
+    knowledge: &Knowledge,
+) -> Finished
+    requires messages { (messages.name ≡ M.name) × (messages.parts ≡ M.parts)
+        × (messages.parts ≡ 2 ^ 32) }
+    requires events { (events.name ≡ E.name) × (events.parts ≡ E.parts)
+        × (events.parts ≡ 2 ^ 32) }
+    requires home { M.home ≡ record {
+      topology = arc_value topology;
+      partition = 1;
+      replica = 1;
+    } }
+{
+    let shared = shared_of::<M, E, R>(rt, alloc, topology, 1, messages, events);
+    let mut pass = shared.pass(rt).expect(rt, "memory");
+    let merge = Merge { alloc, knowledge };
+    assert!(rt; shared.act(rt, &mut pass, merge).is_ok(), "it is merged");
+    finish(rt, alloc, shared, pass)
 }
 
-/// Both promise the same.
-fn promise_alike<R: Wait + Abort>(rt: &R, first: &mut Replica, second: &mut Replica) {
-    match (promise(rt, first), promise(rt, second)) {
-        (Some(one), Some(other)) => {
+/// Replica 0 of SPLIT's partition 1, with a name of its own.
+fn first<R: Wait + Abort>(rt: &R, alloc: Global, topology: Arc<Topology>) -> (Finished, Knowledge) {
+    let (messages, events) = (Blank::new(PARTS), Blank::new(PARTS));
+    first_of::<Brand, Brand, R>(rt, alloc, topology, messages, events)
+}
+
+/// Replica 1 of it, with a name of its own.
+fn second<R: Wait + Abort>(
+    rt: &R,
+    alloc: Global,
+    topology: Arc<Topology>,
+    knowledge: &Knowledge,
+) -> Finished {
+    let (messages, events) = (Blank::new(PARTS), Blank::new(PARTS));
+    second_of::<Brand, Brand, R>(rt, alloc, topology, messages, events, knowledge)
+}
+
+/// Whether two records are the same.
+fn is_same(one: &Record, other: &Record) -> bool {
+    one.time == other.time
+        && one.iface == other.iface
+        && one.dir == other.dir
+        && one.packet.octets() == other.packet.octets()
+}
+
+/// Both know and did as much, promise the same, and have the same trace, of one record.
+fn are_alike<R: Abort>(rt: &R, one: &Finished, other: &Finished) {
+    assert!(rt; one.messages == 1 && other.messages == 1, "what they know");
+    assert!(rt; one.events == 1 && other.events == 1, "what they did");
+    match (&one.promise, &other.promise) {
+        (Some(a), Some(b)) => {
             assert!(rt;
-                one.count == other.count && one.clock == other.clock,
-                "they promise alike"
+                a.count == b.count && a.clock == b.clock,
+                "what they promise"
             );
         }
         _ => assert!(rt; false, "channel 0 goes out"),
     }
+    match (one.book.trace(), other.book.trace()) {
+        ([a], [b]) => assert!(rt; is_same(a, b), "their traces"),
+        _ => assert!(rt; false, "each has a record"),
+    }
 }
 
-/// It closes with one message and one event.
-fn closes<R: Wait + Abort>(rt: &R, alloc: Global, replica: Replica) {
-    let Replica { shared, pass } = replica;
-    let closed = close(rt, alloc, shared, pass);
-    assert!(rt;
-        closed.messages == 1 && closed.events == 1,
-        "what it knows and did"
-    );
-}
-
-/// A replica comes late, and does what her sister did.
-fn comes_late<R: Wait + Abort>(
-    rt: &R,
-    alloc: Global,
-    topology: &Arc<Topology>,
-    first: &mut Replica,
-) {
-    let mut second = new_replica(rt, alloc, topology, 1);
-    merges(rt, alloc, &mut second, first);
-    runs(rt, alloc, &mut second);
-    promise_alike(rt, first, &mut second);
-    closes(rt, alloc, second);
-}
-
-/// The first is told all, and does its event.
-fn comes_first<R: Wait + Abort>(rt: &R, alloc: Global, first: &mut Replica) {
-    let data = message(rt, alloc, 1, 0, 1_100_000);
-    hears(rt, first, &data);
-    hears(rt, first, &ChannelMessage::Null(null(1, 1, 2_000_000)));
-    runs(rt, alloc, first);
-}
-
-/// A replica that comes late merges what its sister knows and runs: then it knows and did as much,
-/// and promises the same.
+/// A replica that was let go after its event is made anew. It merges what its sister knows and
+/// runs: then it knows and did as much, promises the same, and has the same trace; and the passes
+/// of each are accounted for.
 #[test]
-fn a_late_replica_does_what_its_sister_did(rt: HostRuntime) {
-    let topology = topology_of(&rt, rt.alloc(), SPLIT);
-    let mut first = new_replica(&rt, rt.alloc(), &topology, 0);
-    comes_first(&rt, rt.alloc(), &mut first);
-    comes_late(&rt, rt.alloc(), &topology, &mut first);
-    closes(&rt, rt.alloc(), first);
+fn a_replica_made_anew_does_what_its_sister_did(rt: HostRuntime) {
+    let alloc = rt.alloc();
+    let topology = topology_of(&rt, alloc, SPLIT);
+    let (one, knowledge) = first(&rt, alloc, topology.clone().expect(&rt, "memory"));
+    let early = second(
+        &rt,
+        alloc,
+        topology.clone().expect(&rt, "memory"),
+        &knowledge,
+    );
+    are_alike(&rt, &one, &early);
+    drop(early);
+    let anew = second(&rt, alloc, topology, &knowledge);
+    are_alike(&rt, &one, &anew);
 }

@@ -4,7 +4,7 @@ use crate::messages::null;
 use crate::sides::{book_of, topology_of};
 use crate::texts::RING;
 use nm_book::{ChannelMessage, Ran};
-use nm_shared::{Gate, Job, Pass, Plain, SharedBook, pool};
+use nm_shared::{Gate, Job, OpenGate, Pass, Plain, SharedBook, pool};
 use std::alloc::Global;
 use std::process::Abort;
 use std::sync::Wait;
@@ -71,6 +71,35 @@ fn run_at_once<R: Threads + Wait + Sync + Abort>(
     assert!(rt; report.answers.len() == 2);
     assert!(rt; is_all(&report.answers[0], 2));
     assert!(rt; is_all(&report.answers[1], 0));
+}
+
+/// Whether a run did so many events, as it was asked for, and some are left.
+fn is_limit(answer: &Ran, count: u64) -> bool {
+    matches!(answer, Ran::Limit(n) if *n == count)
+}
+
+/// Each job runs the book that it names, and does no more events than it asks for.
+#[test]
+fn each_job_runs_its_book(rt: HostRuntime) {
+    let alloc = rt.alloc();
+    let topology = topology_of(&rt, alloc, RING);
+    let books = [
+        book_of(&rt, alloc, &topology, 0, 0),
+        book_of(&rt, alloc, &topology, 0, 1),
+    ];
+    for book in &books {
+        let mut pass = book.pass(&rt).expect(&rt, "memory");
+        tell_both(&rt, book, &mut pass);
+    }
+    let jobs = [
+        Job { book: 1, limit: 10 },
+        Job { book: 0, limit: 1 },
+        Job { book: 0, limit: 10 },
+    ];
+    let report = pool(&rt, alloc, &books, &jobs, 1, &OpenGate).expect(&rt, "memory");
+    assert!(rt; is_all(&report.answers[0], 2));
+    assert!(rt; is_limit(&report.answers[1], 1));
+    assert!(rt; is_all(&report.answers[2], 1));
 }
 
 /// Two workers run two jobs at once.
