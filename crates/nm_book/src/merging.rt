@@ -1,4 +1,4 @@
-//! MergesChannels of what another replica knows.
+//! Merging of what another replica knows.
 
 ghost use Rattle.std.specs.Prelude.{◌≡◌, ℕ, ◌+◌, ◌<◌, true, IfOk, IfSome, List, None, length};
 ghost use Rattle.nm_model.specs.Join.{join_fault};

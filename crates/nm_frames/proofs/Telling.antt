@@ -1,9 +1,8 @@
 -- What a session has told its peer when it owes nothing, and before it says Bye.
-use Rattle.std.proofs.Common.{◌≡◌, ◌⊎◌, inl, inr, ℕ, ◌+◌, ◌<◌, Bool, true, false, not, ◌==◌, ◌&&◌, ◌||◌, cond, nat_lt, nat_eq, List, [], ◌∷◌, length, map, Option, Some, None, Result, Ok, Err, if◌then◌else◌, refl, sym, subst, ap, ap₂, ◌∙◌, arith, true≢false}
+use Rattle.std.proofs.Common.{◌≡◌, inl, inr, ℕ, ◌<◌, Bool, true, false, not, ◌==◌, ◌&&◌, ◌||◌, cond, nat_lt, List, [], ◌∷◌, length, map, Option, Some, None, Ok, Err, refl, sym, subst, ap, ap₂, ◌∙◌, arith, true≢false}
 use Rattle.std.proofs.lemmas.Bool.Decides.{nat_tests}
 use Rattle.std.specs.List.{AllByRecursion, list_all}
 use Rattle.std.specs.Option.{option_map}
-use Rattle.std.specs.Cmp.Lexicographic.{pointwise}
 use Rattle.nm_model.specs.Certificate.{is_done}
 use Rattle.nm_model.specs.Join.{or_else}
 use Rattle.nm_model.specs.Lists.{nth}
@@ -13,10 +12,9 @@ use Rattle.nm_sim.specs.Network.{net_of}
 use Rattle.nm_book.specs.Book.{BookValue, data_from, is_incoming, is_outgoing, null_on, replica_of, sent_over}
 use Rattle.nm_book.specs.declared.message.Null.{Null as NullMessage}
 use Rattle.nm_frames.specs.declared.frame.Frame.{Frame}
-use Rattle.nm_frames.specs.declared.frame.Frame.TheVariants.{Hello, Have, Data, Null, Bye}
+use Rattle.nm_frames.specs.declared.frame.Frame.TheVariants.{Have, Data, Null, Bye}
 use Rattle.nm_frames.specs.declared.frame.Have.{Have as HaveValue}
-use Rattle.nm_frames.specs.declared.session_fault.SessionFault.{SessionFault}
-use Rattle.nm_frames.specs.declared.session_fault.SessionFault.TheVariants.{Order, Topology, Peer, Channel}
+use Rattle.nm_frames.specs.declared.session_fault.SessionFault.TheVariants.{Order, Channel}
 use Rattle.nm_frames.specs.declared.side.ChannelIn.{ChannelIn}
 use Rattle.nm_frames.specs.declared.side.ChannelOut.{ChannelOut}
 use Rattle.nm_frames.specs.Frame.{have_frame}

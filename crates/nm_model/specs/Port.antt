@@ -70,7 +70,7 @@ module _ {P : Type 0} (room : List P → P → Bool) (tx : P → ℕ) where
   port_after [] w = w
   port_after (e ∷ es) w = port_after es (port_turn e w).0
 
-  -- the packets whose transmission transmitting, in that order
+  -- the packets that began to be transmitted, in that order
   abbrev pub transmitted_by : List (PortEvent P) → Port P → List P
   transmitted_by [] w = []
   transmitted_by (e ∷ es) w = option_list (port_turn e w).1 ++ transmitted_by es (port_turn e w).0

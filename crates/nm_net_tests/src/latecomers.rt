@@ -35,7 +35,9 @@ fn finish<M: Naming + Send + Sync, E: Ledger + Send + Sync, R: Wait + Abort>(
     alloc: Global,
     shared: SharedBook<Ledgers<M, E>>,
     pass: Pass<Ledgers<M, E>>,
-) -> Finished {
+) -> Finished
+    requires { (M.parts ≡ 2 ^ 32) × (E.parts ≡ 2 ^ 32) }
+{
     let mut pass = pass;
     let ran = shared.run(rt, &mut pass, alloc, 10);
     assert!(rt; matches!(ran, Ran::All(1)), "it does its event");

@@ -43,7 +43,7 @@ pub struct Process<'a> {
     pub replica: u8,
     /// Those of all replicas that take part, its own among them.
     pub listeners: &'a [Listener],
-    /// After so many polls of 50 ms in a row at which nothing moved it is stalled.
+    /// After so many periods of 50 ms in a row in which nothing moved it is stalled.
     pub idle_limit: u64,
     /// Where it notes how far it is.
     pub progress: &'a Progress,

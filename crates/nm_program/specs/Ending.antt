@@ -31,7 +31,7 @@ module _ {S : Type 0} (taken : S → Option (List ℕ)) (failures : S → ℕ) (
   ProgramEnds (Some (Series topology step subject)) status = EndsSeries taken failures told failed_before failed old new topology step subject status × (made ≡ made_before)
   ProgramEnds (Some (Packets topology source)) status = EndsPackets taken failures told failed_before failed old new topology source status × (made ≡ made_before)
   ProgramEnds (Some (Path topology node address)) status = EndsPath taken failures told failed_before failed old new topology node address status × (made ≡ made_before)
-  ProgramEnds (Some (Run topology folder workers replicas)) status = EndsRun taken failures told failed_before failed old new made_before made topology status
+  ProgramEnds (Some (Run topology folder workers replicas)) status = EndsRun taken failures told failed_before failed old new made_before made topology replicas status
   ProgramEnds (Some (Node topology folder partition replica addresses)) status =
       EndsNode taken failures told failed_before failed old new made_before made topology folder partition replica addresses status
 

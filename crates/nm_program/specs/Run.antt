@@ -6,7 +6,9 @@ use Rattle.nm_topology.specs.TopologyValue.{TopologyValue}
 use Rattle.nm_sim.specs.Records.{totals_of}
 use Rattle.nm_sim.specs.Trace.{IsTraceBefore}
 use Rattle.nm_book.specs.Book.{BookValue}
-use Rattle.nm_rounds.specs.Certify.{AreCertified}
+use Rattle.nm_rounds.specs.Certify.{AreCertified, cert_fault_number}
+use Rattle.nm_rounds.specs.declared.certify.CertFault.{CertFault}
+use Rattle.nm_run.specs.Report.{IsNotCertified}
 use Rattle.nm_command.specs.declared.status.Status.{Status}
 use Rattle.nm_command.specs.declared.status.Status.TheVariants.{Done, Usage, NoInterface, ScriptLine, Step, Rows, Topology, File, Memory, NotCertified, Stalled}
 use Rattle.nm_files.specs.Outputs.{Files}
@@ -24,31 +26,35 @@ pub record SaysCertified (text octets : List ℕ) : Type 0 where
   pub trace : IsTraceBefore network network.stop records
   pub said : octets ≡ codes "certified\n" ++ iface_lines (λ i. totals_of i records) network
 
+-- this number is that of the first fault which the certificate finds in the books of the run
+abbrev pub HasFault : TopologyValue → ℕ → ℕ → Type 0
+HasFault network replicas n = (fault : CertFault) × IsNotCertified network replicas fault × (n ≡ cert_fault_number fault)
+
 -- the endings of a run that was begun and has no report; a run that is not certified leaves what the names of its files had
-abbrev pub StopsRun : Option Files → Option Files → Status → Type 0
-StopsRun before after Done = ⊥
-StopsRun before after Usage = ⊥
-StopsRun before after NoInterface = ⊥
-StopsRun before after (ScriptLine n) = ⊥
-StopsRun before after (Step n) = ⊥
-StopsRun before after (Rows n) = ⊥
-StopsRun before after (Topology refusal) = ⊥
-StopsRun before after File = Unit {0}
-StopsRun before after Memory = Unit {0}
-StopsRun before after (NotCertified n) = after ≡ before
-StopsRun before after Stalled = after ≡ before
+abbrev pub StopsRun : TopologyValue → ℕ → Option Files → Option Files → Status → Type 0
+StopsRun network replicas before after Done = ⊥
+StopsRun network replicas before after Usage = ⊥
+StopsRun network replicas before after NoInterface = ⊥
+StopsRun network replicas before after (ScriptLine n) = ⊥
+StopsRun network replicas before after (Step n) = ⊥
+StopsRun network replicas before after (Rows n) = ⊥
+StopsRun network replicas before after (Topology refusal) = ⊥
+StopsRun network replicas before after File = Unit {0}
+StopsRun network replicas before after Memory = Unit {0}
+StopsRun network replicas before after (NotCertified n) = HasFault network replicas n × (after ≡ before)
+StopsRun network replicas before after Stalled = after ≡ before
 
 -- it is said once it is certified
 abbrev pub SaysRun : List ℕ → Status → List ℕ → Type 0
 SaysRun text status octets = (status ≡ Done) × SaysCertified text octets
 
 -- why nothing is said of an input: there is no network, and no file was made; or it is that of a network, whose run stopped
-abbrev pub FailsRun : Option (List ℕ) → ℕ → ℕ → Option Files → Option Files → Status → Type 0
-FailsRun told failed_before failed made_before made status = (FailsOfInput told failed_before failed IsRefused status × (made ≡ made_before))
-    ⊎ ((network : TopologyValue) × HasTopology told network × StopsRun made_before made status)
+abbrev pub FailsRun : ℕ → Option (List ℕ) → ℕ → ℕ → Option Files → Option Files → Status → Type 0
+FailsRun replicas told failed_before failed made_before made status = (FailsOfInput told failed_before failed IsRefused status × (made ≡ made_before))
+    ⊎ ((network : TopologyValue) × HasTopology told network × StopsRun network replicas made_before made status)
 
 -- What each status says. Files are made once the books are certified; what is in them is not said.
 module _ {S : Type 0} (taken : S → Option (List ℕ)) (failures : S → ℕ) (told : List ℕ → Option (List ℕ)) (failed_before failed : ℕ) (old new : S) (made_before made : Option Files) where
-  abbrev pub EndsRun : List ℕ → Status → Type 0
-  EndsRun topology status =
-      EndsWord taken failures old new (SaysOfInput (told topology) SaysRun) (FailsRun (told topology) failed_before failed made_before made) status
+  abbrev pub EndsRun : List ℕ → ℕ → Status → Type 0
+  EndsRun topology replicas status =
+      EndsWord taken failures old new (SaysOfInput (told topology) SaysRun) (FailsRun replicas (told topology) failed_before failed made_before made) status

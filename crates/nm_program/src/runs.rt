@@ -6,12 +6,13 @@ ghost use Rattle.std.specs.Arc.{arc_value};
 ghost use Rattle.nm_base.specs.declared.record.Record.{Record as TraceRecord};
 ghost use Rattle.nm_base.specs.declared.limits.TheConstants.{MAX_WORKERS};
 ghost use Rattle.nm_files.specs.Outputs.{Files};
-ghost use Rattle.nm_run.specs.Faults.{IsOfFiles};
+ghost use Rattle.nm_run.specs.Faults.{HasReason, IsOfFiles};
 ghost use Rattle.nm_run.specs.Report.{AreTotals, IsCertifiedRun};
 ghost use Rattle.nm_sim.specs.Records.{totals_of};
 ghost use Rattle.nm_sim.specs.Trace.{IsTraceBefore};
 ghost use Rattle.nm_topology.specs.PartValues.{IfaceValue};
 ghost use Rattle.nm_topology.specs.Topology.{topology_of};
+ghost use Rattle.nm_topology.specs.TopologyValue.{TopologyValue};
 ghost use Rattle.nm_words.specs.Input.{text_of};
 ghost use Rattle.nm_words.specs.Lines.{iface_line, iface_lines};
 ghost use Rattle.nm_words.specs.Output.{SaysOfInput};
@@ -81,8 +82,9 @@ fn run_text(
 
 /// What the fault of a run is to the program.
 fn status_of(fault: RunFault) -> Status
-    ensures { (before after : Option Files) → (IsOfFiles fault ⊎ (after ≡ before))
-        → StopsRun before after result }
+    ensures { (network : TopologyValue) (replicas : ℕ) (before after : Option Files)
+        → HasReason network replicas fault → (IsOfFiles fault ⊎ (after ≡ before))
+        → StopsRun network replicas before after result }
 {
     match fault {
         RunFault::File { .. } | RunFault::Net => Status::File,
@@ -126,7 +128,8 @@ where
     ensures said { IfOk result (λ output. (text : List ℕ)
         → topology_of text ≡ Ok (arc_value network.now)
         → SaysRun text output.status output.text.items) }
-    ensures fault { IfErr result (StopsRun (F.made outputs.old) (F.made outputs.new)) }
+    ensures fault { IfErr result (StopsRun (arc_value network.now) words.now.replicas
+        (F.made outputs.old) (F.made outputs.new)) }
 {
     if words.folder.is_empty() {
         return Err(Status::File); // its files would stand at the root
@@ -165,7 +168,7 @@ where
     ensures said { IfOk result (λ output. SaysOfInput
         (text_of I.standard_text I.file_text inputs.old.inputs words.now.topology.now)
         SaysRun output.status output.text.items) }
-    ensures fault { IfErr result (λ status. FailsRun
+    ensures fault { IfErr result (λ status. FailsRun words.now.replicas
         (text_of I.standard_text I.file_text inputs.old.inputs words.now.topology.now)
         inputs.old.failures inputs.new.failures
         (F.made outputs.old) (F.made outputs.new) status) }
@@ -196,7 +199,8 @@ where
     ensures { EndsRun O.taken O.failures
         (text_of I.standard_text I.file_text inputs.old.inputs)
         inputs.old.failures inputs.new.failures
-        out result.1 (F.made outputs.old) (F.made outputs.new) words.now.topology.now result.0 }
+        out result.1 (F.made outputs.old) (F.made outputs.new) words.now.topology.now
+        words.now.replicas result.0 }
 {
     end(run_said(means, words, inputs, outputs), out)
 }

@@ -1,15 +1,18 @@
 -- What a run comes to.
-use Rattle.std.specs.Prelude.{◌≡◌, ℕ, List, length, slice_get, Option, Some, None}
+use Rattle.std.specs.Prelude.{◌≡◌, ℕ, ◌+◌, ◌*◌, ◌<◌, List, length, slice_get, Option, Some, None, Result, Ok, Err}
 use Rattle.nm_base.specs.declared.record.Record.{Record}
 use Rattle.nm_topology.specs.TopologyValue.{TopologyValue}
 use Rattle.nm_sim.specs.Records.{totals_of}
 use Rattle.nm_sim.specs.Trace.{IsTraceBefore}
 use Rattle.nm_book.specs.Book.{BookValue}
-use Rattle.nm_rounds.specs.Certify.{AreCertified}
+use Rattle.nm_rounds.specs.Certify.{AreCertified, Certifies}
+use Rattle.nm_rounds.specs.declared.certify.CertFault.{CertFault}
 use Rattle.nm_net.specs.declared.served.Served.{Served}
 use Rattle.nm_net.specs.declared.served.Served.TheVariants as served
 use Rattle.nm_run.specs.declared.fault.RunFault.{RunFault}
-use Rattle.nm_run.specs.declared.fault.RunFault.TheVariants.{File, Net, Memory, Stalled}
+use Rattle.nm_run.specs.declared.fault.RunFault.TheVariants.{File, Net, Memory, NotCertified, Stalled}
+use Rattle.nm_run.specs.declared.stop.Stop.{Stop}
+use Rattle.nm_run.specs.declared.stop.Stop.TheVariants as stop
 use Rattle.nm_run.specs.declared.report.IfaceTotals.{IfaceTotals}
 
 -- the totals of an interface are those of its records in the trace of the one event list, over the whole run
@@ -27,10 +30,36 @@ pub record IsCertifiedRun (t : TopologyValue) (found : List IfaceTotals) : Type 
   pub certified : AreCertified t books
   pub totals : AreTotals t found
 
--- why a run failed one of whose replicas ended so, if it did
-abbrev pub fault_of : Served → Option RunFault
+-- the book of the replica that has this number, where each partition has so many replicas: by partition and replica
+pub record IsPlaced (replicas number : ℕ) (b : BookValue) : Type 0 where
+  pub replica : b.replica < replicas
+  pub number_is : number ≡ b.partition * replicas + b.replica
+
+abbrev pub ArePlaced : ℕ → List BookValue → Type 0
+ArePlaced replicas books = (i : ℕ) (b : BookValue) → slice_get books i ≡ Some b → IsPlaced replicas i b
+
+-- the books of a run: one of each replica, in their order
+pub record AreOfRun (t : TopologyValue) (replicas : ℕ) (books : List BookValue) : Type 0 where
+  pub count : length books ≡ t.partitions * replicas
+  pub placed : ArePlaced replicas books
+
+-- the books of a run were compared, and this is the first fault that the certificate found
+abbrev pub IsNotCertified : TopologyValue → ℕ → CertFault → Type 0
+IsNotCertified t replicas fault = (books : List BookValue) × AreOfRun t replicas books × Certifies t books (Err fault)
+
+-- what the certificate says of books, as the fault of a run; or memory was refused
+abbrev pub CertifiesRun : TopologyValue → List BookValue → Result Unit RunFault → Type 0
+CertifiesRun t books (Ok u) = AreCertified t books
+CertifiesRun t books (Err (File iface written)) = ⊥
+CertifiesRun t books (Err Net) = ⊥
+CertifiesRun t books (Err Memory) = Unit {0}
+CertifiesRun t books (Err (NotCertified fault)) = Certifies t books (Err fault)
+CertifiesRun t books (Err (Stalled polls)) = ⊥
+
+-- why a run stops one of whose replicas ended so, if it does
+abbrev pub fault_of : Served → Option Stop
 fault_of served.Ended = None
-fault_of served.Net = Some Net
-fault_of served.Memory = Some Memory
-fault_of (served.File iface written) = Some (File iface written)
-fault_of (served.Stalled polls) = Some (Stalled polls)
+fault_of served.Net = Some stop.Net
+fault_of served.Memory = Some stop.Memory
+fault_of (served.File iface written) = Some (stop.File iface written)
+fault_of (served.Stalled polls) = Some (stop.Stalled polls)

@@ -1,11 +1,14 @@
 //! The books of a run that is over, with all passes back.
 
-ghost use Rattle.std.specs.Prelude.{OnOk};
-ghost use Rattle.nm_rounds.specs.Certify.{AreCertified};
+ghost use Rattle.std.specs.Prelude.{◌≡◌, IfOk, true};
+ghost use Rattle.std.specs.Arc.{arc_value};
+ghost use Rattle.nm_run.specs.Report.{AreOfRun, ArePlaced, CertifiesRun, IsPlaced};
 
 use crate::dispatching::Dispatcher;
 use crate::fault::RunFault;
+use crate::run::RunPlan;
 use crate::sides::SideEnd;
+use crate::stop::Stop;
 use nm_book::Book;
 use nm_files::TraceFiles;
 use nm_net::Holdings;
@@ -101,22 +104,53 @@ fn gather_jobs(passes: &mut Passes, dispatcher: Dispatcher) -> Result<(), AllocE
     Ok(())
 }
 
+/// Whether a book is that of the replica which has this number among so many replicas of each
+/// partition.
+fn is_placed(book: &Book, replicas: u8, number: usize) -> bool
+    ensures { result ≡ true → IsPlaced replicas number book.now }
+{
+    let first = book.partition().index() * replicas as usize;
+    book.replica() < replicas && number == first + book.replica() as usize
+}
+
+/// Closes a book, which is to be that of the replica of this number.
+fn close_one(
+    book: SharedBook<Plain>,
+    passes: Vec<Pass<Plain>>,
+    replicas: u8,
+    number: usize,
+) -> Result<Book, Stop>
+    ensures { IfOk result (IsPlaced replicas number) }
+{
+    let Ok(closed) = book.close(passes) else {
+        return Err(Stop::IMPOSSIBLE);
+    };
+    if !is_placed(&closed.book, replicas, number) {
+        return Err(Stop::IMPOSSIBLE);
+    }
+    Ok(closed.book)
+}
+
 /// Closes all books.
 ///
 /// # Errors
 ///
-/// `IMPOSSIBLE` where a pass is missing. `Memory` where memory was refused.
+/// `IMPOSSIBLE` where a pass is missing, or a book is not that of the replica at its place.
+/// `Memory` where memory was refused.
 fn close_books(
     alloc: Global,
     books: Vec<SharedBook<Plain>>,
     passes: &mut Passes,
-) -> Result<Vec<Book>, RunFault> {
+    replicas: u8,
+) -> Result<Vec<Book>, Stop>
+    ensures { IfOk result (λ closed. ArePlaced replicas closed.items) }
+{
     let mut closed = Vec::new(alloc);
-    for (number, book) in books.into_iter().enumerate() {
-        match book.close(passes.take(alloc, number)) {
-            Ok(one) => closed.push(one.book)?,
-            Err(_) => return Err(RunFault::IMPOSSIBLE),
-        }
+    for book in books {
+        let number = closed.len();
+        let own = passes.take(alloc, number);
+        let one = close_one(book, own, replicas, number)?;
+        closed.push(one)?;
     }
     Ok(closed)
 }
@@ -124,14 +158,22 @@ fn close_books(
 /// The books and the trace files of a run that is over.
 pub(crate) fn close_run<S: Drop>(
     alloc: Global,
+    plan: &RunPlan<'_>,
     books: Vec<SharedBook<Plain>>,
     ends: Vec<SideEnd<S>>,
     dispatcher: Dispatcher,
-) -> Result<(Vec<Book>, Vec<TraceFiles<S>>), RunFault> {
+) -> Result<(Vec<Book>, Vec<TraceFiles<S>>), Stop>
+    ensures { IfOk result
+        (λ run. AreOfRun (arc_value plan.now.topology.now) plan.now.replicas run.0.items) }
+{
     let mut passes = Passes::new(alloc, books.len())?;
     let files = gather_sides(alloc, &mut passes, ends)?;
     gather_jobs(&mut passes, dispatcher)?;
-    Ok((close_books(alloc, books, &mut passes)?, files))
+    let closed = close_books(alloc, books, &mut passes, plan.replicas)?;
+    if closed.len() != plan.topology.partitions() as usize * plan.replicas as usize {
+        return Err(Stop::IMPOSSIBLE);
+    }
+    Ok((closed, files))
 }
 
 /// Certifies all books.
@@ -144,11 +186,13 @@ pub(crate) fn certify_all(
     topology: &Topology,
     books: &[Book],
 ) -> Result<(), RunFault>
-    ensures { OnOk result (AreCertified topology.now books.now) }
+    ensures { CertifiesRun topology.now books.now result }
 {
     let mut all = Vec::new(alloc);
     for number in 0..books.len() {
-        all.push(&books[number])?;
+        if all.push(&books[number]).is_err() {
+            return Err(RunFault::Memory);
+        }
     }
     match certify(topology, all.as_slice()) {
         Ok(()) => Ok(()),

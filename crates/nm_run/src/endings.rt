@@ -3,20 +3,20 @@
 ghost use Rattle.std.specs.Prelude.{◌≡◌};
 ghost use Rattle.nm_run.specs.Report.{fault_of};
 
-use crate::fault::RunFault;
 use crate::sides::SideEnd;
+use crate::stop::Stop;
 use nm_net::Served;
 
 /// Why a run failed one of whose replicas ended so, if it did.
-fn fault_of(served: Served) -> Option<RunFault>
+fn fault_of(served: Served) -> Option<Stop>
     ensures { result ≡ fault_of served }
 {
     match served {
         Served::Ended => None,
-        Served::Net => Some(RunFault::Net),
-        Served::Memory => Some(RunFault::Memory),
-        Served::File { iface, written } => Some(RunFault::File { iface, written }),
-        Served::Stalled { polls } => Some(RunFault::Stalled { polls }),
+        Served::Net => Some(Stop::Net),
+        Served::Memory => Some(Stop::Memory),
+        Served::File { iface, written } => Some(Stop::File { iface, written }),
+        Served::Stalled { polls } => Some(Stop::Stalled { polls }),
     }
 }
 
@@ -26,11 +26,11 @@ fn fault_of(served: Served) -> Option<RunFault>
 ///
 /// Why one was not. The first that failed told the others to end, which is `Net` to them, so any
 /// other fault comes before that one.
-pub(crate) fn check_endings<S>(ends: &[SideEnd<S>]) -> Result<(), RunFault> {
+pub(crate) fn check_endings<S>(ends: &[SideEnd<S>]) -> Result<(), Stop> {
     let mut outcome = Ok(());
     for end in ends {
         if let Some(fault) = fault_of(end.served) {
-            if fault != RunFault::Net {
+            if fault != Stop::Net {
                 return Err(fault);
             }
             outcome = Err(fault);

@@ -1,13 +1,11 @@
 //! Why a run has no report.
 
 ghost use Rattle.std.specs.Prelude.{◌≡◌};
-ghost use Rattle.nm_run.specs.declared.fault.RunFault.TheVariants.{Memory};
+ghost use Rattle.nm_run.specs.Faults.{run_fault};
 
+use crate::stop::Stop;
 use nm_base::IfaceNo;
-use nm_files::{FileFault, FilesFault};
 use nm_rounds::certify::CertFault;
-use std::alloc::{AllocError, AllocFailed};
-use std::io::{self, ErrorKind};
 use thiserror::Error;
 
 /// Why a run has no report. No trace file has its name then, but where one was refused its name
@@ -20,7 +18,7 @@ pub enum RunFault {
     #[error("a trace file failed after {written} octets")]
     File { iface: IfaceNo, written: u64 },
     /// No replica can listen or wait, one was told what cannot be, or the gate said so. It is also
-    /// the fault of what cannot happen (`IMPOSSIBLE`).
+    /// the fault of what cannot happen (`Stop::IMPOSSIBLE`).
     #[error("the network failed")]
     Net,
     /// Memory was refused.
@@ -34,43 +32,15 @@ pub enum RunFault {
     Stalled { polls: u64 },
 }
 
-impl RunFault {
-    /// What the code rules out, and no contract does: no book, pass or address at an index that
-    /// was made with it.
-    pub(crate) const IMPOSSIBLE: RunFault = RunFault::Net;
-}
+impl From<Stop> for RunFault {
+    ghost from_gives = { λ s f. f ≡ run_fault s };
 
-impl From<AllocError> for RunFault {
-    ghost from_gives = { λ _ f. f ≡ Memory };
-
-    fn from(_: AllocError) -> Self {
-        RunFault::Memory
-    }
-}
-
-impl<T: Drop> From<AllocFailed<T>> for RunFault {
-    ghost from_gives = { λ _ f. f ≡ Memory };
-
-    fn from(_: AllocFailed<T>) -> Self {
-        RunFault::Memory
-    }
-}
-
-impl From<io::Error> for RunFault {
-    fn from(error: io::Error) -> Self {
-        if error.kind() == ErrorKind::OutOfMemory {
-            RunFault::Memory
-        } else {
-            RunFault::Net
-        }
-    }
-}
-
-impl From<FilesFault> for RunFault {
-    fn from(fault: FilesFault) -> Self {
-        match fault {
-            FilesFault::File(FileFault { iface, written }) => RunFault::File { iface, written },
-            FilesFault::Memory => RunFault::Memory,
+    fn from(stop: Stop) -> Self {
+        match stop {
+            Stop::File { iface, written } => RunFault::File { iface, written },
+            Stop::Net => RunFault::Net,
+            Stop::Memory => RunFault::Memory,
+            Stop::Stalled { polls } => RunFault::Stalled { polls },
         }
     }
 }

@@ -2,10 +2,10 @@
 
 ghost use Rattle.std.specs.Prelude.{◌≡◌, ◌<◌, All, IfErr, IfOk, length};
 ghost use Rattle.nm_files.specs.Files.{IsSound};
-ghost use Rattle.nm_run.specs.Faults.{IsOfFiles};
+ghost use Rattle.nm_run.specs.Faults.{IsOfFiles, run_fault};
 
-use crate::fault::RunFault;
 use crate::report::IfaceTotals;
+use crate::stop::Stop;
 use nm_base::{IfaceNo, PartNo};
 use nm_book::channels::partition_of;
 use nm_files::names::name_of;
@@ -29,7 +29,7 @@ fn open_own<F: Outputs>(
     iface: IfaceNo,
     outputs: &mut F,
     files: &mut TraceFiles<F::File>,
-) -> Result<(), RunFault>
+) -> Result<(), Stop>
     requires there { iface < length folder.topology.now.ifaces }
     requires sound { All IsSound files.old.files.items }
     ensures sound { All IsSound files.new.files.items }
@@ -53,7 +53,7 @@ pub(crate) fn open_files<F: Outputs>(
     folder: TraceFolder<'_>,
     partition: PartNo,
     outputs: &mut F,
-) -> Result<TraceFiles<F::File>, RunFault>
+) -> Result<TraceFiles<F::File>, Stop>
     ensures sound { IfOk result (λ f. All IsSound f.files.items) }
     ensures same { F.made outputs.new ≡ F.made outputs.old }
 {
@@ -82,7 +82,7 @@ fn close_one<F: Outputs>(
     written: u64,
     outputs: &mut F,
     files: &mut TraceFiles<F::File>,
-) -> Result<Option<ClosedFile<F::Closed>>, RunFault>
+) -> Result<Option<ClosedFile<F::Closed>>, Stop>
     requires { iface < length folder.topology.now.ifaces }
     ensures { F.made outputs.new ≡ F.made outputs.old }
 {
@@ -108,7 +108,7 @@ pub(crate) fn close_files<F: Outputs>(
     outputs: &mut F,
     files: &mut TraceFiles<F::File>,
     closed: &mut Vec<ClosedFile<F::Closed>>,
-) -> Result<(), RunFault>
+) -> Result<(), Stop>
     requires { length totals.now ≡ length folder.topology.now.ifaces }
     ensures { F.made outputs.new ≡ F.made outputs.old }
 {
@@ -127,8 +127,8 @@ pub(crate) fn close_files<F: Outputs>(
 pub(crate) fn place_files<F: Outputs>(
     outputs: &mut F,
     closed: Vec<ClosedFile<F::Closed>>,
-) -> Result<(), RunFault>
-    ensures { IfErr result IsOfFiles }
+) -> Result<(), Stop>
+    ensures { IfErr result (λ stop. IsOfFiles (run_fault stop)) }
 {
     for one in closed {
         if let Err(fault) = outputs.place(one.file) {
@@ -139,11 +139,11 @@ pub(crate) fn place_files<F: Outputs>(
 }
 
 /// What the fault of a trace file is that had so many octets.
-fn fault_of(fault: OutputFault, iface: IfaceNo, written: u64) -> RunFault
-    ensures { IsOfFiles result }
+fn fault_of(fault: OutputFault, iface: IfaceNo, written: u64) -> Stop
+    ensures { IsOfFiles (run_fault result) }
 {
     match fault {
-        OutputFault::Failed => RunFault::File { iface, written },
-        OutputFault::Memory => RunFault::Memory,
+        OutputFault::Failed => Stop::File { iface, written },
+        OutputFault::Memory => Stop::Memory,
     }
 }

@@ -14,6 +14,7 @@ pub mod report;
 pub mod run;
 mod seats;
 mod sides;
+pub mod stop;
 mod threads;
 
 pub use fault::RunFault;

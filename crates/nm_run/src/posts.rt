@@ -1,6 +1,6 @@
 //! Where the replicas of a run listen, and what wakes them.
 
-use crate::fault::RunFault;
+use crate::stop::Stop;
 use mio::net::TcpListener;
 use mio::{Poll, Token, Waker};
 use nm_base::PartNo;
@@ -56,7 +56,7 @@ fn open_one<R: Net>(
     posts: &mut Posts,
     partition: PartNo,
     replica: u8,
-) -> Result<(), RunFault> {
+) -> Result<(), Stop> {
     let (socket, listener) = listen(net, partition, replica)?;
     let (poll, waker) = woken_poll(net)?;
     posts.posts.push(Post { socket, poll })?;
@@ -75,7 +75,7 @@ pub(crate) fn open_posts<R: Net>(
     alloc: Global,
     partitions: u32,
     replicas: u8,
-) -> Result<Posts, RunFault> {
+) -> Result<Posts, Stop> {
     let mut posts = Posts {
         posts: Vec::new(alloc),
         listeners: Vec::new(alloc),

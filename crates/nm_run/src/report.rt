@@ -9,7 +9,7 @@ ghost use Rattle.nm_rounds.specs.SameTopology.{SaysSame};
 ghost use Rattle.nm_run.specs.Report.{AreTotals, IsTotal};
 ghost use Rattle.nm_sim.specs.Network.{net_of};
 
-use crate::fault::RunFault;
+use crate::stop::Stop;
 use nm_base::{IfaceNo, Packet};
 use nm_book::Book;
 use nm_book::channels::partition_of;
@@ -52,7 +52,7 @@ fn totals_in(topology: &Topology, book: &Book, iface: IfaceNo) -> IfaceTotals
 /// # Errors
 ///
 /// `IMPOSSIBLE` where no book is of its partition, which no certified list of books is.
-fn totals_of(topology: &Topology, books: &[Book], iface: IfaceNo) -> Result<IfaceTotals, RunFault>
+fn totals_of(topology: &Topology, books: &[Book], iface: IfaceNo) -> Result<IfaceTotals, Stop>
     requires there { iface < length topology.now.ifaces }
     requires certified { AreCertified topology.now books.now }
     ensures { IfOk result (IsTotal topology.now iface) }
@@ -63,15 +63,11 @@ fn totals_of(topology: &Topology, books: &[Book], iface: IfaceNo) -> Result<Ifac
             return Ok(totals_in(topology, &books[number], iface));
         }
     }
-    Err(RunFault::IMPOSSIBLE)
+    Err(Stop::IMPOSSIBLE)
 }
 
 /// The report of certified books.
-pub(crate) fn report_of(
-    alloc: Global,
-    topology: &Topology,
-    books: &[Book],
-) -> Result<Report, RunFault>
+pub(crate) fn report_of(alloc: Global, topology: &Topology, books: &[Book]) -> Result<Report, Stop>
     requires { AreCertified topology.now books.now }
     ensures { IfOk result (λ report. AreTotals topology.now report.totals.items) }
 {

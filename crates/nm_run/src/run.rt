@@ -3,8 +3,8 @@
 ghost use Rattle.std.specs.Prelude.{◌≡◌, ◌⊎◌, ◌≤◌, All, IfErr, IfOk, length};
 ghost use Rattle.std.specs.Arc.{arc_value};
 ghost use Rattle.nm_files.specs.Files.{IsSound};
-ghost use Rattle.nm_run.specs.Faults.{IsOfFiles};
-ghost use Rattle.nm_run.specs.Report.{IsCertifiedRun};
+ghost use Rattle.nm_run.specs.Faults.{HasReason, IsOfFiles};
+ghost use Rattle.nm_run.specs.Report.{AreOfRun, IsCertifiedRun};
 ghost use Rattle.nm_shared.specs.Board.{IsOwnerOf, IsSeatOf};
 
 use crate::closing::{certify_all, close_run};
@@ -17,6 +17,7 @@ use crate::posts::{Post, Posts, open_posts, woken_poll};
 use crate::report::{Report, report_of};
 use crate::seats::{Dealt, deal};
 use crate::sides::{Role, Side, SideEnd, run_side};
+use crate::stop::Stop;
 use crate::threads::Threaded;
 use mio::{Events, Waker};
 use nm_base::{PartNo, Sink};
@@ -55,18 +56,18 @@ fn share_one(
     topology: &Arc<Topology>,
     partition: PartNo,
     replica: u8,
-) -> Result<SharedBook<Plain>, RunFault> {
+) -> Result<SharedBook<Plain>, Stop> {
     let (counts, whole) = Plain::open();
     let topology = Arc::try_clone(topology)?;
     match SharedBook::new(alloc, topology, partition, replica, counts, whole) {
         Ok(book) => Ok(book),
-        Err(BookFault::NoSuch) => Err(RunFault::IMPOSSIBLE),
-        Err(BookFault::Memory) => Err(RunFault::Memory),
+        Err(BookFault::NoSuch) => Err(Stop::IMPOSSIBLE),
+        Err(BookFault::Memory) => Err(Stop::Memory),
     }
 }
 
 /// Shares the replicas of all partitions.
-fn share_all(alloc: Global, plan: &RunPlan<'_>) -> Result<Vec<SharedBook<Plain>>, RunFault> {
+fn share_all(alloc: Global, plan: &RunPlan<'_>) -> Result<Vec<SharedBook<Plain>>, Stop> {
     let mut books = Vec::new(alloc);
     for partition in 0..plan.topology.partitions() {
         for replica in 0..plan.replicas {
@@ -108,7 +109,7 @@ fn holdings_of<F: Outputs, R: Wait>(
     listener: &Listener,
     seats: Vec<OwnerSeat>,
     outputs: &mut F,
-) -> Result<Holdings<Plain, F::File>, RunFault>
+) -> Result<Holdings<Plain, F::File>, Stop>
     ensures seats { IfOk result (λ h. h.seats ≡ seats) }
     ensures files { IfOk result (λ h. All IsSound h.files.files.items) }
     ensures same { F.made outputs.new ≡ F.made outputs.old }
@@ -153,13 +154,13 @@ fn side_of<F: Outputs, R: Wait>(
     post: Post,
     seats: Vec<OwnerSeat>,
     outputs: &mut F,
-) -> Result<Side<F::File>, RunFault>
+) -> Result<Side<F::File>, Stop>
     ensures seats { IfOk result (λ s. s.holdings.seats ≡ seats) }
     ensures files { IfOk result (λ s. All IsSound s.holdings.files.files.items) }
     ensures same { F.made outputs.new ≡ F.made outputs.old }
 {
     let (Some(listener), Some(book)) = (opened.listeners.get(index), opened.books.get(index)) else {
-        return Err(RunFault::IMPOSSIBLE);
+        return Err(Stop::IMPOSSIBLE);
     };
     let peers = peers_of(
         opened.alloc,
@@ -182,7 +183,7 @@ fn sides_of<F: Outputs, R: Wait>(
     owners: Vec<OwnerSeat>,
     posts: Vec<Post>,
     outputs: &mut F,
-) -> Result<Vec<Side<F::File>>, RunFault>
+) -> Result<Vec<Side<F::File>>, Stop>
     requires { All (IsOwnerOf opened.now.board.now) owners.items }
     ensures sides { IfOk result (λ sides. All (λ s. All (IsOwnerOf opened.now.board.now)
         s.holdings.seats.items × All IsSound s.holdings.files.files.items) sides.items) }
@@ -203,13 +204,13 @@ fn own_and_others(
     opened: &Opened<'_>,
     index: usize,
     owners: Vec<OwnerSeat>,
-) -> Result<(Vec<OwnerSeat>, Vec<OwnerSeat>), RunFault>
+) -> Result<(Vec<OwnerSeat>, Vec<OwnerSeat>), Stop>
     requires { All (IsOwnerOf opened.now.board.now) owners.items }
     ensures own { IfOk result (λ d. All (IsOwnerOf opened.now.board.now) d.0.items) }
     ensures others { IfOk result (λ d. All (IsOwnerOf opened.now.board.now) d.1.items) }
 {
     let Some(listener) = opened.listeners.get(index) else {
-        return Err(RunFault::IMPOSSIBLE);
+        return Err(Stop::IMPOSSIBLE);
     };
     let Dealt { own, others } = deal(
         opened.alloc,
@@ -243,7 +244,8 @@ fn watch_all<R: Wait>(rt: &R, opened: &Opened<'_>) -> Result<Vec<Watched>, Alloc
 }
 
 /// Runs all replicas, each in a thread of its own, and the dispatcher in this one, until all have
-/// ended. The dispatcher alone runs books, and begins when all replicas have begun.
+/// ended. The dispatcher gives the books that are lent to it to the pool, and begins when all
+/// replicas have begun.
 ///
 /// # Errors
 ///
@@ -256,7 +258,7 @@ fn run_threads<S: Sink + Drop + Send, G: Gate + Sync, R>(
     workers: usize,
     sides: Vec<Side<S>>,
     dispatcher: Dispatcher,
-) -> Result<(Vec<SideEnd<S>>, Dispatcher), RunFault>
+) -> Result<(Vec<SideEnd<S>>, Dispatcher), Stop>
 where
     R: Net<Stream = net::TcpStream, Listener = net::TcpListener>
         + Threads
@@ -273,7 +275,7 @@ where
     thread::scope(
         thread::scope_env(),
         rt,
-        move |scope| -> Result<(Vec<SideEnd<S>>, Dispatcher), RunFault>
+        move |scope| -> Result<(Vec<SideEnd<S>>, Dispatcher), Stop>
             requires workers { (1 ≤ workers) × (workers ≤ 64) }
             requires seat { IsSeatOf threaded.now.board.now dispatcher.seat }
             requires sides { All (λ s. All (IsOwnerOf threaded.now.board.now)
@@ -290,11 +292,11 @@ where
                 );
                 let Ok(thread) = begun else {
                     threaded.fail();
-                    return Err(RunFault::Net);
+                    return Err(Stop::Net);
                 };
                 if threads.push(thread).is_err() {
                     threaded.fail();
-                    return Err(RunFault::Memory);
+                    return Err(Stop::Memory);
                 }
             }
             dispatch(rt, alloc, threaded, workers, &mut dispatcher)?;
@@ -312,7 +314,7 @@ fn dispatcher_of<R: Net + Wait>(
     rt: &R,
     opened: &Opened<'_>,
     seat: Seat,
-) -> Result<(Dispatcher, Waker), RunFault>
+) -> Result<(Dispatcher, Waker), Stop>
     ensures { IfOk result (λ d. d.0.seat ≡ seat) }
 {
     let (poll, waker) = woken_poll(rt)?;
@@ -335,7 +337,7 @@ fn run_books<'x, F: Outputs, G: Gate + Sync, R>(
     books: &'x [SharedBook<Plain>],
     outputs: &mut F,
     gate: &'x G,
-) -> Result<(Vec<SideEnd<F::File>>, Dispatcher), RunFault>
+) -> Result<(Vec<SideEnd<F::File>>, Dispatcher), Stop>
 where
     F::File: Send,
     R: Net<Stream = net::TcpStream, Listener = net::TcpListener>
@@ -350,7 +352,7 @@ where
 {
     let (board, owners, mut seats) = ClockBoard::new(alloc, plan.topology)?;
     let Some(seat) = seats.pop() else {
-        return Err(RunFault::IMPOSSIBLE);
+        return Err(Stop::IMPOSSIBLE);
     };
     let Posts {
         posts,
@@ -393,7 +395,7 @@ fn close_all<F: Outputs>(
     report: &Report,
     outputs: &mut F,
     files: Vec<TraceFiles<F::File>>,
-) -> Result<Vec<ClosedFile<F::Closed>>, RunFault>
+) -> Result<Vec<ClosedFile<F::Closed>>, Stop>
     requires { length report.now.totals.items ≡ length (arc_value plan.now.topology.now).ifaces }
     ensures { F.made outputs.new ≡ F.made outputs.old }
 {
@@ -411,6 +413,7 @@ fn close_all<F: Outputs>(
 }
 
 /// Runs all partitions, and closes their trace files once all books are certified.
+#[tactic(auto, using(crate::proofs::Stops::stops_have_reason))]
 fn run_certified<'x, F: Outputs, G: Gate + Sync, R>(
     rt: &R,
     alloc: Global,
@@ -430,12 +433,14 @@ where
     requires { (1 ≤ plan.now.workers) × (plan.now.workers ≤ 64) }
     ensures certified { IfOk result (λ run. IsCertifiedRun (arc_value plan.now.topology.now)
         run.0.totals.items) }
+    ensures refused { IfErr result
+        (HasReason (arc_value plan.now.topology.now) plan.now.replicas) }
     ensures same { F.made outputs.new ≡ F.made outputs.old }
 {
     let shared = share_all(alloc, plan)?;
     let (ends, dispatcher) = run_books(rt, alloc, &*plan, shared.as_slice(), outputs, &*gate)?;
-    let (books, files) = close_run(alloc, shared, ends, dispatcher)?;
-    let report = certified_report(alloc, plan.topology, books.as_slice())?;
+    let (books, files) = close_run(alloc, plan, shared, ends, dispatcher)?;
+    let report = certified_report(alloc, plan.topology, plan.replicas, books.as_slice())?;
     let closed = close_all(alloc, plan, &report, outputs, files)?;
     Ok((report, closed))
 }
@@ -448,8 +453,10 @@ where
 ///
 /// # Errors
 ///
-/// Those of `RunFault`. No file got its name, unless one of them could not get it: those before it
+/// Those of `RunFault`. `NotCertified` has the first fault that the certificate finds in the books
+/// of the run, one of each replica. No file got its name, unless one of them could not get it: those before it
 /// have theirs then.
+#[tactic(auto, using(crate::proofs::Stops::stops_have_reason))]
 pub fn run_all<'x, F: Outputs, G: Gate + Sync, R>(
     rt: &R,
     alloc: Global,
@@ -469,6 +476,8 @@ where
     requires { (1 ≤ plan.now.workers) × (plan.now.workers ≤ 64) }
     ensures certified { IfOk result (λ report. IsCertifiedRun (arc_value plan.now.topology.now)
         report.totals.items) }
+    ensures refused { IfErr result
+        (HasReason (arc_value plan.now.topology.now) plan.now.replicas) }
     ensures kept { IfErr result (λ fault. IsOfFiles fault
         ⊎ (F.made outputs.new ≡ F.made outputs.old)) }
 {
@@ -478,9 +487,18 @@ where
 }
 
 /// The report of books, once they are certified.
-fn certified_report(alloc: Global, topology: &Topology, books: &[Book]) -> Result<Report, RunFault>
-    ensures { IfOk result (λ report. IsCertifiedRun topology.now report.totals.items) }
+#[tactic(auto, using(crate::proofs::Stops::stops_have_reason))]
+fn certified_report(
+    alloc: Global,
+    topology: &Topology,
+    replicas: u8,
+    books: &[Book],
+) -> Result<Report, RunFault>
+    requires { AreOfRun topology.now replicas books.now }
+    ensures certified { IfOk result
+        (λ report. IsCertifiedRun topology.now report.totals.items) }
+    ensures refused { IfErr result (HasReason topology.now replicas) }
 {
     certify_all(alloc, topology, books)?;
-    report_of(alloc, topology, books)
+    Ok(report_of(alloc, topology, books)?)
 }

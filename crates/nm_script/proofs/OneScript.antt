@@ -1,5 +1,5 @@
 -- A text is one script at most.
-use Rattle.std.proofs.Common.{◌≡◌, ℕ, ◌<◌, ◌^◌, ◌==◌, Bool, true, false, List, [], ◌∷◌, ◌++◌, length, map, decimal, codes, Option, Some, None, refl, sym, ap, subst, ◌∙◌, arith, append_assoc}
+use Rattle.std.proofs.Common.{◌≡◌, ℕ, ◌==◌, true, List, [], ◌∷◌, ◌++◌, map, decimal, codes, Some, None, refl, sym, ap, subst, ◌∙◌, arith, append_assoc}
 use Rattle.std.proofs.lemmas.Bool.Decides.{nat_tests}
 use Rattle.std.specs.List.{All, flat_map, onto_first, slice_split}
 use Rattle.std.proofs.lemmas.List.Elements.{All-head, All-tail}
@@ -9,7 +9,7 @@ use Rattle.nm_rounds.specs.declared.step.WorldStep.{WorldStep}
 use Rattle.nm_script.specs.declared.line.Line.{Line}
 use Rattle.nm_script.specs.declared.line.Line.TheVariants.{Skipped, Step}
 use Rattle.nm_script.specs.Grammar.{IsStep, Says, is_idle, words_of}
-use Rattle.nm_script.specs.Script.{AreLines, IsScript, Said, steps_in}
+use Rattle.nm_script.specs.Script.{IsScript, Said, steps_in}
 use Rattle.nm_script.specs.Words.{step_said}
 use Rattle.nm_script.proofs.Parts.{same_numbers}
 use Rattle.nm_script.proofs.Steps.{one_word}

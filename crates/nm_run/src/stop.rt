@@ -1,0 +1,63 @@
+//! Why a run does not come to its end.
+
+ghost use Rattle.std.specs.Prelude.{◌≡◌};
+ghost use Rattle.nm_run.specs.declared.stop.Stop.TheVariants.{Memory};
+
+use nm_base::IfaceNo;
+use nm_files::{FileFault, FilesFault};
+use std::alloc::{AllocError, AllocFailed};
+use std::io::{self, ErrorKind};
+
+/// Why a run has no books that could be compared, or no files.
+#[derive(Clone, Copy, PartialEq, Eq)]
+pub enum Stop {
+    /// The trace file of this interface could not be made, or failed when it had so many octets.
+    File { iface: IfaceNo, written: u64 },
+    /// The network failed, or what cannot happen did (`IMPOSSIBLE`).
+    Net,
+    /// Memory was refused.
+    Memory,
+    /// A replica made so many polls, and the last of them moved nothing.
+    Stalled { polls: u64 },
+}
+
+impl Stop {
+    /// What the code rules out, and no contract does: no book, pass or address at an index that
+    /// was made with it.
+    pub(crate) const IMPOSSIBLE: Stop = Stop::Net;
+}
+
+impl From<AllocError> for Stop {
+    ghost from_gives = { λ _ s. s ≡ Memory };
+
+    fn from(_: AllocError) -> Self {
+        Stop::Memory
+    }
+}
+
+impl<T: Drop> From<AllocFailed<T>> for Stop {
+    ghost from_gives = { λ _ s. s ≡ Memory };
+
+    fn from(_: AllocFailed<T>) -> Self {
+        Stop::Memory
+    }
+}
+
+impl From<io::Error> for Stop {
+    fn from(error: io::Error) -> Self {
+        if error.kind() == ErrorKind::OutOfMemory {
+            Stop::Memory
+        } else {
+            Stop::Net
+        }
+    }
+}
+
+impl From<FilesFault> for Stop {
+    fn from(fault: FilesFault) -> Self {
+        match fault {
+            FilesFault::File(FileFault { iface, written }) => Stop::File { iface, written },
+            FilesFault::Memory => Stop::Memory,
+        }
+    }
+}
