@@ -20,7 +20,7 @@ use Rattle.nm_frames.specs.declared.side.ChannelOut.{ChannelOut}
 use Rattle.nm_frames.specs.Frame.{have_frame}
 use Rattle.nm_frames.specs.Owed.{bye_owed, have_owed, held_on, hello_of, is_cursor, is_last, is_told, message_owed, null_owed, owed, owed_at, promising_of}
 use Rattle.nm_frames.specs.Session.{SessionValue, broken, goes_to_peer, is_there, new_incoming, new_outgoing, restarted, taken, with_channel}
-use Rattle.nm_frames.specs.Told.{HasAsked, HasSaid, HasTold, HasToldFrom, IsOwedFrom, IsTold, IsUnasked, IsUntold}
+use Rattle.nm_frames.specs.Told.{HasAsked, HasSaid, HasTold, HasToldFrom, IsOwedFrom, IsAllTold, IsUnasked, IsUntold}
 
 none_left : {A : Type 0} (o p : Option A) → or_else o p ≡ None → o ≡ None
 none_left None p e = refl
@@ -135,7 +135,7 @@ module _ (b : BookValue) where
         go (Some f) is h more = here (is_outgoing b o.channel) (is ∙ h)
 
     -- the two ways of saying that a channel was told
-    told_is : (o : ChannelOut) → is_told b kind o ≡ true → IsTold b kind o
+    told_is : (o : ChannelOut) → is_told b kind o ≡ true → IsAllTold b kind o
     told_is o e =
         let one = both (is_outgoing b o.channel && is_cursor o.cursor (length (sent_over b o.channel))) (is_last o.last_null (null_on kind b o.channel)) e in
         let two = both (is_outgoing b o.channel) (is_cursor o.cursor (length (sent_over b o.channel))) one.0 in
@@ -145,33 +145,33 @@ module _ (b : BookValue) where
         at None h = absurd (cc)
         at (Some n) h = ap Some (number_is n (length (sent_over b o.channel)) h)
 
-    is_told_so : (o : ChannelOut) → IsTold b kind o → is_told b kind o ≡ true
+    is_told_so : (o : ChannelOut) → IsAllTold b kind o → is_told b kind o ≡ true
     is_told_so o h =
         let at : is_cursor o.cursor (length (sent_over b o.channel)) ≡ true
         = ap (λ z. is_cursor z (length (sent_over b o.channel))) h.all ∙ number_tied (length (sent_over b o.channel)) in
         let said = said_last o.last_null (null_on kind b o.channel) h.promise in
         ap₂ (λ x y. x && y) (ap₂ (λ x y. x && y) h.goes_out at) said
 
-    all_told : (os : List ChannelOut) → list_all (λ o. is_told b kind o) os ≡ true → AllByRecursion (IsTold b kind) os
+    all_told : (os : List ChannelOut) → list_all (λ o. is_told b kind o) os ≡ true → AllByRecursion (IsAllTold b kind) os
     all_told [] e = tt
     all_told (o ∷ os) e = let h = both _ _ e in (told_is o h.0, all_told os h.1)
 
-    all_told_so : (os : List ChannelOut) → AllByRecursion (IsTold b kind) os → list_all (λ o. is_told b kind o) os ≡ true
+    all_told_so : (os : List ChannelOut) → AllByRecursion (IsAllTold b kind) os → list_all (λ o. is_told b kind o) os ≡ true
     all_told_so [] h = refl
     all_told_so (o ∷ os) h = ap₂ (λ x y. x && y) (is_told_so o h.0) (all_told_so os h.1)
 
-    no_bye : (os : List ChannelOut) → bye_owed b kind os ≡ None → is_done (net_of b.topology) b.partition (replica_of b) ≡ true → AllByRecursion (IsTold b kind) os → ⊥
+    no_bye : (os : List ChannelOut) → bye_owed b kind os ≡ None → is_done (net_of b.topology) b.partition (replica_of b) ≡ true → AllByRecursion (IsAllTold b kind) os → ⊥
     no_bye os e done all =
         let due = ap₂ (λ x y. x && y) done (all_told_so os all) in
         let some : Some Bye ≡ None = sym (ap (λ z. cond z (Some Bye) None) due) ∙ e in
         cc
 
     bye_is : (os : List ChannelOut) → bye_owed b kind os ≡ Some Bye
-        → (is_done (net_of b.topology) b.partition (replica_of b) ≡ true) × AllByRecursion (IsTold b kind) os
+        → (is_done (net_of b.topology) b.partition (replica_of b) ≡ true) × AllByRecursion (IsAllTold b kind) os
     bye_is os e = go (is_done (net_of b.topology) b.partition (replica_of b) && list_all (λ o. is_told b kind o) os) refl e
       where
         go : (z : Bool) → (is_done (net_of b.topology) b.partition (replica_of b) && list_all (λ o. is_told b kind o) os) ≡ z → cond z (Some Bye) None ≡ Some Bye
-            → (is_done (net_of b.topology) b.partition (replica_of b) ≡ true) × AllByRecursion (IsTold b kind) os
+            → (is_done (net_of b.topology) b.partition (replica_of b) ≡ true) × AllByRecursion (IsAllTold b kind) os
         go true h g = let t = both _ _ h in (t.0, all_told os t.1)
         go false h g = absurd (cc)
 
@@ -182,7 +182,7 @@ module _ (s : SessionValue) (b : BookValue) where
 
   abbrev Said : Type 0
   Said = (is_there s.hello_given ≡ true) × AllByRecursion (HasAsked b) s.incoming × AllByRecursion (HasTold b (promising_of s)) s.outgoing
-      × (is_done (net_of b.topology) b.partition (replica_of b) ≡ true → AllByRecursion (IsTold b (promising_of s)) s.outgoing → ⊥)
+      × (is_done (net_of b.topology) b.partition (replica_of b) ≡ true → AllByRecursion (IsAllTold b (promising_of s)) s.outgoing → ⊥)
 
   pub quiet : owed s b ≡ None → s.bye_given ≡ false → Said
   quiet e unsaid =
@@ -200,7 +200,7 @@ module _ (s : SessionValue) (b : BookValue) where
 
   abbrev Leaves : Type 0
   Leaves = (s.bye_given ≡ false) × (is_done (net_of b.topology) b.partition (replica_of b) ≡ true) × AllByRecursion (HasAsked b) s.incoming
-      × AllByRecursion (IsTold b (promising_of s)) s.outgoing
+      × AllByRecursion (IsAllTold b (promising_of s)) s.outgoing
 
   pub leaves : owed s b ≡ Some Bye → Leaves
   leaves e = unsaid s.bye_given refl e

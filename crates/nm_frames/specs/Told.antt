@@ -24,7 +24,7 @@ abbrev pub HasTold : BookValue → Promising → ChannelOut → Type 0
 HasTold b kind o = is_outgoing b o.channel ≡ true → (n : ℕ) → o.cursor ≡ Some n → HasToldFrom b kind o n
 
 -- the peer has said what it holds, and all was told
-pub record IsTold (b : BookValue) (kind : Promising) (o : ChannelOut) : Type 0 where
+pub record IsAllTold (b : BookValue) (kind : Promising) (o : ChannelOut) : Type 0 where
   pub goes_out : is_outgoing b o.channel ≡ true
   pub all : o.cursor ≡ Some (length (sent_over b o.channel))
   pub promise : HasSaid o.last_null (null_on kind b o.channel)

@@ -9,7 +9,7 @@ ghost use Rattle.nm_book.specs.Book.{BookValue, replica_of};
 ghost use Rattle.nm_frames.specs.declared.frame.Frame.TheVariants.{Have, Bye};
 ghost use Rattle.nm_frames.specs.declared.frame.Have.{Have as HaveValue};
 ghost use Rattle.nm_frames.specs.Owed.{owed, promising_of};
-ghost use Rattle.nm_frames.specs.Told.{HasAsked, HasTold, IsOwedFrom, IsTold, IsUnasked, IsUntold};
+ghost use Rattle.nm_frames.specs.Told.{HasAsked, HasTold, IsOwedFrom, IsAllTold, IsUnasked, IsUntold};
 ghost use Rattle.nm_frames.specs.declared.frame.Frame.{Frame};
 ghost use Rattle.nm_frames.specs.declared.fault.FrameFault.{FrameFault};
 ghost use Rattle.nm_frames.specs.Frame.{IsFrame, frame_octets};
@@ -69,7 +69,7 @@ pub fn a_silent_session_has_told_all()
         → (is_there s.hello_given ≡ true) × AllByRecursion (HasAsked b) s.incoming
         × AllByRecursion (HasTold b (promising_of s)) s.outgoing
         × (is_done (net_of b.topology) b.partition (replica_of b) ≡ true
-        → AllByRecursion (IsTold b (promising_of s)) s.outgoing → ⊥) }
+        → AllByRecursion (IsAllTold b (promising_of s)) s.outgoing → ⊥) }
 {}
 
 /// Bye comes last, and once: nothing is left for the book to do, and each channel was asked for and
@@ -79,7 +79,7 @@ pub fn bye_comes_last()
         → (s.bye_given ≡ false)
         × (is_done (net_of b.topology) b.partition (replica_of b) ≡ true)
         × AllByRecursion (HasAsked b) s.incoming
-        × AllByRecursion (IsTold b (promising_of s)) s.outgoing }
+        × AllByRecursion (IsAllTold b (promising_of s)) s.outgoing }
 {}
 
 /// After a Have all that follows is owed, and the promise too, whatever was given before. After a

@@ -31,17 +31,17 @@ pub record IsCertifiedRun (t : TopologyValue) (found : List IfaceTotals) : Type 
   pub totals : AreTotals t found
 
 -- the book of the replica that has this number, where each partition has so many replicas: by partition and replica
-pub record IsPlaced (replicas number : ℕ) (b : BookValue) : Type 0 where
+pub record IsInPlace (replicas number : ℕ) (b : BookValue) : Type 0 where
   pub replica : b.replica < replicas
   pub number_is : number ≡ b.partition * replicas + b.replica
 
-abbrev pub ArePlaced : ℕ → List BookValue → Type 0
-ArePlaced replicas books = (i : ℕ) (b : BookValue) → slice_get books i ≡ Some b → IsPlaced replicas i b
+abbrev pub AreInPlace : ℕ → List BookValue → Type 0
+AreInPlace replicas books = (i : ℕ) (b : BookValue) → slice_get books i ≡ Some b → IsInPlace replicas i b
 
 -- the books of a run: one of each replica, in their order
 pub record AreOfRun (t : TopologyValue) (replicas : ℕ) (books : List BookValue) : Type 0 where
   pub count : length books ≡ t.partitions * replicas
-  pub placed : ArePlaced replicas books
+  pub placed : AreInPlace replicas books
 
 -- the books of a run were compared, and this is the first fault that the certificate found
 abbrev pub IsNotCertified : TopologyValue → ℕ → CertFault → Type 0

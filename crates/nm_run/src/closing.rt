@@ -2,7 +2,7 @@
 
 ghost use Rattle.std.specs.Prelude.{◌≡◌, IfOk, true};
 ghost use Rattle.std.specs.Arc.{arc_value};
-ghost use Rattle.nm_run.specs.Report.{AreOfRun, ArePlaced, CertifiesRun, IsPlaced};
+ghost use Rattle.nm_run.specs.Report.{AreOfRun, AreInPlace, CertifiesRun, IsInPlace};
 
 use crate::dispatching::Dispatcher;
 use crate::fault::RunFault;
@@ -106,8 +106,8 @@ fn gather_jobs(passes: &mut Passes, dispatcher: Dispatcher) -> Result<(), AllocE
 
 /// Whether a book is that of the replica which has this number among so many replicas of each
 /// partition.
-fn is_placed(book: &Book, replicas: u8, number: usize) -> bool
-    ensures { result ≡ true → IsPlaced replicas number book.now }
+fn is_in_place(book: &Book, replicas: u8, number: usize) -> bool
+    ensures { result ≡ true → IsInPlace replicas number book.now }
 {
     let first = book.partition().index() * replicas as usize;
     book.replica() < replicas && number == first + book.replica() as usize
@@ -120,12 +120,12 @@ fn close_one(
     replicas: u8,
     number: usize,
 ) -> Result<Book, Stop>
-    ensures { IfOk result (IsPlaced replicas number) }
+    ensures { IfOk result (IsInPlace replicas number) }
 {
     let Ok(closed) = book.close(passes) else {
         return Err(Stop::IMPOSSIBLE);
     };
-    if !is_placed(&closed.book, replicas, number) {
+    if !is_in_place(&closed.book, replicas, number) {
         return Err(Stop::IMPOSSIBLE);
     }
     Ok(closed.book)
@@ -143,7 +143,7 @@ fn close_books(
     passes: &mut Passes,
     replicas: u8,
 ) -> Result<Vec<Book>, Stop>
-    ensures { IfOk result (λ closed. ArePlaced replicas closed.items) }
+    ensures { IfOk result (λ closed. AreInPlace replicas closed.items) }
 {
     let mut closed = Vec::new(alloc);
     for book in books {
