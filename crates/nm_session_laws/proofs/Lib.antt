@@ -1,0 +1,4 @@
+mod Giving
+mod Taking
+mod Sides
+mod Meeting

@@ -1,0 +1,36 @@
+-- Two sessions that talk with each other over a connection which loses nothing.
+use Rattle.std.specs.Prelude.{◌≡◌, ◌≢◌, ℕ, ◌≤◌, true, List, [], ◌∷◌, length, Some, Ok}
+use Rattle.nm_model.specs.Certificate.{is_done}
+use Rattle.nm_sim.specs.Network.{net_of}
+use Rattle.nm_book.specs.Book.{BookValue, is_incoming, is_outgoing, replica_of, sent_over}
+use Rattle.nm_frames.specs.declared.frame.Frame.{Frame}
+use Rattle.nm_frames.specs.Owed.{after_giving, held_on, owed}
+use Rattle.nm_frames.specs.Session.{SessionValue, new_session, taken}
+
+-- which of the two gives a frame
+pub data Turn : Type 0 where
+  First : Turn
+  Second : Turn
+
+-- Turn by turn one session gives the frame that it owes of its book, and the other one takes it. Nobody changes the books meanwhile.
+abbrev pub Talks : BookValue → BookValue → List Turn → SessionValue → SessionValue → SessionValue → SessionValue → Type 0
+Talks a b [] s t last other = (last ≡ s) × (other ≡ t)
+Talks a b (First ∷ turns) s t last other =
+    (f : Frame) × (u : SessionValue) × (owed s a ≡ Some f) × (taken t f ≡ Ok u) × Talks a b turns (after_giving s f) u last other
+Talks a b (Second ∷ turns) s t last other =
+    (f : Frame) × (u : SessionValue) × (owed t b ≡ Some f) × (taken s f ≡ Ok u) × Talks a b turns u (after_giving t f) last other
+
+-- replicas of two partitions of one network, for which nothing is left to do
+pub record AreNeighbours (a b : BookValue) : Type 0 where
+  pub topology : b.topology ≡ a.topology
+  pub apart : a.partition ≢ b.partition
+  pub first_done : is_done (net_of a.topology) a.partition (replica_of a) ≡ true
+  pub second_done : is_done (net_of b.topology) b.partition (replica_of b) ≡ true
+
+-- of each channel that runs from a to b, b holds no more messages than a has sent
+abbrev pub HoldsSent : BookValue → BookValue → Type 0
+HoldsSent a b = (c : ℕ) → is_outgoing a c ≡ true → is_incoming b c ≡ true → held_on b c ≤ length (sent_over a c)
+
+-- the session of replica a with partition b's, of which nothing was said yet
+abbrev pub session_of : BookValue → BookValue → SessionValue
+session_of a b = new_session a.topology a.partition a.replica b.partition

@@ -1,0 +1,20 @@
+//! How two sessions come to their end.
+
+ghost use Rattle.std.specs.Prelude.{◌≡◌, List, None, true};
+ghost use Rattle.nm_book.specs.Book.{BookValue};
+ghost use Rattle.nm_frames.specs.Owed.{owed};
+ghost use Rattle.nm_frames.specs.Session.{SessionValue};
+ghost use Rattle.nm_session_laws.specs.Talking.{AreNeighbours, HoldsSent, Talks, Turn, session_of};
+
+/// Two replicas of neighbouring partitions have nothing left to do, and neither holds messages that
+/// the other one did not send. Their sessions talk over a connection that loses nothing, one frame
+/// at a time, in any order. Where neither has a frame more to give, both have taken Bye. By
+/// `nm_frames::laws::bye_comes_last` each channel was told before, its last promise too: so
+/// whatever two replicas say to each other, they do not fall silent before all is said.
+pub fn both_part_with_bye()
+    ensures { (a b : BookValue) → AreNeighbours a b → HoldsSent a b → HoldsSent b a
+        → (turns : List Turn) (s t : SessionValue)
+        → Talks a b turns (session_of a b) (session_of b a) s t
+        → owed s a ≡ None → owed t b ≡ None
+        → (s.bye_taken ≡ true) × (t.bye_taken ≡ true) }
+{}
