@@ -2,3 +2,4 @@ mod Giving
 mod Taking
 mod Sides
 mod Meeting
+mod Promising

@@ -1,7 +1,11 @@
 //! How two sessions come to their end.
 
-ghost use Rattle.std.specs.Prelude.{◌≡◌, List, None, true};
-ghost use Rattle.nm_book.specs.Book.{BookValue};
+ghost use Rattle.std.specs.Prelude.{◌≡◌, ℕ, ◌+◌, List, None, true};
+ghost use Rattle.nm_model.specs.Certificate.{is_done};
+ghost use Rattle.nm_model.specs.Promise.{Plain};
+ghost use Rattle.nm_sim.specs.Network.{net_of};
+ghost use Rattle.nm_topology.specs.Topology.{receiving_iface};
+ghost use Rattle.nm_book.specs.Book.{BookValue, promise_on, replica_of};
 ghost use Rattle.nm_frames.specs.Owed.{owed};
 ghost use Rattle.nm_frames.specs.Session.{SessionValue};
 ghost use Rattle.nm_session_laws.specs.Talking.{AreNeighbours, HoldsSent, Talks, Turn, session_of};
@@ -17,4 +21,14 @@ pub fn both_part_with_bye()
         → Talks a b turns (session_of a b) (session_of b a) s t
         → owed s a ≡ None → owed t b ≡ None
         → (s.bye_taken ≡ true) × (t.bye_taken ≡ true) }
+{}
+
+/// A replica with nothing left to do promises, with the plain promise of version 1, that nothing
+/// more comes by a channel before `stop` and the delay of its link. So the null message that comes
+/// before Bye says so in either version, since the tight promise is no earlier.
+pub fn a_done_replica_promises_stop()
+    ensures { (b : BookValue) (c : ℕ)
+        → is_done (net_of b.topology) b.partition (replica_of b) ≡ true
+        → promise_on Plain b c ≡ (net_of b.topology).stop
+        + (net_of b.topology).delay ((net_of b.topology).peer (receiving_iface b.topology c)) }
 {}
