@@ -8,7 +8,7 @@ ghost use Rattle.nm_topology.specs.Topology.{receiving_iface};
 ghost use Rattle.nm_book.specs.Book.{BookValue, promise_on, replica_of};
 ghost use Rattle.nm_frames.specs.Owed.{owed};
 ghost use Rattle.nm_frames.specs.Session.{SessionValue};
-ghost use Rattle.nm_session_laws.specs.Talking.{AreNeighbours, HoldsSent, Talks, Turn, session_of};
+ghost use Rattle.nm_replica_laws.specs.Talking.{AreNeighbours, HoldsSent, Talks, Turn, session_of};
 
 /// Two replicas of neighbouring partitions have nothing left to do, and neither holds messages that
 /// the other one did not send. Their sessions talk over a connection that loses nothing, one frame

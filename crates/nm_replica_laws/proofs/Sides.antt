@@ -12,9 +12,9 @@ use Rattle.nm_frames.specs.Owed.{after_giving, held_on, marked, moved_to, owed, 
 use Rattle.nm_frames.specs.Session.{SessionValue, restarted, taken, with_channel}
 use Rattle.nm_frames.specs.Told.{HasAsked}
 use Rattle.nm_frames.proofs.Telling.{leaves}
-use Rattle.nm_session_laws.specs.Talking.{HoldsSent}
-use Rattle.nm_session_laws.proofs.Giving.{data_was_sent, have_holds, not_left}
-use Rattle.nm_session_laws.proofs.Taking.{Keeps, took_bye, took_data, took_have, took_hello, took_null}
+use Rattle.nm_replica_laws.specs.Talking.{HoldsSent}
+use Rattle.nm_replica_laws.proofs.Giving.{data_was_sent, have_holds, not_left}
+use Rattle.nm_replica_laws.proofs.Taking.{Keeps, took_bye, took_data, took_have, took_hello, took_null}
 
 -- A channel from a to b: where b has asked for it, a has a cursor, and a's cursor is within what was sent.
 pub record Pair (a b : BookValue) (i : ChannelIn) (o : ChannelOut) : Type 0 where

@@ -16,8 +16,8 @@ use Rattle.nm_frames.specs.Owed.{owed, promising_of}
 use Rattle.nm_frames.specs.Session.{SessionValue, new_incoming, new_outgoing}
 use Rattle.nm_frames.specs.Told.{HasAsked, HasTold, HasToldFrom, IsAllTold}
 use Rattle.nm_frames.proofs.Telling.{quiet}
-use Rattle.nm_session_laws.specs.Talking.{AreNeighbours, HoldsSent, Talks, Turn, First, Second, session_of}
-use Rattle.nm_session_laws.proofs.Sides.{Pair, Pairs, Way, both_go_on}
+use Rattle.nm_replica_laws.specs.Talking.{AreNeighbours, HoldsSent, Talks, Turn, First, Second, session_of}
+use Rattle.nm_replica_laws.proofs.Sides.{Pair, Pairs, Way, both_go_on}
 
 -- ---- at first
 
