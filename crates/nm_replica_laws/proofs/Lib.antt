@@ -3,3 +3,4 @@ mod Taking
 mod Sides
 mod Meeting
 mod Promising
+mod Calling

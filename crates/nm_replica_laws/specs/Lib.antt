@@ -1,1 +1,2 @@
 pub mod Talking
+pub mod Calls

@@ -3,5 +3,6 @@
 //! contract is a law.
 #![tactic(auto)]
 
+pub mod calls;
 pub mod knowing;
 pub mod talking;
