@@ -3,3 +3,4 @@ pub mod Greeting
 pub mod Endings
 pub mod Polls
 pub mod Recordings
+pub mod Finishing

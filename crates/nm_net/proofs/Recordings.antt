@@ -1,7 +1,8 @@
 -- Records that a replica hands out, and the trace files to which they go.
-use Rattle.std.proofs.Common.{◌≡◌, ℕ, ◌+◌, ◌≤◌, All, List, [], ◌∷◌, ◌++◌, take, drop, slice_get, Option, Some, is_some, if◌then◌else◌, length-drop, refl, sym, ◌∙◌, ap, subst, arith, append-nil}
+use Rattle.std.proofs.Common.{◌≡◌, ℕ, ◌+◌, ◌≤◌, Bool, true, All, List, [], ◌∷◌, ◌++◌, flat_map, length, take, drop, slice_get, Option, Some, is_some, if◌then◌else◌, length-drop, refl, sym, ◌∙◌, ap, subst, arith, append-nil}
+use Rattle.std.proofs.lemmas.Grind.{flat_map-append}
 use Rattle.std.proofs.lemmas.List.{append_assoc, get_or-drop}
-use Rattle.std.proofs.lemmas.List.Elements.{All-drop, All-take}
+use Rattle.std.proofs.lemmas.List.Elements.{All-append, All-cons, All-drop, All-take}
 use Rattle.std.proofs.lemmas.Option.{slice_get_within, get_or_from_slice_get, slice_get-get_or}
 use Rattle.nm_base.specs.declared.limits.TheConstants.{MAX_TIME}
 use Rattle.nm_base.specs.declared.record.Record.{Record}
@@ -10,7 +11,8 @@ use Rattle.nm_files.specs.Files.{IsSound}
 use Rattle.nm_files.proofs.Files.{more_records, no_records}
 use Rattle.nm_files.proofs.Records.{one_more}
 use Rattle.nm_book.specs.Book.{BookValue, state_of}
-use Rattle.nm_net.specs.Recording.{HandsOut, Streams, TakesOut}
+use Rattle.nm_shared.specs.Known.{Home, home_of}
+use Rattle.nm_net.specs.Recording.{AreHandedOut, HandsOut, Streams, TakesOut, out_of}
 
 pub none_out : (b : BookValue) (room : List (Record (List ℕ))) → TakesOut b room b room
 none_out b room =
@@ -50,9 +52,41 @@ handed_times b c room given none hands =
     subst (All (λ r. r.time ≤ MAX_TIME)) (sym (hands.takes.2 ∙ ap (λ z. z ++ take n (drop b.handed records)) none))
     (All-take (λ r. r.time ≤ MAX_TIME) n (drop b.handed records) (All-drop (λ r. r.time ≤ MAX_TIME) b.handed records hands.times))
 
-module _ {S : Type 0} (taken : S → Option (List ℕ)) (failures : S → ℕ) where
-  pub streams_none : (files : List (Option (Writer S))) → All IsSound files → Streams taken failures files files
-  streams_none files sound = ([], no_records taken failures files, sound)
+module _ (exact : Bool) (own : Home) where
+  -- what came into an empty list is a hand-out
+  pub handed_out : (b c : BookValue) (room given : List (Record (List ℕ))) → room ≡ [] → (exact ≡ true → home_of b ≡ own) → TakesOut b room c given
+      → AreHandedOut exact own given
+  handed_out b c room given none home takes =
+      let n = takes.0 in
+      let out = out_of (b, n) in (
+        (b, n) ∷ [],
+        All-cons (λ out'. exact ≡ true → home_of out'.0 ≡ own) (b, n) [] home (λ k d low. absurd (omega (arith, low))),
+        takes.2 ∙ ap (λ z. z ++ out) none ∙ sym (append-nil out),
+      )
 
-  pub streams_more : (old mid new : List (Option (Writer S))) → Streams taken failures old mid → Streams taken failures mid new → Streams taken failures old new
-  streams_more old mid new v w = (v.0 ++ w.0, more_records taken failures v.0 w.0 old mid new v.1 w.1, w.2)
+  handed_more : (xs ys : List (Record (List ℕ))) → AreHandedOut exact own xs → AreHandedOut exact own ys → AreHandedOut exact own (xs ++ ys)
+  handed_more xs ys v w = (
+    v.0 ++ w.0,
+    All-append (λ out. exact ≡ true → home_of out.0 ≡ own) v.0 w.0 v.1 w.1,
+    ap (λ z. z ++ ys) v.2 ∙ ap (λ z. flat_map out_of v.0 ++ z) w.2 ∙ sym (flat_map-append out_of v.0 w.0),
+  )
+
+  module _ {S : Type 0} (taken : S → Option (List ℕ)) (failures : S → ℕ) where
+    pub streams_none : (files : List (Option (Writer S))) → All IsSound files → Streams taken failures exact own files files
+    streams_none files sound =
+        (0, record { records = []; count = refl; handed = ([], (λ k d low. absurd (omega (arith, low))), refl); took = no_records taken failures files; sound = sound })
+
+    pub streams_more : (old mid new : List (Option (Writer S))) → Streams taken failures exact own old mid → Streams taken failures exact own mid new
+        → Streams taken failures exact own old new
+    streams_more old mid new v w =
+        let a = v.1 in
+        let b = w.1 in (
+          length (a.records ++ b.records),
+          record {
+            records = a.records ++ b.records;
+            count = refl;
+            handed = handed_more a.records b.records a.handed b.handed;
+            took = more_records taken failures a.records b.records old mid new a.took b.took;
+            sound = b.sound;
+          },
+        )

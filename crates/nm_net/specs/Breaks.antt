@@ -1,7 +1,6 @@
 -- How serving ends because a connection broke.
 use Rattle.std.specs.Prelude.{◌≡◌, Bool, ◌||◌, Option, Some, None, is_some, Result, Ok, Err}
 use Rattle.nm_engine.specs.declared.answer.Cause.{Cause}
-use Rattle.nm_frames.specs.Session.{SessionValue}
 use Rattle.nm_net.specs.Served.{break_served}
 use Rattle.nm_net.specs.declared.connection.Connection.{Connection}
 use Rattle.nm_net.specs.declared.connection.Remains.{Remains}

@@ -1,13 +1,14 @@
 -- How the serving of a replica ends.
-use Rattle.std.specs.Prelude.{◌≡◌, ◌⊎◌, ℕ, ◌+◌, ◌≤◌, Bool, true, Option, Some, None, if◌then◌else◌}
+use Rattle.std.specs.Prelude.{◌≡◌, ◌⊎◌, ℕ, ◌+◌, ◌≤◌, ◌<◌, Bool, true, false, List, length, slice_index_or, Option, Some, None, if◌then◌else◌}
 use Rattle.nm_engine.specs.declared.answer.Cause.{Cause}
 use Rattle.nm_engine.specs.declared.answer.Cause.TheVariants as cause
 use Rattle.nm_files.specs.declared.trace_files.FilesFault.{FilesFault}
 use Rattle.nm_files.specs.declared.trace_files.FilesFault.TheVariants as fault
-use Rattle.nm_book.specs.Book.{BookValue, replica_of}
+use Rattle.nm_book.specs.Book.{BookValue, replica_of, state_of}
 use Rattle.nm_model.specs.Certificate.{is_done}
 use Rattle.nm_shared.specs.Known.{Home, home_of}
 use Rattle.nm_sim.specs.Network.{net_of}
+use Rattle.nm_net.specs.declared.acts.Standing.{Standing}
 use Rattle.nm_net.specs.declared.served.Served.{Served}
 use Rattle.nm_net.specs.declared.served.Served.TheVariants.{Ended, Net, Memory, File, Stalled}
 use Rattle.nm_net.specs.declared.limits.TheConstants.{MAX_POLLS}
@@ -30,18 +31,30 @@ file_served fault.Memory = Memory
 abbrev pub IsFinished : BookValue → Type 0
 IsFinished b = is_done (net_of b.topology) b.partition (replica_of b) ≡ true
 
--- a book of this replica, if the counts are exact, was seen to be done
-abbrev pub WasFinished : Bool → Home → Type 0
-WasFinished exact own = (b : BookValue) × (exact ≡ true → home_of b ≡ own) × IsFinished b
+-- so far it was when a book of this replica, if the counts are exact, was looked at
+abbrev pub WasSeen : (exact : Bool) → Home → Standing → Type 0
+WasSeen exact own s =
+    (b : BookValue) × (exact ≡ true → home_of b ≡ own) × (s.is_done ≡ is_done (net_of b.topology) b.partition (replica_of b))
+    × (s.handed ≡ b.handed) × (s.records ≡ length (state_of b).records)
 
--- Why serving ends: the replica was done; or no fewer waits ran out than the limit since the transport had had `before`, and it has had `after`, or
--- no more polls may be made.
-abbrev pub EndsWith : Bool → Home → (limit before after : ℕ) → Served → Type 0
-EndsWith exact own limit before after Ended = WasFinished exact own
-EndsWith exact own limit before after Net = Unit {0}
-EndsWith exact own limit before after Memory = Unit {0}
-EndsWith exact own limit before after (File iface written) = Unit {0}
-EndsWith exact own limit before after (Stalled polls) = (before + limit ≤ after) ⊎ (MAX_POLLS ≤ polls)
+-- a book of this replica, if the counts are exact, was seen to be done, and to have no record left to hand out unless it keeps them
+abbrev pub WasFinished : (exact : Bool) → Home → (keeps_records : Bool) → Type 0
+WasFinished exact own keeps =
+    (b : BookValue) × (exact ≡ true → home_of b ≡ own) × IsFinished b × (keeps ≡ false → b.handed ≡ length (state_of b).records)
+
+-- Of each of so many replicas a book was seen to be done. It had done no fewer events than the replica's pass has counted, if the counts are exact.
+abbrev pub WereFinished : (exact : Bool) → (replicas : ℕ) → (counted : List ℕ) → Type 0
+WereFinished exact replicas counted =
+    (n : ℕ) → n < replicas → (b : BookValue) × (exact ≡ true → slice_index_or counted n 0 ≤ b.events) × IsFinished b
+
+-- Why serving ends: the replica was done, and its records were handed out; or no fewer waits ran out than the limit since the transport had had
+-- `before`, and it has had `after`, or no more polls may be made.
+abbrev pub EndsWith : (exact : Bool) → Home → (keeps_records : Bool) → (limit before after : ℕ) → Served → Type 0
+EndsWith exact own keeps limit before after Ended = WasFinished exact own keeps
+EndsWith exact own keeps limit before after Net = Unit {0}
+EndsWith exact own keeps limit before after Memory = Unit {0}
+EndsWith exact own keeps limit before after (File iface written) = Unit {0}
+EndsWith exact own keeps limit before after (Stalled polls) = (before + limit ≤ after) ⊎ (MAX_POLLS ≤ polls)
 
 -- how serving ends where the replica was not seen to be done, and is not stalled
 abbrev pub EndsEarly : Served → Type 0

@@ -1,9 +1,10 @@
 //! What the loop does with a shared book in one go.
 
-ghost use Rattle.std.specs.Prelude.{◌≡◌, ◌+◌, length, Some};
+ghost use Rattle.std.specs.Prelude.{◌≡◌, ◌+◌, length, Some, true};
 ghost use Rattle.nm_book.specs.Book.{replica_of, safe_of, state_of};
 ghost use Rattle.nm_model.specs.Certificate.{is_done};
 ghost use Rattle.nm_net.specs.Recording.{HandsOut, TakesOut};
+ghost use Rattle.nm_net.specs.Served.{IsFinished};
 ghost use Rattle.nm_shared.specs.Growing.{handed_grows, same_grows};
 ghost use Rattle.nm_sim.specs.Network.{net_of};
 
@@ -74,6 +75,22 @@ fn take_out(book: &mut Book, room: &mut Vec<Record>)
     }
 }
 
+/// Whether nothing is left to do, and no record to hand out.
+fn is_handed_out(book: &Book) -> bool
+    ensures { result ≡ true → IsFinished book.now
+        × (book.now.handed ≡ length (state_of book.now).records) }
+{
+    book.done() && book.handed() == book.records()
+}
+
+/// Records that were handed out.
+#[derive(Drop)]
+pub struct HandedOut {
+    pub records: Vec<Record>,
+    /// The book is done, and these were its last.
+    pub is_last: bool,
+}
+
 /// `Book::hand_out`, again and again: takes the first records that are kept out of the trace, as
 /// many as the list has room for, and appends them.
 #[derive(Drop)]
@@ -82,24 +99,28 @@ pub struct HandOutSome {
 }
 
 impl Act for HandOutSome {
-    type Out = Vec<Record>;
+    type Out = HandedOut;
 
-    ghost does = { λ a b r c. HandsOut b a.room.items c r.items };
+    ghost does = { λ a b r c. HandsOut b a.room.items c r.records.items
+        × (r.is_last ≡ true → IsFinished c × (c.handed ≡ length (state_of c).records)) };
 
     ghost news = { λ r. Some 0 };
 
-    fn act(self, book: &mut Book) -> Vec<Record> {
+    fn act(self, book: &mut Book) -> HandedOut {
         records_have_times_of_a_file(book); // law: a trace file can say their times
         let HandOutSome { mut room } = self;
         take_out(book, &mut room);
-        room
+        HandedOut {
+            records: room,
+            is_last: is_handed_out(book),
+        }
     }
 
-    fn learned(_answer: &Vec<Record>) -> Option<u64> {
+    fn learned(_answer: &HandedOut) -> Option<u64> {
         Some(0)
     }
 
-    ghost grows = { λ a b r c h. handed_grows (b.handed + h.takes.0) b c h.takes.1 };
+    ghost grows = { λ a b r c h. handed_grows (b.handed + h.0.takes.0) b c h.0.takes.1 };
 }
 
 /// The channel that comes in whose clock is the least: the one that holds the book back.

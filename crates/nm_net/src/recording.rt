@@ -1,10 +1,11 @@
 //! The records of a replica, written to its trace files while it runs.
 
-ghost use Rattle.std.specs.Prelude.{◌≡◌, All, OnOk, length};
+ghost use Rattle.std.specs.Prelude.{◌≡◌, All, IfOk, OnOk, false, true};
 ghost use Rattle.nm_files.specs.Files.{IsSound};
-ghost use Rattle.nm_net.specs.Recording.{Streams};
+ghost use Rattle.nm_net.specs.Recording.{Streams, Wrote};
+ghost use Rattle.nm_net.specs.Served.{WasFinished};
 
-use crate::acts::HandOutSome;
+use crate::acts::{HandOutSome, HandedOut};
 use crate::limits::{MAX_HAND_OUTS, MAX_HANDED};
 use crate::replica::Service;
 use nm_base::Sink;
@@ -13,11 +14,15 @@ use nm_shared::{Counts, Pass};
 use std::alloc::Global;
 use std::sync::Wait;
 
-/// What writing came to: how many records were written, and whether there may be more.
+/// What writing came to.
 #[derive(Clone, Copy)]
 pub(crate) struct Recorded {
+    /// How many records were written.
     pub written: u64,
+    /// There may be more.
     pub has_more: bool,
+    /// The book is done, and the last of its records was among them.
+    pub is_last: bool,
 }
 
 /// Hands records out under the lock, and writes them outside it.
@@ -29,14 +34,17 @@ fn write_some<C: Counts, S: Sink, R: Wait>(
     files: &mut TraceFiles<S>,
 ) -> Result<Recorded, FilesFault>
     requires { All IsSound files.old.files.items }
-    ensures { OnOk result (Streams S.taken S.failures files.old.files.items files.new.files.items) }
+    ensures wrote { IfOk result (λ r. Wrote S.taken S.failures C.exact C.home r.written
+        files.old.files.items files.new.files.items) }
+    ensures last { IfOk result (λ r. r.is_last ≡ true → WasFinished C.exact C.home false) }
 {
     let room = Vec::with_capacity(alloc, MAX_HANDED)?;
-    let records = service.book.act(rt, pass, HandOutSome { room });
+    let HandedOut { records, is_last } = service.book.act(rt, pass, HandOutSome { room });
     files.put_all(records.as_slice())?;
     Ok(Recorded {
         written: records.len() as u64,
         has_more: records.len() >= MAX_HANDED,
+        is_last,
     })
 }
 
@@ -55,11 +63,14 @@ pub(crate) fn write_records<C: Counts, S: Sink, R: Wait>(
     is_left: bool,
 ) -> Result<Recorded, FilesFault>
     requires { All IsSound files.old.files.items }
-    ensures { OnOk result (Streams S.taken S.failures files.old.files.items files.new.files.items) }
+    ensures streams { OnOk result (Streams S.taken S.failures C.exact C.home
+        files.old.files.items files.new.files.items) }
+    ensures last { IfOk result (λ r. r.is_last ≡ true → WasFinished C.exact C.home false) }
 {
     let mut all = Recorded {
         written: 0,
         has_more: false,
+        is_last: false,
     };
     if service.keeps_records || !is_left {
         return Ok(all);
@@ -68,6 +79,7 @@ pub(crate) fn write_records<C: Counts, S: Sink, R: Wait>(
         let some = write_some(rt, alloc, service, pass, files)?;
         all.written = all.written.saturating_add(some.written);
         all.has_more = some.has_more;
+        all.is_last = some.is_last;
         if !some.has_more {
             return Ok(all);
         }

@@ -117,10 +117,10 @@ pub fn run_replica<C: Counts, S: Sink, T: Transport, G: Gate, R: Wait>(
 ) -> Served
     requires owners { All (IsOwnerOf service.now.board.now) holdings.old.seats.items }
     requires files { All IsSound holdings.old.files.files.items }
-    ensures streams { result ≡ Ended → Streams S.taken S.failures
+    ensures streams { result ≡ Ended → Streams S.taken S.failures C.exact C.home
         holdings.old.files.files.items holdings.new.files.files.items }
-    ensures ends { EndsWith C.exact C.home service.now.idle_limit (T.elapsed_periods transport.old)
-        (T.elapsed_periods transport.new) result }
+    ensures ends { EndsWith C.exact C.home service.now.keeps_records service.now.idle_limit
+        (T.elapsed_periods transport.old) (T.elapsed_periods transport.new) result }
     ensures owners { All (IsOwnerOf service.now.board.now) holdings.new.seats.items }
     ensures seats { length holdings.new.seats.items ≡ length holdings.old.seats.items }
     ensures passes { length holdings.new.passes.items ≡ length holdings.old.passes.items }

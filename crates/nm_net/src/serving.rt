@@ -1,12 +1,12 @@
 //! One poll of a replica, and what follows it.
 
-ghost use Rattle.std.specs.Prelude.{◌≡◌, ◌≤◌, true, All, IfErr, IfOk, OnOk, length};
+ghost use Rattle.std.specs.Prelude.{◌&&◌, ◌==◌, ◌||◌, ◌≡◌, ◌≤◌, true, All, IfErr, IfOk, OnOk, length};
 ghost use Rattle.nm_shared.specs.Board.{IsOwnerOf};
 ghost use Rattle.nm_files.specs.Files.{IsSound};
 ghost use Rattle.nm_net.specs.Lasting.{has_lasted, lasted_after};
 ghost use Rattle.nm_net.specs.Leaving.{LeavesAfter};
 ghost use Rattle.nm_net.specs.Recording.{Streams};
-ghost use Rattle.nm_net.specs.Served.{EndsEarly, WasFinished};
+ghost use Rattle.nm_net.specs.Served.{EndsEarly, WasFinished, WasSeen};
 ghost use Rattle.nm_net.specs.Transport.{elapsed_after};
 
 use crate::acts::{Stand, Standing};
@@ -38,8 +38,6 @@ pub(crate) struct Serving<W> {
     pub moved: u64,
     /// How many events the book had done when it was looked at last.
     events: u64,
-    /// How many of its records were written.
-    recorded: u64,
     /// The book was done when it was looked at last.
     was_done: bool,
     /// How many polls were made.
@@ -113,7 +111,6 @@ impl<W> Serving<W> {
             connections: Connections::new(alloc, service)?,
             moved: 0,
             events: 0,
-            recorded: 0,
             was_done: false,
             polls: 0,
             stay: Stay::new(),
@@ -315,7 +312,7 @@ fn run_book<C: Counts, R: Wait>(
     service: &Service<'_, C>,
     pass: &mut Pass<C>,
 ) -> Result<(Standing, bool), AllocError>
-    ensures { IfOk result (λ s. s.0.is_done ≡ true → WasFinished C.exact C.home) }
+    ensures { IfOk result (λ s. WasSeen C.exact C.home s.0) }
 {
     let mut was_cut = false;
     let limit = own_limit(service);
@@ -344,7 +341,7 @@ fn act_alone<C: Counts, S, R: Wait>(
     holdings: &mut Holdings<C, S>,
     polls: u64,
 ) -> Result<(Standing, bool), AllocError>
-    ensures done { IfOk result (λ s. s.0.is_done ≡ true → WasFinished C.exact C.home) }
+    ensures seen { IfOk result (λ s. WasSeen C.exact C.home s.0) }
     ensures files { holdings.new.files ≡ holdings.old.files }
     ensures seats { holdings.new.seats ≡ holdings.old.seats }
     ensures passes { length holdings.new.passes.items ≡ length holdings.old.passes.items }
@@ -385,7 +382,7 @@ fn serve_and_act<C: Counts, S, T: Transport, R: Wait>(
     ensures files { holdings.new.files ≡ holdings.old.files }
     ensures seats { holdings.new.seats ≡ holdings.old.seats }
     ensures passes { length holdings.new.passes.items ≡ length holdings.old.passes.items }
-    ensures done { IfOk result (λ a. a.standing.is_done ≡ true → WasFinished C.exact C.home) }
+    ensures seen { IfOk result (λ a. WasSeen C.exact C.home a.standing) }
     ensures early { IfErr result EndsEarly }
 {
     let heard = serve_all(
@@ -425,6 +422,14 @@ fn note_news<C: Counts>(service: &Service<'_, C>, has_written: bool, is_newly_do
     }
 }
 
+/// Whether the book was done, and none of its records is left to hand out unless it keeps them.
+fn is_served(standing: &Standing, keeps_records: bool, is_last: bool) -> bool
+    ensures { result ≡ standing.now.is_done
+        && (keeps_records || is_last || standing.now.handed == standing.now.records) }
+{
+    standing.is_done && (keeps_records || is_last || standing.handed == standing.records)
+}
+
 /// One poll, after the gate was asked, and what follows it: the connections have their turns, the
 /// replica does its own part, the board is told, and its records are written.
 ///
@@ -444,11 +449,12 @@ pub(crate) fn poll<C: Counts, S: Sink, T: Transport, R: Wait>(
     ensures owners { All (IsOwnerOf service.now.board.now) holdings.new.seats.items }
     ensures seats { length holdings.new.seats.items ≡ length holdings.old.seats.items }
     ensures passes { length holdings.new.passes.items ≡ length holdings.old.passes.items }
-    ensures streams { OnOk result (Streams S.taken S.failures
+    ensures streams { OnOk result (Streams S.taken S.failures C.exact C.home
         holdings.old.files.files.items holdings.new.files.files.items) }
     ensures idle { IfOk result (λ p. T.elapsed_periods transport.new
         ≡ elapsed_after (T.elapsed_periods transport.old) p.ran_out) }
-    ensures done { IfOk result (λ p. p.is_done ≡ true → WasFinished C.exact C.home) }
+    ensures done { IfOk result (λ p. p.is_done ≡ true
+        → WasFinished C.exact C.home service.now.keeps_records) }
     ensures early { IfErr result EndsEarly }
 {
     let ran_out = await_transport(alloc, service, transport, serving)?;
@@ -467,7 +473,7 @@ pub(crate) fn poll<C: Counts, S: Sink, T: Transport, R: Wait>(
     let may_end = standing.is_done
         && (serving.may_leave(ran_out) || all_are_done(rt, service, &mut holdings.passes));
     // A replica that is done makes no records any more: those that it has are written now.
-    let is_left = standing.records > serving.recorded;
+    let is_left = standing.records > standing.handed;
     let recorded = match write_records(
         rt,
         alloc,
@@ -479,7 +485,6 @@ pub(crate) fn poll<C: Counts, S: Sink, T: Transport, R: Wait>(
         Ok(recorded) => recorded,
         Err(fault) => return Err(file_served(fault)),
     };
-    serving.recorded = serving.recorded.saturating_add(recorded.written);
     note_news(
         service,
         recorded.written > 0,
@@ -493,6 +498,6 @@ pub(crate) fn poll<C: Counts, S: Sink, T: Transport, R: Wait>(
     Ok(Polled {
         ran_out,
         was_active: recorded.written > 0 || moves.octets > 0 || was_run,
-        is_done: may_end && !recorded.has_more,
+        is_done: may_end && is_served(&standing, service.keeps_records, recorded.is_last),
     })
 }

@@ -1,6 +1,7 @@
 //! The other replicas of a run of one process.
 
-ghost use Rattle.std.specs.Prelude.{◌≡◌, length};
+ghost use Rattle.std.specs.Prelude.{◌≡◌, length, map, true};
+ghost use Rattle.nm_net.specs.Served.{WereFinished};
 
 use crate::acts::Stand;
 use crate::replica::{Holdings, Service};
@@ -50,7 +51,9 @@ pub(crate) fn all_are_done<C: Counts, R: Wait>(
     service: &Service<'_, C>,
     passes: &mut Vec<Pass<C>>,
 ) -> bool
-    ensures { length passes.new.items ≡ length passes.old.items }
+    ensures passes { length passes.new.items ≡ length passes.old.items }
+    ensures all { result ≡ true → WereFinished C.exact (length service.now.books.now)
+        (map (λ p. C.events_of p.share) passes.new.items) }
 {
     if service.books.is_empty() || service.books.len() > passes.len() {
         return false;

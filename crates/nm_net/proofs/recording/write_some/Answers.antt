@@ -1,9 +1,25 @@
-use Rattle.std.proofs.Common.{◌≤◌, All, sym, subst}
+use Rattle.std.proofs.Common.{◌≤◌, All, rules, sym, subst}
 use Rattle.nm_base.specs.declared.limits.TheConstants.{MAX_TIME}
-use Rattle.nm_net.proofs.Recordings.{handed_times}
+use Rattle.nm_net.specs.Recording.{AreHandedOut}
+use Rattle.nm_net.proofs.Recordings.{handed_out, handed_times}
 use Rattle.nm_net.proofs.recording.write_some.Goals as goal
 
 pub put_all-requires-clause-time : goal.put_all-requires-clause-time
 put_all-requires-clause-time g c =
     let did = c.act-records.ensures in
-    subst (All (λ r. r.time ≤ MAX_TIME)) (sym c.as_slice.ensures.value) (handed_times did.0 did.1 c.in_ok-room.room.items c.act-records.result.items c.in_ok-room.ensures.items did.2)
+    subst (All (λ r. r.time ≤ MAX_TIME)) (sym c.as_slice.ensures.value)
+    (handed_times did.0 did.1 c.in_ok-room.room.items c.act-records.result.records.items c.in_ok-room.ensures.items did.2.0)
+
+pub returns-clause-wrote : goal.returns-clause-wrote
+returns-clause-wrote g c =
+    let did = c.act-records.ensures in
+    let took = c.in_ok-put_all.ensures in
+    record {
+      records = c.as_slice.result.now;
+      count = search rules;
+      handed = subst (AreHandedOut g.C.Counts.exact g.C.Counts.home) (sym c.as_slice.ensures.value)
+          (handed_out g.C.Counts.exact g.C.Counts.home did.0 did.1 c.in_ok-room.room.items c.act-records.result.records.items c.in_ok-room.ensures.items
+          did.3.home did.2.0.takes);
+      took = took.took;
+      sound = took.sound;
+    }
