@@ -4,7 +4,7 @@
 
 # The topology and the interface of `make try` and `make run`; the folder of `make cases`; how many jobs `make` proves with; which steps of `make deep`;
 # whether `make compare` writes the times of a busy host; where `make install` puts the program, its manual page and its completion for bash (DESTDIR stands
-# before it, for who makes packages).
+# before it, for those who make packages).
 TOPO = examples/duo.toml
 IFACE =
 CASES =

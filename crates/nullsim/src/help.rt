@@ -7,7 +7,7 @@ nullsim simulates an IPv4 network; its traces are proved to be those of one even
   nullsim one TOPO [IFACE]        the trace of an interface as a pcap file; onehex: hexadecimal
   nullsim sent TOPO [IFACE]       the same, of what leaves alone; received: of what arrives
   nullsim all TOPO DIR [IFACE..]  the traces of all interfaces, or of these, as files in DIR
-  nullsim check TOPO              what is in a topology, or where its first mistake is
+  nullsim check TOPO              what is in a topology, or where its mistakes are
   nullsim report TOPO [csv]       drops, queues, use and delays as tables; delays: their spread
   nullsim series TOPO STEP        what interfaces do over time; STEP flows: what sources do
   nullsim packets TOPO SOURCE     the way of each packet of a source, and where it ended
@@ -69,7 +69,7 @@ Simulates the network once and writes DIR/NAME.pcap for each interface, or for t
         "\
 nullsim check TOPO
 Prints how much there is in a topology, and what may be a mistake. Where it is refused:
-status 3, and where the first mistake is.
+status 3, and where its mistakes are.
 ",
     ),
     (
@@ -125,8 +125,8 @@ coloured by use.
         "run",
         "\
 nullsim run TOPO DIR WORKERS REPLICAS [stats]
-Simulates all partitions at once, 1 or 2 REPLICAS of each, each in a thread; at most 1
-to 64 WORKERS do what these leave where much is to do. Writes DIR/NAME.pcap for each
+Simulates all partitions at once, 1 or 2 REPLICAS of each, each in a thread; up to
+WORKERS (1 to 64) more threads do what these leave. Writes DIR/NAME.pcap for each
 interface, and prints certified where all came to the trace of the one event list. stats:
 then a table on standard error of what each did.
 ",
