@@ -17,8 +17,8 @@ returns c = λ b last calls same order within path.
     let apart = c.packets_are_told_apart.ensures.apart in
     let network : IsNet (net_of b.topology) = subst (λ z. IsNet (net_of z)) (sym same) c.every_topology_is_a_network.ensures.network in
     let follow = all_follow under.reflexive (accept.data_adds same_octets) accept.null_adds (accept.data_keeps same_octets) accept.null_keeps
-        (λ a d ka kd none. (faults.joined a d (faults.only same_octets equal apart a d ka kd none)).0)
-        c.join_laws.ensures.keeps under.transitive b last calls order path in
+    (λ a d ka kd none. (faults.joined a d (faults.only same_octets equal apart a d ka kd none)).0)
+    c.join_laws.ensures.keeps under.transitive b last calls order path in
     let none = under.reflexive nothing_known in
     let stays = c.what_was_done_stays.ensures in
     let more = under_all b last follow none within in (
