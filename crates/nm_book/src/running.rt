@@ -30,8 +30,8 @@ pub enum Ran {
     All(u64),
     /// So many were asked for, and some are left.
     Limit(u64),
-    /// Some are left, and memory was refused or 2^62 events were done. These were done whole, and of
-    /// the next one no part.
+    /// Some are left, and memory was refused or 2^62 events were done. These were done whole, and
+    /// of the next one no part.
     Memory(u64),
 }
 

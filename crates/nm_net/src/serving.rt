@@ -1,6 +1,7 @@
 //! One poll of a replica, and what follows it.
 
-ghost use Rattle.std.specs.Prelude.{◌&&◌, ◌==◌, ◌||◌, ◌≡◌, ◌≤◌, true, All, IfErr, IfOk, OnOk, length};
+ghost use Rattle.std.specs.Prelude.{◌&&◌, ◌==◌, ◌||◌, ◌≡◌, ◌≤◌, true, length};
+ghost use Rattle.std.specs.Prelude.{All, IfErr, IfOk, OnOk};
 ghost use Rattle.nm_shared.specs.Board.{IsOwnerOf};
 ghost use Rattle.nm_files.specs.Files.{IsSound};
 ghost use Rattle.nm_net.specs.Lasting.{has_lasted, lasted_after};

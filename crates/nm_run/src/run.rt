@@ -454,8 +454,8 @@ where
 /// # Errors
 ///
 /// Those of `RunFault`. `NotCertified` has the first fault that the certificate finds in the books
-/// of the run, one of each replica. No file got its name, unless one of them could not get it: those before it
-/// have theirs then.
+/// of the run, one of each replica. No file got its name, unless one of them could not get it: those
+/// before it have theirs then.
 #[tactic(auto, using(crate::proofs::Stops::stops_have_reason))]
 pub fn run_all<'x, F: Outputs, G: Gate + Sync, R>(
     rt: &R,
