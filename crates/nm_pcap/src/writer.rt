@@ -96,6 +96,13 @@ impl<W> PcapOut<W> {
         self.sink
     }
 
+    /// How many octets the sink took of the file, which stops at 2^64 - 1.
+    pub fn written_octets(&self) -> u64
+        ensures { result ≡ self.now.written }
+    {
+        self.written
+    }
+
     /// Whether the sink has failed.
     pub fn has_failed(&self) -> bool
         ensures { result ≡ self.now.failed }
