@@ -1,17 +1,21 @@
 -- Trace files that are written side by side.
-use Rattle.std.proofs.Common.{◌≡◌, ◌⊎◌, inl, inr, ℕ, ◌==◌, ◌<◌, ◌≤◌, true, false, Bool, Option, Some, None, List, [], ◌∷◌, length, get_or, set, length-set, take, ◌+◌, ◌++◌, slice_get, slice_set, Result, Ok, Err, OnOk, refl, sym, ◌∙◌, ap, subst, arith, rules}
+use Rattle.std.proofs.Common.{◌≡◌, ℕ, ◌==◌, ◌<◌, ◌≤◌, true, false, Bool, Option, Some, None, List, [], ◌∷◌, length, get_or, set, length-set, take, ◌+◌, ◌++◌, slice_get, slice_set, Result, Ok, Err, OnOk, refl, sym, ◌∙◌, ap, subst, arith, length-append}
 use Rattle.std.proofs.lemmas.List.{get_or-set_same, get_or-set_other}
+use Rattle.std.proofs.lemmas.List.Elements.{All-from_get_or, All-get_or}
 use Rattle.std.proofs.lemmas.Option.{slice_get_within, get_or_from_slice_get, slice_get-get_or}
 use Rattle.std.proofs.lemmas.Bool.Decides.{nat_tests}
 use Rattle.std.specs.Io.KnownBytes.{Appends}
 use Rattle.nm_base.proofs.Sinks.{Appends-append}
+use Rattle.nm_base.specs.Count.{saturated}
 use Rattle.nm_base.specs.declared.record.Record.{Record}
-use Rattle.nm_pcap.specs.Format.{record_octets}
+use Rattle.nm_pcap.specs.Format.{file_header, record_octets}
 use Rattle.nm_pcap.specs.Outcome.{AddedAll}
 use Rattle.nm_pcap.specs.Writer.{Writer}
 use Rattle.nm_pcap.specs.Writing.{written}
-use Rattle.nm_files.specs.Files.{FileTook, FilesTook, Took}
+use Rattle.nm_files.specs.Files.{AreCounted, FileTook, FilesTook, IsBegun, IsCounted, Took}
+use Rattle.nm_files.specs.Outputs.{Files, IsEmpty}
 use Rattle.nm_files.specs.TraceFile.{written_at}
+use Rattle.nm_files.proofs.Made.{appended}
 use Rattle.nm_files.proofs.Pieces.{WroteAll-nil}
 use Rattle.nm_files.proofs.Records.{one_more, written_at-append, written_elsewhere, written_there}
 use Rattle.nm_pcap.proofs.Forms.{written-nil}
@@ -29,6 +33,7 @@ module _ {S : Type 0} (taken : S → Option (List ℕ)) (failures : S → ℕ) (
         whole = subst (Appends (taken old.sink) (taken new.sink)) (sym (written_there old.form n r same)) w.whole;
         no_fault = w.no_fault;
         same_form = w.same_form;
+        counted = λ before is. let more = w.count in let all = ap length (written_there old.form n r same) in omega (arith, is, more, all);
       }
 
   -- another file took nothing of it
@@ -38,6 +43,7 @@ module _ {S : Type 0} (taken : S → Option (List ℕ)) (failures : S → ℕ) (
     whole = subst (Appends (taken file.sink) (taken file.sink)) (sym (written_elsewhere file.form n r other)) (WroteAll-nil taken failures file.sink).whole;
     no_fault = refl;
     same_form = refl;
+    counted = λ before is. let none = ap length (written_elsewhere file.form n r other) in omega (arith, is, none);
   }
 
   same_file : (n : ℕ) (o p : Option (Writer S)) → p ≡ o → (r.iface == n) ≡ false → FileTook taken failures (r ∷ []) n o p
@@ -85,6 +91,7 @@ module _ {S : Type 0} (taken : S → Option (List ℕ)) (failures : S → ℕ) w
     whole = subst (Appends (taken file.sink) (taken file.sink)) (sym (written-nil file.form)) (WroteAll-nil taken failures file.sink).whole;
     no_fault = refl;
     same_form = refl;
+    counted = λ before is. let none = ap length (written-nil file.form) in omega (arith, is, none);
   })
 
   -- of no records all files took what is theirs
@@ -106,6 +113,11 @@ module _ {S : Type 0} (taken : S → Option (List ℕ)) (failures : S → ℕ) w
         (subst (λ f. Appends (taken m.sink) (taken p.sink) (written_at f n ys)) v.same_form w.whole));
     no_fault = w.no_fault ∙ v.no_fault;
     same_form = w.same_form ∙ v.same_form;
+    counted = λ before is.
+        let first = written_at o.form n xs in
+        let more = subst (λ f. p.written ≡ saturated ((before + length first) + length (written_at f n ys))) v.same_form (w.counted (before + length first) (v.counted before is)) in
+        let all = ap length (written_at-append o.form n xs ys) ∙ length-append first (written_at o.form n ys) in
+        omega (arith, more, all);
   }
 
   -- and of more
@@ -124,3 +136,31 @@ module _ {S : Type 0} (taken : S → Option (List ℕ)) (failures : S → ℕ) w
       → FilesTook taken failures (take n records) old mid → FilesTook taken failures (r ∷ []) mid new → FilesTook taken failures (take (n + 1) records) old new
   next_record records n r old mid new is v w =
       subst (λ l. FilesTook taken failures l old new) (sym (one_more records n (n + 1) r is refl)) (more_records (take n records) (r ∷ []) old mid new v w)
+
+-- Files are counted: one whose header alone was written, and all, whatever records they take.
+module _ {S : Type 0} (taken : S → Option (List ℕ)) (made : Option Files) where
+  pub begun_counted : (sink : S) (file : Writer S) → IsEmpty made (taken sink) → IsBegun taken sink file → IsCounted taken made (Some file)
+  begun_counted sink file empty begun first told =
+      (file_header, appended (taken sink) (taken file.sink) file_header [] begun.header (empty first told), begun.counted)
+
+  file_counted : (failures : S → ℕ) (records : List (Record (List ℕ))) (n : ℕ) (o p : Option (Writer S)) → FileTook taken failures records n o p
+      → IsCounted taken made o → IsCounted taken made p
+  file_counted failures records n None None took was = tt
+  file_counted failures records n None (Some p) took was = absurd took
+  file_counted failures records n (Some o) None took was = absurd took
+  file_counted failures records n (Some o) (Some p) took was = λ first told.
+      let then = was first told in
+      let more = written_at o.form n records in
+      let count = took.counted (length then.0) then.2 in
+      let all = length-append then.0 more in
+      (then.0 ++ more, appended (taken o.sink) (taken p.sink) more then.0 took.whole then.1, omega (arith, count, all))
+
+  pub files_counted : (failures : S → ℕ) (records : List (Record (List ℕ))) (old new : List (Option (Writer S))) → FilesTook taken failures records old new
+      → AreCounted taken made old → AreCounted taken made new
+  files_counted failures records old new took was =
+      All-from_get_or (IsCounted taken made) new None (λ i low.
+      let same = took.count in
+      let there : i < length old = omega (arith, low, same) in
+      file_counted failures records i (get_or old i None) (get_or new i None)
+      (took.each i (get_or old i None) (get_or new i None) (slice_get-get_or old i None there) (slice_get-get_or new i None low))
+      (All-get_or (IsCounted taken made) old i None there was))

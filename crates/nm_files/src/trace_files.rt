@@ -1,9 +1,11 @@
 //! The trace files of a replica, written as its records are handed out.
 
 ghost use Rattle.std.specs.Prelude.{◌≡◌, ℕ, ◌<◌, ◌≤◌, ◌∷◌, [], ◌++◌, false, All, IfErr, IfOk};
-ghost use Rattle.std.specs.Prelude.{None, OnOk, get_or};
+ghost use Rattle.std.specs.Prelude.{List, None, OnOk, Option, get_or};
 ghost use Rattle.nm_base.specs.declared.limits.TheConstants.{MAX_TIME};
-ghost use Rattle.nm_files.specs.Files.{FileTook, FilesTook, HasBegun, IsBegun, IsSound};
+ghost use Rattle.nm_files.specs.Files.{AreCounted, FileTook, FilesTook, HasBegun, IsBegun};
+ghost use Rattle.nm_files.specs.Files.{IsSound};
+ghost use Rattle.nm_files.specs.Outputs.{Files};
 
 use nm_base::{IfaceNo, Record, Sink};
 use nm_pcap::{PcapFault, PcapOut};
@@ -110,6 +112,9 @@ impl<S> TraceFiles<S> {
     /// Takes the file of an interface out, if it has one.
     pub fn take(&mut self, iface: IfaceNo) -> Option<PcapOut<S>>
         ensures file { result ≡ get_or self.old.files.items iface None }
+        ensures counted { (taken : S → Option (List ℕ)) (made : Option Files)
+            → AreCounted taken made self.old.files.items
+            → AreCounted taken made self.new.files.items }
         ensures others { (n : ℕ) → iface < n
             → get_or self.new.files.items n None ≡ get_or self.old.files.items n None }
     {

@@ -1,4 +1,4 @@
-use Rattle.std.proofs.Common.{◌≡◌, ◌∷◌, [], Some, sym, subst}
+use Rattle.std.proofs.Common.{◌∷◌, [], Some, sym, subst}
 use Rattle.nm_files.specs.Files.{FileTook}
 use Rattle.nm_files.proofs.Files.{own_took}
 use Rattle.nm_files.proofs.trace_files.put_in.Goals as goal

@@ -1,4 +1,4 @@
-use Rattle.std.proofs.Common.{◌≡◌, ◌<◌, length, sym, ◌∙◌, ap, Some, subst, arith, rules}
+use Rattle.std.proofs.Common.{◌<◌, length, sym, ◌∙◌, ap, Some, rules}
 use Rattle.std.proofs.lemmas.Option.{slice_get-get_or}
 use Rattle.nm_files.proofs.Files.{none_took, on_ok, one_took}
 use Rattle.nm_files.proofs.trace_files.TraceFiles.put.Goals as goal

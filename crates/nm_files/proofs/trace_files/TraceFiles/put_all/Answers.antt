@@ -1,4 +1,4 @@
-use Rattle.std.proofs.Common.{◌≡◌, ◌<◌, length, Some, sym, ◌∙◌, ap, arith, rules}
+use Rattle.std.proofs.Common.{◌<◌, length, Some, sym, ◌∙◌, ap, arith, rules}
 use Rattle.std.proofs.lemmas.Option.{slice_get-get_or}
 use Rattle.nm_files.proofs.Files.{next_record, no_records}
 use Rattle.nm_files.proofs.trace_files.TraceFiles.put_all.Goals as goal

@@ -1,4 +1,4 @@
-use Rattle.std.proofs.Common.{◌≡◌, ◌≤◌, All, length, take}
+use Rattle.std.proofs.Common.{◌≤◌, All, length, take}
 use Rattle.nm_files.specs.Files.{FilesTook, IsSound}
 use Rattle.nm_files.proofs.trace_files.TraceFiles.put_all.Given as goal
 
