@@ -1,13 +1,15 @@
 -- Of each of some replicas a book was seen to be done.
-use Rattle.std.proofs.Common.{◌≡◌, ◌≢◌, ℕ, ◌+◌, ◌<◌, ◌≤◌, Bool, true, false, not, ◌&&◌, ◌||◌, ◌==◌, List, map, length, slice_index_or, slice_set, refl, sym, ◌∙◌, ap, subst, arith, ⊎_elim}
-use Rattle.std.proofs.lemmas.Bool.{cases_lt}
+use Rattle.std.proofs.Common.{◌≡◌, ◌≢◌, ℕ, ◌+◌, ◌<◌, ◌≤◌, Bool, true, false, ◌&&◌, ◌||◌, ◌==◌, List, map, length, slice_index_or, slice_set, refl, sym, ◌∙◌, ap, subst, arith, ⊎_elim}
+use Rattle.std.proofs.lemmas.Bool.{and_parts, cases_lt}
 use Rattle.std.proofs.lemmas.Bool.Decides.{nat_tests}
 use Rattle.std.proofs.lemmas.Grind.{get_or-set_at}
 use Rattle.std.proofs.lemmas.List.{get_or-set_other, length-map, map-set}
-use Rattle.nm_book.specs.Book.{BookValue}
+use Rattle.nm_model.specs.Certificate.{is_done}
+use Rattle.nm_sim.specs.Network.{net_of}
+use Rattle.nm_book.specs.Book.{BookValue, replica_of, state_of}
 use Rattle.nm_shared.specs.Counted.{Meets}
-use Rattle.nm_shared.specs.Known.{Home}
-use Rattle.nm_net.specs.Served.{IsFinished, WasFinished, WasSeen, WereFinished}
+use Rattle.nm_shared.specs.Known.{Home, home_of}
+use Rattle.nm_net.specs.Served.{IsFinished, WasFinished, WasSeen, WereFinished, is_handed_out}
 use Rattle.nm_net.specs.declared.acts.Standing.{Standing}
 
 -- one replica more
@@ -36,21 +38,22 @@ looked_at exact own b c same meets is =
     let risen = meets.events (λ no. absurd cc) in
     omega (arith, least, equal, risen)
 
-pub not_false : (b : Bool) → not b ≡ false → b ≡ true
-not_false true h = refl
-not_false false h = sym h
-
-both_true : (a b : Bool) → (a && b) ≡ true → (a ≡ true) × (b ≡ true)
-both_true true b h = (refl, h)
-both_true false b h = absurd cc
-
 -- a replica that is done, and whose book keeps its records or has none left to hand out
 pub is_finished : (exact : Bool) (own : Home) (keeps is_last : Bool) (s : Standing) → WasSeen exact own s → (is_last ≡ true → WasFinished exact own false)
     → (s.is_done && (keeps || is_last || (s.handed == s.records))) ≡ true → WasFinished exact own keeps
-is_finished exact own true is_last s seen last is = (seen.0, seen.1, sym seen.2 ∙ (both_true s.is_done true is).0, (λ no. absurd cc))
+is_finished exact own true is_last s seen last is = (seen.0, seen.1, sym seen.2 ∙ (and_parts s.is_done true is).0, (λ no. absurd cc))
 is_finished exact own false true s seen last is = last refl
 is_finished exact own false false s seen last is =
-    let both = both_true s.is_done (s.handed == s.records) is in
+    let both = and_parts s.is_done (s.handed == s.records) is in
     let equal = both.1 in
     let all : s.handed ≡ s.records = grind (arith, nat_tests) in
     (seen.0, seen.1, sym seen.2 ∙ both.0, (λ no. sym seen.3 ∙ all ∙ seen.4))
+
+-- a replica whose last record was handed out
+pub was_last : (exact : Bool) (own : Home) (c : BookValue) (is_last : Bool) → (exact ≡ true → home_of c ≡ own) → is_last ≡ is_handed_out c → is_last ≡ true
+    → WasFinished exact own false
+was_last exact own c is_last home is last =
+    let both = and_parts (is_done (net_of c.topology) c.partition (replica_of c)) (c.handed == length (state_of c).records) (sym is ∙ last) in
+    let equal = both.1 in
+    let all : c.handed ≡ length (state_of c).records = grind (arith, nat_tests) in
+    (c, home, both.0, (λ no. all))

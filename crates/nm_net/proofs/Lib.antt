@@ -4,3 +4,4 @@ pub mod Endings
 pub mod Polls
 pub mod Recordings
 pub mod Finishing
+pub mod Strangers

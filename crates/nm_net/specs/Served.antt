@@ -1,5 +1,5 @@
 -- How the serving of a replica ends.
-use Rattle.std.specs.Prelude.{◌≡◌, ◌⊎◌, ℕ, ◌+◌, ◌≤◌, ◌<◌, Bool, true, false, List, length, slice_index_or, Option, Some, None, if◌then◌else◌}
+use Rattle.std.specs.Prelude.{◌≡◌, ◌⊎◌, ℕ, ◌+◌, ◌≤◌, ◌<◌, ◌==◌, ◌&&◌, Bool, true, false, List, length, slice_index_or, Option, Some, None, if◌then◌else◌}
 use Rattle.nm_engine.specs.declared.answer.Cause.{Cause}
 use Rattle.nm_engine.specs.declared.answer.Cause.TheVariants as cause
 use Rattle.nm_files.specs.declared.trace_files.FilesFault.{FilesFault}
@@ -31,6 +31,10 @@ file_served fault.Memory = Memory
 abbrev pub IsFinished : BookValue → Type 0
 IsFinished b = is_done (net_of b.topology) b.partition (replica_of b) ≡ true
 
+-- and no record to hand out
+abbrev pub is_handed_out : BookValue → Bool
+is_handed_out b = is_done (net_of b.topology) b.partition (replica_of b) && (b.handed == length (state_of b).records)
+
 -- so far it was when a book of this replica, if the counts are exact, was looked at
 abbrev pub WasSeen : (exact : Bool) → Home → Standing → Type 0
 WasSeen exact own s =
@@ -46,6 +50,11 @@ WasFinished exact own keeps =
 abbrev pub WereFinished : (exact : Bool) → (replicas : ℕ) → (counted : List ℕ) → Type 0
 WereFinished exact replicas counted =
     (n : ℕ) → n < replicas → (b : BookValue) × (exact ≡ true → slice_index_or counted n 0 ≤ b.events) × IsFinished b
+
+-- A replica's book was seen to have something left to do; or there is no other replica, or not a pass for each.
+abbrev pub IsSomeLeft : (replicas passes : ℕ) → Type 0
+IsSomeLeft replicas passes =
+    ((b : BookValue) × (is_done (net_of b.topology) b.partition (replica_of b) ≡ false)) ⊎ (replicas ≡ 0) ⊎ (passes < replicas)
 
 -- Why serving ends: the replica was done, and its records were handed out; or no fewer waits ran out than the limit since the transport had had
 -- `before`, and it has had `after`, or no more polls may be made.

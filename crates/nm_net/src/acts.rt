@@ -1,10 +1,10 @@
 //! What the loop does with a shared book in one go.
 
-ghost use Rattle.std.specs.Prelude.{◌≡◌, ◌+◌, length, Some, true};
+ghost use Rattle.std.specs.Prelude.{◌≡◌, ◌+◌, length, Some};
 ghost use Rattle.nm_book.specs.Book.{replica_of, safe_of, state_of};
 ghost use Rattle.nm_model.specs.Certificate.{is_done};
 ghost use Rattle.nm_net.specs.Recording.{HandsOut, TakesOut};
-ghost use Rattle.nm_net.specs.Served.{IsFinished};
+ghost use Rattle.nm_net.specs.Served.{is_handed_out};
 ghost use Rattle.nm_shared.specs.Growing.{handed_grows, same_grows};
 ghost use Rattle.nm_sim.specs.Network.{net_of};
 
@@ -77,8 +77,7 @@ fn take_out(book: &mut Book, room: &mut Vec<Record>)
 
 /// Whether nothing is left to do, and no record to hand out.
 fn is_handed_out(book: &Book) -> bool
-    ensures { result ≡ true → IsFinished book.now
-        × (book.now.handed ≡ length (state_of book.now).records) }
+    ensures { result ≡ is_handed_out book.now }
 {
     book.done() && book.handed() == book.records()
 }
@@ -102,7 +101,7 @@ impl Act for HandOutSome {
     type Out = HandedOut;
 
     ghost does = { λ a b r c. HandsOut b a.room.items c r.records.items
-        × (r.is_last ≡ true → IsFinished c × (c.handed ≡ length (state_of c).records)) };
+        × (r.is_last ≡ is_handed_out c) };
 
     ghost news = { λ r. Some 0 };
 

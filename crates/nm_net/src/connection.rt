@@ -1,6 +1,6 @@
 //! One connection of a replica.
 
-ghost use Rattle.std.specs.Prelude.{◌≡◌, true, false};
+ghost use Rattle.std.specs.Prelude.{◌≡◌, ◌↔◌, IfSome, IsTrue, None, Some, true, false};
 ghost use Rattle.nm_engine.specs.Link.{greeted_by, has_greeted};
 ghost use Rattle.nm_net.specs.Strangers.{is_stranger};
 
@@ -111,7 +111,12 @@ impl<W> Connection<W> {
     }
 
     /// Which replica the peer is, where that is known now and was not before.
-    pub(crate) fn meet(&mut self) -> Option<ReplicaName> {
+    pub(crate) fn meet(&mut self) -> Option<ReplicaName>
+        ensures name { IfSome result
+            (λ name. (greeted_by self.old.link.session ≡ Some name)
+            × (self.old.is_met ≡ false)) }
+        ensures once { IfSome result (λ _. self.new.is_met ≡ true) }
+    {
         if self.is_met {
             return None;
         }
@@ -126,7 +131,10 @@ impl<W> Connection<W> {
     }
 
     /// Whether the replica with this name began it.
-    pub(crate) fn is_from(&self, name: &ReplicaName) -> bool {
+    pub(crate) fn is_from(&self, name: &ReplicaName) -> bool
+        ensures { IsTrue result
+            ↔ (self.now.peer ≡ None) × (greeted_by self.now.link.session ≡ Some name.now) }
+    {
         match (self.peer, self.link.greeted_by()) {
             (None, Some(own)) => own == *name,
             _ => false,

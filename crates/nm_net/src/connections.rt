@@ -1,15 +1,18 @@
 //! The connections of a replica: begun, accepted, and let go.
 
-ghost use Rattle.std.specs.Prelude.{◌≡◌, IfErr};
+ghost use Rattle.std.specs.Prelude.{◌≡◌, ◌&&◌, IfErr, IfSome, is_some, not, true};
+ghost use Rattle.std.specs.List.{list_any};
 ghost use Rattle.slab.specs.Slab.{get};
 ghost use Rattle.nm_net.specs.Breaks.{Removes, break_at, fault_in};
+ghost use Rattle.nm_net.specs.Ends.{has_ended};
 ghost use Rattle.nm_net.specs.Leaving.{IsServing};
 ghost use Rattle.nm_net.specs.Links.{are_sure, have_broken, have_ended};
 ghost use Rattle.nm_net.specs.Served.{EndsEarly};
+ghost use Rattle.nm_net.specs.Strangers.{IsFirstStranger};
 
 use crate::callers::Callers;
 use crate::connection::{Connection, Remains};
-use crate::dialing::{Dialing, are_sure, have_ended};
+use crate::dialing::{Dialing, are_sure, are_wanting, have_ended};
 use crate::limits::{MAX_ACCEPTED, MAX_STRANGERS};
 use crate::moved::CountingWire;
 use crate::replica::Service;
@@ -169,13 +172,11 @@ impl<W> Connections<W> {
 
     /// Whether somebody is not connected whose link has not ended: a peer that is called, or a
     /// replica that is to call.
-    pub(crate) fn are_wanting(&self) -> bool {
-        for peer in &self.peers {
-            if peer.is_wanting() {
-                return true;
-            }
-        }
-        self.greeted_count() < self.callers.open_count()
+    pub(crate) fn are_wanting(&self) -> bool
+        ensures { list_any (λ p. is_some p.session && not (has_ended p.ends)) self.now.peers.items
+            ≡ true → result ≡ true }
+    {
+        are_wanting(self.peers.as_slice()) || self.greeted_count() < self.callers.open_count()
     }
 
     /// Whether more may be read that no wait reports.
@@ -236,7 +237,9 @@ impl<W> Connections<W> {
     }
 
     /// The key of the stranger that came first, where there are so many or more.
-    fn first_of(&self, strangers: usize) -> Option<usize> {
+    fn first_of(&self, strangers: usize) -> Option<usize>
+        ensures { IfSome result (IsFirstStranger self.now.open) }
+    {
         let (mut count, mut least, mut first) = (0usize, u64::MAX, None);
         for key in 0..self.open.capacity() {
             if let Some(connection) = self.open.get(key) {

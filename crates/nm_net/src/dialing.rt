@@ -2,7 +2,7 @@
 
 ghost use Rattle.std.specs.Prelude.{◌≡◌, ◌&&◌, ◌==◌, true, IfSome, is_some, not};
 ghost use Rattle.std.proofs.Props.{props};
-ghost use Rattle.std.specs.List.{list_all};
+ghost use Rattle.std.specs.List.{list_all, list_any};
 ghost use Rattle.nm_frames.specs.Session.{broken};
 ghost use Rattle.nm_net.specs.Dialing.{IsAtGreeting};
 ghost use Rattle.nm_net.specs.Ends.{after_break, has_ended, is_sure, once_more};
@@ -51,6 +51,13 @@ pub(crate) fn have_ended(peers: &[Dialing]) -> bool
     ensures { result ≡ list_all (λ p. has_ended p.ends) peers.now }
 {
     peers.iter().all(|peer| peer.ends.has_ended())
+}
+
+/// Whether one of these peers is not connected, and its link has not ended.
+pub(crate) fn are_wanting(peers: &[Dialing]) -> bool
+    ensures { result ≡ list_any (λ p. is_some p.session && not (has_ended p.ends)) peers.now }
+{
+    peers.iter().any(|peer| peer.is_wanting())
 }
 
 /// Whether the ends of the links of all these peers are sure.

@@ -1,7 +1,10 @@
 //! The seats of one replica on a board.
 
-ghost use Rattle.std.specs.Prelude.{◌≡◌, All, IfOk};
-ghost use Rattle.nm_shared.specs.Board.{AreFirstOwners, IsOwnerOf};
+ghost use Rattle.std.specs.Prelude.{◌≡◌, ◌↔◌, ◌<◌, ◌/◌, ◌%◌, All, IfOk, IsTrue, length, true};
+ghost use Rattle.nm_model.specs.Partition.{goes_out};
+ghost use Rattle.nm_shared.specs.Board.{AreFirstOwners, IsOwnerOf, owned_word};
+ghost use Rattle.nm_sim.specs.Network.{net_of};
+ghost use Rattle.nm_topology.specs.Topology.{receiving_iface};
 
 use nm_base::PartNo;
 use nm_book::channels::goes_out;
@@ -10,7 +13,12 @@ use nm_topology::Topology;
 use std::alloc::{AllocError, Global};
 
 /// Whether the seat is of a channel that goes out from the partition, and of this replica.
-pub fn is_own(topology: &Topology, partition: PartNo, replica: u8, seat: &OwnerSeat) -> bool {
+pub fn is_own(topology: &Topology, partition: PartNo, replica: u8, seat: &OwnerSeat) -> bool
+    ensures { IsTrue result ↔ (owned_word seat.now / 2 < length topology.now.receivers)
+        × (goes_out (net_of topology.now) partition
+        (receiving_iface topology.now (owned_word seat.now / 2)) ≡ true)
+        × (owned_word seat.now % 2 ≡ replica) }
+{
     let channel = seat.channel();
     channel.index() < topology.receivers().len()
         && goes_out(topology, partition, channel)

@@ -1,7 +1,7 @@
 //! The other replicas of a run of one process.
 
-ghost use Rattle.std.specs.Prelude.{◌≡◌, length, map, true};
-ghost use Rattle.nm_net.specs.Served.{WereFinished};
+ghost use Rattle.std.specs.Prelude.{◌≡◌, false, length, map, true};
+ghost use Rattle.nm_net.specs.Served.{IsSomeLeft, WereFinished};
 
 use crate::acts::Stand;
 use crate::replica::{Holdings, Service};
@@ -54,6 +54,8 @@ pub(crate) fn all_are_done<C: Counts, R: Wait>(
     ensures passes { length passes.new.items ≡ length passes.old.items }
     ensures all { result ≡ true → WereFinished C.exact (length service.now.books.now)
         (map (λ p. C.events_of p.share) passes.new.items) }
+    ensures left { result ≡ false
+        → IsSomeLeft (length service.now.books.now) (length passes.old.items) }
 {
     if service.books.is_empty() || service.books.len() > passes.len() {
         return false;

@@ -1,6 +1,7 @@
-use Rattle.std.proofs.Common.{◌≤◌, All, rules, sym, subst}
+use Rattle.std.proofs.Common.{◌≤◌, All, rules, sym, subst, ◌∙◌}
 use Rattle.nm_base.specs.declared.limits.TheConstants.{MAX_TIME}
 use Rattle.nm_net.specs.Recording.{AreHandedOut}
+use Rattle.nm_net.proofs.Finishing.{was_last}
 use Rattle.nm_net.proofs.Recordings.{handed_out, handed_times}
 use Rattle.nm_net.proofs.recording.write_some.Goals as goal
 
@@ -23,3 +24,8 @@ returns-clause-wrote g c =
       took = took.took;
       sound = took.sound;
     }
+
+pub returns-clause-last : goal.returns-clause-last
+returns-clause-last g c =
+    let did = c.act-records.ensures in
+    was_last g.C.Counts.exact g.C.Counts.home did.1 c.act-records.result.is_last (λ is. did.3.grows.home ∙ did.3.home is) did.2.1

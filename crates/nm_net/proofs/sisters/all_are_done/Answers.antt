@@ -1,12 +1,13 @@
 use Rattle.std.proofs.Common.{◌<◌, length, rules, ◌∙◌, sym}
-use Rattle.nm_net.proofs.Finishing.{looked_at, not_false, one_finished}
+use Rattle.std.proofs.lemmas.Bool.{not-false}
+use Rattle.nm_net.proofs.Finishing.{looked_at, one_finished}
 use Rattle.nm_net.proofs.sisters.all_are_done.Goals as goal
 
 pub loop-number-preserved : goal.loop-number-preserved
 loop-number-preserved g c =
     let did = c.act.ensures in
     let low : c.loop-number.number < length c.loop-number.passes.items = search rules in
-    let done = not_false c.act.result.is_done c.if-not-act.false in
+    let done = not-false c.act.result.is_done c.if-not-act.false in
     record {
       count = search rules;
       all = one_finished g.C.Counts.exact (λ p. g.C.Counts.events_of p.share) c.loop-number.number c.loop-number.passes.items c.act.new.pass did.0 low
