@@ -1,2 +1,4 @@
 pub mod Reports
 pub mod Stops
+pub mod ReplicaEndings
+pub mod ClosedFiles

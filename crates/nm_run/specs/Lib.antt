@@ -1,2 +1,6 @@
 pub mod Report
 pub mod Faults
+pub mod Endings
+pub mod Files
+pub mod Sides
+pub mod Took

@@ -1,5 +1,5 @@
 -- What a run comes to.
-use Rattle.std.specs.Prelude.{◌≡◌, ℕ, ◌+◌, ◌*◌, ◌<◌, List, length, slice_get, Option, Some, None, Result, Ok, Err}
+use Rattle.std.specs.Prelude.{◌≡◌, ℕ, ◌+◌, ◌*◌, ◌<◌, List, length, slice_get, Some, Result, Ok, Err}
 use Rattle.nm_base.specs.declared.record.Record.{Record}
 use Rattle.nm_topology.specs.TopologyValue.{TopologyValue}
 use Rattle.nm_sim.specs.Records.{totals_of}
@@ -7,12 +7,8 @@ use Rattle.nm_sim.specs.Trace.{IsTraceBefore}
 use Rattle.nm_book.specs.Book.{BookValue}
 use Rattle.nm_rounds.specs.Certify.{AreCertified, Certifies}
 use Rattle.nm_rounds.specs.declared.certify.CertFault.{CertFault}
-use Rattle.nm_net.specs.declared.served.Served.{Served}
-use Rattle.nm_net.specs.declared.served.Served.TheVariants as served
 use Rattle.nm_run.specs.declared.fault.RunFault.{RunFault}
 use Rattle.nm_run.specs.declared.fault.RunFault.TheVariants.{File, Net, Memory, NotCertified, Stalled}
-use Rattle.nm_run.specs.declared.stop.Stop.{Stop}
-use Rattle.nm_run.specs.declared.stop.Stop.TheVariants as stop
 use Rattle.nm_run.specs.declared.report.IfaceTotals.{IfaceTotals}
 
 -- the totals of an interface are those of its records in the trace of the one event list, over the whole run
@@ -55,11 +51,3 @@ CertifiesRun t books (Err Net) = ⊥
 CertifiesRun t books (Err Memory) = Unit {0}
 CertifiesRun t books (Err (NotCertified fault)) = Certifies t books (Err fault)
 CertifiesRun t books (Err (Stalled polls)) = ⊥
-
--- why a run stops one of whose replicas ended so, if it does
-abbrev pub fault_of : Served → Option Stop
-fault_of served.Ended = None
-fault_of served.Net = Some stop.Net
-fault_of served.Memory = Some stop.Memory
-fault_of (served.File iface written) = Some (stop.File iface written)
-fault_of (served.Stalled polls) = Some (stop.Stalled polls)

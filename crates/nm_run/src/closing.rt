@@ -1,7 +1,9 @@
 //! The books of a run that is over, with all passes back.
 
-ghost use Rattle.std.specs.Prelude.{◌≡◌, IfOk, true};
+ghost use Rattle.std.specs.Prelude.{◌≡◌, All, IfOk, Option, true};
 ghost use Rattle.std.specs.Arc.{arc_value};
+ghost use Rattle.nm_files.specs.Files.{AreCounted};
+ghost use Rattle.nm_files.specs.Outputs.{Files};
 ghost use Rattle.nm_run.specs.Report.{AreOfRun, AreInPlace, CertifiesRun, IsInPlace};
 
 use crate::dispatching::Dispatcher;
@@ -9,6 +11,7 @@ use crate::fault::RunFault;
 use crate::run::RunPlan;
 use crate::sides::SideEnd;
 use crate::stop::Stop;
+use nm_base::Sink;
 use nm_book::Book;
 use nm_files::TraceFiles;
 use nm_net::Holdings;
@@ -60,13 +63,14 @@ impl Passes {
 }
 
 /// What replicas held: their passes go to the others, and their trace files are given.
-fn gather_sides<S>(
+fn gather_sides<S: Sink + Drop>(
     alloc: Global,
     passes: &mut Passes,
     ends: Vec<SideEnd<S>>,
 ) -> Result<Vec<TraceFiles<S>>, AllocError>
-where
-    S: Drop,
+    ensures { (made : Option Files)
+        → All (λ end. AreCounted S.taken made end.holdings.files.files.items) ends.items
+        → IfOk result (λ files. All (λ own. AreCounted S.taken made own.files.items) files.items) }
 {
     let mut files = Vec::new(alloc);
     for end in ends {
@@ -107,7 +111,8 @@ fn gather_jobs(passes: &mut Passes, dispatcher: Dispatcher) -> Result<(), AllocE
 /// Whether a book is that of the replica which has this number among so many replicas of each
 /// partition.
 fn is_in_place(book: &Book, replicas: u8, number: usize) -> bool
-    ensures { result ≡ true → IsInPlace replicas number book.now }
+    ensures is { result ≡ true → IsInPlace replicas number book.now }
+    ensures only { IsInPlace replicas number book.now → result ≡ true }
 {
     let first = book.partition().index() * replicas as usize;
     book.replica() < replicas && number == first + book.replica() as usize
@@ -156,15 +161,18 @@ fn close_books(
 }
 
 /// The books and the trace files of a run that is over.
-pub(crate) fn close_run<S: Drop>(
+pub(crate) fn close_run<S: Sink + Drop>(
     alloc: Global,
     plan: &RunPlan<'_>,
     books: Vec<SharedBook<Plain>>,
     ends: Vec<SideEnd<S>>,
     dispatcher: Dispatcher,
 ) -> Result<(Vec<Book>, Vec<TraceFiles<S>>), Stop>
-    ensures { IfOk result
+    ensures books { IfOk result
         (λ run. AreOfRun (arc_value plan.now.topology.now) plan.now.replicas run.0.items) }
+    ensures files { (made : Option Files)
+        → All (λ end. AreCounted S.taken made end.holdings.files.files.items) ends.items
+        → IfOk result (λ run. All (λ own. AreCounted S.taken made own.files.items) run.1.items) }
 {
     let mut passes = Passes::new(alloc, books.len())?;
     let files = gather_sides(alloc, &mut passes, ends)?;

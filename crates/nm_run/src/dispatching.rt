@@ -1,6 +1,7 @@
 //! The dispatcher: it gives jobs to a pool as long as there are any.
 
 ghost use Rattle.std.specs.Prelude.{◌≡◌, ◌<◌, ◌≤◌, All, length};
+ghost use Rattle.std.specs.List.{list_all};
 ghost use Rattle.nm_shared.specs.Board.{IsSeatOf};
 
 use crate::jobs::{Watched, jobs_for};
@@ -184,7 +185,9 @@ fn listen(dispatcher: &mut Dispatcher)
 }
 
 /// Whether all books are done.
-fn are_done(watched: &[Watched]) -> bool {
+fn are_done(watched: &[Watched]) -> bool
+    ensures { result ≡ list_all (λ w. w.is_done) watched.now }
+{
     watched.iter().all(|watched| watched.is_done)
 }
 

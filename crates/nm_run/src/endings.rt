@@ -1,7 +1,7 @@
 //! What the endings of replicas are to the run.
 
-ghost use Rattle.std.specs.Prelude.{◌≡◌};
-ghost use Rattle.nm_run.specs.Report.{fault_of};
+ghost use Rattle.std.specs.Prelude.{◌≡◌, map};
+ghost use Rattle.nm_run.specs.Endings.{AreEndings, fault_of};
 
 use crate::sides::SideEnd;
 use crate::stop::Stop;
@@ -26,14 +26,16 @@ fn fault_of(served: Served) -> Option<Stop>
 ///
 /// Why one was not. The first that failed told the others to end, which is `Net` to them, so any
 /// other fault comes before that one.
-pub(crate) fn check_endings<S>(ends: &[SideEnd<S>]) -> Result<(), Stop> {
+pub(crate) fn check_endings<S>(ends: &[SideEnd<S>]) -> Result<(), Stop>
+    ensures { AreEndings (map (λ e. e.served) ends.now) result }
+{
     let mut outcome = Ok(());
-    for end in ends {
-        if let Some(fault) = fault_of(end.served) {
+    for number in 0..ends.len() {
+        if let Some(fault) = fault_of(ends[number].served) {
             if fault != Stop::Net {
                 return Err(fault);
             }
-            outcome = Err(fault);
+            outcome = Err(Stop::Net);
         }
     }
     outcome

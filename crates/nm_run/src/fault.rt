@@ -13,8 +13,8 @@ use thiserror::Error;
 /// nothing is claimed of it.
 #[derive(Clone, Copy, Debug, PartialEq, Eq, Error)]
 pub enum RunFault {
-    /// The trace file of this interface could not be made, or failed when it had so many octets,
-    /// which stops at 2^64 - 1.
+    /// The trace file of this interface could not be made, or failed when it had so many octets, or
+    /// had so many at its end where the certified books have another number. It stops at 2^64 - 1.
     #[error("a trace file failed after {written} octets")]
     File { iface: IfaceNo, written: u64 },
     /// No replica can listen or wait, one was told what cannot be, or the gate said so. It is also

@@ -1,15 +1,20 @@
 //! The trace files of a run, made and closed.
 
-ghost use Rattle.std.specs.Prelude.{◌≡◌, ◌<◌, All, IfErr, IfOk, length};
-ghost use Rattle.nm_files.specs.Files.{IsSound};
+ghost use Rattle.std.specs.Prelude.{◌≡◌, ℕ, ◌<◌, All, IfErr, IfOk, List, OnOk, Option, Some};
+ghost use Rattle.std.specs.Prelude.{length, map, slice_get};
+ghost use Rattle.nm_files.specs.Files.{AreCounted, IsCounted, IsSound};
+ghost use Rattle.nm_files.specs.Outputs.{AreWhole, Files, HasMade};
 ghost use Rattle.nm_run.specs.Faults.{IsOfFiles, run_fault};
+ghost use Rattle.nm_run.specs.Files.{AreClosed, IsFileOf};
+ghost use Rattle.nm_topology.specs.PartValues.{IfaceValue};
 
 use crate::report::IfaceTotals;
 use crate::stop::Stop;
-use nm_base::{IfaceNo, PartNo};
+use nm_base::{IfaceNo, PartNo, Sink};
 use nm_book::channels::partition_of;
 use nm_files::names::name_of;
 use nm_files::{OutputFault, Outputs, TraceFiles};
+use nm_pcap::PcapOut;
 use nm_topology::Topology;
 use nm_topology::topology::accepted_topologies_are_in_order;
 use std::alloc::Global;
@@ -32,7 +37,10 @@ fn open_own<F: Outputs>(
 ) -> Result<(), Stop>
     requires there { iface < length folder.topology.now.ifaces }
     requires sound { All IsSound files.old.files.items }
+    requires counted { AreCounted F.File.taken (F.made outputs.old) files.old.files.items }
     ensures sound { All IsSound files.new.files.items }
+    ensures counted { OnOk result
+        (AreCounted F.File.taken (F.made outputs.old) files.new.files.items) }
     ensures same { F.made outputs.new ≡ F.made outputs.old }
 {
     if partition_of(folder.topology, iface) != partition {
@@ -55,6 +63,8 @@ pub(crate) fn open_files<F: Outputs>(
     outputs: &mut F,
 ) -> Result<TraceFiles<F::File>, Stop>
     ensures sound { IfOk result (λ f. All IsSound f.files.items) }
+    ensures counted { IfOk result
+        (λ f. AreCounted F.File.taken (F.made outputs.old) f.files.items) }
     ensures same { F.made outputs.new ≡ F.made outputs.old }
 {
     accepted_topologies_are_in_order(folder.topology); // law: there are few interfaces
@@ -66,6 +76,24 @@ pub(crate) fn open_files<F: Outputs>(
     Ok(files)
 }
 
+/// The trace file of an interface, which the first replica of its partition has: that of the book
+/// at so many times the partition's number.
+fn take_file<S: Sink>(
+    topology: &Topology,
+    replicas: u8,
+    iface: IfaceNo,
+    files: &mut Vec<TraceFiles<S>>,
+) -> Option<PcapOut<S>>
+    requires { iface < length topology.now.ifaces }
+    ensures { (made : Option Files)
+        → All (λ own. AreCounted S.taken made own.files.items) files.old.items
+        → IsCounted S.taken made result
+        × All (λ own. AreCounted S.taken made own.files.items) files.new.items }
+{
+    let first = partition_of(topology, iface).index() * replicas as usize;
+    files.get_mut(first)?.take(iface)
+}
+
 /// A trace file that is closed and does not have its name yet, with its interface and its octets.
 #[derive(Drop)]
 pub(crate) struct ClosedFile<C> {
@@ -74,53 +102,73 @@ pub(crate) struct ClosedFile<C> {
     file: C,
 }
 
-/// Closes the file of an interface, if it has one.
+/// Closes the trace file of an interface, which is to have so many octets.
 fn close_one<F: Outputs>(
     alloc: Global,
     folder: TraceFolder<'_>,
     iface: IfaceNo,
-    written: u64,
+    totals: &IfaceTotals,
     outputs: &mut F,
-    files: &mut TraceFiles<F::File>,
-) -> Result<Option<ClosedFile<F::Closed>>, Stop>
-    requires { iface < length folder.topology.now.ifaces }
-    ensures { F.made outputs.new ≡ F.made outputs.old }
+    file: PcapOut<F::File>,
+) -> Result<ClosedFile<F::Closed>, Stop>
+    requires there { iface < length folder.topology.now.ifaces }
+    requires counted { IsCounted F.File.taken (F.made outputs.old) (Some file) }
+    ensures closed { (first : Files) → F.made outputs.old ≡ Some first
+        → IfOk result (λ c. (whole : List ℕ × List ℕ) × (F.closed c.file ≡ Some whole)
+        × ((x : IfaceValue) → slice_get folder.entry.topology.now.ifaces iface ≡ Some x
+        → IsFileOf folder.entry.folder.now x totals.now whole)) }
+    ensures same { F.made outputs.new ≡ F.made outputs.old }
 {
-    let Some(file) = files.take(iface) else {
-        return Ok(None);
-    };
+    let written = file.written_octets();
+    if written != totals.octets {
+        return Err(Stop::File { iface, written });
+    }
     let name = name_of(alloc, folder.folder, folder.topology.iface(iface))?;
     match outputs.close(name.as_str(), file.into_sink()) {
-        Ok(file) => Ok(Some(ClosedFile {
+        Ok(file) => Ok(ClosedFile {
             iface,
             written,
             file,
-        })),
+        }),
         Err(fault) => Err(fault_of(fault, iface, written)),
     }
 }
 
-/// Closes trace files that have these totals, behind those that are closed already.
-pub(crate) fn close_files<F: Outputs>(
+/// Closes the trace files of all interfaces, in the order of the topology's text, which are to have
+/// these totals.
+///
+/// # Errors
+///
+/// `File` where one was not closed, or has not as many octets. `IMPOSSIBLE` where there is none.
+/// `Memory` where memory was refused.
+pub(crate) fn close_all<F: Outputs>(
     alloc: Global,
     folder: TraceFolder<'_>,
+    replicas: u8,
     totals: &[IfaceTotals],
     outputs: &mut F,
-    files: &mut TraceFiles<F::File>,
-    closed: &mut Vec<ClosedFile<F::Closed>>,
-) -> Result<(), Stop>
-    requires { length totals.now ≡ length folder.topology.now.ifaces }
-    ensures { F.made outputs.new ≡ F.made outputs.old }
+    files: Vec<TraceFiles<F::File>>,
+) -> Result<Vec<ClosedFile<F::Closed>>, Stop>
+    requires count { length totals.now ≡ length folder.topology.now.ifaces }
+    requires counted { All (λ own. AreCounted F.File.taken (F.made outputs.old) own.files.items)
+        files.items }
+    ensures closed { IfOk result (λ closed. AreClosed F.closed (F.made outputs.old)
+        folder.entry.folder.now folder.entry.topology.now totals.now
+        (length folder.entry.topology.now.ifaces) closed.items) }
+    ensures same { F.made outputs.new ≡ F.made outputs.old }
 {
     accepted_topologies_are_in_order(folder.topology); // law: there are few interfaces
+    let mut files = files;
+    let mut closed = Vec::new(alloc);
     for number in 0..folder.topology.ifaces().len() {
         let iface = IfaceNo::new(number as u32);
-        let written = totals[number].octets;
-        if let Some(one) = close_one(alloc, folder, iface, written, outputs, files)? {
-            closed.push(one)?;
-        }
+        let Some(file) = take_file(folder.topology, replicas, iface, &mut files) else {
+            return Err(Stop::IMPOSSIBLE);
+        };
+        let one = close_one(alloc, folder, iface, &totals[number], outputs, file)?;
+        closed.push(one)?;
     }
-    Ok(())
+    Ok(closed)
 }
 
 /// Gives closed trace files their names, in place of what had them.
@@ -128,7 +176,10 @@ pub(crate) fn place_files<F: Outputs>(
     outputs: &mut F,
     closed: Vec<ClosedFile<F::Closed>>,
 ) -> Result<(), Stop>
-    ensures { IfErr result (λ stop. IsOfFiles (run_fault stop)) }
+    ensures placed { (files : Files)
+        → AreWhole (F.made outputs.old) (map (λ c. F.closed c.file) closed.items) files
+        → OnOk result (HasMade (F.made outputs.old) (F.made outputs.new) files) }
+    ensures fault { IfErr result (λ stop. IsOfFiles (run_fault stop)) }
 {
     for one in closed {
         if let Err(fault) = outputs.place(one.file) {

@@ -1,6 +1,8 @@
 //! Which books have something to do.
 
-ghost use Rattle.std.specs.Prelude.{◌<◌, All, IfOk, length};
+ghost use Rattle.std.specs.Prelude.{◌≡◌, ◌⊎◌, ◌↔◌, ℕ, ◌-◌, ◌<◌, All, IfOk, IsTrue, MatchResult};
+ghost use Rattle.std.specs.Prelude.{length};
+ghost use Rattle.nm_book.specs.declared.running.Ran.TheVariants.{All as AllDone, Limit, Memory};
 ghost use Rattle.nm_shared.specs.Board.{IsSeatOf};
 
 use crate::threads::{Own, Threaded};
@@ -77,7 +79,9 @@ fn has_news(board: &ClockBoard, seat: &mut Seat, words: &[usize], safe: u64) -> 
 }
 
 /// Whether a book keeps so many records that its replica is to take some out first.
-fn is_full(standing: Standing) -> bool {
+fn is_full(standing: Standing) -> bool
+    ensures { IsTrue result ↔ (MAX_KEPT < standing.records - standing.handed) }
+{
     standing.records.saturating_sub(standing.handed) > MAX_KEPT
 }
 
@@ -153,7 +157,10 @@ impl Watched {
     /// # Errors
     ///
     /// Where memory was refused to the job.
-    pub(crate) fn note(&mut self, answer: Ran, lending: &Lending) -> Result<u64, AllocError> {
+    pub(crate) fn note(&mut self, answer: Ran, lending: &Lending) -> Result<u64, AllocError>
+        ensures { MatchResult result (λ n. (answer ≡ AllDone n) ⊎ (answer ≡ Limit n))
+            (λ _. (n : ℕ) × (answer ≡ Memory n)) }
+    {
         self.is_stale = true;
         match answer {
             Ran::All(count) => {

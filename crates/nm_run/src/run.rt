@@ -1,26 +1,28 @@
 //! A run of all partitions.
 
-ghost use Rattle.std.specs.Prelude.{◌≡◌, ◌⊎◌, ◌≤◌, All, IfErr, IfOk, length};
+ghost use Rattle.std.specs.Prelude.{◌≡◌, ◌⊎◌, ℕ, ◌+◌, ◌-◌, ◌^◌, ◌<◌, ◌≤◌, All, IfErr, IfOk, None};
+ghost use Rattle.std.specs.Prelude.{Some, length};
 ghost use Rattle.std.specs.Arc.{arc_value};
-ghost use Rattle.nm_files.specs.Files.{IsSound};
+ghost use Rattle.nm_files.specs.Files.{AreCounted, IsSound};
 ghost use Rattle.nm_run.specs.Faults.{HasReason, IsOfFiles};
+ghost use Rattle.nm_run.specs.Files.{AreClosed, HaveFiles};
 ghost use Rattle.nm_run.specs.Report.{AreOfRun, IsCertifiedRun};
-ghost use Rattle.nm_shared.specs.Board.{IsOwnerOf, IsSeatOf};
+ghost use Rattle.nm_shared.specs.Board.{IsOwnerOf};
 
 use crate::closing::{certify_all, close_run};
-use crate::dispatching::{Dispatcher, dispatch};
+use crate::dispatching::Dispatcher;
 use crate::endings::check_endings;
 use crate::fault::RunFault;
-use crate::files::{ClosedFile, TraceFolder, close_files, open_files, place_files};
+use crate::files::{ClosedFile, TraceFolder, close_all, open_files, place_files};
 use crate::jobs::Watched;
 use crate::posts::{Post, Posts, open_posts, woken_poll};
 use crate::report::{Report, report_of};
 use crate::seats::{Dealt, deal};
-use crate::sides::{Role, Side, SideEnd, run_side};
+use crate::sides::{Role, Side, SideEnd, run_threads};
 use crate::stop::Stop;
 use crate::threads::Threaded;
 use mio::{Events, Waker};
-use nm_base::{PartNo, Sink};
+use nm_base::PartNo;
 use nm_book::{Book, BookFault};
 use nm_files::{Outputs, TraceFiles};
 use nm_net::{Holdings, Lending};
@@ -29,12 +31,11 @@ use nm_progress::Progress;
 use nm_shared::{ClockBoard, Gate, OwnerSeat, Pass, Plain, Seat, SharedBook};
 use nm_topology::Topology;
 use std::alloc::{AllocError, Global};
-use std::net::Net;
+use std::net::{self, Net};
 use std::sync::atomic::{AtomicBool, AtomicUsize};
 use std::sync::{Arc, Wait};
 use std::thread::Threads;
 use std::time::Clock;
-use std::{net, thread};
 
 /// A network whose partitions run at once.
 #[derive(Clone, Copy)]
@@ -112,6 +113,8 @@ fn holdings_of<F: Outputs, R: Wait>(
 ) -> Result<Holdings<Plain, F::File>, Stop>
     ensures seats { IfOk result (λ h. h.seats ≡ seats) }
     ensures files { IfOk result (λ h. All IsSound h.files.files.items) }
+    ensures counted { IfOk result
+        (λ h. AreCounted F.File.taken (F.made outputs.old) h.files.files.items) }
     ensures same { F.made outputs.new ≡ F.made outputs.old }
 {
     let folder = TraceFolder {
@@ -131,18 +134,29 @@ fn holdings_of<F: Outputs, R: Wait>(
     })
 }
 
+/// Where the book of the other replica of a partition stands, if it has two, of which this one's
+/// stands at an index.
+fn sister_of(replicas: u8, replica: u8, index: usize) -> Option<usize>
+    ensures two { (first : ℕ) → replicas ≡ 2 → replica < 2 → index ≡ first + replica
+        → first + 1 < 2 ^ 64 → result ≡ Some (first + (1 - replica)) }
+    ensures one { replicas ≡ 1 → result ≡ None }
+{
+    if replicas != 2 {
+        return None;
+    }
+    if replica == 0 {
+        return Some(index.saturating_add(1));
+    }
+    Some(index.saturating_sub(1))
+}
+
 /// Which replica of the run listens here, whose book stands at this index.
 fn role_of(plan: &RunPlan<'_>, index: usize, listener: &Listener) -> Role {
-    let sister = match (plan.replicas, listener.replica) {
-        (2, 0) => Some(index.saturating_add(1)),
-        (2, _) => Some(index.saturating_sub(1)),
-        _ => None,
-    };
     Role {
         index,
         partition: listener.partition,
         replica: listener.replica,
-        sister,
+        sister: sister_of(plan.replicas, listener.replica, index),
     }
 }
 
@@ -157,6 +171,8 @@ fn side_of<F: Outputs, R: Wait>(
 ) -> Result<Side<F::File>, Stop>
     ensures seats { IfOk result (λ s. s.holdings.seats ≡ seats) }
     ensures files { IfOk result (λ s. All IsSound s.holdings.files.files.items) }
+    ensures counted { IfOk result
+        (λ s. AreCounted F.File.taken (F.made outputs.old) s.holdings.files.files.items) }
     ensures same { F.made outputs.new ≡ F.made outputs.old }
 {
     let (Some(listener), Some(book)) = (opened.listeners.get(index), opened.books.get(index)) else {
@@ -187,6 +203,8 @@ fn sides_of<F: Outputs, R: Wait>(
     requires { All (IsOwnerOf opened.now.board.now) owners.items }
     ensures sides { IfOk result (λ sides. All (λ s. All (IsOwnerOf opened.now.board.now)
         s.holdings.seats.items × All IsSound s.holdings.files.files.items) sides.items) }
+    ensures counted { IfOk result (λ sides. All (λ s. AreCounted F.File.taken
+        (F.made outputs.old) s.holdings.files.files.items) sides.items) }
     ensures same { F.made outputs.new ≡ F.made outputs.old }
 {
     let mut sides = Vec::new(opened.alloc);
@@ -243,72 +261,6 @@ fn watch_all<R: Wait>(rt: &R, opened: &Opened<'_>) -> Result<Vec<Watched>, Alloc
     Ok(watched)
 }
 
-/// Runs all replicas, each in a thread of its own, and the dispatcher in this one, until all have
-/// ended. The dispatcher gives the books that are lent to it to the pool, and begins when all
-/// replicas have begun.
-///
-/// # Errors
-///
-/// `Net` where the system refuses a thread: no event was done then, and the replicas that had begun
-/// have ended. `Memory` where memory was refused.
-fn run_threads<S: Sink + Drop + Send, G: Gate + Sync, R>(
-    rt: &R,
-    alloc: Global,
-    threaded: &Threaded<'_, G>,
-    workers: usize,
-    sides: Vec<Side<S>>,
-    dispatcher: Dispatcher,
-) -> Result<(Vec<SideEnd<S>>, Dispatcher), Stop>
-where
-    R: Net<Stream = net::TcpStream, Listener = net::TcpListener>
-        + Threads
-        + Wait
-        + Clock
-        + Sync
-        + Drop
-        + Copy,
-    requires workers { (1 ≤ workers) × (workers ≤ 64) }
-    requires seat { IsSeatOf threaded.now.board.now dispatcher.seat }
-    requires sides { All (λ s. All (IsOwnerOf threaded.now.board.now) s.holdings.seats.items
-        × All IsSound s.holdings.files.files.items) sides.items }
-{
-    thread::scope(
-        thread::scope_env(),
-        rt,
-        move |scope| -> Result<(Vec<SideEnd<S>>, Dispatcher), Stop>
-            requires workers { (1 ≤ workers) × (workers ≤ 64) }
-            requires seat { IsSeatOf threaded.now.board.now dispatcher.seat }
-            requires sides { All (λ s. All (IsOwnerOf threaded.now.board.now)
-                s.holdings.seats.items × All IsSound s.holdings.files.files.items) sides.items }
-        {
-            let mut dispatcher = dispatcher;
-            let mut threads = Vec::new(alloc);
-            for side in sides {
-                let begun = scope.spawn(
-                    move || -> SideEnd<S>
-                        requires { All (IsOwnerOf threaded.now.board.now) side.holdings.seats.items
-                            × All IsSound side.holdings.files.files.items }
-                    { run_side(rt, alloc, threaded, side) },
-                );
-                let Ok(thread) = begun else {
-                    threaded.fail();
-                    return Err(Stop::Net);
-                };
-                if threads.push(thread).is_err() {
-                    threaded.fail();
-                    return Err(Stop::Memory);
-                }
-            }
-            dispatch(rt, alloc, threaded, workers, &mut dispatcher)?;
-            let mut ends = Vec::new(alloc);
-            for thread in threads {
-                ends.push(thread.join(rt))?;
-            }
-            Ok((ends, dispatcher))
-        },
-    )
-}
-
 /// A dispatcher at the beginning of a run, and what wakes it.
 fn dispatcher_of<R: Net + Wait>(
     rt: &R,
@@ -348,7 +300,9 @@ where
         + Drop
         + Copy,
     requires { (1 ≤ plan.now.workers) × (plan.now.workers ≤ 64) }
-    ensures { F.made outputs.new ≡ F.made outputs.old }
+    ensures counted { IfOk result (λ run. All (λ end. AreCounted F.File.taken
+        (F.made outputs.old) end.holdings.files.files.items) run.0.items) }
+    ensures same { F.made outputs.new ≡ F.made outputs.old }
 {
     let (board, owners, mut seats) = ClockBoard::new(alloc, plan.topology)?;
     let Some(seat) = seats.pop() else {
@@ -388,30 +342,6 @@ where
     Ok((ends, dispatcher))
 }
 
-/// Closes the trace files of all replicas that have some. They do not have their names yet.
-fn close_all<F: Outputs>(
-    alloc: Global,
-    plan: &RunPlan<'_>,
-    report: &Report,
-    outputs: &mut F,
-    files: Vec<TraceFiles<F::File>>,
-) -> Result<Vec<ClosedFile<F::Closed>>, Stop>
-    requires { length report.now.totals.items ≡ length (arc_value plan.now.topology.now).ifaces }
-    ensures { F.made outputs.new ≡ F.made outputs.old }
-{
-    let folder = TraceFolder {
-        topology: plan.topology,
-        folder: plan.folder,
-    };
-    let mut closed = Vec::new(alloc);
-    for own in files {
-        let mut own = own;
-        let totals = report.totals.as_slice();
-        close_files(alloc, folder, totals, outputs, &mut own, &mut closed)?;
-    }
-    Ok(closed)
-}
-
 /// Runs all partitions, and closes their trace files once all books are certified.
 #[tactic(auto, using(crate::proofs::Stops::stops_have_reason))]
 fn run_certified<'x, F: Outputs, G: Gate + Sync, R>(
@@ -433,6 +363,9 @@ where
     requires { (1 ≤ plan.now.workers) × (plan.now.workers ≤ 64) }
     ensures certified { IfOk result (λ run. IsCertifiedRun (arc_value plan.now.topology.now)
         run.0.totals.items) }
+    ensures closed { IfOk result (λ run. AreClosed F.closed (F.made outputs.old)
+        plan.now.folder.now (arc_value plan.now.topology.now) run.0.totals.items
+        (length (arc_value plan.now.topology.now).ifaces) run.1.items) }
     ensures refused { IfErr result
         (HasReason (arc_value plan.now.topology.now) plan.now.replicas) }
     ensures same { F.made outputs.new ≡ F.made outputs.old }
@@ -441,15 +374,20 @@ where
     let (ends, dispatcher) = run_books(rt, alloc, &*plan, shared.as_slice(), outputs, &*gate)?;
     let (books, files) = close_run(alloc, plan, shared, ends, dispatcher)?;
     let report = certified_report(alloc, plan.topology, plan.replicas, books.as_slice())?;
-    let closed = close_all(alloc, plan, &report, outputs, files)?;
+    let folder = TraceFolder {
+        topology: plan.topology,
+        folder: plan.folder,
+    };
+    let totals = report.totals.as_slice();
+    let closed = close_all(alloc, folder, plan.replicas, totals, outputs, files)?;
     Ok((report, closed))
 }
 
 /// Runs all partitions of a network at once: each as one or two replicas in threads of their own,
 /// which speak over TCP on 127.0.0.1, and whose books so many workers run. The traces go to files
-/// of the folder as they are made. When all have ended their books are certified. Then the files
-/// get their names, `NAME.pcap` for each interface, and the report has the totals of the one event
-/// list.
+/// of the folder as they are made. When all have ended their books are certified. Then the files,
+/// each of as many octets as its interface has in the trace of the one event list, get their names,
+/// `NAME.pcap`, in the order of the topology's text, and the report has these totals.
 ///
 /// # Errors
 ///
@@ -476,6 +414,8 @@ where
     requires { (1 ≤ plan.now.workers) × (plan.now.workers ≤ 64) }
     ensures certified { IfOk result (λ report. IsCertifiedRun (arc_value plan.now.topology.now)
         report.totals.items) }
+    ensures placed { IfOk result (λ report. HaveFiles (F.made outputs.old) (F.made outputs.new)
+        plan.now.folder.now (arc_value plan.now.topology.now) report.totals.items) }
     ensures refused { IfErr result
         (HasReason (arc_value plan.now.topology.now) plan.now.replicas) }
     ensures kept { IfErr result (λ fault. IsOfFiles fault

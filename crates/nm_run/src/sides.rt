@@ -1,14 +1,20 @@
 //! The replicas of a run, each in a thread of its own.
 
-ghost use Rattle.std.specs.Prelude.{◌≡◌, ◌⊎◌, All};
-ghost use Rattle.nm_net.specs.declared.served.Served.TheVariants.{Memory, Net};
-ghost use Rattle.nm_files.specs.Files.{IsSound};
-ghost use Rattle.nm_shared.specs.Board.{IsOwnerOf};
+ghost use Rattle.std.specs.Prelude.{◌≡◌, ◌⊎◌, ◌≤◌, All, IfOk, Option};
+ghost use Rattle.nm_net.specs.declared.served.Served.TheVariants.{Ended, Memory, Net};
+ghost use Rattle.nm_files.specs.Files.{AreCounted, IsSound};
+ghost use Rattle.nm_files.specs.Outputs.{Files};
+ghost use Rattle.nm_run.specs.Sides.{StillCounts};
+ghost use Rattle.nm_run.specs.Took.{TookSome};
+ghost use Rattle.nm_shared.specs.Board.{IsOwnerOf, IsSeatOf};
 
+use crate::dispatching::{Dispatcher, dispatch};
 use crate::gates::SideGate;
 use crate::posts::Post;
+use crate::stop::Stop;
 use crate::threads::Threaded;
 use nm_base::{PartNo, Sink};
+use nm_files::TraceFiles;
 use nm_frames::ReplicaName;
 use nm_net::limits::MAX_IDLE_PERIODS;
 use nm_net::{Holdings, Served, Service, TcpTransport, run_replica};
@@ -17,8 +23,11 @@ use nm_shared::{Gate, Plain};
 use std::alloc::Global;
 use std::io::{self, ErrorKind};
 use std::net::Net;
+use std::snapshot::Snapshot;
 use std::sync::Wait;
+use std::thread::{Promise, Threads};
 use std::time::Clock;
+use std::{net, thread};
 
 /// How many events a replica does itself after a poll. Where more are left they take longer than to
 /// wake another thread, and the pool does them.
@@ -54,6 +63,19 @@ pub(crate) struct SideEnd<S> {
     pub holdings: Holdings<Plain, S>,
 }
 
+/// What the thread of a replica that was done has done with the trace files that it began with: they
+/// took records.
+#[derive(Drop)]
+struct TookRecords<S>(Snapshot<TraceFiles<S>>);
+
+impl<S: Sink> Promise<SideEnd<S>> for TookRecords<S> {
+    ghost use Rattle.nm_net.specs.declared.served.Served.TheVariants.{Ended};
+    ghost use Rattle.nm_run.specs.Took.{TookSome};
+
+    ghost kept_by = { λ p end. end.served ≡ Ended → TookSome S.taken S.failures
+        p.0.value.files.items end.holdings.files.files.items };
+}
+
 /// Serves a replica over its connections until it ends. It calls these partitions, and these
 /// replicas call it. The dispatcher notes how far it is.
 fn serve<S: Sink, G: Gate, R: Net + Wait + Clock + Drop + Copy>(
@@ -66,6 +88,8 @@ fn serve<S: Sink, G: Gate, R: Net + Wait + Clock + Drop + Copy>(
 ) -> Served
     requires owners { All (IsOwnerOf threaded.now.board.now) holdings.old.seats.items }
     requires files { All IsSound holdings.old.files.files.items }
+    ensures took { result ≡ Ended → TookSome S.taken S.failures
+        holdings.old.files.files.items holdings.new.files.files.items }
 {
     // There is a book for each replica.
     let Some(own) = threaded.own(role.index) else {
@@ -118,6 +142,8 @@ pub(crate) fn run_side<S: Sink, G: Gate, R: Net + Wait + Clock + Drop + Copy>(
 ) -> SideEnd<S>
     requires owners { All (IsOwnerOf threaded.now.board.now) side.holdings.seats.items }
     requires files { All IsSound side.holdings.files.files.items }
+    ensures took { result.served ≡ Ended → TookSome S.taken S.failures
+        side.holdings.files.files.items result.holdings.files.files.items }
 {
     let Side {
         role,
@@ -148,4 +174,80 @@ pub(crate) fn run_side<S: Sink, G: Gate, R: Net + Wait + Clock + Drop + Copy>(
         served,
         holdings,
     }
+}
+
+/// Runs all replicas, each in a thread of its own, and the dispatcher in this one, until all have
+/// ended. The dispatcher gives the books that are lent to it to the pool, and begins when all
+/// replicas have begun.
+///
+/// # Errors
+///
+/// `Net` where the system refuses a thread: no event was done then, and the replicas that had begun
+/// have ended. `Memory` where memory was refused.
+pub(crate) fn run_threads<S: Sink + Drop + Send, G: Gate + Sync, R>(
+    rt: &R,
+    alloc: Global,
+    threaded: &Threaded<'_, G>,
+    workers: usize,
+    sides: Vec<Side<S>>,
+    dispatcher: Dispatcher,
+) -> Result<(Vec<SideEnd<S>>, Dispatcher), Stop>
+where
+    R: Net<Stream = net::TcpStream, Listener = net::TcpListener>
+        + Threads
+        + Wait
+        + Clock
+        + Sync
+        + Drop
+        + Copy,
+    requires workers { (1 ≤ workers) × (workers ≤ 64) }
+    requires seat { IsSeatOf threaded.now.board.now dispatcher.seat }
+    requires sides { All (λ s. All (IsOwnerOf threaded.now.board.now) s.holdings.seats.items
+        × All IsSound s.holdings.files.files.items) sides.items }
+    ensures counted { (made : Option Files)
+        → All (λ s. AreCounted S.taken made s.holdings.files.files.items) sides.items
+        → IfOk result (λ run. All (StillCounts S.taken made) run.0.items) }
+{
+    thread::scope(
+        thread::scope_env(),
+        rt,
+        move |scope| -> Result<(Vec<SideEnd<S>>, Dispatcher), Stop>
+            requires workers { (1 ≤ workers) × (workers ≤ 64) }
+            requires seat { IsSeatOf threaded.now.board.now dispatcher.seat }
+            requires sides { All (λ s. All (IsOwnerOf threaded.now.board.now)
+                s.holdings.seats.items × All IsSound s.holdings.files.files.items) sides.items }
+            ensures counted { (made : Option Files)
+                → All (λ s. AreCounted S.taken made s.holdings.files.files.items) sides.items
+                → IfOk result (λ run. All (StillCounts S.taken made) run.0.items) }
+        {
+            let mut dispatcher = dispatcher;
+            let mut threads = Vec::new(alloc);
+            for side in sides {
+                let promise = TookRecords(Snapshot::of(&side.holdings.files));
+                let begun = scope.spawn_with(
+                    promise,
+                    move || -> SideEnd<S>
+                        requires { All (IsOwnerOf threaded.now.board.now) side.holdings.seats.items
+                            × All IsSound side.holdings.files.files.items }
+                        ensures { result.served ≡ Ended → TookSome S.taken S.failures
+                            side.holdings.files.files.items result.holdings.files.files.items }
+                    { run_side(rt, alloc, threaded, side) },
+                );
+                let Ok(thread) = begun else {
+                    threaded.fail();
+                    return Err(Stop::Net);
+                };
+                if threads.push(thread).is_err() {
+                    threaded.fail();
+                    return Err(Stop::Memory);
+                }
+            }
+            dispatch(rt, alloc, threaded, workers, &mut dispatcher)?;
+            let mut ends = Vec::new(alloc);
+            for thread in threads {
+                ends.push(thread.join(rt))?;
+            }
+            Ok((ends, dispatcher))
+        },
+    )
 }

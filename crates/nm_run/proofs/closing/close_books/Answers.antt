@@ -1,4 +1,4 @@
-use Rattle.std.proofs.Common.{rules, ◌≡◌, length, subst, sym}
+use Rattle.std.proofs.Common.{rules, subst, sym}
 use Rattle.nm_shared.proofs.Pools.{all_more}
 use Rattle.nm_run.specs.Report.{AreInPlace, IsInPlace}
 use Rattle.nm_run.proofs.closing.close_books.Goals as goal
