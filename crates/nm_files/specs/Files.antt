@@ -1,13 +1,16 @@
 -- Trace files that are written side by side. File n is that of interface n.
-use Rattle.std.specs.Prelude.{◌≡◌, ℕ, ◌+◌, false, All, List, [], ◌∷◌, ◌++◌, length, slice_get, Option, Some, None}
+use Rattle.std.specs.Prelude.{◌≡◌, ◌≢◌, ℕ, ◌+◌, false, All, List, [], ◌∷◌, ◌++◌, length, slice_get, slice_index_or, take, Option, Some, None}
 use Rattle.std.specs.Io.KnownBytes.{Appends}
 use Rattle.nm_base.specs.Count.{saturated}
 use Rattle.nm_base.specs.declared.record.Record.{Record}
 use Rattle.nm_pcap.specs.declared.form.Form.TheVariants.{Octets}
-use Rattle.nm_pcap.specs.Format.{file_header}
+use Rattle.nm_pcap.specs.Format.{file_header, record_octets}
+use Rattle.nm_pcap.specs.Outcome.{AddedPart}
 use Rattle.nm_pcap.specs.Writer.{Writer}
+use Rattle.nm_pcap.specs.Writing.{written}
 use Rattle.nm_files.specs.Outputs.{Files}
 use Rattle.nm_files.specs.TraceFile.{written_at}
+use Rattle.nm_files.specs.declared.trace_files.FileFault.{FileFault}
 
 -- a file may be written on, if there is one
 abbrev pub IsSound : {S : Type 0} → Option (Writer S) → Type 0
@@ -54,3 +57,25 @@ module _ {S : Type 0} (taken : S → Option (List ℕ)) (failures : S → ℕ) (
   pub record FilesTook (old new : List (Option (Writer S))) : Type 0 where
     pub count : length new ≡ length old
     pub each : (n : ℕ) (o p : Option (Writer S)) → slice_get old n ≡ Some o → slice_get new n ≡ Some p → FileTook n o p
+
+module _ {S : Type 0} (taken : S → Option (List ℕ)) (failures : S → ℕ) where
+  -- The sink of the file failed: it took a part of what is written of the record, from the front, and so many octets of the file in all.
+  abbrev pub FileFailed : (r : Record (List ℕ)) → (written : ℕ) → Option (Writer S) → Option (Writer S) → Type 0
+  FileFailed r n None new = ⊥
+  FileFailed r n (Some old) None = ⊥
+  FileFailed r n (Some old) (Some new) = AddedPart taken failures old new (written old.form (record_octets r)) n
+
+  -- that of the record's interface did, and the others are as they were
+  pub record HasFailed (r : Record (List ℕ)) (old new : List (Option (Writer S))) (fault : FileFault) : Type 0 where
+    pub iface : fault.iface ≡ r.iface
+    pub file : FileFailed r fault.written (slice_index_or old r.iface None) (slice_index_or new r.iface None)
+    pub others : (n : ℕ) → n ≢ r.iface → slice_index_or new n None ≡ slice_index_or old n None
+
+  -- it did at one of the records, after those before it were taken
+  pub record HasFailedAt (records : List (Record (List ℕ))) (old new : List (Option (Writer S))) (fault : FileFault) : Type 0 where
+    pub number : ℕ
+    pub failed_at : Record (List ℕ)
+    pub place : slice_get records number ≡ Some failed_at
+    pub before : List (Option (Writer S))
+    pub took : FilesTook taken failures (take number records) old before
+    pub failed : HasFailed failed_at before new fault

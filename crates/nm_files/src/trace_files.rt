@@ -3,8 +3,8 @@
 ghost use Rattle.std.specs.Prelude.{◌≡◌, ℕ, ◌<◌, ◌≤◌, ◌∷◌, [], ◌++◌, false, All, IfErr, IfOk};
 ghost use Rattle.std.specs.Prelude.{List, None, OnOk, Option, get_or};
 ghost use Rattle.nm_base.specs.declared.limits.TheConstants.{MAX_TIME};
-ghost use Rattle.nm_files.specs.Files.{AreCounted, FileTook, FilesTook, HasBegun, IsBegun};
-ghost use Rattle.nm_files.specs.Files.{IsSound};
+ghost use Rattle.nm_files.specs.Files.{AreCounted, FileFailed, FileTook, FilesTook, HasBegun};
+ghost use Rattle.nm_files.specs.Files.{HasFailed, HasFailedAt, IsBegun, IsSound};
 ghost use Rattle.nm_files.specs.Outputs.{Files};
 
 use nm_base::{IfaceNo, Record, Sink};
@@ -82,7 +82,9 @@ fn put_in<S: Sink>(
     ensures took { OnOk result
         (FileTook S.taken S.failures («record».now ∷ []) iface file.old file.new) }
     ensures sound { OnOk result (IsSound file.new) }
-    ensures fault { IfErr result (λ f. f.iface ≡ iface) }
+    ensures iface { IfErr result (λ f. f.iface ≡ iface) }
+    ensures failed { IfErr result
+        (λ f. FileFailed S.taken S.failures «record».now f.written file.old file.new) }
 {
     let Some(file) = file else {
         return Ok(());
@@ -171,7 +173,8 @@ impl<S: Sink> TraceFiles<S> {
         ensures took { OnOk result (FilesTook S.taken S.failures («record».now ∷ [])
             self.old.files.items self.new.files.items) }
         ensures sound { OnOk result (All IsSound self.new.files.items) }
-        ensures fault { IfErr result (λ f. f.iface ≡ «record».now.iface) }
+        ensures failed { IfErr result (HasFailed S.taken S.failures «record».now
+            self.old.files.items self.new.files.items) }
     {
         let number = record.iface.index();
         if number >= self.files.len() {
@@ -191,6 +194,8 @@ impl<S: Sink> TraceFiles<S> {
         ensures took { OnOk result (FilesTook S.taken S.failures records.now
             self.old.files.items self.new.files.items) }
         ensures sound { OnOk result (All IsSound self.new.files.items) }
+        ensures failed { IfErr result (HasFailedAt S.taken S.failures records.now
+            self.old.files.items self.new.files.items) }
     {
         for number in 0..records.len() {
             self.put(&records[number])?;
