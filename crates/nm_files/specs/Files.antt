@@ -66,16 +66,16 @@ module _ {S : Type 0} (taken : S → Option (List ℕ)) (failures : S → ℕ) w
   FileFailed r n (Some old) (Some new) = AddedPart taken failures old new (written old.form (record_octets r)) n
 
   -- that of the record's interface did, and the others are as they were
-  pub record HasFailed (r : Record (List ℕ)) (old new : List (Option (Writer S))) (fault : FileFault) : Type 0 where
+  pub record OwnFileFailed (r : Record (List ℕ)) (old new : List (Option (Writer S))) (fault : FileFault) : Type 0 where
     pub iface : fault.iface ≡ r.iface
     pub file : FileFailed r fault.written (slice_index_or old r.iface None) (slice_index_or new r.iface None)
     pub others : (n : ℕ) → n ≢ r.iface → slice_index_or new n None ≡ slice_index_or old n None
 
   -- it did at one of the records, after those before it were taken
-  pub record HasFailedAt (records : List (Record (List ℕ))) (old new : List (Option (Writer S))) (fault : FileFault) : Type 0 where
+  pub record FailedAt (records : List (Record (List ℕ))) (old new : List (Option (Writer S))) (fault : FileFault) : Type 0 where
     pub number : ℕ
     pub failed_at : Record (List ℕ)
     pub place : slice_get records number ≡ Some failed_at
     pub before : List (Option (Writer S))
     pub took : FilesTook taken failures (take number records) old before
-    pub failed : HasFailed failed_at before new fault
+    pub failed : OwnFileFailed failed_at before new fault

@@ -4,7 +4,7 @@ ghost use Rattle.std.specs.Prelude.{◌≡◌, ℕ, ◌<◌, ◌≤◌, ◌∷�
 ghost use Rattle.std.specs.Prelude.{List, None, OnOk, Option, get_or};
 ghost use Rattle.nm_base.specs.declared.limits.TheConstants.{MAX_TIME};
 ghost use Rattle.nm_files.specs.Files.{AreCounted, FileFailed, FileTook, FilesTook, HasBegun};
-ghost use Rattle.nm_files.specs.Files.{HasFailed, HasFailedAt, IsBegun, IsSound};
+ghost use Rattle.nm_files.specs.Files.{OwnFileFailed, FailedAt, IsBegun, IsSound};
 ghost use Rattle.nm_files.specs.Outputs.{Files};
 
 use nm_base::{IfaceNo, Record, Sink};
@@ -173,7 +173,7 @@ impl<S: Sink> TraceFiles<S> {
         ensures took { OnOk result (FilesTook S.taken S.failures («record».now ∷ [])
             self.old.files.items self.new.files.items) }
         ensures sound { OnOk result (All IsSound self.new.files.items) }
-        ensures failed { IfErr result (HasFailed S.taken S.failures «record».now
+        ensures failed { IfErr result (OwnFileFailed S.taken S.failures «record».now
             self.old.files.items self.new.files.items) }
     {
         let number = record.iface.index();
@@ -194,7 +194,7 @@ impl<S: Sink> TraceFiles<S> {
         ensures took { OnOk result (FilesTook S.taken S.failures records.now
             self.old.files.items self.new.files.items) }
         ensures sound { OnOk result (All IsSound self.new.files.items) }
-        ensures failed { IfErr result (HasFailedAt S.taken S.failures records.now
+        ensures failed { IfErr result (FailedAt S.taken S.failures records.now
             self.old.files.items self.new.files.items) }
     {
         for number in 0..records.len() {

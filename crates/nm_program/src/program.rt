@@ -14,6 +14,7 @@ use crate::runs::say_run;
 use nm_base::Sink;
 use nm_command::{Command, Status};
 use nm_files::Outputs;
+use nm_run::Runtime;
 use nm_words::all::write_all_traces;
 use nm_words::checking::say_check;
 use nm_words::input::NamedInputs;
@@ -25,11 +26,6 @@ use nm_words::script::say_script;
 use nm_words::series::write_series;
 use nm_words::shown::{say_text, say_view};
 use nm_words::traces::write_trace;
-use std::net;
-use std::net::Net;
-use std::sync::Wait;
-use std::thread::Threads;
-use std::time::Clock;
 
 /// Does what the words say, and gives the sink back. Inputs are those that the words name. What is
 /// asked for goes to `out`, a trace file as it is made, and a line to `errors` where the program is
@@ -51,13 +47,7 @@ pub fn run<I: Inputs, F: Outputs, O: Sink + Drop, E: Sink, R>(
 ) -> (Status, O)
 where
     F::File: Send,
-    R: Net<Stream = net::TcpStream, Listener = net::TcpListener>
-        + Threads
-        + Wait
-        + Clock
-        + Sync
-        + Drop
-        + Copy,
+    R: Runtime,
     ensures ending { ProgramEnds O.taken O.failures
         (text_of I.standard_text I.file_text inputs.old.inputs)
         inputs.old.failures inputs.new.failures
@@ -80,13 +70,7 @@ fn perform<I: Inputs, F: Outputs, O: Sink + Drop, R>(
 ) -> (Status, O)
 where
     F::File: Send,
-    R: Net<Stream = net::TcpStream, Listener = net::TcpListener>
-        + Threads
-        + Wait
-        + Clock
-        + Sync
-        + Drop
-        + Copy,
+    R: Runtime,
     ensures { ProgramEnds O.taken O.failures
         (text_of I.standard_text I.file_text inputs.old.inputs)
         inputs.old.failures inputs.new.failures

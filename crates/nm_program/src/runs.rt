@@ -22,7 +22,7 @@ use crate::means::Means;
 use nm_base::{IfaceNo, Sink, push_text};
 use nm_command::{RunWords, Status};
 use nm_files::Outputs;
-use nm_run::{IfaceTotals, Report, RunFault, RunPlan, run_all};
+use nm_run::{IfaceTotals, Report, RunFault, RunPlan, Runtime, run_all};
 use nm_shared::OpenGate;
 use nm_sim::trace::every_topology_has_a_trace;
 use nm_topology::Topology;
@@ -33,11 +33,7 @@ use nm_words::lines::push_iface_line;
 use nm_words::output::{Output, end};
 use nm_words::reading::read_shared;
 use std::alloc::{AllocError, Global};
-use std::net;
-use std::net::Net;
-use std::sync::{Arc, Wait};
-use std::thread::Threads;
-use std::time::Clock;
+use std::sync::Arc;
 
 /// Appends the line of an interface that has these totals.
 fn push_total(
@@ -117,13 +113,7 @@ fn run_network<F: Outputs, R>(
 ) -> Result<Output, Status>
 where
     F::File: Send,
-    R: Net<Stream = net::TcpStream, Listener = net::TcpListener>
-        + Threads
-        + Wait
-        + Clock
-        + Sync
-        + Drop
-        + Copy,
+    R: Runtime,
     requires { (1 ≤ words.now.workers) × (words.now.workers ≤ MAX_WORKERS) }
     ensures said { IfOk result (λ output. (text : List ℕ)
         → topology_of text ≡ Ok (arc_value network.now)
@@ -157,13 +147,7 @@ fn run_said<I: Inputs, F: Outputs, R>(
 ) -> Result<Output, Status>
 where
     F::File: Send,
-    R: Net<Stream = net::TcpStream, Listener = net::TcpListener>
-        + Threads
-        + Wait
-        + Clock
-        + Sync
-        + Drop
-        + Copy,
+    R: Runtime,
     requires { (1 ≤ words.now.workers) × (words.now.workers ≤ MAX_WORKERS) }
     ensures said { IfOk result (λ output. SaysOfInput
         (text_of I.standard_text I.file_text inputs.old.inputs words.now.topology.now)
@@ -188,13 +172,7 @@ pub(crate) fn say_run<I: Inputs, F: Outputs, O: Sink + Drop, R>(
 ) -> (Status, O)
 where
     F::File: Send,
-    R: Net<Stream = net::TcpStream, Listener = net::TcpListener>
-        + Threads
-        + Wait
-        + Clock
-        + Sync
-        + Drop
-        + Copy,
+    R: Runtime,
     requires { (1 ≤ words.now.workers) × (words.now.workers ≤ MAX_WORKERS) }
     ensures { EndsRun O.taken O.failures
         (text_of I.standard_text I.file_text inputs.old.inputs)

@@ -17,6 +17,7 @@ use crate::files::{ClosedFile, TraceFolder, close_all, open_files, place_files};
 use crate::jobs::Watched;
 use crate::posts::{Post, Posts, open_posts, woken_poll};
 use crate::report::{Report, report_of};
+use crate::runtime::Runtime;
 use crate::seats::{Dealt, deal};
 use crate::sides::{Role, Side, SideEnd, run_threads};
 use crate::stop::Stop;
@@ -31,11 +32,9 @@ use nm_progress::Progress;
 use nm_shared::{ClockBoard, Gate, OwnerSeat, Pass, Plain, Seat, SharedBook};
 use nm_topology::Topology;
 use std::alloc::{AllocError, Global};
-use std::net::{self, Net};
+use std::net::Net;
 use std::sync::atomic::{AtomicBool, AtomicUsize};
 use std::sync::{Arc, Wait};
-use std::thread::Threads;
-use std::time::Clock;
 
 /// A network whose partitions run at once.
 #[derive(Clone, Copy)]
@@ -292,13 +291,7 @@ fn run_books<'x, F: Outputs, G: Gate + Sync, R>(
 ) -> Result<(Vec<SideEnd<F::File>>, Dispatcher), Stop>
 where
     F::File: Send,
-    R: Net<Stream = net::TcpStream, Listener = net::TcpListener>
-        + Threads
-        + Wait
-        + Clock
-        + Sync
-        + Drop
-        + Copy,
+    R: Runtime,
     requires { (1 ≤ plan.now.workers) × (plan.now.workers ≤ 64) }
     ensures counted { IfOk result (λ run. All (λ end. AreCounted F.File.taken
         (F.made outputs.old) end.holdings.files.files.items) run.0.items) }
@@ -353,13 +346,7 @@ fn run_certified<'x, F: Outputs, G: Gate + Sync, R>(
 ) -> Result<(Report, Vec<ClosedFile<F::Closed>>), RunFault>
 where
     F::File: Send,
-    R: Net<Stream = net::TcpStream, Listener = net::TcpListener>
-        + Threads
-        + Wait
-        + Clock
-        + Sync
-        + Drop
-        + Copy,
+    R: Runtime,
     requires { (1 ≤ plan.now.workers) × (plan.now.workers ≤ 64) }
     ensures certified { IfOk result (λ run. IsCertifiedRun (arc_value plan.now.topology.now)
         run.0.totals.items) }
@@ -404,13 +391,7 @@ pub fn run_all<'x, F: Outputs, G: Gate + Sync, R>(
 ) -> Result<Report, RunFault>
 where
     F::File: Send,
-    R: Net<Stream = net::TcpStream, Listener = net::TcpListener>
-        + Threads
-        + Wait
-        + Clock
-        + Sync
-        + Drop
-        + Copy,
+    R: Runtime,
     requires { (1 ≤ plan.now.workers) × (plan.now.workers ≤ 64) }
     ensures certified { IfOk result (λ report. IsCertifiedRun (arc_value plan.now.topology.now)
         report.totals.items) }

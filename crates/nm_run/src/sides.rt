@@ -11,6 +11,7 @@ ghost use Rattle.nm_shared.specs.Board.{IsOwnerOf, IsSeatOf};
 use crate::dispatching::{Dispatcher, dispatch};
 use crate::gates::SideGate;
 use crate::posts::Post;
+use crate::runtime::Runtime;
 use crate::stop::Stop;
 use crate::threads::Threaded;
 use nm_base::{PartNo, Sink};
@@ -25,9 +26,9 @@ use std::io::{self, ErrorKind};
 use std::net::Net;
 use std::snapshot::Snapshot;
 use std::sync::Wait;
-use std::thread::{Promise, Threads};
+use std::thread;
+use std::thread::Promise;
 use std::time::Clock;
-use std::{net, thread};
 
 /// How many events a replica does itself after a poll. Where more are left they take longer than to
 /// wake another thread, and the pool does them.
@@ -184,7 +185,7 @@ pub(crate) fn run_side<S: Sink, G: Gate, R: Net + Wait + Clock + Drop + Copy>(
 ///
 /// `Net` where the system refuses a thread: no event was done then, and the replicas that had begun
 /// have ended. `Memory` where memory was refused.
-pub(crate) fn run_threads<S: Sink + Drop + Send, G: Gate + Sync, R>(
+pub(crate) fn run_threads<S: Sink + Drop + Send, G: Gate + Sync, R: Runtime>(
     rt: &R,
     alloc: Global,
     threaded: &Threaded<'_, G>,
@@ -192,14 +193,6 @@ pub(crate) fn run_threads<S: Sink + Drop + Send, G: Gate + Sync, R>(
     sides: Vec<Side<S>>,
     dispatcher: Dispatcher,
 ) -> Result<(Vec<SideEnd<S>>, Dispatcher), Stop>
-where
-    R: Net<Stream = net::TcpStream, Listener = net::TcpListener>
-        + Threads
-        + Wait
-        + Clock
-        + Sync
-        + Drop
-        + Copy,
     requires workers { (1 ≤ workers) × (workers ≤ 64) }
     requires seat { IsSeatOf threaded.now.board.now dispatcher.seat }
     requires sides { All (λ s. All (IsOwnerOf threaded.now.board.now) s.holdings.seats.items
