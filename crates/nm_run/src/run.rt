@@ -373,14 +373,14 @@ where
 /// Runs all partitions of a network at once: each as one or two replicas in threads of their own,
 /// which speak over TCP on 127.0.0.1, and whose books so many workers run. The traces go to files
 /// of the folder as they are made. When all have ended their books are certified. Then the files,
-/// each of as many octets as its interface has in the trace of the one event list, get their names,
-/// `NAME.pcap`, in the order of the topology's text, and the report has these totals.
+/// each of as many octets as its interface has in the trace of the one event list, get their
+/// names, `NAME.pcap`, in the order of the topology's text, and the report has these totals.
 ///
 /// # Errors
 ///
 /// Those of `RunFault`. `NotCertified` has the first fault that the certificate finds in the books
-/// of the run, one of each replica. No file got its name, unless one of them could not get it: those
-/// before it have theirs then.
+/// of the run, one of each replica. No file got its name, unless one of them could not get it:
+/// those before it have theirs then.
 #[tactic(auto, using(crate::proofs::Stops::stops_have_reason))]
 pub fn run_all<'x, F: Outputs, G: Gate + Sync, R>(
     rt: &R,

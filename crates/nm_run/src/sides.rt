@@ -64,8 +64,8 @@ pub(crate) struct SideEnd<S> {
     pub holdings: Holdings<Plain, S>,
 }
 
-/// What the thread of a replica that was done has done with the trace files that it began with: they
-/// took records.
+/// What became of the trace files with which the thread of a replica began, if the replica was
+/// done: they took records.
 #[derive(Drop)]
 struct TookRecords<S>(Snapshot<TraceFiles<S>>);
 
