@@ -45,7 +45,7 @@ module _ {S : Type 0} (taken : S → Option (List ℕ)) (failures : S → ℕ) (
     pub whole : Appends (taken old.sink) (taken new.sink) (written_at old.form n records)
     pub no_fault : failures new.sink ≡ failures old.sink
     pub same_form : new.form ≡ old.form
-    -- where so many octets were counted, those are more
+    -- if so many octets were counted before, as many more are as were written, up to 2 ^ 64 - 1
     pub counted : (before : ℕ) → old.written ≡ saturated before → new.written ≡ saturated (before + length (written_at old.form n records))
 
   abbrev pub FileTook : ℕ → Option (Writer S) → Option (Writer S) → Type 0

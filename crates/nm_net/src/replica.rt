@@ -97,16 +97,18 @@ fn ending_of(is_done: bool, idle: u64, limit: u64, polls: u64) -> Option<Served>
 
 /// Serves the connections of a replica, and runs its book if it is to, until the replica is done
 /// and its links have ended, or it ends for another reason. Passes, seats and files stay where they
-/// are. Records go to the trace files while it runs: these take what is handed out of the book, each
-/// record at its own interface.
+/// are. Records go to the trace files while it runs: these take what is handed out of the book,
+/// each record at its own interface.
+///
 /// A connection that breaks is begun again by the side that began it; an octet or a Hello that
 /// should not be costs a connection that said no Hello, and after one the replica. The promise of
 /// each outgoing channel stands on the board before a poll ends. Before each poll the gate is
 /// asked, and told how many octets have moved.
 ///
-/// `Ended` where the replica was seen to be done, with no record left to hand out. `File` where a trace file failed. `Stalled` after
-/// no fewer periods than its limit, or after 10^9 polls. `Net` where a peer broke
-/// the rules, a message was refused, or the gate said so. `Memory` where memory was refused.
+/// `Ended` where the replica was seen to be done, with no record left to hand out. `File` where a
+/// trace file failed. `Stalled` after no fewer periods than its limit, or after 10^9 polls. `Net`
+/// where a peer broke the rules, a message was refused, or the gate said so. `Memory` where memory
+/// was refused.
 pub fn run_replica<C: Counts, S: Sink, T: Transport, G: Gate, R: Wait>(
     rt: &R,
     alloc: Global,

@@ -76,8 +76,8 @@ pub(crate) fn open_files<F: Outputs>(
     Ok(files)
 }
 
-/// The trace file of an interface, which the first replica of its partition has: that of the book
-/// at so many times the partition's number.
+/// The trace file of an interface, if there is one. The first replica of its partition has it,
+/// whose files stand behind those of so many replicas of each partition before.
 fn take_file<S: Sink>(
     topology: &Topology,
     replicas: u8,

@@ -26,8 +26,7 @@ use std::io::{self, ErrorKind};
 use std::net::Net;
 use std::snapshot::Snapshot;
 use std::sync::Wait;
-use std::thread;
-use std::thread::Promise;
+use std::thread::{self, Promise};
 use std::time::Clock;
 
 /// How many events a replica does itself after a poll. Where more are left they take longer than to
