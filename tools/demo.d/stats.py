@@ -1,7 +1,7 @@
 """What a node says of itself with the further word `stats`, and of its interfaces at its end (docs/FORMATS.md, Runs)."""
 
-# The words of the line `safe S events E records R messages M nulls N connections C broken B`.
-WORDS = ("safe", "events", "records", "messages", "nulls", "connections", "broken")
+# The words of the line `safe S events E records R messages M nulls N connections C broken B resent R`.
+WORDS = ("safe", "events", "records", "messages", "nulls", "connections", "broken", "resent")
 
 
 def numbers(words, values):

@@ -1,4 +1,5 @@
 pub mod Count
+pub mod Event
 pub mod Key
 pub mod Sink
 pub mod Text

@@ -1,14 +1,31 @@
 //! Events, and where the packets that a node reacts to come from.
 
-use crate::{IfaceNo, Packet, SourceNo};
+ghost use Rattle.std.specs.Prelude.{◌≡◌};
+ghost use Rattle.nm_base.specs.Event.{event_place};
 
-/// What a pending event brings to its node. Its `Key` says when and where.
+use crate::{IfaceNo, Packet, Place, SourceNo};
+
+/// An event that is to come: what happens, and where. When, and which of its place's events it is,
+/// say the time and the number of its `Key`.
 #[derive(Drop)]
 pub enum Event<P = Packet> {
-    /// A packet, which arrives at an interface or comes from a source.
-    Delivery(P),
-    /// Nothing but that a transmission is complete.
-    Completion,
+    /// A packet comes to its node: it arrives at an interface, or a source hands it over.
+    Delivery(Origin, P),
+    /// An interface completes a transmission.
+    Completion(IfaceNo),
+}
+
+impl Event {
+    /// Where it stands in the order of keys.
+    pub fn place(&self) -> Place
+        ensures { result ≡ event_place self.now }
+    {
+        match self {
+            Event::Delivery(Origin::Arrival(iface), _) => Place::Arrive(*iface),
+            Event::Delivery(Origin::Source(source), _) => Place::Fire(*source),
+            Event::Completion(iface) => Place::Complete(*iface),
+        }
+    }
 }
 
 /// Where a packet that a node reacts to comes from.

@@ -4,7 +4,7 @@ ghost use Rattle.std.specs.Prelude.{◌≡◌, ℕ, ◌≤◌, None, OnOk};
 ghost use Rattle.std.specs.FinMap.{empty, get};
 ghost use Rattle.nm_base.specs.declared.key.Key.{Key as EventKey};
 
-use nm_base::{Event, IfaceNo, Key, Place, Time};
+use nm_base::{Event, IfaceNo, Time};
 use nm_events::EventList;
 use std::alloc::AllocError;
 
@@ -22,17 +22,6 @@ fn step(order: Order, random: u64) -> u64 {
     match order {
         Order::Random => random,
         Order::Nearly => (1 << 20) + random % 64,
-    }
-}
-
-/// The key of this number, which no other has.
-fn key(time: u64, number: u64) -> Key
-    ensures { result.number ≡ number }
-{
-    Key {
-        time: Time::from_nanoseconds(time),
-        place: Place::Complete(IfaceNo::new(0)),
-        number,
     }
 }
 
@@ -56,7 +45,8 @@ fn fill<L: EventList>(list: &mut L, count: u64) -> Result<(), AllocError>
     let mut random: u64 = 1;
     for number in 0..count {
         random = next(random);
-        list.put(key(random, number), Event::Completion);
+        let event = Event::Completion(IfaceNo::new(0));
+        list.put(Time::from_nanoseconds(random), number, event);
     }
     Ok(())
 }
@@ -79,10 +69,10 @@ pub(crate) fn turn_over<L: EventList>(
         let Some(entry) = list.take_least() else {
             return Ok(time);
         };
-        let (least, _event) = entry;
+        let (least, _, event) = entry;
         random = next(random);
-        time = least.time.nanoseconds().wrapping_add(step(order, random));
-        list.put(key(time, number), Event::Completion);
+        time = least.nanoseconds().wrapping_add(step(order, random));
+        list.put(Time::from_nanoseconds(time), number, event);
     }
     Ok(time)
 }

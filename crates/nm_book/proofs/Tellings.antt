@@ -8,6 +8,7 @@ use Rattle.nm_topology.specs.TopologyValue.{TopologyValue}
 use Rattle.std.proofs.lemmas.List.{length-set}
 use Rattle.std.specs.FinMap.{insert}
 use Rattle.nm_base.specs.declared.event.Event.TheVariants.{Delivery}
+use Rattle.nm_base.specs.declared.event.Origin.TheVariants.{Arrival}
 use Rattle.nm_base.specs.declared.key.Place.TheVariants.{Arrive}
 use Rattle.nm_base.specs.Key.{key_of}
 use Rattle.nm_model.specs.Knowledge.{IsUnder, Know, Knowledge, nothing_known}
@@ -105,7 +106,7 @@ module _ (t : TopologyValue) (p : ℕ) (l : List (Know (List ℕ))) (part new : 
   pub told_data : channel_from 0 t.receivers i ≡ Some c → IsBook t p l part → c < length l → comes_in (net_of t) p i ≡ true
       → ((K : Knowledge (List ℕ)) (k : ℕ) → IsWithin (net_of t) p K k → (i : ℕ) → comes_in (net_of t) p i ≡ true → (b : ℕ × List ℕ) → (K i).clock ≤ b.0
       → from_scratch (net_of t) p (set_at K i (record { list = (K i).list ++ b ∷ []; clock = b.0 })) k
-      ≡ record (from_scratch (net_of t) p K k) { pending = insert (from_scratch (net_of t) p K k).pending (key_of b.0 (Arrive i) (length (K i).list)) (Delivery b.1) })
+      ≡ record (from_scratch (net_of t) p K k) { pending = insert (from_scratch (net_of t) p K k).pending (key_of b.0 (Arrive i) (length (K i).list)) (Delivery (Arrival i) b.1) })
       → ((K J : Knowledge (List ℕ)) → IsUnderAll (net_of t) p K J → (k : ℕ) → IsWithin (net_of t) p K k → IsWithin (net_of t) p J k)
       → ((K : Knowledge (List ℕ)) (i : ℕ) (a : Know (List ℕ)) → IsUnder (K i) a → IsUnderAll (net_of t) p K (set_at K i a))
       → known.clock ≤ time → IsUnder known grown

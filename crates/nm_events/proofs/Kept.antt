@@ -1,5 +1,5 @@
 -- A ring and a heap of one queue.
-use Rattle.std.proofs.Common.{◌≡◌, inl, ℕ, ◌+◌, ◌<◌, ◌≤◌, Bool, true, false, cond, List, [], ◌∷◌, ◌++◌, length, Option, Some, None, refl, sym, ap, ◌∙◌, arith, ◌&&◌, true≢false, subst, length-append}
+use Rattle.std.proofs.Common.{◌≡◌, inl, ℕ, ◌+◌, ◌^◌, ◌<◌, ◌≤◌, Bool, true, false, cond, List, [], ◌∷◌, ◌++◌, length, Option, Some, None, refl, sym, ap, ◌∙◌, arith, ◌&&◌, true≢false, subst, length-append}
 use Rattle.std.proofs.Common.{Ordering, Less, Equal, Greater}
 use Rattle.std.specs.Ordering.{is_lt, is_eq, eq_by_cmp, ordering_reverse}
 use Rattle.std.specs.FinMap.{find, put, is_sorted}
@@ -9,7 +9,8 @@ use Rattle.std.specs.List.{All}
 use Rattle.nm_base.specs.declared.key.Key.{Key}
 use Rattle.nm_base.specs.Key.{key_cmp, key_cmp_total}
 use Rattle.nm_model.specs.EventList.{first_of_list}
-use Rattle.nm_events.specs.Queued.{in_order, AreDistinct, AreApart, comes_before, first_key, lesser, IsKept}
+use Rattle.nm_model.proofs.Keys.{earlier}
+use Rattle.nm_events.specs.Queued.{in_order, AreDistinct, AreApart, comes_before, first_key, lesser, time_of, IsKept}
 use Rattle.nm_events.proofs.Queued.{truth, first, second, less, greater, equal, below_later, put_last, sorted_after, sorted_rest}
 use Rattle.nm_events.proofs.Runs.{some_none, Apart, or_else, find_append, none_append, none_below, none_tied, below_append, not_in_other, apart_rest, apart_put, swapped}
 use Rattle.nm_events.proofs.InOrder.{one_more, least_first, same_order, none_in_order, more_distinct, length_in_order, none_distinct, find_in_order}
@@ -25,6 +26,18 @@ none_of (x ∷ es) e = absurd (some_none x (sym e))
 pub length_put : {A : Type 0} (k : Key) (a : A) (es : List (Key × A)) → is_sorted key_cmp es ≡ true → find key_cmp k es ≡ None → length (put key_cmp k a es) ≡ length es + 1
 length_put k a es h none =
     length-put key_cmp key_cmp_total k a es (truth _ h) ∙ ap (λ r. cond (is_some r) (length es) (length es + 1)) none
+
+-- a key of a lesser time comes before, and one of a greater time doesn't
+pub time_before : (a b : Option Key) → time_of b < 2 ^ 64 → time_of a < time_of b → comes_before a b ≡ true
+time_before None None fits h = absurd (omega (arith, h))
+time_before None (Some b) fits h = absurd (omega (arith, fits, h))
+time_before (Some a) None fits h = refl
+time_before (Some a) (Some b) fits h = ap is_lt (earlier a b h)
+
+pub time_behind : (a b : Option Key) → time_of a < 2 ^ 64 → time_of b < time_of a → comes_before a b ≡ false
+time_behind None b fits h = refl
+time_behind (Some a) None fits h = absurd (omega (arith, fits, h))
+time_behind (Some a) (Some b) fits h = ap is_lt (key_cmp_total.antisymm a b ∙ ap ordering_reverse (earlier b a h))
 
 -- a key that comes before the first of a queue comes before all of it
 pub before_queue : {A : Type 0} (a : Key) (es : List (Key × A)) → is_sorted key_cmp es ≡ true → comes_before (Some a) (first_key es) ≡ true → below_all key_cmp a es ≡ true

@@ -3,5 +3,6 @@ mod Heaped
 mod Held
 mod InOrder
 mod Kept
+mod Placed
 mod Queued
 mod Runs

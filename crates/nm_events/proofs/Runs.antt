@@ -112,8 +112,8 @@ or_else (Some x) r = Some x
 or_else None r = r
 
 -- the values of a queue, as those of all
-abbrev pub run : {K X E : Type 0} → (X → E) → List (K × X) → List (K × E)
-run f es = map (λ e. (e.0, f e.1)) es
+abbrev pub run : {K X E : Type 0} → (K × X → E) → List (K × X) → List (K × E)
+run f es = map (λ e. (e.0, f e)) es
 
 module _ {K E : Type 0} (R : K → K → Ordering) where
   pub find_append : (q : K) (us vs : List (K × E)) → find R q (us ++ vs) ≡ or_else (find R q us) (find R q vs)
@@ -131,64 +131,79 @@ module _ {K E : Type 0} (R : K → K → Ordering) where
   below_append k [] vs h i = i
   below_append k (u ∷ us) vs h i = ap (λ b. b && below_all R k (us ++ vs)) (first _ _ h) ∙ below_append k us vs (second _ _ h) i
 
-module _ {K X E : Type 0} (R : K → K → Ordering) (f : X → E) where
-  pub find_run : (q : K) (es : List (K × X)) → find R q (run f es) ≡ option_map f (find R q es)
-  find_run q [] = refl
-  find_run q (e ∷ es) =
-      elim (eq_by_cmp R q e.0) as (λ b. cond b (Some (f e.1)) (find R q (run f es)) ≡ option_map f (cond b (Some e.1) (find R q es))) [
-        | true ↦ refl
-        | false ↦ find_run q es
-      ]
+module _ {K X E : Type 0} (R : K → K → Ordering) (f : K × X → E) where
+  pub find_run : IsAntisymmetric R → (q : K) (es : List (K × X)) → find R q (run f es) ≡ option_map (λ x. f (q, x)) (find R q es)
+  find_run same q [] = refl
+  find_run same q (e ∷ es) = go (find_run same q es) (eq_by_cmp R q e.0) refl
+    where
+      go : find R q (run f es) ≡ option_map (λ x. f (q, x)) (find R q es) → (b : Bool) → eq_by_cmp R q e.0 ≡ b
+          → cond b (Some (f e)) (find R q (run f es)) ≡ option_map (λ x. f (q, x)) (cond b (Some e.1) (find R q es))
+      go rest true t = ap (λ k. Some (f (k, e.1))) (sym (same q e.0 (equal (R q e.0) t)))
+      go rest false t = rest
 
   pub none_run : (q : K) (es : List (K × X)) → find R q es ≡ None → find R q (run f es) ≡ None
-  none_run q es none = find_run q es ∙ ap (option_map f) none
+  none_run q [] none = refl
+  none_run q (e ∷ es) none = go (none_run q es) (eq_by_cmp R q e.0) none
+    where
+      go : (find R q es ≡ None → find R q (run f es) ≡ None) → (b : Bool) → cond b (Some e.1) (find R q es) ≡ None → cond b (Some (f e)) (find R q (run f es)) ≡ None
+      go rest true h = absurd (some_none e.1 h)
+      go rest false h = rest h
+
+  pub none_in_run : (q : K) (es : List (K × X)) → find R q (run f es) ≡ None → find R q es ≡ None
+  none_in_run q [] none = refl
+  none_in_run q (e ∷ es) none = go (none_in_run q es) (eq_by_cmp R q e.0) none
+    where
+      go : (find R q (run f es) ≡ None → find R q es ≡ None) → (b : Bool) → cond b (Some (f e)) (find R q (run f es)) ≡ None → cond b (Some e.1) (find R q es) ≡ None
+      go rest true h = absurd (some_none (f e) h)
+      go rest false h = rest h
 
   pub below_run : (k : K) (es : List (K × X)) → below_all R k es ≡ true → below_all R k (run f es) ≡ true
   below_run k [] h = refl
   below_run k (e ∷ es) h = ap (λ b. b && below_all R k (run f es)) (first _ _ h) ∙ below_run k es (second _ _ h)
 
 -- a queue between others
-module _ {K X E : Type 0} {R : K → K → Ordering} (o : IsTotalOrder R) (same : IsAntisymmetric R) (f : X → E) (us vs : List (K × E)) where
+module _ {K X E : Type 0} {R : K → K → Ordering} (o : IsTotalOrder R) (same : IsAntisymmetric R) (f : K × X → E) (us vs : List (K × E)) where
   abbrev pub among : List (K × X) → FinMap R E
   among es = from_entries (us ++ (run f es ++ vs))
 
-  pub get_among : (q : K) (es : List (K × X)) → get (among es) q ≡ or_else (find R q us) (or_else (option_map f (find R q es)) (find R q vs))
+  pub get_among : (q : K) (es : List (K × X)) → get (among es) q ≡ or_else (find R q us) (or_else (option_map (λ x. f (q, x)) (find R q es)) (find R q vs))
   get_among q es = get-from_entries o (us ++ (run f es ++ vs)) q ∙ find_append R q us (run f es ++ vs)
-      ∙ ap (or_else (find R q us)) (find_append R q (run f es) vs ∙ ap (λ r. or_else r (find R q vs)) (find_run R f q es))
+      ∙ ap (or_else (find R q us)) (find_append R q (run f es) vs ∙ ap (λ r. or_else r (find R q vs)) (find_run R f same q es))
 
   -- what is put into the queue is put into all
-  pub put_among : (k : K) (x : X) (es : List (K × X)) → find R k us ≡ None → among (put R k x es) ≡ insert (among es) k (f x)
+  pub put_among : (k : K) (x : X) (es : List (K × X)) → find R k us ≡ None → among (put R k x es) ≡ insert (among es) k (f (k, x))
   put_among k x es none = same_map o same _ _ (λ q. get_among q (put R k x es)
-      ∙ ap (λ r. or_else (find R q us) (or_else (option_map f r) (find R q vs))) (find-put R o q k x es)
+      ∙ ap (λ r. or_else (find R q us) (or_else (option_map (λ x. f (q, x)) r) (find R q vs))) (find-put R o q k x es)
       ∙ go q (eq_by_cmp R q k) refl
-      ∙ sym (get-insert o (among es) k (f x) q ∙ ap (cond (eq_by_cmp R q k) (Some (f x))) (get_among q es)))
+      ∙ sym (get-insert o (among es) k (f (k, x)) q ∙ ap (cond (eq_by_cmp R q k) (Some (f (k, x)))) (get_among q es)))
     where
-      go : (q : K) (t : Bool) → eq_by_cmp R q k ≡ t → or_else (find R q us) (or_else (option_map f (cond t (Some x) (find R q es))) (find R q vs))
-          ≡ cond t (Some (f x)) (or_else (find R q us) (or_else (option_map f (find R q es)) (find R q vs)))
-      go q true e = ap (λ r. or_else r (Some (f x))) (sym (find_tied R o q k (equal (R q k) e) us) ∙ none)
+      go : (q : K) (t : Bool) → eq_by_cmp R q k ≡ t → or_else (find R q us) (or_else (option_map (λ x. f (q, x)) (cond t (Some x) (find R q es))) (find R q vs))
+          ≡ cond t (Some (f (k, x))) (or_else (find R q us) (or_else (option_map (λ x. f (q, x)) (find R q es)) (find R q vs)))
+      go q true e = ap (λ r. or_else r (Some (f (q, x)))) (sym (find_tied R o q k (equal (R q k) e) us) ∙ none)
+          ∙ ap (λ z. Some (f (z, x))) (same q k (equal (R q k) e))
       go q false e = refl
 
   module _ (e : K × X) (es : List (K × X)) (sorted : is_sorted R (e ∷ es) ≡ true) (before_us : below_all R e.0 us ≡ true) (before_vs : below_all R e.0 vs ≡ true) where
-    pub among_put : among (e ∷ es) ≡ insert (among es) e.0 (f e.1)
+    pub among_put : among (e ∷ es) ≡ insert (among es) e.0 (f e)
     among_put = ap among (sym (put_first o e.0 e.1 es (first _ _ sorted))) ∙ put_among e.0 e.1 es (none_below o e.0 us before_us)
 
     pub before_all : below_all R e.0 (entries (among es)) ≡ true
     before_all = below_entries o e.0 (us ++ (run f es ++ vs)) (below_append R e.0 us (run f es ++ vs) before_us (below_append R e.0 (run f es) vs (below_run R f e.0 es (first _ _ sorted)) before_vs))
 
     -- where the first of the queue comes before the other queues, it is the first of all
-    pub first_among : first_of_list (entries (among (e ∷ es))) ≡ Some (e.0, f e.1)
-    first_among = ap (λ m. first_of_list (entries m)) among_put ∙ first_put o (among es) e.0 (f e.1) before_all
+    pub first_among : first_of_list (entries (among (e ∷ es))) ≡ Some (e.0, f e)
+    first_among = ap (λ m. first_of_list (entries m)) among_put ∙ first_put o (among es) e.0 (f e) before_all
 
     -- and to take it out leaves the others
     pub rest_among : among es ≡ remove (among (e ∷ es)) e.0
-    rest_among = put_taken o same (among es) e.0 (f e.1) before_all ∙ ap (λ m. remove m e.0) (sym among_put)
+    rest_among = put_taken o same (among es) e.0 (f e) before_all ∙ ap (λ m. remove m e.0) (sym among_put)
 
 -- how many there are
-pub count_runs : {K X E : Type 0} {R : K → K → Ordering} (o : IsTotalOrder R) (f : X → E) (es : List (K × X)) (vs : List (K × E)) → is_sorted R es ≡ true → Apart R es vs
+pub count_runs : {K X E : Type 0} {R : K → K → Ordering} (o : IsTotalOrder R) (f : K × X → E) (es : List (K × X)) (vs : List (K × E)) → is_sorted R es ≡ true → Apart R es vs
     → len (from_entries {R = R} (run f es ++ vs)) ≡ length es + len (from_entries {R = R} vs)
 count_runs o f [] vs h apart = omega arith
 count_runs {R = R} o f (e ∷ es) vs h apart =
-    len_put o (from_entries (run f es ++ vs)) e.0 (f e.1)
+    len_put o (from_entries (run f es ++ vs)) e.0 (f e)
     (get-from_entries o (run f es ++ vs) e.0 ∙ none_append R e.0 (run f es) vs (none_run R f e.0 es (none_below o e.0 es (first _ _ h))) (not_in_other o e es vs apart))
     ∙ ap (λ n. n + 1) (count_runs o f es vs (second _ _ h) (apart_rest o e es vs apart)) ∙ omega arith
 

@@ -4,9 +4,11 @@ ghost use Rattle.std.specs.Prelude.{◌≡◌, ℕ, ◌+◌, ◌≤◌, ◌==◌
 ghost use Rattle.std.specs.Prelude.{IfNone};
 ghost use Rattle.std.specs.Option.{option_map};
 ghost use Rattle.std.specs.FinMap.{FinMap, empty, get, insert, len as size, remove};
-ghost use Rattle.nm_base.specs.Key.{key_cmp};
+ghost use Rattle.nm_base.specs.Event.{event_place};
+ghost use Rattle.nm_base.specs.Key.{key_cmp, key_of};
 ghost use Rattle.nm_base.specs.declared.event.Event.{Event as PendingEvent};
 ghost use Rattle.nm_model.specs.EventList.{is_before, least as least_entry};
+ghost use Rattle.nm_model.specs.Run.{keyed};
 
 use nm_base::{Event, Key, Time};
 use std::alloc::{AllocError, Global};
@@ -35,11 +37,12 @@ pub trait EventList: Sized {
         ensures room { OnOk result (count ≤ room self.new) }
         ensures keeps { room self.old ≤ room self.new };
 
-    /// Adds an event under a key that has none.
-    fn put(&mut self, key: Key, event: Event)
-        requires fresh { get (pending self.old) key ≡ None }
+    /// Adds an event, which comes at this time, as this one of its place. No other has its key.
+    fn put(&mut self, time: Time, number: u64, event: Event)
+        requires fresh { get (pending self.old) (key_of time (event_place event) number) ≡ None }
         requires room { 1 ≤ room self.old }
-        ensures pending { pending self.new ≡ insert (pending self.old) key event }
+        ensures pending { pending self.new
+            ≡ insert (pending self.old) (key_of time (event_place event) number) event }
         ensures room { room self.old ≤ room self.new + 1 };
 
     /// The least key.
@@ -50,13 +53,15 @@ pub trait EventList: Sized {
     fn is_due(&self, before: Time) -> bool
         ensures { result ≡ is_before before (least_entry (pending self.now)) };
 
-    /// Takes the event of the least key out. Its place is room for another.
-    fn take_least(&mut self) -> Option<(Key, Event)>
-        ensures least { result ≡ least_entry (pending self.old) }
-        ensures rest { IfSome result (λ entry. pending self.new
-            ≡ remove (pending self.old) entry.0) }
+    /// Takes the event of the least key out: the key's time, its number, and the event, which says
+    /// its place. There is room for another then.
+    fn take_least(&mut self) -> Option<(Time, u64, Event)>
+        ensures least { option_map (λ e. keyed e.0 e.1 e.2) result
+            ≡ least_entry (pending self.old) }
+        ensures rest { IfSome result (λ e. pending self.new
+            ≡ remove (pending self.old) (key_of e.0 (event_place e.2) e.1)) }
         ensures none { IfNone result (pending self.new ≡ pending self.old) }
-        ensures room { IfSome result (λ entry. room self.new ≡ room self.old + 1) };
+        ensures room { IfSome result (λ e. room self.new ≡ room self.old + 1) };
 
     /// How many events there are.
     fn len(&self) -> usize

@@ -2,7 +2,9 @@
 
 ghost use Rattle.std.specs.Prelude.{◌≡◌, true};
 ghost use Rattle.std.specs.FinMap.{is_sorted};
+ghost use Rattle.std.proofs.Props.{props};
 ghost use Rattle.nm_base.specs.Key.{key_cmp};
+ghost use Rattle.nm_events.specs.Queued.{ArePlaced};
 
 use crate::event_list::EventList;
 use crate::key_heap::KeyHeap;
@@ -15,6 +17,7 @@ use std::alloc::{AllocError, Global};
 pub struct HeapList {
     heap: KeyHeap<Event>,
     ghost sorted: { is_sorted key_cmp heap.entries ≡ true },
+    ghost placed: { ArePlaced (λ e. e.1) heap.entries } by { Prim.hlevel props },
 }
 
 impl EventList for HeapList {
@@ -35,7 +38,13 @@ impl EventList for HeapList {
         self.heap.reserve(count)
     }
 
-    fn put(&mut self, key: Key, event: Event) {
+    fn put(&mut self, time: Time, number: u64, event: Event) {
+        let place = event.place();
+        let key = Key {
+            time,
+            place,
+            number,
+        };
         self.heap.put(key, event);
     }
 
@@ -53,8 +62,9 @@ impl EventList for HeapList {
     }
 
     #[tactic(auto, using(crate::proofs::InOrder::least_sorted, crate::proofs::InOrder::remove_first))]
-    fn take_least(&mut self) -> Option<(Key, Event)> {
-        self.heap.take_first()
+    fn take_least(&mut self) -> Option<(Time, u64, Event)> {
+        let (key, event) = self.heap.take_first()?;
+        Some((key.time, key.number, event))
     }
 
     #[tactic(auto, using(crate::proofs::InOrder::len_sorted))]

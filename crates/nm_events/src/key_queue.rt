@@ -8,10 +8,10 @@ ghost use Rattle.std.specs.VecDeque.{deque_capacity};
 ghost use Rattle.std.specs.declared.cmp.Ordering.TheVariants.{Less};
 ghost use Rattle.nm_base.specs.Key.{key_cmp};
 ghost use Rattle.nm_model.specs.EventList.{first_of_list};
-ghost use Rattle.nm_events.specs.Queued.{comes_before, first_key, lesser};
+ghost use Rattle.nm_events.specs.Queued.{comes_before, first_key, lesser, time_of};
 
 use crate::key_heap::KeyHeap;
-use nm_base::Key;
+use nm_base::{Key, Time};
 use std::alloc::{AllocError, Global};
 use std::collections::VecDeque;
 use std::marker::Model;
@@ -67,17 +67,27 @@ fn front<X>(ring: &VecDeque<(Key, X)>) -> Option<&Key>
     Some(key)
 }
 
+/// Whether the least key is in the heap.
+#[inline(always)]
+fn is_in_heap<X>(ring: &VecDeque<(Key, X)>, heap: &KeyHeap<X>) -> bool
+    ensures { result ≡ comes_before (first_key heap.now.entries) (first_key ring.now.items) }
+{
+    // The heap is mostly empty.
+    match heap.first() {
+        Some(top) => is_before(Some(top), front(ring)),
+        None => false,
+    }
+}
+
 /// The lesser of the first keys of a ring and a heap.
 #[inline(always)]
 fn first_of<X>(ring: &VecDeque<(Key, X)>, heap: &KeyHeap<X>) -> Option<Key>
     ensures { result ≡ lesser (first_key ring.now.items) (first_key heap.now.entries) }
 {
-    let front = front(ring);
-    let top = heap.first();
-    if is_before(top, front) {
-        top.copied()
+    if is_in_heap(ring, heap) {
+        heap.first().copied()
     } else {
-        front.copied()
+        front(ring).copied()
     }
 }
 
@@ -158,6 +168,17 @@ impl<X> KeyQueue<X> {
         self.first.as_ref()
     }
 
+    /// The time of the least key, and the last time there can be where there is no value.
+    #[inline(always)]
+    pub(crate) fn first_time(&self) -> Time
+        ensures { result ≡ time_of (first_key self.now.entries) }
+    {
+        match self.first.as_ref() {
+            Some(key) => key.time,
+            None => Time::from_nanoseconds(u64::MAX),
+        }
+    }
+
     /// Takes the value of the least key out.
     #[inline(always)]
     pub(crate) fn take_first(&mut self) -> Option<(Key, X)>
@@ -167,7 +188,7 @@ impl<X> KeyQueue<X> {
         ensures capacity { self.new.capacity ≡ self.old.capacity }
         ensures fits { self.old.capacity < 2 ^ 64 }
     {
-        let taken = if is_before(self.heap.first(), front(&self.ring)) {
+        let taken = if is_in_heap(&self.ring, &self.heap) {
             self.heap.take_first()
         } else {
             self.ring.pop_front()

@@ -1,12 +1,12 @@
 //! An event list as queues in the order of keys.
 
 ghost use Rattle.std.specs.Prelude.{◌≡◌, ◌+◌, ◌==◌};
-ghost use Rattle.std.specs.Option.{option_map};
-ghost use Rattle.nm_events.specs.Held.{is_early, least_kind};
+ghost use Rattle.nm_base.specs.Key.{index_of};
+ghost use Rattle.nm_events.specs.Held.{least_kind};
 
 use crate::event_list::EventList;
 use crate::key_queue::{KeyQueue, is_before};
-use nm_base::{Event, Key, Packet, Place, Time};
+use nm_base::{Event, IfaceNo, Key, Origin, Packet, Place, SourceNo, Time};
 use std::alloc::{AllocError, Global};
 use std::marker::Model;
 
@@ -20,7 +20,8 @@ enum Kind {
 
 /// Keeps the events of each kind in the order of their keys: those of one kind mostly come in that
 /// order, so that a new one is put behind the others, in constant time; at worst it takes
-/// logarithmic time. The least event is the first of one of the queues.
+/// logarithmic time. The least event is the first of one of the queues. A key says which
+/// interface or source its event is of, so that beside a key stands a packet at most.
 ///
 /// Each queue has room for all events, whichever kind they are of, and for as many more as `room`
 /// says.
@@ -52,20 +53,51 @@ impl Model for SortedList {
         (min (min s.completions.capacity s.arrivals.capacity) s.sources.capacity) };
 }
 
-/// Whether a key is there and before a time.
+/// The number of a place's interface or source.
 #[inline(always)]
-fn is_early(key: Option<&Key>, before: Time) -> bool
-    ensures { result ≡ is_early before (option_map (λ k. k.now) key.entry) }
+fn index_of(place: Place) -> u32
+    ensures { result ≡ index_of place }
 {
-    match key {
-        Some(key) => key.time < before,
-        None => false,
+    match place {
+        Place::Arrive(iface) | Place::Complete(iface) => iface.number(),
+        Place::Fire(source) => source.number(),
     }
 }
 
 impl SortedList {
     /// Of which kind the least event is. Where there is none, it is said to be a source's.
+    #[inline(always)]
     fn least_kind(&self) -> Kind
+        ensures { result ≡ least_kind self.now }
+    {
+        let completion = self.completions.first_time();
+        let arrival = self.arrivals.first_time();
+        let source = self.sources.first_time();
+        if source < completion && source < arrival {
+            return Kind::Source;
+        }
+        // At one time interfaces come before sources, and by their numbers.
+        if completion < arrival {
+            return Kind::Completion;
+        }
+        if arrival < completion {
+            return Kind::Arrival;
+        }
+        match (self.completions.first(), self.arrivals.first()) {
+            (Some(completion), Some(arrival)) => {
+                if index_of(completion.place) < index_of(arrival.place) {
+                    Kind::Completion
+                } else {
+                    Kind::Arrival
+                }
+            }
+            _ => self.least_kind_at_end(),
+        }
+    }
+
+    /// The same by the whole keys: where there is no event, or the least is at the last time.
+    #[inline(never)]
+    fn least_kind_at_end(&self) -> Kind
         ensures { result ≡ least_kind self.now }
     {
         let arrival = self.arrivals.first();
@@ -111,14 +143,18 @@ impl EventList for SortedList {
     }
 
     #[inline(always)]
-    fn put(&mut self, key: Key, event: Event) {
+    fn put(&mut self, time: Time, number: u64, event: Event) {
         self.room -= 1;
+        let place = event.place();
+        let key = Key {
+            time,
+            place,
+            number,
+        };
         match event {
-            Event::Completion => self.completions.put(key, ()),
-            Event::Delivery(packet) => match key.place {
-                Place::Fire(_) => self.sources.put(key, packet),
-                Place::Arrive(_) | Place::Complete(_) => self.arrivals.put(key, packet),
-            },
+            Event::Completion(_) => self.completions.put(key, ()),
+            Event::Delivery(Origin::Arrival(_), packet) => self.arrivals.put(key, packet),
+            Event::Delivery(Origin::Source(_), packet) => self.sources.put(key, packet),
         }
     }
 
@@ -131,27 +167,30 @@ impl EventList for SortedList {
     }
 
     fn is_due(&self, before: Time) -> bool {
-        is_early(self.completions.first(), before)
-            | is_early(self.arrivals.first(), before)
-            | is_early(self.sources.first(), before)
+        (self.completions.first_time() < before)
+            | (self.arrivals.first_time() < before)
+            | (self.sources.first_time() < before)
     }
 
-    fn take_least(&mut self) -> Option<(Key, Event)> {
+    fn take_least(&mut self) -> Option<(Time, u64, Event)> {
         match self.least_kind() {
             Kind::Completion => {
                 let (key, _) = self.completions.take_first()?;
                 self.room += 1;
-                Some((key, Event::Completion))
+                let iface = IfaceNo::new(index_of(key.place));
+                Some((key.time, key.number, Event::Completion(iface)))
             }
             Kind::Arrival => {
                 let (key, packet) = self.arrivals.take_first()?;
                 self.room += 1;
-                Some((key, Event::Delivery(packet)))
+                let origin = Origin::Arrival(IfaceNo::new(index_of(key.place)));
+                Some((key.time, key.number, Event::Delivery(origin, packet)))
             }
             Kind::Source => {
                 let (key, packet) = self.sources.take_first()?;
                 self.room += 1;
-                Some((key, Event::Delivery(packet)))
+                let origin = Origin::Source(SourceNo::new(index_of(key.place)));
+                Some((key.time, key.number, Event::Delivery(origin, packet)))
             }
         }
     }

@@ -12,8 +12,11 @@ use std::alloc::{AllocError, Global};
 use std::collections::HashSet;
 use std::marker::Model;
 
-/// The addresses of a node's interfaces, beside a set of them, so that a test goes over no list. A
-/// clause sees the list.
+/// Up to so many addresses are looked through: that takes less time than a look-up in the set.
+const FEW: usize = 8;
+
+/// The addresses of a node's interfaces, beside a set of them, so that a test goes over no long
+/// list. A clause sees the list.
 #[derive(Drop)]
 pub struct Addresses {
     /// In the order of the interfaces.
@@ -70,6 +73,9 @@ impl Addresses {
     pub fn contains(&self, address: Address) -> bool
         ensures { result ≡ list_any (nat_eq address) self.now }
     {
+        if self.list.len() <= FEW {
+            return self.list.iter().any(|own| address == *own);
+        }
         self.set.contains(&address.bits())
     }
 }

@@ -1,7 +1,6 @@
 -- A count that each packet raises by so much at the node to which it comes: what it is after any number of events.
 use Rattle.std.proofs.Common.{◌≡◌, ℕ, zero, suc, ◌+◌, ◌<◌, ◌≤◌, Bool, true, false, cond, ◌==◌, ◌&&◌, List, [], ◌∷◌, ◌++◌, length, Option, Some, None, refl, sym, ap, ◌∙◌, subst, arith, ⊎_elim, length-append}
-use Rattle.nm_base.specs.declared.key.Place.{Place}
-use Rattle.nm_base.specs.declared.key.Place.TheVariants.{Arrive, Complete, Fire}
+use Rattle.nm_base.specs.Event.{event_place}
 use Rattle.nm_base.specs.declared.key.Key.{Key}
 use Rattle.nm_base.specs.declared.event.Event.{Event}
 use Rattle.nm_base.specs.declared.event.Event.TheVariants.{Delivery, Completion}
@@ -12,9 +11,12 @@ use Rattle.nm_base.specs.declared.record.Record.{Record}
 use Rattle.nm_model.specs.EventList.{least}
 use Rattle.nm_model.specs.Lists.{keep_where, set_at}
 use Rattle.nm_model.specs.Network.{Net, IsNet, node_of}
+use Rattle.nm_model.specs.Orderly.{IsOrderly}
 use Rattle.nm_model.specs.Port.{Port, option_list}
-use Rattle.nm_model.specs.Run.{State, Effect, effect, sent_on, in_record, out_record, step_at, one_list}
+use Rattle.nm_model.specs.Run.{State, Effect, by_source, effect, sent_on, in_record, out_record, step_at, one_list}
 use Rattle.nm_model.specs.Trace.{same_dir}
+use Rattle.nm_model.proofs.Keys.{least_has}
+use Rattle.nm_model.proofs.Placed.{placed_of}
 use Rattle.nm_model.proofs.ListLemmas.{same_number, number_apart, number_tied, set_here, set_there, kept-append}
 use Rattle.nm_laws.specs.Offered.{answer_to, next_offer, offers, offered_by}
 use Rattle.nm_laws.specs.Counted.{arrivals_at}
@@ -35,44 +37,35 @@ module _ {A : Type 0} where
 
 module _ {P N : Type 0} (net : Net P N) where
   -- the state of its node after an event, and the packet that arrived
-  abbrev state_after : (ℕ → N) → Place → Event P → N
-  state_after nodes (Arrive i) (Delivery x) = (net.react (net.owner i) (nodes (net.owner i)) (Arrival i) x).0
-  state_after nodes (Fire j) (Delivery x) = (net.react (net.source_node j) (nodes (net.source_node j)) (Source j) x).0
-  state_after nodes (Complete i) (Delivery x) = nodes (net.owner i)
-  state_after nodes (Arrive i) Completion = nodes (net.owner i)
-  state_after nodes (Complete i) Completion = nodes (net.owner i)
-  state_after nodes (Fire j) Completion = nodes (net.source_node j)
+  abbrev state_after : (ℕ → N) → Event P → N
+  state_after nodes (Delivery (Arrival i) x) = (net.react (net.owner i) (nodes (net.owner i)) (Arrival i) x).0
+  state_after nodes (Delivery (Source j) x) = (net.react (net.source_node j) (nodes (net.source_node j)) (Source j) x).0
+  state_after nodes (Completion i) = nodes (net.owner i)
 
   module _ (ports : ℕ → Port P) (time : ℕ) where
-    sent_state : (came : Option (ℕ × P)) (n : N) (o follows : Option (ℕ × P)) → (sent_on net ports time came n o follows).after ≡ n
+    sent_state : (came : Option (ℕ × P)) (n : N) (o : Option (ℕ × P)) (follows : Option (ℕ × ℕ × P)) → (sent_on net ports time came n o follows).after ≡ n
     sent_state came n None follows = refl
     sent_state came n (Some s) follows = refl
 
-    pub sent_came : (came : Option (ℕ × P)) (n : N) (o follows : Option (ℕ × P)) → (sent_on net ports time came n o follows).came ≡ came
+    pub sent_came : (came : Option (ℕ × P)) (n : N) (o : Option (ℕ × P)) (follows : Option (ℕ × ℕ × P)) → (sent_on net ports time came n o follows).came ≡ came
     sent_came came n None follows = refl
     sent_came came n (Some s) follows = refl
 
-    effect_state : (nodes : ℕ → N) (place : Place) (number : ℕ) (event : Event P) → (effect net nodes ports time place number event).after ≡ state_after nodes place event
-    effect_state nodes (Arrive i) number (Delivery x) = sent_state (Some (i, x)) _ (net.react (net.owner i) (nodes (net.owner i)) (Arrival i) x).1 None
-    effect_state nodes (Fire j) number (Delivery x) = sent_state None _ (net.react (net.source_node j) (nodes (net.source_node j)) (Source j) x).1 (net.source j (suc number))
-    effect_state nodes (Complete i) number (Delivery x) = refl
-    effect_state nodes (Arrive i) number Completion = refl
-    effect_state nodes (Complete i) number Completion = refl
-    effect_state nodes (Fire j) number Completion = refl
+    effect_state : (nodes : ℕ → N) (number : ℕ) (event : Event P) → (effect net nodes ports time number event).after ≡ state_after nodes event
+    effect_state nodes number (Delivery (Arrival i) x) = sent_state (Some (i, x)) _ (net.react (net.owner i) (nodes (net.owner i)) (Arrival i) x).1 None
+    effect_state nodes number (Delivery (Source j) x) = sent_state None _ (net.react (net.source_node j) (nodes (net.source_node j)) (Source j) x).1 (by_source j (net.source j (suc number)))
+    effect_state nodes number (Completion i) = refl
 
   -- by how much a packet raises the count of the node to which it comes
   module _ (k : ℕ → N → Origin → P → ℕ) where
-    abbrev gain : (ℕ → N) → Place → Event P → ℕ → ℕ
-    gain nodes (Arrive i) (Delivery x) v = cond (v == net.owner i) (k (net.owner i) (nodes (net.owner i)) (Arrival i) x) 0
-    gain nodes (Fire j) (Delivery x) v = cond (v == net.source_node j) (k (net.source_node j) (nodes (net.source_node j)) (Source j) x) 0
-    gain nodes (Complete i) (Delivery x) v = 0
-    gain nodes (Arrive i) Completion v = 0
-    gain nodes (Complete i) Completion v = 0
-    gain nodes (Fire j) Completion v = 0
+    abbrev gain : (ℕ → N) → Event P → ℕ → ℕ
+    gain nodes (Delivery (Arrival i) x) v = cond (v == net.owner i) (k (net.owner i) (nodes (net.owner i)) (Arrival i) x) 0
+    gain nodes (Delivery (Source j) x) v = cond (v == net.source_node j) (k (net.source_node j) (nodes (net.source_node j)) (Source j) x) 0
+    gain nodes (Completion i) v = 0
 
     abbrev next_gain : State P N → Option (Key × Event P) → ℕ → ℕ
     next_gain s None v = 0
-    next_gain s (Some e) v = gain s.node e.0.place e.1 v
+    next_gain s (Some e) v = gain s.node e.1 v
 
     abbrev pub gained : ℕ → ℕ → ℕ
     gained v zero = 0
@@ -80,45 +73,39 @@ module _ {P N : Type 0} (net : Net P N) where
 
     -- at most one for each event
     module _ (small : (v : ℕ) (n : N) (o : Origin) (x : P) → k v n o x ≤ 1) where
-      gain_small : (nodes : ℕ → N) (place : Place) (event : Event P) (v : ℕ) → gain nodes place event v ≤ 1
-      gain_small nodes (Arrive i) (Delivery x) v = go (v == net.owner i) (small (net.owner i) (nodes (net.owner i)) (Arrival i) x)
+      gain_small : (nodes : ℕ → N) (event : Event P) (v : ℕ) → gain nodes event v ≤ 1
+      gain_small nodes (Delivery (Arrival i) x) v = go (v == net.owner i) (small (net.owner i) (nodes (net.owner i)) (Arrival i) x)
         where
           go : (b : Bool) → k (net.owner i) (nodes (net.owner i)) (Arrival i) x ≤ 1 → cond b (k (net.owner i) (nodes (net.owner i)) (Arrival i) x) 0 ≤ 1
           go true h = h
           go false h = omega arith
-      gain_small nodes (Fire j) (Delivery x) v = go (v == net.source_node j) (small (net.source_node j) (nodes (net.source_node j)) (Source j) x)
+      gain_small nodes (Delivery (Source j) x) v = go (v == net.source_node j) (small (net.source_node j) (nodes (net.source_node j)) (Source j) x)
         where
           go : (b : Bool) → k (net.source_node j) (nodes (net.source_node j)) (Source j) x ≤ 1 → cond b (k (net.source_node j) (nodes (net.source_node j)) (Source j) x) 0 ≤ 1
           go true h = h
           go false h = omega arith
-      gain_small nodes (Complete i) (Delivery x) v = omega arith
-      gain_small nodes (Arrive i) Completion v = omega arith
-      gain_small nodes (Complete i) Completion v = omega arith
-      gain_small nodes (Fire j) Completion v = omega arith
+      gain_small nodes (Completion i) v = omega arith
 
       next_small : (s : State P N) (o : Option (Key × Event P)) (v : ℕ) → next_gain s o v ≤ 1
       next_small s None v = omega arith
-      next_small s (Some e) v = gain_small s.node e.0.place e.1 v
+      next_small s (Some e) v = gain_small s.node e.1 v
 
       pub gained_few : (v n : ℕ) → gained v n ≤ n
       gained_few v zero = omega arith
       gained_few v (suc n) = let a = gained_few v n in let b = next_small (one_list net n) (least (one_list net n).pending) v in omega arith
 
     module _ (Good : N → Type 0) (begins : (v : ℕ) → Good (net.first v)) (keeps : (v : ℕ) (n : N) (o : Origin) (x : P) → Good n → Good (net.react v n o x).0) where
-      good_after : (nodes : ℕ → N) (place : Place) (event : Event P) → ((v : ℕ) → Good (nodes v)) → Good (state_after nodes place event)
-      good_after nodes (Arrive i) (Delivery x) h = keeps (net.owner i) (nodes (net.owner i)) (Arrival i) x (h (net.owner i))
-      good_after nodes (Fire j) (Delivery x) h = keeps (net.source_node j) (nodes (net.source_node j)) (Source j) x (h (net.source_node j))
-      good_after nodes (Complete i) (Delivery x) h = h (net.owner i)
-      good_after nodes (Arrive i) Completion h = h (net.owner i)
-      good_after nodes (Complete i) Completion h = h (net.owner i)
-      good_after nodes (Fire j) Completion h = h (net.source_node j)
+      good_after : (nodes : ℕ → N) (event : Event P) → ((v : ℕ) → Good (nodes v)) → Good (state_after nodes event)
+      good_after nodes (Delivery (Arrival i) x) h = keeps (net.owner i) (nodes (net.owner i)) (Arrival i) x (h (net.owner i))
+      good_after nodes (Delivery (Source j) x) h = keeps (net.source_node j) (nodes (net.source_node j)) (Source j) x (h (net.source_node j))
+      good_after nodes (Completion i) h = h (net.owner i)
 
       good_step : (s : State P N) (o : Option (Key × Event P)) → ((v : ℕ) → Good (s.node v)) → (v : ℕ) → Good ((step_at net (λ q. true) s o).node v)
       good_step s None h v = h v
       good_step s (Some e) h v =
-          let does : Effect P N = effect net s.node s.port e.0.time e.0.place e.0.number e.1 in
+          let does : Effect P N = effect net s.node s.port e.0.time e.0.number e.1 in
           ⊎_elim
-          (λ same. subst Good (sym (ap (set_at s.node (node_of net e.0.place) does.after) same ∙ set_here s.node (node_of net e.0.place) does.after ∙ effect_state s.port e.0.time s.node e.0.place e.0.number e.1)) (good_after s.node e.0.place e.1 h))
+          (λ same. subst Good (sym (ap (set_at s.node (node_of net e.0.place) does.after) same ∙ set_here s.node (node_of net e.0.place) does.after ∙ effect_state s.port e.0.time s.node e.0.number e.1)) (good_after s.node e.1 h))
           (λ other. subst Good (sym (set_there s.node (node_of net e.0.place) does.after v other)) (h v))
           (same_number v (node_of net e.0.place))
 
@@ -150,26 +137,25 @@ module _ {P N : Type 0} (net : Net P N) where
             (λ other. let a = ap total (set_there nodes w (nodes w) v other) in omega arith)
             (same_number v w)
 
-        after_is : (nodes : ℕ → N) → ((v : ℕ) → Good (nodes v)) → (place : Place) (event : Event P) (v : ℕ) → total (nodes v) + gain nodes place event v < limit
-            → total (set_at nodes (node_of net place) (state_after nodes place event) v) ≡ total (nodes v) + gain nodes place event v
-        after_is nodes h (Arrive i) (Delivery x) v below = changed nodes (net.owner i) _ _ (rises (net.owner i) (nodes (net.owner i)) (Arrival i) x (h (net.owner i))) v below
-        after_is nodes h (Fire j) (Delivery x) v below = changed nodes (net.source_node j) _ _ (rises (net.source_node j) (nodes (net.source_node j)) (Source j) x (h (net.source_node j))) v below
-        after_is nodes h (Complete i) (Delivery x) v below = unchanged nodes (net.owner i) v
-        after_is nodes h (Arrive i) Completion v below = unchanged nodes (net.owner i) v
-        after_is nodes h (Complete i) Completion v below = unchanged nodes (net.owner i) v
-        after_is nodes h (Fire j) Completion v below = unchanged nodes (net.source_node j) v
+        after_is : (nodes : ℕ → N) → ((v : ℕ) → Good (nodes v)) → (event : Event P) (v : ℕ) → total (nodes v) + gain nodes event v < limit
+            → total (set_at nodes (node_of net (event_place event)) (state_after nodes event) v) ≡ total (nodes v) + gain nodes event v
+        after_is nodes h (Delivery (Arrival i) x) v below = changed nodes (net.owner i) _ _ (rises (net.owner i) (nodes (net.owner i)) (Arrival i) x (h (net.owner i))) v below
+        after_is nodes h (Delivery (Source j) x) v below = changed nodes (net.source_node j) _ _ (rises (net.source_node j) (nodes (net.source_node j)) (Source j) x (h (net.source_node j))) v below
+        after_is nodes h (Completion i) v below = unchanged nodes (net.owner i) v
 
-        step_is : (s : State P N) → ((v : ℕ) → Good (s.node v)) → (o : Option (Key × Event P)) (v : ℕ) → total (s.node v) + next_gain s o v < limit
+        step_is : (s : State P N) → ((v : ℕ) → Good (s.node v)) → (o : Option (Key × Event P)) → ((e : Key × Event P) → o ≡ Some e → e.0.place ≡ event_place e.1) → (v : ℕ) → total (s.node v) + next_gain s o v < limit
             → total ((step_at net (λ q. true) s o).node v) ≡ total (s.node v) + next_gain s o v
-        step_is s h None v below = omega arith
-        step_is s h (Some e) v below =
-            ap (λ a. total (set_at s.node (node_of net e.0.place) a v)) (effect_state s.port e.0.time s.node e.0.place e.0.number e.1) ∙ after_is s.node h e.0.place e.1 v below
+        step_is s h None placed v below = omega arith
+        step_is s h (Some e) placed v below =
+            ap (λ a. total (set_at s.node (node_of net e.0.place) a v)) (effect_state s.port e.0.time s.node e.0.number e.1)
+            ∙ ap (λ q. total (set_at s.node (node_of net q) (state_after s.node e.1) v)) (placed e refl) ∙ after_is s.node h e.1 v below
 
-        pub total_is : (v n : ℕ) → gained v n < limit → total ((one_list net n).node v) ≡ gained v n
-        total_is v zero below = none v
-        total_is v (suc n) below =
-            let a = total_is v n (omega arith) in
-            let b = step_is (one_list net n) (good n) (least (one_list net n).pending) v (omega arith) in
+        pub total_is : ((n : ℕ) → IsOrderly net (λ q. true) (one_list net n)) → (v n : ℕ) → gained v n < limit → total ((one_list net n).node v) ≡ gained v n
+        total_is orderly v zero below = none v
+        total_is orderly v (suc n) below =
+            let a = total_is orderly v n (omega arith) in
+            let b = step_is (one_list net n) (good n) (least (one_list net n).pending)
+            (λ e m. placed_of net (λ q. true) (one_list net n) (orderly n) e.0 e.1 (least_has (one_list net n).pending e m)) v (omega arith) in
             omega arith
 
   -- of the packets that arrive at a node, each that passes a test is counted
@@ -204,31 +190,28 @@ module _ {P N : Type 0} (net : Net P N) where
         both true false = refl
         both false c = refl
 
-    in_is : (v time : ℕ) (ports : ℕ → Port P) (nodes : ℕ → N) (place : Place) (number : ℕ) (event : Event P) → length (keep_where (is_counted v) (in_record time (effect net nodes ports time place number event).came)) ≡ gain one_arrival nodes place event v
-    in_is v time ports nodes (Arrive i) number (Delivery x) =
+    in_is : (v time : ℕ) (ports : ℕ → Port P) (nodes : ℕ → N) (number : ℕ) (event : Event P) → length (keep_where (is_counted v) (in_record time (effect net nodes ports time number event).came)) ≡ gain one_arrival nodes event v
+    in_is v time ports nodes number (Delivery (Arrival i) x) =
         ap (λ o. length (keep_where (is_counted v) (in_record time o))) (sent_came ports time (Some (i, x)) _ (net.react (net.owner i) (nodes (net.owner i)) (Arrival i) x).1 None)
         ∙ one_is v (net.owner i) (record { time = time; iface = i; dir = In; packet = x })
-    in_is v time ports nodes (Fire j) number (Delivery x) =
-        ap (λ o. length (keep_where (is_counted v) (in_record time o))) (sent_came ports time None _ (net.react (net.source_node j) (nodes (net.source_node j)) (Source j) x).1 (net.source j (suc number))) ∙ go (v == net.source_node j)
+    in_is v time ports nodes number (Delivery (Source j) x) =
+        ap (λ o. length (keep_where (is_counted v) (in_record time o))) (sent_came ports time None _ (net.react (net.source_node j) (nodes (net.source_node j)) (Source j) x).1 (by_source j (net.source j (suc number)))) ∙ go (v == net.source_node j)
       where
         go : (z : Bool) → ◌≡◌ {A = ℕ} 0 (cond z 0 0)
         go true = refl
         go false = refl
-    in_is v time ports nodes (Complete i) number (Delivery x) = refl
-    in_is v time ports nodes (Arrive i) number Completion = refl
-    in_is v time ports nodes (Complete i) number Completion = refl
-    in_is v time ports nodes (Fire j) number Completion = refl
+    in_is v time ports nodes number (Completion i) = refl
 
     counted_step : (v : ℕ) (s : State P N) (o : Option (Key × Event P)) → length (keep_where (is_counted v) (step_at net (λ q. true) s o).records) ≡ length (keep_where (is_counted v) s.records) + next_gain one_arrival s o v
     counted_step v s None = omega arith
     counted_step v s (Some e) =
-        let does : Effect P N = effect net s.node s.port e.0.time e.0.place e.0.number e.1 in
+        let does : Effect P N = effect net s.node s.port e.0.time e.0.number e.1 in
         let a = ap length (kept-append (is_counted v) s.records (in_record e.0.time does.came ++ out_record e.0.time does.transmission)) in
         let b = length-append (keep_where (is_counted v) s.records) (keep_where (is_counted v) (in_record e.0.time does.came ++ out_record e.0.time does.transmission)) in
         let c = ap length (kept-append (is_counted v) (in_record e.0.time does.came) (out_record e.0.time does.transmission)) in
         let d = length-append (keep_where (is_counted v) (in_record e.0.time does.came)) (keep_where (is_counted v) (out_record e.0.time does.transmission)) in
         let f = ap length (out_is_none v e.0.time does.transmission) in
-        let g = in_is v e.0.time s.port s.node e.0.place e.0.number e.1 in
+        let g = in_is v e.0.time s.port s.node e.0.number e.1 in
         omega arith
 
     counted_are : (v n : ℕ) → length (keep_where (is_counted v) (one_list net n).records) ≡ gained one_arrival v n
@@ -267,17 +250,14 @@ module _ {P N : Type 0} (net : Net P N) where
         go true = refl
         go false = refl
 
-    answer_is : (v : ℕ) (nodes : ℕ → N) (place : Place) (event : Event P) → length (offered_by net v (option_list (answer_to net nodes place event))) ≡ gain one_sent nodes place event v
-    answer_is v nodes (Arrive i) (Delivery x) = of_node v (net.owner i) (net.react (net.owner i) (nodes (net.owner i)) (Arrival i) x).1 (λ s e. ok.own (net.owner i) (nodes (net.owner i)) (Arrival i) x s e)
-    answer_is v nodes (Fire j) (Delivery x) = of_node v (net.source_node j) (net.react (net.source_node j) (nodes (net.source_node j)) (Source j) x).1 (λ s e. ok.own (net.source_node j) (nodes (net.source_node j)) (Source j) x s e)
-    answer_is v nodes (Complete i) (Delivery x) = refl
-    answer_is v nodes (Arrive i) Completion = refl
-    answer_is v nodes (Complete i) Completion = refl
-    answer_is v nodes (Fire j) Completion = refl
+    answer_is : (v : ℕ) (nodes : ℕ → N) (event : Event P) → length (offered_by net v (option_list (answer_to net nodes event))) ≡ gain one_sent nodes event v
+    answer_is v nodes (Delivery (Arrival i) x) = of_node v (net.owner i) (net.react (net.owner i) (nodes (net.owner i)) (Arrival i) x).1 (λ s e. ok.own (net.owner i) (nodes (net.owner i)) (Arrival i) x s e)
+    answer_is v nodes (Delivery (Source j) x) = of_node v (net.source_node j) (net.react (net.source_node j) (nodes (net.source_node j)) (Source j) x).1 (λ s e. ok.own (net.source_node j) (nodes (net.source_node j)) (Source j) x s e)
+    answer_is v nodes (Completion i) = refl
 
     offer_is : (v : ℕ) (s : State P N) (o : Option (Key × Event P)) → length (offered_by net v (next_offer net s o)) ≡ next_gain one_sent s o v
     offer_is v s None = refl
-    offer_is v s (Some e) = answer_is v s.node e.0.place e.1
+    offer_is v s (Some e) = answer_is v s.node e.1
 
     pub offers_are : (v n : ℕ) → length (offered_by net v (offers net n)) ≡ gained one_sent v n
     offers_are v zero = refl

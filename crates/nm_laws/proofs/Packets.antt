@@ -2,10 +2,8 @@
 use Rattle.std.proofs.Common.{◌≡◌, ◌⊎◌, inl, inr, ℕ, zero, suc, ◌+◌, Bool, true, false, cond, ◌==◌, All, List, [], ◌∷◌, ◌++◌, length, Option, Some, None, refl, sym, ap, ◌∙◌, subst, arith, ⊎_elim}
 use Rattle.std.proofs.lemmas.List.Elements.{All-append, All-cons, All-head, All-nil, All-tail}
 use Rattle.std.specs.FinMap.{get}
-use Rattle.nm_base.specs.declared.key.Place.{Place}
-use Rattle.nm_base.specs.declared.key.Place.TheVariants.{Arrive, Complete, Fire}
+use Rattle.nm_base.specs.declared.key.Place.TheVariants.{Fire}
 use Rattle.nm_base.specs.declared.key.Key.{Key}
-use Rattle.nm_base.specs.Key.{key_of}
 use Rattle.nm_base.specs.declared.event.Event.{Event}
 use Rattle.nm_base.specs.declared.event.Event.TheVariants.{Delivery, Completion}
 use Rattle.nm_base.specs.declared.event.Origin.TheVariants.{Arrival, Source}
@@ -17,9 +15,10 @@ use Rattle.nm_model.specs.Lists.{nth, set_at}
 use Rattle.nm_model.specs.Network.{Net, IsNet}
 use Rattle.nm_model.specs.Orderly.{IsOrderly}
 use Rattle.nm_model.specs.Port.{Busy, Port, offered, completed, next_transmitting, waiting_of}
-use Rattle.nm_model.specs.Run.{State, Effect, effect, at_iface, turned, turned_by, sent_on, in_record, out_record, step_at, one_list}
+use Rattle.nm_model.specs.Run.{State, Effect, effect, at_iface, by_source, turned, turned_by, sent_on, in_record, out_record, step_at, one_list}
 use Rattle.nm_model.specs.Trace.{passed}
-use Rattle.nm_model.proofs.Keys.{least_has}
+use Rattle.nm_model.proofs.Keys.{key_at, least_has}
+use Rattle.nm_model.proofs.Placed.{placed_of}
 use Rattle.nm_model.proofs.ListLemmas.{nth_last, not_some, number_tied, same_number, set_here, set_there, some_inj}
 use Rattle.nm_laws.specs.Offered.{answer_to}
 use Rattle.nm_laws.proofs.Counting.{sent_came}
@@ -91,7 +90,7 @@ module _ {P N : Type 0} (net : Net P N) (Q : P → Type 0) where
   abbrev GoodEffect : (ℕ → Port P) → Effect P N → Type 0
   GoodEffect ports e = Waits (turned ports e.turn) × ((s : ℕ × P) → e.transmission ≡ Some s → Q s.1)
 
-  module _ (ports : ℕ → Port P) (w : Waits ports) (time : ℕ) (came : Option (ℕ × P)) (n : N) (follows : Option (ℕ × P)) where
+  module _ (ports : ℕ → Port P) (w : Waits ports) (time : ℕ) (came : Option (ℕ × P)) (n : N) (follows : Option (ℕ × ℕ × P)) where
     turned_good : (j : ℕ) (r : Port P × Option P) → All Q (waiting_of r.0.busy) × ((y : P) → r.1 ≡ Some y → Q y) → GoodEffect ports (turned_by net came n j r follows)
     turned_good j r h = (
       (λ i. ⊎_elim
@@ -106,16 +105,13 @@ module _ {P N : Type 0} (net : Net P N) (Q : P → Type 0) where
     sent_good (Some s) h = turned_good s.0 (offered (net.room s.0) (net.tx s.0) time s.1 (ports s.0).dropped (ports s.0).busy)
         (offered_good Q (net.room s.0) (net.tx s.0) time s.1 (ports s.0).dropped (ports s.0).busy (h s refl) (w s.0))
 
-  effect_good : (nodes : ℕ → N) (ports : ℕ → Port P) → Waits ports → (time : ℕ) (place : Place) (number : ℕ) (event : Event P)
-      → ((s : ℕ × P) → answer_to net nodes place event ≡ Some s → Q s.1) → GoodEffect ports (effect net nodes ports time place number event)
-  effect_good nodes ports w time (Arrive i) number (Delivery x) h = sent_good ports w time (Some (i, x)) _ None (net.react (net.owner i) (nodes (net.owner i)) (Arrival i) x).1 h
-  effect_good nodes ports w time (Fire j) number (Delivery x) h = sent_good ports w time None _ (net.source j (suc number)) (net.react (net.source_node j) (nodes (net.source_node j)) (Source j) x).1 h
-  effect_good nodes ports w time (Complete i) number Completion h =
+  effect_good : (nodes : ℕ → N) (ports : ℕ → Port P) → Waits ports → (time : ℕ) (number : ℕ) (event : Event P)
+      → ((s : ℕ × P) → answer_to net nodes event ≡ Some s → Q s.1) → GoodEffect ports (effect net nodes ports time number event)
+  effect_good nodes ports w time number (Delivery (Arrival i) x) h = sent_good ports w time (Some (i, x)) _ None (net.react (net.owner i) (nodes (net.owner i)) (Arrival i) x).1 h
+  effect_good nodes ports w time number (Delivery (Source j) x) h = sent_good ports w time None _ (by_source j (net.source j (suc number))) (net.react (net.source_node j) (nodes (net.source_node j)) (Source j) x).1 h
+  effect_good nodes ports w time number (Completion i) h =
       turned_good ports w time None (nodes (net.owner i)) None i (completed (net.tx i) time (ports i).dropped (ports i).busy)
       (completed_good Q (net.room i) (net.tx i) time (ports i).dropped (ports i).busy (w i))
-  effect_good nodes ports w time (Arrive i) number Completion h = (w, λ s e. absurd (not_some s e))
-  effect_good nodes ports w time (Complete i) number (Delivery x) h = (w, λ s e. absurd (not_some s e))
-  effect_good nodes ports w time (Fire j) number Completion h = (w, λ s e. absurd (not_some s e))
 
   -- what started and what waits
   record Good (s : State P N) : Type 0 where
@@ -125,45 +121,43 @@ module _ {P N : Type 0} (net : Net P N) (Q : P → Type 0) where
   module _ (ok : IsNet net)
       (arriving : (v : ℕ) (n : N) (i : ℕ) (x : P) (s : ℕ × P) → Q x → (net.react v n (Arrival i) x).1 ≡ Some s → Q s.1)
       (handing : (v : ℕ) (n : N) (j m t : ℕ) (x : P) (s : ℕ × P) → net.source j m ≡ Some (t, x) → (net.react v n (Source j) x).1 ≡ Some s → Q s.1) where
-    module _ (s : State P N) (orderly : IsOrderly net (λ q. true) s) (g : Good s) (time : ℕ) (number : ℕ) where
+    module _ (s : State P N) (orderly : IsOrderly net (λ q. true) s) (g : Good s) (k : Key) where
       -- a packet that arrives started before
-      came_good : (i : ℕ) (x : P) → Came net (step_at net (λ q. true) s (Some (key_of time (Arrive i) number, Delivery x))) → Q x
+      came_good : (i : ℕ) (x : P) → Came net (step_at net (λ q. true) s (Some (k, Delivery (Arrival i) x))) → Q x
       came_good i x came =
-          let does : Effect P N = effect net s.node s.port time (Arrive i) number (Delivery x) in
-          let new : in_record time does.came ≡ record { time = time; iface = i; dir = In; packet = x } ∷ []
-          = ap (in_record time) (sent_came net s.port time (Some (i, x)) _ (net.react (net.owner i) (s.node (net.owner i)) (Arrival i) x).1 None) in
-          let arrivals : passed In i (s.records ++ (in_record time does.came ++ out_record time does.transmission)) ≡ passed In i s.records ++ (time, x) ∷ []
-          = passed-append In i s.records (in_record time does.came ++ out_record time does.transmission)
-          ∙ ap (λ l. passed In i s.records ++ l) (passed-append In i (in_record time does.came) (out_record time does.transmission) ∙ ap (λ l. passed In i l ++ passed In i (out_record time does.transmission)) new
-          ∙ ap (λ l. passed In i (record { time = time; iface = i; dir = In; packet = x } ∷ []) ++ l) (out_in time i does.transmission)
-          ∙ ap (λ b. cond {A = List (ℕ × P)} b ((time, x) ∷ []) [] ++ []) (number_tied i)) in
-          let from = came i (length (passed In i s.records)) time x (ap (λ l. nth l (length (passed In i s.records))) arrivals ∙ nth_last (passed In i s.records) (time, x)) in
-          let starts : passed Out (net.peer i) (s.records ++ (in_record time does.came ++ out_record time does.transmission)) ≡ passed Out (net.peer i) s.records ++ passed Out (net.peer i) (out_record time does.transmission)
-          = passed-append Out (net.peer i) s.records (in_record time does.came ++ out_record time does.transmission)
-          ∙ ap (λ l. passed Out (net.peer i) s.records ++ l) (passed-append Out (net.peer i) (in_record time does.came) (out_record time does.transmission) ∙ ap (λ l. l ++ passed Out (net.peer i) (out_record time does.transmission)) (in_none time (net.peer i) does.came)) in
+          let does : Effect P N = effect net s.node s.port k.time k.number (Delivery (Arrival i) x) in
+          let new : in_record k.time does.came ≡ record { time = k.time; iface = i; dir = In; packet = x } ∷ []
+          = ap (in_record k.time) (sent_came net s.port k.time (Some (i, x)) _ (net.react (net.owner i) (s.node (net.owner i)) (Arrival i) x).1 None) in
+          let arrivals : passed In i (s.records ++ (in_record k.time does.came ++ out_record k.time does.transmission)) ≡ passed In i s.records ++ (k.time, x) ∷ []
+          = passed-append In i s.records (in_record k.time does.came ++ out_record k.time does.transmission)
+          ∙ ap (λ l. passed In i s.records ++ l) (passed-append In i (in_record k.time does.came) (out_record k.time does.transmission) ∙ ap (λ l. passed In i l ++ passed In i (out_record k.time does.transmission)) new
+          ∙ ap (λ l. passed In i (record { time = k.time; iface = i; dir = In; packet = x } ∷ []) ++ l) (out_in k.time i does.transmission)
+          ∙ ap (λ b. cond {A = List (ℕ × P)} b ((k.time, x) ∷ []) [] ++ []) (number_tied i)) in
+          let from = came i (length (passed In i s.records)) k.time x (ap (λ l. nth l (length (passed In i s.records))) arrivals ∙ nth_last (passed In i s.records) (k.time, x)) in
+          let starts : passed Out (net.peer i) (s.records ++ (in_record k.time does.came ++ out_record k.time does.transmission)) ≡ passed Out (net.peer i) s.records ++ passed Out (net.peer i) (out_record k.time does.transmission)
+          = passed-append Out (net.peer i) s.records (in_record k.time does.came ++ out_record k.time does.transmission)
+          ∙ ap (λ l. passed Out (net.peer i) s.records ++ l) (passed-append Out (net.peer i) (in_record k.time does.came) (out_record k.time does.transmission) ∙ ap (λ l. l ++ passed Out (net.peer i) (out_record k.time does.transmission)) (in_none k.time (net.peer i) does.came)) in
           ⊎_elim
           (λ e. all_nth (IsGood Q) (passed Out (net.peer i) s.records) (length (passed In i s.records)) (from.0, x) (g.started (net.peer i)) e)
-          (λ e. absurd (let at = out_at time (net.peer i) does.transmission e.0 (from.0, x) e.1 in let takes = ok.takes_time (net.peer i) x in let late = from.2 in omega arith))
-          (nth_either (passed Out (net.peer i) s.records) (passed Out (net.peer i) (out_record time does.transmission)) (length (passed In i s.records)) (from.0, x) (ap (λ l. nth l (length (passed In i s.records))) (sym starts) ∙ from.1))
+          (λ e. absurd (let at = out_at k.time (net.peer i) does.transmission e.0 (from.0, x) e.1 in let takes = ok.takes_time (net.peer i) x in let late = from.2 in omega arith))
+          (nth_either (passed Out (net.peer i) s.records) (passed Out (net.peer i) (out_record k.time does.transmission)) (length (passed In i s.records)) (from.0, x) (ap (λ l. nth l (length (passed In i s.records))) (sym starts) ∙ from.1))
 
-      answer_good : (place : Place) (event : Event P) → get s.pending (key_of time place number) ≡ Some event → Came net (step_at net (λ q. true) s (Some (key_of time place number, event)))
-          → (a : ℕ × P) → answer_to net s.node place event ≡ Some a → Q a.1
-      answer_good (Arrive i) (Delivery x) there came a e = arriving (net.owner i) (s.node (net.owner i)) i x a (came_good i x came) e
-      answer_good (Fire j) (Delivery x) there came a e =
-          let o = orderly.source j time number (Delivery x) there in
+      answer_good : (event : Event P) → get s.pending k ≡ Some event → Came net (step_at net (λ q. true) s (Some (k, event)))
+          → (a : ℕ × P) → answer_to net s.node event ≡ Some a → Q a.1
+      answer_good (Delivery (Arrival i) x) there came a e = arriving (net.owner i) (s.node (net.owner i)) i x a (came_good i x came) e
+      answer_good (Delivery (Source j) x) there came a e =
+          let placed = placed_of net (λ q. true) s orderly k (Delivery (Source j) x) there in
+          let o = orderly.source j k.time k.number (Delivery (Source j) x) (ap (get s.pending) (sym (key_at k (Fire j) placed)) ∙ there) in
           let same : x ≡ o.0 = let f = o.1 in cc in
-          handing (net.source_node j) (s.node (net.source_node j)) j number time x a (o.2 ∙ ap (λ z. Some (time, z)) (sym same)) e
-      answer_good (Complete i) (Delivery x) there came a e = absurd (not_some a e)
-      answer_good (Arrive i) Completion there came a e = absurd (not_some a e)
-      answer_good (Complete i) Completion there came a e = absurd (not_some a e)
-      answer_good (Fire j) Completion there came a e = absurd (not_some a e)
+          handing (net.source_node j) (s.node (net.source_node j)) j k.number k.time x a (o.2 ∙ ap (λ z. Some (k.time, z)) (sym same)) e
+      answer_good (Completion i) there came a e = absurd (not_some a e)
 
     good_step : (s : State P N) → IsOrderly net (λ q. true) s → Good s → (o : Option (Key × Event P)) → least s.pending ≡ o → Came net (step_at net (λ q. true) s o) → Good (step_at net (λ q. true) s o)
     good_step s orderly g None m came = g
     good_step s orderly g (Some e) m came =
-        let does : Effect P N = effect net s.node s.port e.0.time e.0.place e.0.number e.1 in
-        let h = effect_good s.node s.port g.waits e.0.time e.0.place e.0.number e.1
-        (answer_good s orderly g e.0.time e.0.number e.0.place e.1 (least_has s.pending e m) came) in
+        let does : Effect P N = effect net s.node s.port e.0.time e.0.number e.1 in
+        let h = effect_good s.node s.port g.waits e.0.time e.0.number e.1
+        (answer_good s orderly g e.0 e.1 (least_has s.pending e m) came) in
         record {
           started = λ i. subst (All (IsGood Q))
               (sym (passed-append Out i s.records (in_record e.0.time does.came ++ out_record e.0.time does.transmission)

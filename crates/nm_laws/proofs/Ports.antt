@@ -1,7 +1,6 @@
 -- The packets offered to an interface have started, wait, or were dropped.
 use Rattle.std.proofs.Common.{◌≡◌, ℕ, zero, suc, ◌+◌, ◌≤◌, Bool, true, false, cond, ◌==◌, List, [], ◌∷◌, ◌++◌, length, Option, Some, None, refl, ap, ◌∙◌, arith, ⊎_elim, length-append}
 use Rattle.nm_base.specs.declared.key.Place.{Place}
-use Rattle.nm_base.specs.declared.key.Place.TheVariants.{Arrive, Complete, Fire}
 use Rattle.nm_base.specs.declared.key.Key.{Key}
 use Rattle.nm_base.specs.declared.event.Event.{Event}
 use Rattle.nm_base.specs.declared.event.Event.TheVariants.{Delivery, Completion}
@@ -13,7 +12,7 @@ use Rattle.nm_model.specs.EventList.{least}
 use Rattle.nm_model.specs.Lists.{set_at}
 use Rattle.nm_model.specs.Network.{Net}
 use Rattle.nm_model.specs.Port.{Busy, Port, offered, completed, next_transmitting, waiting_of, option_list}
-use Rattle.nm_model.specs.Run.{State, Effect, effect, at_iface, turned, turned_by, sent_on, in_record, out_record, step_at, one_list}
+use Rattle.nm_model.specs.Run.{State, Effect, effect, at_iface, by_source, turned, turned_by, sent_on, in_record, out_record, step_at, one_list}
 use Rattle.nm_model.specs.Trace.{passed}
 use Rattle.nm_model.proofs.ListLemmas.{same_number, number_apart, number_tied, set_here, set_there, kept-append}
 use Rattle.nm_laws.specs.Offered.{answer_to, next_offer, offers, offered_to}
@@ -99,7 +98,7 @@ module _ {P N : Type 0} (net : Net P N) (i : ℕ) where
   abbrev given : Option (ℕ × P) → ℕ
   given o = length (offered_to i (option_list o))
 
-  module _ (ports : ℕ → Port P) (time : ℕ) (came : Option (ℕ × P)) (n : N) (follows : Option (ℕ × P)) where
+  module _ (ports : ℕ → Port P) (time : ℕ) (came : Option (ℕ × P)) (n : N) (follows : Option (ℕ × ℕ × P)) where
     turned_gives : (j : ℕ) (r : Port P × Option P) (k : ℕ) → held r.0 + one r.1 ≡ held (ports j) + k → gives ports (turned_by net came n j r follows) ≡ held (ports i) + cond (i == j) k 0
     turned_gives j r k h = ⊎_elim
         (λ e.
@@ -128,10 +127,10 @@ module _ {P N : Type 0} (net : Net P N) (i : ℕ) where
         go true = refl
         go false = refl
 
-  effect_gives : (nodes : ℕ → N) (ports : ℕ → Port P) (time : ℕ) (place : Place) (number : ℕ) (event : Event P) → gives ports (effect net nodes ports time place number event) ≡ held (ports i) + given (answer_to net nodes place event)
-  effect_gives nodes ports time (Arrive j) number (Delivery x) = sent_gives ports time (Some (j, x)) _ None (net.react (net.owner j) (nodes (net.owner j)) (Arrival j) x).1
-  effect_gives nodes ports time (Fire j) number (Delivery x) = sent_gives ports time None _ (net.source j (suc number)) (net.react (net.source_node j) (nodes (net.source_node j)) (Source j) x).1
-  effect_gives nodes ports time (Complete j) number Completion =
+  effect_gives : (nodes : ℕ → N) (ports : ℕ → Port P) (time : ℕ) (number : ℕ) (event : Event P) → gives ports (effect net nodes ports time number event) ≡ held (ports i) + given (answer_to net nodes event)
+  effect_gives nodes ports time number (Delivery (Arrival j) x) = sent_gives ports time (Some (j, x)) _ None (net.react (net.owner j) (nodes (net.owner j)) (Arrival j) x).1
+  effect_gives nodes ports time number (Delivery (Source j) x) = sent_gives ports time None _ (by_source j (net.source j (suc number))) (net.react (net.source_node j) (nodes (net.source_node j)) (Source j) x).1
+  effect_gives nodes ports time number (Completion j) =
       let r = completed (net.tx j) time (ports j).dropped (ports j).busy in
       let h = completed_holds (net.room j) (net.tx j) time (ports j).dropped (ports j).busy in
       turned_gives ports time None (nodes (net.owner j)) None j r 0 (omega (arith, h))
@@ -140,15 +139,12 @@ module _ {P N : Type 0} (net : Net P N) (i : ℕ) where
       go : (z : Bool) → ◌≡◌ {A = ℕ} (cond z 0 0) 0
       go true = refl
       go false = refl
-  effect_gives nodes ports time (Arrive j) number Completion = refl
-  effect_gives nodes ports time (Complete j) number (Delivery x) = refl
-  effect_gives nodes ports time (Fire j) number Completion = refl
 
   step_gives : (here : Place → Bool) (s : State P N) (o : Option (Key × Event P)) → known (step_at net here s o) ≡ known s + length (offered_to i (next_offer net s o))
   step_gives here s None = omega arith
   step_gives here s (Some e) =
-      let does : Effect P N = effect net s.node s.port e.0.time e.0.place e.0.number e.1 in
-      let a = effect_gives s.node s.port e.0.time e.0.place e.0.number e.1 in
+      let does : Effect P N = effect net s.node s.port e.0.time e.0.number e.1 in
+      let a = effect_gives s.node s.port e.0.time e.0.number e.1 in
       let b = started_more e.0.time i s.records does.came does.transmission in
       omega arith
 
@@ -164,7 +160,7 @@ module _ {P N : Type 0} (net : Net P N) (i : ℕ) where
 module _ {P N : Type 0} (net : Net P N) where
   next_few : (s : State P N) (o : Option (Key × Event P)) → length (next_offer net s o) ≤ 1
   next_few s None = omega arith
-  next_few s (Some e) = go (answer_to net s.node e.0.place e.1)
+  next_few s (Some e) = go (answer_to net s.node e.1)
     where
       go : (o : Option (ℕ × P)) → length (option_list o) ≤ 1
       go None = omega arith

@@ -4,6 +4,7 @@ use Rattle.nm_topology.specs.TopologyValue.{TopologyValue}
 use Rattle.nm_base.specs.declared.event.Origin.{Origin}
 use Rattle.nm_base.specs.declared.event.Origin.TheVariants.{Arrival, Source}
 use Rattle.nm_model.specs.Network.{IsNet}
+use Rattle.nm_model.specs.Orderly.{IsOrderly}
 use Rattle.nm_model.specs.Run.{one_list}
 use Rattle.nm_forward.specs.State.{NodeStateValue, table_of}
 use Rattle.nm_sim.specs.Network.{net_of}
@@ -63,24 +64,24 @@ module _ (t : TopologyValue) where
   unfolding net_of
   sending_rises v n o x w below = reaction_sends t v n x w o below
 
-  pub arrivals_total : (v n : ℕ) → length (arrivals_at (net_of t) v (one_list (net_of t) n).records) < 2 ^ 64
+  pub arrivals_total : ((n : ℕ) → IsOrderly (net_of t) (λ q. true) (one_list (net_of t) n)) → (v n : ℕ) → length (arrivals_at (net_of t) v (one_list (net_of t) n).records) < 2 ^ 64
       → total_of arrival_counters ((one_list (net_of t) n).node v) ≡ length (arrivals_at (net_of t) v (one_list (net_of t) n).records)
-  arrivals_total v n below =
+  arrivals_total orderly v n below =
       let e = arrivals_are (net_of t) v n in
-      total_is (net_of t) (one_arrival (net_of t) (λ u y. true)) IsWhole whole_first whole_keeps (total_of arrival_counters) none_arrived (2 ^ 64) arrival_rises v n (omega arith) ∙ sym e
+      total_is (net_of t) (one_arrival (net_of t) (λ u y. true)) IsWhole whole_first whole_keeps (total_of arrival_counters) none_arrived (2 ^ 64) arrival_rises orderly v n (omega arith) ∙ sym e
 
-  pub row_total : (r : Row) (v n : ℕ) → length (arrivals_raising t v (row_counter r) (one_list (net_of t) n).records) < 2 ^ 64
+  pub row_total : ((n : ℕ) → IsOrderly (net_of t) (λ q. true) (one_list (net_of t) n)) → (r : Row) (v n : ℕ) → length (arrivals_raising t v (row_counter r) (one_list (net_of t) n).records) < 2 ^ 64
       → slice_index ((one_list (net_of t) n).node v).counters (counter_number (row_counter r)) ≡ length (arrivals_raising t v (row_counter r) (one_list (net_of t) n).records)
-  row_total r v n below =
+  row_total orderly r v n below =
       let e = arrivals_where (net_of t) (raises r) v n in
-      let f = total_is (net_of t) (one_arrival (net_of t) (raises r)) IsWhole whole_first whole_keeps (total_of (row_counter r ∷ [])) (none_of_row r) (2 ^ 64) (row_rises r) v n (omega arith) in
+      let f = total_is (net_of t) (one_arrival (net_of t) (raises r)) IsWhole whole_first whole_keeps (total_of (row_counter r ∷ [])) (none_of_row r) (2 ^ 64) (row_rises r) orderly v n (omega arith) in
       omega arith
 
-  pub sendings_total : IsNet (net_of t) → (v n : ℕ) → length (offered_by (net_of t) v (offers (net_of t) n)) < 2 ^ 64
+  pub sendings_total : IsNet (net_of t) → ((n : ℕ) → IsOrderly (net_of t) (λ q. true) (one_list (net_of t) n)) → (v n : ℕ) → length (offered_by (net_of t) v (offers (net_of t) n)) < 2 ^ 64
       → total_of sending_counters ((one_list (net_of t) n).node v) ≡ length (offered_by (net_of t) v (offers (net_of t) n))
-  sendings_total ok v n below =
+  sendings_total ok orderly v n below =
       let e = offers_are (net_of t) ok v n in
-      total_is (net_of t) (one_sent (net_of t)) IsWhole whole_first whole_keeps (total_of sending_counters) none_sent (2 ^ 64) sending_rises v n (omega arith) ∙ sym e
+      total_is (net_of t) (one_sent (net_of t)) IsWhole whole_first whole_keeps (total_of sending_counters) none_sent (2 ^ 64) sending_rises orderly v n (omega arith) ∙ sym e
 
   pub arrivals_few : (v n : ℕ) → length (arrivals_at (net_of t) v (one_list (net_of t) n).records) ≤ n
   arrivals_few v n =

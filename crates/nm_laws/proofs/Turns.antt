@@ -1,7 +1,6 @@
 -- The packets of an interface start in the order in which they were offered.
 use Rattle.std.proofs.Common.{◌≡◌, ◌⊎◌, inl, inr, ℕ, zero, suc, ◌+◌, Bool, true, false, cond, ◌==◌, List, [], ◌∷◌, ◌++◌, Option, Some, None, refl, sym, ap, ◌∙◌, subst, ⊎_elim, append_assoc}
 use Rattle.nm_base.specs.declared.key.Place.{Place}
-use Rattle.nm_base.specs.declared.key.Place.TheVariants.{Arrive, Complete, Fire}
 use Rattle.nm_base.specs.declared.key.Key.{Key}
 use Rattle.nm_base.specs.declared.event.Event.{Event}
 use Rattle.nm_base.specs.declared.event.Event.TheVariants.{Delivery, Completion}
@@ -11,7 +10,7 @@ use Rattle.nm_model.specs.EventList.{least}
 use Rattle.nm_model.specs.Lists.{set_at}
 use Rattle.nm_model.specs.Network.{Net}
 use Rattle.nm_model.specs.Port.{Busy, Port, offered, completed, next_transmitting, waiting_of, option_list}
-use Rattle.nm_model.specs.Run.{State, Effect, effect, at_iface, turned, turned_by, sent_on, in_record, out_record, step_at, one_list}
+use Rattle.nm_model.specs.Run.{State, Effect, effect, at_iface, by_source, turned, turned_by, sent_on, in_record, out_record, step_at, one_list}
 use Rattle.nm_model.specs.Trace.{passed}
 use Rattle.nm_model.proofs.ListLemmas.{same_number, number_apart, number_tied, set_here, set_there, kept-append}
 use Rattle.nm_laws.specs.Offered.{IsSubsequence, answer_to, next_offer, offers, offered_to, packets_in}
@@ -98,7 +97,7 @@ module _ {P N : Type 0} (net : Net P N) (i : ℕ) where
   abbrev new_offer : Option (ℕ × P) → List P
   new_offer o = packets_in (offered_to i (option_list o))
 
-  module _ (ports : ℕ → Port P) (time : ℕ) (came : Option (ℕ × P)) (n : N) (follows : Option (ℕ × P)) where
+  module _ (ports : ℕ → Port P) (time : ℕ) (came : Option (ℕ × P)) (n : N) (follows : Option (ℕ × ℕ × P)) where
     turned_line : (j : ℕ) (r : Port P × Option P) (more : List P) → Follow (option_list r.1 ++ waiting_of r.0.busy) (waiting_of (ports j).busy) more
         → Follow (line ports (turned_by net came n j r follows)) (waiting_of (ports i).busy) (cond (i == j) more [])
     turned_line j r more h = ⊎_elim
@@ -127,19 +126,16 @@ module _ {P N : Type 0} (net : Net P N) (i : ℕ) where
         go true = refl
         go false = refl
 
-  effect_line : (nodes : ℕ → N) (ports : ℕ → Port P) (time : ℕ) (place : Place) (number : ℕ) (event : Event P) → Follow (line ports (effect net nodes ports time place number event)) (waiting_of (ports i).busy) (new_offer (answer_to net nodes place event))
-  effect_line nodes ports time (Arrive j) number (Delivery x) = sent_line ports time (Some (j, x)) _ None (net.react (net.owner j) (nodes (net.owner j)) (Arrival j) x).1
-  effect_line nodes ports time (Fire j) number (Delivery x) = sent_line ports time None _ (net.source j (suc number)) (net.react (net.source_node j) (nodes (net.source_node j)) (Source j) x).1
-  effect_line nodes ports time (Complete j) number Completion =
-      subst (Follow (line ports (effect net nodes ports time (Complete j) number Completion)) (waiting_of (ports i).busy)) (go (i == j))
+  effect_line : (nodes : ℕ → N) (ports : ℕ → Port P) (time : ℕ) (number : ℕ) (event : Event P) → Follow (line ports (effect net nodes ports time number event)) (waiting_of (ports i).busy) (new_offer (answer_to net nodes event))
+  effect_line nodes ports time number (Delivery (Arrival j) x) = sent_line ports time (Some (j, x)) _ None (net.react (net.owner j) (nodes (net.owner j)) (Arrival j) x).1
+  effect_line nodes ports time number (Delivery (Source j) x) = sent_line ports time None _ (by_source j (net.source j (suc number))) (net.react (net.source_node j) (nodes (net.source_node j)) (Source j) x).1
+  effect_line nodes ports time number (Completion j) =
+      subst (Follow (line ports (effect net nodes ports time number (Completion j))) (waiting_of (ports i).busy)) (go (i == j))
       (turned_line ports time None (nodes (net.owner j)) None j (completed (net.tx j) time (ports j).dropped (ports j).busy) [] (inr (completed_turn (net.room j) (net.tx j) time (ports j).dropped (ports j).busy)))
     where
       go : (z : Bool) → ◌≡◌ {A = List P} (cond z [] []) []
       go true = refl
       go false = refl
-  effect_line nodes ports time (Arrive j) number Completion = inr refl
-  effect_line nodes ports time (Complete j) number (Delivery x) = inr refl
-  effect_line nodes ports time (Fire j) number Completion = inr refl
 
   -- all that started, and then all that waits
   abbrev queued : State P N → List P
@@ -147,19 +143,19 @@ module _ {P N : Type 0} (net : Net P N) (i : ℕ) where
 
   step_queued : (here : Place → Bool) (s : State P N) (o : Option (Key × Event P)) → Follow (queued (step_at net here s o)) (queued s) (packets_in (offered_to i (next_offer net s o)))
   step_queued here s None = inr refl
-  step_queued here s (Some e) = ⊎_elim (λ h. inl (is ∙ ap (λ l. started ++ l) h ∙ sym (append_assoc started (waiting_of (s.port i).busy) _))) (λ h. inr (is ∙ ap (λ l. started ++ l) h)) (effect_line s.node s.port e.0.time e.0.place e.0.number e.1)
+  step_queued here s (Some e) = ⊎_elim (λ h. inl (is ∙ ap (λ l. started ++ l) h ∙ sym (append_assoc started (waiting_of (s.port i).busy) _))) (λ h. inr (is ∙ ap (λ l. started ++ l) h)) (effect_line s.node s.port e.0.time e.0.number e.1)
     where
       started : List P
       started = packets_in (passed Out i s.records)
 
-      is : queued (step_at net here s (Some e)) ≡ packets_in (passed Out i s.records) ++ line s.port (effect net s.node s.port e.0.time e.0.place e.0.number e.1)
-      is = ap (λ l. l ++ waiting_of (turned s.port (effect net s.node s.port e.0.time e.0.place e.0.number e.1).turn i).busy)
+      is : queued (step_at net here s (Some e)) ≡ packets_in (passed Out i s.records) ++ line s.port (effect net s.node s.port e.0.time e.0.number e.1)
+      is = ap (λ l. l ++ waiting_of (turned s.port (effect net s.node s.port e.0.time e.0.number e.1).turn i).busy)
           (ap packets_in (passed-append Out i s.records _ ∙ ap (λ l. passed Out i s.records ++ l)
-          (passed-append Out i (in_record e.0.time (effect net s.node s.port e.0.time e.0.place e.0.number e.1).came) _
-          ∙ ap (λ l. l ++ passed Out i (out_record e.0.time (effect net s.node s.port e.0.time e.0.place e.0.number e.1).transmission)) (in_none e.0.time i (effect net s.node s.port e.0.time e.0.place e.0.number e.1).came)))
-          ∙ packets-append (passed Out i s.records) (passed Out i (out_record e.0.time (effect net s.node s.port e.0.time e.0.place e.0.number e.1).transmission))
-          ∙ ap (λ l. packets_in (passed Out i s.records) ++ l) (out_is e.0.time i (effect net s.node s.port e.0.time e.0.place e.0.number e.1).transmission))
-          ∙ append_assoc (packets_in (passed Out i s.records)) (starting i (effect net s.node s.port e.0.time e.0.place e.0.number e.1).transmission) _
+          (passed-append Out i (in_record e.0.time (effect net s.node s.port e.0.time e.0.number e.1).came) _
+          ∙ ap (λ l. l ++ passed Out i (out_record e.0.time (effect net s.node s.port e.0.time e.0.number e.1).transmission)) (in_none e.0.time i (effect net s.node s.port e.0.time e.0.number e.1).came)))
+          ∙ packets-append (passed Out i s.records) (passed Out i (out_record e.0.time (effect net s.node s.port e.0.time e.0.number e.1).transmission))
+          ∙ ap (λ l. packets_in (passed Out i s.records) ++ l) (out_is e.0.time i (effect net s.node s.port e.0.time e.0.number e.1).transmission))
+          ∙ append_assoc (packets_in (passed Out i s.records)) (starting i (effect net s.node s.port e.0.time e.0.number e.1).transmission) _
 
   pub in_turn : (n : ℕ) → IsSubsequence (packets_in (passed Out i (one_list net n).records) ++ waiting_of ((one_list net n).port i).busy) (packets_in (offered_to i (offers net n)))
   in_turn zero = tt

@@ -1,10 +1,8 @@
 -- The packets that nodes offer to their interfaces.
 use Rattle.std.specs.Prelude.{◌≡◌, ◌⊎◌, ℕ, zero, suc, ◌+◌, ◌≤◌, ◌==◌, List, [], ◌∷◌, ◌++◌, length, map, Option, Some, None}
-use Rattle.nm_base.specs.declared.key.Place.{Place}
-use Rattle.nm_base.specs.declared.key.Place.TheVariants.{Arrive, Fire}
 use Rattle.nm_base.specs.declared.key.Key.{Key}
 use Rattle.nm_base.specs.declared.event.Event.{Event}
-use Rattle.nm_base.specs.declared.event.Event.TheVariants.{Delivery}
+use Rattle.nm_base.specs.declared.event.Event.TheVariants.{Delivery, Completion}
 use Rattle.nm_base.specs.declared.event.Origin.TheVariants.{Arrival, Source}
 use Rattle.nm_base.specs.declared.record.Dir.TheVariants.{Out}
 use Rattle.nm_model.specs.Lists.{keep_where}
@@ -17,15 +15,15 @@ use Rattle.nm_model.specs.Trace.{passed}
 module _ {P N : Type 0} (net : Net P N) where
   -- What a node sends in answer to an event: by which of its interfaces, and the packet. Nodes answer to packets that arrive and to those
   -- of their sources, and to nothing else.
-  abbrev pub answer_to : (ℕ → N) → Place → Event P → Option (ℕ × P)
-  answer_to nodes (Arrive i) (Delivery x) = (net.react (net.owner i) (nodes (net.owner i)) (Arrival i) x).1
-  answer_to nodes (Fire j) (Delivery x) = (net.react (net.source_node j) (nodes (net.source_node j)) (Source j) x).1
-  answer_to nodes place event = None
+  abbrev pub answer_to : (ℕ → N) → Event P → Option (ℕ × P)
+  answer_to nodes (Delivery (Arrival i) x) = (net.react (net.owner i) (nodes (net.owner i)) (Arrival i) x).1
+  answer_to nodes (Delivery (Source j) x) = (net.react (net.source_node j) (nodes (net.source_node j)) (Source j) x).1
+  answer_to nodes (Completion i) = None
 
   -- in answer to the next event, if one is pending
   abbrev pub next_offer : State P N → Option (Key × Event P) → List (ℕ × P)
   next_offer s None = []
-  next_offer s (Some e) = option_list (answer_to s.node e.0.place e.1)
+  next_offer s (Some e) = option_list (answer_to s.node e.1)
 
   -- all packets that were offered in the first n events of the network, in that order, each with its interface
   abbrev pub offers : ℕ → List (ℕ × P)

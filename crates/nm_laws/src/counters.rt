@@ -3,6 +3,9 @@
 ghost use Rattle.std.specs.Prelude.{ℕ};
 ghost use Rattle.nm_laws.specs.Counted.{ArrivalsAreCounted, RowsAreCounted, SendingsAreCounted};
 
+use nm_base::Packet;
+use nm_forward::NodeState;
+use nm_model::orderly::every_state_is_orderly;
 use nm_sim::network::every_topology_is_a_network;
 use nm_topology::Topology;
 
@@ -16,4 +19,5 @@ pub fn packets_are_counted(topology: &Topology)
     ensures sendings { (n v : ℕ) → SendingsAreCounted topology.now n v }
 {
     every_topology_is_a_network(topology); // law: a node sends by its own interfaces
+    every_state_is_orderly::<Packet, NodeState>(); // law: events happen at their own nodes
 }

@@ -16,12 +16,15 @@ use Rattle.nm_model.specs.Lists.{nth, keep_where}
 use Rattle.nm_model.specs.Network.{Net, IsNet, node_of}
 use Rattle.nm_model.specs.Run.{State, Effect, effect, turned, sent_after, new_events, transmission_events, next_events, arrived_after, apply, in_record, out_record}
 use Rattle.nm_base.specs.declared.event.Event.TheVariants.{Delivery, Completion}
+use Rattle.nm_base.specs.declared.event.Origin.TheVariants.{Arrival}
+use Rattle.nm_base.specs.Event.{event_place}
 use Rattle.nm_model.proofs.Keys.{key_at, key_decides, same_key, remove_same, remove_other, least_has, least_min, up_to_earlier}
 use Rattle.nm_model.proofs.ListLemmas.{same_time, bool_cases, same_number, set_there, set_both, kept-append}
 use Rattle.nm_model.proofs.Scheduling.{put_alike, put_elsewhere}
 use Rattle.nm_model.proofs.Effects.{EffectIs, effect_is, effect_local}
 use Rattle.nm_model.proofs.NewEvents.{arrive_inj, turned_case, sent_case, IsNew, Ends, Comes, GoesOn, pending_case, pending_other}
 use Rattle.nm_model.proofs.Invariants.{Invariant, arrival_number, came_case}
+use Rattle.nm_model.proofs.Placed.{placed_of}
 use Rattle.nm_base.specs.declared.event.Event.{Event}
 
 pub and_both : (a b : Bool) → (a && b) ≡ true → (a ≡ true) × (b ≡ true)
@@ -60,8 +63,8 @@ module _ {P N : Type 0} (net : Net P N) (p : ℕ) where
   -- the relation that steps keep
   pub record Cut (K : Knowledge P) (g s : State P N) : Type 0 where
     pub agrees : Agrees net p g s
-    pub inbox_is : (c t n : ℕ) (x : Event P) → comes_in net p c ≡ true → get s.pending (key_of t (Arrive c) n) ≡ Some x → (y : P) × (x ≡ Delivery y) × (s.arrived c ≤ n) × (nth (K c).list n ≡ Some (t, y))
-    pub inbox_has : (c t n : ℕ) (x : P) → comes_in net p c ≡ true → s.arrived c ≤ n → nth (K c).list n ≡ Some (t, x) → get s.pending (key_of t (Arrive c) n) ≡ Some (Delivery x)
+    pub inbox_is : (c t n : ℕ) (x : Event P) → comes_in net p c ≡ true → get s.pending (key_of t (Arrive c) n) ≡ Some x → (y : P) × (x ≡ Delivery (Arrival c) y) × (s.arrived c ≤ n) × (nth (K c).list n ≡ Some (t, y))
+    pub inbox_has : (c t n : ℕ) (x : P) → comes_in net p c ≡ true → s.arrived c ≤ n → nth (K c).list n ≡ Some (t, x) → get s.pending (key_of t (Arrive c) n) ≡ Some (Delivery (Arrival c) x)
     pub alien : (q : Key) → in_part net p q.place ≡ false → get s.pending q ≡ None
 
   -- the messages of K were put on their channels, or are later than t
@@ -127,10 +130,13 @@ module _ {P N : Type 0} (net : Net P N) (p : ℕ) where
               ap (get s.pending) (key_at k (Arrive c) f) ∙ h.inbox_has c k.time k.number a.0 ch (let w = h.agrees.arrived c mc in let z = a.2 in omega arith) i ∙ ap Some (sym a.1)
 
       abbrev does : Effect P N
-      does = effect net g.node g.port k.time k.place k.number x
+      does = effect net g.node g.port k.time k.number x
+
+      placed : k.place ≡ event_place x
+      placed = placed_of net (λ q. true) g good.orderly k x (least_has g.pending (k, x) m)
 
       does_is : EffectIs net g.port k.time k.place k.number x does
-      does_is = effect_is net ok g.node g.port k.time k.place k.number x
+      does_is = effect_is net ok g.node g.port k.time k.place k.number x placed
 
       owner_mine : (i : ℕ) → net.owner i ≡ node_of net k.place → in_part net p (Arrive i) ≡ in_part net p k.place
       owner_mine i e = ap (λ v. net.part v == p) e
@@ -174,7 +180,7 @@ module _ {P N : Type 0} (net : Net P N) (p : ℕ) where
         where
           not_new : (q : Key) → in_part net p q.place ≡ true → is_inbox net p q.place ≡ false → (y : Event P) → ¬ (IsNew net k g.sent does q y)
           not_new q mq cq y (Ends u e f i) = both_ways (in_part net p q.place) mq (ap (λ r. in_part net p r.place) f ∙ transmission_mine u e ∙ mn)
-          not_new q mq cq y (GoesOn u e f i) = both_ways (in_part net p q.place) mq (ap (λ r. in_part net p r.place) f ∙ mn)
+          not_new q mq cq y (GoesOn u e f i) = both_ways (in_part net p q.place) mq (ap (λ r. in_part net p r.place) f ∙ ap (in_part net p) (sym (does_is.follows_is u e).0) ∙ mn)
           not_new q mq cq y (Comes u e f i) =
               let here : in_part net p (Arrive (net.peer u.0)) ≡ true = ap (in_part net p) (sym (ap (λ r. r.place) f)) ∙ mq in
               let there : not (in_part net p (Arrive (net.peer (net.peer u.0)))) ≡ true = ap not (far_mine u e ∙ mn) in
@@ -206,10 +212,10 @@ module _ {P N : Type 0} (net : Net P N) (p : ℕ) where
 
         transmission_both : (o : Option (ℕ × P)) → ((u : ℕ × P) → o ≡ Some u → g.sent (net.peer u.0) ≡ s.sent (net.peer u.0)) → transmission_events net k.time g.sent o ≡ transmission_events net k.time s.sent o
         transmission_both None l = refl
-        transmission_both (Some u) l = ap (λ (z : List (ℕ × P)). (key_of (k.time + net.tx u.0 u.1) (Complete u.0) (length z), Completion) ∷ (key_of (k.time + net.tx u.0 u.1 + net.delay u.0) (Arrive (net.peer u.0)) (length z), Delivery u.1) ∷ []) (l u refl)
+        transmission_both (Some u) l = ap (λ (z : List (ℕ × P)). (key_of (k.time + net.tx u.0 u.1) (Complete u.0) (length z), Completion u.0) ∷ (key_of (k.time + net.tx u.0 u.1 + net.delay u.0) (Arrive (net.peer u.0)) (length z), Delivery (Arrival (net.peer u.0)) u.1) ∷ []) (l u refl)
 
         news_both : new_events net k g.sent does ≡ new_events net k s.sent does
-        news_both = ap (λ z. z ++ next_events k.place k.number does.follows) (transmission_both does.transmission line)
+        news_both = ap (λ z. z ++ next_events k.number does.follows) (transmission_both does.transmission line)
 
         arrived_both : (o : Option (ℕ × P)) → ((a : ℕ × P) → o ≡ Some a → in_part net p (Arrive a.0) ≡ true) → (c : ℕ) → g.arrived c ≡ s.arrived c → arrived_after g.arrived o c ≡ arrived_after s.arrived o c
         arrived_both None e c f = f
@@ -232,7 +238,7 @@ module _ {P N : Type 0} (net : Net P N) (p : ℕ) where
         -- no event that it makes comes in by a channel
         not_new : (c t n : ℕ) (y : Event P) → comes_in net p c ≡ true → ¬ (IsNew net k s.sent does (key_of t (Arrive c) n) y)
         not_new c t n y ch (Ends u e f i) = let w = ap (λ r. r.place) f in cc
-        not_new c t n y ch (GoesOn u e f i) = let w = ap (λ r. r.place) f in let v = (does_is.follows_is u e).1 in cc
+        not_new c t n y ch (GoesOn u e f i) = let w = ap (λ r. r.place) f in cc
         not_new c t n y ch (Comes u e f i) =
             let pc : c ≡ net.peer u.0 = arrive_inj _ _ (ap (λ r. r.place) f) in
             let there = not_true _ (and_both _ _ ch).1 in
@@ -281,7 +287,7 @@ module _ {P N : Type 0} (net : Net P N) (p : ℕ) where
           alien = λ q mq. put_elsewhere (in_part net p) (new_events net k s.sent does) (remove s.pending k) q mq ∙ remove_other s.pending k q (λ eq. both_ways (in_part net p q.place) (ap (λ r. in_part net p r.place) eq ∙ mn) mq) ∙ h.alien q mq;
         }
 
-        pub cut_mine : Cut K (apply net (λ q. true) k does g) (apply net (in_part net p) k (effect net s.node s.port k.time k.place k.number x) s)
+        pub cut_mine : Cut K (apply net (λ q. true) k does g) (apply net (in_part net p) k (effect net s.node s.port k.time k.number x) s)
         cut_mine = subst (λ e. Cut K (apply net (λ q. true) k does g) (apply net (in_part net p) k e s))
-            (effect_local net g.port s.port k.time ok g.node s.node k.place k.number x (h.agrees.node (node_of net k.place) mn) (λ i e. h.agrees.port i (owner_mine i e ∙ mn)))
+            (effect_local net g.port s.port k.time ok g.node s.node k.place k.number x placed (h.agrees.node (node_of net k.place) mn) (λ i e. h.agrees.port i (owner_mine i e ∙ mn)))
             cut_same

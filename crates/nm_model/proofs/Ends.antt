@@ -42,9 +42,9 @@ three n q a h i j = grind arith
 abbrev heft : ℕ → Key → ℕ
 heft t q = pow4 (t - q.time)
 
-pub few_next : {P : Type 0} (pl : Place) (n : ℕ) (o : Option (ℕ × P)) → length (next_events pl n o) ≤ 1
-few_next pl n None = omega arith
-few_next pl n (Some u) = omega arith
+pub few_next : {P : Type 0} (n : ℕ) (o : Option (ℕ × ℕ × P)) → length (next_events n o) ≤ 1
+few_next n None = omega arith
+few_next n (Some u) = omega arith
 
 module _ {P : Type 0} (t : ℕ) where
   -- what pending events below t can still make
@@ -118,7 +118,7 @@ module _ {P N : Type 0} (net : Net P N) where
     falls t s h e m lt =
         let k = e.0 in
         let has = least_has s.pending e m in
-        let does = effect net s.node s.port e.0.time e.0.place e.0.number e.1 in
+        let does = effect net s.node s.port e.0.time e.0.number e.1 in
         let es = new_events net e.0 s.sent does in
         let q = pow4 (t - suc e.0.time) in
         let four : pow4 (t - e.0.time) ≡ 4 * q = ap pow4 (let z : t - e.0.time ≡ suc (t - suc e.0.time) = omega arith in z) in
@@ -127,8 +127,8 @@ module _ {P N : Type 0} (net : Net P N) where
         pow4_mono (t - r.time) (t - suc e.0.time) (omega arith) in
         let sum = light t q es each in
         let few = few_transmission e.0.time s.sent does.transmission in
-        let more = few_next e.0.place e.0.number does.follows in
-        let both = length-append (transmission_events net e.0.time s.sent does.transmission) (next_events e.0.place e.0.number does.follows) in
+        let more = few_next e.0.number does.follows in
+        let both = length-append (transmission_events net e.0.time s.sent does.transmission) (next_events e.0.number does.follows) in
         let below = three (length es) q (weigh t es) (omega arith) sum (pow4_pos (t - suc e.0.time)) in
         let put = weight_put t here es (remove s.pending e.0) in
         let rem = weight_removed t s.pending e.0 e.1 has in
@@ -164,18 +164,18 @@ module _ {P N : Type 0} (net : Net P N) where
 module _ {P N : Type 0} (net : Net P N) where
   pub made_few : (s : State P N) (e : Key × Event P) → length (made net s e) ≤ 3
   made_few s e =
-      let does = effect net s.node s.port e.0.time e.0.place e.0.number e.1 in
+      let does = effect net s.node s.port e.0.time e.0.number e.1 in
       let a = few_transmission net e.0.time s.sent does.transmission in
-      let b = few_next e.0.place e.0.number does.follows in
-      let c = length-append (transmission_events net e.0.time s.sent does.transmission) (next_events e.0.place e.0.number does.follows) in omega arith
+      let b = few_next e.0.number does.follows in
+      let c = length-append (transmission_events net e.0.time s.sent does.transmission) (next_events e.0.number does.follows) in omega arith
 
   nth_among : (es : List (Key × Event P)) (m : ℕ) (f : Key × Event P) → nth es m ≡ Some f → IsAmong f.0 f.1 es
   nth_among [] m f e = absurd (cc)
   nth_among (x ∷ es) zero f e = let g : x ≡ f = cc in inl (ap (λ z. z.0) (sym g), ap (λ z. z.1) (sym g))
   nth_among (x ∷ es) (suc m) f e = inr (nth_among es m f e)
 
-  pub made_new : (s : State P N) (e : Key × Event P) (m : ℕ) (f : Key × Event P) → nth (made net s e) m ≡ Some f → IsNew net e.0 s.sent (effect net s.node s.port e.0.time e.0.place e.0.number e.1) f.0 f.1
-  made_new s e m f a = made_among net e.0 s.sent (effect net s.node s.port e.0.time e.0.place e.0.number e.1) f.0 f.1 (nth_among _ m f a)
+  pub made_new : (s : State P N) (e : Key × Event P) (m : ℕ) (f : Key × Event P) → nth (made net s e) m ≡ Some f → IsNew net e.0 s.sent (effect net s.node s.port e.0.time e.0.number e.1) f.0 f.1
+  made_new s e m f a = made_among net e.0 s.sent (effect net s.node s.port e.0.time e.0.number e.1) f.0 f.1 (nth_among _ m f a)
 
   pub made_after : IsNet net → (here : Place → Bool) → IsByNode net here → (s : State P N) → IsOrderly net here s → (e : Key × Event P) → least s.pending ≡ Some e → (m : ℕ) (f : Key × Event P) → nth (made net s e) m ≡ Some f → e.0.time < f.0.time
   made_after ok here by_node s h e l m f a = makes_later net ok here by_node s h e (least_has s.pending e l) f.0 f.1 (made_new s e m f a)

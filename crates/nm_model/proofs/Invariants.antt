@@ -12,10 +12,12 @@ use Rattle.nm_model.specs.Run.{State, Effect, effect, turned, arrived_after, sen
 use Rattle.nm_model.specs.Port.{Busy}
 use Rattle.nm_base.specs.declared.event.Event.{Event}
 use Rattle.nm_base.specs.declared.event.Event.TheVariants.{Delivery}
+use Rattle.nm_base.specs.declared.event.Origin.TheVariants.{Arrival}
 use Rattle.nm_model.proofs.Keys.{key_at, same_key, least_has, least_min, up_to_time}
 use Rattle.nm_model.proofs.ListLemmas.{equal_or_less, same_time, nth_cong, same_number, set_here, nth_below, below_nth, nth_last, nth_push, prefix_nth, prefix_length}
 use Rattle.nm_model.proofs.Scheduling.{IsAmong, put_has}
 use Rattle.nm_model.specs.Orderly.{IsOrderly}
+use Rattle.nm_model.proofs.Placed.{placed_of}
 use Rattle.nm_model.proofs.Orders.{unturned, makes_later, orderly_step_at, all_by_node}
 use Rattle.nm_model.proofs.Effects.{EffectIs, effect_is}
 use Rattle.nm_model.proofs.NewEvents.{peer_inj, arrive_inj, arrived_case, turned_case, sent_case, sent_prefix, IsNew, Ends, Comes, GoesOn, made_among, among_comes, pending_case, pending_other}
@@ -28,8 +30,8 @@ IsSpaced {P} tx l = (m n : ℕ) (a b : ℕ × P) → m < n → nth l m ≡ Some 
 pub record Invariant {P N : Type 0} (net : Net P N) (s : State P N) (now : ℕ) : Type 0 where
   pub later : (q : Key) (x : Event P) → get s.pending q ≡ Some x → now ≤ q.time
   pub counted : (c : ℕ) → s.arrived c ≤ length (s.sent c)
-  pub arrival_is : (c t n : ℕ) (x : Event P) → get s.pending (key_of t (Arrive c) n) ≡ Some x → (y : P) × (x ≡ Delivery y) × (s.arrived c ≤ n) × (nth (s.sent c) n ≡ Some (t, y))
-  pub arrival_has : (c t n : ℕ) (x : P) → s.arrived c ≤ n → nth (s.sent c) n ≡ Some (t, x) → get s.pending (key_of t (Arrive c) n) ≡ Some (Delivery x)
+  pub arrival_is : (c t n : ℕ) (x : Event P) → get s.pending (key_of t (Arrive c) n) ≡ Some x → (y : P) × (x ≡ Delivery (Arrival c) y) × (s.arrived c ≤ n) × (nth (s.sent c) n ≡ Some (t, y))
+  pub arrival_has : (c t n : ℕ) (x : P) → s.arrived c ≤ n → nth (s.sent c) n ≡ Some (t, x) → get s.pending (key_of t (Arrive c) n) ≡ Some (Delivery (Arrival c) x)
   pub rising : (c : ℕ) → IsRising (s.sent c)
   pub spaced : (c : ℕ) → IsSpaced (net.tx (net.peer c)) (s.sent c)
   pub underway : (i : ℕ) (b : Busy P) → (s.port i).busy ≡ Some b → (n : ℕ) × (y : P) × (suc n ≡ length (s.sent (net.peer i))) × (nth (s.sent (net.peer i)) n ≡ Some (b.completes + net.delay i, y))
@@ -64,10 +66,10 @@ module _ {P : Type 0} where
 module _ {P N : Type 0} (net : Net P N) (ok : IsNet net) where
   module _ (s : State P N) (now : ℕ) (g : Invariant net s now) (k : Key) (x : Event P) (m : least s.pending ≡ Some (k, x)) where
     abbrev pub what : Effect P N
-    what = effect net s.node s.port k.time k.place k.number x
+    what = effect net s.node s.port k.time k.number x
 
     what_is : EffectIs net s.port k.time k.place k.number x what
-    what_is = effect_is net ok s.node s.port k.time k.place k.number x
+    what_is = effect_is net ok s.node s.port k.time k.place k.number x (placed_of net (λ q. true) s g.orderly k x (least_has s.pending (k, x) m))
 
     -- a pending completion is that of the last transmission
     last_sent : (i t n : ℕ) (y : Event P) → get s.pending (key_of t (Complete i) n) ≡ Some y → (z : P) × (suc n ≡ length (s.sent (net.peer i))) × (nth (s.sent (net.peer i)) n ≡ Some (t + net.delay i, z))
@@ -90,7 +92,7 @@ module _ {P N : Type 0} (net : Net P N) (ok : IsNet net) where
     now_before = g.later k x is_pending
 
     -- the arrival that is done is the next one of its place
-    pub arrival_number : (c : ℕ) → k.place ≡ Arrive c → (y : P) × (x ≡ Delivery y) × (k.number ≡ s.arrived c) × (nth (s.sent c) k.number ≡ Some (k.time, y))
+    pub arrival_number : (c : ℕ) → k.place ≡ Arrive c → (y : P) × (x ≡ Delivery (Arrival c) y) × (k.number ≡ s.arrived c) × (nth (s.sent c) k.number ≡ Some (k.time, y))
     arrival_number c e =
         let a = g.arrival_is c k.time k.number x (pending_at (Arrive c) e) in
         (a.0, a.1, ⊎_elim (λ eq. sym eq) (λ lt. absurd (early a.0 a.3 lt)) (equal_or_less (s.arrived c) k.number a.2), a.3)
@@ -101,7 +103,7 @@ module _ {P N : Type 0} (net : Net P N) (ok : IsNet net) where
             let b = nth_below (s.sent c) (s.arrived c) (omega arith) in
             let rises = g.rising c (s.arrived c) k.number b.0 (k.time, y) lt b.1 h in
             let there = g.arrival_has c b.0.0 (s.arrived c) b.0.1 (omega arith) b.1 in
-            let le = least_time (key_of b.0.0 (Arrive c) (s.arrived c)) (Delivery b.0.1) there in
+            let le = least_time (key_of b.0.0 (Arrive c) (s.arrived c)) (Delivery (Arrival c) b.0.1) there in
             omega arith
 
     -- all on the line of a pending completion arrive by its end and the delay
@@ -175,20 +177,20 @@ module _ {P N : Type 0} (net : Net P N) (ok : IsNet net) where
     grown : (u : ℕ × P) → what.transmission ≡ Some u → nth (after.sent (net.peer u.0)) (length (s.sent (net.peer u.0))) ≡ Some (k.time + net.tx u.0 u.1 + net.delay u.0, u.1)
     grown u h = ap (λ l. nth l (length (s.sent (net.peer u.0)))) (ap (λ o. sent_after net k.time s.sent o (net.peer u.0)) h ∙ set_here s.sent (net.peer u.0) _) ∙ nth_last (s.sent (net.peer u.0)) _
 
-    arrival_is_after : (c t n : ℕ) (y : Event P) → get after.pending (key_of t (Arrive c) n) ≡ Some y → (z : P) × (y ≡ Delivery z) × (after.arrived c ≤ n) × (nth (after.sent c) n ≡ Some (t, z))
+    arrival_is_after : (c t n : ℕ) (y : Event P) → get after.pending (key_of t (Arrive c) n) ≡ Some y → (z : P) × (y ≡ Delivery (Arrival c) z) × (after.arrived c ≤ n) × (nth (after.sent c) n ≡ Some (t, z))
     arrival_is_after c t n y e = ⊎_elim new (λ h. old h.0 h.1) (pending_case net k s.sent what (λ q. true) s.pending (key_of t (Arrive c) n) y e)
       where
-        new : IsNew net k s.sent what (key_of t (Arrive c) n) y → (z : P) × (y ≡ Delivery z) × (after.arrived c ≤ n) × (nth (after.sent c) n ≡ Some (t, z))
+        new : IsNew net k s.sent what (key_of t (Arrive c) n) y → (z : P) × (y ≡ Delivery (Arrival c) z) × (after.arrived c ≤ n) × (nth (after.sent c) n ≡ Some (t, z))
         new (Ends u h f i) = absurd (let z = ap (λ r. r.place) f in cc)
-        new (GoesOn u h f i) = absurd (let z = ap (λ r. r.place) f in let w = (what_is.follows_is u h).1 in cc)
+        new (GoesOn u h f i) = absurd (let z = ap (λ r. r.place) f in cc)
         new (Comes u h f i) =
             let pc : c ≡ net.peer u.0 = arrive_inj _ _ (ap (λ r. r.place) f) in
             let pn : n ≡ length (s.sent c) = ap (λ r. r.number) f ∙ ap (λ d. length (s.sent d)) (sym pc) in
             let pt : t ≡ k.time + net.tx u.0 u.1 + net.delay u.0 = ap (λ r. r.time) f in
             let le = counted_at c in
-            (u.1, i, omega arith, ap₂ (λ d m. nth (after.sent d) m) pc (ap (λ r. r.number) f) ∙ grown u h ∙ ap (λ a. Some (a, u.1)) (sym pt))
+            (u.1, i ∙ ap (λ d. Delivery (Arrival d) u.1) (sym pc), omega arith, ap₂ (λ d m. nth (after.sent d) m) pc (ap (λ r. r.number) f) ∙ grown u h ∙ ap (λ a. Some (a, u.1)) (sym pt))
 
-        old : key_of t (Arrive c) n ≢ k → get s.pending (key_of t (Arrive c) n) ≡ Some y → (z : P) × (y ≡ Delivery z) × (after.arrived c ≤ n) × (nth (after.sent c) n ≡ Some (t, z))
+        old : key_of t (Arrive c) n ≢ k → get s.pending (key_of t (Arrive c) n) ≡ Some y → (z : P) × (y ≡ Delivery (Arrival c) z) × (after.arrived c ≤ n) × (nth (after.sent c) n ≡ Some (t, z))
         old ne h =
             let a = g.arrival_is c t n y h in (
               a.0,
@@ -204,14 +206,14 @@ module _ {P N : Type 0} (net : Net P N) (ok : IsNet net) where
               prefix_nth _ _ n (t, a.0) (sent_prefix net k.time s.sent what.transmission c) a.3,
             )
 
-    arrival_has_after : (c t n : ℕ) (y : P) → after.arrived c ≤ n → nth (after.sent c) n ≡ Some (t, y) → get after.pending (key_of t (Arrive c) n) ≡ Some (Delivery y)
+    arrival_has_after : (c t n : ℕ) (y : P) → after.arrived c ≤ n → nth (after.sent c) n ≡ Some (t, y) → get after.pending (key_of t (Arrive c) n) ≡ Some (Delivery (Arrival c) y)
     arrival_has_after c t n y le e = ⊎_elim
         (λ h. ⊎_elim (λ i. kept i) (λ i. came h.0 h.1 h.2 i.0 i.1) (nth_push (s.sent c) _ (t, y) n (nth_cong _ _ n (t, y) h.3 e)))
         (λ h. kept (nth_cong _ _ n (t, y) h.1 e))
         (sent_case net k.time s.sent what.transmission c)
       where
         -- a message that was there is pending as before
-        kept : nth (s.sent c) n ≡ Some (t, y) → get after.pending (key_of t (Arrive c) n) ≡ Some (Delivery y)
+        kept : nth (s.sent c) n ≡ Some (t, y) → get after.pending (key_of t (Arrive c) n) ≡ Some (Delivery (Arrival c) y)
         kept i = pending_other net k s.sent what (λ q. true) s.pending (key_of t (Arrive c) n) not_done not_new ∙ g.arrival_has c t n y reached i
           where
             reached : s.arrived c ≤ n
@@ -229,29 +231,32 @@ module _ {P N : Type 0} (net : Net P N) (ok : IsNet net) where
 
             not_new : (z : Event P) → ¬ (IsNew net k s.sent what (key_of t (Arrive c) n) z)
             not_new z (Ends u h f i') = absurd (let w = ap (λ r. r.place) f in cc)
-            not_new z (GoesOn u h f i') = absurd (let w = ap (λ r. r.place) f in let v = (what_is.follows_is u h).1 in cc)
+            not_new z (GoesOn u h f i') = absurd (let w = ap (λ r. r.place) f in cc)
             not_new z (Comes u h f i') =
                 let pc : c ≡ net.peer u.0 = arrive_inj _ _ (ap (λ r. r.place) f) in
                 let pn : n ≡ length (s.sent c) = ap (λ r. r.number) f ∙ ap (λ d. length (s.sent d)) (sym pc) in
                 let b = below_nth (s.sent c) n (t, y) i in omega arith
 
-        came : (u : ℕ × P) → what.transmission ≡ Some u → c ≡ net.peer u.0 → n ≡ length (s.sent c) → ◌≡◌ {A = ℕ × P} (k.time + net.tx u.0 u.1 + net.delay u.0, u.1) (t, y) → get after.pending (key_of t (Arrive c) n) ≡ Some (Delivery y)
+        came : (u : ℕ × P) → what.transmission ≡ Some u → c ≡ net.peer u.0 → n ≡ length (s.sent c) → ◌≡◌ {A = ℕ × P} (k.time + net.tx u.0 u.1 + net.delay u.0, u.1) (t, y) → get after.pending (key_of t (Arrive c) n) ≡ Some (Delivery (Arrival c) y)
         came u h pc pn eq =
-            subst (λ q. get after.pending q ≡ Some (Delivery y)) (sym same) (put_has (λ q. true) (new_events net k s.sent what) (remove s.pending k) _ (Delivery y) refl among one)
+            subst (λ q. get after.pending q ≡ Some (Delivery (Arrival c) y)) (sym same) (put_has (λ q. true) (new_events net k s.sent what) (remove s.pending k) _ (Delivery (Arrival c) y) refl among one)
           where
             same : key_of t (Arrive c) n ≡ key_of (k.time + net.tx u.0 u.1 + net.delay u.0) (Arrive (net.peer u.0)) (length (s.sent (net.peer u.0)))
             same = same_key _ _ (sym (ap (λ z. z.0) eq)) (ap Arrive pc) (pn ∙ ap (λ d. length (s.sent d)) pc)
 
-            among : IsAmong (key_of (k.time + net.tx u.0 u.1 + net.delay u.0) (Arrive (net.peer u.0)) (length (s.sent (net.peer u.0)))) (Delivery y) (new_events net k s.sent what)
-            among = subst (λ z. IsAmong (key_of (k.time + net.tx u.0 u.1 + net.delay u.0) (Arrive (net.peer u.0)) (length (s.sent (net.peer u.0)))) (Delivery z) (new_events net k s.sent what)) (ap (λ z. z.1) eq) (among_comes net k s.sent what u h)
+            its_event : Delivery (Arrival (net.peer u.0)) u.1 ≡ Delivery (Arrival c) y
+            its_event = ap₂ (λ d z. Delivery (Arrival d) z) (sym pc) (ap (λ z. z.1) eq)
 
-            one : (w : Event P) → IsAmong (key_of (k.time + net.tx u.0 u.1 + net.delay u.0) (Arrive (net.peer u.0)) (length (s.sent (net.peer u.0)))) w (new_events net k s.sent what) → w ≡ Delivery y
+            among : IsAmong (key_of (k.time + net.tx u.0 u.1 + net.delay u.0) (Arrive (net.peer u.0)) (length (s.sent (net.peer u.0)))) (Delivery (Arrival c) y) (new_events net k s.sent what)
+            among = subst (λ v. IsAmong (key_of (k.time + net.tx u.0 u.1 + net.delay u.0) (Arrive (net.peer u.0)) (length (s.sent (net.peer u.0)))) v (new_events net k s.sent what)) its_event (among_comes net k s.sent what u h)
+
+            one : (w : Event P) → IsAmong (key_of (k.time + net.tx u.0 u.1 + net.delay u.0) (Arrive (net.peer u.0)) (length (s.sent (net.peer u.0)))) w (new_events net k s.sent what) → w ≡ Delivery (Arrival c) y
             one w a = go (made_among net k s.sent what _ w a)
               where
-                go : IsNew net k s.sent what (key_of (k.time + net.tx u.0 u.1 + net.delay u.0) (Arrive (net.peer u.0)) (length (s.sent (net.peer u.0)))) w → w ≡ Delivery y
+                go : IsNew net k s.sent what (key_of (k.time + net.tx u.0 u.1 + net.delay u.0) (Arrive (net.peer u.0)) (length (s.sent (net.peer u.0)))) w → w ≡ Delivery (Arrival c) y
                 go (Ends v h' f i) = absurd (let z = ap (λ r. r.place) f in cc)
-                go (GoesOn v h' f i) = absurd (let z = ap (λ r. r.place) f in let d = (what_is.follows_is v h').1 in cc)
-                go (Comes v h' f i) = let uv : v ≡ u = cc in i ∙ ap (λ z. Delivery z.1) uv ∙ ap (λ z. Delivery z.1) eq
+                go (GoesOn v h' f i) = absurd (let z = ap (λ r. r.place) f in cc)
+                go (Comes v h' f i) = let uv : v ≡ u = cc in i ∙ ap (λ z. Delivery (Arrival (net.peer z.0)) z.1) uv ∙ its_event
 
     idle_after : (i : ℕ) → (after.port i).busy ≡ None → (n : ℕ) (b : ℕ × P) → nth (after.sent (net.peer i)) n ≡ Some b → b.0 ≤ k.time + net.delay i
     idle_after i q n b e = ⊎_elim

@@ -1,5 +1,6 @@
 pub mod ListLemmas
 pub mod Keys
+pub mod Placed
 mod Scheduling
 mod Effects
 mod NewEvents

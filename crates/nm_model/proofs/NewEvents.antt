@@ -7,6 +7,7 @@ use Rattle.nm_base.specs.declared.key.Key.{Key}
 use Rattle.nm_base.specs.Key.{key_of, key_cmp}
 use Rattle.nm_base.specs.declared.event.Event.{Event}
 use Rattle.nm_base.specs.declared.event.Event.TheVariants.{Delivery, Completion}
+use Rattle.nm_base.specs.declared.event.Origin.TheVariants.{Arrival, Source}
 use Rattle.nm_model.specs.Port.{Port}
 use Rattle.nm_model.specs.EventList.{schedule}
 use Rattle.nm_model.specs.Lists.{IsPrefix, set_at}
@@ -56,9 +57,9 @@ module _ {X : Type 0} where
 
 -- what an event that an event makes is: the end of a transmission, its arrival, or the source's next
 pub data IsNew {P N : Type 0} (net : Net P N) (k : Key) (sent : ℕ → List (ℕ × P)) (e : Effect P N) (q : Key) (y : Event P) : Type 0 where
-  Ends : (t : ℕ × P) → e.transmission ≡ Some t → q ≡ key_of (k.time + net.tx t.0 t.1) (Complete t.0) (length (sent (net.peer t.0))) → y ≡ Completion → IsNew net k sent e q y
-  Comes : (t : ℕ × P) → e.transmission ≡ Some t → q ≡ key_of (k.time + net.tx t.0 t.1 + net.delay t.0) (Arrive (net.peer t.0)) (length (sent (net.peer t.0))) → y ≡ Delivery t.1 → IsNew net k sent e q y
-  GoesOn : (f : ℕ × P) → e.follows ≡ Some f → q ≡ key_of f.0 k.place (suc k.number) → y ≡ Delivery f.1 → IsNew net k sent e q y
+  Ends : (t : ℕ × P) → e.transmission ≡ Some t → q ≡ key_of (k.time + net.tx t.0 t.1) (Complete t.0) (length (sent (net.peer t.0))) → y ≡ Completion t.0 → IsNew net k sent e q y
+  Comes : (t : ℕ × P) → e.transmission ≡ Some t → q ≡ key_of (k.time + net.tx t.0 t.1 + net.delay t.0) (Arrive (net.peer t.0)) (length (sent (net.peer t.0))) → y ≡ Delivery (Arrival (net.peer t.0)) t.1 → IsNew net k sent e q y
+  GoesOn : (f : ℕ × ℕ × P) → e.follows ≡ Some f → q ≡ key_of f.1 (Fire f.0) (suc k.number) → y ≡ Delivery (Source f.0) f.2 → IsNew net k sent e q y
 
 module _ {P N : Type 0} (net : Net P N) where
   pub sent_case : (time : ℕ) (sent : ℕ → List (ℕ × P)) (o : Option (ℕ × P)) (c : ℕ) → ((t : ℕ × P) × (o ≡ Some t) × (c ≡ net.peer t.0) × (sent_after net time sent o c ≡ sent c ++ (time + net.tx t.0 t.1 + net.delay t.0, t.1) ∷ [])) ⊎ (((t : ℕ × P) → o ≡ Some t → c ≢ net.peer t.0) × (sent_after net time sent o c ≡ sent c))
@@ -81,7 +82,7 @@ module _ {P N : Type 0} (net : Net P N) where
     transmission_among q y (Some t) h (inr (inl a)) = Comes t h a.0 a.1
     transmission_among q y (Some t) h (inr (inr a)) = absurd a
 
-    next_among : (q : Key) (y : Event P) (o : Option (ℕ × P)) → e.follows ≡ o → IsAmong q y (next_events k.place k.number o) → IsNew net k sent e q y
+    next_among : (q : Key) (y : Event P) (o : Option (ℕ × ℕ × P)) → e.follows ≡ o → IsAmong q y (next_events k.number o) → IsNew net k sent e q y
     next_among q y None h a = absurd a
     next_among q y (Some f) h (inl a) = GoesOn f h a.0 a.1
     next_among q y (Some f) h (inr a) = absurd a
@@ -90,13 +91,13 @@ module _ {P N : Type 0} (net : Net P N) where
     made_among q y a = ⊎_elim
         (λ b. transmission_among q y e.transmission refl b)
         (λ b. next_among q y e.follows refl b)
-        (among-append q y (transmission_events net k.time sent e.transmission) (next_events k.place k.number e.follows) a)
+        (among-append q y (transmission_events net k.time sent e.transmission) (next_events k.number e.follows) a)
 
-    pub among_comes : (t : ℕ × P) → e.transmission ≡ Some t → IsAmong (key_of (k.time + net.tx t.0 t.1 + net.delay t.0) (Arrive (net.peer t.0)) (length (sent (net.peer t.0)))) (Delivery t.1) (new_events net k sent e)
-    among_comes t h = among_left _ _ (transmission_events net k.time sent e.transmission) _ (subst (λ o. IsAmong (key_of (k.time + net.tx t.0 t.1 + net.delay t.0) (Arrive (net.peer t.0)) (length (sent (net.peer t.0)))) (Delivery t.1) (transmission_events net k.time sent o)) (sym h) (inr (inl (refl, refl))))
+    pub among_comes : (t : ℕ × P) → e.transmission ≡ Some t → IsAmong (key_of (k.time + net.tx t.0 t.1 + net.delay t.0) (Arrive (net.peer t.0)) (length (sent (net.peer t.0)))) (Delivery (Arrival (net.peer t.0)) t.1) (new_events net k sent e)
+    among_comes t h = among_left _ _ (transmission_events net k.time sent e.transmission) _ (subst (λ o. IsAmong (key_of (k.time + net.tx t.0 t.1 + net.delay t.0) (Arrive (net.peer t.0)) (length (sent (net.peer t.0)))) (Delivery (Arrival (net.peer t.0)) t.1) (transmission_events net k.time sent o)) (sym h) (inr (inl (refl, refl))))
 
-    pub among_ends : (t : ℕ × P) → e.transmission ≡ Some t → IsAmong (key_of (k.time + net.tx t.0 t.1) (Complete t.0) (length (sent (net.peer t.0)))) Completion (new_events net k sent e)
-    among_ends t h = among_left _ _ (transmission_events net k.time sent e.transmission) _ (subst (λ o. IsAmong (key_of (k.time + net.tx t.0 t.1) (Complete t.0) (length (sent (net.peer t.0)))) Completion (transmission_events net k.time sent o)) (sym h) (inl (refl, refl)))
+    pub among_ends : (t : ℕ × P) → e.transmission ≡ Some t → IsAmong (key_of (k.time + net.tx t.0 t.1) (Complete t.0) (length (sent (net.peer t.0)))) (Completion t.0) (new_events net k sent e)
+    among_ends t h = among_left _ _ (transmission_events net k.time sent e.transmission) _ (subst (λ o. IsAmong (key_of (k.time + net.tx t.0 t.1) (Complete t.0) (length (sent (net.peer t.0)))) (Completion t.0) (transmission_events net k.time sent o)) (sym h) (inl (refl, refl)))
 
     -- what is pending after the event
     module _ (here : Place → Bool) (m : FinMap key_cmp (Event P)) where
@@ -114,19 +115,19 @@ module _ {P N : Type 0} (net : Net P N) where
       pending_other q g h = put_absent here (new_events net k sent e) (remove m k) q (absent_unless q _ (λ v a. h v (made_among q v a))) ∙ remove_other m k q g
 
 module _ {P N : Type 0} (net : Net P N) where
-  first_among : (j : ℕ) (o : Option (ℕ × P)) → net.source j 0 ≡ o → (q : Key) (y : Event P) → IsAmong q y (first_event j o) → (i : ℕ) × (q.place ≡ Fire i) × (q.number ≡ 0) × (z : P) × (y ≡ Delivery z) × (net.source i 0 ≡ Some (q.time, z))
+  first_among : (j : ℕ) (o : Option (ℕ × P)) → net.source j 0 ≡ o → (q : Key) (y : Event P) → IsAmong q y (first_event j o) → (i : ℕ) × (q.place ≡ Fire i) × (q.number ≡ 0) × (z : P) × (y ≡ Delivery (Source i) z) × (net.source i 0 ≡ Some (q.time, z))
   first_among j None h q y a = absurd a
   first_among j (Some f) h q y (inr a) = absurd a
   first_among j (Some f) h q y (inl a) = (j, ap (λ r. r.place) a.0, ap (λ r. r.number) a.0, f.1, a.1, h ∙ ap (λ t. Some (t, f.1)) (ap (λ r. r.time) (sym a.0)))
 
-  pub source_among : (j : ℕ) (q : Key) (y : Event P) → IsAmong q y (source_events net j) → (i : ℕ) × (q.place ≡ Fire i) × (q.number ≡ 0) × (z : P) × (y ≡ Delivery z) × (net.source i 0 ≡ Some (q.time, z))
+  pub source_among : (j : ℕ) (q : Key) (y : Event P) → IsAmong q y (source_events net j) → (i : ℕ) × (q.place ≡ Fire i) × (q.number ≡ 0) × (z : P) × (y ≡ Delivery (Source i) z) × (net.source i 0 ≡ Some (q.time, z))
   source_among zero q y a = absurd a
   source_among (suc j) q y a = ⊎_elim
       (λ b. first_among j (net.source j 0) refl q y b)
       (λ b. source_among j q y b)
       (among-append q y (first_event j (net.source j 0)) (source_events net j) a)
 
-  pub start_pending : (q : Key) (y : Event P) → get (start net (λ p. true) []).pending q ≡ Some y → (i : ℕ) × (q.place ≡ Fire i) × (q.number ≡ 0) × (z : P) × (y ≡ Delivery z) × (net.source i 0 ≡ Some (q.time, z))
+  pub start_pending : (q : Key) (y : Event P) → get (start net (λ p. true) []).pending q ≡ Some y → (i : ℕ) × (q.place ≡ Fire i) × (q.number ≡ 0) × (z : P) × (y ≡ Delivery (Source i) z) × (net.source i 0 ≡ Some (q.time, z))
   start_pending q y e = ⊎_elim
       (λ a. source_among net.sources q y a)
       (λ f. let none = get_empty {X = Event P} q in absurd (cc))

@@ -16,6 +16,7 @@ use Rattle.nm_model.proofs.ListLemmas.{same_time, number_is, number_tied, option
 use Rattle.nm_model.proofs.Effects.{EffectIs, effect_is}
 use Rattle.nm_model.proofs.NewEvents.{peer_inj, start_pending, turned_case, sent_case, IsNew, Ends, Comes, GoesOn, pending_case}
 use Rattle.nm_model.proofs.Invariants.{Invariant, arrival_number, came_case}
+use Rattle.nm_model.proofs.Placed.{placed_of}
 use Rattle.nm_model.proofs.Orders.{unstarted, all_by_node}
 use Rattle.nm_model.proofs.Runs.{invariant_run}
 
@@ -83,13 +84,13 @@ module _ {P N : Type 0} (net : Net P N) where
       next = step_at net (λ q. true) (one_list net n) (Some e)
 
       abbrev does : Effect P N
-      does = effect net (one_list net n).node (one_list net n).port e.0.time e.0.place e.0.number e.1
-
-      is : EffectIs net (one_list net n).port e.0.time e.0.place e.0.number e.1 does
-      is = effect_is net ok (one_list net n).node (one_list net n).port e.0.time e.0.place e.0.number e.1
+      does = effect net (one_list net n).node (one_list net n).port e.0.time e.0.number e.1
 
       good : (now : ℕ) × Invariant net (one_list net n) now
       good = invariant_run net ok n
+
+      is : EffectIs net (one_list net n).port e.0.time e.0.place e.0.number e.1 does
+      is = effect_is net ok (one_list net n).node (one_list net n).port e.0.time e.0.place e.0.number e.1 (placed_of net (λ q. true) (one_list net n) good.1.orderly e.0 e.1 (least_has (one_list net n).pending e m))
 
       has : (q : Place) → e.0.place ≡ q → get (one_list net n).pending (key_of e.0.time q e.0.number) ≡ Some e.1
       has q f = ap (get (one_list net n).pending) (sym (key_at e.0 q f)) ∙ least_has (one_list net n).pending e m
@@ -182,7 +183,7 @@ module _ {P N : Type 0} (net : Net P N) where
           new (Ends u a q z) = absurd (let w = ap (λ r. r.place) q in cc)
           new (Comes u a q z) = absurd (let w = ap (λ r. r.place) q in cc)
           new (GoesOn u a q z) =
-              let pl : e.0.place ≡ Fire j = sym (ap (λ r. r.place) q) in
+              let pl : e.0.place ≡ Fire j = (is.follows_is u a).0 ∙ sym (ap (λ r. r.place) q) in
               let num = h.sources j e.0.time e.0.number e.1 (has (Fire j) pl) in
               let k1 : k ≡ suc e.0.number = ap (λ r. r.number) q in
               ⊎_elim (λ b. omega (arith, b.1)) (λ b. absurd (b.0 pl)) (at_place (Fire j) n e m)

@@ -21,7 +21,7 @@ module _ {P N : Type 0} (net : Net P N) (t : ℕ) where
   step_before s None h g = g
   step_before s (Some e) h g =
       let early : e.0.time < t = grind (arith, nat_tests, h) in
-      let does = effect net s.node s.port e.0.time e.0.place e.0.number e.1 in
+      let does = effect net s.node s.port e.0.time e.0.number e.1 in
       All-append (λ r. r.time < t) s.records _ g (All-append (λ r. r.time < t) (in_record e.0.time does.came) _ (in_at t e.0.time does.came early) (out_at t e.0.time does.transmission early))
 
   -- events before a time make records before it

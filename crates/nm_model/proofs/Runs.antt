@@ -65,7 +65,7 @@ module _ {P N : Type 0} (net : Net P N) where
     }
       where
         does : Effect P N
-        does = effect net u.node u.port e.0.time e.0.place e.0.number e.1
+        does = effect net u.node u.port e.0.time e.0.number e.1
 
         late : t ≤ e.0.time
         late = h.from e.0 e.1 (least_has u.pending e m)
@@ -94,7 +94,7 @@ module _ {P N : Type 0} (net : Net P N) where
     keys_rise n e f h i =
         let g = invariant_run n in
         let s = one_list net n in
-        let does = effect net s.node s.port e.0.time e.0.place e.0.number e.1 in
+        let does = effect net s.node s.port e.0.time e.0.number e.1 in
         let next : step net (λ p. true) s ≡ apply net (λ p. true) e.0 does s = ap (step_at net (λ p. true) s) h in
         let has : get (apply net (λ p. true) e.0 does s).pending f.0 ≡ Some f.1 = ap (λ u. get u.pending f.0) (sym next) ∙ least_has _ f i in
         ⊎_elim

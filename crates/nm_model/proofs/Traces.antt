@@ -17,11 +17,12 @@ use Rattle.nm_model.specs.Before.{trace}
 use Rattle.nm_model.specs.Partition.{is_own_record}
 use Rattle.nm_model.proofs.Keys.{least_has, least_min, up_to_time}
 use Rattle.nm_model.proofs.ListLemmas.{number_is, number_tied, number_apart, nth_prefix, prefix_nth, prefix_push, prefix_trans}
-use Rattle.nm_model.proofs.Effects.{effect_is}
+use Rattle.nm_model.proofs.Effects.{EffectIs, effect_is}
 use Rattle.nm_model.proofs.NewEvents.{peer_inj, arrived_case, sent_case, sent_prefix, pending_case}
 use Rattle.nm_model.proofs.Invariants.{Invariant, arrival_number}
 use Rattle.nm_model.proofs.Runs.{invariant_run}
 use Rattle.nm_model.specs.Orderly.{IsByNode, IsOrderly}
+use Rattle.nm_model.proofs.Placed.{placed_of}
 use Rattle.nm_model.proofs.Orders.{makes_later, orderly_run}
 use Rattle.nm_model.proofs.CutLaw.{quiet}
 
@@ -73,7 +74,7 @@ module _ {P N : Type 0} (net : Net P N) (here : Place → Bool) (c : ℕ) where
       (arrived_case s.arrived does.came c)
     where
       does : Effect P N
-      does = effect net s.node s.port e.0.time e.0.place e.0.number e.1
+      does = effect net s.node s.port e.0.time e.0.number e.1
 
       rest : passed In c (step_at net here s (Some e)).records ≡ passed In c s.records ++ passed In c (in_record e.0.time does.came)
       rest = passed_in e.0.time c s.records does.came does.transmission
@@ -118,7 +119,7 @@ module _ {P N : Type 0} (net : Net P N) (ok : IsNet net) (i : ℕ) where
         (sent_case net e.0.time s.sent does.transmission (net.peer i))
       where
         does : Effect P N
-        does = effect net s.node s.port e.0.time e.0.place e.0.number e.1
+        does = effect net s.node s.port e.0.time e.0.number e.1
 
         rest : passed Out i (step_at net here s (Some e)).records ≡ passed Out i s.records ++ passed Out i (out_record e.0.time does.transmission)
         rest = passed_out e.0.time i s.records does.came does.transmission
@@ -134,7 +135,10 @@ module _ {P N : Type 0} (net : Net P N) (ok : IsNet net) (c : ℕ) where
   came_step s now g count h (Some e) m = prefix_trans _ _ _ longer (sent_prefix net e.0.time s.sent does.transmission c)
     where
       does : Effect P N
-      does = effect net s.node s.port e.0.time e.0.place e.0.number e.1
+      does = effect net s.node s.port e.0.time e.0.number e.1
+
+      does_is : EffectIs net s.port e.0.time e.0.place e.0.number e.1 does
+      does_is = effect_is net ok s.node s.port e.0.time e.0.place e.0.number e.1 (placed_of net (λ q. true) s g.orderly e.0 e.1 (least_has s.pending e m))
 
       rest : passed In c (step_at net (λ q. true) s (Some e)).records ≡ passed In c s.records ++ passed In c (in_record e.0.time does.came)
       rest = passed_in e.0.time c s.records does.came does.transmission
@@ -142,7 +146,7 @@ module _ {P N : Type 0} (net : Net P N) (ok : IsNet net) (c : ℕ) where
       longer : IsPrefix (passed In c (step_at net (λ q. true) s (Some e)).records) (s.sent c)
       longer = ⊎_elim
           (λ a.
-          let is = (effect_is net ok s.node s.port e.0.time e.0.place e.0.number e.1).came_is (c, a.0) a.1 in
+          let is = does_is.came_is (c, a.0) a.1 in
           let n = arrival_number net ok s now g e.0 e.1 m c is.0 in
           let same : a.0 ≡ n.0 = let u = n.1 in let v = is.1 in cc in
           let at : nth (s.sent c) (length (passed In c s.records)) ≡ Some (e.0.time, a.0) = ap (nth (s.sent c)) (sym count ∙ sym n.2) ∙ n.3 ∙ ap (λ y. Some (e.0.time, y)) (sym same) in
@@ -222,10 +226,10 @@ module _ {P N : Type 0} (net : Net P N) (ok : IsNet net) (here : Place → Bool)
   }
     where
       does : Effect P N
-      does = effect net s.node s.port e.0.time e.0.place e.0.number e.1
+      does = effect net s.node s.port e.0.time e.0.number e.1
 
       new : List (Record P)
-      new = in_record e.0.time (effect net s.node s.port e.0.time e.0.place e.0.number e.1).came ++ out_record e.0.time (effect net s.node s.port e.0.time e.0.place e.0.number e.1).transmission
+      new = in_record e.0.time (effect net s.node s.port e.0.time e.0.number e.1).came ++ out_record e.0.time (effect net s.node s.port e.0.time e.0.number e.1).transmission
 
       has : get s.pending e.0 ≡ Some e.1
       has = least_has s.pending e l

@@ -5,6 +5,7 @@ use Rattle.nm_base.specs.declared.key.Place.TheVariants.{Arrive, Complete, Fire}
 use Rattle.nm_base.specs.declared.key.Key.{Key}
 use Rattle.nm_base.specs.declared.event.Event.{Event}
 use Rattle.nm_base.specs.declared.event.Event.TheVariants.{Delivery, Completion}
+use Rattle.nm_base.specs.declared.event.Origin.TheVariants.{Arrival, Source}
 use Rattle.nm_base.specs.Key.{key_of, key_cmp}
 use Rattle.nm_model.specs.Lists.{set_at}
 use Rattle.nm_model.specs.EventList.{IsUpTo, least, schedule}
@@ -35,13 +36,13 @@ module _ {X : Type 0} where
   nothing_least = ⊎_elim (λ h. h) (λ h. absurd (let has = least_has {X = X} (listed []) h.0 h.1 in let none = get_empty {X = X} h.0.0 in cc)) (option_cases (least (listed [])))
 
 abbrev fires : Key × Event ℕ
-fires = (key_of 0 (Fire 0) 0, Delivery 7)
+fires = (key_of 0 (Fire 0) 0, Delivery (Source 0) 7)
 
 abbrev completes : Key × Event ℕ
-completes = (key_of 5 (Complete 0) 0, Completion)
+completes = (key_of 5 (Complete 0) 0, Completion 0)
 
 abbrev arrives : Key × Event ℕ
-arrives = (key_of 15 (Arrive 1) 0, Delivery 7)
+arrives = (key_of 15 (Arrive 1) 0, Delivery (Arrival 1) 7)
 
 after_one : one_list two_hosts 1 ≡ record (step_at two_hosts (λ q. true) (one_list two_hosts 0) (Some fires)) { pending = listed (completes ∷ arrives ∷ []) }
 after_one =

@@ -6,18 +6,18 @@ use Rattle.nm_base.specs.declared.key.Place.TheVariants.{Arrive, Complete, Fire}
 use Rattle.nm_base.specs.declared.key.Key.{Key}
 use Rattle.nm_base.specs.declared.event.Event.{Event}
 use Rattle.nm_base.specs.declared.event.Event.TheVariants.{Delivery}
-use Rattle.nm_base.specs.Key.{key_of}
+use Rattle.nm_base.specs.declared.event.Origin.TheVariants.{Arrival}
 use Rattle.nm_model.specs.Lists.{keep_where}
 use Rattle.nm_model.specs.EventList.{schedule}
 use Rattle.nm_model.specs.Network.{Net}
-use Rattle.nm_model.specs.Run.{State, run, start, pends_before}
+use Rattle.nm_model.specs.Run.{State, keyed, run, start, pends_before}
 use Rattle.nm_model.specs.Knowledge.{Knowledge, IsUnder}
 use Rattle.nm_model.specs.Partition.{in_part, comes_in, is_inbox, is_own_record}
 
 -- the messages of channel c from number n on, as arrivals
 abbrev pub message_events : {P : Type 0} → ℕ → ℕ → List (ℕ × P) → List (Key × Event P)
 message_events c n [] = []
-message_events c n (b ∷ l) = (key_of b.0 (Arrive c) n, Delivery b.1) ∷ message_events c (suc n) l
+message_events c n (b ∷ l) = keyed b.0 n (Delivery (Arrival c) b.1) ∷ message_events c (suc n) l
 
 -- an arrival whose number K doesn't reach
 abbrev pub is_past : {P : Type 0} → Knowledge P → Place → ℕ → Bool

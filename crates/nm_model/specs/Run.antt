@@ -3,13 +3,13 @@
 use Rattle.std.specs.Prelude.{ℕ, zero, suc, ◌+◌, Bool, true, length, List, [], ◌∷◌, ◌++◌, Option, Some, None}
 use Rattle.std.specs.FinMap.{FinMap, remove, empty}
 use Rattle.nm_base.specs.declared.key.Place.{Place}
-use Rattle.nm_base.specs.declared.key.Place.TheVariants.{Arrive, Complete, Fire}
 use Rattle.nm_base.specs.declared.key.Key.{Key}
 use Rattle.nm_base.specs.declared.event.Event.{Event}
 use Rattle.nm_base.specs.declared.event.Event.TheVariants.{Delivery, Completion}
 use Rattle.nm_base.specs.declared.event.Origin.TheVariants.{Arrival, Source}
 use Rattle.nm_base.specs.declared.record.Dir.TheVariants.{In, Out}
 use Rattle.nm_base.specs.declared.record.Record.{Record}
+use Rattle.nm_base.specs.Event.{event_place}
 use Rattle.nm_base.specs.Key.{key_of, key_cmp}
 use Rattle.nm_model.specs.Lists.{set_at}
 use Rattle.nm_model.specs.EventList.{least, schedule, is_before}
@@ -39,8 +39,8 @@ pub record Effect (P N : Type 0) : Type 0 where
   pub turn : Option (ℕ × Port P)
   -- the one transmission that starts, and where
   pub transmission : Option (ℕ × P)
-  -- the source's next event
-  pub follows : Option (ℕ × P)
+  -- the packet that a source hands over next: which source, when, and which packet
+  pub follows : Option (ℕ × ℕ × P)
 
 abbrev pub at_iface : {P : Type 0} → ℕ → Option P → Option (ℕ × P)
 at_iface i None = None
@@ -50,9 +50,17 @@ abbrev pub turned : {P : Type 0} → (ℕ → Port P) → Option (ℕ × Port P)
 turned ports None = ports
 turned ports (Some w) = set_at ports w.0 w.1
 
-abbrev pub next_events : {P : Type 0} → Place → ℕ → Option (ℕ × P) → List (Key × Event P)
-next_events place number None = []
-next_events place number (Some f) = (key_of f.0 place (suc number), Delivery f.1) ∷ []
+abbrev pub by_source : {P : Type 0} → ℕ → Option (ℕ × P) → Option (ℕ × ℕ × P)
+by_source j None = None
+by_source j (Some f) = Some (j, f.0, f.1)
+
+-- an event under its key
+abbrev pub keyed : {P : Type 0} → ℕ → ℕ → Event P → Key × Event P
+keyed time number e = (key_of time (event_place e) number, e)
+
+abbrev pub next_events : {P : Type 0} → ℕ → Option (ℕ × ℕ × P) → List (Key × Event P)
+next_events number None = []
+next_events number (Some f) = keyed f.1 (suc number) (Delivery (Source f.0) f.2) ∷ []
 
 abbrev pub arrived_after : {P : Type 0} → (ℕ → ℕ) → Option (ℕ × P) → ℕ → ℕ
 arrived_after f None = f
@@ -68,7 +76,7 @@ out_record time (Some s) = record { time = time; iface = s.0; dir = Out; packet 
 
 abbrev pub first_event : {P : Type 0} → ℕ → Option (ℕ × P) → List (Key × Event P)
 first_event j None = []
-first_event j (Some f) = (key_of f.0 (Fire j) 0, Delivery f.1) ∷ []
+first_event j (Some f) = keyed f.0 0 (Delivery (Source j) f.1) ∷ []
 
 -- whether something before t is pending
 abbrev pub pends_before : {P N : Type 0} → ℕ → State P N → Bool
@@ -76,30 +84,26 @@ pends_before t s = is_before t (least s.pending)
 
 module _ {P N : Type 0} (net : Net P N) where
   -- interface i goes on as its port says
-  abbrev pub turned_by : Option (ℕ × P) → N → ℕ → Port P × Option P → Option (ℕ × P) → Effect P N
+  abbrev pub turned_by : Option (ℕ × P) → N → ℕ → Port P × Option P → Option (ℕ × ℕ × P) → Effect P N
   turned_by came n i r follows = record { after = n; came = came; turn = Some (i, r.0); transmission = at_iface i r.1; follows = follows }
 
   -- what a reaction sends is offered to its interface
-  abbrev pub sent_on : (ℕ → Port P) → ℕ → Option (ℕ × P) → N → Option (ℕ × P) → Option (ℕ × P) → Effect P N
+  abbrev pub sent_on : (ℕ → Port P) → ℕ → Option (ℕ × P) → N → Option (ℕ × P) → Option (ℕ × ℕ × P) → Effect P N
   sent_on ports time came n None follows = record { after = n; came = came; turn = None; transmission = None; follows = follows }
   sent_on ports time came n (Some s) follows =
       turned_by came n s.0 (offered (net.room s.0) (net.tx s.0) time s.1 (ports s.0).dropped (ports s.0).busy) follows
 
-  abbrev pub reacted : (ℕ → Port P) → ℕ → Option (ℕ × P) → N × Option (ℕ × P) → Option (ℕ × P) → Effect P N
+  abbrev pub reacted : (ℕ → Port P) → ℕ → Option (ℕ × P) → N × Option (ℕ × P) → Option (ℕ × ℕ × P) → Effect P N
   reacted ports time came r follows = sent_on ports time came r.0 r.1 follows
 
-  -- The effect of an event. It reads the state of its node and that node's ports alone. An event that doesn't belong to its place, as a
-  -- completion where packets arrive, does nothing; no run makes one.
-  abbrev pub effect : (ℕ → N) → (ℕ → Port P) → ℕ → Place → ℕ → Event P → Effect P N
-  effect nodes ports time (Arrive i) number (Delivery x) =
+  -- The effect of an event. It reads the state of its node and that node's ports alone.
+  abbrev pub effect : (ℕ → N) → (ℕ → Port P) → ℕ → ℕ → Event P → Effect P N
+  effect nodes ports time number (Delivery (Arrival i) x) =
       reacted ports time (Some (i, x)) (net.react (net.owner i) (nodes (net.owner i)) (Arrival i) x) None
-  effect nodes ports time (Complete i) number Completion =
+  effect nodes ports time number (Delivery (Source j) x) =
+      reacted ports time None (net.react (net.source_node j) (nodes (net.source_node j)) (Source j) x) (by_source j (net.source j (suc number)))
+  effect nodes ports time number (Completion i) =
       turned_by None (nodes (net.owner i)) i (completed (net.tx i) time (ports i).dropped (ports i).busy) None
-  effect nodes ports time (Fire j) number (Delivery x) =
-      reacted ports time None (net.react (net.source_node j) (nodes (net.source_node j)) (Source j) x) (net.source j (suc number))
-  effect nodes ports time (Arrive i) number Completion = sent_on ports time None (nodes (net.owner i)) None None
-  effect nodes ports time (Complete i) number (Delivery x) = sent_on ports time None (nodes (net.owner i)) None None
-  effect nodes ports time (Fire j) number Completion = sent_on ports time None (nodes (net.source_node j)) None None
 
   -- a transmission that starts at this time arrives at the far interface
   abbrev pub sent_after : ℕ → (ℕ → List (ℕ × P)) → Option (ℕ × P) → ℕ → List (ℕ × P)
@@ -112,17 +116,17 @@ module _ {P N : Type 0} (net : Net P N) where
   transmission_events time sent None = []
   transmission_events time sent (Some s) =
       let n = length (sent (net.peer s.0)) in
-      (key_of (time + net.tx s.0 s.1) (Complete s.0) n, Completion)
-      ∷ (key_of (time + net.tx s.0 s.1 + net.delay s.0) (Arrive (net.peer s.0)) n, Delivery s.1)
+      keyed (time + net.tx s.0 s.1) n (Completion s.0)
+      ∷ keyed (time + net.tx s.0 s.1 + net.delay s.0) n (Delivery (Arrival (net.peer s.0)) s.1)
       ∷ []
 
   -- the events that an event makes
   abbrev pub new_events : Key → (ℕ → List (ℕ × P)) → Effect P N → List (Key × Event P)
-  new_events k sent e = transmission_events k.time sent e.transmission ++ next_events k.place k.number e.follows
+  new_events k sent e = transmission_events k.time sent e.transmission ++ next_events k.number e.follows
 
   -- the events that this event makes in this state
   abbrev pub made : State P N → Key × Event P → List (Key × Event P)
-  made s e = new_events e.0 s.sent (effect s.node s.port e.0.time e.0.place e.0.number e.1)
+  made s e = new_events e.0 s.sent (effect s.node s.port e.0.time e.0.number e.1)
 
   abbrev pub apply : (Place → Bool) → Key → Effect P N → State P N → State P N
   apply here k e s = record {
@@ -136,7 +140,7 @@ module _ {P N : Type 0} (net : Net P N) where
 
   abbrev pub step_at : (Place → Bool) → State P N → Option (Key × Event P) → State P N
   step_at here s None = s
-  step_at here s (Some e) = apply here e.0 (effect s.node s.port e.0.time e.0.place e.0.number e.1) s
+  step_at here s (Some e) = apply here e.0 (effect s.node s.port e.0.time e.0.number e.1) s
 
   -- the event of the least key, if one is pending
   abbrev pub step : (Place → Bool) → State P N → State P N

@@ -8,6 +8,7 @@ ghost use Rattle.nm_base.specs.declared.key.Place.{Place};
 ghost use Rattle.nm_base.specs.declared.key.Place.TheVariants.{Arrive};
 ghost use Rattle.nm_base.specs.declared.event.Event.{Event};
 ghost use Rattle.nm_base.specs.declared.event.Event.TheVariants.{Delivery};
+ghost use Rattle.nm_base.specs.declared.event.Origin.TheVariants.{Arrival};
 ghost use Rattle.nm_base.specs.Key.{key_of};
 ghost use Rattle.nm_model.specs.Lists.{nth};
 ghost use Rattle.nm_model.specs.EventList.{least};
@@ -32,7 +33,7 @@ pub fn every_state_is_orderly<P, N>()
     ensures told { (net : Net P N) (here : Place → Bool) (s : State P N) → IsOrderly net here s
         → (c t n : ℕ) (x : P) → here (Arrive c) ≡ true → here (Arrive (net.peer c)) ≡ false
         → IsOrderly net here
-        (record s { pending = insert s.pending (key_of t (Arrive c) n) (Delivery x) }) }
+        (record s { pending = insert s.pending (key_of t (Arrive c) n) (Delivery (Arrival c) x) }) }
     ensures parts { (net : Net P N) (p : ℕ) → IsByNode net (in_part net p) }
 {}
 

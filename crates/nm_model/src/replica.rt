@@ -4,6 +4,7 @@ ghost use Rattle.std.specs.Prelude.{◌≡◌, ℕ, ◌<◌, ◌≤◌, true, le
 ghost use Rattle.std.specs.FinMap.{get, insert};
 ghost use Rattle.nm_base.specs.declared.key.Place.TheVariants.{Arrive};
 ghost use Rattle.nm_base.specs.declared.event.Event.TheVariants.{Delivery};
+ghost use Rattle.nm_base.specs.declared.event.Origin.TheVariants.{Arrival};
 ghost use Rattle.nm_base.specs.Key.{key_of};
 ghost use Rattle.nm_model.specs.Lists.{IsPrefix, set_at};
 ghost use Rattle.nm_model.specs.Network.{Net, IsNet};
@@ -59,7 +60,7 @@ pub fn told_one_more<P, N>()
         (set_at K c (record { list = (K c).list ++ b ∷ []; clock = b.0 })) k
         ≡ record (from_scratch net p K k) {
           pending = insert (from_scratch net p K k).pending
-              (key_of b.0 (Arrive c) (length (K c).list)) (Delivery b.1);
+              (key_of b.0 (Arrive c) (length (K c).list)) (Delivery (Arrival c) b.1);
         } }
     ensures clock { (net : Net P N) → IsNet net → (p : ℕ) (K : Knowledge P) (k : ℕ)
         → IsWithin net p K k → (c : ℕ) → comes_in net p c ≡ true → (t : ℕ) → (K c).clock ≤ t

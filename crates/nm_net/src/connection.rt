@@ -8,6 +8,7 @@ use crate::counting::Frames;
 use crate::lasting::Lasted;
 use crate::limits::STRANGER_PERIODS;
 use crate::moved::CountingWire;
+use crate::told::ToldBefore;
 use nm_engine::Link;
 use nm_frames::{ReplicaName, Session};
 
@@ -108,6 +109,15 @@ impl<W> Connection<W> {
         let more = all.since(self.framed);
         self.framed = all;
         more
+    }
+
+    /// How many of the messages that were written had been written to the same replica on one of
+    /// the connections that are gone.
+    pub(crate) fn resent(&self, before: &ToldBefore) -> u64 {
+        match (self.link.greeted_by(), self.link.wire().told()) {
+            (Some(name), Some(told)) => before.again(&name, told),
+            _ => 0,
+        }
     }
 
     /// Which replica the peer is, where that is known now and was not before.

@@ -17,6 +17,7 @@ use crate::limits::{MAX_ACCEPTED, MAX_STRANGERS};
 use crate::moved::CountingWire;
 use crate::replica::Service;
 use crate::served::{Served, break_served};
+use crate::told::{Told, ToldBefore};
 use crate::transport::Transport;
 use nm_engine::{Acceptor, Cause, Link, Turn};
 use nm_frames::ReplicaName;
@@ -36,6 +37,10 @@ pub(crate) struct Connections<W> {
     /// On how many connections the peer said Hello, and how many of these broke.
     pub begun: u64,
     pub broken: u64,
+    /// Which messages were written on connections that are gone, where that is noted, and how many
+    /// of those on them had been written to the same replica before.
+    told: Option<ToldBefore>,
+    resent: u64,
 }
 
 /// Calls a peer if it is to be called, as far as the transport lets it.
@@ -45,6 +50,7 @@ fn dial<T: Transport>(
     open: &mut Slab<Connection<T::Connection>>,
     dialing: &mut Dialing,
     peer: usize,
+    is_noted: bool,
 ) -> Result<(), AllocError>
     ensures { T.elapsed_periods transport.new ≡ T.elapsed_periods transport.old }
 {
@@ -61,7 +67,8 @@ fn dial<T: Transport>(
     let Some(session) = dialing.give() else {
         return Ok(());
     };
-    let link = Link::connected(alloc, CountingWire::new(wire), session);
+    let wire = CountingWire::new(wire, first_told(alloc, is_noted));
+    let link = Link::connected(alloc, wire, session);
     open.insert_reserved(Connection::called(link, peer, !dialing.has_ended()));
     Ok(())
 }
@@ -74,6 +81,7 @@ fn keep<T: Transport, C: Counts>(
     open: &mut Slab<Connection<T::Connection>>,
     came: u64,
     wire: T::Connection,
+    is_noted: bool,
 ) -> Result<(), AllocError>
     ensures { T.elapsed_periods transport.new ≡ T.elapsed_periods transport.old }
 {
@@ -84,9 +92,26 @@ fn keep<T: Transport, C: Counts>(
         return Ok(());
     }
     let acceptor = Acceptor::new(topology, service.partition, service.replica);
-    let link = Link::accepted(alloc, CountingWire::new(wire), acceptor);
+    let wire = CountingWire::new(wire, first_told(alloc, is_noted));
+    let link = Link::accepted(alloc, wire, acceptor);
     open.insert_reserved(Connection::accepted(link, came));
     Ok(())
+}
+
+/// Which messages were written on connections that are gone: none so far. It is noted where figures
+/// are asked for.
+fn told_before<C: Counts>(alloc: Global, service: &Service<'_, C>) -> Option<ToldBefore> {
+    let _ = service.progress?.figures()?;
+    Some(ToldBefore::new(alloc))
+}
+
+/// Where it is noted which messages are written: none so far.
+fn first_told(alloc: Global, is_noted: bool) -> Option<Told> {
+    if is_noted {
+        Some(Told::new(alloc))
+    } else {
+        None
+    }
 }
 
 impl<W> Connections<W> {
@@ -117,6 +142,8 @@ impl<W> Connections<W> {
             accepted: 0,
             begun: 0,
             broken: 0,
+            told: told_before(alloc, service),
+            resent: 0,
         })
     }
 
@@ -283,6 +310,7 @@ impl<W> Connections<W> {
                 &mut self.open,
                 &mut self.peers[peer],
                 peer,
+                self.told.is_some(),
             )?;
         }
         Ok(())
@@ -317,6 +345,7 @@ impl<W> Connections<W> {
                 &mut self.open,
                 self.accepted,
                 wire,
+                self.told.is_some(),
             )?;
         }
         Ok(())
@@ -430,14 +459,40 @@ impl<W> Connections<W> {
         let peer = connection.peer;
         let (wire, session) = connection.link.back();
         let has_written = wire.has_written();
-        let mut wire = wire.into_wire();
+        let (mut wire, told) = wire.into_parts();
         transport.unwatch(&mut wire);
+        self.keep_told(name, told);
         Some(Remains {
             peer,
             session,
             name,
             has_written,
         })
+    }
+
+    /// A connection is gone on which these messages were written.
+    fn keep_told(&mut self, name: Option<ReplicaName>, told: Option<Told>)
+        ensures { self.new.open ≡ self.old.open }
+    {
+        if let (Some(before), Some(name), Some(told)) = (&mut self.told, name, told) {
+            self.resent = self.resent.saturating_add(before.again(&name, &told));
+            before.keep(name, told);
+        }
+    }
+
+    /// How many of the messages that were written had been written to the same replica on an
+    /// earlier connection, where that is noted.
+    pub(crate) fn resent(&self) -> u64 {
+        let Some(before) = &self.told else {
+            return 0;
+        };
+        let mut count = self.resent;
+        for key in 0..self.open.capacity() {
+            if let Some(connection) = self.open.get(key) {
+                count = count.saturating_add(connection.resent(before));
+            }
+        }
+        count
     }
 
     /// Lets a connection go whose link has ended, and notes whose it was.

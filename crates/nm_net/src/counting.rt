@@ -2,13 +2,21 @@
 
 ghost use Rattle.std.specs.Prelude.{◌≤◌};
 
+use crate::told::Told;
+
 /// The octets of a frame before its body: its length, which counts what follows it, and its kind.
 const HEAD_OCTETS: u32 = 5;
 
-/// The kinds of frames that are counted.
-const DATA: u64 = 3;
+/// Those of its length, which does not count them.
+const LENGTH_OCTETS: u64 = 4;
 
-const NULL: u64 = 4;
+/// Those of a Data frame before the message's time: its channel and its number, too.
+const DATA_OCTETS: u32 = 17;
+
+/// The kinds of frames that are counted.
+const DATA: u8 = 3;
+
+const NULL: u8 = 4;
 
 /// How many frames passed.
 #[derive(Clone, Copy, Drop)]
@@ -42,24 +50,38 @@ impl Frames {
 }
 
 /// Counts frames by their octets, however these are cut. No answer hangs on it.
-#[derive(Clone, Copy, Drop)]
+#[derive(Drop)]
 pub struct FrameCounter {
-    /// The octets of a head that passed, and how many they are.
-    head: u64,
+    /// How many octets of a frame passed that are looked at, and what they said so far.
     count: u32,
-    /// How many octets of a body are to pass.
+    length: u64,
+    kind: u8,
+    channel: u64,
+    number: u64,
+    /// How many octets of a frame are to pass that are not looked at.
     rest: u64,
     frames: Frames,
+    /// Which messages passed, where that is noted.
+    told: Option<Told>,
+}
+
+/// A number, the most significant octet first, with one more octet.
+fn with_octet(number: u64, octet: u8) -> u64 {
+    number.wrapping_mul(256).wrapping_add(u64::from(octet))
 }
 
 impl FrameCounter {
-    /// Nothing has passed.
-    pub fn new() -> Self {
+    /// Nothing has passed. Which messages pass is noted, or is not.
+    pub fn new(told: Option<Told>) -> Self {
         FrameCounter {
-            head: 0,
             count: 0,
+            length: 0,
+            kind: 0,
+            channel: 0,
+            number: 0,
             rest: 0,
             frames: Frames::NONE,
+            told,
         }
     }
 
@@ -68,21 +90,63 @@ impl FrameCounter {
         self.frames
     }
 
-    /// One more octet of a head passed.
-    fn take(&mut self, octet: u8) {
-        self.head = self.head % (1 << 32) * 256 + u64::from(octet);
-        self.count = self.count.saturating_add(1);
-        if self.count < HEAD_OCTETS {
-            return;
+    /// Which messages passed, where that is noted.
+    pub fn told(&self) -> Option<&Told> {
+        self.told.as_ref()
+    }
+
+    /// The same, and nothing more is counted.
+    pub fn into_told(self) -> Option<Told> {
+        self.told
+    }
+
+    /// One more octet of a frame is looked at.
+    fn look(&mut self, octet: u8) {
+        match self.count {
+            0..=3 => self.length = with_octet(self.length, octet),
+            4 => self.kind = octet,
+            5..=8 => self.channel = with_octet(self.channel, octet),
+            _ => self.number = with_octet(self.number, octet),
         }
-        match self.head % 256 {
+        self.count = self.count.saturating_add(1);
+    }
+
+    /// How many octets of a frame are looked at, by those that passed.
+    fn looked_at(&self) -> u32 {
+        if self.count >= HEAD_OCTETS && self.kind == DATA && self.told.is_some() {
+            DATA_OCTETS
+        } else {
+            HEAD_OCTETS
+        }
+    }
+
+    /// The frame counts, of which all that is looked at passed.
+    fn count_frame(&mut self) {
+        match self.kind {
             DATA => self.frames.messages = self.frames.messages.saturating_add(1),
             NULL => self.frames.nulls = self.frames.nulls.saturating_add(1),
             _ => {}
         }
-        self.rest = (self.head / 256).saturating_sub(1);
-        self.head = 0;
+        if let Some(told) = &mut self.told {
+            if self.kind == DATA {
+                told.note(self.channel, self.number);
+            }
+        }
+    }
+
+    /// One more octet of a frame passed that is looked at.
+    fn take(&mut self, octet: u8) {
+        self.look(octet);
+        if self.count < self.looked_at() {
+            return;
+        }
+        self.count_frame();
+        let passed = u64::from(self.count).saturating_sub(LENGTH_OCTETS);
+        self.rest = self.length.saturating_sub(passed);
         self.count = 0;
+        self.length = 0;
+        self.channel = 0;
+        self.number = 0;
     }
 
     /// Lets as many of so many octets pass as belong to a body: how many.

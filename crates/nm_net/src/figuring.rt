@@ -63,6 +63,7 @@ pub(crate) fn note_figures<C: Counts, W>(
     figures.set(Figure::Safe, standing.safe.nanoseconds());
     figures.set(Figure::Begun, serving.connections.begun);
     figures.set(Figure::Broken, serving.connections.broken);
+    figures.set(Figure::Resent, serving.connections.resent());
 }
 
 /// Which channel holds it back, where it is going to wait and is not done.

@@ -25,6 +25,7 @@ mod staying;
 pub mod tcp_transport;
 pub mod tcp_wire;
 mod telling;
+mod told;
 pub mod transport;
 
 pub use lending::Lending;

@@ -3,6 +3,7 @@
 ghost use Rattle.std.specs.Prelude.{◌≡◌, ℕ, List};
 
 use crate::counting::{FrameCounter, Frames};
+use crate::told::Told;
 use nm_base::Wire;
 use nm_base::wire::{Read, Written};
 use std::marker::Model;
@@ -33,15 +34,15 @@ impl<W> Model for CountingWire<W> {
 }
 
 impl<W> CountingWire<W> {
-    /// None has moved.
-    pub fn new(wire: W) -> Self
+    /// None has moved. Which messages are written is noted, or is not.
+    pub fn new(wire: W, told: Option<Told>) -> Self
         ensures { result ≡ wire }
     {
         CountingWire {
             wire,
             came: 0,
             written: 0,
-            frames: FrameCounter::new(),
+            frames: FrameCounter::new(told),
             is_ready: AtomicBool::new(true),
             has_ended: false,
         }
@@ -77,11 +78,16 @@ impl<W> CountingWire<W> {
         self.is_ready.store(true, Ordering::Relaxed);
     }
 
-    /// The wire.
-    pub fn into_wire(self) -> W
-        ensures { result ≡ self }
+    /// The wire, and which messages were written, where that is noted.
+    pub fn into_parts(self) -> (W, Option<Told>)
+        ensures { result.0 ≡ self }
     {
-        self.wire
+        (self.wire, self.frames.into_told())
+    }
+
+    /// Which messages were written, where that is noted.
+    pub fn told(&self) -> Option<&Told> {
+        self.frames.told()
     }
 
     /// Nothing more has come: the wire is asked again once it is reported.

@@ -13,6 +13,7 @@ use nm_frames::ReplicaName;
 use nm_net::limits::LINGER_PERIODS;
 use nm_net::seats::own_seats;
 use nm_net::{Holdings, Lending, Served, Service, TcpTransport, Transport, run_replica};
+use nm_progress::{Figure, Progress};
 use nm_shared::{ClockBoard, Gate, Pass, Plain, SharedBook};
 use nm_topology::Topology;
 use std::alloc::Global;
@@ -22,11 +23,12 @@ use std::sync::atomic::{AtomicU64, Ordering};
 use std::sync::{Arc, Wait};
 use std::time::Clock;
 
-/// A replica that was served: what that came to, and its book.
+/// A replica that was served: what that came to, its book, and how many messages it wrote again.
 #[derive(Drop)]
 pub struct Closed {
     pub served: Served,
     pub book: Book,
+    pub resent: u64,
 }
 
 /// After so many idle polls a replica is stalled that may have to stay for a caller first.
@@ -122,6 +124,7 @@ fn serve_held<'x, N: Transport, R: Wait>(
     company: Company,
     transport: &mut N,
     gate: &Noting,
+    progress: &'x Progress,
 ) -> Served
     requires owners { All (IsOwnerOf board.now) holdings.old.seats.items }
     requires files { All IsSound holdings.old.files.files.items }
@@ -139,14 +142,15 @@ fn serve_held<'x, N: Transport, R: Wait>(
         idle_limit: company.idle_limit,
         run_limit: 4_096,
         lending,
-        progress: None,
+        progress: Some(progress),
         notes_progress: false,
         keeps_records: true,
     };
     run_replica(rt, alloc, &replica, holdings, transport, gate)
 }
 
-/// Serves a replica with this pass of its book: what that came to, and the pass.
+/// Serves a replica with this pass of its book: what that came to, the pass, and how many messages
+/// it wrote again.
 fn serve_with<N: Transport, R: Wait + Abort>(
     rt: &R,
     alloc: Global,
@@ -156,7 +160,7 @@ fn serve_with<N: Transport, R: Wait + Abort>(
     company: Company,
     transport: &mut N,
     gate: &Noting,
-) -> (Served, Pass<Plain>) {
+) -> (Served, Pass<Plain>, u64) {
     let partition = PartNo::new(if company.is_called { 1 } else { 0 });
     let (board, owners, _) = ClockBoard::new(alloc, topology).expect(rt, "memory");
     let seats = own_seats(alloc, topology, &board, partition, 0, owners).expect(rt, "memory");
@@ -166,6 +170,7 @@ fn serve_with<N: Transport, R: Wait + Abort>(
         seats,
         files: TraceFiles::new(alloc),
     };
+    let progress = Progress::with_figures(alloc).expect(rt, "memory");
     let (peers, callers) = ([PartNo::new(1)], [caller(0), caller(1)]);
     let (peer_count, caller_count) = company.counts();
     let served = serve_held(
@@ -181,8 +186,13 @@ fn serve_with<N: Transport, R: Wait + Abort>(
         company,
         transport,
         gate,
+        &progress,
     );
-    (served, holdings.pass)
+    let resent = match progress.figures() {
+        Some(figures) => figures.of(partition, 0).get(Figure::Resent),
+        None => 0,
+    };
+    (served, holdings.pass, resent)
 }
 
 /// The book that has no pass but this one.
@@ -212,9 +222,15 @@ pub fn serve<N: Transport, R: Wait + Abort>(
     let partition = if company.is_called { 1 } else { 0 };
     let book = book_of(rt, alloc, topology, partition, 0);
     let pass = book.pass(rt).expect(rt, "memory");
-    let (served, pass) = serve_with(rt, alloc, topology, &book, pass, company, transport, gate);
+    let (served, pass, resent) = serve_with(
+        rt, alloc, topology, &book, pass, company, transport, gate,
+    );
     let book = close(rt, alloc, book, pass).book;
-    Closed { served, book }
+    Closed {
+        served,
+        book,
+        resent,
+    }
 }
 
 /// An address of 127.0.0.1, at a port that is free then.

@@ -30,6 +30,8 @@ pub enum Figure {
     Begun,
     /// Those of them that broke.
     Broken,
+    /// Messages that it wrote and had written to the same replica on an earlier connection.
+    Resent,
     /// It waits for others: 1, or 0.
     IsWaiting,
     /// A pool runs its book: 1, or 0.
@@ -39,7 +41,7 @@ pub enum Figure {
 }
 
 /// How many figures there are.
-const COUNT: usize = 14;
+const COUNT: usize = 15;
 
 /// The replicas of a partition, at most.
 const REPLICAS: usize = 2;

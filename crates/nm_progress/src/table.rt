@@ -114,5 +114,6 @@ pub fn push_state(text: &mut Vec<u8>, one: &ReplicaFigures<'_>) -> Result<(), Al
     push_figure(text, b" nulls ", one, Figure::Nulls)?;
     push_figure(text, b" connections ", one, Figure::Begun)?;
     push_figure(text, b" broken ", one, Figure::Broken)?;
+    push_figure(text, b" resent ", one, Figure::Resent)?;
     push_text(text, b"\n")
 }

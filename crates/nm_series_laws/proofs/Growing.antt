@@ -8,8 +8,7 @@ use Rattle.std.proofs.Math.Nat.{min-le_right, min-eq_left}
 use Rattle.nm_base.specs.declared.event.Event.{Event}
 use Rattle.nm_base.specs.declared.event.Event.TheVariants.{Completion, Delivery}
 use Rattle.nm_base.specs.declared.key.Key.{Key}
-use Rattle.nm_base.specs.declared.key.Place.{Place}
-use Rattle.nm_base.specs.declared.key.Place.TheVariants.{Arrive, Complete, Fire}
+use Rattle.nm_base.specs.declared.event.Origin.TheVariants.{Arrival, Source}
 use Rattle.nm_base.specs.declared.record.Record.{Record}
 use Rattle.nm_model.specs.Before.{IsBefore}
 use Rattle.nm_model.specs.EventList.{is_before, least}
@@ -55,17 +54,14 @@ module _ {P N : Type 0} (net : Net P N) where
   Keeps ports None = Unit {0}
   Keeps ports (Some w) = (ports w.0).dropped ≤ w.1.dropped
 
-  sent_keeps : (ports : ℕ → Port P) (time : ℕ) (came : Option (ℕ × P)) (n : N) (sent follows : Option (ℕ × P)) → Keeps ports (sent_on net ports time came n sent follows).turn
+  sent_keeps : (ports : ℕ → Port P) (time : ℕ) (came : Option (ℕ × P)) (n : N) (sent : Option (ℕ × P)) (follows : Option (ℕ × ℕ × P)) → Keeps ports (sent_on net ports time came n sent follows).turn
   sent_keeps ports time came n None follows = tt
   sent_keeps ports time came n (Some s) follows = offered_drops (net.room s.0) (net.tx s.0) time s.1 (ports s.0).dropped (ports s.0).busy
 
-  effect_keeps : (nodes : ℕ → N) (ports : ℕ → Port P) (time : ℕ) (place : Place) (number : ℕ) (e : Event P) → Keeps ports (effect net nodes ports time place number e).turn
-  effect_keeps nodes ports time (Arrive i) number (Delivery x) = sent_keeps ports time _ _ _ _
-  effect_keeps nodes ports time (Complete i) number Completion = completed_drops (net.tx i) time (ports i).dropped (ports i).busy
-  effect_keeps nodes ports time (Fire j) number (Delivery x) = sent_keeps ports time _ _ _ _
-  effect_keeps nodes ports time (Arrive i) number Completion = tt
-  effect_keeps nodes ports time (Complete i) number (Delivery x) = tt
-  effect_keeps nodes ports time (Fire j) number Completion = tt
+  effect_keeps : (nodes : ℕ → N) (ports : ℕ → Port P) (time number : ℕ) (e : Event P) → Keeps ports (effect net nodes ports time number e).turn
+  effect_keeps nodes ports time number (Delivery (Arrival i) x) = sent_keeps ports time _ _ _ _
+  effect_keeps nodes ports time number (Delivery (Source j) x) = sent_keeps ports time _ _ _ _
+  effect_keeps nodes ports time number (Completion i) = completed_drops (net.tx i) time (ports i).dropped (ports i).busy
 
   set_keeps : (ports : ℕ → Port P) (j : ℕ) (w : Port P) (i : ℕ) → (ports j).dropped ≤ w.dropped → (ports i).dropped ≤ (set_at ports j w i).dropped
   unfolding set_at
@@ -81,7 +77,7 @@ module _ {P N : Type 0} (net : Net P N) where
 
   step_drops : (s : State P N) (o : Option (Key × Event P)) (i : ℕ) → (s.port i).dropped ≤ ((step_at net (λ q. true) s o).port i).dropped
   step_drops s None i = omega arith
-  step_drops s (Some e) i = turned_keeps s.port _ i (effect_keeps s.node s.port e.0.time e.0.place e.0.number e.1)
+  step_drops s (Some e) i = turned_keeps s.port _ i (effect_keeps s.node s.port e.0.time e.0.number e.1)
 
 -- the lesser of what is later and a limit is not earlier
 min_over : (a more limit : ℕ) → a ≤ limit → a ≤ min (a + more) limit

@@ -4,6 +4,7 @@ use Rattle.std.proofs.lemmas.Bool.Decides.{nat_tests}
 use Rattle.std.specs.FinMap.{FinMap, get, insert}
 use Rattle.nm_base.specs.declared.event.Event.{Event}
 use Rattle.nm_base.specs.declared.event.Event.TheVariants.{Delivery, Completion}
+use Rattle.nm_base.specs.declared.event.Origin.TheVariants.{Arrival}
 use Rattle.nm_base.specs.declared.key.Key.{Key}
 use Rattle.nm_base.specs.declared.key.Place.{Place}
 use Rattle.nm_base.specs.declared.key.Place.TheVariants.{Arrive, Complete}
@@ -64,18 +65,18 @@ module _ {L : Type 0} (t : TopologyValue) (line : TimelineValue L) (time : ℕ) 
   completion_fresh pending h = ap (get pending) completion_key ∙ h 0 _ refl
 
   pub begun_events : (pending middle after : FinMap key_cmp (Event (List ℕ)))
-      → middle ≡ schedule (here_of t part) ((key_of st.arrives (Arrive p) (slice_index line.sent p), Delivery st.twin.packet) ∷ []) pending
-      → after ≡ insert middle (key_of st.completes (Complete i) (slice_index line.sent p)) Completion
+      → middle ≡ schedule (here_of t part) ((key_of st.arrives (Arrive p) (slice_index line.sent p), Delivery (Arrival p) st.twin.packet) ∷ []) pending
+      → after ≡ insert middle (key_of st.completes (Complete i) (slice_index line.sent p)) (Completion i)
       → after ≡ schedule (here_of t part) (transmission_events (net_of t) time sent (Some (i, st.twin.packet))) pending
   begun_events pending middle after m e =
-      e ∙ (λ k. insert (m k) (completion_key k) Completion)
-      ∙ ap (λ a. insert (schedule (here_of t part) ((a, Delivery st.twin.packet) ∷ []) pending)
-      (key_of (time + (net_of t).tx i st.twin.packet) (Complete i) (length (sent ((net_of t).peer i)))) Completion) arrival_key
-      ∙ sym (ap (λ b. cond b (insert arrived (key_of (time + (net_of t).tx i st.twin.packet) (Complete i) (length (sent ((net_of t).peer i)))) Completion) arrived) transmits.0.1)
+      e ∙ (λ k. insert (m k) (completion_key k) (Completion i))
+      ∙ (λ k. insert (schedule (here_of t part) ((arrival_key k, Delivery (Arrival (sym peer k)) st.twin.packet) ∷ []) pending)
+      (key_of (time + (net_of t).tx i st.twin.packet) (Complete i) (length (sent ((net_of t).peer i)))) (Completion i))
+      ∙ sym (ap (λ b. cond b (insert arrived (key_of (time + (net_of t).tx i st.twin.packet) (Complete i) (length (sent ((net_of t).peer i)))) (Completion i)) arrived) transmits.0.1)
     where
       arrived : FinMap key_cmp (Event (List ℕ))
       arrived = schedule (here_of t part)
-          ((key_of (time + (net_of t).tx i st.twin.packet + (net_of t).delay i) (Arrive ((net_of t).peer i)) (length (sent ((net_of t).peer i))), Delivery st.twin.packet) ∷ []) pending
+          ((key_of (time + (net_of t).tx i st.twin.packet + (net_of t).delay i) (Arrive ((net_of t).peer i)) (length (sent ((net_of t).peer i))), Delivery (Arrival ((net_of t).peer i)) st.twin.packet) ∷ []) pending
 
   pub begun_numbered : (after : TimelineValue L) → after.sent ≡ slice_set line.sent p (slice_index line.sent p + 1)
       → TimelineRepresents t after (sent_after (net_of t) time sent (Some (i, st.twin.packet)))

@@ -1,16 +1,18 @@
 -- An event is done: its node reacts, and what it sends is offered to a port; or a transmission is complete.
 use Rattle.std.proofs.Common.{◌≡◌, ℕ, suc, List, Option, Some, None, slice_get, slice_set, refl, sym, ap, ◌∙◌, subst}
 use Rattle.std.specs.Option.{IfSome}
-use Rattle.nm_base.specs.declared.key.Place.TheVariants.{Arrive, Complete, Fire}
+use Rattle.nm_base.specs.declared.key.Place.{Place}
+use Rattle.nm_base.specs.declared.key.Place.TheVariants.{Fire}
+use Rattle.nm_base.specs.declared.event.Event.{Event}
 use Rattle.nm_base.specs.declared.event.Event.TheVariants.{Delivery, Completion}
 use Rattle.nm_base.specs.declared.event.Origin.{Origin}
 use Rattle.nm_base.specs.declared.event.Origin.TheVariants.{Arrival, Source}
-use Rattle.nm_base.specs.Key.{key_of}
+use Rattle.nm_base.specs.Event.{event_place}
 use Rattle.nm_topology.specs.TopologyValue.{TopologyValue}
 use Rattle.nm_model.specs.Lists.{set_at}
 use Rattle.nm_model.specs.Network.{Net}
 use Rattle.nm_model.specs.Port.{Port, completed}
-use Rattle.nm_model.specs.Run.{Effect, at_iface, sent_on, turned}
+use Rattle.nm_model.specs.Run.{Effect, at_iface, by_source, effect, sent_on, turned}
 use Rattle.nm_forward.specs.State.{NodeStateValue}
 use Rattle.nm_forward.specs.Reaction.{reaction}
 use Rattle.nm_iface.specs.declared.port.Start.{Start}
@@ -25,7 +27,7 @@ use Rattle.nm_sim.specs.Tables.{IsMember}
 use Rattle.nm_sim.proofs.Tables.{at_there}
 use Rattle.nm_sim.proofs.Represents.{port_after, port_turned, same_done, set_same}
 
-module _ (net : Net (List ℕ) NodeStateValue) (ports : ℕ → Port (List ℕ)) (time : ℕ) (came : Option (ℕ × List ℕ)) (n : NodeStateValue) (follows : Option (ℕ × List ℕ)) where
+module _ (net : Net (List ℕ) NodeStateValue) (ports : ℕ → Port (List ℕ)) (time : ℕ) (came : Option (ℕ × List ℕ)) (n : NodeStateValue) (follows : Option (ℕ × ℕ × List ℕ)) where
   after_is : (sent : Option (ℕ × List ℕ)) → (sent_on net ports time came n sent follows).after ≡ n
   after_is None = refl
   after_is (Some s) = refl
@@ -38,9 +40,24 @@ module _ (net : Net (List ℕ) NodeStateValue) (ports : ℕ → Port (List ℕ))
   follows_is None = refl
   follows_is (Some s) = refl
 
+-- what holds of the place of an event holds of the source whose packet follows
+pub follows_at : (net : Net (List ℕ) NodeStateValue) (nodes : ℕ → NodeStateValue) (ports : ℕ → Port (List ℕ)) (time number : ℕ) (P : Place → Type 0) (e : Event (List ℕ))
+    → P (event_place e) → IfSome (effect net nodes ports time number e).follows (λ f. P (Fire f.0))
+follows_at net nodes ports time number P (Delivery (Arrival i) x) p =
+    let r = net.react (net.owner i) (nodes (net.owner i)) (Arrival i) x in
+    subst (λ o. IfSome o (λ f. P (Fire f.0))) (sym (follows_is net ports time (Some (i, x)) r.0 None r.1)) tt
+follows_at net nodes ports time number P (Delivery (Source j) x) p =
+    let r = net.react (net.source_node j) (nodes (net.source_node j)) (Source j) x in
+    subst (λ o. IfSome o (λ f. P (Fire f.0))) (sym (follows_is net ports time None r.0 (by_source j (net.source j (suc number))) r.1)) (go (net.source j (suc number)))
+  where
+    go : (o : Option (ℕ × List ℕ)) → IfSome (by_source j o) (λ f. P (Fire f.0))
+    go None = tt
+    go (Some f) = p
+follows_at net nodes ports time number P (Completion i) p = tt
+
 module _ (t : TopologyValue) (part : Option ℕ) (node : ℕ → NodeStateValue) (port : ℕ → Port (List ℕ)) (time v : ℕ) (o : Origin) (x : List ℕ) (d e : DevicesValue)
     (sent : Option (ℕ × List ℕ)) (sending : Option (ℕ × Start)) (r : Reacts t part node port v o x d sent)
-    (s : Sends t part (set_at node v (reaction t v (node v) o x).0) port time sent e sending) (came follows : Option (ℕ × List ℕ)) where
+    (s : Sends t part (set_at node v (reaction t v (node v) o x).0) port time sent e sending) (came : Option (ℕ × List ℕ)) (follows : Option (ℕ × ℕ × List ℕ)) where
   abbrev effect_is : Effect (List ℕ) NodeStateValue
   effect_is = sent_on (net_of t) port time came (reaction t v (node v) o x).0 (reaction t v (node v) o x).1 follows
 
@@ -64,11 +81,11 @@ module _ (t : TopologyValue) (part : Option ℕ) (node : ℕ → NodeStateValue)
 pub arrives_by : (t : TopologyValue) (part : Option ℕ) (node : ℕ → NodeStateValue) (port : ℕ → Port (List ℕ)) (time v i number : ℕ) (x : List ℕ) (d e : DevicesValue)
     (sent : Option (ℕ × List ℕ)) (sending : Option (ℕ × Start)) (done : Done) → (net_of t).owner i ≡ v
     → Reacts t part node port v (Arrival i) x d sent → Sends t part (set_at node v (reaction t v (node v) (Arrival i) x).0) port time sent e sending
-    → done.came ≡ Some (i, x) → done.transmission ≡ sending → done.follows ≡ None → Does t part node port (key_of time (Arrive i) number) (Delivery x) e done
+    → done.came ≡ Some (i, x) → done.transmission ≡ sending → done.follows ≡ None → Does t part node port time number (Delivery (Arrival i) x) e done
 unfolding net_of
 arrives_by t part node port time v i number x d e sent sending done owner r s a b c =
     subst (λ w. Reacts t part node port w (Arrival i) x d sent → Sends t part (set_at node w (reaction t w (node w) (Arrival i) x).0) port time sent e sending
-    → Does t part node port (key_of time (Arrive i) number) (Delivery x) e done) owner
+    → Does t part node port time number (Delivery (Arrival i) x) e done) owner
     (λ r' s'. record {
       represented = reacted_stand t part node port time ((net_of t).owner i) (Arrival i) x d e sent sending r' s' (Some (i, x)) None;
       does = reacted_does t part node port time ((net_of t).owner i) (Arrival i) x d e sent sending r' s' (Some (i, x)) None done a b c;
@@ -78,14 +95,14 @@ arrives_by t part node port time v i number x d e sent sending done owner r s a 
 pub fires_by : (t : TopologyValue) (part : Option ℕ) (node : ℕ → NodeStateValue) (port : ℕ → Port (List ℕ)) (time v j number : ℕ) (x : List ℕ) (d e : DevicesValue)
     (sent : Option (ℕ × List ℕ)) (sending : Option (ℕ × Start)) (done : Done) → (net_of t).source_node j ≡ v
     → Reacts t part node port v (Source j) x d sent → Sends t part (set_at node v (reaction t v (node v) (Source j) x).0) port time sent e sending
-    → done.came ≡ None → done.transmission ≡ sending → done.follows ≡ source_at t j (suc number) → Does t part node port (key_of time (Fire j) number) (Delivery x) e done
+    → done.came ≡ None → done.transmission ≡ sending → done.follows ≡ by_source j (source_at t j (suc number)) → Does t part node port time number (Delivery (Source j) x) e done
 unfolding net_of
 fires_by t part node port time v j number x d e sent sending done owner r s a b c =
     subst (λ w. Reacts t part node port w (Source j) x d sent → Sends t part (set_at node w (reaction t w (node w) (Source j) x).0) port time sent e sending
-    → Does t part node port (key_of time (Fire j) number) (Delivery x) e done) owner
+    → Does t part node port time number (Delivery (Source j) x) e done) owner
     (λ r' s'. record {
-      represented = reacted_stand t part node port time ((net_of t).source_node j) (Source j) x d e sent sending r' s' None (source_at t j (suc number));
-      does = reacted_does t part node port time ((net_of t).source_node j) (Source j) x d e sent sending r' s' None (source_at t j (suc number)) done a b c;
+      represented = reacted_stand t part node port time ((net_of t).source_node j) (Source j) x d e sent sending r' s' None (by_source j (source_at t j (suc number)));
+      does = reacted_does t part node port time ((net_of t).source_node j) (Source j) x d e sent sending r' s' None (by_source j (source_at t j (suc number))) done a b c;
     }) r s
 
 -- a port that transmits is there
@@ -105,7 +122,7 @@ module _ (t : TopologyValue) (part : Option ℕ) (d e : DevicesValue) (node : �
       → transmitted_packet start ≡ (completed (takes w.rate) time w.dropped w.busy).1
       → IfSome start (λ z. IsTransmission w.rate w.delay time z.twin.packet z)
       → (done : Done) → done.came ≡ None → done.transmission ≡ transmission_at i start → done.follows ≡ None
-      → Does t part node port (key_of time (Complete i) number) Completion e done
+      → Does t part node port time number (Completion i) e done
   completes_by nodes ports sources packet transmits done a b c =
       let p = at_there (is_iface_here t part) (λ j v. IsPortOf t j v (port j)) d.ports s.ports i w here in
       let same = same_done t i w (port i) p.1 time in

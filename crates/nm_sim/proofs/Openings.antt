@@ -7,6 +7,7 @@ use Rattle.nm_base.specs.declared.key.Key.{Key}
 use Rattle.nm_base.specs.declared.key.Place.{Place}
 use Rattle.nm_base.specs.declared.key.Place.TheVariants.{Arrive, Complete, Fire}
 use Rattle.nm_base.specs.declared.event.Event.TheVariants.{Delivery}
+use Rattle.nm_base.specs.declared.event.Origin.TheVariants.{Source}
 use Rattle.nm_base.specs.Key.{key_cmp, key_of}
 use Rattle.nm_topology.specs.TopologyValue.{TopologyValue}
 use Rattle.nm_model.specs.EventList.{schedule}
@@ -54,7 +55,7 @@ first_scheduled here j None m = go (here (Fire j))
     go false = refl
 first_scheduled here j (Some f) m = go (here (Fire j))
   where
-    go : (b : Bool) → schedule everywhere (first_event j (cond b (Some f) None)) m ≡ cond b (insert m (key_of f.0 (Fire j) 0) (Delivery f.1)) m
+    go : (b : Bool) → schedule everywhere (first_event j (cond b (Some f) None)) m ≡ cond b (insert m (key_of f.0 (Fire j) 0) (Delivery (Source j) f.1)) m
     go true = refl
     go false = refl
 

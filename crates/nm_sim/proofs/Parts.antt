@@ -5,7 +5,9 @@ use Rattle.std.specs.Option.{IfSome}
 use Rattle.nm_base.specs.declared.event.Event.{Event}
 use Rattle.nm_base.specs.declared.key.Key.{Key}
 use Rattle.nm_base.specs.declared.event.Event.TheVariants.{Delivery}
-use Rattle.nm_base.specs.declared.key.Place.TheVariants.{Arrive}
+use Rattle.nm_base.specs.declared.event.Origin.TheVariants.{Arrival}
+use Rattle.nm_base.specs.declared.key.Place.TheVariants.{Arrive, Fire}
+use Rattle.nm_base.specs.Event.{event_place}
 use Rattle.nm_base.specs.Key.{key_cmp, key_of}
 use Rattle.nm_topology.specs.Accepted.{IsInOrder}
 use Rattle.nm_topology.specs.TopologyValue.{TopologyValue}
@@ -13,7 +15,7 @@ use Rattle.nm_model.specs.EventList.{schedule}
 use Rattle.nm_model.specs.Lists.{nth, set_at}
 use Rattle.nm_model.specs.Network.{node_of}
 use Rattle.nm_model.specs.Orderly.{IsOrderly}
-use Rattle.nm_model.specs.Run.{Effect, State, effect, in_record, next_events, out_record, sent_after, transmission_events, step, step_at, turned}
+use Rattle.nm_model.specs.Run.{Effect, State, effect, in_record, keyed, next_events, out_record, sent_after, transmission_events, step, step_at, turned}
 use Rattle.nm_forward.specs.State.{NodeStateValue}
 use Rattle.nm_iface.specs.declared.port.Start.{Start}
 use Rattle.nm_model.specs.EventList.{is_before}
@@ -37,6 +39,7 @@ use Rattle.nm_sim.specs.Part.{IsUnderWay, PartValue, Represents, IsTaken, busy_a
 use Rattle.nm_sim.specs.Timelines.{TimelineRepresents}
 use Rattle.nm_sim.proofs.Schedules.{next_here, one_more, placed_insert, placed_next, placed_remove, placed_schedule, placed_transmission, schedule_append}
 use Rattle.nm_sim.proofs.Beginnings.{numbered_same}
+use Rattle.nm_sim.proofs.Doings.{follows_at}
 use Rattle.nm_sim.proofs.Pendings.{put_back}
 use Rattle.nm_sim.specs.Records.{RecordsRepresent, RecordsValue}
 use Rattle.nm_sim.proofs.Outgoings.{outgoing_same}
@@ -68,47 +71,49 @@ records_few time trace came transmission =
     out_one (Some z) = omega arith
 
 -- an event that is under way is done with the transmission that starts
-pub represents_after : {L : Type 0} (pending : L → FinMap key_cmp (Event (List ℕ))) (t : TopologyValue) (part : Option ℕ) (k : Key) (e : Event (List ℕ)) (done : Done) (p q : PartValue L)
+pub represents_after : {L : Type 0} (pending : L → FinMap key_cmp (Event (List ℕ))) (t : TopologyValue) (part : Option ℕ) (time number : ℕ) (e : Event (List ℕ)) (done : Done) (p q : PartValue L)
     (s : State (List ℕ) NodeStateValue) → IsInOrder t.nodes t.ifaces t.links → IsOrderly (net_of t) (here_of t part) (step (net_of t) (here_of t part) s)
-    → IsUnderWay pending t part k e done p s → q.part ≡ p.part → q.devices ≡ p.devices
-    → TimelineRepresents t q.timeline (sent_after (net_of t) k.time s.sent (transmission_of done.transmission))
-    → OutgoingRepresents t part q.outgoing (sent_after (net_of t) k.time s.sent (transmission_of done.transmission))
-    → pending q.timeline.events ≡ schedule (here_of t part) (transmission_events (net_of t) k.time s.sent (transmission_of done.transmission)) (pending p.timeline.events)
-    → ((trace : List (Record (List ℕ))) → RecordsRepresent t p.records trace → RecordsRepresent t q.records (trace ++ out_record k.time (transmission_of done.transmission)))
+    → IsUnderWay pending t part time number e done p s → q.part ≡ p.part → q.devices ≡ p.devices
+    → TimelineRepresents t q.timeline (sent_after (net_of t) time s.sent (transmission_of done.transmission))
+    → OutgoingRepresents t part q.outgoing (sent_after (net_of t) time s.sent (transmission_of done.transmission))
+    → pending q.timeline.events ≡ schedule (here_of t part) (transmission_events (net_of t) time s.sent (transmission_of done.transmission)) (pending p.timeline.events)
+    → ((trace : List (Record (List ℕ))) → RecordsRepresent t p.records trace → RecordsRepresent t q.records (trace ++ out_record time (transmission_of done.transmission)))
     → q.steps ≡ p.steps + 1
     → Represents pending t part q (step (net_of t) (here_of t part) s)
-represents_after pending t part k e done p q s order orderly way is_part devices numbered outgoing events records steps =
+represents_after pending t part time number e done p q s order orderly way is_part devices numbered outgoing events records steps =
     let taken = way.taken in
     let does = way.does.does in
     let here = here_of t part in
-    let m : Effect (List ℕ) NodeStateValue = effect (net_of t) s.node s.port k.time k.place k.number e in
-    let there = least_has s.pending (k, e) taken.first in
-    let place : IsPlaceIn t k.place = taken.placed k e there in
-    let is : here_of t part k.place ≡ true = pending_here t part s taken.orderly k e there in
-    let events' : pending q.timeline.events ≡ schedule (here_of t part) (transmission_events (net_of t) k.time s.sent m.transmission ++ next_events k.place k.number m.follows) (remove s.pending k)
-    = events ∙ ap (schedule (here_of t part) (transmission_events (net_of t) k.time s.sent (transmission_of done.transmission))) (taken.events ∙ next_here (here_of t part) k.place k.number done.follows (remove s.pending k) is)
-    ∙ (λ i. schedule (here_of t part) (transmission_events (net_of t) k.time s.sent (does.transmission i)) (schedule (here_of t part) (next_events k.place k.number (does.follows i)) (remove s.pending k)))
-    ∙ sym (schedule_append (here_of t part) (transmission_events (net_of t) k.time s.sent m.transmission) (next_events k.place k.number m.follows) (remove s.pending k)) in
-    let records' : RecordsRepresent t q.records (s.records ++ (in_record k.time m.came ++ out_record k.time m.transmission))
+    let m : Effect (List ℕ) NodeStateValue = effect (net_of t) s.node s.port time number e in
+    let there = least_has s.pending (keyed time number e) taken.first in
+    let place : IsPlaceIn t (event_place e) = taken.placed (key_of time (event_place e) number) e there in
+    let is : here_of t part (event_place e) ≡ true = pending_here t part s taken.orderly (key_of time (event_place e) number) e there in
+    let goes_on = subst (λ o. IfSome o (λ f. here_of t part (Fire f.0) ≡ true)) (sym does.follows) (follows_at (net_of t) s.node s.port time number (λ q. here_of t part q ≡ true) e is) in
+    let goes_within = follows_at (net_of t) s.node s.port time number (IsPlaceIn t) e place in
+    let events' : pending q.timeline.events ≡ schedule (here_of t part) (transmission_events (net_of t) time s.sent m.transmission ++ next_events number m.follows) (remove s.pending (key_of time (event_place e) number))
+    = events ∙ ap (schedule (here_of t part) (transmission_events (net_of t) time s.sent (transmission_of done.transmission))) (taken.events ∙ next_here (here_of t part) number done.follows (remove s.pending (key_of time (event_place e) number)) goes_on)
+    ∙ (λ i. schedule (here_of t part) (transmission_events (net_of t) time s.sent (does.transmission i)) (schedule (here_of t part) (next_events number (does.follows i)) (remove s.pending (key_of time (event_place e) number))))
+    ∙ sym (schedule_append (here_of t part) (transmission_events (net_of t) time s.sent m.transmission) (next_events number m.follows) (remove s.pending (key_of time (event_place e) number))) in
+    let records' : RecordsRepresent t q.records (s.records ++ (in_record time m.came ++ out_record time m.transmission))
     = subst (RecordsRepresent t q.records)
-    ((λ i. (s.records ++ in_record k.time (does.came i)) ++ out_record k.time (does.transmission i)) ∙ append_assoc s.records (in_record k.time m.came) (out_record k.time m.transmission))
-    (records (s.records ++ in_record k.time done.came) taken.records) in
-    let within = subst (λ o. IfSome o (λ z. z.0 < length t.ifaces)) does.transmission (transmits_within t part k.time done.transmission does.transmits) in
-    let again : step_at (net_of t) (here_of t part) s (Some (k, e)) ≡ step (net_of t) (here_of t part) s = ap (step_at (net_of t) (here_of t part) s) (sym taken.first) in
+    ((λ i. (s.records ++ in_record time (does.came i)) ++ out_record time (does.transmission i)) ∙ append_assoc s.records (in_record time m.came) (out_record time m.transmission))
+    (records (s.records ++ in_record time done.came) taken.records) in
+    let within = subst (λ o. IfSome o (λ z. z.0 < length t.ifaces)) does.transmission (transmits_within t part time done.transmission does.transmits) in
+    let again : step_at (net_of t) (here_of t part) s (Some (keyed time number e)) ≡ step (net_of t) (here_of t part) s = ap (step_at (net_of t) (here_of t part) s) (sym taken.first) in
     subst (Represents pending t part q) again record {
       is_part = is_part ∙ taken.is_part;
       orderly = subst (IsOrderly (net_of t) (here_of t part)) (sym again) orderly;
-      devices = subst (λ d. DevicesRepresent t part d (set_at s.node (node_of (net_of t) k.place) m.after) (turned s.port m.turn)) (sym devices) way.does.represented;
-      numbered = subst (λ o. TimelineRepresents t q.timeline (sent_after (net_of t) k.time s.sent o)) does.transmission numbered;
-      outgoing = subst (λ o. OutgoingRepresents t part q.outgoing (sent_after (net_of t) k.time s.sent o)) does.transmission outgoing;
-      few = λ c. let f = one_more t k.time p.steps s.sent m.transmission taken.few c in omega (arith, f, steps);
+      devices = subst (λ d. DevicesRepresent t part d (set_at s.node (node_of (net_of t) (event_place e)) m.after) (turned s.port m.turn)) (sym devices) way.does.represented;
+      numbered = subst (λ o. TimelineRepresents t q.timeline (sent_after (net_of t) time s.sent o)) does.transmission numbered;
+      outgoing = subst (λ o. OutgoingRepresents t part q.outgoing (sent_after (net_of t) time s.sent o)) does.transmission outgoing;
+      few = λ c. let f = one_more t time p.steps s.sent m.transmission taken.few c in omega (arith, f, steps);
       events = events';
-      placed = placed_schedule (IsPlaceIn t) (here_of t part) (transmission_events (net_of t) k.time s.sent m.transmission ++ next_events k.place k.number m.follows) (remove s.pending k)
-          (either (transmission_events (net_of t) k.time s.sent m.transmission) (next_events k.place k.number m.follows)
-          (placed_transmission t order k.time s.sent m.transmission within) (placed_next (IsPlaceIn t) k.place k.number m.follows place))
-          (placed_remove (IsPlaceIn t) s.pending k taken.placed);
+      placed = placed_schedule (IsPlaceIn t) (here_of t part) (transmission_events (net_of t) time s.sent m.transmission ++ next_events number m.follows) (remove s.pending (key_of time (event_place e) number))
+          (either (transmission_events (net_of t) time s.sent m.transmission) (next_events number m.follows)
+          (placed_transmission t order time s.sent m.transmission within) (placed_next (IsPlaceIn t) number m.follows goes_within))
+          (placed_remove (IsPlaceIn t) s.pending (key_of time (event_place e) number) taken.placed);
       records = records';
-      few_records = let f = taken.few_records in let n = records_few k.time s.records m.came m.transmission in omega (arith, f, n, steps);
+      few_records = let f = taken.few_records in let n = records_few time s.records m.came m.transmission in omega (arith, f, n, steps);
     }
   where
     either : (xs ys : List (Key × Event (List ℕ))) → ((i : ℕ) (f : Key × Event (List ℕ)) → nth xs i ≡ Some f → IsPlaceIn t f.0.place)
@@ -119,17 +124,17 @@ represents_after pending t part k e done p q s order orderly way is_part devices
     either (x ∷ xs) ys h k (suc i) f z = either xs ys (λ j. h (suc j)) k i f z
 
 -- an event that was taken out is put back
-pub represents_again : {L : Type 0} (pending : L → FinMap key_cmp (Event (List ℕ))) (t : TopologyValue) (part : Option ℕ) (k : Key) (e : Event (List ℕ)) (p q : PartValue L) → Kept p q
-    → (s : State (List ℕ) NodeStateValue) → IsTaken pending t part k e None None p s → DevicesRepresent t part p.devices s.node s.port
-    → q.devices ≡ p.devices → q.records ≡ p.records → pending q.timeline.events ≡ insert (pending p.timeline.events) k e → Represents pending t part q s
-represents_again pending t part k e p q kept s h represented devices records events = record {
+pub represents_again : {L : Type 0} (pending : L → FinMap key_cmp (Event (List ℕ))) (t : TopologyValue) (part : Option ℕ) (time number : ℕ) (e : Event (List ℕ)) (p q : PartValue L) → Kept p q
+    → (s : State (List ℕ) NodeStateValue) → IsTaken pending t part time number e None None p s → DevicesRepresent t part p.devices s.node s.port
+    → q.devices ≡ p.devices → q.records ≡ p.records → pending q.timeline.events ≡ insert (pending p.timeline.events) (key_of time (event_place e) number) e → Represents pending t part q s
+represents_again pending t part time number e p q kept s h represented devices records events = record {
   is_part = kept.is_part ∙ h.is_part;
   orderly = h.orderly;
   devices = subst (λ d. DevicesRepresent t part d s.node s.port) (sym devices) represented;
   numbered = numbered_same t p.timeline q.timeline s.sent kept.sent h.numbered;
   outgoing = subst (λ o. OutgoingRepresents t part o s.sent) (sym kept.outgoing) h.outgoing;
   few = λ c. let l = h.few c in omega (arith, l, kept.steps);
-  events = events ∙ ap (λ m. insert m k e) h.events ∙ put_back s.pending k e (least_has s.pending (k, e) h.first);
+  events = events ∙ ap (λ m. insert m (key_of time (event_place e) number) e) h.events ∙ put_back s.pending (key_of time (event_place e) number) e (least_has s.pending (keyed time number e) h.first);
   placed = h.placed;
   records = subst (λ (r : RecordsValue). RecordsRepresent t r s.records) (sym records) (subst (RecordsRepresent t p.records) (append-nil s.records) h.records);
   few_records = let l = h.few_records in omega (arith, l, kept.steps);
@@ -192,7 +197,7 @@ is_same d = record { nodes = refl; port_count = refl; ports = λ i w e. (w, e, s
 -- a message was put into the event list
 pub represents_told : {L : Type 0} (pending : L → FinMap key_cmp (Event (List ℕ))) (t : TopologyValue) (part : Option ℕ) (i number time : ℕ) (x : List ℕ) (p q : PartValue L) → Kept p q
     → (s : State (List ℕ) NodeStateValue) → Represents pending t part p s → IsOrderly (net_of t) (here_of t part) (with_arrival i number time x s) → i < length t.ifaces
-    → q.devices ≡ p.devices → q.records ≡ p.records → pending q.timeline.events ≡ insert (pending p.timeline.events) (key_of time (Arrive i) number) (Delivery x)
+    → q.devices ≡ p.devices → q.records ≡ p.records → pending q.timeline.events ≡ insert (pending p.timeline.events) (key_of time (Arrive i) number) (Delivery (Arrival i) x)
     → Represents pending t part q (with_arrival i number time x s)
 represents_told pending t part i number time x p q kept s h orderly within devices records events = record {
   is_part = kept.is_part ∙ h.is_part;
@@ -201,8 +206,8 @@ represents_told pending t part i number time x p q kept s h orderly within devic
   numbered = numbered_same t p.timeline q.timeline s.sent kept.sent h.numbered;
   outgoing = subst (λ o. OutgoingRepresents t part o s.sent) (sym kept.outgoing) h.outgoing;
   few = λ c. let l = h.few c in omega (arith, l, kept.steps);
-  events = events ∙ ap (λ m. insert m (key_of time (Arrive i) number) (Delivery x)) h.events;
-  placed = placed_insert (IsPlaceIn t) s.pending (key_of time (Arrive i) number) (Delivery x) within h.placed;
+  events = events ∙ ap (λ m. insert m (key_of time (Arrive i) number) (Delivery (Arrival i) x)) h.events;
+  placed = placed_insert (IsPlaceIn t) s.pending (key_of time (Arrive i) number) (Delivery (Arrival i) x) within h.placed;
   records = subst (λ (r : RecordsValue). RecordsRepresent t r s.records) (sym records) h.records;
   few_records = let l = h.few_records in omega (arith, l, kept.steps);
 }

@@ -5,8 +5,9 @@ use Rattle.std.specs.Option.{IfSome}
 use Rattle.nm_base.specs.declared.event.Event.{Event}
 use Rattle.nm_base.specs.declared.key.Key.{Key}
 use Rattle.nm_base.specs.declared.key.Place.{Place}
-use Rattle.nm_base.specs.declared.key.Place.TheVariants.{Arrive, Complete}
+use Rattle.nm_base.specs.declared.key.Place.TheVariants.{Arrive, Complete, Fire}
 use Rattle.nm_base.specs.declared.event.Event.TheVariants.{Delivery}
+use Rattle.nm_base.specs.declared.event.Origin.TheVariants.{Source}
 use Rattle.nm_base.specs.Key.{key_cmp, key_of}
 use Rattle.nm_topology.specs.Accepted.{IsInOrder}
 use Rattle.nm_topology.specs.TopologyValue.{TopologyValue}
@@ -36,27 +37,27 @@ schedule_append here [] ys m = refl
 schedule_append here (x ∷ xs) ys m = ap (λ l. cond (here x.0.place) (insert l x.0 x.1) l) (schedule_append here xs ys m)
 
 -- what follows at a place that is here
-pub next_here : (here : Place → Bool) (place : Place) (number : ℕ) (o : Option (ℕ × List ℕ)) (m : FinMap key_cmp (Event (List ℕ))) → here place ≡ true
-    → schedule everywhere (next_events place number o) m ≡ schedule here (next_events place number o) m
-next_here here place number None m h = refl
-next_here here place number (Some f) m h = sym (ap (λ b. cond b (insert m (key_of f.0 place (suc number)) (Delivery f.1)) m) h)
+pub next_here : (here : Place → Bool) (number : ℕ) (o : Option (ℕ × ℕ × List ℕ)) (m : FinMap key_cmp (Event (List ℕ))) → IfSome o (λ f. here (Fire f.0) ≡ true)
+    → schedule everywhere (next_events number o) m ≡ schedule here (next_events number o) m
+next_here here number None m h = refl
+next_here here number (Some f) m h = sym (ap (λ b. cond b (insert m (key_of f.1 (Fire f.0) (suc number)) (Delivery (Source f.0) f.2)) m) h)
 
 -- events in two lists, of which the second is that of a source, are new one after another
-module _ (pending : FinMap key_cmp (Event (List ℕ))) (xs : List (Key × Event (List ℕ))) (place : Place) (number : ℕ) (follows : Option (ℕ × List ℕ))
-    (fresh : AreFresh pending (xs ++ next_events place number follows))
-    (apart : (m n : ℕ) (f g : Key × Event (List ℕ)) → m < n → nth (xs ++ next_events place number follows) m ≡ Some f
-    → nth (xs ++ next_events place number follows) n ≡ Some g → f.0 ≢ g.0) where
-  pub second_fresh : AreFresh pending (next_events place number follows)
-  second_fresh m f e = fresh (length xs + m) f (nth_after xs (next_events place number follows) m ∙ e)
+module _ (pending : FinMap key_cmp (Event (List ℕ))) (xs : List (Key × Event (List ℕ))) (number : ℕ) (follows : Option (ℕ × ℕ × List ℕ))
+    (fresh : AreFresh pending (xs ++ next_events number follows))
+    (apart : (m n : ℕ) (f g : Key × Event (List ℕ)) → m < n → nth (xs ++ next_events number follows) m ≡ Some f
+    → nth (xs ++ next_events number follows) n ≡ Some g → f.0 ≢ g.0) where
+  pub second_fresh : AreFresh pending (next_events number follows)
+  second_fresh m f e = fresh (length xs + m) f (nth_after xs (next_events number follows) m ∙ e)
 
-  pub first_fresh : AreFresh (schedule everywhere (next_events place number follows) pending) xs
+  pub first_fresh : AreFresh (schedule everywhere (next_events number follows) pending) xs
   first_fresh m f e =
-      let b = nth_before xs (next_events place number follows) m f e in
+      let b = nth_before xs (next_events number follows) m f e in
       go follows refl (fresh m f b.1)
-      (λ g h. apart m (length xs + 0) f g (omega (arith, b.0)) b.1 (nth_after xs (next_events place number follows) 0 ∙ h))
+      (λ g h. apart m (length xs + 0) f g (omega (arith, b.0)) b.1 (nth_after xs (next_events number follows) 0 ∙ h))
     where
-      go : (o : Option (ℕ × List ℕ)) → o ≡ follows → get pending f.0 ≡ None → ((g : Key × Event (List ℕ)) → nth (next_events place number o) 0 ≡ Some g → f.0 ≢ g.0)
-          → get (schedule everywhere (next_events place number o) pending) f.0 ≡ None
+      go : (o : Option (ℕ × ℕ × List ℕ)) → o ≡ follows → get pending f.0 ≡ None → ((g : Key × Event (List ℕ)) → nth (next_events number o) 0 ≡ Some g → f.0 ≢ g.0)
+          → get (schedule everywhere (next_events number o) pending) f.0 ≡ None
       go None h n a = n
       go (Some y) h n a = insert_other pending _ _ f.0 (a _ refl) ∙ n
 
@@ -103,11 +104,11 @@ module _ (t : TopologyValue) (order : IsInOrder t.nodes t.ifaces t.links) where
   placed_transmission time sent (Some z) h (suc zero) f e = let s : Arrive ((net_of t).peer z.0) ≡ f.0.place = ap (λ (g : Key × Event (List ℕ)). g.0.place) (some_inj _ f e) in subst (IsPlaceIn t) s (peer_there z.0 h)
   placed_transmission time sent (Some z) h (suc (suc i)) f e = absurd cc
 
-pub placed_next : (P : Place → Type 0) (place : Place) (number : ℕ) (o : Option (ℕ × List ℕ)) → P place
-    → (i : ℕ) (f : Key × Event (List ℕ)) → nth (next_events place number o) i ≡ Some f → P f.0.place
-placed_next P place number None h i f e = absurd cc
-placed_next P place number (Some z) h zero f e = let s : place ≡ f.0.place = ap (λ (g : Key × Event (List ℕ)). g.0.place) (some_inj _ f e) in subst P s h
-placed_next P place number (Some z) h (suc i) f e = absurd cc
+pub placed_next : (P : Place → Type 0) (number : ℕ) (o : Option (ℕ × ℕ × List ℕ)) → IfSome o (λ f. P (Fire f.0))
+    → (i : ℕ) (f : Key × Event (List ℕ)) → nth (next_events number o) i ≡ Some f → P f.0.place
+placed_next P number None h i f e = absurd cc
+placed_next P number (Some z) h zero f e = let s : Fire z.0 ≡ f.0.place = ap (λ (g : Key × Event (List ℕ)). g.0.place) (some_inj _ f e) in subst P s h
+placed_next P number (Some z) h (suc i) f e = absurd cc
 
 -- one more packet at most is put on an interface
 pub one_more : (t : TopologyValue) (time n : ℕ) (sent : ℕ → List (ℕ × List ℕ)) (o : Option (ℕ × List ℕ)) → ((c : ℕ) → length (sent c) ≤ n)

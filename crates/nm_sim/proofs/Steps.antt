@@ -6,10 +6,11 @@ use Rattle.std.specs.Ordering.{is_eq, eq_by_cmp}
 use Rattle.std.specs.Option.{IfSome, IsSome}
 use Rattle.nm_base.specs.declared.event.Event.{Event}
 use Rattle.nm_base.specs.declared.event.Event.TheVariants.{Delivery, Completion}
-use Rattle.nm_base.specs.declared.event.Origin.TheVariants.{Source as FromSource}
+use Rattle.nm_base.specs.declared.event.Origin.TheVariants.{Arrival, Source as FromSource}
 use Rattle.nm_base.specs.declared.key.Key.{Key}
 use Rattle.nm_base.specs.declared.key.Place.{Place}
 use Rattle.nm_base.specs.declared.key.Place.TheVariants.{Arrive, Complete, Fire}
+use Rattle.nm_base.specs.Event.{event_place}
 use Rattle.nm_base.specs.Key.{key_of, key_cmp, key_cmp_total}
 use Rattle.nm_topology.specs.declared.traffic.Source.{Source}
 use Rattle.nm_topology.specs.declared.traffic.Traffic.{Traffic}
@@ -121,24 +122,21 @@ module _ (t : TopologyValue) (limits : IsWithinLimits t) (fit : FitTheMtu t) (ri
     (placed : (q : Key) (y : Event (List ℕ)) → get s.pending q ≡ Some y → IsPlaceIn t q.place)
     (d : DevicesValue) (represented : DevicesRepresent t part d s.node s.port) where
   -- an event that is pending can happen
-  pub can_happen : (k : Key) (y : Event (List ℕ)) → get s.pending k ≡ Some y → CanHappen t d k.place k.number y
+  pub can_happen : (time number : ℕ) (y : Event (List ℕ)) → get s.pending (key_of time (event_place y) number) ≡ Some y → CanHappen t d number y
   unfolding net_of
-  can_happen k y e = go k.place y (placed k y e) e
+  can_happen time number (Delivery (Arrival i) x) e = placed (key_of time (Arrive i) number) (Delivery (Arrival i) x) e
+  can_happen time number (Completion i) e =
+      let h : i < length t.ifaces = placed (key_of time (Complete i) number) (Completion i) e in
+      (h, is_busy t part s orderly d represented i time number (Completion i) e h)
+  can_happen time number (Delivery (FromSource j) x) e =
+      let h : j < length t.sources = placed (key_of time (Fire j) number) (Delivery (FromSource j) x) e in
+      let c = orderly.source j time number (Delivery (FromSource j) x) e in
+      let same : c.0 ≡ x = let b = c.1 in cc in
+      let at : source_at t j number ≡ Some (time, x) = from_net c.0 x same c.2 in
+      let small = before j number (time, x) at in
+      let n = number_le t rise end j number (time, x) at in
+      let stop = limits.greatest_stop in
+      (h, fits_origin t limits fit j number (time, x) at, omega (arith, small, n, stop))
     where
-      go : (p : Place) (z : Event (List ℕ)) → IsPlaceIn t p → get s.pending (key_of k.time p k.number) ≡ Some z → CanHappen t d p k.number z
-      go (Arrive i) (Delivery x) h f = h
-      go (Arrive i) Completion h f = absurd (let a = orderly.arrival i k.time k.number Completion f in let b = a.1 in cc)
-      go (Complete i) Completion h f = (h, is_busy t part s orderly d represented i k.time k.number Completion f h)
-      go (Complete i) (Delivery x) h f = absurd (let c = orderly.completion i k.time k.number (Delivery x) f in let b = c.1 in cc)
-      go (Fire j) (Delivery x) h f =
-          let c = orderly.source j k.time k.number (Delivery x) f in
-          let same : c.0 ≡ x = let b = c.1 in cc in
-          let at : source_at t j k.number ≡ Some (k.time, x) = from_net c.0 x same c.2 in
-          let small = before j k.number (k.time, x) at in
-          let n = number_le t rise end j k.number (k.time, x) at in
-          let stop = limits.greatest_stop in
-          (h, fits_origin t limits fit j k.number (k.time, x) at, omega (arith, small, n, stop))
-        where
-          from_net : (x' x : List ℕ) → x' ≡ x → (net_of t).source j k.number ≡ Some (k.time, x') → source_at t j k.number ≡ Some (k.time, x)
-          from_net x' x e g = g ∙ ap (λ z. Some (k.time, z)) e
-      go (Fire j) Completion h f = absurd (let c = orderly.source j k.time k.number Completion f in let b = c.1 in cc)
+      from_net : (x' x : List ℕ) → x' ≡ x → (net_of t).source j number ≡ Some (time, x') → source_at t j number ≡ Some (time, x)
+      from_net x' x e g = g ∙ ap (λ z. Some (time, z)) e

@@ -8,12 +8,12 @@ use Rattle.nm_base.specs.declared.event.Event.TheVariants.{Delivery}
 use Rattle.nm_base.specs.declared.event.Origin.TheVariants.{Arrival, Source}
 use Rattle.nm_base.specs.declared.key.Key.{Key}
 use Rattle.nm_base.specs.declared.limits.TheConstants.{MAX_TIME}
-use Rattle.nm_base.specs.declared.key.Place.TheVariants.{Arrive, Fire}
+use Rattle.nm_base.specs.Event.{event_place}
 use Rattle.nm_base.specs.Key.{key_cmp, key_of}
 use Rattle.nm_topology.specs.TopologyValue.{TopologyValue}
 use Rattle.nm_model.specs.EventList.{least, schedule}
 use Rattle.nm_model.specs.Lists.{nth, set_at}
-use Rattle.nm_model.specs.Run.{Effect, State, effect, in_record, made, next_events, transmission_events, step}
+use Rattle.nm_model.specs.Run.{Effect, State, by_source, effect, in_record, keyed, made, next_events, transmission_events, step}
 use Rattle.nm_forward.specs.State.{NodeStateValue}
 use Rattle.nm_forward.specs.Reaction.{reaction}
 use Rattle.nm_iface.specs.declared.port.Start.{Start}
@@ -32,10 +32,10 @@ use Rattle.nm_sim.proofs.Schedules.{first_fresh, second_fresh}
 use Rattle.nm_model.proofs.ListLemmas.{some_inj}
 use Rattle.nm_model.proofs.Keys.{remove_same}
 
-module _ {L : Type 0} (pending : L → FinMap key_cmp (Event (List ℕ))) (t : TopologyValue) (part : Option ℕ) (k : Key) (e : Event (List ℕ)) (p q : PartValue L) (kept : Kept p q)
+module _ {L : Type 0} (pending : L → FinMap key_cmp (Event (List ℕ))) (t : TopologyValue) (part : Option ℕ) (time number : ℕ) (e : Event (List ℕ)) (p q : PartValue L) (kept : Kept p q)
     (s : State (List ℕ) NodeStateValue) where
-  pub taken_out : Represents pending t part p s → Some (k, e) ≡ least (pending p.timeline.events) → pending q.timeline.events ≡ remove (pending p.timeline.events) k
-      → q.records ≡ p.records → IsTaken pending t part k e None None q s
+  pub taken_out : Represents pending t part p s → Some (keyed time number e) ≡ least (pending p.timeline.events) → pending q.timeline.events ≡ remove (pending p.timeline.events) (key_of time (event_place e) number)
+      → q.records ≡ p.records → IsTaken pending t part time number e None None q s
   taken_out h first events records = record {
     first = ap (λ m. least m) (sym h.events) ∙ sym first;
     is_part = kept.is_part ∙ h.is_part;
@@ -43,16 +43,16 @@ module _ {L : Type 0} (pending : L → FinMap key_cmp (Event (List ℕ))) (t : T
     numbered = numbered_same t p.timeline q.timeline s.sent kept.sent h.numbered;
     outgoing = subst (λ o. OutgoingRepresents t part o s.sent) (sym kept.outgoing) h.outgoing;
     few = λ c. let l = h.few c in omega (arith, l, kept.steps);
-    events = events ∙ ap (λ m. remove m k) h.events;
+    events = events ∙ ap (λ m. remove m (key_of time (event_place e) number)) h.events;
     placed = h.placed;
     records = subst (λ (r : RecordsValue). RecordsRepresent t r (s.records ++ [])) (sym records) (subst (RecordsRepresent t p.records) (sym (append-nil s.records)) h.records);
     few_records = let l = h.few_records in omega (arith, l, kept.steps);
   }
 
   -- it goes on: what came is recorded, and what follows is pending
-  pub taken_on : {came follows : Option (ℕ × List ℕ)} (came' follows' : Option (ℕ × List ℕ)) → IsTaken pending t part k e came follows p s
-      → pending q.timeline.events ≡ schedule everywhere (next_events k.place k.number follows') (remove s.pending k)
-      → RecordsRepresent t q.records (s.records ++ in_record k.time came') → IsTaken pending t part k e came' follows' q s
+  pub taken_on : {came : Option (ℕ × List ℕ)} {follows : Option (ℕ × ℕ × List ℕ)} (came' : Option (ℕ × List ℕ)) (follows' : Option (ℕ × ℕ × List ℕ)) → IsTaken pending t part time number e came follows p s
+      → pending q.timeline.events ≡ schedule everywhere (next_events number follows') (remove s.pending (key_of time (event_place e) number))
+      → RecordsRepresent t q.records (s.records ++ in_record time came') → IsTaken pending t part time number e came' follows' q s
   taken_on came' follows' h events records = record {
     first = h.first;
     is_part = kept.is_part ∙ h.is_part;
@@ -67,133 +67,133 @@ module _ {L : Type 0} (pending : L → FinMap key_cmp (Event (List ℕ))) (t : T
   }
 
   -- its devices change
-  pub taken_same : {came follows : Option (ℕ × List ℕ)} → IsTaken pending t part k e came follows p s → pending q.timeline.events ≡ pending p.timeline.events
-      → q.records ≡ p.records → IsTaken pending t part k e came follows q s
+  pub taken_same : {came : Option (ℕ × List ℕ)} {follows : Option (ℕ × ℕ × List ℕ)} → IsTaken pending t part time number e came follows p s → pending q.timeline.events ≡ pending p.timeline.events
+      → q.records ≡ p.records → IsTaken pending t part time number e came follows q s
   taken_same {came} {follows} h events records =
-      taken_on came follows h (events ∙ h.events) (subst (λ (r : RecordsValue). RecordsRepresent t r (s.records ++ in_record k.time came)) (sym records) h.records)
+      taken_on came follows h (events ∙ h.events) (subst (λ (r : RecordsValue). RecordsRepresent t r (s.records ++ in_record time came)) (sym records) h.records)
 
   -- a packet came with it
-  pub taken_came : (came : Option (ℕ × List ℕ)) → IsTaken pending t part k e None None p s → pending q.timeline.events ≡ pending p.timeline.events
-      → ((trace : List (Record (List ℕ))) → RecordsRepresent t p.records trace → RecordsRepresent t q.records (trace ++ in_record k.time came)) → IsTaken pending t part k e came None q s
+  pub taken_came : (came : Option (ℕ × List ℕ)) → IsTaken pending t part time number e None None p s → pending q.timeline.events ≡ pending p.timeline.events
+      → ((trace : List (Record (List ℕ))) → RecordsRepresent t p.records trace → RecordsRepresent t q.records (trace ++ in_record time came)) → IsTaken pending t part time number e came None q s
   taken_came came h events records =
       taken_on came None h (events ∙ h.events) (records s.records (subst (RecordsRepresent t p.records) (append-nil s.records) h.records))
 
   -- another follows at its source
-  pub taken_follows : (follows : Option (ℕ × List ℕ)) → IsTaken pending t part k e None None p s
-      → pending q.timeline.events ≡ schedule everywhere (next_events k.place k.number follows) (pending p.timeline.events)
-      → q.records ≡ p.records → IsTaken pending t part k e None follows q s
-  taken_follows follows h events records = taken_on None follows h (events ∙ ap (schedule everywhere (next_events k.place k.number follows)) h.events)
+  pub taken_follows : (follows : Option (ℕ × ℕ × List ℕ)) → IsTaken pending t part time number e None None p s
+      → pending q.timeline.events ≡ schedule everywhere (next_events number follows) (pending p.timeline.events)
+      → q.records ≡ p.records → IsTaken pending t part time number e None follows q s
+  taken_follows follows h events records = taken_on None follows h (events ∙ ap (schedule everywhere (next_events number follows)) h.events)
       (subst (λ (r : RecordsValue). RecordsRepresent t r (s.records ++ [])) (sym records) h.records)
 
-module _ {L : Type 0} (pending : L → FinMap key_cmp (Event (List ℕ))) (t : TopologyValue) (part : Option ℕ) (k : Key) (e : Event (List ℕ)) (p : PartValue L) (s : State (List ℕ) NodeStateValue) where
+module _ {L : Type 0} (pending : L → FinMap key_cmp (Event (List ℕ))) (t : TopologyValue) (part : Option ℕ) (time number : ℕ) (e : Event (List ℕ)) (p : PartValue L) (s : State (List ℕ) NodeStateValue) where
   -- its key is free
-  pub key_is_free : IsTaken pending t part k e None None p s → get (pending p.timeline.events) k ≡ None
-  key_is_free h = ap (λ m. get m k) h.events ∙ remove_same s.pending k
+  pub key_is_free : IsTaken pending t part time number e None None p s → get (pending p.timeline.events) (key_of time (event_place e) number) ≡ None
+  key_is_free h = ap (λ m. get m (key_of time (event_place e) number)) h.events ∙ remove_same s.pending (key_of time (event_place e) number)
 
   abbrev does_at : Effect (List ℕ) NodeStateValue
-  does_at = effect (net_of t) s.node s.port k.time k.place k.number e
+  does_at = effect (net_of t) s.node s.port time number e
 
-  module _ (follows : Option (ℕ × List ℕ)) (same : follows ≡ does_at.follows)
-      (fresh : (m : ℕ) (f : Key × Event (List ℕ)) → nth (made (net_of t) s (k, e)) m ≡ Some f → get (remove s.pending k) f.0 ≡ None)
-      (apart : (m n : ℕ) (f g : Key × Event (List ℕ)) → m < n → nth (made (net_of t) s (k, e)) m ≡ Some f → nth (made (net_of t) s (k, e)) n ≡ Some g → f.0 ≢ g.0) where
+  module _ (follows : Option (ℕ × ℕ × List ℕ)) (same : follows ≡ does_at.follows)
+      (fresh : (m : ℕ) (f : Key × Event (List ℕ)) → nth (made (net_of t) s (keyed time number e)) m ≡ Some f → get (remove s.pending (key_of time (event_place e) number)) f.0 ≡ None)
+      (apart : (m n : ℕ) (f g : Key × Event (List ℕ)) → m < n → nth (made (net_of t) s (keyed time number e)) m ≡ Some f → nth (made (net_of t) s (keyed time number e)) n ≡ Some g → f.0 ≢ g.0) where
     -- the source's next event is new
-    pub follows_fresh : IsTaken pending t part k e None None p s → AreFresh (pending p.timeline.events) (next_events k.place k.number follows)
-    follows_fresh h = subst (λ m. AreFresh m (next_events k.place k.number follows)) (sym h.events)
-        (subst (λ o. AreFresh (remove s.pending k) (next_events k.place k.number o)) (sym same)
-        (second_fresh (remove s.pending k) (transmission_events (net_of t) k.time s.sent does_at.transmission) k.place k.number does_at.follows fresh apart))
+    pub follows_fresh : IsTaken pending t part time number e None None p s → AreFresh (pending p.timeline.events) (next_events number follows)
+    follows_fresh h = subst (λ m. AreFresh m (next_events number follows)) (sym h.events)
+        (subst (λ o. AreFresh (remove s.pending (key_of time (event_place e) number)) (next_events number o)) (sym same)
+        (second_fresh (remove s.pending (key_of time (event_place e) number)) (transmission_events (net_of t) time s.sent does_at.transmission) number does_at.follows fresh apart))
 
     -- and then those of the transmission that starts
-    pub transmission_fresh : (came : Option (ℕ × List ℕ)) (start : Option (ℕ × Start)) → transmission_of start ≡ does_at.transmission → IsTaken pending t part k e came follows p s
-        → AreFresh (pending p.timeline.events) (transmission_events (net_of t) k.time s.sent (transmission_of start))
-    transmission_fresh came start transmits h = subst (λ m. AreFresh m (transmission_events (net_of t) k.time s.sent (transmission_of start))) (sym h.events)
-        (subst (λ (o : Option (ℕ × List ℕ) × Option (ℕ × List ℕ)). AreFresh (schedule everywhere (next_events k.place k.number o.1) (remove s.pending k))
-        (transmission_events (net_of t) k.time s.sent o.0)) (sym (λ i. (transmits i, same i)))
-        (first_fresh (remove s.pending k) (transmission_events (net_of t) k.time s.sent does_at.transmission) k.place k.number does_at.follows fresh apart))
+    pub transmission_fresh : (came : Option (ℕ × List ℕ)) (start : Option (ℕ × Start)) → transmission_of start ≡ does_at.transmission → IsTaken pending t part time number e came follows p s
+        → AreFresh (pending p.timeline.events) (transmission_events (net_of t) time s.sent (transmission_of start))
+    transmission_fresh came start transmits h = subst (λ m. AreFresh m (transmission_events (net_of t) time s.sent (transmission_of start))) (sym h.events)
+        (subst (λ (o : Option (ℕ × List ℕ) × Option (ℕ × ℕ × List ℕ)). AreFresh (schedule everywhere (next_events number o.1) (remove s.pending (key_of time (event_place e) number)))
+        (transmission_events (net_of t) time s.sent o.0)) (sym (λ i. (transmits i, same i)))
+        (first_fresh (remove s.pending (key_of time (event_place e) number)) (transmission_events (net_of t) time s.sent does_at.transmission) number does_at.follows fresh apart))
 
 -- what follows when source j hands a packet over
 pub fires_next : (t : TopologyValue) (s : State (List ℕ) NodeStateValue) (time j number : ℕ) (x : List ℕ)
-    → source_at t j (suc number) ≡ (effect (net_of t) s.node s.port time (Fire j) number (Delivery x)).follows
+    → by_source j (source_at t j (suc number)) ≡ (effect (net_of t) s.node s.port time number (Delivery (Source j) x)).follows
 unfolding net_of
 fires_next t s time j number x =
     let v = (net_of t).source_node j in
-    sym (follows_is (net_of t) s.port time None (reaction t v (s.node v) (Source j) x).0 (source_at t j (suc number)) (reaction t v (s.node v) (Source j) x).1)
+    sym (follows_is (net_of t) s.port time None (reaction t v (s.node v) (Source j) x).0 (by_source j (source_at t j (suc number))) (reaction t v (s.node v) (Source j) x).1)
 
 module _ {L : Type 0} (pending : L → FinMap key_cmp (Event (List ℕ))) (room_of : L → ℕ) (t : TopologyValue) (part : Option ℕ) (time number : ℕ) (p q : PartValue L) (kept : Kept p q)
     (s : State (List ℕ) NodeStateValue) (x : List ℕ) (sent : Option (ℕ × List ℕ)) where
   -- a packet arrived, and its node reacted
-  pub arrives_on : (i : ℕ) → IsReady pending room_of t part (key_of time (Arrive i) number) (Delivery x) p s
+  pub arrives_on : (i : ℕ) → IsReady pending room_of t part time number (Delivery (Arrival i) x) p s
       → Reacts t part s.node s.port ((net_of t).owner i) (Arrival i) x q.devices sent
       → pending q.timeline.events ≡ pending p.timeline.events
       → ((trace : List (Record (List ℕ))) → RecordsRepresent t p.records trace → RecordsRepresent t q.records (trace ++ in_record time (Some (i, x))))
-      → HasReacted pending t part (key_of time (Arrive i) number) (Delivery x) (Some (i, x)) None sent
+      → HasReacted pending t part time number (Delivery (Arrival i) x) (Some (i, x)) None sent
       (set_at s.node ((net_of t).owner i) (reaction t ((net_of t).owner i) (s.node ((net_of t).owner i)) (Arrival i) x).0) q s
   arrives_on i ready r events records = record {
-    taken = taken_came pending t part _ _ p q kept s (Some (i, x)) ready.taken events records;
+    taken = taken_came pending t part _ _ _ p q kept s (Some (i, x)) ready.taken events records;
     represented = r.represented;
     does = λ d start o. arrives_by t part s.node s.port time ((net_of t).owner i) i number x q.devices d sent start _ refl r o refl refl refl;
   }
 
   -- a source handed a packet over, and its node reacted
-  pub fires_on : (j : ℕ) (follows : Option (ℕ × List ℕ)) → IsReady pending room_of t part (key_of time (Fire j) number) (Delivery x) p s
+  pub fires_on : (j : ℕ) (follows : Option (ℕ × List ℕ)) → IsReady pending room_of t part time number (Delivery (Source j) x) p s
       → Reacts t part s.node s.port ((net_of t).source_node j) (Source j) x q.devices sent
       → follows ≡ source_at t j (suc number)
-      → pending q.timeline.events ≡ schedule everywhere (next_events (Fire j) number follows) (pending p.timeline.events)
+      → pending q.timeline.events ≡ schedule everywhere (next_events number (by_source j follows)) (pending p.timeline.events)
       → q.records ≡ p.records
-      → HasReacted pending t part (key_of time (Fire j) number) (Delivery x) None follows sent
+      → HasReacted pending t part time number (Delivery (Source j) x) None (by_source j follows) sent
       (set_at s.node ((net_of t).source_node j) (reaction t ((net_of t).source_node j) (s.node ((net_of t).source_node j)) (Source j) x).0) q s
   fires_on j follows ready r next events records = record {
-    taken = taken_follows pending t part _ _ p q kept s follows ready.taken events records;
+    taken = taken_follows pending t part _ _ _ p q kept s (by_source j follows) ready.taken events records;
     represented = r.represented;
-    does = λ d start o. fires_by t part s.node s.port time ((net_of t).source_node j) j number x q.devices d sent start _ refl r o refl refl next;
+    does = λ d start o. fires_by t part s.node s.port time ((net_of t).source_node j) j number x q.devices d sent start _ refl r o refl refl (ap (by_source j) next);
   }
 
 -- and what it sends was offered to a port
-pub sends_on : {L : Type 0} (pending : L → FinMap key_cmp (Event (List ℕ))) (t : TopologyValue) (part : Option ℕ) (k : Key) (e : Event (List ℕ)) (came follows sent : Option (ℕ × List ℕ))
-    (start : Option (ℕ × Start)) (node : ℕ → NodeStateValue) (p q : PartValue L) → Kept p q → (s : State (List ℕ) NodeStateValue) → HasReacted pending t part k e came follows sent node p s
-    → Sends t part node s.port k.time sent q.devices start → pending q.timeline.events ≡ pending p.timeline.events → q.records ≡ p.records
-    → IsUnderWay pending t part k e (record { came = came; transmission = start; follows = follows }) q s
-sends_on pending t part k e came follows sent start node p q kept s h o events records = record {
-  taken = taken_same pending t part k e p q kept s h.taken events records;
+pub sends_on : {L : Type 0} (pending : L → FinMap key_cmp (Event (List ℕ))) (t : TopologyValue) (part : Option ℕ) (time number : ℕ) (e : Event (List ℕ)) (came : Option (ℕ × List ℕ)) (follows : Option (ℕ × ℕ × List ℕ)) (sent : Option (ℕ × List ℕ))
+    (start : Option (ℕ × Start)) (node : ℕ → NodeStateValue) (p q : PartValue L) → Kept p q → (s : State (List ℕ) NodeStateValue) → HasReacted pending t part time number e came follows sent node p s
+    → Sends t part node s.port time sent q.devices start → pending q.timeline.events ≡ pending p.timeline.events → q.records ≡ p.records
+    → IsUnderWay pending t part time number e (record { came = came; transmission = start; follows = follows }) q s
+sends_on pending t part time number e came follows sent start node p q kept s h o events records = record {
+  taken = taken_same pending t part time number e p q kept s h.taken events records;
   does = h.does q.devices start o;
 }
 
 -- the event of the least key comes before the end
 pub time_is : {L : Type 0} (pending : L → FinMap key_cmp (Event (List ℕ))) (t : TopologyValue) (part : Option ℕ) (p : PartValue L) (s : State (List ℕ) NodeStateValue)
-    → Represents pending t part p s → (k : Key) (e : Event (List ℕ)) → Some (k, e) ≡ least (pending p.timeline.events)
-    → (f : Key × Event (List ℕ)) → least s.pending ≡ Some f → f.0.time < t.stop → t.stop ≤ MAX_TIME → k.time ≤ MAX_TIME
-time_is pending t part p s h k e first f least_is early stop =
-    let same : (k, e) ≡ f = some_inj (k, e) f (first ∙ ap (λ m. least m) h.events ∙ least_is) in
-    let time : k.time ≡ f.0.time = ap (λ (y : Key × Event (List ℕ)). y.0.time) same in
-    omega (arith, time, early, stop)
+    → Represents pending t part p s → (time number : ℕ) (e : Event (List ℕ)) → Some (keyed time number e) ≡ least (pending p.timeline.events)
+    → (f : Key × Event (List ℕ)) → least s.pending ≡ Some f → f.0.time < t.stop → t.stop ≤ MAX_TIME → time ≤ MAX_TIME
+time_is pending t part p s h time number e first f least_is early stop =
+    let same : keyed time number e ≡ f = some_inj (keyed time number e) f (first ∙ ap (λ m. least m) h.events ∙ least_is) in
+    let at : time ≡ f.0.time = ap (λ (y : Key × Event (List ℕ)). y.0.time) same in
+    omega (arith, at, early, stop)
 
 -- it is taken out, where there is memory for all that it may do
-pub ready_at : {L : Type 0} (pending : L → FinMap key_cmp (Event (List ℕ))) (room_of : L → ℕ) (t : TopologyValue) (k : Key) (e : Event (List ℕ)) (p : PartValue L) (after : TimelineValue L)
-    → Some (k, e) ≡ least (pending p.timeline.events) → pending after.events ≡ remove (pending p.timeline.events) k → after ≡ record p.timeline { events = after.events }
-    → k.time ≤ MAX_TIME → p.steps < 2 ^ 62 → HasMemory room_of p → room_of after.events ≡ room_of p.timeline.events + 1
-    → (part : Option ℕ) (s : State (List ℕ) NodeStateValue) → Represents pending t part p s → IsReady pending room_of t part k e (record p { timeline = after }) s
-ready_at pending room_of t k e p after first rest others time few memory more part s represents = record {
-  taken = taken_out pending t part k e p (record p { timeline = after }) (record { is_part = refl; sent = ap (λ l. l.sent) others; outgoing = refl; steps = refl }) s represents first rest refl;
+pub ready_at : {L : Type 0} (pending : L → FinMap key_cmp (Event (List ℕ))) (room_of : L → ℕ) (t : TopologyValue) (time number : ℕ) (e : Event (List ℕ)) (p : PartValue L) (after : TimelineValue L)
+    → Some (keyed time number e) ≡ least (pending p.timeline.events) → pending after.events ≡ remove (pending p.timeline.events) (key_of time (event_place e) number) → after ≡ record p.timeline { events = after.events }
+    → time ≤ MAX_TIME → p.steps < 2 ^ 62 → HasMemory room_of p → room_of after.events ≡ room_of p.timeline.events + 1
+    → (part : Option ℕ) (s : State (List ℕ) NodeStateValue) → Represents pending t part p s → IsReady pending room_of t part time number e (record p { timeline = after }) s
+ready_at pending room_of t time number e p after first rest others soon few memory more part s represents = record {
+  taken = taken_out pending t part time number e p (record p { timeline = after }) (record { is_part = refl; sent = ap (λ l. l.sent) others; outgoing = refl; steps = refl }) s represents first rest refl;
   devices = represents.devices;
-  time = time;
+  soon = soon;
   steps = few;
   memory = record { ports = memory.ports; room = let r = memory.room in omega (arith, r, more); channels = memory.channels; spare = memory.spare };
 }
 
-module _ {L : Type 0} (pending : L → FinMap key_cmp (Event (List ℕ))) (room_of : L → ℕ) (t : TopologyValue) (k : Key) (e : Event (List ℕ)) (p q new : PartValue L)
-    (ready : (part : Option ℕ) (s : State (List ℕ) NodeStateValue) → Represents pending t part p s → IsReady pending room_of t part k e q s) where
-  pub performed_ok : (r : Result Unit AllocError) → Performed pending room_of t k e q new r
+module _ {L : Type 0} (pending : L → FinMap key_cmp (Event (List ℕ))) (room_of : L → ℕ) (t : TopologyValue) (time number : ℕ) (e : Event (List ℕ)) (p q new : PartValue L)
+    (ready : (part : Option ℕ) (s : State (List ℕ) NodeStateValue) → Represents pending t part p s → IsReady pending room_of t part time number e q s) where
+  pub performed_ok : (r : Result Unit AllocError) → Performed pending room_of t time number e q new r
       → OnOk r ((part : Option ℕ) (s : State (List ℕ) NodeStateValue) → Represents pending t part p s → Represents pending t part new (step (net_of t) (here_of t part) s))
   performed_ok (Ok u) h = λ part s z. h.0 part s (ready part s z)
   performed_ok (Err x) h = tt
 
-  pub performed_err : (r : Result Unit AllocError) → Performed pending room_of t k e q new r
+  pub performed_err : (r : Result Unit AllocError) → Performed pending room_of t time number e q new r
       → OnErr r ((part : Option ℕ) (s : State (List ℕ) NodeStateValue) → Represents pending t part p s → Represents pending t part new s)
   performed_err (Ok u) h = tt
   performed_err (Err x) h = λ part s z. h.0 part s (ready part s z)
 
 -- how many events were done, and that no record was handed out
-pub performed_one : {L : Type 0} (pending : L → FinMap key_cmp (Event (List ℕ))) (room_of : L → ℕ) (t : TopologyValue) (k : Key) (e : Event (List ℕ)) (q new : PartValue L)
-    (r : Result Unit AllocError) → Performed pending room_of t k e q new r
+pub performed_one : {L : Type 0} (pending : L → FinMap key_cmp (Event (List ℕ))) (room_of : L → ℕ) (t : TopologyValue) (time number : ℕ) (e : Event (List ℕ)) (q new : PartValue L)
+    (r : Result Unit AllocError) → Performed pending room_of t time number e q new r
     → OnOk r (new.steps ≡ q.steps + 1) × OnErr r (new.steps ≡ q.steps) × (new.records.handed ≡ q.records.handed)
-performed_one pending room_of t k e q new (Ok u) h = (h.1, tt, h.2)
-performed_one pending room_of t k e q new (Err x) h = (tt, h.1, h.2)
+performed_one pending room_of t time number e q new (Ok u) h = (h.1, tt, h.2)
+performed_one pending room_of t time number e q new (Err x) h = (tt, h.1, h.2)

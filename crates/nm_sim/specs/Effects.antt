@@ -3,11 +3,11 @@ use Rattle.std.specs.Prelude.{◌≡◌, ℕ, ◌<◌, ◌^◌, List, length, Op
 use Rattle.std.specs.Option.{IsSome, IfSome}
 use Rattle.nm_base.specs.declared.key.Place.{Place}
 use Rattle.nm_base.specs.declared.key.Place.TheVariants.{Arrive, Complete, Fire}
-use Rattle.nm_base.specs.declared.key.Key.{Key}
+use Rattle.nm_base.specs.Event.{event_place}
 use Rattle.nm_base.specs.declared.event.Event.{Event}
 use Rattle.nm_base.specs.declared.event.Event.TheVariants.{Delivery, Completion}
 use Rattle.nm_base.specs.declared.event.Origin.{Origin}
-use Rattle.nm_base.specs.declared.event.Origin.TheVariants.{Source}
+use Rattle.nm_base.specs.declared.event.Origin.TheVariants.{Arrival, Source}
 use Rattle.nm_topology.specs.TopologyValue.{TopologyValue}
 use Rattle.nm_model.specs.Lists.{set_at}
 use Rattle.nm_model.specs.Network.{node_of}
@@ -34,13 +34,10 @@ IsBusy (Some None) = ⊥
 IsBusy (Some (Some w)) = IsSome w.busy
 
 -- an event that can happen now
-abbrev pub CanHappen : TopologyValue → DevicesValue → Place → ℕ → Event (List ℕ) → Type 0
-CanHappen t d (Arrive i) number (Delivery x) = i < length t.ifaces
-CanHappen t d (Complete i) number Completion = (i < length t.ifaces) × IsBusy (slice_get d.ports i)
-CanHappen t d (Fire j) number (Delivery x) = (j < length t.sources) × FitsOrigin t (Source j) x × (number < 2 ^ 63)
-CanHappen t d (Arrive i) number Completion = ⊥
-CanHappen t d (Complete i) number (Delivery x) = ⊥
-CanHappen t d (Fire j) number Completion = ⊥
+abbrev pub CanHappen : TopologyValue → DevicesValue → ℕ → Event (List ℕ) → Type 0
+CanHappen t d number (Delivery (Arrival i) x) = i < length t.ifaces
+CanHappen t d number (Delivery (Source j) x) = (j < length t.sources) × FitsOrigin t (Source j) x × (number < 2 ^ 63)
+CanHappen t d number (Completion i) = (i < length t.ifaces) × IsBusy (slice_get d.ports i)
 
 -- the packet whose transmission starts, and where
 abbrev pub transmission_of : Option (ℕ × Start) → Option (ℕ × List ℕ)
@@ -57,11 +54,11 @@ abbrev pub TransmitsAt : TopologyValue → Option ℕ → ℕ → ℕ × Start �
 TransmitsAt t part time s = IsIfaceHere t part s.0 × IsTransmission (far_of t s.0).rate (far_of t s.0).delay time s.1.twin.packet s.1
 
 -- What was done beside the change of a node and of one port: the packet that arrived, and where, the transmission that starts, and where, and
--- the source's next packet, and when it comes.
+-- the packet that a source hands over next: which source, when, and which packet.
 pub record Done : Type 0 where
   pub came : Option (ℕ × List ℕ)
   pub transmission : Option (ℕ × Start)
-  pub follows : Option (ℕ × List ℕ)
+  pub follows : Option (ℕ × ℕ × List ℕ)
 
 -- what was done is this effect
 pub record IsEffect (t : TopologyValue) (part : Option ℕ) (time : ℕ) (e : Done) (m : Effect (List ℕ) NodeStateValue) : Type 0 where
@@ -70,16 +67,16 @@ pub record IsEffect (t : TopologyValue) (part : Option ℕ) (time : ℕ) (e : Do
   pub transmits : IfSome e.transmission (TransmitsAt t part time)
   pub follows : e.follows ≡ m.follows
 
--- after an event of this key, done where nodes and ports had these states
-pub record Does (t : TopologyValue) (part : Option ℕ) (node : ℕ → NodeStateValue) (port : ℕ → Port (List ℕ)) (k : Key) (event : Event (List ℕ)) (d : DevicesValue) (e : Done) : Type 0 where
-  pub represented : let m : Effect (List ℕ) NodeStateValue = effect (net_of t) node port k.time k.place k.number event in
-      DevicesRepresent t part d (set_at node (node_of (net_of t) k.place) m.after) (turned port m.turn)
-  pub does : IsEffect t part k.time e (effect (net_of t) node port k.time k.place k.number event)
+-- after this event, the one of this number of its place, done at this time, where nodes and ports had these states
+pub record Does (t : TopologyValue) (part : Option ℕ) (node : ℕ → NodeStateValue) (port : ℕ → Port (List ℕ)) (time number : ℕ) (event : Event (List ℕ)) (d : DevicesValue) (e : Done) : Type 0 where
+  pub represented : let m : Effect (List ℕ) NodeStateValue = effect (net_of t) node port time number event in
+      DevicesRepresent t part d (set_at node (node_of (net_of t) (event_place event)) m.after) (turned port m.turn)
+  pub does : IsEffect t part time e (effect (net_of t) node port time number event)
 
 -- after a node has sent this, or nothing
 pub record Sends (t : TopologyValue) (part : Option ℕ) (node : ℕ → NodeStateValue) (port : ℕ → Port (List ℕ)) (time : ℕ) (sent : Option (ℕ × List ℕ)) (d : DevicesValue) (sending : Option (ℕ × Start)) : Type 0 where
-  pub represented : (n : NodeStateValue) (came follows : Option (ℕ × List ℕ)) → DevicesRepresent t part d node (turned port (sent_on (net_of t) port time came n sent follows).turn)
-  pub transmission : (n : NodeStateValue) (came follows : Option (ℕ × List ℕ)) → transmission_of sending ≡ (sent_on (net_of t) port time came n sent follows).transmission
+  pub represented : (n : NodeStateValue) (came : Option (ℕ × List ℕ)) (follows : Option (ℕ × ℕ × List ℕ)) → DevicesRepresent t part d node (turned port (sent_on (net_of t) port time came n sent follows).turn)
+  pub transmission : (n : NodeStateValue) (came : Option (ℕ × List ℕ)) (follows : Option (ℕ × ℕ × List ℕ)) → transmission_of sending ≡ (sent_on (net_of t) port time came n sent follows).transmission
   pub transmits : IfSome sending (TransmitsAt t part time)
 
 -- after node v has reacted to a packet

@@ -6,14 +6,16 @@ use Rattle.std.specs.declared.alloc.AllocError.{AllocError}
 use Rattle.nm_base.specs.declared.event.Event.{Event}
 use Rattle.nm_base.specs.declared.event.Event.TheVariants.{Delivery}
 use Rattle.nm_base.specs.declared.key.Key.{Key}
+use Rattle.nm_base.specs.declared.event.Origin.TheVariants.{Arrival}
 use Rattle.nm_base.specs.declared.key.Place.TheVariants.{Arrive}
+use Rattle.nm_base.specs.Event.{event_place}
 use Rattle.nm_base.specs.Key.{key_cmp, key_of}
 use Rattle.nm_topology.specs.Topology.{receiving_iface}
 use Rattle.nm_topology.specs.TopologyValue.{TopologyValue}
 use Rattle.nm_model.specs.EventList.{least, schedule}
 use Rattle.nm_model.specs.Orderly.{IsOrderly}
 use Rattle.nm_model.specs.Port.{Busy, waiting_of}
-use Rattle.nm_model.specs.Run.{State, in_record, next_events, pends_before, step}
+use Rattle.nm_model.specs.Run.{State, in_record, keyed, next_events, pends_before, step}
 use Rattle.nm_forward.specs.declared.counter.Counter.{Counter}
 use Rattle.nm_forward.specs.Counter.{counter_number}
 use Rattle.nm_forward.specs.State.{NodeStateValue}
@@ -51,17 +53,17 @@ pub record Represents {L : Type 0} (pending : L → FinMap key_cmp (Event (List 
 
 -- An event was taken out of a part that represented this state. If a packet came with it, the trace has it, and if another follows at its source,
 -- that is pending.
-pub record IsTaken {L : Type 0} (pending : L → FinMap key_cmp (Event (List ℕ))) (t : TopologyValue) (part : Option ℕ) (k : Key) (e : Event (List ℕ))
-    (came follows : Option (ℕ × List ℕ)) (p : PartValue L) (s : State (List ℕ) NodeStateValue) : Type 0 where
-  pub first : least s.pending ≡ Some (k, e)
+pub record IsTaken {L : Type 0} (pending : L → FinMap key_cmp (Event (List ℕ))) (t : TopologyValue) (part : Option ℕ) (time number : ℕ) (e : Event (List ℕ))
+    (came : Option (ℕ × List ℕ)) (follows : Option (ℕ × ℕ × List ℕ)) (p : PartValue L) (s : State (List ℕ) NodeStateValue) : Type 0 where
+  pub first : least s.pending ≡ Some (keyed time number e)
   pub is_part : p.part ≡ part
   pub orderly : IsOrderly (net_of t) (here_of t part) s
   pub numbered : TimelineRepresents t p.timeline s.sent
   pub outgoing : OutgoingRepresents t part p.outgoing s.sent
   pub few : (c : ℕ) → length (s.sent c) ≤ p.steps
-  pub events : pending p.timeline.events ≡ schedule everywhere (next_events k.place k.number follows) (remove s.pending k)
+  pub events : pending p.timeline.events ≡ schedule everywhere (next_events number follows) (remove s.pending (key_of time (event_place e) number))
   pub placed : (q : Key) (y : Event (List ℕ)) → get s.pending q ≡ Some y → IsPlaceIn t q.place
-  pub records : RecordsRepresent t p.records (s.records ++ in_record k.time came)
+  pub records : RecordsRepresent t p.records (s.records ++ in_record time came)
   pub few_records : length s.records ≤ 2 * p.steps
 
 -- there is memory for all that an event may do
@@ -72,34 +74,34 @@ pub record HasMemory {L : Type 0} (room_of : L → ℕ) (p : PartValue L) : Type
   pub spare : 2 ≤ p.records.spare
 
 -- it was taken out and nothing of it is done, and there is memory for all that it may do
-pub record IsReady {L : Type 0} (pending : L → FinMap key_cmp (Event (List ℕ))) (room_of : L → ℕ) (t : TopologyValue) (part : Option ℕ) (k : Key) (e : Event (List ℕ))
+pub record IsReady {L : Type 0} (pending : L → FinMap key_cmp (Event (List ℕ))) (room_of : L → ℕ) (t : TopologyValue) (part : Option ℕ) (time number : ℕ) (e : Event (List ℕ))
     (p : PartValue L) (s : State (List ℕ) NodeStateValue) : Type 0 where
-  pub taken : IsTaken pending t part k e None None p s
+  pub taken : IsTaken pending t part time number e None None p s
   pub devices : DevicesRepresent t part p.devices s.node s.port
-  pub time : k.time ≤ MAX_TIME
+  pub soon : time ≤ MAX_TIME
   pub steps : p.steps < 2 ^ 62
   pub memory : HasMemory room_of p
 
 -- its node has reacted, but nothing of what the node sends was offered to a port yet
-pub record HasReacted {L : Type 0} (pending : L → FinMap key_cmp (Event (List ℕ))) (t : TopologyValue) (part : Option ℕ) (k : Key) (e : Event (List ℕ))
-    (came follows sent : Option (ℕ × List ℕ)) (node : ℕ → NodeStateValue) (p : PartValue L) (s : State (List ℕ) NodeStateValue) : Type 0 where
-  pub taken : IsTaken pending t part k e came follows p s
+pub record HasReacted {L : Type 0} (pending : L → FinMap key_cmp (Event (List ℕ))) (t : TopologyValue) (part : Option ℕ) (time number : ℕ) (e : Event (List ℕ))
+    (came : Option (ℕ × List ℕ)) (follows : Option (ℕ × ℕ × List ℕ)) (sent : Option (ℕ × List ℕ)) (node : ℕ → NodeStateValue) (p : PartValue L) (s : State (List ℕ) NodeStateValue) : Type 0 where
+  pub taken : IsTaken pending t part time number e came follows p s
   pub represented : DevicesRepresent t part p.devices node s.port
-  pub does : (d : DevicesValue) (start : Option (ℕ × Start)) → Sends t part node s.port k.time sent d start
-      → Does t part s.node s.port k e d (record { came = came; transmission = start; follows = follows })
+  pub does : (d : DevicesValue) (start : Option (ℕ × Start)) → Sends t part node s.port time sent d start
+      → Does t part s.node s.port time number e d (record { came = came; transmission = start; follows = follows })
 
 -- it was done, but that no transmission started yet
-pub record IsUnderWay {L : Type 0} (pending : L → FinMap key_cmp (Event (List ℕ))) (t : TopologyValue) (part : Option ℕ) (k : Key) (e : Event (List ℕ))
+pub record IsUnderWay {L : Type 0} (pending : L → FinMap key_cmp (Event (List ℕ))) (t : TopologyValue) (part : Option ℕ) (time number : ℕ) (e : Event (List ℕ))
     (done : Done) (p : PartValue L) (s : State (List ℕ) NodeStateValue) : Type 0 where
-  pub taken : IsTaken pending t part k e done.came done.follows p s
-  pub does : Does t part s.node s.port k e p.devices done
+  pub taken : IsTaken pending t part time number e done.came done.follows p s
+  pub does : Does t part s.node s.port time number e p.devices done
 
 -- what became of it: it was done, or is back where it was
-abbrev pub Performed : {L : Type 0} → (L → FinMap key_cmp (Event (List ℕ))) → (L → ℕ) → TopologyValue → Key → Event (List ℕ)
+abbrev pub Performed : {L : Type 0} → (L → FinMap key_cmp (Event (List ℕ))) → (L → ℕ) → TopologyValue → ℕ → ℕ → Event (List ℕ)
     → PartValue L → PartValue L → Result Unit AllocError → Type 0
-Performed pending room t k e old new (Ok u) = ((part : Option ℕ) (s : State (List ℕ) NodeStateValue) → IsReady pending room t part k e old s
+Performed pending room t time number e old new (Ok u) = ((part : Option ℕ) (s : State (List ℕ) NodeStateValue) → IsReady pending room t part time number e old s
     → Represents pending t part new (step (net_of t) (here_of t part) s)) × (new.steps ≡ old.steps + 1) × (new.records.handed ≡ old.records.handed)
-Performed pending room t k e old new (Err x) = ((part : Option ℕ) (s : State (List ℕ) NodeStateValue) → IsReady pending room t part k e old s
+Performed pending room t time number e old new (Err x) = ((part : Option ℕ) (s : State (List ℕ) NodeStateValue) → IsReady pending room t part time number e old s
     → Represents pending t part new s) × (new.steps ≡ old.steps) × (new.records.handed ≡ old.records.handed)
 
 -- what a step answers, and what the part represents after it: that memory was refused only where an event was due
@@ -131,7 +133,7 @@ Advanced pending t part before s old new (Err e) = Represents pending t part new
 
 -- a packet's arrival at an interface, with its number, is pending too
 abbrev pub with_arrival : ℕ → ℕ → ℕ → List ℕ → State (List ℕ) NodeStateValue → State (List ℕ) NodeStateValue
-with_arrival i number time x s = record s { pending = insert s.pending (key_of time (Arrive i) number) (Delivery x) }
+with_arrival i number time x s = record s { pending = insert s.pending (key_of time (Arrive i) number) (Delivery (Arrival i) x) }
 
 -- what node v counted, if it is here
 abbrev pub count_at : TopologyValue → Option ℕ → State (List ℕ) NodeStateValue → ℕ → Counter → Option ℕ

@@ -4,13 +4,11 @@ ghost use Rattle.std.specs.Prelude.{◌≡◌, ℕ, slice_get, slice_index, ◌+
 ghost use Rattle.std.specs.Prelude.{Option, Some, None, OnOk, OnErr, IfOk, IfSome, Ok, Err, length};
 ghost use Rattle.nm_base.specs.declared.limits.TheConstants.{MAX_TIME};
 ghost use Rattle.nm_base.specs.declared.event.Origin.TheVariants.{Arrival, Source as FromSource};
-ghost use Rattle.nm_base.specs.declared.key.Place.TheVariants.{Complete};
 ghost use Rattle.nm_base.specs.declared.event.Event.TheVariants.{Completion};
 ghost use Rattle.nm_model.specs.Network.{node_of};
 ghost use Rattle.nm_model.specs.Port.{Port as PortState, idle_port, waiting_of};
 ghost use Rattle.nm_forward.specs.State.{NodeStateValue, first_state};
 ghost use Rattle.nm_forward.specs.Reaction.{FitsOrigin, sent_of};
-ghost use Rattle.nm_base.specs.Key.{key_of};
 ghost use Rattle.nm_sim.specs.Network.{first_here, is_iface_here as iface_here};
 ghost use Rattle.nm_sim.specs.Network.{is_node_here as node_here, is_source_here as source_here};
 ghost use Rattle.nm_sim.specs.Network.{net_of};
@@ -26,7 +24,7 @@ ghost use Rattle.nm_sim.specs.Effects.{transmission_at as transmission_at_iface}
 
 use crate::fired::Fired;
 use crate::here::{is_iface_here, is_node_here, is_source_here, node_of_source};
-use nm_base::{Event, IfaceNo, Key, NodeNo, Origin, Packet, PartNo, Place, SourceNo, Time};
+use nm_base::{IfaceNo, NodeNo, Origin, Packet, PartNo, SourceNo, Time};
 use nm_forward::laws::a_node_sends_by_its_own_interfaces;
 use nm_forward::{Counter, NodeState, Reaction, react};
 use nm_iface::port::Offered;
@@ -342,7 +340,7 @@ impl Devices {
         };
         self.used = Some(iface);
         let Some(port) = &mut self.ports[iface.index()] else {
-            unreachable!()
+            return None;
         };
         match port.offer(time, twin) {
             Offered::Started(start) => Some((iface, start)),
@@ -375,7 +373,7 @@ impl Devices {
     {
         a_node_sends_by_its_own_interfaces(topology); // law: what is sent leaves by an interface
         let Some(state) = &mut self.nodes[node.index()] else {
-            unreachable!()
+            return Ok(Reaction::Nothing);
         };
         react(alloc, topology, state, origin, packet)
     }
@@ -422,12 +420,11 @@ impl Devices {
         ensures does { (part : Option ℕ) (states : ℕ → NodeStateValue)
             (ports : ℕ → PortState (List ℕ)) (number : ℕ)
             → DevicesRepresent topology.now part self.old states ports
-            → Does topology.now part states ports
-            (key_of time (Complete iface) number) Completion self.new
+            → Does topology.now part states ports time number (Completion iface) self.new
             (record { came = None; transmission = result; follows = None }) }
     {
         let Some(port) = &mut self.ports[iface.index()] else {
-            unreachable!()
+            return None;
         };
         let start = port.done(time);
         transmission_at(iface, start)
@@ -462,7 +459,10 @@ impl Devices {
             packet.now self.new (sent_of f.reaction)) }
     {
         let Some(state) = &self.sources[source.index()] else {
-            unreachable!()
+            return Ok(Fired {
+                reaction: Reaction::Nothing,
+                follows: None,
+            });
         };
         let follows = state.next(alloc, number + 1)?;
         let node = node_of_source(topology, source);

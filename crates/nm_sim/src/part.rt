@@ -4,10 +4,9 @@ ghost use Rattle.std.specs.Prelude.{◌≡◌, ℕ, ◌+◌, ◌<◌, ◌≤◌,
 ghost use Rattle.std.specs.Prelude.{Ok, IfOk, IfSome, OnOk, OnErr, length, replicate};
 ghost use Rattle.nm_base.specs.declared.event.Event.{Event as PendingEvent};
 ghost use Rattle.nm_base.specs.declared.event.Event.TheVariants.{Completion, Delivery};
-ghost use Rattle.nm_base.specs.declared.event.Origin.TheVariants.{Source as FromSource};
+ghost use Rattle.nm_base.specs.declared.event.Origin.TheVariants.{Arrival, Source as FromSource};
 ghost use Rattle.nm_base.specs.declared.key.Key.{Key as EventKey};
-ghost use Rattle.nm_base.specs.declared.key.Place.{Place as EventPlace};
-ghost use Rattle.nm_base.specs.declared.key.Place.TheVariants.{Arrive, Complete, Fire};
+ghost use Rattle.nm_base.specs.declared.key.Place.TheVariants.{Arrive};
 ghost use Rattle.nm_base.specs.declared.limits.TheConstants.{MAX_TIME};
 ghost use Rattle.nm_base.specs.Key.{key_of};
 ghost use Rattle.std.specs.Option.{option_map};
@@ -37,7 +36,9 @@ use crate::outgoing::Outgoing;
 use crate::records::Records;
 use crate::timeline::Timeline;
 use nm_base::limits::MAX_PART_STEPS;
-use nm_base::{ChanNo, Event, IfaceNo, Key, NodeNo, Packet, PartNo, Place, Record, SourceNo, Time};
+use nm_base::{
+    ChanNo, Event, IfaceNo, Key, NodeNo, Origin, Packet, PartNo, Record, SourceNo, Time,
+};
 use nm_events::EventList;
 use nm_forward::{Counter, NodeState, Reaction};
 use nm_iface::Start;
@@ -185,13 +186,9 @@ impl<L: EventList> Part<L> {
         every_state_is_orderly::<Packet, NodeState>(); // law: a state that is told more is orderly
         channels_are_those_of_the_network(topology); // law: what comes in is a channel
         channels_are_numbered_by_their_receivers(topology); // law: its interface is there
-        let place = Place::Arrive(topology.receiver(channel));
-        let key = Key {
-            time,
-            place,
-            number,
-        };
-        self.timeline.put(key, Event::Delivery(packet));
+        let origin = Origin::Arrival(topology.receiver(channel));
+        self.timeline
+            .put(time, number, Event::Delivery(origin, packet));
     }
 
     /// Does the event of the least key, if its time is before `before`, which is at most the
@@ -422,10 +419,11 @@ impl<L: EventList> Part<L> {
         ensures handed { self.new.records.handed ≡ self.old.records.handed }
     {
         accepted_topologies_are_in_order(topology); // law: `stop` is within its limit
-        let Some((key, event)) = self.timeline.take_least() else {
-            unreachable!()
+        let Some(due) = self.timeline.take_least() else {
+            return Ok(());
         };
-        self.dispatch(alloc, topology, key, event)
+        let (time, number, event) = due;
+        self.dispatch(alloc, topology, time, number, event)
     }
 
     /// An event that was taken out happens. An `Err` puts it back.
@@ -434,32 +432,25 @@ impl<L: EventList> Part<L> {
         &mut self,
         alloc: Global,
         topology: &Topology,
-        key: Key,
+        time: Time,
+        number: u64,
         event: Event,
     ) -> Result<(), AllocError>
         requires { (part : Option ℕ) × (s : State (List ℕ) NodeStateValue)
-            × IsReady L.pending L.room topology.now part key event self.old s }
-        ensures { Performed L.pending L.room topology.now key event self.old self.new result }
+            × IsReady L.pending L.room topology.now part time number event self.old s }
+        ensures { Performed L.pending L.room topology.now time number event
+            self.old self.new result }
     {
         accepted_topologies_are_in_order(topology); // law: the far end is there
         source_times_rise(topology); // law: packets have octets
-        let Key {
-            time,
-            place,
-            number,
-        } = key;
         match event {
-            Event::Completion => match place {
-                Place::Complete(iface) => {
-                    self.complete(topology, time, iface);
-                    Ok(())
-                }
-                Place::Arrive(_) | Place::Fire(_) => unreachable!(),
-            },
-            Event::Delivery(packet) => match place {
-                Place::Arrive(iface) => self.arrive(alloc, topology, time, iface, number, packet),
-                Place::Fire(source) => self.fire(alloc, topology, time, source, number, packet),
-                Place::Complete(_) => unreachable!(),
+            Event::Completion(iface) => {
+                self.complete(topology, time, iface);
+                Ok(())
+            }
+            Event::Delivery(origin, packet) => match origin {
+                Origin::Arrival(iface) => self.arrive(alloc, topology, time, iface, number, packet),
+                Origin::Source(source) => self.fire(alloc, topology, time, source, number, packet),
             },
         }
     }
@@ -476,23 +467,17 @@ impl<L: EventList> Part<L> {
         packet: Packet,
     ) -> Result<(), AllocError>
         requires { (part : Option ℕ) × (s : State (List ℕ) NodeStateValue)
-            × IsReady L.pending L.room topology.now part (key_of time (Arrive iface) number)
-            (Delivery packet) self.old s }
-        ensures { Performed L.pending L.room topology.now (key_of time (Arrive iface) number)
-            (Delivery packet)
-            self.old self.new result }
+            × IsReady L.pending L.room topology.now part time number
+            (Delivery (Arrival iface) packet) self.old s }
+        ensures { Performed L.pending L.room topology.now time number
+            (Delivery (Arrival iface) packet) self.old self.new result }
     {
         let Ok(reaction) = self
             .devices
             .react_to_arrival(alloc, topology, iface, &packet)
         else {
-            let place = Place::Arrive(iface);
-            let key = Key {
-                time,
-                place,
-                number,
-            };
-            self.timeline.put(key, Event::Delivery(packet));
+            let event = Event::Delivery(Origin::Arrival(iface), packet);
+            self.timeline.put(time, number, event);
             return Err(AllocError);
         };
         self.records.record_arrival(time, iface, packet);
@@ -504,11 +489,10 @@ impl<L: EventList> Part<L> {
     #[inline(always)]
     fn complete(&mut self, topology: &Topology, time: Time, iface: IfaceNo)
         requires { (number : ℕ) × (part : Option ℕ) × (s : State (List ℕ) NodeStateValue)
-            × IsReady L.pending L.room topology.now part
-            (key_of time (Complete iface) number) Completion self.old s }
-        ensures { (number : ℕ)
-            → Performed L.pending L.room topology.now
-            (key_of time (Complete iface) number) Completion self.old self.new (Ok tt) }
+            × IsReady L.pending L.room topology.now part time number (Completion iface)
+            self.old s }
+        ensures { (number : ℕ) → Performed L.pending L.room topology.now time number
+            (Completion iface) self.old self.new (Ok tt) }
     {
         let start = self.devices.complete(topology, time, iface);
         self.finish(topology, time, start);
@@ -528,28 +512,22 @@ impl<L: EventList> Part<L> {
         requires fits { FitsOrigin topology.now (FromSource source) packet }
         requires number { number < 2 ^ 63 }
         requires ready { (part : Option ℕ) × (s : State (List ℕ) NodeStateValue)
-            × IsReady L.pending L.room topology.now part (key_of time (Fire source) number)
-            (Delivery packet) self.old s }
-        ensures { Performed L.pending L.room topology.now (key_of time (Fire source) number)
-            (Delivery packet)
-            self.old self.new result }
+            × IsReady L.pending L.room topology.now part time number
+            (Delivery (FromSource source) packet) self.old s }
+        ensures { Performed L.pending L.room topology.now time number
+            (Delivery (FromSource source) packet) self.old self.new result }
     {
         every_topology_is_a_network(topology); // law: `net_of` is a network of the model
         new_keys_are_new::<Packet, NodeState>(); // law: no event to come has the next key
-        let place = Place::Fire(source);
-        let key = Key {
-            time,
-            place,
-            number,
-        };
         let Ok(fired) = self
             .devices
             .react_to_source(alloc, topology, source, number, &packet)
         else {
-            self.timeline.put(key, Event::Delivery(packet));
+            let event = Event::Delivery(Origin::Source(source), packet);
+            self.timeline.put(time, number, event);
             return Err(AllocError);
         };
-        self.timeline.schedule_next(key, fired.follows);
+        self.timeline.schedule_next(source, number, fired.follows);
         self.send(topology, time, fired.reaction);
         Ok(())
     }
@@ -565,15 +543,15 @@ impl<L: EventList> Part<L> {
         requires room { 2 ≤ L.room self.old.timeline.events }
         requires channels { HaveSpare self.old.outgoing }
         requires spare { 1 ≤ self.old.records.spare }
-        requires reacted { (part : Option ℕ) × (q : EventPlace) × (n : ℕ)
-            × (e : PendingEvent (List ℕ)) × (came follows : Option (ℕ × List ℕ))
+        requires reacted { (part : Option ℕ) × (n : ℕ) × (e : PendingEvent (List ℕ))
+            × (came : Option (ℕ × List ℕ)) × (follows : Option (ℕ × ℕ × List ℕ))
             × (node : ℕ → NodeStateValue) × (s : State (List ℕ) NodeStateValue)
-            × HasReacted L.pending topology.now part (key_of time q n) e came follows
+            × HasReacted L.pending topology.now part time n e came follows
             (sent_of reaction) node self.old s }
-        ensures represents { (part : Option ℕ) (q : EventPlace) (n : ℕ) (e : PendingEvent (List ℕ))
-            (came follows : Option (ℕ × List ℕ))
+        ensures represents { (part : Option ℕ) (n : ℕ) (e : PendingEvent (List ℕ))
+            (came : Option (ℕ × List ℕ)) (follows : Option (ℕ × ℕ × List ℕ))
             (node : ℕ → NodeStateValue) (s : State (List ℕ) NodeStateValue)
-            → HasReacted L.pending topology.now part (key_of time q n) e came follows
+            → HasReacted L.pending topology.now part time n e came follows
             (sent_of reaction) node self.old s
             → Represents L.pending topology.now part self.new
             (step (net_of topology.now) (here_of topology.now part) s) }
@@ -591,15 +569,15 @@ impl<L: EventList> Part<L> {
         requires room { 2 ≤ L.room self.old.timeline.events }
         requires channels { HaveSpare self.old.outgoing }
         requires spare { 1 ≤ self.old.records.spare }
-        requires under_way { (part : Option ℕ) × (q : EventPlace) × (n : ℕ)
-            × (e : PendingEvent (List ℕ)) × (came follows : Option (ℕ × List ℕ))
+        requires under_way { (part : Option ℕ) × (n : ℕ) × (e : PendingEvent (List ℕ))
+            × (came : Option (ℕ × List ℕ)) × (follows : Option (ℕ × ℕ × List ℕ))
             × (s : State (List ℕ) NodeStateValue)
-            × IsUnderWay L.pending topology.now part (key_of time q n) e
+            × IsUnderWay L.pending topology.now part time n e
             (record { came = came; transmission = start; follows = follows }) self.old s }
-        ensures represents { (part : Option ℕ) (q : EventPlace) (n : ℕ) (e : PendingEvent (List ℕ))
-            (came follows : Option (ℕ × List ℕ))
+        ensures represents { (part : Option ℕ) (n : ℕ) (e : PendingEvent (List ℕ))
+            (came : Option (ℕ × List ℕ)) (follows : Option (ℕ × ℕ × List ℕ))
             (s : State (List ℕ) NodeStateValue)
-            → IsUnderWay L.pending topology.now part (key_of time q n) e
+            → IsUnderWay L.pending topology.now part time n e
             (record { came = came; transmission = start; follows = follows }) self.old s
             → Represents L.pending topology.now part self.new
             (step (net_of topology.now) (here_of topology.now part) s) }

@@ -5,12 +5,15 @@ ghost use Rattle.std.specs.Prelude.{None, OnOk, IfOk, IfSome, IfNone, length, re
 ghost use Rattle.std.specs.Prelude.{slice_index, slice_set};
 ghost use Rattle.std.specs.Option.{option_map};
 ghost use Rattle.std.specs.FinMap.{empty, get, insert, remove};
+ghost use Rattle.nm_base.specs.Event.{event_place};
 ghost use Rattle.nm_base.specs.Key.{key_of};
 ghost use Rattle.nm_base.specs.declared.key.Place.TheVariants.{Arrive};
 ghost use Rattle.nm_base.specs.declared.event.Event.TheVariants.{Delivery};
+ghost use Rattle.nm_base.specs.declared.event.Origin.TheVariants.{Arrival};
 ghost use Rattle.nm_model.specs.EventList.{is_before, least, schedule};
 ghost use Rattle.nm_model.specs.Lists.{set_at};
-ghost use Rattle.nm_model.specs.Run.{first_event, next_events, transmission_events, sent_after};
+ghost use Rattle.nm_model.specs.Run.{by_source, first_event, keyed, next_events, sent_after};
+ghost use Rattle.nm_model.specs.Run.{transmission_events};
 ghost use Rattle.nm_sim.specs.Effects.{TransmitsAt, transmission_of};
 ghost use Rattle.nm_sim.specs.Network.{IsIfaceHere, here_of, net_of};
 ghost use Rattle.nm_sim.specs.Outgoing.{HaveSpare, OutgoingRepresents, channel_count};
@@ -19,7 +22,7 @@ ghost use Rattle.nm_sim.specs.Timelines.{AreFresh, IsFew, TimelineRepresents, ev
 use crate::here::is_iface_here;
 use crate::network::{channels_are_those_of_the_network, every_topology_is_a_network};
 use crate::outgoing::Outgoing;
-use nm_base::{Event, IfaceNo, Key, Packet, PartNo, Place, SourceNo, Time};
+use nm_base::{Event, IfaceNo, Key, Origin, Packet, PartNo, SourceNo, Time};
 use nm_events::EventList;
 use nm_iface::Start;
 use nm_topology::Topology;
@@ -88,11 +91,12 @@ impl<L: EventList> Timeline<L> {
         self.events.is_due(before)
     }
 
-    /// Takes the event of the least key out.
-    pub fn take_least(&mut self) -> Option<(Key, Event)>
-        ensures least { result ≡ least (L.pending self.old.events) }
-        ensures rest { IfSome result
-            (λ e. L.pending self.new.events ≡ remove (L.pending self.old.events) e.0) }
+    /// Takes the event of the least key out: its time, its number, and the event.
+    pub fn take_least(&mut self) -> Option<(Time, u64, Event)>
+        ensures least { option_map (λ e. keyed e.0 e.1 e.2) result
+            ≡ least (L.pending self.old.events) }
+        ensures rest { IfSome result (λ e. L.pending self.new.events
+            ≡ remove (L.pending self.old.events) (key_of e.0 (event_place e.2) e.1)) }
         ensures none { IfNone result (L.pending self.new.events ≡ L.pending self.old.events) }
         ensures room { IfSome result (λ e. L.room self.new.events ≡ L.room self.old.events + 1) }
         ensures others { self.new ≡ record self.old { events = self.new.events } }
@@ -100,15 +104,17 @@ impl<L: EventList> Timeline<L> {
         self.events.take_least()
     }
 
-    /// Puts an event under a key that has none.
-    pub fn put(&mut self, key: Key, event: Event)
-        requires fresh { get (L.pending self.old.events) key ≡ None }
+    /// Adds an event, whose key none has.
+    pub fn put(&mut self, time: Time, number: u64, event: Event)
+        requires fresh { get (L.pending self.old.events) (key_of time (event_place event) number)
+            ≡ None }
         requires room { 1 ≤ L.room self.old.events }
-        ensures events { L.pending self.new.events ≡ insert (L.pending self.old.events) key event }
+        ensures events { L.pending self.new.events
+            ≡ insert (L.pending self.old.events) (key_of time (event_place event) number) event }
         ensures room { L.room self.old.events ≤ L.room self.new.events + 1 }
         ensures others { self.new ≡ record self.old { events = self.new.events } }
     {
-        self.events.put(key, event);
+        self.events.put(time, number, event);
     }
 
     /// A source's first packet is to come, if it has one.
@@ -121,41 +127,32 @@ impl<L: EventList> Timeline<L> {
     {
         if let Some(next) = first {
             let (time, packet) = next;
-            let place = Place::Fire(source);
-            let key = Key {
-                time,
-                place,
-                number: 0,
-            };
-            self.events.put(key, Event::Delivery(packet.into_packet()));
+            let event = Event::Delivery(Origin::Source(source), packet.into_packet());
+            self.events.put(time, 0, event);
         }
     }
 
-    /// The source's next packet is to come, if there is one.
-    pub fn schedule_next(&mut self, key: Key, follows: Option<(Time, SourcePacket)>)
-        requires number { key.number < 2 ^ 63 }
+    /// The source's next packet is to come, if there is one, after that of this number.
+    pub fn schedule_next(
+        &mut self,
+        source: SourceNo,
+        number: u64,
+        follows: Option<(Time, SourcePacket)>,
+    )
+        requires number { number < 2 ^ 63 }
         requires room { 1 ≤ L.room self.old.events }
         requires fresh { AreFresh (L.pending self.old.events)
-            (next_events key.place key.number follows) }
+            (next_events number (by_source source follows)) }
         ensures events { L.pending self.new.events
-            ≡ schedule everywhere (next_events key.place key.number follows)
+            ≡ schedule everywhere (next_events number (by_source source follows))
             (L.pending self.old.events) }
         ensures room { L.room self.old.events ≤ L.room self.new.events + 1 }
         ensures others { self.new ≡ record self.old { events = self.new.events } }
     {
         if let Some(next) = follows {
             let (time, packet) = next;
-            let Key {
-                time: _,
-                place,
-                number,
-            } = key;
-            let key = Key {
-                time,
-                place,
-                number: number + 1,
-            };
-            self.events.put(key, Event::Delivery(packet.into_packet()));
+            let event = Event::Delivery(Origin::Source(source), packet.into_packet());
+            self.events.put(time, number + 1, event);
         }
     }
 
@@ -180,39 +177,39 @@ impl<L: EventList> Timeline<L> {
         part: &Option<PartNo>,
         outgoing: &mut Outgoing,
         iface: IfaceNo,
-        key: Key,
+        peer: IfaceNo,
+        time: Time,
+        number: u64,
         packet: Packet,
     )
         requires here { IsIfaceHere topology.now part.now iface }
-        requires place { key.place ≡ Arrive ((net_of topology.now).peer iface) }
+        requires peer { peer ≡ (net_of topology.now).peer iface }
+        requires within { peer < length topology.now.ifaces }
         requires count { length outgoing.old.channels ≡ channel_count topology.now part.now }
         requires room { 1 ≤ L.room self.old.events }
         requires spare { HaveSpare outgoing.old }
-        requires fresh { get (L.pending self.old.events) key ≡ None }
+        requires fresh { get (L.pending self.old.events) (key_of time (Arrive peer) number)
+            ≡ None }
         ensures events { L.pending self.new.events
-            ≡ schedule (here_of topology.now part.now) ((key, Delivery packet) ∷ [])
+            ≡ schedule (here_of topology.now part.now)
+            (keyed time number (Delivery (Arrival peer) packet) ∷ [])
             (L.pending self.old.events) }
         ensures room { L.room self.old.events ≤ L.room self.new.events + 1 }
         ensures sent { self.new.sent ≡ self.old.sent }
         ensures outgoing { (sent : ℕ → List (ℕ × List ℕ))
             → OutgoingRepresents topology.now part.now outgoing.old sent
             → OutgoingRepresents topology.now part.now outgoing.new
-            (set_at sent ((net_of topology.now).peer iface)
-            (sent ((net_of topology.now).peer iface) ++ (key.time, packet) ∷ [])) }
+            (set_at sent peer (sent peer ++ (time, packet) ∷ [])) }
     {
         every_topology_is_a_network(topology); // law: links have two ends
-        accepted_topologies_are_in_order(topology); // law: the peer is there
         channels_are_those_of_the_network(topology); // law: links between partitions
         channels_are_numbered_by_their_receivers(topology); // law: channels have numbers
-        let peer = topology.iface(iface).far().peer;
         if is_iface_here(topology, part, peer) {
-            self.events.put(key, Event::Delivery(packet));
-            return;
+            let event = Event::Delivery(Origin::Arrival(peer), packet);
+            self.events.put(time, number, event);
+        } else if let Some(channel) = topology.channel_of(peer) {
+            outgoing.put(channel, time, packet);
         }
-        let Some(channel) = topology.channel_of(peer) else {
-            unreachable!()
-        };
-        outgoing.put(channel, key.time, packet);
     }
 
     /// A transmission starts, if one does: its completion is to come, and its arrival is to come or
@@ -259,18 +256,11 @@ impl<L: EventList> Timeline<L> {
             completes,
             arrives,
         } = start;
-        let arrival = Key {
-            time: arrives,
-            place: Place::Arrive(peer),
-            number,
-        };
-        self.schedule_arrival(topology, part, outgoing, iface, arrival, twin.packet);
-        let completion = Key {
-            time: completes,
-            place: Place::Complete(iface),
-            number,
-        };
-        self.events.put(completion, Event::Completion);
+        let packet = twin.packet;
+        self.schedule_arrival(
+            topology, part, outgoing, iface, peer, arrives, number, packet,
+        );
+        self.events.put(completes, number, Event::Completion(iface));
         Some((iface, twin.copy))
     }
 }

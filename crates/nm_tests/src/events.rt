@@ -3,7 +3,7 @@
 ghost use Rattle.std.specs.Prelude.{◌≡◌};
 ghost use Rattle.std.specs.FinMap.{empty};
 
-use nm_base::{Event, IfaceNo, Key, Place, Time};
+use nm_base::{Event, IfaceNo, Time};
 use nm_events::{EventList, HeapList, SortedList};
 use std::alloc::AllocError;
 use std::process::Abort;
@@ -23,12 +23,8 @@ fn fill<L: EventList>(list: &mut L, count: u64) -> Result<(), AllocError>
     let mut time: u64 = 1;
     for number in 0..count {
         time = (time * 1_664_525 + 1_013_904_223) % PERIOD;
-        let key = Key {
-            time: Time::from_nanoseconds(time),
-            place: Place::Complete(IfaceNo::new(0)),
-            number,
-        };
-        list.put(key, Event::Completion);
+        let event = Event::Completion(IfaceNo::new(0));
+        list.put(Time::from_nanoseconds(time), number, event);
     }
     Ok(())
 }
@@ -40,11 +36,11 @@ fn leaves_in_order<L: EventList>(list: &mut L, count: u64) -> bool {
         let Some(entry) = list.take_least() else {
             return false;
         };
-        let (key, _event) = entry;
-        if key.time < last {
+        let (time, _, _) = entry;
+        if time < last {
             return false;
         }
-        last = key.time;
+        last = time;
     }
     list.is_empty()
 }

@@ -6,4 +6,4 @@ pub returns-clause-fresh : goal.returns-clause-fresh
 returns-clause-fresh g c = λ net ok here by s h e l m f a. laws.made_fresh net ok here by s h e l m f a
 
 pub returns-clause-apart : goal.returns-clause-apart
-returns-clause-apart g c = λ net ok s e m n f h lt a b. made_apart net ok s e m n f h lt a b
+returns-clause-apart g c = λ net ok s e m n f h lt a b. made_apart net s e m n f h lt a b

@@ -10,4 +10,4 @@ pub returns-clause-opens : goal.returns-clause-opens
 returns-clause-opens g c = λ net here d t n. no_source net 0 (key_of t (Arrive d) n) d refl here _ ∙ get_empty (key_of t (Arrive d) n)
 
 pub returns-clause-steps : goal.returns-clause-steps
-returns-clause-steps g c = λ net ok p s h d t n ch none. untold_step net ok p s h.own d t n ch none
+returns-clause-steps g c = λ net ok p s h d t n ch none. untold_step net ok p s h d t n ch none

@@ -9,8 +9,8 @@ use Rattle.nm_sim.proofs.Doings.{busy_member, completes_by}
 use Rattle.nm_sim.proofs.Tables.{all_set, member_within}
 use Rattle.nm_sim.proofs.devices.Devices.complete.Goals as goal
 
-pub invariant_of-self : goal.invariant_of-self
-invariant_of-self c =
+pub invariant_of-self-2 : goal.invariant_of-self-2
+invariant_of-self-2 c =
     let member = busy_member _ (subst (λ (v : DevicesValue). IsBusy (slice_get v.ports c.args.iface)) (sym c.self.view_is) c.requires.busy) in
     let within : c.args.iface < length c.self.inside.ports.items = member_within c.self.inside.ports.items c.args.iface member in
     let here : slice_get c.self.inside.ports.items c.args.iface ≡ Some c.index_mut.result.now = search (rules, slice_get_read) in

@@ -30,8 +30,8 @@ offer-requires-clause-room c =
     let here : slice_get c.self.inside.ports.items c.in-Send.iface ≡ Some c.index_mut.result.now = search (rules, slice_get_read) in
     room c.in-Send.iface (Some c.in-Some.port) (here ∙ ap Some c.in-Some.is)
 
-pub invariant_of-self : goal.invariant_of-self
-invariant_of-self c =
+pub invariant_of-self-in-Started : goal.invariant_of-self-in-Started
+invariant_of-self-in-Started c =
     let room = subst (λ (v : DevicesValue). AllSome (λ i w. 1 ≤ w.room) v.ports) (sym c.self.view_is) c.requires.room in
     room_but c.in-Send.iface c.self.inside.ports.items c.index.result c.offer.new.self room c.index.ensures
 

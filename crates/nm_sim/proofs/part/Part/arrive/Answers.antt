@@ -1,7 +1,7 @@
 use Rattle.std.proofs.Common.{Some, None, refl, sym, ap, ◌∙◌, subst}
 use Rattle.nm_base.specs.declared.event.Event.TheVariants.{Delivery}
-use Rattle.nm_base.specs.declared.key.Place.TheVariants.{Arrive}
-use Rattle.nm_base.specs.Key.{key_of}
+use Rattle.nm_base.specs.declared.event.Origin.TheVariants.{Arrival}
+use Rattle.nm_model.specs.Run.{keyed}
 use Rattle.nm_forward.specs.Reaction.{sent_of}
 use Rattle.nm_sim.specs.Part.{IsReady, PartValue}
 use Rattle.nm_sim.proofs.Parts.{represents_again}
@@ -13,23 +13,22 @@ pub react_to_arrival-requires-clause-place : goal.react_to_arrival-requires-clau
 react_to_arrival-requires-clause-place g c =
     let part = c.requires.0 in
     let s = c.requires.1 in
-    let ready = subst (λ (p : PartValue g.row.L.Denot). IsReady g.L.EventList.pending g.L.EventList.room c.args.topology.now part (key_of c.args.time (Arrive c.args.iface) c.args.number) (Delivery c.args.packet) p s) (sym c.self.view_is) c.requires.2 in
-    let there = least_has s.pending (key_of c.args.time (Arrive c.args.iface) c.args.number, Delivery c.args.packet) ready.taken.first in
-    port_is_kept c.args.topology.now part s ready.taken.orderly c.self.inside.devices ready.devices c.args.iface c.args.time c.args.number (Delivery c.args.packet) there (ready.taken.placed _ _ there)
+    let ready = subst (λ (p : PartValue g.row.L.Denot). IsReady g.L.EventList.pending g.L.EventList.room c.args.topology.now part c.args.time c.args.number (Delivery (Arrival c.args.iface) c.args.packet) p s) (sym c.self.view_is) c.requires.2 in
+    let there = least_has s.pending (keyed c.args.time c.args.number (Delivery (Arrival c.args.iface) c.args.packet)) ready.taken.first in
+    port_is_kept c.args.topology.now part s ready.taken.orderly c.self.inside.devices ready.devices c.args.iface c.args.time c.args.number (Delivery (Arrival c.args.iface) c.args.packet) there (ready.taken.placed _ _ there)
 
 pub put-requires-clause-fresh : goal.put-requires-clause-fresh
 put-requires-clause-fresh g c =
     let p : PartValue g.row.L.Denot = record { part = c.self.inside.part; devices = c.self.inside.devices; timeline = c.self.inside.timeline; outgoing = c.self.inside.outgoing; records = c.self.inside.records; steps = c.self.inside.steps } in
-    let k = key_of c.args.time (Arrive c.args.iface) c.args.number in
-    let ready = subst (λ (p : PartValue g.row.L.Denot). IsReady g.L.EventList.pending g.L.EventList.room c.args.topology.now c.requires.0 k (Delivery c.args.packet) p c.requires.1) (sym c.self.view_is) c.requires.2 in
-    key_is_free g.L.EventList.pending c.args.topology.now c.requires.0 k (Delivery c.args.packet) p c.requires.1 ready.taken
+    let ready = subst (λ (p : PartValue g.row.L.Denot). IsReady g.L.EventList.pending g.L.EventList.room c.args.topology.now c.requires.0 c.args.time c.args.number (Delivery (Arrival c.args.iface) c.args.packet) p c.requires.1) (sym c.self.view_is) c.requires.2 in
+    key_is_free g.L.EventList.pending c.args.topology.now c.requires.0 c.args.time c.args.number (Delivery (Arrival c.args.iface) c.args.packet) p c.requires.1 ready.taken
 
 pub returns-in_default : goal.returns-in_default
 returns-in_default g c = rw (← c.self.view_is) (
   λ part s ready.
       let p : PartValue g.row.L.Denot = record { part = c.self.inside.part; devices = c.self.inside.devices; timeline = c.self.inside.timeline; outgoing = c.self.inside.outgoing; records = c.self.inside.records; steps = c.self.inside.steps } in
       let q : PartValue g.row.L.Denot = record { part = c.self.inside.part; devices = c.react_to_arrival.new.self; timeline = c.put.new.self; outgoing = c.self.inside.outgoing; records = c.self.inside.records; steps = c.self.inside.steps } in
-      represents_again g.L.EventList.pending c.args.topology.now part (key_of c.args.time (Arrive c.args.iface) c.args.number) (Delivery c.args.packet) p q
+      represents_again g.L.EventList.pending c.args.topology.now part c.args.time c.args.number (Delivery (Arrival c.args.iface) c.args.packet) p q
       (record { is_part = refl; sent = ap (λ l. l.sent) c.put.ensures.others; outgoing = refl; steps = refl }) s ready.taken ready.devices
       c.in_default.ensures.err refl c.put.ensures.events,
   refl,
@@ -42,11 +41,10 @@ send-requires-clause-reacted g c =
     let s = c.requires.1 in
     let p : PartValue g.row.L.Denot = record { part = c.self.inside.part; devices = c.self.inside.devices; timeline = c.self.inside.timeline; outgoing = c.self.inside.outgoing; records = c.self.inside.records; steps = c.self.inside.steps } in
     let q : PartValue g.row.L.Denot = record { part = c.self.inside.part; devices = c.react_to_arrival.new.self; timeline = c.self.inside.timeline; outgoing = c.self.inside.outgoing; records = c.record_arrival.new.self; steps = c.self.inside.steps } in
-    let ready = subst (λ (p : PartValue g.row.L.Denot). IsReady g.L.EventList.pending g.L.EventList.room c.args.topology.now part (key_of c.args.time (Arrive c.args.iface) c.args.number) (Delivery c.args.packet) p s) (sym c.self.view_is) c.requires.2 in (
+    let ready = subst (λ (p : PartValue g.row.L.Denot). IsReady g.L.EventList.pending g.L.EventList.room c.args.topology.now part c.args.time c.args.number (Delivery (Arrival c.args.iface) c.args.packet) p s) (sym c.self.view_is) c.requires.2 in (
       part,
-      Arrive c.args.iface,
       c.args.number,
-      Delivery c.args.packet,
+      Delivery (Arrival c.args.iface) c.args.packet,
       Some (c.args.iface, c.args.packet),
       None,
       _,
@@ -60,7 +58,7 @@ returns g c = rw (← c.self.view_is) (
   λ part s ready.
       let p : PartValue g.row.L.Denot = record { part = c.self.inside.part; devices = c.self.inside.devices; timeline = c.self.inside.timeline; outgoing = c.self.inside.outgoing; records = c.self.inside.records; steps = c.self.inside.steps } in
       let q : PartValue g.row.L.Denot = record { part = c.self.inside.part; devices = c.react_to_arrival.new.self; timeline = c.self.inside.timeline; outgoing = c.self.inside.outgoing; records = c.record_arrival.new.self; steps = c.self.inside.steps } in
-      c.send.ensures.represents part (Arrive c.args.iface) c.args.number (Delivery c.args.packet) (Some (c.args.iface, c.args.packet)) None _ s
+      c.send.ensures.represents part c.args.number (Delivery (Arrival c.args.iface) c.args.packet) (Some (c.args.iface, c.args.packet)) None _ s
       (arrives_on g.L.EventList.pending g.L.EventList.room c.args.topology.now part c.args.time c.args.number p q (record { is_part = refl; sent = refl; outgoing = refl; steps = refl }) s c.args.packet (sent_of c.in-Ok.reaction) c.args.iface
       ready (c.in-Ok.ensures.reacts part s.node s.port ready.devices) refl (c.record_arrival.ensures.represents c.args.topology.now)),
   c.send.ensures.steps,

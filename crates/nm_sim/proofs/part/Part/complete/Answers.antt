@@ -1,7 +1,6 @@
 use Rattle.std.proofs.Common.{None, refl, sym, subst}
 use Rattle.nm_base.specs.declared.event.Event.TheVariants.{Completion}
-use Rattle.nm_base.specs.declared.key.Place.TheVariants.{Complete}
-use Rattle.nm_base.specs.Key.{key_of}
+use Rattle.nm_model.specs.Run.{keyed}
 use Rattle.nm_sim.specs.Part.{IsReady, PartValue}
 use Rattle.nm_sim.proofs.Steps.{is_busy, least_has}
 use Rattle.nm_sim.proofs.Takings.{taken_same}
@@ -11,9 +10,9 @@ pub complete-start-requires-clause-busy : goal.complete-start-requires-clause-bu
 complete-start-requires-clause-busy g c =
     let part = c.requires.1 in
     let s = c.requires.2 in
-    let ready = subst (λ (p : PartValue g.row.L.Denot). IsReady g.L.EventList.pending g.L.EventList.room c.args.topology.now part (key_of c.args.time (Complete c.args.iface) c.requires.0) Completion p s) (sym c.self.view_is) c.requires.3 in
-    let there = least_has s.pending (key_of c.args.time (Complete c.args.iface) c.requires.0, Completion) ready.taken.first in
-    is_busy c.args.topology.now part s ready.taken.orderly c.self.inside.devices ready.devices c.args.iface c.args.time c.requires.0 Completion there (ready.taken.placed _ _ there)
+    let ready = subst (λ (p : PartValue g.row.L.Denot). IsReady g.L.EventList.pending g.L.EventList.room c.args.topology.now part c.args.time c.requires.0 (Completion c.args.iface) p s) (sym c.self.view_is) c.requires.3 in
+    let there = least_has s.pending (keyed c.args.time c.requires.0 (Completion c.args.iface)) ready.taken.first in
+    is_busy c.args.topology.now part s ready.taken.orderly c.self.inside.devices ready.devices c.args.iface c.args.time c.requires.0 (Completion c.args.iface) there (ready.taken.placed _ _ there)
 
 pub finish-requires-clause-under_way : goal.finish-requires-clause-under_way
 finish-requires-clause-under_way g c =
@@ -21,17 +20,15 @@ finish-requires-clause-under_way g c =
     let s = c.requires.2 in
     let p : PartValue g.row.L.Denot = record { part = c.self.inside.part; devices = c.self.inside.devices; timeline = c.self.inside.timeline; outgoing = c.self.inside.outgoing; records = c.self.inside.records; steps = c.self.inside.steps } in
     let q : PartValue g.row.L.Denot = record { part = c.self.inside.part; devices = c.complete-start.new.self; timeline = c.self.inside.timeline; outgoing = c.self.inside.outgoing; records = c.self.inside.records; steps = c.self.inside.steps } in
-    let k = key_of c.args.time (Complete c.args.iface) c.requires.0 in
-    let ready = subst (λ (p : PartValue g.row.L.Denot). IsReady g.L.EventList.pending g.L.EventList.room c.args.topology.now part k Completion p s) (sym c.self.view_is) c.requires.3 in (
+    let ready = subst (λ (p : PartValue g.row.L.Denot). IsReady g.L.EventList.pending g.L.EventList.room c.args.topology.now part c.args.time c.requires.0 (Completion c.args.iface) p s) (sym c.self.view_is) c.requires.3 in (
       part,
-      Complete c.args.iface,
       c.requires.0,
-      Completion,
+      Completion c.args.iface,
       None,
       None,
       s,
       record {
-        taken = taken_same g.L.EventList.pending c.args.topology.now part k Completion p q (record { is_part = refl; sent = refl; outgoing = refl; steps = refl }) s ready.taken refl refl;
+        taken = taken_same g.L.EventList.pending c.args.topology.now part c.args.time c.requires.0 (Completion c.args.iface) p q (record { is_part = refl; sent = refl; outgoing = refl; steps = refl }) s ready.taken refl refl;
         does = c.complete-start.ensures.does part s.node s.port c.requires.0 ready.devices;
       },
     )
@@ -41,10 +38,9 @@ returns g c = rw (← c.self.view_is) (λ number. (
   λ part s ready.
       let p : PartValue g.row.L.Denot = record { part = c.self.inside.part; devices = c.self.inside.devices; timeline = c.self.inside.timeline; outgoing = c.self.inside.outgoing; records = c.self.inside.records; steps = c.self.inside.steps } in
       let q : PartValue g.row.L.Denot = record { part = c.self.inside.part; devices = c.complete-start.new.self; timeline = c.self.inside.timeline; outgoing = c.self.inside.outgoing; records = c.self.inside.records; steps = c.self.inside.steps } in
-      let k = key_of c.args.time (Complete c.args.iface) number in
-      c.finish.ensures.represents part (Complete c.args.iface) number Completion None None s
+      c.finish.ensures.represents part number (Completion c.args.iface) None None s
       (record {
-        taken = taken_same g.L.EventList.pending c.args.topology.now part k Completion p q (record { is_part = refl; sent = refl; outgoing = refl; steps = refl }) s ready.taken refl refl;
+        taken = taken_same g.L.EventList.pending c.args.topology.now part c.args.time number (Completion c.args.iface) p q (record { is_part = refl; sent = refl; outgoing = refl; steps = refl }) s ready.taken refl refl;
         does = c.complete-start.ensures.does part s.node s.port number ready.devices;
       }),
   c.finish.ensures.steps,

@@ -1,7 +1,7 @@
 use Rattle.std.proofs.Common.{◌≡◌, ◌+◌, suc, None, refl, sym, ap, ◌∙◌, subst, arith}
 use Rattle.nm_base.specs.declared.event.Event.TheVariants.{Delivery}
-use Rattle.nm_base.specs.declared.key.Place.TheVariants.{Fire}
-use Rattle.nm_base.specs.Key.{key_of}
+use Rattle.nm_base.specs.declared.event.Origin.TheVariants.{Source}
+use Rattle.nm_model.specs.Run.{by_source, keyed}
 use Rattle.nm_forward.specs.Reaction.{sent_of}
 use Rattle.nm_traffic.specs.Source.{source_at}
 use Rattle.nm_sim.specs.Network.{here_of, net_of}
@@ -16,25 +16,24 @@ pub react_to_source-requires-clause-place : goal.react_to_source-requires-clause
 react_to_source-requires-clause-place g c =
     let part = c.requires.ready.0 in
     let s = c.requires.ready.1 in
-    let ready = subst (λ (p : PartValue g.row.L.Denot). IsReady g.L.EventList.pending g.L.EventList.room c.args.topology.now part (key_of c.args.time (Fire c.args.source) c.args.number) (Delivery c.args.packet) p s) (sym c.self.view_is) c.requires.ready.2 in
-    let there = least_has s.pending (key_of c.args.time (Fire c.args.source) c.args.number, Delivery c.args.packet) ready.taken.first in
-    source_is_kept c.args.topology.now part s ready.taken.orderly c.self.inside.devices ready.devices c.args.source c.args.time c.args.number (Delivery c.args.packet) there (ready.taken.placed _ _ there)
+    let ready = subst (λ (p : PartValue g.row.L.Denot). IsReady g.L.EventList.pending g.L.EventList.room c.args.topology.now part c.args.time c.args.number (Delivery (Source c.args.source) c.args.packet) p s) (sym c.self.view_is) c.requires.ready.2 in
+    let there = least_has s.pending (keyed c.args.time c.args.number (Delivery (Source c.args.source) c.args.packet)) ready.taken.first in
+    source_is_kept c.args.topology.now part s ready.taken.orderly c.self.inside.devices ready.devices c.args.source c.args.time c.args.number (Delivery (Source c.args.source) c.args.packet) there (ready.taken.placed _ _ there)
 
 pub put-requires-clause-fresh : goal.put-requires-clause-fresh
 put-requires-clause-fresh g c =
     let part = c.requires.ready.0 in
     let s = c.requires.ready.1 in
     let p : PartValue g.row.L.Denot = record { part = c.self.inside.part; devices = c.self.inside.devices; timeline = c.self.inside.timeline; outgoing = c.self.inside.outgoing; records = c.self.inside.records; steps = c.self.inside.steps } in
-    let k = key_of c.args.time (Fire c.args.source) c.args.number in
-    let ready = subst (λ (p : PartValue g.row.L.Denot). IsReady g.L.EventList.pending g.L.EventList.room c.args.topology.now part k (Delivery c.args.packet) p s) (sym c.self.view_is) c.requires.ready.2 in
-    key_is_free g.L.EventList.pending c.args.topology.now part k (Delivery c.args.packet) p s ready.taken
+    let ready = subst (λ (p : PartValue g.row.L.Denot). IsReady g.L.EventList.pending g.L.EventList.room c.args.topology.now part c.args.time c.args.number (Delivery (Source c.args.source) c.args.packet) p s) (sym c.self.view_is) c.requires.ready.2 in
+    key_is_free g.L.EventList.pending c.args.topology.now part c.args.time c.args.number (Delivery (Source c.args.source) c.args.packet) p s ready.taken
 
 pub returns-in_default : goal.returns-in_default
 returns-in_default g c = rw (← c.self.view_is) (
   λ part s ready.
       let p : PartValue g.row.L.Denot = record { part = c.self.inside.part; devices = c.self.inside.devices; timeline = c.self.inside.timeline; outgoing = c.self.inside.outgoing; records = c.self.inside.records; steps = c.self.inside.steps } in
       let q : PartValue g.row.L.Denot = record { part = c.self.inside.part; devices = c.react_to_source.new.self; timeline = c.put.new.self; outgoing = c.self.inside.outgoing; records = c.self.inside.records; steps = c.self.inside.steps } in
-      represents_again g.L.EventList.pending c.args.topology.now part (key_of c.args.time (Fire c.args.source) c.args.number) (Delivery c.args.packet) p q
+      represents_again g.L.EventList.pending c.args.topology.now part c.args.time c.args.number (Delivery (Source c.args.source) c.args.packet) p q
       (record { is_part = refl; sent = ap (λ l. l.sent) c.put.ensures.others; outgoing = refl; steps = refl }) s ready.taken ready.devices
       c.in_default.ensures.err refl c.put.ensures.events,
   refl,
@@ -49,14 +48,13 @@ schedule_next-requires-clause-fresh g c =
     let net = net_of t in
     let isnet = c.every_topology_is_a_network.ensures.network in
     let p : PartValue g.row.L.Denot = record { part = c.self.inside.part; devices = c.self.inside.devices; timeline = c.self.inside.timeline; outgoing = c.self.inside.outgoing; records = c.self.inside.records; steps = c.self.inside.steps } in
-    let k = key_of c.args.time (Fire c.args.source) c.args.number in
-    let e = Delivery c.args.packet in
-    let ready = subst (λ (p : PartValue g.row.L.Denot). IsReady g.L.EventList.pending g.L.EventList.room t part k (Delivery c.args.packet) p s) (sym c.self.view_is) c.requires.ready.2 in
-    let fresh = c.new_keys_are_new.ensures.fresh net isnet (here_of t part) (here_by_node t part) s ready.taken.orderly (k, e) ready.taken.first in
-    let apart = c.new_keys_are_new.ensures.apart net isnet s (k, e) in
+    let e = Delivery (Source c.args.source) c.args.packet in
+    let ready = subst (λ (p : PartValue g.row.L.Denot). IsReady g.L.EventList.pending g.L.EventList.room t part c.args.time c.args.number (Delivery (Source c.args.source) c.args.packet) p s) (sym c.self.view_is) c.requires.ready.2 in
+    let fresh = c.new_keys_are_new.ensures.fresh net isnet (here_of t part) (here_by_node t part) s ready.taken.orderly (keyed c.args.time c.args.number e) ready.taken.first in
+    let apart = c.new_keys_are_new.ensures.apart net isnet s (keyed c.args.time c.args.number e) in
     let n : c.args.number + 1 ≡ suc c.args.number = omega arith in
-    follows_fresh g.L.EventList.pending t part k e p s c.in-Ok.fired.follows
-    (c.in-Ok.ensures.follows ∙ ap (source_at t c.args.source) n ∙ fires_next t s c.args.time c.args.source c.args.number c.args.packet) fresh apart ready.taken
+    follows_fresh g.L.EventList.pending t part c.args.time c.args.number e p s (by_source c.args.source c.in-Ok.fired.follows)
+    (ap (by_source c.args.source) (c.in-Ok.ensures.follows ∙ ap (source_at t c.args.source) n) ∙ fires_next t s c.args.time c.args.source c.args.number c.args.packet) fresh apart ready.taken
 
 pub send-requires-clause-reacted : goal.send-requires-clause-reacted
 send-requires-clause-reacted g c =
@@ -65,14 +63,13 @@ send-requires-clause-reacted g c =
     let t = c.args.topology.now in
     let p : PartValue g.row.L.Denot = record { part = c.self.inside.part; devices = c.self.inside.devices; timeline = c.self.inside.timeline; outgoing = c.self.inside.outgoing; records = c.self.inside.records; steps = c.self.inside.steps } in
     let q : PartValue g.row.L.Denot = record { part = c.self.inside.part; devices = c.react_to_source.new.self; timeline = c.schedule_next.new.self; outgoing = c.self.inside.outgoing; records = c.self.inside.records; steps = c.self.inside.steps } in
-    let ready = subst (λ (p : PartValue g.row.L.Denot). IsReady g.L.EventList.pending g.L.EventList.room t part (key_of c.args.time (Fire c.args.source) c.args.number) (Delivery c.args.packet) p s) (sym c.self.view_is) c.requires.ready.2 in
+    let ready = subst (λ (p : PartValue g.row.L.Denot). IsReady g.L.EventList.pending g.L.EventList.room t part c.args.time c.args.number (Delivery (Source c.args.source) c.args.packet) p s) (sym c.self.view_is) c.requires.ready.2 in
     let n : c.args.number + 1 ≡ suc c.args.number = omega arith in (
       part,
-      Fire c.args.source,
       c.args.number,
-      Delivery c.args.packet,
+      Delivery (Source c.args.source) c.args.packet,
       None,
-      c.in-Ok.fired.follows,
+      by_source c.args.source c.in-Ok.fired.follows,
       _,
       s,
       fires_on g.L.EventList.pending g.L.EventList.room t part c.args.time c.args.number p q (record { is_part = refl; sent = ap (λ l. l.sent) c.schedule_next.ensures.others; outgoing = refl; steps = refl }) s c.args.packet (sent_of c.in-Ok.fired.reaction) c.args.source c.in-Ok.fired.follows
@@ -86,7 +83,7 @@ returns g c = rw (← c.self.view_is) (
       let p : PartValue g.row.L.Denot = record { part = c.self.inside.part; devices = c.self.inside.devices; timeline = c.self.inside.timeline; outgoing = c.self.inside.outgoing; records = c.self.inside.records; steps = c.self.inside.steps } in
       let q : PartValue g.row.L.Denot = record { part = c.self.inside.part; devices = c.react_to_source.new.self; timeline = c.schedule_next.new.self; outgoing = c.self.inside.outgoing; records = c.self.inside.records; steps = c.self.inside.steps } in
       let n : c.args.number + 1 ≡ suc c.args.number = omega arith in
-      c.send.ensures.represents part (Fire c.args.source) c.args.number (Delivery c.args.packet) None c.in-Ok.fired.follows _ s
+      c.send.ensures.represents part c.args.number (Delivery (Source c.args.source) c.args.packet) None (by_source c.args.source c.in-Ok.fired.follows) _ s
       (fires_on g.L.EventList.pending g.L.EventList.room t part c.args.time c.args.number p q (record { is_part = refl; sent = ap (λ l. l.sent) c.schedule_next.ensures.others; outgoing = refl; steps = refl }) s c.args.packet (sent_of c.in-Ok.fired.reaction) c.args.source c.in-Ok.fired.follows
       ready (c.in-Ok.ensures.reacts part s.node s.port ready.devices) (c.in-Ok.ensures.follows ∙ ap (source_at t c.args.source) n) c.schedule_next.ensures.events refl),
   c.send.ensures.steps,

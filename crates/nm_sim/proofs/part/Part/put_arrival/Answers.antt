@@ -1,6 +1,7 @@
 use Rattle.std.proofs.Common.{◌≡◌, ◌<◌, Some, length, refl, sym, ap, ◌∙◌, subst}
 use Rattle.std.specs.FinMap.{insert}
 use Rattle.nm_base.specs.declared.event.Event.TheVariants.{Delivery}
+use Rattle.nm_base.specs.declared.event.Origin.TheVariants.{Arrival}
 use Rattle.nm_base.specs.declared.key.Place.TheVariants.{Arrive}
 use Rattle.nm_base.specs.Key.{key_of}
 use Rattle.nm_topology.specs.Topology.{receiving_iface}
@@ -23,4 +24,4 @@ returns-clause-arrival g c = rw (← c.self.view_is) (λ part s h.
     represents_told g.L.EventList.pending t part i c.args.number c.args.time c.args.packet p q
     (record { is_part = refl; sent = ap (λ l. l.sent) c.put.ensures.others; outgoing = refl; steps = refl }) s h
     (c.every_state_is_orderly.ensures.told (net_of t) (here_of t part) s h.orderly i c.args.time c.args.number c.args.packet both.0 both.1) within refl refl
-    (c.put.ensures.events ∙ ap (λ j. insert (g.L.EventList.pending c.self.inside.timeline.events) (key_of c.args.time (Arrive j) c.args.number) (Delivery c.args.packet)) c.receiver.ensures))
+    (c.put.ensures.events ∙ ap (λ j. insert (g.L.EventList.pending c.self.inside.timeline.events) (key_of c.args.time (Arrive j) c.args.number) (Delivery (Arrival j) c.args.packet)) c.receiver.ensures))

@@ -1,7 +1,8 @@
-use Rattle.std.proofs.Common.{◌≡◌, ◌+◌, None, [], ◌∷◌, ◌++◌, slice_index, slice_set, refl, sym, ap, ◌∙◌, subst, arith}
+use Rattle.std.proofs.Common.{◌≡◌, ℕ, ◌+◌, None, [], ◌∷◌, ◌++◌, slice_index, slice_set, refl, sym, ap, ◌∙◌, subst, arith}
 use Rattle.std.specs.FinMap.{get, insert}
 use Rattle.std.specs.Option.{IfSome}
 use Rattle.nm_base.specs.declared.event.Event.TheVariants.{Completion, Delivery}
+use Rattle.nm_base.specs.declared.event.Origin.TheVariants.{Arrival}
 use Rattle.nm_base.specs.declared.key.Place.TheVariants.{Arrive, Complete}
 use Rattle.nm_base.specs.Key.{key_of}
 use Rattle.nm_model.specs.EventList.{schedule}
@@ -28,9 +29,15 @@ take_number-number-requires-clause-count g c =
     let few = c.requires.numbered.2 c.far-peer.result.peer in
     omega (arith, number, few)
 
-pub schedule_arrival-requires-clause-place : goal.schedule_arrival-requires-clause-place
-schedule_arrival-requires-clause-place g c =
-    ap Arrive (ap (λ f. f.peer) c.far-peer.ensures ∙ sym (peer_is c.args.topology.now c.in_ok-iface.iface c.iface.result.now c.iface.ensures))
+pub schedule_arrival-requires-clause-peer : goal.schedule_arrival-requires-clause-peer
+schedule_arrival-requires-clause-peer g c =
+    ap (λ f. f.peer) c.far-peer.ensures ∙ sym (peer_is c.args.topology.now c.in_ok-iface.iface c.iface.result.now c.iface.ensures)
+
+pub schedule_arrival-requires-clause-within : goal.schedule_arrival-requires-clause-within
+schedule_arrival-requires-clause-within g c =
+    let linked = c.accepted_topologies_are_in_order.ensures.order.linked c.in_ok-iface.iface c.iface.result.now c.iface.ensures in
+    let peer = ap (λ f. f.peer) c.far-peer.ensures in
+    omega (arith, linked.within, peer)
 
 pub schedule_arrival-requires-clause-fresh : goal.schedule_arrival-requires-clause-fresh
 schedule_arrival-requires-clause-fresh g c =
@@ -57,7 +64,7 @@ put-requires-clause-fresh g c =
     let before : get (g.L.EventList.pending c.take_number-number.new.self.events) (key_of c.in_ok-iface.start.completes (Complete c.in_ok-iface.iface) c.take_number-number.result) ≡ None
     = (λ k. get (g.L.EventList.pending (c.take_number-number.ensures.events k)) (key_of c.in_ok-iface.start.completes (Complete c.in_ok-iface.iface) (c.take_number-number.ensures.number k))) ∙ free in
     still_free (here_of t c.args.part.now) (g.L.EventList.pending c.take_number-number.new.self.events) (g.L.EventList.pending c.self.inside.events)
-    (key_of c.in_ok-iface.start.arrives (Arrive c.far-peer.result.peer) c.take_number-number.result) (Delivery c.in_ok-iface.start.twin.packet)
+    (key_of c.in_ok-iface.start.arrives (Arrive c.far-peer.result.peer) c.take_number-number.result) (Delivery (Arrival c.far-peer.result.peer) c.in_ok-iface.start.twin.packet)
     c.in_ok-iface.start.completes c.in_ok-iface.iface c.take_number-number.result c.far-peer.result.peer refl
     (ap (λ (l : TimelineValue g.row.L.Denot). g.L.EventList.pending l.events) c.self.view_is ∙ c.schedule_arrival.ensures.events) before
 
@@ -68,16 +75,16 @@ returns-clause-events g c = λ sent numbered.
     let peer = ap (λ f. f.peer) c.far-peer.ensures in
     let transmits = subst (λ o. IfSome o (TransmitsAt t c.args.part.now c.args.time)) c.in_ok-iface.was c.requires.transmits in
     let middle : g.L.EventList.pending c.self.inside.events
-    ≡ schedule (here_of t c.args.part.now) ((key_of c.in_ok-iface.start.arrives (Arrive c.far-peer.result.peer) (slice_index c.args.self.now.sent c.far-peer.result.peer), Delivery c.in_ok-iface.start.twin.packet) ∷ [])
+    ≡ schedule (here_of t c.args.part.now) ((key_of c.in_ok-iface.start.arrives (Arrive c.far-peer.result.peer) (slice_index c.args.self.now.sent c.far-peer.result.peer), Delivery (Arrival c.far-peer.result.peer) c.in_ok-iface.start.twin.packet) ∷ [])
     (g.L.EventList.pending c.args.self.now.events)
     = ap (λ (l : TimelineValue g.row.L.Denot). g.L.EventList.pending l.events) c.self.view_is ∙ c.schedule_arrival.ensures.events
-    ∙ (λ k. schedule (here_of t c.args.part.now) ((key_of c.in_ok-iface.start.arrives (Arrive c.far-peer.result.peer) (c.take_number-number.ensures.number k), Delivery c.in_ok-iface.start.twin.packet) ∷ [])
+    ∙ (λ k. schedule (here_of t c.args.part.now) ((key_of c.in_ok-iface.start.arrives (Arrive c.far-peer.result.peer) (c.take_number-number.ensures.number k), Delivery (Arrival c.far-peer.result.peer) c.in_ok-iface.start.twin.packet) ∷ [])
     (g.L.EventList.pending (c.take_number-number.ensures.events k))) in
     subst (λ o. g.L.EventList.pending c.put.new.self ≡ schedule (here_of t c.args.part.now) (transmission_events (net_of t) c.args.time sent (transmission_of o)) (g.L.EventList.pending c.args.self.now.events))
     (sym c.in_ok-iface.was)
     (begun_events t c.args.self.now c.args.time sent numbered c.args.part.now c.in_ok-iface.iface c.in_ok-iface.start transmits
     c.far-peer.result.peer (peer_is t c.in_ok-iface.iface c.iface.result.now c.iface.ensures ∙ sym peer) (omega (arith, linked.within, peer)) _ _ _ middle
-    (c.put.ensures.pending ∙ ap (λ n. insert (g.L.EventList.pending c.self.inside.events) (key_of c.in_ok-iface.start.completes (Complete c.in_ok-iface.iface) n) Completion) c.take_number-number.ensures.number))
+    (c.put.ensures.pending ∙ ap (λ n. insert (g.L.EventList.pending c.self.inside.events) (key_of c.in_ok-iface.start.completes (Complete c.in_ok-iface.iface) n) (Completion c.in_ok-iface.iface)) c.take_number-number.ensures.number))
 
 pub returns-clause-numbered : goal.returns-clause-numbered
 returns-clause-numbered g c = λ sent numbered.
@@ -95,8 +102,8 @@ returns-clause-numbered g c = λ sent numbered.
 pub returns-clause-outgoing : goal.returns-clause-outgoing
 returns-clause-outgoing g c = λ sent h.
     let t = c.args.topology.now in
+    let far : c.far-peer.result.peer ≡ (net_of t).peer c.in_ok-iface.iface = ap (λ f. f.peer) c.far-peer.ensures ∙ sym (peer_is t c.in_ok-iface.iface c.iface.result.now c.iface.ensures) in
     let transmits = subst (λ o. IfSome o (TransmitsAt t c.args.part.now c.args.time)) c.in_ok-iface.was c.requires.transmits in
     subst (λ o. OutgoingRepresents t c.args.part.now c.schedule_arrival.new.outgoing (sent_after (net_of t) c.args.time sent (transmission_of o))) (sym c.in_ok-iface.was)
-    (subst (λ a. OutgoingRepresents t c.args.part.now c.schedule_arrival.new.outgoing
-    (set_at sent ((net_of t).peer c.in_ok-iface.iface) (sent ((net_of t).peer c.in_ok-iface.iface) ++ (a, c.in_ok-iface.start.twin.packet) ∷ [])))
-    (arrives_at t c.args.part.now c.args.time c.in_ok-iface.iface c.in_ok-iface.start transmits) (c.schedule_arrival.ensures.outgoing sent h))
+    (subst (λ (a : ℕ × ℕ). OutgoingRepresents t c.args.part.now c.schedule_arrival.new.outgoing (set_at sent a.0 (sent a.0 ++ (a.1, c.in_ok-iface.start.twin.packet) ∷ [])))
+    (λ k. (far k, arrives_at t c.args.part.now c.args.time c.in_ok-iface.iface c.in_ok-iface.start transmits k)) (c.schedule_arrival.ensures.outgoing sent h))
