@@ -37,10 +37,10 @@ pub(crate) struct Connections<W> {
     /// On how many connections the peer said Hello, and how many of these broke.
     pub begun: u64,
     pub broken: u64,
-    /// Which messages were written on connections that are gone, where that is noted, and how many
-    /// of those on them had been written to the same replica before.
-    told: Option<ToldBefore>,
-    resent: u64,
+    /// It is noted which messages are written, since figures are asked for; and which were written
+    /// on connections that are gone.
+    is_noted: bool,
+    told: ToldBefore,
 }
 
 /// Calls a peer if it is to be called, as far as the transport lets it.
@@ -98,11 +98,12 @@ fn keep<T: Transport, C: Counts>(
     Ok(())
 }
 
-/// Which messages were written on connections that are gone: none so far. It is noted where figures
-/// are asked for.
-fn told_before<C: Counts>(alloc: Global, service: &Service<'_, C>) -> Option<ToldBefore> {
-    let _ = service.progress?.figures()?;
-    Some(ToldBefore::new(alloc))
+/// Whether it is noted which messages are written: where figures are asked for.
+fn is_noted<C: Counts>(service: &Service<'_, C>) -> bool {
+    match service.progress {
+        Some(progress) => progress.figures().is_some(),
+        None => false,
+    }
 }
 
 /// Where it is noted which messages are written: none so far.
@@ -142,8 +143,8 @@ impl<W> Connections<W> {
             accepted: 0,
             begun: 0,
             broken: 0,
-            told: told_before(alloc, service),
-            resent: 0,
+            is_noted: is_noted(service),
+            told: ToldBefore::new(alloc),
         })
     }
 
@@ -303,6 +304,7 @@ impl<W> Connections<W> {
     ) -> Result<(), AllocError>
         ensures { T.elapsed_periods transport.new ≡ T.elapsed_periods transport.old }
     {
+        let is_noted = self.is_noted;
         for peer in 0..self.peers.len() {
             dial(
                 alloc,
@@ -310,7 +312,7 @@ impl<W> Connections<W> {
                 &mut self.open,
                 &mut self.peers[peer],
                 peer,
-                self.told.is_some(),
+                is_noted,
             )?;
         }
         Ok(())
@@ -345,7 +347,7 @@ impl<W> Connections<W> {
                 &mut self.open,
                 self.accepted,
                 wire,
-                self.told.is_some(),
+                self.is_noted,
             )?;
         }
         Ok(())
@@ -456,12 +458,13 @@ impl<W> Connections<W> {
     {
         let connection = self.open.try_remove(key)?;
         let name = connection.link.greeted_by();
+        let told_to = connection.link.greeted_by();
         let peer = connection.peer;
         let (wire, session) = connection.link.back();
         let has_written = wire.has_written();
         let (mut wire, told) = wire.into_parts();
         transport.unwatch(&mut wire);
-        self.keep_told(name, told);
+        self.told.keep(told_to, told);
         Some(Remains {
             peer,
             session,
@@ -470,26 +473,16 @@ impl<W> Connections<W> {
         })
     }
 
-    /// A connection is gone on which these messages were written.
-    fn keep_told(&mut self, name: Option<ReplicaName>, told: Option<Told>)
-        ensures { self.new.open ≡ self.old.open }
-    {
-        if let (Some(before), Some(name), Some(told)) = (&mut self.told, name, told) {
-            self.resent = self.resent.saturating_add(before.again(&name, &told));
-            before.keep(name, told);
-        }
-    }
-
     /// How many of the messages that were written had been written to the same replica on an
     /// earlier connection, where that is noted.
     pub(crate) fn resent(&self) -> u64 {
-        let Some(before) = &self.told else {
+        if !self.is_noted {
             return 0;
-        };
-        let mut count = self.resent;
+        }
+        let mut count = self.told.resent();
         for key in 0..self.open.capacity() {
             if let Some(connection) = self.open.get(key) {
-                count = count.saturating_add(connection.resent(before));
+                count = count.saturating_add(connection.resent(&self.told));
             }
         }
         count

@@ -80,6 +80,8 @@ impl Told {
 #[derive(Drop)]
 pub struct ToldBefore {
     all: Vec<(ReplicaName, Told)>,
+    /// How many of them had been written to the same replica on one before.
+    resent: u64,
 }
 
 impl ToldBefore {
@@ -87,11 +89,18 @@ impl ToldBefore {
     pub fn new(alloc: Global) -> Self {
         ToldBefore {
             all: Vec::new(alloc),
+            resent: 0,
         }
     }
 
-    /// A connection to this replica is gone, on which these were written.
-    pub fn keep(&mut self, name: ReplicaName, told: Told) {
+    /// How many of them had been written to the same replica on one before.
+    pub fn resent(&self) -> u64 {
+        self.resent
+    }
+
+    /// A connection to a replica is gone, on which these were written.
+    fn keep_of(&mut self, name: ReplicaName, told: Told) {
+        self.resent = self.resent.saturating_add(self.again(&name, &told));
         for (other, all) in self.all.iter_mut() {
             if *other == name {
                 all.merge(&told);
@@ -99,6 +108,16 @@ impl ToldBefore {
             }
         }
         let _ = self.all.push((name, told));
+    }
+
+    /// A connection is gone: which replica the peer was, if that came to be known, and what was
+    /// written, if that was noted.
+    pub fn keep(&mut self, name: Option<ReplicaName>, told: Option<Told>) {
+        if let Some(name) = name {
+            if let Some(told) = told {
+                self.keep_of(name, told);
+            }
+        }
     }
 
     /// How many of those that were written on a connection to this replica had been written to it
