@@ -18,6 +18,6 @@ loop-number-preserved g c =
     let before = c.loop-number.invariant in
     record {
       room = omega (arith, before.room, c.put.ensures.room);
-      fresh = λ q h. ap (λ m. get m q) c.put.ensures.pending ∙ not_yet _ _ q _ (before.fresh q (omega (arith, h))) (omega (arith, h, c.key.ensures));
+      fresh = λ q h. ap (λ m. get m q) c.put.ensures.pending ∙ not_yet _ _ q _ (before.fresh q (omega (arith, h))) (omega (arith, h));
       random = c.next-random.ensures;
     }
