@@ -37,7 +37,8 @@ pub trait EventList: Sized {
         ensures room { OnOk result (count ≤ room self.new) }
         ensures keeps { room self.old ≤ room self.new };
 
-    /// Adds an event, which comes at this time, as this one of its place. No other has its key.
+    /// Adds an event. Its key, which no other event has, is this time, its own place and this
+    /// number.
     fn put(&mut self, time: Time, number: u64, event: Event)
         requires fresh { get (pending self.old) (key_of time (event_place event) number) ≡ None }
         requires room { 1 ≤ room self.old }

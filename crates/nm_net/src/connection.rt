@@ -8,7 +8,7 @@ use crate::counting::Frames;
 use crate::lasting::Lasted;
 use crate::limits::STRANGER_PERIODS;
 use crate::moved::CountingWire;
-use crate::told::ToldBefore;
+use crate::written::WrittenBefore;
 use nm_engine::Link;
 use nm_frames::{ReplicaName, Session};
 
@@ -113,9 +113,9 @@ impl<W> Connection<W> {
 
     /// How many of the messages that were written had been written to the same replica on one of
     /// the connections that are gone.
-    pub(crate) fn resent(&self, before: &ToldBefore) -> u64 {
-        match (self.link.greeted_by(), self.link.wire().told()) {
-            (Some(name), Some(told)) => before.again(&name, told),
+    pub(crate) fn resent(&self, before: &WrittenBefore) -> u64 {
+        match (self.link.greeted_by(), self.link.wire().messages()) {
+            (Some(name), Some(messages)) => before.resent_to(&name, messages),
             _ => 0,
         }
     }

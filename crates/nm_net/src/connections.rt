@@ -17,8 +17,8 @@ use crate::limits::{MAX_ACCEPTED, MAX_STRANGERS};
 use crate::moved::CountingWire;
 use crate::replica::Service;
 use crate::served::{Served, break_served};
-use crate::told::{Told, ToldBefore};
 use crate::transport::Transport;
+use crate::written::{WrittenBefore, WrittenMessages};
 use nm_engine::{Acceptor, Cause, Link, Turn};
 use nm_frames::ReplicaName;
 use nm_shared::Counts;
@@ -40,7 +40,7 @@ pub(crate) struct Connections<W> {
     /// It is noted which messages are written, since figures are asked for; and which were written
     /// on connections that are gone.
     is_noted: bool,
-    told: ToldBefore,
+    written: WrittenBefore,
 }
 
 /// Calls a peer if it is to be called, as far as the transport lets it.
@@ -67,7 +67,7 @@ fn dial<T: Transport>(
     let Some(session) = dialing.give() else {
         return Ok(());
     };
-    let wire = CountingWire::new(wire, first_told(alloc, is_noted));
+    let wire = CountingWire::new(wire, first_written(alloc, is_noted));
     let link = Link::connected(alloc, wire, session);
     open.insert_reserved(Connection::called(link, peer, !dialing.has_ended()));
     Ok(())
@@ -92,7 +92,7 @@ fn keep<T: Transport, C: Counts>(
         return Ok(());
     }
     let acceptor = Acceptor::new(topology, service.partition, service.replica);
-    let wire = CountingWire::new(wire, first_told(alloc, is_noted));
+    let wire = CountingWire::new(wire, first_written(alloc, is_noted));
     let link = Link::accepted(alloc, wire, acceptor);
     open.insert_reserved(Connection::accepted(link, came));
     Ok(())
@@ -107,9 +107,9 @@ fn is_noted<C: Counts>(service: &Service<'_, C>) -> bool {
 }
 
 /// Where it is noted which messages are written: none so far.
-fn first_told(alloc: Global, is_noted: bool) -> Option<Told> {
+fn first_written(alloc: Global, is_noted: bool) -> Option<WrittenMessages> {
     if is_noted {
-        Some(Told::new(alloc))
+        Some(WrittenMessages::new(alloc))
     } else {
         None
     }
@@ -144,7 +144,7 @@ impl<W> Connections<W> {
             begun: 0,
             broken: 0,
             is_noted: is_noted(service),
-            told: ToldBefore::new(alloc),
+            written: WrittenBefore::new(alloc),
         })
     }
 
@@ -458,13 +458,13 @@ impl<W> Connections<W> {
     {
         let connection = self.open.try_remove(key)?;
         let name = connection.link.greeted_by();
-        let told_to = connection.link.greeted_by();
+        let written_to = connection.link.greeted_by();
         let peer = connection.peer;
         let (wire, session) = connection.link.back();
         let has_written = wire.has_written();
-        let (mut wire, told) = wire.into_parts();
+        let (mut wire, messages) = wire.into_parts();
         transport.unwatch(&mut wire);
-        self.told.keep(told_to, told);
+        self.written.keep(written_to, messages);
         Some(Remains {
             peer,
             session,
@@ -479,10 +479,10 @@ impl<W> Connections<W> {
         if !self.is_noted {
             return 0;
         }
-        let mut count = self.told.resent();
+        let mut count = self.written.resent();
         for key in 0..self.open.capacity() {
             if let Some(connection) = self.open.get(key) {
-                count = count.saturating_add(connection.resent(&self.told));
+                count = count.saturating_add(connection.resent(&self.written));
             }
         }
         count

@@ -2,7 +2,7 @@
 
 ghost use Rattle.std.specs.Prelude.{◌≤◌};
 
-use crate::told::Told;
+use crate::written::WrittenMessages;
 
 /// The octets of a frame before its body: its length, which counts what follows it, and its kind.
 const HEAD_OCTETS: u32 = 5;
@@ -62,7 +62,7 @@ pub struct FrameCounter {
     rest: u64,
     frames: Frames,
     /// Which messages passed, where that is noted.
-    told: Option<Told>,
+    written: Option<WrittenMessages>,
 }
 
 /// A number, the most significant octet first, with one more octet.
@@ -72,7 +72,7 @@ fn with_octet(number: u64, octet: u8) -> u64 {
 
 impl FrameCounter {
     /// Nothing has passed. Which messages pass is noted, or is not.
-    pub fn new(told: Option<Told>) -> Self {
+    pub fn new(written: Option<WrittenMessages>) -> Self {
         FrameCounter {
             count: 0,
             length: 0,
@@ -81,7 +81,7 @@ impl FrameCounter {
             number: 0,
             rest: 0,
             frames: Frames::NONE,
-            told,
+            written,
         }
     }
 
@@ -91,13 +91,13 @@ impl FrameCounter {
     }
 
     /// Which messages passed, where that is noted.
-    pub fn told(&self) -> Option<&Told> {
-        self.told.as_ref()
+    pub fn written(&self) -> Option<&WrittenMessages> {
+        self.written.as_ref()
     }
 
     /// The same, and nothing more is counted.
-    pub fn into_told(self) -> Option<Told> {
-        self.told
+    pub fn into_written(self) -> Option<WrittenMessages> {
+        self.written
     }
 
     /// One more octet of a frame is looked at.
@@ -113,7 +113,7 @@ impl FrameCounter {
 
     /// How many octets of a frame are looked at, by those that passed.
     fn looked_at(&self) -> u32 {
-        if self.count >= HEAD_OCTETS && self.kind == DATA && self.told.is_some() {
+        if self.count >= HEAD_OCTETS && self.kind == DATA && self.written.is_some() {
             DATA_OCTETS
         } else {
             HEAD_OCTETS
@@ -127,9 +127,9 @@ impl FrameCounter {
             NULL => self.frames.nulls = self.frames.nulls.saturating_add(1),
             _ => {}
         }
-        if let Some(told) = &mut self.told {
+        if let Some(written) = &mut self.written {
             if self.kind == DATA {
-                told.note(self.channel, self.number);
+                written.note(self.channel, self.number);
             }
         }
     }

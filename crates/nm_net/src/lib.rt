@@ -25,8 +25,8 @@ mod staying;
 pub mod tcp_transport;
 pub mod tcp_wire;
 mod telling;
-mod told;
 pub mod transport;
+mod written;
 
 pub use lending::Lending;
 pub use replica::{Holdings, Service, run_replica};

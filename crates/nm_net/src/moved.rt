@@ -3,7 +3,7 @@
 ghost use Rattle.std.specs.Prelude.{◌≡◌, ℕ, List};
 
 use crate::counting::{FrameCounter, Frames};
-use crate::told::Told;
+use crate::written::WrittenMessages;
 use nm_base::Wire;
 use nm_base::wire::{Read, Written};
 use std::marker::Model;
@@ -35,14 +35,14 @@ impl<W> Model for CountingWire<W> {
 
 impl<W> CountingWire<W> {
     /// None has moved. Which messages are written is noted, or is not.
-    pub fn new(wire: W, told: Option<Told>) -> Self
+    pub fn new(wire: W, messages: Option<WrittenMessages>) -> Self
         ensures { result ≡ wire }
     {
         CountingWire {
             wire,
             came: 0,
             written: 0,
-            frames: FrameCounter::new(told),
+            frames: FrameCounter::new(messages),
             is_ready: AtomicBool::new(true),
             has_ended: false,
         }
@@ -79,15 +79,15 @@ impl<W> CountingWire<W> {
     }
 
     /// The wire, and which messages were written, where that is noted.
-    pub fn into_parts(self) -> (W, Option<Told>)
+    pub fn into_parts(self) -> (W, Option<WrittenMessages>)
         ensures { result.0 ≡ self }
     {
-        (self.wire, self.frames.into_told())
+        (self.wire, self.frames.into_written())
     }
 
     /// Which messages were written, where that is noted.
-    pub fn told(&self) -> Option<&Told> {
-        self.frames.told()
+    pub fn messages(&self) -> Option<&WrittenMessages> {
+        self.frames.written()
     }
 
     /// Nothing more has come: the wire is asked again once it is reported.

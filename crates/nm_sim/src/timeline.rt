@@ -104,7 +104,8 @@ impl<L: EventList> Timeline<L> {
         self.events.take_least()
     }
 
-    /// Adds an event, whose key none has.
+    /// Adds an event. Its key, which no other event has, is this time, its own place and this
+    /// number.
     pub fn put(&mut self, time: Time, number: u64, event: Event)
         requires fresh { get (L.pending self.old.events) (key_of time (event_place event) number)
             ≡ None }
