@@ -68,6 +68,7 @@ pub enum Reaction {
 ///
 /// Where memory for the packet was refused. The state is as it was.
 #[tactic(auto, unfolding(crate::specs::Reaction::reaction))]
+#[inline(always)]
 pub fn react(
     alloc: Global,
     topology: &Topology,
@@ -90,6 +91,7 @@ pub fn react(
 
 /// What the node does with a packet that arrives.
 #[tactic(auto, unfolding(crate::specs::Reaction::arrived))]
+#[inline(always)]
 fn receive(
     alloc: Global,
     topology: &Topology,
@@ -112,6 +114,7 @@ fn receive(
 }
 
 /// Prepares what follows a row. The state stays as it is.
+#[inline(always)]
 fn prepare_consequence(
     alloc: Global,
     topology: &Topology,
@@ -147,6 +150,7 @@ fn prepare_consequence(
 }
 
 /// Counts what was prepared, and hands over what is sent.
+#[inline(always)]
 fn carry_out(state: &mut NodeState, prepared: Prepared) -> Reaction
     ensures { (state.new, sent_of result) ≡ concluded (consequence prepared) state.old }
 {

@@ -72,6 +72,7 @@ impl Row<'_> {
 
 /// The row of a packet that passed the header test.
 #[tactic(auto, unfolding(crate::specs::Row::packet_row))]
+#[inline(always)]
 pub fn packet_row<'a>(state: &NodeState, packet: &Ipv4View<'a>) -> Row<'a>
     ensures row { result
         ≡ packet_row state.now.table (fields_of packet.now) (payload_of packet.now) }
@@ -89,6 +90,7 @@ pub fn packet_row<'a>(state: &NodeState, packet: &Ipv4View<'a>) -> Row<'a>
 
 /// The row of a packet for another node, to which this route leads. The time to live is tested
 /// last.
+#[inline(always)]
 fn transit_row(kind: NodeKind, route: Option<IfaceNo>, time_to_live: u8) -> Row<'static>
     ensures row { result ≡ transit_row kind route time_to_live }
     ensures possible { IsPossible result time_to_live }

@@ -125,6 +125,7 @@ impl Port {
     ///
     /// `AllocError` where the queue could not grow. Nothing changed then, but that there may be
     /// more room.
+    #[inline(always)]
     pub fn reserve_one(&mut self) -> Result<(), AllocError>
         ensures same { self.new ≡ record self.old { room = self.new.room } }
         ensures room { OnOk result (1 ≤ self.new.room) }
@@ -138,6 +139,7 @@ impl Port {
     /// An idle port starts it. Behind a busy one it waits where fewer packets than the limit wait,
     /// and their octets and its own are at most the limit in octets, if there is one; else it is
     /// dropped. It takes no memory.
+    #[inline(always)]
     pub fn offer(&mut self, now: Time, twin: Twin) -> Offered
         requires now { now ≤ MAX_TIME }
         requires room { 1 ≤ self.old.room }
@@ -171,6 +173,7 @@ impl Port {
 
     /// The transmission under way is complete, and that of the packet at the front of the queue
     /// starts, if one waits. It takes no memory.
+    #[inline(always)]
     pub fn done(&mut self, now: Time) -> Option<Start>
         requires now { now ≤ MAX_TIME }
         requires busy { IsSome self.old.busy }
@@ -221,6 +224,7 @@ impl Port {
 }
 
 /// The transmission that starts now, over a link with this rate and delay.
+#[inline(always)]
 fn transmission(rate: u64, delay: u64, now: Time, twin: Twin) -> Start
     requires least { 1 ≤ rate }
     requires greatest { rate ≤ MAX_RATE }

@@ -73,6 +73,7 @@ impl<'a> Model for Ipv4View<'a> {
 }
 
 /// The octets of the header, as its field says in words of four octets.
+#[inline(always)]
 fn header_length(octets: &[u8]) -> usize
     requires { 0 < length octets.now }
     ensures { result ≡ header_length_of octets.now }
@@ -81,6 +82,7 @@ fn header_length(octets: &[u8]) -> usize
 }
 
 /// The packet at the front of these octets, or the first test that fails.
+#[inline(always)]
 fn tested(octets: &[u8]) -> Result<Ipv4View<'_>, HeaderFault>
     ensures exact { MatchResult result
         (λ v. (header_fault octets.now ≡ None) × (v ≡ cut_of octets.now))
@@ -112,6 +114,7 @@ fn tested(octets: &[u8]) -> Result<Ipv4View<'_>, HeaderFault>
 impl Ipv4 {
     /// The packet at the front of these octets, which are lent and not copied. What follows its
     /// total length is left out.
+    #[inline(always)]
     pub fn read(octets: &[u8]) -> Result<Ipv4View<'_>, HeaderFault>
         // What is read is a packet, spelled by its fields and its payload.
         ensures found { IfOk result (λ v. IsIpv4 (fields_of v) (payload_of v) v) }

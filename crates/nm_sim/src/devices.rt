@@ -305,6 +305,7 @@ impl Devices {
     /// # Errors
     ///
     /// `AllocError` where a queue could not grow. Nothing else changed then.
+    #[inline(always)]
     pub fn reserve(&mut self) -> Result<(), AllocError>
         ensures same { IsSame self.old self.new }
         ensures room { OnOk result (AllSome (λ i w. 1 ≤ w.room) self.new.ports) }
@@ -349,6 +350,7 @@ impl Devices {
     }
 
     /// What a node does with a packet. An `Err` changes nothing.
+    #[inline(always)]
     fn react(
         &mut self,
         alloc: Global,
@@ -380,6 +382,7 @@ impl Devices {
 
     /// What the node of an interface does with a packet that arrives there. An `Err` changes
     /// nothing.
+    #[inline(always)]
     pub fn react_to_arrival(
         &mut self,
         alloc: Global,
@@ -409,6 +412,7 @@ impl Devices {
 
     /// A transmission is complete, and that of the packet that waits first starts, if one does:
     /// which, and where.
+    #[inline(always)]
     pub fn complete(
         &mut self,
         topology: &Topology,

@@ -356,6 +356,7 @@ impl<L: EventList> Part<L> {
 
     /// Takes the first record of the trace out that is kept, if there is one. It takes no memory,
     /// and gives that of the record to the caller.
+    #[inline(always)]
     pub fn hand_out(&mut self) -> Option<Record>
         requires { (t : TopologyValue) × (part : Option ℕ) × (s : State (List ℕ) NodeStateValue)
             × Represents L.pending t part self.old s }
@@ -534,6 +535,7 @@ impl<L: EventList> Part<L> {
 
     /// The event that is under way is done: what its node sends is offered to a port, and a
     /// transmission starts, if one does.
+    #[inline(always)]
     fn send(&mut self, topology: &Topology, time: Time, reaction: Reaction)
         requires time { time ≤ MAX_TIME }
         requires own { IfSome (sent_of reaction)

@@ -88,6 +88,7 @@ impl Records {
     /// # Errors
     ///
     /// `AllocError` where the list could not grow. Nothing else changed then.
+    #[inline(always)]
     pub fn reserve(&mut self) -> Result<(), AllocError>
         ensures same { self.new ≡ record self.old { spare = self.new.spare } }
         ensures spare { OnOk result (2 ≤ self.new.spare) }
@@ -96,6 +97,7 @@ impl Records {
     }
 
     /// One more record.
+    #[inline(always)]
     fn add(&mut self, record: Record)
         requires { 1 ≤ self.old.spare }
         ensures kept { self.new.kept ≡ self.old.kept ++ «record» ∷ [] }
@@ -116,6 +118,7 @@ impl Records {
     }
 
     /// A packet arrived.
+    #[inline(always)]
     pub fn record_arrival(&mut self, time: Time, iface: IfaceNo, packet: Packet)
         requires { 1 ≤ self.old.spare }
         ensures represents { (t : TopologyValue) (trace : List (TraceRecord (List ℕ)))
@@ -134,6 +137,7 @@ impl Records {
     }
 
     /// A transmission started, if one did.
+    #[inline(always)]
     pub fn record_transmission(&mut self, time: Time, transmitted: Option<(IfaceNo, Packet)>)
         requires { 1 ≤ self.old.spare }
         ensures represents { (t : TopologyValue) (trace : List (TraceRecord (List ℕ)))
@@ -154,6 +158,7 @@ impl Records {
     }
 
     /// Takes the first record out that is kept, if there is one. It takes no memory.
+    #[inline(always)]
     pub fn hand_out(&mut self) -> Option<Record>
         requires { self.old.handed + length self.old.kept < 2 ^ 64 }
         ensures first { result ≡ slice_get self.old.kept 0 }
@@ -172,6 +177,7 @@ impl Records {
 
     /// Takes the first record out. Of a short list the others move up; else a blank stands in its
     /// place.
+    #[inline(always)]
     fn take_first(&mut self) -> Record
         requires there { 1 ≤ length self.old.kept }
         requires few { self.old.handed + length self.old.kept < 2 ^ 64 }
@@ -192,6 +198,7 @@ impl Records {
 
     /// Gives the places of blanks back to the list where they are half of it at least, so that a
     /// record is moved once on the average.
+    #[inline(always)]
     fn give_back(&mut self)
         ensures same { self.new ≡ record self.old { spare = self.new.spare } }
         ensures spare { self.old.spare ≤ self.new.spare }
