@@ -6,6 +6,7 @@ use Rattle.std.proofs.lemmas.List.{get_or-drop, get_or-take, get_or_past, length
 use Rattle.std.proofs.lemmas.List.Elements.{All-get_or}
 use Rattle.std.proofs.Math.ListN.{drop_of_length-le}
 use Rattle.std.specs.Int.{w16, w32, w64, from_be_bytes}
+use Rattle.nm_base.specs.declared.limits.TheConstants.{MAX_BODY_OCTETS}
 use Rattle.nm_frames.specs.declared.frame.Frame.{Frame}
 use Rattle.nm_frames.specs.declared.frame.Frame.TheVariants.{Bye}
 use Rattle.nm_frames.specs.declared.fault.FrameFault.{FrameFault}
@@ -51,7 +52,7 @@ is_bye k n fields e h = is_eq n 1 (subst (λ (x : ℕ). fits_kind x n fields ≡
 the_last : (k : ℕ) → 1 ≤ k → k ≤ 5 → (k == 1) ≡ false → (k == 2) ≡ false → (k == 3) ≡ false → (k == 4) ≡ false → k ≡ 5
 the_last k least most a b c d = grind (arith, nat_tests, least, most, a, b, c, d)
 
-module _ (b : List ℕ) (small : Octets b) (most : length b ≤ 65556) (fits : fits_kind (get_or b 0 0) (length b) (drop 1 b) ≡ true) where
+module _ (b : List ℕ) (small : Octets b) (most : length b ≤ MAX_BODY_OCTETS) (fits : fits_kind (get_or b 0 0) (length b) (drop 1 b) ≡ true) where
   small_2 : (i : ℕ) → at_2 b i < 2 ^ 16
   small_2 i = bound_2 (take 2 (drop i b)) (octets_between b i 2 small)
 
@@ -102,7 +103,7 @@ module _ (b : List ℕ) (small : Octets b) (most : length b ≤ 65556) (fits : f
   frame_with : 1 ≤ get_or b 0 0 → get_or b 0 0 ≤ 5 → FrameWith b
   frame_with lo hi = by_kind (get_or b 0 0 == 1) (get_or b 0 0 == 2) (get_or b 0 0 == 3) (get_or b 0 0 == 4) lo hi refl refl refl refl
 
-good_length : (n : ℕ) → is_bad_length n ≡ false → (1 ≤ n) × (n ≤ 65556)
+good_length : (n : ℕ) → is_bad_length n ≡ false → (1 ≤ n) × (n ≤ MAX_BODY_OCTETS)
 good_length n h = (grind (arith, nat_tests, h), grind (arith, nat_tests, h))
 
 good_kind : (k : ℕ) → is_bad_kind k ≡ false → (1 ≤ k) × (k ≤ 5)

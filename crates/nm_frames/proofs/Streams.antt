@@ -5,6 +5,7 @@ use Rattle.std.proofs.lemmas.Bool.Decides.{nat_tests}
 use Rattle.std.proofs.lemmas.Nat.{from_be_bytes-to_be_bytes_2, from_be_bytes-to_be_bytes_4, from_be_bytes-to_be_bytes_8}
 use Rattle.std.specs.Int.{w16, w32, w64, to_be_bytes, from_be_bytes}
 use Rattle.std.specs.List.{AllByRecursion}
+use Rattle.nm_base.specs.declared.limits.TheConstants.{MAX_BODY_OCTETS}
 use Rattle.nm_frames.specs.declared.frame.Frame.{Frame}
 use Rattle.nm_frames.specs.declared.frame.Frame.TheVariants.{Hello, Have, Data, Null, Bye}
 use Rattle.nm_frames.specs.declared.fault.FrameFault.{FrameFault}
@@ -18,7 +19,7 @@ body_least (Data d) is = omega arith
 body_least (Null n) is = omega arith
 body_least Bye is = omega arith
 
-pub body_most : (f : Frame) → IsFrame f → length (frame_body f) ≤ 65556
+pub body_most : (f : Frame) → IsFrame f → length (frame_body f) ≤ MAX_BODY_OCTETS
 body_most (Hello h) is = omega (arith, is.3)
 body_most (Have h) is = omega arith
 body_most (Data d) is = omega (arith, is.4)

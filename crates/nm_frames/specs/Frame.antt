@@ -1,6 +1,9 @@
 -- Frames and their octets.
 use Rattle.std.specs.Prelude.{◌≡◌, ℕ, ◌<◌, ◌≤◌, ◌^◌, List, [], ◌∷◌, ◌++◌, length, flat_map}
 use Rattle.std.specs.Int.{w16, w32, w64, to_be_bytes}
+use Rattle.nm_base.specs.declared.limits.TheConstants.{MAX_PACKET_OCTETS}
+use Rattle.nm_frames.specs.declared.format.TheConstants.{DIGEST_OCTETS, FIRST_WORD}
+use Rattle.nm_frames.specs.declared.format.kind.TheConstants.{HELLO, HAVE, DATA, NULL, BYE}
 use Rattle.nm_frames.specs.declared.frame.Frame.{Frame}
 use Rattle.nm_frames.specs.declared.frame.Frame.TheVariants.{Hello, Have, Data, Null, Bye}
 
@@ -17,17 +20,13 @@ data_frame c n t p = Data (record { channel = c; number = n; time = t; packet = 
 abbrev pub null_frame : ℕ → ℕ → ℕ → Frame
 null_frame c n t = Null (record { channel = c; count = n; clock = t })
 
--- "NMS1"
-abbrev pub first_word : List ℕ
-first_word = 0x4e ∷ 0x4d ∷ 0x53 ∷ 0x31 ∷ []
-
 -- the kind, and then the fields; all numbers are big-endian
 abbrev pub frame_body : Frame → List ℕ
-frame_body (Hello h) = 1 ∷ first_word ++ to_be_bytes w16 h.version ++ to_be_bytes w32 h.partition ++ h.replica ∷ h.digest
-frame_body (Have h) = 2 ∷ to_be_bytes w32 h.channel ++ to_be_bytes w64 h.count
-frame_body (Data d) = 3 ∷ to_be_bytes w32 d.channel ++ to_be_bytes w64 d.number ++ to_be_bytes w64 d.time ++ d.packet
-frame_body (Null n) = 4 ∷ to_be_bytes w32 n.channel ++ to_be_bytes w64 n.count ++ to_be_bytes w64 n.clock
-frame_body Bye = 5 ∷ []
+frame_body (Hello h) = HELLO ∷ FIRST_WORD ++ to_be_bytes w16 h.version ++ to_be_bytes w32 h.partition ++ h.replica ∷ h.digest
+frame_body (Have h) = HAVE ∷ to_be_bytes w32 h.channel ++ to_be_bytes w64 h.count
+frame_body (Data d) = DATA ∷ to_be_bytes w32 d.channel ++ to_be_bytes w64 d.number ++ to_be_bytes w64 d.time ++ d.packet
+frame_body (Null n) = NULL ∷ to_be_bytes w32 n.channel ++ to_be_bytes w64 n.count ++ to_be_bytes w64 n.clock
+frame_body Bye = BYE ∷ []
 
 -- the length of the body before it
 abbrev pub frame_octets : Frame → List ℕ
@@ -35,9 +34,9 @@ frame_octets f = to_be_bytes w32 (length (frame_body f)) ++ frame_body f
 
 -- each field fits its octets: any version, partition, replica and channel may stand in a frame
 abbrev pub IsFrame : Frame → Type 0
-IsFrame (Hello h) = (h.version < 2 ^ 16) × (h.partition < 2 ^ 32) × (h.replica < 256) × (length h.digest ≡ 32)
+IsFrame (Hello h) = (h.version < 2 ^ 16) × (h.partition < 2 ^ 32) × (h.replica < 256) × (length h.digest ≡ DIGEST_OCTETS)
 IsFrame (Have h) = (h.channel < 2 ^ 32) × (h.count < 2 ^ 64)
-IsFrame (Data d) = (d.channel < 2 ^ 32) × (d.number < 2 ^ 64) × (d.time < 2 ^ 64) × (1 ≤ length d.packet) × (length d.packet ≤ 65535)
+IsFrame (Data d) = (d.channel < 2 ^ 32) × (d.number < 2 ^ 64) × (d.time < 2 ^ 64) × (1 ≤ length d.packet) × (length d.packet ≤ MAX_PACKET_OCTETS)
 IsFrame (Null n) = (n.channel < 2 ^ 32) × (n.count < 2 ^ 64) × (n.clock < 2 ^ 64)
 IsFrame Bye = Unit {0}
 

@@ -1,5 +1,6 @@
 //! Frames: what the two ends of a connection tell each other.
 
+use crate::format::DIGEST_OCTETS;
 use nm_base::{ChanNo, PartNo};
 use nm_book::message::{Data, Null};
 
@@ -10,7 +11,7 @@ pub struct Hello {
     pub partition: PartNo,
     pub replica: u8,
     /// SHA-256 of the topology text.
-    pub digest: [u8; 32],
+    pub digest: [u8; DIGEST_OCTETS],
 }
 
 /// How many messages of a channel its receiver holds, which is the number of the next one.

@@ -1,11 +1,14 @@
 //! Laws of the definitions: each function's contract is a law, and its body is empty.
 
-ghost use Rattle.std.specs.Prelude.{◌≡◌, ℕ, ◌<◌, ◌++◌, List, [], All, true, false, Ok};
+ghost use Rattle.std.specs.Prelude.{◌≡◌, ℕ, ◌+◌, ◌<◌, ◌++◌, List, [], ◌∷◌, All, true, false, Ok};
 ghost use Rattle.std.specs.Prelude.{None, Some, Option, Result, if◌then◌else◌, nat_lt, take};
 ghost use Rattle.std.specs.List.{AllByRecursion};
+ghost use Rattle.nm_base.specs.declared.limits.TheConstants as limits;
 ghost use Rattle.nm_model.specs.Certificate.{is_done};
 ghost use Rattle.nm_sim.specs.Network.{net_of};
 ghost use Rattle.nm_book.specs.Book.{BookValue, replica_of};
+ghost use Rattle.nm_frames.specs.declared.format.TheConstants as format;
+ghost use Rattle.nm_frames.specs.declared.format.kind.TheConstants as kind;
 ghost use Rattle.nm_frames.specs.declared.frame.Frame.TheVariants.{Have, Bye};
 ghost use Rattle.nm_frames.specs.declared.frame.Have.{Have as HaveValue};
 ghost use Rattle.nm_frames.specs.Owed.{owed, promising_of};
@@ -104,4 +107,38 @@ pub fn messages_are_consecutive()
         (cursor : Option ℕ) → HasCursor channel cursor s.outgoing → Lives s steps last
         → AreConsecutive channel cursor steps
         × HasCursor channel (due_after channel cursor steps) last.outgoing }
+{}
+
+/// The kinds of frames, as numbers.
+pub fn frame_kinds()
+    ensures hello { kind.HELLO ≡ 1 }
+    ensures have { kind.HAVE ≡ 2 }
+    ensures message { kind.DATA ≡ 3 }
+    ensures null { kind.NULL ≡ 4 }
+    ensures bye { kind.BYE ≡ 5 }
+{}
+
+/// The first word of a Hello, "NMS1", in its octets.
+pub fn first_word()
+    ensures { format.FIRST_WORD ≡ 0x4e ∷ 0x4d ∷ 0x53 ∷ 0x31 ∷ [] }
+{}
+
+/// How many octets the length of a frame has, a digest, and the bodies of the kinds, as numbers: of
+/// a message's body, those before its packet.
+pub fn frame_sizes()
+    ensures length { format.LENGTH_OCTETS ≡ 4 }
+    ensures digest { format.DIGEST_OCTETS ≡ 32 }
+    ensures hello { format.HELLO_OCTETS ≡ 44 }
+    ensures have { format.HAVE_OCTETS ≡ 13 }
+    ensures message { format.DATA_HEADER_OCTETS ≡ 21 }
+    ensures null { format.NULL_OCTETS ≡ 21 }
+    ensures bye { format.BYE_OCTETS ≡ 1 }
+{}
+
+/// The greatest body is that of a message with the greatest packet, and the greatest frame has its
+/// length, too.
+pub fn greatest_frame()
+    ensures body { limits.MAX_BODY_OCTETS
+        ≡ format.DATA_HEADER_OCTETS + limits.MAX_PACKET_OCTETS }
+    ensures frame { limits.MAX_FRAME_OCTETS ≡ format.LENGTH_OCTETS + limits.MAX_BODY_OCTETS }
 {}

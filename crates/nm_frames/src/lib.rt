@@ -4,6 +4,7 @@
 
 pub mod channels;
 pub mod fault;
+pub mod format;
 pub mod frame;
 pub mod laws;
 mod owed;

@@ -3,11 +3,18 @@
 ghost use Rattle.std.specs.Prelude.{◌≡◌, ◌+◌, ◌≤◌, ◌<◌, ◌^◌, length, take, drop, slice_index, true};
 ghost use Rattle.std.specs.Prelude.{IfOk};
 ghost use Rattle.std.specs.Int.{w16, w32, w64, to_be_bytes, from_be_bytes};
+ghost use Rattle.nm_frames.specs.declared.format.TheConstants.{KIND_OCTETS};
+ghost use Rattle.nm_frames.specs.declared.format.field.TheConstants as field;
+ghost use Rattle.nm_frames.specs.declared.format.kind.TheConstants as kind;
 ghost use Rattle.nm_frames.specs.Frame.{IsFrame, frame_body};
 ghost use Rattle.nm_frames.specs.Stream.{stated_length, has_first_word, fits_kind};
 ghost use Rattle.nm_frames.specs.Reader.{FindsFrame, Found};
 
 use crate::fault::FrameFault;
+use crate::format::{
+    BYE_OCTETS, DATA_HEADER_OCTETS, DIGEST_OCTETS, FIRST_WORD, HAVE_OCTETS, HELLO_OCTETS,
+    LENGTH_OCTETS, NULL_OCTETS, field, kind,
+};
 use crate::frame::{Frame, Have, Hello};
 use bytes::Bytes;
 use nm_base::limits::MAX_BODY_OCTETS;
@@ -15,15 +22,12 @@ use nm_base::{ChanNo, Packet, PartNo, Time};
 use nm_book::message::{Data, Null};
 use std::alloc::{AllocError, Global};
 
-/// The octets of a length.
-const LENGTH_OCTETS: usize = 4;
-
 /// The number of 16 bits in the two octets from this place.
 fn u16_at(octets: &[u8], place: usize) -> u16
     requires { place + 2 ≤ length octets.now }
     ensures { result ≡ from_be_bytes w16 (take 2 (drop place octets.now)) }
 {
-    u16::from_be_bytes([octets[place], octets[place + 1]])
+    u16::from_be_bytes(octets[place..place + 2].try_into().unwrap())
 }
 
 /// The number of 32 bits in the four octets from this place.
@@ -31,12 +35,7 @@ fn u32_at(octets: &[u8], place: usize) -> u32
     requires { place + 4 ≤ length octets.now }
     ensures { result ≡ from_be_bytes w32 (take 4 (drop place octets.now)) }
 {
-    u32::from_be_bytes([
-        octets[place],
-        octets[place + 1],
-        octets[place + 2],
-        octets[place + 3],
-    ])
+    u32::from_be_bytes(octets[place..place + 4].try_into().unwrap())
 }
 
 /// The number of 64 bits in the eight octets from this place.
@@ -44,98 +43,95 @@ fn u64_at(octets: &[u8], place: usize) -> u64
     requires { place + 8 ≤ length octets.now }
     ensures { result ≡ from_be_bytes w64 (take 8 (drop place octets.now)) }
 {
-    u64::from_be_bytes([
-        octets[place],
-        octets[place + 1],
-        octets[place + 2],
-        octets[place + 3],
-        octets[place + 4],
-        octets[place + 5],
-        octets[place + 6],
-        octets[place + 7],
-    ])
+    u64::from_be_bytes(octets[place..place + 8].try_into().unwrap())
 }
 
 /// Whether the fields of a Hello begin with its first word.
 fn has_first_word(body: &[u8]) -> bool
-    requires { 44 ≤ length body.now }
-    ensures { result ≡ has_first_word (drop 1 body.now) }
+    requires { HELLO_OCTETS ≤ length body.now }
+    ensures { result ≡ has_first_word (drop KIND_OCTETS body.now) }
 {
-    body[1] == 0x4e && body[2] == 0x4d && body[3] == 0x53 && body[4] == 0x31
+    body[field::FIRST_WORD..].starts_with(&FIRST_WORD)
 }
 
 /// Whether a length fits the kind.
 fn is_fitting(body: &[u8]) -> bool
-    requires { 1 ≤ length body.now }
-    ensures { result ≡ fits_kind (slice_index body.now 0) (length body.now) (drop 1 body.now) }
+    requires { KIND_OCTETS ≤ length body.now }
+    ensures { result ≡ fits_kind (slice_index body.now field.KIND) (length body.now)
+        (drop KIND_OCTETS body.now) }
 {
-    match body[0] {
-        1 => body.len() == 44 && has_first_word(body),
-        2 => body.len() == 13,
-        3 => body.len() > 21,
-        4 => body.len() == 21,
-        _ => body.len() == 1,
+    match body[field::KIND] {
+        kind::HELLO => body.len() == HELLO_OCTETS && has_first_word(body),
+        kind::HAVE => body.len() == HAVE_OCTETS,
+        kind::DATA => body.len() > DATA_HEADER_OCTETS,
+        kind::NULL => body.len() == NULL_OCTETS,
+        _ => body.len() == BYE_OCTETS,
     }
 }
 
 /// The Hello of these octets after its length.
 fn hello_of(body: &[u8]) -> Hello
-    requires { 44 ≡ length body.now }
-    ensures version { result.version ≡ from_be_bytes w16 (take 2 (drop 5 body.now)) }
-    ensures partition { result.partition ≡ from_be_bytes w32 (take 4 (drop 7 body.now)) }
-    ensures replica { result.replica ≡ slice_index body.now 11 }
-    ensures digest { result.digest ≡ drop 12 body.now }
+    requires { HELLO_OCTETS ≡ length body.now }
+    ensures version { result.version
+        ≡ from_be_bytes w16 (take 2 (drop field.VERSION body.now)) }
+    ensures partition { result.partition
+        ≡ from_be_bytes w32 (take 4 (drop field.PARTITION body.now)) }
+    ensures replica { result.replica ≡ slice_index body.now field.REPLICA }
+    ensures digest { result.digest ≡ drop field.DIGEST body.now }
     ensures fits { IsFrame (Frame.Hello result) }
 {
-    let mut digest = [0; 32];
-    digest.copy_from_slice(&body[12..]);
+    let mut digest = [0; DIGEST_OCTETS];
+    digest.copy_from_slice(&body[field::DIGEST..]);
     Hello {
-        version: u16_at(body, 5),
-        partition: PartNo::new(u32_at(body, 7)),
-        replica: body[11],
+        version: u16_at(body, field::VERSION),
+        partition: PartNo::new(u32_at(body, field::PARTITION)),
+        replica: body[field::REPLICA],
         digest,
     }
 }
 
 /// The message of these octets after its length. Its packet is a copy of theirs.
 fn data_of(alloc: Global, body: &[u8]) -> Result<Data, AllocError>
-    requires { (22 ≤ length body.now) × (length body.now ≤ 65556) }
+    requires { (DATA_HEADER_OCTETS < length body.now) × (length body.now ≤ MAX_BODY_OCTETS) }
     ensures channel { IfOk result
-        (λ d. d.channel ≡ from_be_bytes w32 (take 4 (drop 1 body.now))) }
-    ensures number { IfOk result (λ d. d.number ≡ from_be_bytes w64 (take 8 (drop 5 body.now))) }
-    ensures time { IfOk result (λ d. d.time ≡ from_be_bytes w64 (take 8 (drop 13 body.now))) }
-    ensures packet { IfOk result (λ d. d.packet ≡ drop 21 body.now) }
+        (λ d. d.channel ≡ from_be_bytes w32 (take 4 (drop field.CHANNEL body.now))) }
+    ensures number { IfOk result
+        (λ d. d.number ≡ from_be_bytes w64 (take 8 (drop field.COUNT body.now))) }
+    ensures time { IfOk result
+        (λ d. d.time ≡ from_be_bytes w64 (take 8 (drop field.TIME body.now))) }
+    ensures packet { IfOk result (λ d. d.packet ≡ drop field.PACKET body.now) }
     ensures fits { IfOk result (λ d. IsFrame (Frame.Data d)) }
 {
-    let octets = Bytes::copy_from_slice(alloc, &body[21..])?;
+    let octets = Bytes::copy_from_slice(alloc, &body[field::PACKET..])?;
     Ok(Data {
-        channel: ChanNo::new(u32_at(body, 1)),
-        number: u64_at(body, 5),
-        time: Time::from_nanoseconds(u64_at(body, 13)),
+        channel: ChanNo::new(u32_at(body, field::CHANNEL)),
+        number: u64_at(body, field::COUNT),
+        time: Time::from_nanoseconds(u64_at(body, field::TIME)),
         packet: Packet::new(octets).unwrap(),
     })
 }
 
 /// The frame of these octets after its length.
 fn frame_of(alloc: Global, body: &[u8]) -> Result<Frame, AllocError>
-    requires length { (1 ≤ length body.now) × (length body.now ≤ 65556) }
-    requires kind { (1 ≤ slice_index body.now 0) × (slice_index body.now 0 ≤ 5) }
-    requires fitting { fits_kind (slice_index body.now 0) (length body.now) (drop 1 body.now)
-        ≡ true }
+    requires length { (KIND_OCTETS ≤ length body.now) × (length body.now ≤ MAX_BODY_OCTETS) }
+    requires kind { (kind.HELLO ≤ slice_index body.now field.KIND)
+        × (slice_index body.now field.KIND ≤ kind.BYE) }
+    requires fitting { fits_kind (slice_index body.now field.KIND) (length body.now)
+        (drop KIND_OCTETS body.now) ≡ true }
     ensures value { IfOk result (λ f. body.now ≡ frame_body f) }
     ensures fits { IfOk result IsFrame }
 {
-    match body[0] {
-        1 => Ok(Frame::Hello(hello_of(body))),
-        2 => Ok(Frame::Have(Have {
-            channel: ChanNo::new(u32_at(body, 1)),
-            count: u64_at(body, 5),
+    match body[field::KIND] {
+        kind::HELLO => Ok(Frame::Hello(hello_of(body))),
+        kind::HAVE => Ok(Frame::Have(Have {
+            channel: ChanNo::new(u32_at(body, field::CHANNEL)),
+            count: u64_at(body, field::COUNT),
         })),
-        3 => Ok(Frame::Data(data_of(alloc, body)?)),
-        4 => Ok(Frame::Null(Null {
-            channel: ChanNo::new(u32_at(body, 1)),
-            count: u64_at(body, 5),
-            clock: Time::from_nanoseconds(u64_at(body, 13)),
+        kind::DATA => Ok(Frame::Data(data_of(alloc, body)?)),
+        kind::NULL => Ok(Frame::Null(Null {
+            channel: ChanNo::new(u32_at(body, field::CHANNEL)),
+            count: u64_at(body, field::COUNT),
+            clock: Time::from_nanoseconds(u64_at(body, field::TIME)),
         })),
         _ => Ok(Frame::Bye),
     }
@@ -159,7 +155,7 @@ pub(crate) fn next_frame(alloc: Global, octets: &[u8]) -> Result<Option<(Frame, 
     if octets.len() == LENGTH_OCTETS {
         return Ok(None);
     }
-    if octets[4] == 0 || octets[4] > 5 {
+    if octets[LENGTH_OCTETS] == 0 || octets[LENGTH_OCTETS] > kind::BYE {
         return Err(FrameFault::BadKind);
     }
     if octets.len() < LENGTH_OCTETS + size {

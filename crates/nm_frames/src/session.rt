@@ -8,6 +8,7 @@ ghost use Rattle.nm_frames.specs.Session.{broken, new_session, next_version, pee
 ghost use Rattle.nm_frames.specs.Session.{session_version, taken, taken_first, taken_later};
 
 use crate::channels::channels_between;
+use crate::format::DIGEST_OCTETS;
 use crate::frame::{Frame, Hello};
 use crate::owed::{are_told, next_have, next_message};
 use crate::replica_name::ReplicaName;
@@ -32,7 +33,7 @@ pub struct Session {
     me: PartNo,
     replica: u8,
     peer: PartNo,
-    digest: [u8; 32],
+    digest: [u8; DIGEST_OCTETS],
     incoming: Vec<ChannelIn>,
     outgoing: Vec<ChannelOut>,
     hello_given: Option<Version>,

@@ -4,15 +4,19 @@ ghost use Rattle.std.specs.Prelude.{◌≡◌, ◌+◌, ◌≤◌, ◌++◌, len
 ghost use Rattle.std.specs.Prelude.{OnErr};
 ghost use Rattle.std.specs.Prelude.{◌∷◌, []};
 ghost use Rattle.std.specs.Int.{w16, w32, w64, to_be_bytes};
-ghost use Rattle.nm_frames.specs.Frame.{IsFrame, data_frame, first_word, frame_octets, hello_frame};
+ghost use Rattle.nm_frames.specs.declared.format.TheConstants.{CHANNEL_AND_COUNT_OCTETS};
+ghost use Rattle.nm_frames.specs.declared.format.TheConstants.{HEAD_OCTETS, SPEAKER_OCTETS};
+ghost use Rattle.nm_frames.specs.declared.format.TheConstants.{TIME_OCTETS};
+ghost use Rattle.nm_frames.specs.Frame.{IsFrame, data_frame, frame_octets, hello_frame};
 ghost use Rattle.nm_frames.specs.Frame.{have_frame, null_frame};
 
+use crate::format::{
+    BYE_OCTETS, DATA_HEADER_OCTETS, DIGEST_OCTETS, FIRST_WORD, HAVE_OCTETS, HELLO_OCTETS,
+    LENGTH_OCTETS, NULL_OCTETS, kind,
+};
 use crate::frame::Frame;
 use nm_base::{ChanNo, Packet, PartNo, Time};
 use std::alloc::AllocError;
-
-/// The first word of a Hello, "NMS1".
-const FIRST_WORD: [u8; 4] = *b"NMS1";
 
 /// Puts octets at the end of a list that has room for them.
 fn put(octets: &[u8], out: &mut Vec<u8>)
@@ -25,7 +29,7 @@ fn put(octets: &[u8], out: &mut Vec<u8>)
 
 /// Puts a length and a kind there.
 fn put_head(size: u32, kind: u8, out: &mut Vec<u8>)
-    requires { vec_len out.old + 5 ≤ vec_capacity out.old }
+    requires { vec_len out.old + HEAD_OCTETS ≤ vec_capacity out.old }
     ensures octets { out.new.items ≡ out.old.items ++ (to_be_bytes w32 size ++ kind ∷ []) }
     ensures room { vec_capacity out.old ≤ vec_capacity out.new }
 {
@@ -35,7 +39,7 @@ fn put_head(size: u32, kind: u8, out: &mut Vec<u8>)
 
 /// Puts a channel and a number of messages there.
 fn put_count(channel: ChanNo, count: u64, out: &mut Vec<u8>)
-    requires { vec_len out.old + 12 ≤ vec_capacity out.old }
+    requires { vec_len out.old + CHANNEL_AND_COUNT_OCTETS ≤ vec_capacity out.old }
     ensures octets { out.new.items
         ≡ out.old.items ++ (to_be_bytes w32 channel ++ to_be_bytes w64 count) }
     ensures room { vec_capacity out.old ≤ vec_capacity out.new }
@@ -46,7 +50,7 @@ fn put_count(channel: ChanNo, count: u64, out: &mut Vec<u8>)
 
 /// Puts a time there.
 fn put_time(time: Time, out: &mut Vec<u8>)
-    requires { vec_len out.old + 8 ≤ vec_capacity out.old }
+    requires { vec_len out.old + TIME_OCTETS ≤ vec_capacity out.old }
     ensures octets { out.new.items ≡ out.old.items ++ to_be_bytes w64 time }
     ensures room { vec_capacity out.old ≤ vec_capacity out.new }
 {
@@ -55,9 +59,9 @@ fn put_time(time: Time, out: &mut Vec<u8>)
 
 /// Puts the first word of a Hello there, and its numbers.
 fn put_speaker(version: u16, partition: PartNo, replica: u8, out: &mut Vec<u8>)
-    requires { vec_len out.old + 11 ≤ vec_capacity out.old }
+    requires { vec_len out.old + SPEAKER_OCTETS ≤ vec_capacity out.old }
     ensures octets { out.new.items ≡ out.old.items
-        ++ (first_word ++ to_be_bytes w16 version ++ to_be_bytes w32 partition ++ replica ∷ []) }
+        ++ (FIRST_WORD ++ to_be_bytes w16 version ++ to_be_bytes w32 partition ++ replica ∷ []) }
     ensures room { vec_capacity out.old ≤ vec_capacity out.new }
 {
     put(&FIRST_WORD, out);
@@ -70,7 +74,7 @@ fn write_hello(
     version: u16,
     partition: PartNo,
     replica: u8,
-    digest: &[u8; 32],
+    digest: &[u8; DIGEST_OCTETS],
     out: &mut Vec<u8>,
 ) -> Result<(), AllocError>
     ensures ok { OnOk result (out.new.items ≡ out.old.items
@@ -78,8 +82,8 @@ fn write_hello(
     ensures fits { IsFrame (hello_frame version partition replica digest.now) }
     ensures err { OnErr result (out.new.items ≡ out.old.items) }
 {
-    out.reserve(48)?;
-    put_head(44, 1, out);
+    out.reserve(LENGTH_OCTETS + HELLO_OCTETS)?;
+    put_head(HELLO_OCTETS as u32, kind::HELLO, out);
     put_speaker(version, partition, replica, out);
     put(digest, out);
     Ok(())
@@ -91,8 +95,8 @@ fn write_have(channel: ChanNo, count: u64, out: &mut Vec<u8>) -> Result<(), Allo
     ensures fits { IsFrame (have_frame channel count) }
     ensures err { OnErr result (out.new.items ≡ out.old.items) }
 {
-    out.reserve(17)?;
-    put_head(13, 2, out);
+    out.reserve(LENGTH_OCTETS + HAVE_OCTETS)?;
+    put_head(HAVE_OCTETS as u32, kind::HAVE, out);
     put_count(channel, count, out);
     Ok(())
 }
@@ -109,9 +113,9 @@ fn write_data(
     ensures fits { IsFrame (data_frame channel number time packet.now) }
     ensures err { OnErr result (out.new.items ≡ out.old.items) }
 {
-    let size = packet.octet_count();
-    out.reserve(25 + size)?;
-    put_head(21 + size as u32, 3, out);
+    let size = DATA_HEADER_OCTETS + packet.octet_count();
+    out.reserve(LENGTH_OCTETS + size)?;
+    put_head(size as u32, kind::DATA, out);
     put_count(channel, number, out);
     put_time(time, out);
     put(packet.octets(), out);
@@ -124,8 +128,8 @@ fn write_null(channel: ChanNo, count: u64, clock: Time, out: &mut Vec<u8>) -> Re
     ensures fits { IsFrame (null_frame channel count clock) }
     ensures err { OnErr result (out.new.items ≡ out.old.items) }
 {
-    out.reserve(25)?;
-    put_head(21, 4, out);
+    out.reserve(LENGTH_OCTETS + NULL_OCTETS)?;
+    put_head(NULL_OCTETS as u32, kind::NULL, out);
     put_count(channel, count, out);
     put_time(clock, out);
     Ok(())
@@ -159,8 +163,8 @@ pub fn write_frame(frame: &Frame, out: &mut Vec<u8>) -> Result<(), AllocError>
         ),
         Frame::Null(null) => write_null(null.channel, null.count, null.clock, out),
         Frame::Bye => {
-            out.reserve(5)?;
-            put_head(1, 5, out);
+            out.reserve(LENGTH_OCTETS + BYE_OCTETS)?;
+            put_head(BYE_OCTETS as u32, kind::BYE, out);
             Ok(())
         }
     }
