@@ -20,7 +20,7 @@ use nm_packet::icmp::{
     DESTINATION_UNREACHABLE, IN_TRANSIT, NETWORK_UNREACHABLE, PORT_UNREACHABLE,
     PROTOCOL_UNREACHABLE, TIME_EXCEEDED,
 };
-use nm_packet::{Ipv4, Ipv4View, MessageKind, Ports};
+use nm_packet::{Ipv4, Ipv4View, MessageKind, PacketBuffer, Ports, lower_ttl};
 use nm_topology::Topology;
 use nm_topology::traffic::{Cbr, Traffic};
 use std::alloc::{AllocError, Global};
@@ -58,7 +58,7 @@ pub enum Reaction {
 
 /// What the node does with a packet from this origin, as docs/RULES.md says. A packet that arrives
 /// is looked at row by row; what a source hands over is originated, or goes by the source's
-/// interface as it is. The octets of a packet that is sent on are copied once.
+/// interface as it is. The octets of a packet that is sent on are copied once, into the buffer.
 ///
 /// The state is that of a node of this topology. A `cbr` source hands over its data, or one octet,
 /// which is not sent, where it has none; an `echo` source its whole ICMP message; a `raw` source a
@@ -71,6 +71,7 @@ pub enum Reaction {
 #[inline(always)]
 pub fn react(
     alloc: Global,
+    buffer: &mut PacketBuffer,
     topology: &Topology,
     state: &mut NodeState,
     origin: Origin,
@@ -84,7 +85,7 @@ pub fn react(
     ensures err { OnErr result (state.new ≡ state.old) }
 {
     match origin {
-        Origin::Arrival(_) => receive(alloc, topology, state, packet),
+        Origin::Arrival(_) => receive(alloc, buffer, topology, state, packet),
         Origin::Source(source) => hand_over(alloc, topology, state, source, packet),
     }
 }
@@ -94,6 +95,7 @@ pub fn react(
 #[inline(always)]
 fn receive(
     alloc: Global,
+    buffer: &mut PacketBuffer,
     topology: &Topology,
     state: &mut NodeState,
     packet: &Packet,
@@ -108,31 +110,31 @@ fn receive(
         return Ok(Reaction::Nothing);
     };
     let row = packet_row(state, &view);
-    let prepared = prepare_consequence(alloc, topology, state, &view, &row)?;
+    let prepared = prepare_consequence(alloc, buffer, topology, state, &view, &row)?;
     state.count(row.counter());
     Ok(carry_out(state, prepared))
 }
 
-/// Prepares what follows a row. The state stays as it is.
+/// Prepares what follows a row.
 #[inline(always)]
 fn prepare_consequence(
     alloc: Global,
+    buffer: &mut PacketBuffer,
     topology: &Topology,
-    state: &mut NodeState,
+    state: &NodeState,
     packet: &Ipv4View<'_>,
     row: &Row<'_>,
 ) -> Result<Prepared, AllocError>
-    requires table { Knows topology.now state.old }
+    requires table { Knows topology.now state.now }
     requires possible { IsPossible row.now (fields_of packet.now).time_to_live }
-    ensures ok { IfOk result (λ p. consequence p ≡ consequence_of topology.now.ifaces
-        state.old.table state.old.identification packet.now row.now) }
-    ensures same { state.new ≡ state.old }
+    ensures { IfOk result (λ p. consequence p ≡ consequence_of topology.now.ifaces
+        state.now.table state.now.identification packet.now row.now) }
 {
     match row {
         Row::Unreachable => error(alloc, topology, state, packet, NO_NETWORK),
         Row::Expired => error(alloc, topology, state, packet, EXPIRED),
         Row::Forward(via) => {
-            let lowered = state.lower_ttl(alloc, packet)?;
+            let lowered = lower_ttl(alloc, buffer, packet)?;
             Ok(Prepared::Sends(*via, Twin::new(lowered)?))
         }
         Row::EchoRequest(request) => reply(alloc, topology, state, packet, request),

@@ -1,7 +1,6 @@
 //! What a node knows of itself and counts.
 
 ghost use Rattle.std.specs.Prelude.{◌≡◌, ◌<◌, ◌≤◌, IfOk, length, slice_index};
-ghost use Rattle.nm_packet.specs.Ipv4.{fields_of, lowered, packet_octets, payload_of};
 ghost use Rattle.nm_forward.specs.Counter.{counter_number};
 ghost use Rattle.nm_forward.specs.Routes.{route_of};
 ghost use Rattle.nm_forward.specs.State.{Knows, after_originating, first_state, is_own, listens};
@@ -11,8 +10,8 @@ use crate::addresses::Addresses;
 use crate::counter::Counter;
 use crate::counters::Counters;
 use crate::routes::Routes;
-use nm_base::{IfaceNo, NodeNo, Packet};
-use nm_packet::{Address, Ipv4View, PacketBuffer, lower_ttl};
+use nm_base::{IfaceNo, NodeNo};
+use nm_packet::Address;
 use nm_topology::{NodeKind, Topology};
 use std::alloc::{AllocError, Global};
 use std::marker::Model;
@@ -29,8 +28,6 @@ pub struct NodeState {
     addresses: Addresses,
     identification: u16,
     counters: Counters,
-    /// What it sends on is cut from this. No clause sees it.
-    buffer: PacketBuffer,
 }
 
 impl Model for NodeState {
@@ -73,7 +70,6 @@ impl NodeState {
             addresses: Addresses::of_node(alloc, topology.ifaces(), node)?,
             identification: 0,
             counters: Counters::new(),
-            buffer: PacketBuffer::new(alloc),
         })
     }
 
@@ -124,25 +120,6 @@ impl NodeState {
         ensures { result ≡ route_of self.now.table.routes address }
     {
         self.routes.look(address)
-    }
-
-    /// The packet one hop on, as `nm_packet::lower_ttl` makes it, in memory of the node's own. The
-    /// state stays as it is.
-    ///
-    /// # Errors
-    ///
-    /// Where memory for the packet was refused.
-    pub(crate) fn lower_ttl(
-        &mut self,
-        alloc: Global,
-        packet: &Ipv4View<'_>,
-    ) -> Result<Packet, AllocError>
-        requires { 1 ≤ (fields_of packet.now).time_to_live }
-        ensures value { IfOk result
-            (λ p. p ≡ packet_octets (lowered (fields_of packet.now)) (payload_of packet.now)) }
-        ensures same { self.new ≡ self.old }
-    {
-        lower_ttl(alloc, &mut self.buffer, packet)
     }
 
     /// Raises a counter by one.

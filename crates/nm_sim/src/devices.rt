@@ -29,6 +29,7 @@ use nm_forward::laws::a_node_sends_by_its_own_interfaces;
 use nm_forward::{Counter, NodeState, Reaction, react};
 use nm_iface::port::Offered;
 use nm_iface::{Port, Start};
+use nm_packet::PacketBuffer;
 use nm_topology::Topology;
 use nm_topology::topology::accepted_topologies_are_in_order;
 use nm_traffic::{Source, SourcePacket};
@@ -43,6 +44,9 @@ pub struct Devices {
     sources: Vec<Option<Source>>,
     /// The port that may have no memory for one more packet.
     used: Option<IfaceNo>,
+    /// What nodes send on is cut from this, whichever node it is, so that what is written next is
+    /// near the processor. No clause sees it.
+    buffer: PacketBuffer,
 }
 
 impl Model for Devices {
@@ -230,6 +234,7 @@ impl Devices {
             ports: first_ports(alloc, topology, part)?,
             sources: first_sources(alloc, topology, part)?,
             used: None,
+            buffer: PacketBuffer::new(alloc),
         })
     }
 
@@ -377,7 +382,7 @@ impl Devices {
         let Some(state) = &mut self.nodes[node.index()] else {
             return Ok(Reaction::Nothing);
         };
-        react(alloc, topology, state, origin, packet)
+        react(alloc, &mut self.buffer, topology, state, origin, packet)
     }
 
     /// What the node of an interface does with a packet that arrives there. An `Err` changes

@@ -9,7 +9,7 @@ use crate::texts::TRIO;
 use bytes::Bytes;
 use nm_base::{IfaceNo, NodeNo, Packet, SourceNo};
 use nm_forward::{Counter, NodeState, Origin, Reaction, Routes, react};
-use nm_packet::Address;
+use nm_packet::{Address, PacketBuffer};
 use nm_topology::parts::Route;
 use nm_topology::{Prefix, Topology};
 use std::alloc::{AllocError, Global};
@@ -204,6 +204,7 @@ fn routes_are_those_of_a_scan(rt: HostRuntime) {
 pub struct Bench {
     topology: Topology,
     state: NodeState,
+    buffer: PacketBuffer,
     ghost table: { state.table ≡ table_of topology state.table.node },
 }
 
@@ -217,7 +218,12 @@ impl Bench {
         let node = NodeNo::new(node);
         assert!(rt; node.index() < topology.nodes().len());
         let state = NodeState::new(rt.alloc(), &topology, node)?;
-        Ok(Bench { topology, state })
+        let buffer = PacketBuffer::new(rt.alloc());
+        Ok(Bench {
+            topology,
+            state,
+            buffer,
+        })
     }
 
     /// What the node does with a packet, which has at most 65,507 octets.
@@ -228,7 +234,14 @@ impl Bench {
         packet: &Packet,
     ) -> Result<Reaction, AllocError> {
         assert!(rt; packet.octet_count() <= 65_507);
-        react(rt.alloc(), &self.topology, &mut self.state, origin, packet)
+        react(
+            rt.alloc(),
+            &mut self.buffer,
+            &self.topology,
+            &mut self.state,
+            origin,
+            packet,
+        )
     }
 
     /// How often the node counted this.
