@@ -1,11 +1,8 @@
 //! Octets in hexadecimal.
 
+use nm_fixtures::ZEROS;
 use std::alloc::Global;
 use std::io;
-
-/// 72 octets of 0 in hexadecimal.
-const ZEROS: &str = "000000000000000000000000000000000000000000000000000000000000000000000000\
-000000000000000000000000000000000000000000000000000000000000000000000000";
 
 /// The octets of words in hexadecimal, put one after the other, with this digest for DIGEST, and 72
 /// octets of 0 for ZEROS.

@@ -12,3 +12,5 @@ mod memory;
 mod same;
 #[cfg(test)]
 mod split;
+#[cfg(test)]
+mod words;

@@ -1,40 +1,48 @@
-//! The network of two partitions that the tests go over.
+//! The network of two partitions that the tests go over, and its replicas.
 
+use crate::same::holds;
+use nm_base::{ChanNo, PartNo, Time};
+use nm_book::{Book, BookFault, ChannelMessage, Null};
+use nm_fixtures::SPLIT;
 use nm_topology::Topology;
 use std::alloc::Global;
+use std::process::Abort;
 use std::sync::Arc;
 use std::test::Fail;
-
-/// Two hosts, a of partition 0 and b of partition 1, and one UDP packet. Channel 0 goes from b to a
-/// and comes in at interface 0; channel 1 goes from a to b and comes in at interface 1.
-pub const SPLIT: &str = r#"format = 1
-stop = 10000000
-mtu = 1500
-node = [ {name = "a", kind = "host", partition = 0},
-  {name = "b", kind = "host", partition = 1, ports = [9]} ]
-iface = [ {name = "a0", node = "a", address = "10.0.0.1", queue = 4},
-  {name = "b0", node = "b", address = "10.0.0.2", queue = 4} ]
-link = [ {a = "a0", b = "b0", rate = 8000000, delay = 1000000} ]
-route = [ {node = "a", to = "10.0.0.0/24", via = "a0"} ]
-source = [
-  {kind = "cbr", node = "a", to = "10.0.0.2", sport = 1000, dport = 9, size = 72, start = 0, interval = 1000000, count = 1} ]
-"#;
-
-/// The first of two answers that is no error.
-pub fn either<T: Drop, E: Drop>(first: Result<T, E>, second: Result<T, E>) -> Result<T, E> {
-    match first {
-        Ok(value) => Ok(value),
-        Err(_) => second,
-    }
-}
 
 /// The network, which has to be accepted.
 pub fn network(alloc: Global) -> Result<Arc<Topology>, Fail> {
     let first = Topology::read(alloc, SPLIT.as_bytes());
-    let topology = either(first, Topology::read(alloc, SPLIT.as_bytes()))?;
+    let topology = first.or(Topology::read(alloc, SPLIT.as_bytes()))?;
     let other = Topology::read(alloc, SPLIT.as_bytes());
     match Arc::new(alloc, topology) {
         Ok(shared) => Ok(shared),
         Err(_) => Ok(Arc::new(alloc, other?)?),
     }
+}
+
+/// A new replica; where memory was refused, that is the answer, and it is asked for once more.
+pub fn book_of(
+    rt: &(impl Abort + AllocGlobal),
+    topology: &Arc<Topology>,
+    partition: u32,
+) -> Result<Book, Fail> {
+    let shared = topology.clone().or(topology.clone())?;
+    let again = topology.clone().or(topology.clone())?;
+    match Book::new(rt.alloc(), shared, PartNo::new(partition), 0) {
+        Ok(book) => Ok(book),
+        Err(fault) => {
+            holds(rt, "memory", fault == BookFault::Memory);
+            Ok(Book::new(rt.alloc(), again, PartNo::new(partition), 0)?)
+        }
+    }
+}
+
+/// A null message.
+pub fn null(channel: u32, count: u64, clock: u64) -> ChannelMessage {
+    ChannelMessage::Null(Null {
+        channel: ChanNo::new(channel),
+        count,
+        clock: Time::from_nanoseconds(clock),
+    })
 }

@@ -2,7 +2,7 @@
 
 use crate::messages::null;
 use crate::sides::topology_of;
-use crate::texts::SPLIT;
+use nm_fixtures::SPLIT;
 use nm_shared::ClockBoard;
 use std::process::Abort;
 use std::test::Fail;

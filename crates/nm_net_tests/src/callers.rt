@@ -5,9 +5,9 @@ ghost use Rattle.std.specs.Arc.{arc_value};
 
 use crate::messages::{message, messages, null};
 use crate::sides::topology_of;
-use crate::texts::SPLIT;
 use nm_base::PartNo;
 use nm_book::ChannelMessage;
+use nm_fixtures::SPLIT;
 use nm_knowledge::Accepted;
 use nm_shared::counts::PARTS;
 use nm_shared::{Counts, Ledgers, Naming, Pass, PassesOut, SharedBook};

@@ -31,6 +31,4 @@ mod sisters;
 #[cfg(test)]
 mod talks;
 #[cfg(test)]
-mod texts;
-#[cfg(test)]
 mod wakes;

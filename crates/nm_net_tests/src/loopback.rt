@@ -2,8 +2,8 @@
 
 use crate::cut_transport::CutTransport;
 use crate::sides::{ANY, Closed, Company, Noting, listen, over_tcp, serve, topology_of};
-use crate::texts::{SHIFT, SPLIT};
 use mio::Poll;
+use nm_fixtures::{SHIFT, SPLIT};
 use nm_net::Served;
 use nm_rounds::certify::certify;
 use nm_topology::Topology;

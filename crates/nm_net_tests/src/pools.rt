@@ -2,8 +2,8 @@
 
 use crate::messages::null;
 use crate::sides::{book_of, topology_of};
-use crate::texts::RING;
 use nm_book::{ChannelMessage, Ran};
+use nm_fixtures::RING;
 use nm_shared::{Gate, Job, OpenGate, Pass, Plain, SharedBook, pool};
 use std::alloc::Global;
 use std::process::Abort;

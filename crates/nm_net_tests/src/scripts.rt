@@ -3,7 +3,7 @@
 use crate::scripted::{Fails, NEVER, Scripted};
 use crate::sides::{Company, Noting, STAYS, serve, topology_of};
 use crate::talks::{Voice, digest_of, said_by};
-use crate::texts::SPLIT;
+use nm_fixtures::SPLIT;
 use nm_net::Served;
 use nm_net::limits::{LINGER_PERIODS, MAX_STRANGERS, SHORT_PERIODS, STRANGER_PERIODS};
 use std::alloc::Global;

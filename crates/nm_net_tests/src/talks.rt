@@ -1,6 +1,6 @@
 //! What a peer says over a whole connection, as the frames of docs/FORMATS.md.
 
-use crate::texts::SPLIT;
+use nm_fixtures::{SPLIT, ZEROS};
 use nm_topology::Topology;
 use std::alloc::Global;
 use std::process::Abort;
@@ -32,10 +32,6 @@ const REPLICA_AT: usize = 15;
 
 /// The octets of a Hello with its length.
 const HELLO_OCTETS: usize = 48;
-
-/// 72 octets of 0.
-const ZEROS: &str = "000000000000000000000000000000000000000000000000000000000000000000000000\
-000000000000000000000000000000000000000000000000000000000000000000000000";
 
 /// Who speaks over a connection.
 #[derive(Clone, Copy)]

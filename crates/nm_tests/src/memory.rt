@@ -6,9 +6,10 @@
 
 use crate::forward::Bench;
 use crate::same::{eq_number, eq_numbers, eq_octets, holds};
-use crate::texts::{DUO, TRIO};
+use crate::texts::TRIO;
 use bytes::Bytes;
 use nm_base::{IfaceNo, Packet, SourceNo, Time};
+use nm_fixtures::DUO;
 use nm_forward::{Counter, Origin, Reaction};
 use nm_packet::{Icmp, MessageKind};
 use nm_topology::{Refusal, TopoFault, Topology};
@@ -16,28 +17,18 @@ use nm_traffic::{Source, SourcePacket};
 use std::alloc::AllocError;
 use std::process::Abort;
 
-/// The first of two answers that is no error.
-fn either<T: Drop, E: Drop>(first: Result<T, E>, second: Result<T, E>) -> Result<T, E> {
-    match first {
-        Ok(value) => Ok(value),
-        Err(_) => second,
-    }
-}
-
 /// A network, which has to be accepted.
 fn network(rt: &(impl Abort + AllocGlobal), text: &str) -> Topology {
     let first = Topology::read(rt.alloc(), text.as_bytes());
     let second = Topology::read(rt.alloc(), text.as_bytes());
-    either(first, second).expect(rt, "a network")
+    first.or(second).expect(rt, "a network")
 }
 
 /// A packet of from 1 to 65,535 octets.
 fn packet_of(rt: &(impl Abort + AllocGlobal), octets: &[u8]) -> Packet {
     let first = Bytes::copy_from_slice(rt.alloc(), octets);
-    let octets = either(first, Bytes::copy_from_slice(rt.alloc(), octets)).expect(
-        rt,
-        "there is memory",
-    );
+    let second = Bytes::copy_from_slice(rt.alloc(), octets);
+    let octets = first.or(second).expect(rt, "there is memory");
     Packet::new(octets).expect(rt, "from 1 to 65,535 octets")
 }
 
@@ -78,7 +69,7 @@ fn topology_read(rt: HostRuntime) {
     if let Err(fault) = first {
         holds(&rt, "memory", fault == TopoFault::Memory);
     }
-    let topology = either(first, second).expect(&rt, "there is memory");
+    let topology = first.or(second).expect(&rt, "there is memory");
     eq_numbers(
         &rt,
         "members",
@@ -100,7 +91,7 @@ fn icmp_write(rt: HostRuntime) {
     };
     let first = Icmp::write(rt.alloc(), kind, [0, 7, 0, 0], b"\xab");
     let second = Icmp::write(rt.alloc(), kind, [0, 7, 0, 0], b"\xab");
-    let octets = either(first, second).expect(&rt, "there is memory");
+    let octets = first.or(second).expect(&rt, "there is memory");
     let want = b"\x08\x00\x4c\xf8\x00\x07\x00\x00\xab";
     eq_octets(&rt, "a message", octets.as_slice(), want);
 }
@@ -181,13 +172,15 @@ fn requests(rt: &(impl Abort + AllocGlobal)) -> Source {
         panic!(rt; "there is one source");
     }
     let first = Source::new(rt.alloc(), &topology, number);
-    either(first, Source::new(rt.alloc(), &topology, number)).expect(rt, "there is memory")
+    let second = Source::new(rt.alloc(), &topology, number);
+    first.or(second).expect(rt, "there is memory")
 }
 
 /// The first packet of a source, asked for twice.
 fn first_of(rt: &(impl Abort + AllocGlobal), source: &Source) -> (Time, SourcePacket) {
     let first = source.next(rt.alloc(), 0);
-    match either(first, source.next(rt.alloc(), 0)).expect(rt, "there is memory") {
+    let either = first.or(source.next(rt.alloc(), 0));
+    match either.expect(rt, "there is memory") {
         Some(packet) => packet,
         None => panic!(rt; "there is one packet"),
     }

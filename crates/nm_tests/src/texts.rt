@@ -1,19 +1,5 @@
 //! Texts of networks.
 
-/// Two hosts, one link, one UDP packet.
-pub const DUO: &str = r#"format = 1
-stop = 10000000
-mtu = 1500
-node = [ {name = "a", kind = "host", partition = 0},
-  {name = "b", kind = "host", partition = 0, ports = [9]} ]
-iface = [ {name = "a0", node = "a", address = "10.0.0.1", queue = 4},
-  {name = "b0", node = "b", address = "10.0.0.2", queue = 4} ]
-link = [ {a = "a0", b = "b0", rate = 8000000, delay = 1000000} ]
-route = [ {node = "a", to = "10.0.0.0/24", via = "a0"} ]
-source = [
-  {kind = "cbr", node = "a", to = "10.0.0.2", sport = 1000, dport = 9, size = 72, start = 0, interval = 1000000, count = 1} ]
-"#;
-
 /// a, with 10.0.0.1, and b, with 10.0.1.2, on both sides of r, with 10.0.0.2 and 10.0.1.1. All
 /// sources but one are of a.
 pub const TRIO: &str = r#"format = 1

@@ -1,8 +1,9 @@
 //! `nm_topology`: parts by their numbers, limits in octets, and texts of the greatest length.
 
 use crate::same::{eq_number, eq_text};
-use crate::texts::{DUO, PARTITIONS};
+use crate::texts::PARTITIONS;
 use nm_base::{ChanNo, IfaceNo, NodeNo};
+use nm_fixtures::DUO;
 use nm_topology::Topology;
 use std::alloc::Global;
 use std::process::Abort;

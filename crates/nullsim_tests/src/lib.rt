@@ -13,5 +13,3 @@ mod nodes;
 mod progress;
 #[cfg(test)]
 mod rings;
-#[cfg(test)]
-mod texts;

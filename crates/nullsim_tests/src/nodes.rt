@@ -3,6 +3,7 @@
 use crate::fixtures::{Ended, run_line};
 use mio::net::TcpListener;
 use nm_command::Status;
+use nm_fixtures::SPLIT;
 use nm_program::MemInputs;
 use std::alloc::Global;
 use std::net::{Ipv4Addr, Net, SocketAddr};
@@ -12,20 +13,6 @@ use std::test::Fail;
 use std::thread::{Threads, join};
 use std::time::Clock;
 use std::{io, net};
-
-/// Two hosts in two partitions and one packet.
-const SPLIT: &str = r#"format = 1
-stop = 10000000
-mtu = 1500
-node = [ {name = "a", kind = "host", partition = 0},
-  {name = "b", kind = "host", partition = 1, ports = [9]} ]
-iface = [ {name = "a0", node = "a", address = "10.0.0.1", queue = 4},
-  {name = "b0", node = "b", address = "10.0.0.2", queue = 4} ]
-link = [ {a = "a0", b = "b0", rate = 8000000, delay = 1000000} ]
-route = [ {node = "a", to = "10.0.0.0/24", via = "a0"} ]
-source = [
-  {kind = "cbr", node = "a", to = "10.0.0.2", sport = 1000, dport = 9, size = 72, start = 0, interval = 1000000, count = 1} ]
-"#;
 
 /// Runs the program on the words of a line. The input `split.toml` is SPLIT, and `addresses` has
 /// these lines. One file can be made.

@@ -1,9 +1,9 @@
 //! Runs of three routers in a ring.
 
 use crate::gates::Watching;
-use crate::texts::RING;
 use nm_base::{IfaceNo, PartNo};
 use nm_files::MemOutputs;
+use nm_fixtures::RING;
 use nm_progress::{Figure, Figures, Progress};
 use nm_run::{Report, RunFault, RunPlan, run_all};
 use nm_topology::Topology;

@@ -1,26 +1,16 @@
 //! Replicas.
 
 use crate::same::{eq_answer, eq_number, holds};
-use crate::split::{either, network};
-use nm_base::{ChanNo, PartNo, Time};
-use nm_book::{
-    AcceptFault, Book, BookFault, ChannelMessage, Data, Knowledge, MergeFault, Null, Ran,
-};
-use nm_knowledge::{Accepted, KnowFault};
+use crate::split::{book_of, network, null};
+use crate::words::refused;
+use nm_base::ChanNo;
+use nm_book::{AcceptFault, Book, ChannelMessage, Data, Knowledge, MergeFault, Ran};
+use nm_knowledge::Accepted;
 use nm_topology::Topology;
 use std::alloc::Global;
 use std::process::Abort;
 use std::sync::Arc;
 use std::test::Fail;
-
-/// A null message.
-fn null(channel: u32, count: u64, clock: u64) -> ChannelMessage {
-    ChannelMessage::Null(Null {
-        channel: ChanNo::new(channel),
-        count,
-        clock: Time::from_nanoseconds(clock),
-    })
-}
 
 /// An answer in a word and its number.
 fn accepted(answer: &Result<Accepted, AcceptFault>) -> (&'static str, u64) {
@@ -33,41 +23,12 @@ fn accepted(answer: &Result<Accepted, AcceptFault>) -> (&'static str, u64) {
     }
 }
 
-/// A refusal in a word and its number.
-fn refused(fault: &KnowFault) -> (&'static str, u64) {
-    match fault {
-        KnowFault::Gap { have } => ("gap", *have),
-        KnowFault::Differs { number } => ("differs", *number),
-        KnowFault::Late { clock } => ("late", *clock),
-        KnowFault::NotRising => ("notrising", 0),
-        KnowFault::Memory => ("memory", 0),
-        KnowFault::Contrary { count } => ("contrary", *count),
-    }
-}
-
 /// What a run did, in a word and its number.
 fn ran(answer: Ran) -> (&'static str, u64) {
     match answer {
         Ran::All(done) => ("all", done),
         Ran::Limit(done) => ("limit", done),
         Ran::Memory(done) => ("memory", done),
-    }
-}
-
-/// A new replica; where memory was refused, that is the answer, and it is asked for once more.
-fn book_of(
-    rt: &(impl Abort + AllocGlobal),
-    topology: &Arc<Topology>,
-    partition: u32,
-) -> Result<Book, Fail> {
-    let shared = either(topology.clone(), topology.clone())?;
-    let again = either(topology.clone(), topology.clone())?;
-    match Book::new(rt.alloc(), shared, PartNo::new(partition), 0) {
-        Ok(book) => Ok(book),
-        Err(fault) => {
-            holds(rt, "memory", fault == BookFault::Memory);
-            Ok(Book::new(rt.alloc(), again, PartNo::new(partition), 0)?)
-        }
     }
 }
 
@@ -105,7 +66,7 @@ fn runs(rt: &(impl Abort + AllocGlobal), book: &mut Book) -> u64 {
 /// The sender's message, again where memory was refused.
 fn message(book: &Book) -> Result<ChannelMessage, Fail> {
     let channel = ChanNo::new(1);
-    let found: Option<Data> = either(book.data(channel, 0), book.data(channel, 0))?;
+    let found: Option<Data> = book.data(channel, 0).or(book.data(channel, 0))?;
     match found {
         Some(data) => Ok(ChannelMessage::Data(data)),
         None => Err("there is a message".into()),

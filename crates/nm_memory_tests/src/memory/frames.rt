@@ -1,12 +1,13 @@
 //! Frames and sessions.
 
 use crate::same::{eq_number, holds};
-use crate::split::{either, network};
-use nm_base::{ChanNo, PartNo, Time};
-use nm_book::{Book, ChannelMessage, Null};
+use crate::split::{book_of, network, null};
+use nm_base::{ChanNo, PartNo};
+use nm_book::Book;
 use nm_frames::{Frame, FrameFault, Have, Hello, Reader, Session};
 use nm_topology::Topology;
 use std::alloc::Global;
+use std::process::Abort;
 use std::sync::Arc;
 use std::test::Fail;
 
@@ -38,18 +39,11 @@ fn reader_feed(rt: HostRuntime) {
 }
 
 /// Replica 0 of partition 0, which did its two events: it sent a message.
-fn book_of(alloc: Global, topology: &Arc<Topology>) -> Result<Book, Fail> {
-    let shared = either(topology.clone(), topology.clone())?;
-    let again = either(topology.clone(), topology.clone())?;
-    let first = Book::new(alloc, shared, PartNo::new(0), 0);
-    let mut book = either(first, Book::new(alloc, again, PartNo::new(0), 0))?;
-    book.accept(&ChannelMessage::Null(Null {
-        channel: ChanNo::new(0),
-        count: 0,
-        clock: Time::from_nanoseconds(1_000_000),
-    }))?;
-    let _ran = book.run_safe(alloc, 1000);
-    let _ran_again = book.run_safe(alloc, 1000);
+fn sender_of(rt: &(impl Abort + AllocGlobal), topology: &Arc<Topology>) -> Result<Book, Fail> {
+    let mut book = book_of(rt, topology, 0)?;
+    book.accept(&null(0, 0, 1_000_000))?;
+    let _ran = book.run_safe(rt.alloc(), 1000);
+    let _ran_again = book.run_safe(rt.alloc(), 1000);
     Ok(book)
 }
 
@@ -57,7 +51,7 @@ fn book_of(alloc: Global, topology: &Arc<Topology>) -> Result<Book, Fail> {
 fn session_of(alloc: Global, topology: &Topology) -> Result<Session, Fail> {
     let first = Session::new(alloc, topology, PartNo::new(0), 0, PartNo::new(1));
     let second = Session::new(alloc, topology, PartNo::new(0), 0, PartNo::new(1));
-    let mut session = either(first, second)?;
+    let mut session = first.or(second)?;
     let digest = topology.digest();
     let _greeted = session.take(Frame::Hello(Hello {
         version: 2,
@@ -87,7 +81,7 @@ fn kind_of(frame: &Option<Frame>) -> u64 {
 #[test]
 fn session_next_out(rt: HostRuntime) -> Result<(), Fail> {
     let topology = network(rt.alloc())?;
-    let book = book_of(rt.alloc(), &topology)?;
+    let book = sender_of(&rt, &topology)?;
     let mut session = session_of(rt.alloc(), &topology)?;
     for kind in [1, 2, 3, 4, 0, 0] {
         let first = session.next_out(&book);

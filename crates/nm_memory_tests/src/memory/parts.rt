@@ -7,7 +7,7 @@ ghost use Rattle.nm_model.specs.Run.{State};
 ghost use Rattle.nm_sim.specs.Part.{Represents};
 
 use crate::same::{eq_number, holds};
-use crate::split::{either, network};
+use crate::split::network;
 use nm_base::{IfaceNo, Key, NodeNo, Time};
 use nm_events::SortedList;
 use nm_forward::Counter;
@@ -151,6 +151,6 @@ fn part_whole(rt: HostRuntime) -> Result<(), Fail> {
     let topology = network(rt.alloc())?;
     let first = one_list(rt.alloc(), &topology, topology.stop());
     let second = one_list(rt.alloc(), &topology, topology.stop());
-    eq_number(&rt, "records", either(first, second)?.len() as u64, 2);
+    eq_number(&rt, "records", first.or(second)?.len() as u64, 2);
     Ok(())
 }

@@ -1,10 +1,11 @@
 //! Replays: a refused growth ends one at its step.
 
 use crate::same::eq_answer;
-use crate::split::SPLIT;
+use crate::words::refused;
 use nm_base::{ChanNo, PartNo};
 use nm_book::MergeFault;
-use nm_knowledge::{Accepted, KnowFault};
+use nm_fixtures::SPLIT;
+use nm_knowledge::Accepted;
 use nm_rounds::replay::replay;
 use nm_rounds::{ReplayEnd, ReplayFault, StepAnswer, WorldReport, WorldStep};
 use std::process::Abort;
@@ -46,18 +47,6 @@ fn merge(partition: u32, replica: u8) -> WorldStep {
     WorldStep::Merge {
         partition: PartNo::new(partition),
         replica,
-    }
-}
-
-/// Why a frame was refused, in a word and its number.
-fn refused(fault: &KnowFault) -> (&'static str, u64) {
-    match fault {
-        KnowFault::Gap { have } => ("gap", *have),
-        KnowFault::Differs { number } => ("differs", *number),
-        KnowFault::Late { clock } => ("late", *clock),
-        KnowFault::NotRising => ("notrising", 0),
-        KnowFault::Memory => ("memory", 0),
-        KnowFault::Contrary { count } => ("contrary", *count),
     }
 }
 

@@ -1,7 +1,23 @@
-//! Texts of networks.
+//! Texts that several crates of tests go over, each once: four networks, which are those of the same
+//! names in `examples/` (`tools/check-docs` compares them), and what stands in frames.
+#![tactic(auto)]
 
-/// Two hosts, a of partition 0 and b of partition 1, and one UDP packet. Channel 0 goes from b to a
-/// and comes in at interface 0; channel 1 goes from a to b and comes in at interface 1.
+/// Two hosts, one link, one UDP packet.
+pub const DUO: &str = r#"format = 1
+stop = 10000000
+mtu = 1500
+node = [ {name = "a", kind = "host", partition = 0},
+  {name = "b", kind = "host", partition = 0, ports = [9]} ]
+iface = [ {name = "a0", node = "a", address = "10.0.0.1", queue = 4},
+  {name = "b0", node = "b", address = "10.0.0.2", queue = 4} ]
+link = [ {a = "a0", b = "b0", rate = 8000000, delay = 1000000} ]
+route = [ {node = "a", to = "10.0.0.0/24", via = "a0"} ]
+source = [
+  {kind = "cbr", node = "a", to = "10.0.0.2", sport = 1000, dport = 9, size = 72, start = 0, interval = 1000000, count = 1} ]
+"#;
+
+/// `DUO` cut in two: a is in partition 0, b in partition 1. Channel 0 goes from b to a and comes in at
+/// interface 0; channel 1 goes from a to b and comes in at interface 1.
 pub const SPLIT: &str = r#"format = 1
 stop = 10000000
 mtu = 1500
@@ -15,8 +31,8 @@ source = [
   {kind = "cbr", node = "a", to = "10.0.0.2", sport = 1000, dport = 9, size = 72, start = 0, interval = 1000000, count = 1} ]
 "#;
 
-/// The first link lies inside partition 0, so that channel 0 comes in at interface 2 and channel 1
-/// at interface 3.
+/// Two hosts, a and b, on both sides of a router. The first link lies inside partition 0, so that
+/// channel 0 comes in at interface 2 and channel 1 at interface 3.
 pub const SHIFT: &str = r#"format = 1
 stop = 20000000
 mtu = 1500
@@ -59,3 +75,7 @@ route = [ {node = "n0", to = "10.0.1.0/24", via = "n0a"},
 source = [
   {kind = "cbr", node = "n0", to = "10.0.1.2", sport = 1000, dport = 9, size = 72, start = 0, interval = 2000000, count = 2} ]
 "#;
+
+/// 72 octets of 0 in hexadecimal: what the packet of `DUO` and of `SPLIT` carries.
+pub const ZEROS: &str = "000000000000000000000000000000000000000000000000000000000000000000000000\
+000000000000000000000000000000000000000000000000000000000000000000000000";
