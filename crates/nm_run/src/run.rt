@@ -240,11 +240,22 @@ fn own_and_others(
     Ok((own, others))
 }
 
-/// Each book is lent to the pool at first.
-fn lendings_for(alloc: Global, books: &[SharedBook<Plain>]) -> Result<Vec<Lending>, AllocError> {
+/// Each book is lent to the pool at first. A partition that is alone has no messages to wait for:
+/// its own threads run its books, and write records while they are near the processor.
+fn lendings_for(
+    alloc: Global,
+    topology: &Topology,
+    books: &[SharedBook<Plain>],
+) -> Result<Vec<Lending>, AllocError> {
+    let is_alone = topology.partitions() == 1;
     let mut lendings = Vec::with_capacity(alloc, books.len())?;
     for _ in books {
-        lendings.push(Lending::new())?;
+        let lending = if is_alone {
+            Lending::alone()
+        } else {
+            Lending::new()
+        };
+        lendings.push(lending)?;
     }
     Ok(lendings)
 }
@@ -316,7 +327,7 @@ where
     let sides = sides_of(rt, &opened, owners, posts, outputs)?;
     let (dispatcher, waker) = dispatcher_of(rt, &opened, seat)?;
     let (ended, has_failed) = (AtomicUsize::new(0), AtomicBool::new(false));
-    let lendings = lendings_for(alloc, books)?;
+    let lendings = lendings_for(alloc, plan.topology, books)?;
     let threaded = Threaded {
         alloc,
         topology: &*plan.topology,
