@@ -1,5 +1,5 @@
-//! Texts that several crates of tests go over, each once: four networks, which are those of the same
-//! names in `examples/` (`tools/check-docs` compares them), and what stands in frames.
+//! Texts that several crates of tests go over, each once: four networks, which are those of the
+//! same names in `examples/` (`tools/check-docs` compares them), and what stands in frames.
 #![tactic(auto)]
 
 /// Two hosts, one link, one UDP packet.
@@ -16,8 +16,8 @@ source = [
   {kind = "cbr", node = "a", to = "10.0.0.2", sport = 1000, dport = 9, size = 72, start = 0, interval = 1000000, count = 1} ]
 "#;
 
-/// `DUO` cut in two: a is in partition 0, b in partition 1. Channel 0 goes from b to a and comes in at
-/// interface 0; channel 1 goes from a to b and comes in at interface 1.
+/// `DUO` cut in two: a is in partition 0, b in partition 1. Channel 0 goes from b to a and comes in
+/// at interface 0; channel 1 goes from a to b and comes in at interface 1.
 pub const SPLIT: &str = r#"format = 1
 stop = 10000000
 mtu = 1500

@@ -7,8 +7,8 @@ use bytes::BytesMut;
 use nm_base::Packet;
 use std::alloc::{AllocError, Global};
 
-/// The octets of a block. Blocks are small, so that what a node writes next is still near the
-/// processor.
+/// The octets of a block. Blocks are small, so that what is written next is still near the
+/// processor, and a packet that is kept long keeps no more than this.
 const BLOCK_OCTETS: usize = 2_048;
 
 /// The greatest packet that is cut from a block. So less than a quarter of a block is left over.
