@@ -1,9 +1,9 @@
-//! Runs of three routers in a ring.
+//! Runs of three routers in a ring, and of a partition that is alone.
 
 use crate::gates::Watching;
 use nm_base::{IfaceNo, PartNo};
 use nm_files::MemOutputs;
-use nm_fixtures::RING;
+use nm_fixtures::{DUO, RING};
 use nm_progress::{Figure, Figures, Progress};
 use nm_run::{Report, RunFault, RunPlan, run_all};
 use nm_topology::Topology;
@@ -28,10 +28,11 @@ fn files_of(alloc: Global, room: usize, file_octets: usize) -> MemOutputs {
     }
 }
 
-/// Runs the ring.
-fn run_ring<R>(
+/// Runs the network of a text.
+fn run_text<R>(
     rt: &R,
     alloc: Global,
+    text: &str,
     replicas: u8,
     outputs: &mut MemOutputs,
     gate: &Watching,
@@ -46,7 +47,7 @@ where
         + Drop
         + Copy,
 {
-    let Ok(topology) = Topology::read(alloc, RING.as_bytes()) else {
+    let Ok(topology) = Topology::read(alloc, text.as_bytes()) else {
         return Err(io::ErrorKind::Other.into());
     };
     let topology = Arc::new(alloc, topology)?;
@@ -89,9 +90,10 @@ fn a_ring_is_certified(rt: HostRuntime) -> Result<(), Fail> {
     for replicas in 1..3 {
         let gate = Watching::new(true, false);
         let mut outputs = files_of(rt.alloc(), 6, 1_000);
-        let outcome = run_ring(
+        let outcome = run_text(
             &rt,
             rt.alloc(),
+            RING,
             replicas,
             &mut outputs,
             &gate,
@@ -101,6 +103,30 @@ fn a_ring_is_certified(rt: HostRuntime) -> Result<(), Fail> {
         assert!(rt; gate.most.load(Ordering::SeqCst) >= 48);
         // the first job of each book: what is left is short, and stays on its thread
         assert!(rt; gate.jobs.load(Ordering::SeqCst) == 3 * u64::from(replicas));
+    }
+    Ok(())
+}
+
+/// A partition that is alone is run by its replicas' own threads: no job is given for it.
+#[test]
+fn a_partition_alone_has_no_job(rt: HostRuntime) -> Result<(), Fail> {
+    for replicas in 1..3 {
+        let gate = Watching::new(true, false);
+        let mut outputs = files_of(rt.alloc(), 2, 1_000);
+        let progress = Progress::new();
+        let outcome = run_text(
+            &rt,
+            rt.alloc(),
+            DUO,
+            replicas,
+            &mut outputs,
+            &gate,
+            &progress,
+        )?;
+        assert!(rt; outcome.is_ok());
+        assert!(rt; gate.jobs.load(Ordering::SeqCst) == 0);
+        // a file header, a record header and the packet
+        assert!(rt; octets_of(&outputs) == 2 * (24 + 16 + 100));
     }
     Ok(())
 }
@@ -123,7 +149,7 @@ fn what_replicas_do_is_counted(rt: HostRuntime) -> Result<(), Fail> {
     let progress = Progress::with_figures(rt.alloc())?;
     let mut outputs = files_of(rt.alloc(), 6, 1_000);
     let gate = Watching::new(true, false);
-    let outcome = run_ring(&rt, rt.alloc(), 1, &mut outputs, &gate, &progress)?;
+    let outcome = run_text(&rt, rt.alloc(), RING, 1, &mut outputs, &gate, &progress)?;
     is_whole(&rt, &outcome, &outputs);
     let Some(figures) = progress.figures() else {
         return Err("figures were asked for".into());
@@ -141,7 +167,15 @@ fn what_replicas_do_is_counted(rt: HostRuntime) -> Result<(), Fail> {
 fn run_two_at_once(rt: HostRuntime) -> Result<(), Fail> {
     let gate = Watching::new(true, true);
     let mut outputs = files_of(rt.alloc(), 6, 1_000);
-    let outcome = run_ring(&rt, rt.alloc(), 1, &mut outputs, &gate, &Progress::new())?;
+    let outcome = run_text(
+        &rt,
+        rt.alloc(),
+        RING,
+        1,
+        &mut outputs,
+        &gate,
+        &Progress::new(),
+    )?;
     is_whole(&rt, &outcome, &outputs);
     assert!(rt; gate.first.load(Ordering::SeqCst) && gate.second.load(Ordering::SeqCst));
     assert!(rt; !gate.was_alone.load(Ordering::SeqCst));
@@ -153,7 +187,15 @@ fn run_two_at_once(rt: HostRuntime) -> Result<(), Fail> {
 fn run_asks_its_polls(rt: HostRuntime) -> Result<(), Fail> {
     let gate = Watching::new(false, false);
     let mut outputs = files_of(rt.alloc(), 6, 1_000);
-    let outcome = run_ring(&rt, rt.alloc(), 1, &mut outputs, &gate, &Progress::new())?;
+    let outcome = run_text(
+        &rt,
+        rt.alloc(),
+        RING,
+        1,
+        &mut outputs,
+        &gate,
+        &Progress::new(),
+    )?;
     assert!(rt; outcome.err() == Some(RunFault::Net));
     Ok(())
 }
@@ -180,7 +222,16 @@ fn files_that_fail(rt: HostRuntime) -> Result<(), Fail> {
     ] {
         let gate = Watching::new(true, false);
         let mut outputs = files_of(rt.alloc(), room, octets);
-        let fault = run_ring(&rt, rt.alloc(), 1, &mut outputs, &gate, &Progress::new())?.err();
+        let fault = run_text(
+            &rt,
+            rt.alloc(),
+            RING,
+            1,
+            &mut outputs,
+            &gate,
+            &Progress::new(),
+        )?
+        .err();
         assert!(rt; has_failed(&fault, &ifaces, written));
         assert!(rt; outputs.files.is_empty());
     }
@@ -193,7 +244,16 @@ fn a_file_that_is_not_named(rt: HostRuntime) -> Result<(), Fail> {
     let gate = Watching::new(true, false);
     let mut outputs = files_of(rt.alloc(), 6, 1_000);
     outputs.places = 3;
-    let fault = run_ring(&rt, rt.alloc(), 1, &mut outputs, &gate, &Progress::new())?.err();
+    let fault = run_text(
+        &rt,
+        rt.alloc(),
+        RING,
+        1,
+        &mut outputs,
+        &gate,
+        &Progress::new(),
+    )?
+    .err();
     assert!(rt; has_failed(&fault, &[0, 1, 2, 3], 256) || has_failed(&fault, &[4, 5, 4, 5], 24));
     assert!(rt; outputs.files.len() == 3);
     Ok(())
