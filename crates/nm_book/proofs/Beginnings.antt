@@ -7,7 +7,7 @@ use Rattle.nm_topology.specs.TopologyValue.{TopologyValue}
 use Rattle.nm_model.specs.Knowledge.{no_knowledge, nothing_known}
 use Rattle.nm_model.specs.Replica.{from_scratch, inbox_events}
 use Rattle.nm_model.specs.Run.{start}
-use Rattle.nm_events.specs.declared.heap_list.HeapList.{HeapList}
+use Rattle.nm_events.specs.Held.{Held}
 use Rattle.nm_sim.specs.Network.{here_of, net_of}
 use Rattle.nm_sim.specs.Part.{PartValue, Represents}
 use Rattle.nm_book.specs.Book.{IsBook, known_at, knowledge_of, pending_in}
@@ -29,7 +29,7 @@ nothing_of n (Some c) = nothing_at n c
 pub is_nothing : (t : TopologyValue) (n : ℕ) → knowledge_of t (replicate n nothing_known) ≡ no_knowledge
 is_nothing t n = fun_ext (λ i. nothing_of n (channel_from 0 t.receivers i))
 
-pub first_book : (t : TopologyValue) (p : ℕ) (part : PartValue HeapList) → inbox_events (net_of t) p no_knowledge ≡ []
+pub first_book : (t : TopologyValue) (p : ℕ) (part : PartValue Held) → inbox_events (net_of t) p no_knowledge ≡ []
     → Represents pending_in t (Some p) part (start (net_of t) (here_of t (Some p)) []) → part.steps ≡ 0
     → IsBook t p (replicate (length t.receivers) nothing_known) part
 first_book t p part inbox represents steps =

@@ -10,7 +10,7 @@ use Rattle.nm_model.specs.Lists.{IsPrefix, nth}
 use Rattle.nm_model.specs.Partition.{comes_in}
 use Rattle.nm_model.specs.Replica.{IsUnderAll, IsWithin, from_scratch}
 use Rattle.nm_model.proofs.ListLemmas.{below_nth, not_some, prefix_self, same_number, some_inj}
-use Rattle.nm_events.specs.declared.heap_list.HeapList.{HeapList}
+use Rattle.nm_events.specs.Held.{Held}
 use Rattle.nm_knowledge.specs.Gain.{Gain, IsGain}
 use Rattle.nm_sim.specs.Network.{net_of}
 use Rattle.nm_sim.specs.Part.{PartValue, Represents}
@@ -193,7 +193,7 @@ told_nothing t p knows others c a b first turn same =
     (λ comes. ap (λ (z : Know (List ℕ)). z.list) turn.ours ∙ same comes ∙ ap (λ z. (join z b).list) (sym turn.ours) ∙ ap (λ z. (join (known t p knows others c) z).list) (sym turn.theirs))
 
 -- once all is told, greater clocks change no state
-module _ (t : TopologyValue) (p : ℕ) (knows others : List (Know (List ℕ))) (part : PartValue HeapList) where
+module _ (t : TopologyValue) (p : ℕ) (knows others : List (Know (List ℕ))) (part : PartValue Held) where
   pub joined_book : (first after : List (Know (List ℕ))) → length knows ≡ length t.receivers → IsBook t p first part → AreTold t p knows others (length knows) first → AreJoined t p knows others after
       → ((c : ℕ) → c < length t.receivers → channel_from 0 t.receivers (receiving_iface t c) ≡ Some c)
       → ((i : ℕ) → comes_in (net_of t) p i ≡ true → (c : ℕ) × (c < length t.receivers) × (receiving_iface t c ≡ i))

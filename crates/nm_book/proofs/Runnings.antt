@@ -8,12 +8,12 @@ use Rattle.nm_model.specs.Replica.{IsWithin, from_scratch, safe_time}
 use Rattle.nm_model.specs.Run.{State, pends_before, step}
 use Rattle.nm_model.specs.World.{advance}
 use Rattle.nm_model.proofs.ListLemmas.{below_or_at}
-use Rattle.nm_events.specs.declared.heap_list.HeapList.{HeapList}
+use Rattle.nm_events.specs.Held.{Held}
 use Rattle.nm_sim.specs.Network.{here_of, net_of}
 use Rattle.nm_sim.specs.Part.{PartValue, Represents}
 use Rattle.nm_book.specs.Book.{IsBook, knowledge_of, pending_in}
 
-module _ (t : TopologyValue) (p : ℕ) (knows : List (Know (List ℕ))) (part new : PartValue HeapList) where
+module _ (t : TopologyValue) (p : ℕ) (knows : List (Know (List ℕ))) (part new : PartValue Held) where
   -- a part that represents the same stands for the same replica
   pub still_book : IsBook t p knows part → ((s : State (List ℕ) NodeStateValue) → Represents pending_in t (Some p) part s → Represents pending_in t (Some p) new s)
       → new.steps ≡ part.steps → IsBook t p knows new

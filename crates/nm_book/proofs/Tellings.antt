@@ -16,7 +16,7 @@ use Rattle.nm_model.specs.Accept.{Accepted, Gap, Known, Raised, accept_null, nul
 use Rattle.nm_model.specs.Lists.{nth, set_at}
 use Rattle.nm_model.specs.Partition.{comes_in}
 use Rattle.nm_model.specs.Replica.{IsUnderAll, IsWithin, from_scratch}
-use Rattle.nm_events.specs.declared.heap_list.HeapList.{HeapList}
+use Rattle.nm_events.specs.Held.{Held}
 use Rattle.nm_sim.specs.Network.{net_of}
 use Rattle.nm_sim.specs.Part.{PartValue, Represents, with_arrival}
 use Rattle.nm_book.specs.Book.{IsBook, known_at, knowledge_of, pending_in}
@@ -89,7 +89,7 @@ more_is_over a time x h = record {
     last (y ∷ l) (suc n) b past e = last l n b (omega (arith, past)) e
 
 -- A replica over what it knows, and over one message more of a channel.
-module _ (t : TopologyValue) (p : ℕ) (l : List (Know (List ℕ))) (part new : PartValue HeapList) (c time : ℕ) (x : List ℕ) where
+module _ (t : TopologyValue) (p : ℕ) (l : List (Know (List ℕ))) (part new : PartValue Held) (c time : ℕ) (x : List ℕ) where
   abbrev i : ℕ
   i = receiving_iface t c
 
@@ -131,7 +131,7 @@ module _ (t : TopologyValue) (p : ℕ) (l : List (Know (List ℕ))) (part new : 
       }
 
 -- The same over a greater clock of a channel: no state changes.
-module _ (t : TopologyValue) (p : ℕ) (l : List (Know (List ℕ))) (part : PartValue HeapList) (c : ℕ) where
+module _ (t : TopologyValue) (p : ℕ) (l : List (Know (List ℕ))) (part : PartValue Held) (c : ℕ) where
   abbrev iface : ℕ
   iface = receiving_iface t c
 
@@ -169,7 +169,7 @@ set_same (x ∷ l) zero = refl
 set_same (x ∷ l) (suc c) = ap (λ z. x ∷ z) (set_same l c)
 
 -- a null message was taken in, or changed nothing
-module _ (t : TopologyValue) (p : ℕ) (l : List (Know (List ℕ))) (part : PartValue HeapList) (c : ℕ) where
+module _ (t : TopologyValue) (p : ℕ) (l : List (Know (List ℕ))) (part : PartValue Held) (c : ℕ) where
   pub told_null : (book : IsBook t p l part)
       → ((time : ℕ) → (slice_index_or l c nothing_known).clock ≤ time → IsUnder (slice_index_or l c nothing_known) (record { list = (slice_index_or l c nothing_known).list; clock = time })
       → IsBook t p (slice_set l c (record { list = (slice_index_or l c nothing_known).list; clock = time })) part)

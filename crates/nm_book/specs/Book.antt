@@ -1,6 +1,6 @@
 -- What contracts see of a book, and what it takes in.
-use Rattle.std.specs.Prelude.{◌≡◌, ℕ, ◌-◌, Bool, ltb, ◌&&◌, true, false, List, length, slice_index_or, slice_set, Option, Some, None, Result, Ok, Err}
-use Rattle.std.specs.FinMap.{FinMap, from_entries}
+use Rattle.std.specs.Prelude.{◌≡◌, ℕ, Bool, ltb, ◌&&◌, true, false, List, length, slice_index_or, slice_set, Option, Some, None, Result, Ok, Err}
+use Rattle.std.specs.FinMap.{FinMap}
 use Rattle.nm_base.specs.declared.event.Event.{Event}
 use Rattle.nm_base.specs.Key.{key_cmp}
 use Rattle.nm_topology.specs.Topology.{channel_from, receiving_iface}
@@ -13,7 +13,7 @@ use Rattle.nm_model.specs.Replica.{IsWithin, from_scratch, safe_time}
 use Rattle.nm_model.specs.Run.{State}
 use Rattle.nm_model.specs.World.{Replica}
 use Rattle.nm_forward.specs.State.{NodeStateValue}
-use Rattle.nm_events.specs.declared.heap_list.HeapList.{HeapList}
+use Rattle.nm_events.specs.Held.{Held, pending_of}
 use Rattle.nm_knowledge.specs.Answers.{answer, know_fault_number, reason}
 use Rattle.nm_knowledge.specs.Octets.{same_octets}
 use Rattle.nm_knowledge.specs.declared.answer.Accepted.{Accepted}
@@ -89,16 +89,16 @@ only_if false x = None
 abbrev pub replica_of : BookValue → Replica (List ℕ)
 replica_of b = record { knowledge = knowledge b; ran = b.events }
 
--- the pending events of a heap
-abbrev pub pending_in : HeapList → FinMap key_cmp (Event (List ℕ))
-pending_in s = from_entries s.heap.entries
+-- the pending events of the part's list
+abbrev pub pending_in : Held → FinMap key_cmp (Event (List ℕ))
+pending_in s = pending_of s
 
--- for how many more events a heap has room
-abbrev pub room_in : HeapList → ℕ
-room_in s = s.heap.capacity - length s.heap.entries
+-- for how many more events it has room
+abbrev pub room_in : Held → ℕ
+room_in s = s.room
 
 -- the part is that of a replica from scratch that knows this much, and did events before its safe time alone
-pub record IsBook (t : TopologyValue) (p : ℕ) (knows : List (Know (List ℕ))) (part : PartValue HeapList) : Type 0 where
+pub record IsBook (t : TopologyValue) (p : ℕ) (knows : List (Know (List ℕ))) (part : PartValue Held) : Type 0 where
   pub count : length knows ≡ length t.receivers
   pub represents : Represents pending_in t (Some p) part (from_scratch (net_of t) p (knowledge_of t knows) part.steps)
   pub within : IsWithin (net_of t) p (knowledge_of t knows) part.steps

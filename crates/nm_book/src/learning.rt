@@ -15,7 +15,7 @@ ghost use Rattle.nm_book.specs.declared.fault.AcceptFault.TheVariants.{Known};
 use crate::fault::AcceptFault;
 use crate::message::{Data, Null};
 use nm_base::{Packet, PartNo};
-use nm_events::HeapList;
+use nm_events::SortedList;
 use nm_forward::NodeState;
 use nm_knowledge::{Accepted, Know, KnowFault};
 use nm_model::knowledge::accept_laws;
@@ -47,17 +47,22 @@ pub(crate) fn take_data(
     topology: &Topology,
     partition: PartNo,
     knows: &mut Vec<Know>,
-    part: &mut Part<HeapList>,
+    part: &mut Part<SortedList>,
     message: &Data,
 ) -> Result<Accepted, AcceptFault>
+    // The book is one of this partition, and the channel comes in.
     requires book { IsBook topology.now partition knows.old.items part.old }
     requires there { message.now.channel < length topology.now.receivers }
     requires comes { comes_in (net_of topology.now) partition
         (receiving_iface topology.now message.now.channel) ≡ true }
+
+    // It is one after it, and knows what the model says.
     ensures book { IsBook topology.now partition knows.new.items part.new }
     ensures learns { Learns knows.old.items knows.new.items message.now.channel
         (data_taken knows.old.items message.now.channel message.now.number message.now.time
         message.now.packet) result }
+
+    // Nothing happened.
     ensures steps { part.new.steps ≡ part.old.steps }
     ensures handed { part.new.records.handed ≡ part.old.records.handed }
 {
@@ -77,16 +82,21 @@ pub(crate) fn take_data(
 }
 
 /// The next message of a channel that comes in: its arrival, for which there is room, is to come.
-fn put_message(topology: &Topology, partition: PartNo, part: &mut Part<HeapList>, message: Data)
+fn put_message(topology: &Topology, partition: PartNo, part: &mut Part<SortedList>, message: Data)
+    // The message is the next of its channel, and there is room.
     requires next { (knows : List (Knowledge (List ℕ)))
         × IsBook topology.now partition knows part.old
         × IsNext topology.now partition knows message }
     requires room { 1 ≤ room_in part.old.timeline.events }
+
+    // A book that is told it knows it. It takes one place.
     ensures book { (knows : List (Knowledge (List ℕ)))
         → IsBook topology.now partition knows part.old
         → IsNext topology.now partition knows message
         → IsBook topology.now partition (told_one knows message) part.new }
     ensures room { room_in part.old.timeline.events ≤ room_in part.new.timeline.events + 1 }
+
+    // Nothing happened.
     ensures steps { part.new.steps ≡ part.old.steps }
     ensures handed { part.new.records.handed ≡ part.old.records.handed }
 {
@@ -109,7 +119,7 @@ fn put_message(topology: &Topology, partition: PartNo, part: &mut Part<HeapList>
 pub(crate) fn put_messages(
     topology: &Topology,
     partition: PartNo,
-    part: &mut Part<HeapList>,
+    part: &mut Part<SortedList>,
     messages: Vec<Data>,
 )
     requires next { (knows : List (Knowledge (List ℕ)))
@@ -133,10 +143,11 @@ fn put_data(
     topology: &Topology,
     partition: PartNo,
     knows: &mut Vec<Know>,
-    part: &mut Part<HeapList>,
+    part: &mut Part<SortedList>,
     message: &Data,
     packet: Packet,
 ) -> Result<(), AcceptFault>
+    // The message is new to a book of this partition, and there is room.
     requires same { packet ≡ message.now.packet }
     requires book { IsBook topology.now partition knows.old.items part.old }
     requires there { message.now.channel < length topology.now.receivers }
@@ -145,12 +156,18 @@ fn put_data(
     requires next { (data_taken knows.old.items message.now.channel message.now.number
         message.now.time message.now.packet).answer ≡ IsNew }
     requires room { 1 ≤ room_in part.old.timeline.events }
+
+    // It is known on success; the book is one of this partition in any case.
     ensures book { IsBook topology.now partition knows.new.items part.new }
     ensures ok { OnOk result (knows.new.items ≡ slice_set knows.old.items message.now.channel
         (data_taken knows.old.items message.now.channel message.now.number message.now.time
         message.now.packet).after) }
     ensures err { OnErr result (knows.new.items ≡ knows.old.items) }
+
+    // The one fault.
     ensures memory { IfErr result (λ e. e ≡ Known Memory) }
+
+    // Nothing happened.
     ensures steps { part.new.steps ≡ part.old.steps }
     ensures handed { part.new.records.handed ≡ part.old.records.handed }
 {
@@ -181,7 +198,7 @@ pub(crate) fn take_null(
     topology: &Topology,
     partition: PartNo,
     knows: &mut Vec<Know>,
-    part: &Part<HeapList>,
+    part: &Part<SortedList>,
     null: &Null,
 ) -> Result<Accepted, AcceptFault>
     requires book { IsBook topology.now partition knows.old.items part.now }

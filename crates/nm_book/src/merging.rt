@@ -19,7 +19,7 @@ use crate::fault::MergeFault;
 use crate::learning::put_messages;
 use crate::message::Data;
 use nm_base::{ChanNo, Packet, PartNo};
-use nm_events::HeapList;
+use nm_events::SortedList;
 use nm_forward::NodeState;
 use nm_knowledge::laws::{packets_are_told_apart, what_is_known};
 use nm_knowledge::{Gain, Know};
@@ -232,14 +232,19 @@ pub(crate) fn merge_all(
     topology: &Topology,
     partition: PartNo,
     knows: &mut Vec<Know>,
-    part: &mut Part<HeapList>,
+    part: &mut Part<SortedList>,
     others: &[Know],
 ) -> Result<(), MergeFault>
+    // The book is one of this partition, and the other has as many channels.
     requires book { IsBook topology.now partition knows.old.items part.old }
     requires others { length others.now ≡ length topology.now.receivers }
+
+    // It is one after it, and knows what the model says.
     ensures book { IsBook topology.now partition knows.new.items part.new }
     ensures merges { MergesChannels topology.now partition knows.old.items others.now true
         knows.new.items result }
+
+    // Nothing happened.
     ensures steps { part.new.steps ≡ part.old.steps }
     ensures handed { part.new.records.handed ≡ part.old.records.handed }
 {

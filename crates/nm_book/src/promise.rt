@@ -16,7 +16,7 @@ ghost use Rattle.nm_topology.specs.Topology.{receiving_iface};
 ghost use Rattle.nm_book.specs.Book.{IsBook, knowledge_of, pending_in};
 
 use nm_base::{ChanNo, IfaceNo, Time};
-use nm_events::HeapList;
+use nm_events::SortedList;
 use nm_iface::transmission_time;
 use nm_sim::Part;
 use nm_sim::network::every_topology_is_a_network;
@@ -28,7 +28,7 @@ use nm_topology::topology::{
 
 /// No further event of the part is before this time: the least of `stop`, of the safe time and of
 /// the times of events to come.
-fn next_cause(topology: &Topology, part: &Part<HeapList>, safe: Time) -> Time
+fn next_cause(topology: &Topology, part: &Part<SortedList>, safe: Time) -> Time
     ensures value { (p : ℕ) (s : State (List ℕ) NodeStateValue)
         → Represents pending_in topology.now (Some p) part.now s
         → result ≡ next_time (min topology.now.stop safe) (least s.pending) }
@@ -43,10 +43,13 @@ fn next_cause(topology: &Topology, part: &Part<HeapList>, safe: Time) -> Time
 
 /// The link of an interface: its rate in bits per second, and its delay in nanoseconds.
 fn link_of(topology: &Topology, iface: IfaceNo) -> Far
+    // The interface is there, and its link is within its limits.
     requires { iface < length topology.now.ifaces }
     ensures least { 1 ≤ result.rate }
     ensures rate { result.rate ≤ MAX_RATE }
     ensures short { result.delay ≤ MAX_DELAY }
+
+    // The link is the network's.
     ensures peer { result.peer ≡ (net_of topology.now).peer iface }
     ensures delay { result.delay ≡ (net_of topology.now).delay iface }
     ensures least_tx { time_of result.rate 1 ≡ (net_of topology.now).least_tx iface }
@@ -71,7 +74,7 @@ fn sender(topology: &Topology, channel: ChanNo) -> IfaceNo
 /// The promise that counts the link's delay alone, in nanoseconds.
 pub(crate) fn plain_promise(
     topology: &Topology,
-    part: &Part<HeapList>,
+    part: &Part<SortedList>,
     safe: Time,
     channel: ChanNo,
 ) -> Time
@@ -91,7 +94,7 @@ pub(crate) fn plain_promise(
 /// nanoseconds.
 pub(crate) fn tight_promise(
     topology: &Topology,
-    part: &Part<HeapList>,
+    part: &Part<SortedList>,
     safe: Time,
     channel: ChanNo,
 ) -> Time

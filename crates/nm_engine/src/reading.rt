@@ -65,13 +65,18 @@ fn read_into<W: Wire>(
     octets: &mut [u8],
     frames: &mut Vec<Frame>,
 ) -> Result<usize, Cause>
+    // The buffer has its size, no fault was read, and frames were taken.
     requires size { length octets.old ≡ MAX_READ_OCTETS }
     requires sound { reader.old.failed ≡ false }
     requires none { frames.old.items ≡ [] }
     requires part { IsPart reader.old.rest }
+
+    // What the wire gave is frames and the part of one that is kept.
     ensures reads { Reads W.given W.ends W.failures wire.old wire.new may_end reader.old
         frames.new.items reader.new result }
     ensures part { IsPart reader.new.rest }
+
+    // Nothing is written.
     ensures keeps { W.taken wire.new ≡ W.taken wire.old }
 {
     match wire.read_some(octets) {
@@ -91,12 +96,17 @@ pub(crate) fn read_in<W: Wire>(
     buffer: &mut ReadBuffer,
     frames: &mut Vec<Frame>,
 ) -> Result<usize, Cause>
+    // No fault was read, and frames were taken.
     requires sound { reader.old.failed ≡ false }
     requires none { frames.old.items ≡ [] }
     requires part { IsPart reader.old.rest }
+
+    // What the wire gave is frames and the part of one that is kept.
     ensures reads { Reads W.given W.ends W.failures wire.old wire.new may_end reader.old
         frames.new.items reader.new result }
     ensures part { IsPart reader.new.rest }
+
+    // Nothing is written.
     ensures keeps { W.taken wire.new ≡ W.taken wire.old }
 {
     read_into(alloc, wire, reader, may_end, &mut buffer.octets, frames)

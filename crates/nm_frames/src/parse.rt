@@ -71,13 +71,18 @@ fn is_fitting(body: &[u8]) -> bool
 
 /// The Hello of these octets after its length.
 fn hello_of(body: &[u8]) -> Hello
+    // The body has the length of a Hello.
     requires { HELLO_OCTETS ≡ length body.now }
+
+    // Each field is read at its place.
     ensures version { result.version
         ≡ from_be_bytes w16 (take 2 (drop field.VERSION body.now)) }
     ensures partition { result.partition
         ≡ from_be_bytes w32 (take 4 (drop field.PARTITION body.now)) }
     ensures replica { result.replica ≡ slice_index body.now field.REPLICA }
     ensures digest { result.digest ≡ drop field.DIGEST body.now }
+
+    // What is read is a frame.
     ensures fits { IsFrame (Frame.Hello result) }
 {
     let mut digest = [0; DIGEST_OCTETS];
@@ -92,7 +97,10 @@ fn hello_of(body: &[u8]) -> Hello
 
 /// The message of these octets after its length. Its packet is a copy of theirs.
 fn data_of(alloc: Global, body: &[u8]) -> Result<Data, AllocError>
+    // The body has the length of a Data frame.
     requires { (DATA_HEADER_OCTETS < length body.now) × (length body.now ≤ MAX_BODY_OCTETS) }
+
+    // Each field is read at its place.
     ensures channel { IfOk result
         (λ d. d.channel ≡ from_be_bytes w32 (take 4 (drop field.CHANNEL body.now))) }
     ensures number { IfOk result
@@ -100,6 +108,8 @@ fn data_of(alloc: Global, body: &[u8]) -> Result<Data, AllocError>
     ensures time { IfOk result
         (λ d. d.time ≡ from_be_bytes w64 (take 8 (drop field.TIME body.now))) }
     ensures packet { IfOk result (λ d. d.packet ≡ drop field.PACKET body.now) }
+
+    // What is read is a frame.
     ensures fits { IfOk result (λ d. IsFrame (Frame.Data d)) }
 {
     let octets = Bytes::copy_from_slice(alloc, &body[field::PACKET..])?;

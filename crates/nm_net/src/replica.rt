@@ -117,12 +117,19 @@ pub fn run_replica<C: Counts, S: Sink, T: Transport, G: Gate, R: Wait>(
     transport: &mut T,
     gate: &G,
 ) -> Served
+    // The seats are those of the board, and the trace files are sound.
     requires owners { All (IsOwnerOf service.now.board.now) holdings.old.seats.items }
     requires files { All IsSound holdings.old.files.files.items }
+
+    // Where all is done, each file has the records of its interface.
     ensures streams { result ≡ Ended → Streams S.taken S.failures C.exact C.home
         holdings.old.files.files.items holdings.new.files.files.items }
+
+    // Else the ending says the truth about the replica and the time that passed.
     ensures ends { EndsWith C.exact C.home service.now.keeps_records service.now.idle_limit
         (T.elapsed_periods transport.old) (T.elapsed_periods transport.new) result }
+
+    // The seats and the passes go back.
     ensures owners { All (IsOwnerOf service.now.board.now) holdings.new.seats.items }
     ensures seats { length holdings.new.seats.items ≡ length holdings.old.seats.items }
     ensures passes { length holdings.new.passes.items ≡ length holdings.old.passes.items }

@@ -379,10 +379,13 @@ fn serve_and_act<C: Counts, S, T: Transport, R: Wait>(
     transport: &mut T,
     serving: &mut Serving<T::Connection>,
 ) -> Result<Acted, Served>
+    // Files, seats and the periods that passed stay as they are.
     ensures idle { T.elapsed_periods transport.new ≡ T.elapsed_periods transport.old }
     ensures files { holdings.new.files ≡ holdings.old.files }
     ensures seats { holdings.new.seats ≡ holdings.old.seats }
     ensures passes { length holdings.new.passes.items ≡ length holdings.old.passes.items }
+
+    // What it answers was seen of the book, and an early ending is no success.
     ensures seen { IfOk result (λ a. WasSeen C.exact C.home a.standing) }
     ensures early { IfErr result EndsEarly }
 {
@@ -445,13 +448,20 @@ pub(crate) fn poll<C: Counts, S: Sink, T: Transport, R: Wait>(
     transport: &mut T,
     serving: &mut Serving<T::Connection>,
 ) -> Result<Polled, Served>
+    // The seats are those of the board, and the trace files are sound.
     requires owners { All (IsOwnerOf service.now.board.now) holdings.old.seats.items }
     requires files { All IsSound holdings.old.files.files.items }
+
+    // The seats and the passes stay.
     ensures owners { All (IsOwnerOf service.now.board.now) holdings.new.seats.items }
     ensures seats { length holdings.new.seats.items ≡ length holdings.old.seats.items }
     ensures passes { length holdings.new.passes.items ≡ length holdings.old.passes.items }
+
+    // Records that are ready go to their files.
     ensures streams { OnOk result (Streams S.taken S.failures C.exact C.home
         holdings.old.files.files.items holdings.new.files.files.items) }
+
+    // It answers whether the wait ran out, and whether all is done. An early ending is no success.
     ensures idle { IfOk result (λ p. T.elapsed_periods transport.new
         ≡ elapsed_after (T.elapsed_periods transport.old) p.ran_out) }
     ensures done { IfOk result (λ p. p.is_done ≡ true

@@ -35,9 +35,12 @@ fn open_own<F: Outputs>(
     outputs: &mut F,
     files: &mut TraceFiles<F::File>,
 ) -> Result<(), Stop>
+    // The interface is there, and the files that are open are sound and counted.
     requires there { iface < length folder.topology.now.ifaces }
     requires sound { All IsSound files.old.files.items }
     requires counted { AreCounted F.File.taken (F.made outputs.old) files.old.files.items }
+
+    // So are they with this one, and none was placed.
     ensures sound { All IsSound files.new.files.items }
     ensures counted { OnOk result
         (AreCounted F.File.taken (F.made outputs.old) files.new.files.items) }

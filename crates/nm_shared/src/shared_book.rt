@@ -187,6 +187,7 @@ impl<C: Counts> SharedBook<C> {
         counts: C,
         whole: C::Share,
     ) -> Result<SharedBook<C>, BookFault>
+        // The counts are of this replica, at nothing, and the whole of them is given.
         requires home { C.exact ≡ true → C.home ≡ record {
           topology = arc_value topology;
           partition = partition;
@@ -195,6 +196,8 @@ impl<C: Counts> SharedBook<C> {
         requires counts { (C.messages counts ≡ 0) × (C.events counts ≡ 0) }
         requires whole { (C.parts whole ≡ 2 ^ 32) × (C.messages_of whole ≡ 0)
             × (C.events_of whole ≡ 0) }
+
+        // There is a book where the partition has such a replica, and only there.
         ensures there { IfOk result
             (λ _. is_replica (arc_value topology) partition replica ≡ true) }
         ensures no_such { result ≡ Err NoSuch

@@ -79,15 +79,22 @@ fn pool_of<C: Counts, J: Jobs + Send + Sync, G: Gate + Sync, R: Threads + Wait +
     workers: usize,
     gate: &G,
 ) -> Result<PoolReport<C>, AllocError>
+    // There are workers, and books for the jobs.
     requires workers { (1 ≤ workers) × (workers ≤ 64) }
     requires named { All (λ j. j.book < length books.now) jobs.now }
+
+    // The jobs that they take turns at are these.
     requires length { length jobs.now ≡ length J.books }
     requires books { J.books ≡ map (λ j. j.book) jobs.now }
     requires limits { J.limits ≡ map (λ j. j.limit) jobs.now }
+
+    // Each job has its pass, whose share counts the events that were done.
     ensures books { IfOk result
         (λ r. map (λ p. p.book) r.passes.items ≡ map (λ j. j.book) jobs.now) }
     ensures counted { IfOk result (λ r. map (λ p. C.events_of p.pass.share) r.passes.items
         ≡ map ran r.answers.items) }
+
+    // Each job has its answer, in order, within its limit.
     ensures within { IfOk result (λ r. (vec_len r.answers ≡ length jobs.now)
         × ((k : ℕ) → k < length jobs.now
         → slice_index (map ran r.answers.items) k ≤ slice_index J.limits k)) }
@@ -143,12 +150,17 @@ pub fn pool<C: Counts, G: Gate + Sync, R: Threads + Wait + Sync>(
     workers: usize,
     gate: &G,
 ) -> Result<PoolReport<C>, AllocError>
+    // There are workers, and books for the jobs.
     requires workers { (1 ≤ workers) × (workers ≤ 64) }
     requires named { All (λ j. j.book < length books.now) jobs.now }
+
+    // Each job has its pass, whose share counts the events that were done.
     ensures books { IfOk result
         (λ r. map (λ p. p.book) r.passes.items ≡ map (λ j. j.book) jobs.now) }
     ensures counted { IfOk result (λ r. map (λ p. C.events_of p.pass.share) r.passes.items
         ≡ map ran r.answers.items) }
+
+    // Each job has its answer, in order, within its limit.
     ensures within { IfOk result (λ r. (vec_len r.answers ≡ length jobs.now)
         × ((k : ℕ) → k < length jobs.now → slice_index (map ran r.answers.items) k
         ≤ slice_index (map (λ j. j.limit) jobs.now) k)) }

@@ -51,6 +51,23 @@ pub record Represents {L : Type 0} (pending : L → FinMap key_cmp (Event (List 
   pub records : RecordsRepresent t p.records s.records
   pub few_records : length s.records ≤ 2 * p.steps
 
+-- a fact of each run that the part may stand in, on this network: of the part of the network and the state of its run
+abbrev pub OfTheRunIn : {L : Type 0} → (L → FinMap key_cmp (Event (List ℕ))) → TopologyValue → PartValue L
+    → (Option ℕ → State (List ℕ) NodeStateValue → Type 0) → Type 0
+OfTheRunIn pending t p Fact = (part : Option ℕ) (s : State (List ℕ) NodeStateValue) → Represents pending t part p s → Fact part s
+
+-- the same, of the network too
+abbrev pub OfTheRun : {L : Type 0} → (L → FinMap key_cmp (Event (List ℕ))) → PartValue L
+    → (TopologyValue → Option ℕ → State (List ℕ) NodeStateValue → Type 0) → Type 0
+OfTheRun pending p Fact = (t : TopologyValue) (part : Option ℕ) (s : State (List ℕ) NodeStateValue) → Represents pending t part p s → Fact t part s
+
+-- the part stands in some run, on this network or on any
+abbrev pub IsOfARunIn : {L : Type 0} → (L → FinMap key_cmp (Event (List ℕ))) → TopologyValue → PartValue L → Type 0
+IsOfARunIn pending t p = (part : Option ℕ) × (s : State (List ℕ) NodeStateValue) × Represents pending t part p s
+
+abbrev pub IsOfARun : {L : Type 0} → (L → FinMap key_cmp (Event (List ℕ))) → PartValue L → Type 0
+IsOfARun pending p = (t : TopologyValue) × (part : Option ℕ) × (s : State (List ℕ) NodeStateValue) × Represents pending t part p s
+
 -- An event was taken out of a part that represented this state. If a packet came with it, the trace has it, and if another follows at its source,
 -- that is pending.
 pub record IsTaken {L : Type 0} (pending : L → FinMap key_cmp (Event (List ℕ))) (t : TopologyValue) (part : Option ℕ) (time number : ℕ) (e : Event (List ℕ))

@@ -364,11 +364,16 @@ impl Devices {
         origin: Origin,
         packet: &Packet,
     ) -> Result<Reaction, AllocError>
+        // The node is here, and the packet can come from this origin.
         requires node { IsMember (slice_get self.old.nodes node) }
         requires fits { FitsOrigin topology.now origin packet.now }
         requires represented { DevicesRepresentSome topology.now self.old }
+
+        // Ports stay as they are, and where memory is refused all does.
         ensures err { OnErr result (self.new ≡ self.old) }
         ensures ports { self.new.ports ≡ self.old.ports }
+
+        // It reacts as its rules say, and sends by an interface that is here.
         ensures own { IfOk result
             (λ r. IfSome (sent_of r) (λ s. IsMember (slice_get self.new.ports s.0))) }
         ensures reacts { (part : Option ℕ) (states : ℕ → NodeStateValue)
@@ -395,10 +400,15 @@ impl Devices {
         iface: IfaceNo,
         packet: &Packet,
     ) -> Result<Reaction, AllocError>
+        // The interface is here.
         requires place { IsMember (slice_get self.old.ports iface) }
         requires represented { DevicesRepresentSome topology.now self.old }
+
+        // Ports stay as they are, and where memory is refused all does.
         ensures err { OnErr result (self.new ≡ self.old) }
         ensures ports { self.new.ports ≡ self.old.ports }
+
+        // Its node reacts as its rules say, and sends by an interface that is here.
         ensures own { IfOk result
             (λ r. IfSome (sent_of r) (λ s. IsMember (slice_get self.new.ports s.0))) }
         ensures reacts { (part : Option ℕ) (states : ℕ → NodeStateValue)
@@ -449,12 +459,17 @@ impl Devices {
         number: u64,
         packet: &Packet,
     ) -> Result<Fired, AllocError>
+        // The source is here, and can hand over this packet.
         requires place { IsMember (slice_get self.old.sources source) }
         requires fits { FitsOrigin topology.now (FromSource source) packet.now }
         requires number { number < 2 ^ 63 }
         requires represented { DevicesRepresentSome topology.now self.old }
+
+        // Ports stay as they are, and where memory is refused all does.
         ensures err { OnErr result (self.new ≡ self.old) }
         ensures ports { self.new.ports ≡ self.old.ports }
+
+        // Its node reacts as its rules say, and sends by an interface that is here.
         ensures own { IfOk result
             (λ f. IfSome (sent_of f.reaction) (λ s. IsMember (slice_get self.new.ports s.0))) }
         ensures follows { IfOk result

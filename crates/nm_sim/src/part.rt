@@ -19,12 +19,12 @@ ghost use Rattle.nm_forward.specs.Reaction.{FitsOrigin, sent_of};
 ghost use Rattle.nm_sim.specs.Network.{here_of, net_of};
 ghost use Rattle.nm_sim.specs.Outgoing.{HaveSpare};
 ghost use Rattle.nm_sim.specs.Part.{Advanced, HasMemory, HasReacted, IsReady, IsUnderWay};
+ghost use Rattle.nm_sim.specs.Part.{IsOfARun, IsOfARunIn, OfTheRun, OfTheRunIn};
 ghost use Rattle.nm_sim.specs.Part.{Performed, Represents, Stepped, busy_at, count_at, drops_at};
 ghost use Rattle.nm_sim.specs.Part.{events_counted, events_done, messages_out, waiting_at};
 ghost use Rattle.nm_sim.specs.Part.{with_arrival};
 ghost use Rattle.nm_sim.specs.Records.{totals_at};
 ghost use Rattle.nm_topology.specs.Topology.{receiving_iface};
-ghost use Rattle.nm_topology.specs.TopologyValue.{TopologyValue};
 ghost use Rattle.std.specs.FinMap.{empty, get};
 ghost use Rattle.nm_sim.specs.Devices.{DevicesRepresent};
 ghost use Rattle.nm_sim.specs.Tables.{AllSome, IsMember};
@@ -149,11 +149,16 @@ impl<L: EventList> Part<L> {
     ///
     /// `AllocError` where the event list could not grow. The part is as it was then.
     pub fn reserve(&mut self, count: usize) -> Result<(), AllocError>
-        ensures same { (t : TopologyValue) (part : Option ℕ) (s : State (List ℕ) NodeStateValue)
-            → Represents L.pending t part self.old s → Represents L.pending t part self.new s }
+        // The part stands in the same runs.
+        ensures same { OfTheRun L.pending self.old
+            (λ t part s. Represents L.pending t part self.new s) }
         ensures events { L.pending self.new.timeline.events ≡ L.pending self.old.timeline.events }
+
+        // On success there is room for so many events. The room never shrinks.
         ensures room { OnOk result (count ≤ L.room self.new.timeline.events) }
         ensures keeps { L.room self.old.timeline.events ≤ L.room self.new.timeline.events }
+
+        // Nothing happened.
         ensures steps { self.new.steps ≡ self.old.steps }
         ensures handed { self.new.records.handed ≡ self.old.records.handed }
     {
@@ -170,15 +175,19 @@ impl<L: EventList> Part<L> {
         time: Time,
         packet: Packet,
     )
+        // The channel comes in here, there is room, and no event has the key.
         requires comes { (p : ℕ) × (self.old.part ≡ Some p)
             × (comes_in (net_of topology.now) p (receiving_iface topology.now channel) ≡ true) }
         requires room { 1 ≤ L.room self.old.timeline.events }
         requires fresh { get (L.pending self.old.timeline.events)
             (key_of time (Arrive (receiving_iface topology.now channel)) number) ≡ None }
-        ensures arrival { (part : Option ℕ) (s : State (List ℕ) NodeStateValue)
-            → Represents L.pending topology.now part self.old s
-            → Represents L.pending topology.now part self.new
-            (with_arrival (receiving_iface topology.now channel) number time packet s) }
+
+        // The arrival is to come.
+        ensures arrival { OfTheRunIn L.pending topology.now self.old
+            (λ part s. Represents L.pending topology.now part self.new
+            (with_arrival (receiving_iface topology.now channel) number time packet s)) }
+
+        // It takes one place, and nothing happened.
         ensures room { L.room self.old.timeline.events ≤ L.room self.new.timeline.events + 1 }
         ensures steps { self.new.steps ≡ self.old.steps }
         ensures handed { self.new.records.handed ≡ self.old.records.handed }
@@ -205,11 +214,9 @@ impl<L: EventList> Part<L> {
         before: Time,
     ) -> Result<Option<Key>, AllocError>
         requires before { before ≤ topology.now.stop }
-        requires represents { (part : Option ℕ) × (s : State (List ℕ) NodeStateValue)
-            × Represents L.pending topology.now part self.old s }
-        ensures step { (part : Option ℕ) (s : State (List ℕ) NodeStateValue)
-            → Represents L.pending topology.now part self.old s
-            → Stepped L.pending topology.now part before s self.old self.new result }
+        requires represents { IsOfARunIn L.pending topology.now self.old }
+        ensures step { OfTheRunIn L.pending topology.now self.old
+            (λ part s. Stepped L.pending topology.now part before s self.old self.new result) }
         ensures steps { self.new.steps ≡ self.old.steps + events_done result }
         ensures handed { self.new.records.handed ≡ self.old.records.handed }
     {
@@ -231,11 +238,9 @@ impl<L: EventList> Part<L> {
         before: Time,
     ) -> Result<bool, AllocError>
         requires before { before ≤ topology.now.stop }
-        requires represents { (part : Option ℕ) × (s : State (List ℕ) NodeStateValue)
-            × Represents L.pending topology.now part self.old s }
-        ensures advance { (part : Option ℕ) (s : State (List ℕ) NodeStateValue)
-            → Represents L.pending topology.now part self.old s
-            → Advanced L.pending topology.now part before s self.old self.new result }
+        requires represents { IsOfARunIn L.pending topology.now self.old }
+        ensures advance { OfTheRunIn L.pending topology.now self.old
+            (λ part s. Advanced L.pending topology.now part before s self.old self.new result) }
         ensures steps { self.new.steps ≡ self.old.steps + events_counted result }
         ensures handed { self.new.records.handed ≡ self.old.records.handed }
     {
@@ -253,8 +258,8 @@ impl<L: EventList> Part<L> {
     /// Makes memory for all that one event may do. An `Err` changes nothing else.
     #[inline(always)]
     fn reserve_event(&mut self) -> Result<(), AllocError>
-        ensures same { (t : TopologyValue) (part : Option ℕ) (s : State (List ℕ) NodeStateValue)
-            → Represents L.pending t part self.old s → Represents L.pending t part self.new s }
+        ensures same { OfTheRun L.pending self.old
+            (λ t part s. Represents L.pending t part self.new s) }
         ensures steps { self.new.steps ≡ self.old.steps }
         ensures handed { self.new.records.handed ≡ self.old.records.handed }
         ensures memory { OnOk result (HasMemory L.room self.new) }
@@ -275,27 +280,22 @@ impl<L: EventList> Part<L> {
 
     /// What the node counted, if it is here.
     pub fn counter(&self, node: NodeNo, counter: Counter) -> Option<u64>
-        ensures { (t : TopologyValue) (part : Option ℕ) (s : State (List ℕ) NodeStateValue)
-            → Represents L.pending t part self.now s
-            → result ≡ count_at t part s node counter }
+        ensures { OfTheRun L.pending self.now
+            (λ t part s. result ≡ count_at t part s node counter) }
     {
         self.devices.counter(node, counter)
     }
 
     /// How many packets were dropped at the interface, if it is here.
     pub fn dropped(&self, iface: IfaceNo) -> Option<u64>
-        ensures { (t : TopologyValue) (part : Option ℕ) (s : State (List ℕ) NodeStateValue)
-            → Represents L.pending t part self.now s
-            → result ≡ drops_at t part s iface }
+        ensures { OfTheRun L.pending self.now (λ t part s. result ≡ drops_at t part s iface) }
     {
         self.devices.dropped(iface)
     }
 
     /// How many packets wait at the interface behind the one that is transmitted, if it is here.
     pub fn waiting(&self, iface: IfaceNo) -> Option<usize>
-        ensures { (t : TopologyValue) (part : Option ℕ) (s : State (List ℕ) NodeStateValue)
-            → Represents L.pending t part self.now s
-            → result ≡ waiting_at t part s iface }
+        ensures { OfTheRun L.pending self.now (λ t part s. result ≡ waiting_at t part s iface) }
     {
         self.devices.waiting(iface)
     }
@@ -311,9 +311,8 @@ impl<L: EventList> Part<L> {
     /// What was put on a channel that goes out from here, each packet with the time at which it
     /// arrives; its place in the list is its number. Nothing is ever put on other channels.
     pub fn out(&self, channel: ChanNo) -> &[(Time, Packet)]
-        ensures { (t : TopologyValue) (part : Option ℕ) (s : State (List ℕ) NodeStateValue)
-            → Represents L.pending t part self.now s
-            → result.now ≡ messages_out t part s channel }
+        ensures { OfTheRun L.pending self.now
+            (λ t part s. result.now ≡ messages_out t part s channel) }
     {
         self.outgoing.messages(channel)
     }
@@ -321,9 +320,8 @@ impl<L: EventList> Part<L> {
     /// When the transmission of the interface that sends on a channel completes, before 2^51 ns; 0
     /// where it is idle, or not here. It takes no memory.
     pub fn busy(&self, topology: &Topology, channel: ChanNo) -> Time
-        ensures value { (part : Option ℕ) (s : State (List ℕ) NodeStateValue)
-            → Represents L.pending topology.now part self.now s
-            → result ≡ busy_at topology.now part s channel }
+        ensures value { OfTheRunIn L.pending topology.now self.now
+            (λ part s. result ≡ busy_at topology.now part s channel) }
         ensures soon { result < 2 ^ 51 }
     {
         let receiver = topology.receiver(channel);
@@ -336,9 +334,8 @@ impl<L: EventList> Part<L> {
 
     /// The trace so far, in the order of events, without the records that were handed out.
     pub fn trace(&self) -> &[Record]
-        ensures { (t : TopologyValue) (part : Option ℕ) (s : State (List ℕ) NodeStateValue)
-            → Represents L.pending t part self.now s
-            → result.now ≡ drop self.now.records.handed s.records }
+        ensures { OfTheRun L.pending self.now
+            (λ t part s. result.now ≡ drop self.now.records.handed s.records) }
     {
         self.records.kept()
     }
@@ -347,9 +344,8 @@ impl<L: EventList> Part<L> {
     pub fn into_trace(self) -> Vec<Record>
     where
         L: Drop,
-        ensures { (t : TopologyValue) (part : Option ℕ) (s : State (List ℕ) NodeStateValue)
-            → Represents L.pending t part self s
-            → result.items ≡ drop self.records.handed s.records }
+        ensures { OfTheRun L.pending self
+            (λ t part s. result.items ≡ drop self.records.handed s.records) }
     {
         self.records.into_kept()
     }
@@ -358,12 +354,10 @@ impl<L: EventList> Part<L> {
     /// and gives that of the record to the caller.
     #[inline(always)]
     pub fn hand_out(&mut self) -> Option<Record>
-        requires { (t : TopologyValue) × (part : Option ℕ) × (s : State (List ℕ) NodeStateValue)
-            × Represents L.pending t part self.old s }
-        ensures represents { (t : TopologyValue) (part : Option ℕ)
-            (s : State (List ℕ) NodeStateValue) → Represents L.pending t part self.old s
-            → Represents L.pending t part self.new s
-            × (result ≡ slice_get s.records self.old.records.handed) }
+        requires { IsOfARun L.pending self.old }
+        ensures represents { OfTheRun L.pending self.old
+            (λ t part s. Represents L.pending t part self.new s
+            × (result ≡ slice_get s.records self.old.records.handed)) }
         ensures handed { self.new.records.handed
             ≡ self.old.records.handed + (if is_some result then 1 else 0) }
         ensures timeline { self.new.timeline ≡ self.old.timeline }
@@ -381,10 +375,8 @@ impl<L: EventList> Part<L> {
 
     /// How many records the trace has, with those that were handed out.
     pub fn records(&self) -> u64
-        requires { (t : TopologyValue) × (part : Option ℕ) × (s : State (List ℕ) NodeStateValue)
-            × Represents L.pending t part self.now s }
-        ensures { (t : TopologyValue) (part : Option ℕ) (s : State (List ℕ) NodeStateValue)
-            → Represents L.pending t part self.now s → result ≡ length s.records }
+        requires { IsOfARun L.pending self.now }
+        ensures { OfTheRun L.pending self.now (λ t part s. result ≡ length s.records) }
     {
         self.records.count()
     }
@@ -392,8 +384,7 @@ impl<L: EventList> Part<L> {
     /// How many records an interface has, with those that were handed out, and the octets of their
     /// trace file with its header. Both stop at the greatest `u64`.
     pub fn totals(&self, iface: IfaceNo) -> (u64, u64)
-        ensures { (t : TopologyValue) (part : Option ℕ) (s : State (List ℕ) NodeStateValue)
-            → Represents L.pending t part self.now s → result ≡ totals_at t s.records iface }
+        ensures { OfTheRun L.pending self.now (λ t part s. result ≡ totals_at t s.records iface) }
     {
         self.records.totals(iface)
     }
@@ -402,21 +393,26 @@ impl<L: EventList> Part<L> {
     /// it was.
     #[inline(always)]
     fn perform(&mut self, alloc: Global, topology: &Topology) -> Result<(), AllocError>
+        // An event is due, and there is memory for what it may do.
         requires least { (part : Option ℕ) × (s : State (List ℕ) NodeStateValue)
             × (e : EventKey × PendingEvent (List ℕ))
             × Represents L.pending topology.now part self.old s × (least s.pending ≡ Some e)
             × (e.0.time < topology.now.stop) }
         requires steps { self.old.steps < 2 ^ 62 }
         requires memory { HasMemory L.room self.old }
-        ensures ok { OnOk result ((part : Option ℕ) (s : State (List ℕ) NodeStateValue)
-            → Represents L.pending topology.now part self.old s
-            → Represents L.pending topology.now part self.new
-            (step (net_of topology.now) (here_of topology.now part) s)) }
-        ensures err { OnErr result ((part : Option ℕ) (s : State (List ℕ) NodeStateValue)
-            → Represents L.pending topology.now part self.old s
-            → Represents L.pending topology.now part self.new s) }
+
+        // On success one step of the run was done; else none was.
+        ensures ok { OnOk result (OfTheRunIn L.pending topology.now self.old
+            (λ part s. Represents L.pending topology.now part self.new
+            (step (net_of topology.now) (here_of topology.now part) s))) }
+        ensures err { OnErr result (OfTheRunIn L.pending topology.now self.old
+            (λ part s. Represents L.pending topology.now part self.new s)) }
+
+        // It is counted.
         ensures one { OnOk result (self.new.steps ≡ self.old.steps + 1) }
         ensures none { OnErr result (self.new.steps ≡ self.old.steps) }
+
+        // No record was handed out.
         ensures handed { self.new.records.handed ≡ self.old.records.handed }
     {
         accepted_topologies_are_in_order(topology); // law: `stop` is within its limit
@@ -537,14 +533,19 @@ impl<L: EventList> Part<L> {
     /// transmission starts, if one does.
     #[inline(always)]
     fn send(&mut self, topology: &Topology, time: Time, reaction: Reaction)
+        // What the node sends leaves by an interface that is here, in time.
         requires time { time ≤ MAX_TIME }
         requires own { IfSome (sent_of reaction)
             (λ z. IsMember (slice_get self.old.devices.ports z.0)) }
         requires steps { self.old.steps < 2 ^ 62 }
+
+        // There is memory for what may follow.
         requires ports { AllSome (λ i w. 1 ≤ w.room) self.old.devices.ports }
         requires room { 2 ≤ L.room self.old.timeline.events }
         requires channels { HaveSpare self.old.outgoing }
         requires spare { 1 ≤ self.old.records.spare }
+
+        // The node has reacted, and the step is done.
         requires reacted { (part : Option ℕ) × (n : ℕ) × (e : PendingEvent (List ℕ))
             × (came : Option (ℕ × List ℕ)) × (follows : Option (ℕ × ℕ × List ℕ))
             × (node : ℕ → NodeStateValue) × (s : State (List ℕ) NodeStateValue)
@@ -557,6 +558,8 @@ impl<L: EventList> Part<L> {
             (sent_of reaction) node self.old s
             → Represents L.pending topology.now part self.new
             (step (net_of topology.now) (here_of topology.now part) s) }
+
+        // It is counted, and no record was handed out.
         ensures steps { self.new.steps ≡ self.old.steps + 1 }
         ensures handed { self.new.records.handed ≡ self.old.records.handed }
     {
@@ -567,10 +570,13 @@ impl<L: EventList> Part<L> {
     /// The event that is under way is done, with the transmission that starts, if one does.
     #[inline(always)]
     fn finish(&mut self, topology: &Topology, time: Time, start: Option<(IfaceNo, Start)>)
+        // There is memory for what may follow.
         requires steps { self.old.steps < 2 ^ 62 }
         requires room { 2 ≤ L.room self.old.timeline.events }
         requires channels { HaveSpare self.old.outgoing }
         requires spare { 1 ≤ self.old.records.spare }
+
+        // All but the transmission is done, and the step is.
         requires under_way { (part : Option ℕ) × (n : ℕ) × (e : PendingEvent (List ℕ))
             × (came : Option (ℕ × List ℕ)) × (follows : Option (ℕ × ℕ × List ℕ))
             × (s : State (List ℕ) NodeStateValue)
@@ -583,6 +589,8 @@ impl<L: EventList> Part<L> {
             (record { came = came; transmission = start; follows = follows }) self.old s
             → Represents L.pending topology.now part self.new
             (step (net_of topology.now) (here_of topology.now part) s) }
+
+        // It is counted, and no record was handed out.
         ensures steps { self.new.steps ≡ self.old.steps + 1 }
         ensures handed { self.new.records.handed ≡ self.old.records.handed }
     {

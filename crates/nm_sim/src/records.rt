@@ -16,7 +16,7 @@ use nm_pcap::format::{FILE_HEADER_OCTETS, RECORD_HEADER_OCTETS};
 use std::alloc::{AllocError, Global};
 use std::marker::Model;
 
-/// A list of so many records at most moves up when the first is taken: those of one event.
+/// Of so many records at most, those of one event, the last moves up when the first is taken.
 const FEW_RECORDS: usize = 2;
 
 /// The records of a trace, in the order of events. Those that were handed out, from the first on,
@@ -99,14 +99,19 @@ impl Records {
     /// One more record.
     #[inline(always)]
     fn add(&mut self, record: Record)
+        // There is room, and the record comes last.
         requires { 1 ≤ self.old.spare }
         ensures kept { self.new.kept ≡ self.old.kept ++ «record» ∷ [] }
         ensures handed { self.new.handed ≡ self.old.handed }
+
+        // The totals of its interface rise, and no other.
         ensures count { length self.new.totals ≡ length self.old.totals }
         ensures totals { (i : ℕ) → slice_get self.new.totals i
             ≡ option_map
             (λ a. if i == «record».iface then total_after a (length «record».packet) else a)
             (slice_get self.old.totals i) }
+
+        // It takes one place.
         ensures spare { self.old.spare ≤ self.new.spare + 1 }
     {
         let place = record.iface.index();
@@ -175,21 +180,26 @@ impl Records {
         Some(first)
     }
 
-    /// Takes the first record out. Of a short list the others move up; else a blank stands in its
-    /// place.
+    /// Takes the first record out. Of at most two records the other moves up; else a blank stands
+    /// in its place.
     #[inline(always)]
     fn take_first(&mut self) -> Record
+        // There is a record, and the count does not overflow.
         requires there { 1 ≤ length self.old.kept }
         requires few { self.old.handed + length self.old.kept < 2 ^ 64 }
+
+        // The first record is taken, and counted.
         ensures first { slice_get self.old.kept 0 ≡ Some result }
         ensures kept { self.new.kept ≡ drop 1 self.old.kept }
         ensures handed { self.new.handed ≡ self.old.handed + 1 }
+
+        // Totals stay, and no place is lost.
         ensures totals { self.new.totals ≡ self.old.totals }
         ensures spare { self.old.spare ≤ self.new.spare }
     {
         self.handed += 1;
         if self.blanks == 0 && self.list.len() <= FEW_RECORDS {
-            return self.list.remove(0);
+            return self.list.swap_remove(0);
         }
         let first = std::mem::replace(&mut self.list[self.blanks], blank());
         self.blanks += 1;

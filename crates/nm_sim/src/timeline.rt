@@ -140,13 +140,18 @@ impl<L: EventList> Timeline<L> {
         number: u64,
         follows: Option<(Time, SourcePacket)>,
     )
+        // There is room for the packet, which has a new key.
         requires number { number < 2 ^ 63 }
         requires room { 1 ≤ L.room self.old.events }
         requires fresh { AreFresh (L.pending self.old.events)
             (next_events number (by_source source follows)) }
+
+        // It is to come, if there is one.
         ensures events { L.pending self.new.events
             ≡ schedule everywhere (next_events number (by_source source follows))
             (L.pending self.old.events) }
+
+        // It takes one place at most, and nothing else changes.
         ensures room { L.room self.old.events ≤ L.room self.new.events + 1 }
         ensures others { self.new ≡ record self.old { events = self.new.events } }
     {
@@ -183,20 +188,27 @@ impl<L: EventList> Timeline<L> {
         number: u64,
         packet: Packet,
     )
+        // The interface is here, and the peer is its link's other end.
         requires here { IsIfaceHere topology.now part.now iface }
         requires peer { peer ≡ (net_of topology.now).peer iface }
         requires within { peer < length topology.now.ifaces }
+
+        // There is room for an event, which has a new key, and for a message.
         requires count { length outgoing.old.channels ≡ channel_count topology.now part.now }
         requires room { 1 ≤ L.room self.old.events }
         requires spare { HaveSpare outgoing.old }
         requires fresh { get (L.pending self.old.events) (key_of time (Arrive peer) number)
             ≡ None }
+
+        // Where the peer is here, the arrival is to come. It takes one place at most.
         ensures events { L.pending self.new.events
             ≡ schedule (here_of topology.now part.now)
             (keyed time number (Delivery (Arrival peer) packet) ∷ [])
             (L.pending self.old.events) }
         ensures room { L.room self.old.events ≤ L.room self.new.events + 1 }
         ensures sent { self.new.sent ≡ self.old.sent }
+
+        // Else it is put on the channel.
         ensures outgoing { (sent : ℕ → List (ℕ × List ℕ))
             → OutgoingRepresents topology.now part.now outgoing.old sent
             → OutgoingRepresents topology.now part.now outgoing.new
@@ -224,14 +236,19 @@ impl<L: EventList> Timeline<L> {
         time: Time,
         start: Option<(IfaceNo, Start)>,
     ) -> Option<(IfaceNo, Packet)>
+        // What starts can start here and now, and its events have new keys.
         requires transmits { IfSome start (TransmitsAt topology.now part.now time) }
         requires numbered { (sent : ℕ → List (ℕ × List ℕ))
             × TimelineRepresents topology.now self.old sent × IsFew sent
             × AreFresh (L.pending self.old.events)
             (transmission_events (net_of topology.now) time sent (transmission_of start)) }
+
+        // There is room for two events and a message.
         requires count { length outgoing.old.channels ≡ channel_count topology.now part.now }
         requires spare { HaveSpare outgoing.old }
         requires room { 2 ≤ L.room self.old.events }
+
+        // Its events are to come, or are put on channels, each with the next number.
         ensures events { (sent : ℕ → List (ℕ × List ℕ))
             → TimelineRepresents topology.now self.old sent
             → L.pending self.new.events
@@ -246,6 +263,8 @@ impl<L: EventList> Timeline<L> {
             → OutgoingRepresents topology.now part.now outgoing.old sent
             → OutgoingRepresents topology.now part.now outgoing.new
             (sent_after (net_of topology.now) time sent (transmission_of start)) }
+
+        // What the trace is to have.
         ensures transmitted { result ≡ transmission_of start }
     {
         accepted_topologies_are_in_order(topology); // law: the peer is there
