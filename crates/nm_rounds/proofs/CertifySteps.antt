@@ -96,7 +96,7 @@ is_book (v ∷ l) (suc i) d h = is_book l i d (omega arith)
 
 module _ (t : TopologyValue) (books : List BookValue) (ours : AreOf t books) where
   -- a fault shows what the model's shows, and where there is none the books are certified
-  pub refused : ((f : Fault) → certify (net_of t) same_octets Tight (books_of books) ≡ Some f → FaultShows (net_of t) Tight (books_of books) f)
+  refused : ((f : Fault) → certify (net_of t) same_octets Tight (books_of books) ≡ Some f → FaultShows (net_of t) Tight (books_of books) f)
       → (e : CertFault) → FindsFault t (certify (net_of t) same_octets Tight (books_of books)) (Err e) → Certifies t books (Err e)
   refused shows Topology h = absurd h
   refused shows (Missing p) h = (ours, shows _ h)
@@ -135,7 +135,7 @@ module _ (t : TopologyValue) (books : List BookValue) (ours : AreOf t books) whe
 
   -- the answer is Ok exactly where the books are certified
   module _ (complete : IsCertified (net_of t) Tight (books_of books) → certify (net_of t) same_octets Tight (books_of books) ≡ None) where
-    pub not_certified : (e : CertFault) → FindsFault t (certify (net_of t) same_octets Tight (books_of books)) (Err e)
+    not_certified : (e : CertFault) → FindsFault t (certify (net_of t) same_octets Tight (books_of books)) (Err e)
         → IsOk {T = Unit} (Err e) ↔ (AreOf t books × IsCertified (net_of t) Tight (books_of books))
     not_certified e h =
         let f = found t (certify (net_of t) same_octets Tight (books_of books)) e h in
@@ -145,3 +145,12 @@ module _ (t : TopologyValue) (books : List BookValue) (ours : AreOf t books) whe
         → IsOk r ↔ (AreOf t books × IsCertified (net_of t) Tight (books_of books))
     exactly (Ok u) h shown = ((λ ok. (ours, shown.certified)), (λ both. refl))
     exactly (Err e) h shown = not_certified e h
+
+    -- both are so of an answer with a fault
+    pub refuses : ((f : Fault) → certify (net_of t) same_octets Tight (books_of books) ≡ Some f → FaultShows (net_of t) Tight (books_of books) f)
+        → (e : CertFault) (r : Result Unit CertFault) → r ≡ Err e → FindsFault t (certify (net_of t) same_octets Tight (books_of books)) (Err e)
+        → Certifies t books r × (IsOk r ↔ (AreOf t books × IsCertified (net_of t) Tight (books_of books)))
+    refuses shows e r is h = (
+      subst (Certifies t books) (sym is) (refused shows e h),
+      subst (λ y. IsOk y ↔ (AreOf t books × IsCertified (net_of t) Tight (books_of books))) (sym is) (not_certified e h),
+    )

@@ -1,5 +1,5 @@
 -- A frame reaches a replica of its receiver.
-use Rattle.std.proofs.Common.{◌≡◌, ◌≢◌, ◌==◌, ◌++◌, ℕ, zero, suc, ◌+◌, ◌*◌, ◌<◌, ltb, Bool, true, false, cond, List, [], ◌∷◌, length, map, slice_get, slice_set, slice_index_or, get_or, Option, Some, None, Ok, Err, refl, sym, ◌∙◌, ap, ap₂, subst, arith}
+use Rattle.std.proofs.Common.{◌≡◌, ◌↔◌, ℕ, zero, suc, ◌+◌, ◌*◌, ◌<◌, ltb, Bool, true, false, cond, List, [], ◌∷◌, length, map, slice_get, slice_set, slice_index_or, get_or, Some, None, Ok, Err, refl, sym, ◌∙◌, ap, ap₂, subst, arith}
 use Rattle.std.proofs.lemmas.List.{length-set, set-get_or}
 use Rattle.std.proofs.lemmas.Option.{slice_get_past, slice_get_read}
 use Rattle.std.proofs.lemmas.Bool.Decides.{nat_tests}
@@ -11,13 +11,12 @@ use Rattle.nm_knowledge.specs.Octets.{same_octets}
 use Rattle.nm_knowledge.specs.declared.answer.Accepted.{Accepted}
 use Rattle.nm_knowledge.specs.declared.answer.KnowFault.{KnowFault}
 use Rattle.nm_knowledge.specs.declared.answer.KnowFault.TheVariants as fault
-use Rattle.nm_model.specs.Accept as accept
 use Rattle.nm_model.specs.Knowledge.{Know, nothing_known}
 use Rattle.nm_model.specs.Lists.{nth, set_at}
 use Rattle.nm_model.specs.Partition.{comes_in, receiver_of}
 use Rattle.nm_model.specs.World as model
 use Rattle.nm_sim.specs.Network.{net_of}
-use Rattle.nm_book.specs.Book.{BookValue, LearnsIf, Learns, Takes, is_incoming, is_replica, knowledge_of, message_channel, message_taken}
+use Rattle.nm_book.specs.Book.{BookValue, LearnsIf, Learns, Takes, is_incoming, is_replica, knowledge_of, message_channel, message_taken, only_if}
 use Rattle.nm_book.specs.declared.message.ChannelMessage.{ChannelMessage}
 use Rattle.nm_book.specs.declared.message.ChannelMessage.TheVariants.{Data as DataMessage, Null as NullMessage}
 use Rattle.nm_book.specs.declared.fault.AcceptFault.TheVariants.{Known, Stranger}
@@ -26,70 +25,21 @@ use Rattle.nm_rounds.specs.World.{IsReplicaOf, IsWorld, Steps, frame_of, happens
 use Rattle.nm_rounds.specs.declared.step.StepAnswer.TheVariants as told
 use Rattle.nm_rounds.specs.declared.step.WorldStep.TheVariants as step
 use Rattle.nm_rounds.specs.declared.world.Stop.TheVariants as stop
-use Rattle.nm_rounds.proofs.Standing.{is_replica_is}
+use Rattle.nm_rounds.proofs.Refusals.{refused_keeps, said_of, taken_is}
+use Rattle.nm_rounds.proofs.Standing.{is_absent, is_replica_is, is_there}
 use Rattle.nm_rounds.proofs.Acts.{unchanged_at, book_read, step_done, step_names_nothing, with_book}
 
 pub past_the_bag : {X : Type 0} (l : List X) (i : ℕ) → ltb i (length l) ≡ false → slice_get l i ≡ None
 past_the_bag l i e = slice_get_past l i (grind (arith, nat_tests, e))
 
-pub in_bag : {X : Type 0} (l : List X) (i : ℕ) (x : X) → ltb i (length l) ≡ true → x ≡ get_or l i x → slice_get l i ≡ Some x
+in_bag : {X : Type 0} (l : List X) (i : ℕ) (x : X) → ltb i (length l) ≡ true → x ≡ get_or l i x → slice_get l i ≡ Some x
 in_bag l i x e f = slice_get_read l (length l) i x refl (grind (arith, nat_tests, e)) f
 
 -- a frame of the bag
-pub nth_map : {X Y : Type 0} (f : X → Y) (l : List X) (i : ℕ) → nth (map f l) i ≡ option_map f (slice_get l i)
+nth_map : {X Y : Type 0} (f : X → Y) (l : List X) (i : ℕ) → nth (map f l) i ≡ option_map f (slice_get l i)
 nth_map f [] i = refl
 nth_map f (x ∷ l) zero = refl
 nth_map f (x ∷ l) (suc i) = nth_map f l i
-
--- what the model's function says of a message over some knowledge of its channel
-abbrev pub said_of : Know (List ℕ) → ChannelMessage → accept.Accepted (List ℕ)
-said_of a (DataMessage d) = accept.accept_data same_octets a d.number (d.time, d.packet)
-said_of a (NullMessage n) = accept.accept_null a n.count n.clock
-
-taken_is : (knows : List (Know (List ℕ))) (m : ChannelMessage) → message_taken knows m ≡ said_of (slice_index_or knows (message_channel m) nothing_known) m
-taken_is knows (DataMessage d) = refl
-taken_is knows (NullMessage n) = refl
-
--- only what is new, or a greater clock, changes what is known
-data_keeps : (o : Option (ℕ × List ℕ)) (a : Know (List ℕ)) (n : ℕ) (b : ℕ × List ℕ) → (accept.data_at same_octets o a n b).answer ≢ accept.New → (accept.data_at same_octets o a n b).after ≡ a
-data_keeps (Some m) a n b h = refl
-data_keeps None a n b h = pick (n == length a.list) (ltb b.0 a.clock) (accept.last_from b.0 a.list) h
-  where
-    chosen : Bool → Bool → Bool → accept.Accepted (List ℕ)
-    chosen x y z =
-        cond x
-        (cond y (record { answer = accept.Late a.clock; after = a }) (cond {A = accept.Accepted (List ℕ)} z (record { answer = accept.NotRising; after = a }) (record { answer = accept.New; after = record { list = a.list ++ b ∷ []; clock = b.0 } })))
-        (record { answer = accept.Gap (length a.list); after = a })
-
-    pick : (x y z : Bool) → (chosen x y z).answer ≢ accept.New → (chosen x y z).after ≡ a
-    pick false y z h = refl
-    pick true true z h = refl
-    pick true false true h = refl
-    pick true false false h = absurd (h refl)
-
-null_keeps : (o : Option (ℕ × List ℕ)) (a : Know (List ℕ)) (n k : ℕ) → (accept.null_at o a n k).answer ≢ accept.Raised → (accept.null_at o a n k).after ≡ a
-null_keeps (Some m) a n k h = refl
-null_keeps None a n k h = pick (n == length a.list) (ltb a.clock k) h
-  where
-    chosen : Bool → Bool → accept.Accepted (List ℕ)
-    chosen x y = cond x (cond {A = accept.Accepted (List ℕ)} y (record { answer = accept.Raised; after = record a { clock = k } }) (record { answer = accept.Known; after = a })) (record { answer = accept.Gap (length a.list); after = a })
-
-    pick : (x y : Bool) → (chosen x y).answer ≢ accept.Raised → (chosen x y).after ≡ a
-    pick false y h = refl
-    pick true false h = refl
-    pick true true h = absurd (h refl)
-
-no_reason : (f : KnowFault) (a : accept.Answer) → Some a ≡ reason f → (a ≢ accept.New) × (a ≢ accept.Raised)
-no_reason (fault.Gap n) a e = let g : a ≡ accept.Gap n = cc in ((λ h. let k : accept.Gap n ≡ accept.New = sym g ∙ h in cc), (λ h. let k : accept.Gap n ≡ accept.Raised = sym g ∙ h in cc))
-no_reason (fault.Differs n) a e = let g : a ≡ accept.Differs n = cc in ((λ h. let k : accept.Differs n ≡ accept.New = sym g ∙ h in cc), (λ h. let k : accept.Differs n ≡ accept.Raised = sym g ∙ h in cc))
-no_reason (fault.Late n) a e = let g : a ≡ accept.Late n = cc in ((λ h. let k : accept.Late n ≡ accept.New = sym g ∙ h in cc), (λ h. let k : accept.Late n ≡ accept.Raised = sym g ∙ h in cc))
-no_reason fault.NotRising a e = let g : a ≡ accept.NotRising = cc in ((λ h. let k : accept.NotRising ≡ accept.New = sym g ∙ h in cc), (λ h. let k : accept.NotRising ≡ accept.Raised = sym g ∙ h in cc))
-no_reason fault.Memory a e = absurd cc
-no_reason (fault.Contrary n) a e = let g : a ≡ accept.Contrary n = cc in ((λ h. let k : accept.Contrary n ≡ accept.New = sym g ∙ h in cc), (λ h. let k : accept.Contrary n ≡ accept.Raised = sym g ∙ h in cc))
-
-refused_keeps : (m : ChannelMessage) (a : Know (List ℕ)) (f : KnowFault) → Some (said_of a m).answer ≡ reason f → (said_of a m).after ≡ a
-refused_keeps (DataMessage d) a f e = data_keeps (nth a.list d.number) a d.number (d.time, d.packet) (no_reason f _ e).0
-refused_keeps (NullMessage n) a f e = null_keeps (nth a.list n.count) a n.count n.clock (no_reason f _ e).1
 
 -- the delivery in the model's world
 abbrev pub told_world : TopologyValue → model.World (List ℕ) → ℕ → ℕ → ChannelMessage → model.World (List ℕ) × model.Outcome
@@ -102,9 +52,17 @@ module _ (t : TopologyValue) (books : List BookValue) (bag : List ChannelMessage
       step_names_nothing t w (step.Deliver i r) books bag
       (ap (model.delivers (net_of t) same_octets w r) (ap (λ l. nth l i) (sym stands.sent.frames) ∙ nth_map (frame_of t) bag i ∙ ap (option_map (frame_of t)) e)) stands
 
-  module _ (m : ChannelMessage) (here : slice_get bag i ≡ Some m) where
-    abbrev pub p : ℕ
+  -- message m is the frame, and this the partition that its channel goes to
+  module _ (m : ChannelMessage) (within : true ≡ ltb i (length bag)) (is_frame : m ≡ get_or bag i m) (channel partition : ℕ) (named : channel ≡ message_channel m)
+      (receives : partition ≡ receiver_of (net_of t) (receiving_iface t channel)) where
+    abbrev p : ℕ
     p = receiver_of (net_of t) (receiving_iface t (message_channel m))
+
+    to_there : partition ≡ p
+    to_there = receives ∙ ap (λ z. receiver_of (net_of t) (receiving_iface t z)) named
+
+    here : slice_get bag i ≡ Some m
+    here = in_bag bag i m (sym within) is_frame
 
     frame : nth w.bag i ≡ Some (frame_of t m)
     frame = ap (λ l. nth l i) (sym stands.sent.frames) ∙ nth_map (frame_of t) bag i ∙ ap (option_map (frame_of t)) here
@@ -118,11 +76,19 @@ module _ (t : TopologyValue) (books : List BookValue) (bag : List ChannelMessage
     deliver_is v e = ap (model.delivers (net_of t) same_octets w r) frame ∙ delivers_is m v (sym (is_replica_is t p r) ∙ e)
 
     -- its receiver has no such replica
-    pub no_receiver : is_replica t p r ≡ false → Steps t w (step.Deliver i r) (Err stop.NoSuch) books bag
-    no_receiver e = step_names_nothing t w (step.Deliver i r) books bag (deliver_is false e) stands
+    pub no_receiver : only_if (is_replica t partition r) (2 * partition + r) ≡ None → Steps t w (step.Deliver i r) (Err stop.NoSuch) books bag
+    no_receiver e = step_names_nothing t w (step.Deliver i r) books bag (deliver_is false (ap (λ z. is_replica t z r) (sym to_there) ∙ is_absent _ _ e)) stands
 
-    module _ (there : is_replica t p r ≡ true) (place : ℕ) (at : place ≡ 2 * p + r) (b c : BookValue) (read : b ≡ get_or books place b)
-        (comes : comes_in (net_of t) p (receiving_iface t (message_channel m)) ≡ true) (number : channel_from 0 t.receivers (receiving_iface t (message_channel m)) ≡ Some (message_channel m)) where
+    -- it has one, who stands at this place and is told the message
+    module _ (place : ℕ) (found : only_if (is_replica t partition r) (2 * partition + r) ≡ Some place) (b c : BookValue) (read : b ≡ get_or books place b)
+        (comes_there : (d : ℕ) → d < length t.receivers → comes_in (net_of t) (receiver_of (net_of t) (receiving_iface t d)) (receiving_iface t d) ≡ true)
+        (inverse : (j d : ℕ) → j < length t.ifaces → (channel_from 0 t.receivers j ≡ Some d) ↔ (receiving_iface t d ≡ j)) (iface_there : (d : ℕ) → d < length t.receivers → receiving_iface t d < length t.ifaces) where
+      there : is_replica t p r ≡ true
+      there = ap (λ z. is_replica t z r) (sym to_there) ∙ (is_there _ _ _ found).0
+
+      at : place ≡ 2 * p + r
+      at = (is_there _ _ _ found).1 ∙ ap (λ z. 2 * z + r) to_there
+
       abbrev x : model.Replica (List ℕ)
       x = w.replica p r
 
@@ -135,14 +101,17 @@ module _ (t : TopologyValue) (books : List BookValue) (bag : List ChannelMessage
       abbrev iface : ℕ
       iface = receiving_iface t ch
 
-      known : Know (List ℕ)
-      known = slice_index_or b.knows ch nothing_known
+      is_channel : ch < length t.receivers
+      is_channel = stands.sent.named i m here
+
+      number : channel_from 0 t.receivers iface ≡ Some ch
+      number = (inverse iface ch (iface_there ch is_channel)).1 refl
 
       incoming : is_incoming b ch ≡ true
-      incoming = subst (λ z. comes_in (net_of z) b.partition (receiving_iface z ch) ≡ true) (sym is.topology) (subst (λ z. comes_in (net_of t) z iface ≡ true) (sym is.partition) comes)
+      incoming = subst (λ z. comes_in (net_of z) b.partition (receiving_iface z ch) ≡ true) (sym is.topology) (subst (λ z. comes_in (net_of t) z iface ≡ true) (sym is.partition) (comes_there ch is_channel))
 
-      within : ch < length b.knows
-      within = let n = is.count in let h = stands.sent.named i m here in omega (arith, n, h)
+      is_known : ch < length b.knows
+      is_known = let n = is.count in let h = is_channel in omega (arith, n, h)
 
       -- what the world's replica knows of the channel
       knows_it : x.knowledge iface ≡ slice_index_or b.knows ch nothing_known
@@ -156,7 +125,7 @@ module _ (t : TopologyValue) (books : List BookValue) (bag : List ChannelMessage
         number = is.number;
         replica =
             ap₂ (λ K k. record { knowledge = K; ran = k })
-            (ap (λ z. knowledge_of z (slice_set b.knows ch after)) is.topology ∙ known_set t b.knows ch number after within
+            (ap (λ z. knowledge_of z (slice_set b.knows ch after)) is.topology ∙ known_set t b.knows ch number after is_known
             ∙ ap (λ K. set_at K iface after) (ap (λ z. knowledge_of z b.knows) (sym is.topology) ∙ ap (λ z. z.knowledge) is.replica))
             (ap (λ z. z.ran) is.replica);
         handed = is.handed;

@@ -1,6 +1,7 @@
 mod Standing
 mod Acts
 mod Sends
+mod Refusals
 mod Deliveries
 mod Mergings
 mod Replays
@@ -12,4 +13,5 @@ mod RoundEnds
 mod CertifyChannels
 mod CertifyLists
 mod CertifySteps
+mod CertifySenders
 mod Headlines

@@ -1,6 +1,7 @@
 -- Steps done one after another, and what is reported of them.
-use Rattle.std.proofs.Common.{◌≡◌, ◌⊎◌, inl, inr, ℕ, zero, suc, ◌+◌, ◌*◌, ◌<◌, ◌≤◌, List, [], ◌∷◌, ◌++◌, length, map, take, slice_get, replicate, Some, None, Ok, Err, refl, sym, ◌∙◌, ap, ap₂, subst, arith, ⊎_elim, length-append}
+use Rattle.std.proofs.Common.{◌≡◌, ◌⊎◌, inl, inr, ℕ, zero, suc, ◌+◌, ◌*◌, ◌<◌, ◌≤◌, List, [], ◌∷◌, ◌++◌, length, map, take, slice_get, replicate, get_or, Some, None, Result, Ok, Err, refl, sym, ◌∙◌, ap, ap₂, subst, arith, ⊎_elim, length-append}
 use Rattle.std.proofs.lemmas.List.{map-append}
+use Rattle.std.proofs.lemmas.Option.{slice_get_read}
 use Rattle.nm_topology.specs.TopologyValue.{TopologyValue}
 use Rattle.nm_knowledge.specs.Octets.{same_octets}
 use Rattle.nm_model.specs.Knowledge.{nothing_known}
@@ -14,6 +15,7 @@ use Rattle.nm_rounds.specs.declared.replay.ReplayEnd.TheVariants as ending
 use Rattle.nm_rounds.specs.declared.step.StepAnswer.{StepAnswer}
 use Rattle.nm_rounds.specs.declared.step.WorldStep.{WorldStep}
 use Rattle.nm_rounds.specs.declared.step.WorldStep.TheVariants as step
+use Rattle.nm_rounds.specs.declared.world.Stop.{Stop}
 use Rattle.nm_rounds.specs.declared.world.Stop.TheVariants as stop
 use Rattle.nm_rounds.proofs.Mergings.{fresh_book}
 use Rattle.nm_rounds.proofs.Standing.{places_apart}
@@ -52,70 +54,81 @@ module _ (t : TopologyValue) where
     pub begins : (books : List BookValue) → IsWorld t books [] model.opening → IsReplaying 0 [] books []
     begins books stands = record { count = refl; stands = stands; answered = refl }
 
-    -- one more was
-    pub goes_on : (n : ℕ) (answers : List StepAnswer) (old new : List BookValue) (bag more : List ChannelMessage) (s : WorldStep) (a : StepAnswer) → IsReplaying n answers old bag → slice_get steps n ≡ Some s
-        → Steps t (world_after t (first_steps t steps n)) s (Ok a) new more → IsReplaying (suc n) (answers ++ a ∷ []) new more
-    goes_on n answers old new bag more s a h e did =
-        let did_more = steps_more n s e in
-        record {
-          count = let l = length-append answers (a ∷ []) in let c = h.count in omega (arith, l, c);
-          stands = subst (IsWorld t new more) (sym (ap (world_after t) did_more ∙ world_more (first_steps t steps n) (step_of t s ∷ []) model.opening)) did.1;
-          answered =
-              map-append (outcome_of t) answers (a ∷ [])
-              ∙ ap₂ (λ k l. k ++ l ∷ []) h.answered did.0
-              ∙ sym (map-append Some (answers_of t (first_steps t steps n)) ((happens t (world_after t (first_steps t steps n)) s).1 ∷ []))
-              ∙ ap (map Some) (sym (ap (answers_of t) did_more ∙ answers_more (first_steps t steps n) (step_of t s ∷ []) model.opening));
-        }
+    answered_so_far : (n : ℕ) (answers : List StepAnswer) (books : List BookValue) (bag : List ChannelMessage) → IsReplaying n answers books bag → map (outcome_of t) answers ≡ map Some (answers_of t (first_steps t steps (length answers)))
+    answered_so_far n answers books bag h = subst (λ k. map (outcome_of t) answers ≡ map Some (answers_of t (first_steps t steps k))) (sym h.count) h.answered
 
     -- all were
     pub ended : (n : ℕ) (answers : List StepAnswer) (books : List BookValue) (bag : List ChannelMessage) → IsReplaying n answers books bag → n ≡ length steps → IsReplay t steps answers books ending.Ended
     ended n answers books bag h all = record {
       did = first_steps t steps (length answers);
       ends = (h.count ∙ all, refl);
-      answered = subst (λ k. map (outcome_of t) answers ≡ map Some (answers_of t (first_steps t steps k))) (sym h.count) h.answered;
+      answered = answered_so_far n answers books bag h;
       replicas = subst (λ k. AreReplicas t books (world_after t (first_steps t steps k))) (sym h.count) h.stands.replicas;
     }
 
-    -- the next one names what is not there
-    pub named_nothing : (n : ℕ) (answers : List StepAnswer) (old new : List BookValue) (bag more : List ChannelMessage) (s : WorldStep) → IsReplaying n answers old bag → slice_get steps n ≡ Some s
-        → Steps t (world_after t (first_steps t steps n)) s (Err stop.NoSuch) new more → IsReplay t steps answers new (ending.NoSuch n)
-    named_nothing n answers old new bag more s h e did = record {
-      did = first_steps t steps n;
-      ends = (h.count, refl, subst (NamesNothing t (world_after t (first_steps t steps n))) (sym e) did.0);
-      answered = subst (λ k. map (outcome_of t) answers ≡ map Some (answers_of t (first_steps t steps k))) (sym h.count) h.answered;
-      replicas = did.1.replicas;
-    }
+    -- the next step, where so many were done
+    module _ (n : ℕ) (answers : List StepAnswer) (old new : List BookValue) (bag more : List ChannelMessage) (s : WorldStep) (h : IsReplaying n answers old bag) (low : n < length steps)
+        (is : s ≡ get_or steps n s) where
+      here : slice_get steps n ≡ Some s
+      here = slice_get_read steps (length steps) n s refl low is
 
-    -- at the next one memory was refused
-    pub was_interrupted : (n : ℕ) (answers : List StepAnswer) (old new : List BookValue) (bag more : List ChannelMessage) (s : WorldStep) → IsReplaying n answers old bag → slice_get steps n ≡ Some s
-        → Steps t (world_after t (first_steps t steps n)) s (Err stop.Memory) new more → IsReplay t steps answers new (ending.Memory n)
-    was_interrupted n answers old new bag more s h e did = go s e did
-      where
-        answered : map (outcome_of t) answers ≡ map Some (answers_of t (first_steps t steps (length answers)))
-        answered = subst (λ k. map (outcome_of t) answers ≡ map Some (answers_of t (first_steps t steps k))) (sym h.count) h.answered
+      -- what it did and answered, as it does and answers in any world that stands there
+      abbrev Did : Result StepAnswer Stop → Type 0
+      Did result = (w : model.World (List ℕ)) → IsWorld t old bag w → Steps t w s result new more
 
-        as_was : (s : WorldStep) → slice_get steps n ≡ Some s → IsInterrupted (Some s) (first_steps t steps n) (first_steps t steps n) → IsWorld t new more (world_after t (first_steps t steps n)) → IsReplay t steps answers new (ending.Memory n)
-        as_was s e was stands = record {
-          did = first_steps t steps n;
-          ends = (h.count, subst (λ o. IsInterrupted o (first_steps t steps n) (first_steps t steps n)) (sym e) was);
-          answered = answered;
-          replicas = stands.replicas;
-        }
+      -- it was done
+      pub goes_on : (a : StepAnswer) → Did (Ok a) → IsReplaying (n + 1) (answers ++ a ∷ []) new more
+      goes_on a did =
+          let now = did (world_after t (first_steps t steps n)) h.stands in
+          let did_more = steps_more n s here in
+          let next : suc n ≡ n + 1 = omega arith in
+          subst (λ k. IsReplaying k (answers ++ a ∷ []) new more) next (record {
+            count = let l = length-append answers (a ∷ []) in let c = h.count in omega (arith, l, c);
+            stands = subst (IsWorld t new more) (sym (ap (world_after t) did_more ∙ world_more (first_steps t steps n) (step_of t s ∷ []) model.opening)) now.1;
+            answered =
+                map-append (outcome_of t) answers (a ∷ [])
+                ∙ ap₂ (λ k l. k ++ l ∷ []) h.answered now.0
+                ∙ sym (map-append Some (answers_of t (first_steps t steps n)) ((happens t (world_after t (first_steps t steps n)) s).1 ∷ []))
+                ∙ ap (map Some) (sym (ap (answers_of t) did_more ∙ answers_more (first_steps t steps n) (step_of t s ∷ []) model.opening));
+          })
 
-        go : (s : WorldStep) → slice_get steps n ≡ Some s → Steps t (world_after t (first_steps t steps n)) s (Err stop.Memory) new more → IsReplay t steps answers new (ending.Memory n)
-        go (step.Run p r limit) e cut = record {
-          did = first_steps t steps n ++ model.Run p r cut.0 ∷ [];
-          ends = (h.count, subst (λ o. IsInterrupted o (first_steps t steps n) (first_steps t steps n ++ model.Run p r cut.0 ∷ [])) (sym e) (cut.0, cut.1, refl));
-          answered = answered;
-          replicas = (subst (IsWorld t new more) (sym (world_more (first_steps t steps n) (model.Run p r cut.0 ∷ []) model.opening)) cut.2).replicas;
-        }
-        go (step.Data p r c m) e stands = as_was (step.Data p r c m) e refl stands
-        go (step.Resend p r c m) e stands = as_was (step.Resend p r c m) e refl stands
-        go (step.Null p r c) e stands = as_was (step.Null p r c) e refl stands
-        go (step.OldNull p r c) e stands = as_was (step.OldNull p r c) e refl stands
-        go (step.Deliver i r) e stands = as_was (step.Deliver i r) e refl stands
-        go (step.Merge p r) e stands = as_was (step.Merge p r) e refl stands
-        go (step.Restart p r) e stands = as_was (step.Restart p r) e refl stands
+      -- it names what is not there
+      pub named_nothing : (why : Stop) → why ≡ stop.NoSuch → Did (Err why) → IsReplay t steps answers new (ending.NoSuch n)
+      named_nothing why same did =
+          let now = subst (λ y. Steps t (world_after t (first_steps t steps n)) s (Err y) new more) same (did (world_after t (first_steps t steps n)) h.stands) in
+          record {
+            did = first_steps t steps n;
+            ends = (h.count, refl, subst (NamesNothing t (world_after t (first_steps t steps n))) (sym here) now.0);
+            answered = answered_so_far n answers old bag h;
+            replicas = now.1.replicas;
+          }
+
+      -- memory was refused
+      pub was_interrupted : (why : Stop) → why ≡ stop.Memory → Did (Err why) → IsReplay t steps answers new (ending.Memory n)
+      was_interrupted why same did = go s here (subst (λ y. Steps t (world_after t (first_steps t steps n)) s (Err y) new more) same (did (world_after t (first_steps t steps n)) h.stands))
+        where
+          as_was : (s : WorldStep) → slice_get steps n ≡ Some s → IsInterrupted (Some s) (first_steps t steps n) (first_steps t steps n) → IsWorld t new more (world_after t (first_steps t steps n)) → IsReplay t steps answers new (ending.Memory n)
+          as_was s e was stands = record {
+            did = first_steps t steps n;
+            ends = (h.count, subst (λ o. IsInterrupted o (first_steps t steps n) (first_steps t steps n)) (sym e) was);
+            answered = answered_so_far n answers old bag h;
+            replicas = stands.replicas;
+          }
+
+          go : (s : WorldStep) → slice_get steps n ≡ Some s → Steps t (world_after t (first_steps t steps n)) s (Err stop.Memory) new more → IsReplay t steps answers new (ending.Memory n)
+          go (step.Run p r limit) e cut = record {
+            did = first_steps t steps n ++ model.Run p r cut.0 ∷ [];
+            ends = (h.count, subst (λ o. IsInterrupted o (first_steps t steps n) (first_steps t steps n ++ model.Run p r cut.0 ∷ [])) (sym e) (cut.0, cut.1, refl));
+            answered = answered_so_far n answers old bag h;
+            replicas = (subst (IsWorld t new more) (sym (world_more (first_steps t steps n) (model.Run p r cut.0 ∷ []) model.opening)) cut.2).replicas;
+          }
+          go (step.Data p r c m) e stands = as_was (step.Data p r c m) e refl stands
+          go (step.Resend p r c m) e stands = as_was (step.Resend p r c m) e refl stands
+          go (step.Null p r c) e stands = as_was (step.Null p r c) e refl stands
+          go (step.OldNull p r c) e stands = as_was (step.OldNull p r c) e refl stands
+          go (step.Deliver i r) e stands = as_was (step.Deliver i r) e refl stands
+          go (step.Merge p r) e stands = as_was (step.Merge p r) e refl stands
+          go (step.Restart p r) e stands = as_was (step.Restart p r) e refl stands
 
   -- the replicas at the start, one after another
   pub first_none : AreFirst t 0 []

@@ -3,7 +3,7 @@ use Rattle.std.proofs.Common.{◌≡◌, ◌⊎◌, inl, inr, ⊎_elim, ltb, ℕ
 use Rattle.std.proofs.lemmas.Bool.Decides.{nat_tests}
 use Rattle.nm_topology.specs.Topology.{receiving_iface}
 use Rattle.nm_topology.specs.TopologyValue.{TopologyValue}
-use Rattle.nm_model.specs.Before.{IsBefore, trace}
+use Rattle.nm_model.specs.Before.{IsBefore, IsCount, trace}
 use Rattle.nm_model.specs.Certificate.{is_done}
 use Rattle.nm_model.specs.Knowledge.{Knowledge}
 use Rattle.nm_model.specs.Partition.{comes_in}
@@ -70,6 +70,15 @@ module _ (t : TopologyValue) where
       stand = ends.0;
       left = λ j low. ⊎_elim (λ l. have.left j l) (λ e. subst (IsLeft t by_round) (sym e) ends.1) (below_next j n low);
     }
+
+    -- all books run, in the round after j of them
+    pub all_ran : (j : ℕ) (old books : List BookValue)
+        → ((p k l : ℕ) → IsCount (net_of t) p (by_round j p).knowledge k → IsCount (net_of t) p (by_round j p).knowledge l → k ≡ l)
+        → ((s : TopologyValue) (x y : ℕ → Replica (List ℕ)) → AreBooks s s.partitions x old
+        → ((p k l : ℕ) → IsCount (net_of s) p (x p).knowledge k → IsCount (net_of s) p (x p).knowledge l → k ≡ l)
+        → ((p : ℕ) → IsCount (net_of s) p (x p).knowledge (y p).ran) → ((p : ℕ) → (y p).knowledge ≡ (x p).knowledge) → AreBooks s s.partitions y books)
+        → AreBooks t t.partitions (by_round j) old → AreBooks t t.partitions (after_runs by_round j) books
+    all_ran j old books once ran stand = ran t (by_round j) (after_runs by_round j) stand once (are.runs j) (λ p. refl)
 
     -- no round was left out of what a book hears
     pub all_heard : (j : ℕ) (books : List BookValue) → AreBooks t t.partitions (after_hearing t (after_runs by_round j)) books → AreBooks t t.partitions (by_round (suc j)) books

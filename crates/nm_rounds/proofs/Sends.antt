@@ -7,7 +7,7 @@ use Rattle.nm_topology.specs.TopologyValue.{TopologyValue}
 use Rattle.nm_topology.specs.Topology.{receiving_iface}
 use Rattle.nm_model.specs.Lists.{nth}
 use Rattle.nm_model.specs.Partition.{goes_out}
-use Rattle.nm_model.specs.Promise.{Promising, Plain, Tight, promise}
+use Rattle.nm_model.specs.Promise.{Promising, Plain, Tight, promise as promise_of}
 use Rattle.nm_model.specs.World as model
 use Rattle.nm_sim.specs.Network.{net_of}
 use Rattle.nm_book.specs.Book.{BookValue, data_from, is_outgoing, is_replica, message_channel, null_on, only_if, promise_on, sent_over}
@@ -15,7 +15,9 @@ use Rattle.nm_book.specs.declared.message.ChannelMessage.{ChannelMessage}
 use Rattle.nm_book.specs.declared.message.ChannelMessage.TheVariants.{Data as DataMessage, Null as NullMessage}
 use Rattle.nm_book.specs.declared.message.Data.{Data}
 use Rattle.nm_book.specs.declared.message.Null.{Null}
-use Rattle.nm_rounds.specs.World.{AreMessages, IsPushed, IsReplicaOf, IsWorld, Steps, frame_of}
+use Rattle.nm_rounds.specs.World.{AreMessages, IsPushed, IsReplicaOf, IsWorld, Steps, frame_of, happens, kind_of, null_step}
+use Rattle.nm_rounds.specs.declared.acting.Promise.{Promise}
+use Rattle.nm_rounds.specs.declared.acting.Promise.TheVariants as made
 use Rattle.nm_rounds.specs.declared.step.StepAnswer.TheVariants as answer
 use Rattle.nm_rounds.specs.declared.step.WorldStep.TheVariants as step
 use Rattle.nm_rounds.specs.declared.world.Stop.TheVariants as stop
@@ -48,7 +50,7 @@ was_sent true sent c n d e = go (nth sent n) refl e
         (refl, f ∙ ap (λ (z : Data). Some (z.time, z.packet)) is, ap (λ (z : Data). z.channel) (sym is), ap (λ (z : Data). z.number) (sym is))
 was_sent false sent c n d e = absurd cc
 
-pub was_not_sent : (sent : List (ℕ × List ℕ)) (c n : ℕ) (out : Bool) → out ≡ true → None ≡ option_and_then (λ l. data_from c n (nth l n)) (only_if out sent) → nth sent n ≡ None
+was_not_sent : (sent : List (ℕ × List ℕ)) (c n : ℕ) (out : Bool) → out ≡ true → None ≡ option_and_then (λ l. data_from c n (nth l n)) (only_if out sent) → nth sent n ≡ None
 was_not_sent sent c n true h e = go (nth sent n) refl e
   where
     go : (o : Option (ℕ × List ℕ)) → nth sent n ≡ o → None ≡ data_from c n o → nth sent n ≡ None
@@ -66,6 +68,14 @@ module _ (t : TopologyValue) (books : List BookValue) (bag : List ChannelMessage
   abbrev lines : List (ℕ × List ℕ)
   lines = model.outgoing (net_of t) p x i
 
+  -- the frame of a null message of this kind is sent
+  abbrev null_goes : Promising → model.World (List ℕ) × model.Outcome
+  null_goes kind = (model.put_frames w (model.NullFrame i (length lines) (promise_of (net_of t) kind p x.knowledge x.ran i) ∷ []), model.Frames 1)
+
+  null_happens : (promise : Promise) (v : Bool) → sends_on t p r c ≡ v → happens t w (null_step promise p r c) ≡ cond v (null_goes (kind_of promise)) (w, model.NoSuch)
+  null_happens made.Tight v e = ap (λ z. cond z (null_goes Tight) (w, model.NoSuch)) (model_sends t p r c v e)
+  null_happens made.Plain v e = ap (λ z. cond z (null_goes Plain) (w, model.NoSuch)) (model_sends t p r c v e)
+
   -- the channel does not go out from such a replica
   module _ (no : sends_on t p r c ≡ false) where
     pub nothing_to_send : (n : ℕ) → Steps t w (step.Data p r c n) (Err stop.NoSuch) books bag
@@ -76,15 +86,8 @@ module _ (t : TopologyValue) (books : List BookValue) (bag : List ChannelMessage
         step_names_nothing t w (step.Resend p r c n) books bag
         (ap (λ z. cond z (model.put_frames w (model.data_frames i n (drop n lines)), model.Frames (length lines - n)) (w, model.NoSuch)) (and_false _ _ (model_sends t p r c false no))) stands
 
-    pub no_null : Steps t w (step.Null p r c) (Err stop.NoSuch) books bag
-    no_null =
-        step_names_nothing t w (step.Null p r c) books bag
-        (ap (λ z. cond z (model.put_frames w (model.NullFrame i (length lines) (promise (net_of t) Tight p x.knowledge x.ran i) ∷ []), model.Frames 1) (w, model.NoSuch)) (model_sends t p r c false no)) stands
-
-    pub no_old_null : Steps t w (step.OldNull p r c) (Err stop.NoSuch) books bag
-    no_old_null =
-        step_names_nothing t w (step.OldNull p r c) books bag
-        (ap (λ z. cond z (model.put_frames w (model.NullFrame i (length lines) (promise (net_of t) Plain p x.knowledge x.ran i) ∷ []), model.Frames 1) (w, model.NoSuch)) (model_sends t p r c false no)) stands
+    pub no_null : (promise : Promise) → Steps t w (null_step promise p r c) (Err stop.NoSuch) books bag
+    no_null promise = step_names_nothing t w (null_step promise p r c) books bag (null_happens promise false no) stands
 
   -- it goes out from the replica that stands here
   module _ (yes : sends_on t p r c ≡ true) (within : c < length t.receivers) (place : ℕ) (at : place ≡ 2 * p + r) (b : BookValue) (read : b ≡ get_or books place b) (ch : ℕ) (same : ch ≡ c) where
@@ -124,33 +127,24 @@ module _ (t : TopologyValue) (books : List BookValue) (bag : List ChannelMessage
         ∙ ap (model.sends w i n) (ap (λ l. nth l n) (sym lines_are) ∙ was_not_sent (sent_over b c) c n (is_outgoing b c) goes (subst (given n None) same e))) stands
 
     -- a null message with its promise
-    null_frame : (kind : Promising) → frame_of t (NullMessage (null_on kind b c)) ≡ model.NullFrame i (length lines) (promise (net_of t) kind p x.knowledge x.ran i)
-    null_frame kind = sym (moved (λ t p x. ◌≡◌ {A = model.Frame (List ℕ)} (model.NullFrame (receiving_iface t c) (length (model.outgoing (net_of t) p x (receiving_iface t c))) (promise (net_of t) kind p x.knowledge x.ran (receiving_iface t c)))
+    null_frame : (kind : Promising) → frame_of t (NullMessage (null_on kind b c)) ≡ model.NullFrame i (length lines) (promise_of (net_of t) kind p x.knowledge x.ran i)
+    null_frame kind = sym (moved (λ t p x. ◌≡◌ {A = model.Frame (List ℕ)} (model.NullFrame (receiving_iface t c) (length (model.outgoing (net_of t) p x (receiving_iface t c))) (promise_of (net_of t) kind p x.knowledge x.ran (receiving_iface t c)))
         (model.NullFrame (receiving_iface t c) (length (sent_over b c)) (promise_on kind b c))) t p r b x is refl)
 
     null_there : (kind : Promising) (j : ℕ) (m : ChannelMessage) → slice_get (NullMessage (null_on kind b c) ∷ []) j ≡ Some m → message_channel m < length t.receivers
     null_there kind zero m f = let g : NullMessage (null_on kind b c) ≡ m = cc in subst (λ z. message_channel z < length t.receivers) g within
     null_there kind (suc j) m f = absurd (let g : None ≡ Some m = f in cc)
 
-    with_null : (kind : Promising) → IsWorld t books (bag ++ NullMessage (null_on kind b c) ∷ []) (model.put_frames w (model.NullFrame i (length lines) (promise (net_of t) kind p x.knowledge x.ran i) ∷ []))
+    with_null : (kind : Promising) → IsWorld t books (bag ++ NullMessage (null_on kind b c) ∷ []) (model.put_frames w (model.NullFrame i (length lines) (promise_of (net_of t) kind p x.knowledge x.ran i) ∷ []))
     with_null kind = put_frames t books bag (NullMessage (null_on kind b c) ∷ []) w _ stands (ap (λ z. z ∷ []) (null_frame kind)) (null_there kind)
 
     null_is : (kind : Promising) (null : Null) → Some null ≡ only_if (is_outgoing b ch) (null_on kind b ch) → null ≡ null_on kind b c
     null_is kind null e = (is_there (is_outgoing b c) (null_on kind b c) null (sym (subst (λ z. Some null ≡ only_if (is_outgoing b z) (null_on kind b z)) same e))).1
 
-    pub null_sent : (null : Null) → Some null ≡ only_if (is_outgoing b ch) (null_on Tight b ch) → Steps t w (step.Null p r c) (Ok (answer.Frames 1)) books (bag ++ NullMessage null ∷ [])
-    null_sent null e =
-        subst (λ z. Steps t w (step.Null p r c) (Ok (answer.Frames 1)) books (bag ++ NullMessage z ∷ [])) (sym (null_is Tight null e))
-        (step_done t w (step.Null p r c) books (bag ++ NullMessage (null_on Tight b c) ∷ []) _ (model.Frames 1) (answer.Frames 1)
-        (ap (λ z. cond z (model.put_frames w (model.NullFrame i (length lines) (promise (net_of t) Tight p x.knowledge x.ran i) ∷ []), model.Frames 1) (w, model.NoSuch)) (model_sends t p r c true yes)) refl
-        (with_null Tight))
-
-    pub old_null_sent : (null : Null) → Some null ≡ only_if (is_outgoing b ch) (null_on Plain b ch) → Steps t w (step.OldNull p r c) (Ok (answer.Frames 1)) books (bag ++ NullMessage null ∷ [])
-    old_null_sent null e =
-        subst (λ z. Steps t w (step.OldNull p r c) (Ok (answer.Frames 1)) books (bag ++ NullMessage z ∷ [])) (sym (null_is Plain null e))
-        (step_done t w (step.OldNull p r c) books (bag ++ NullMessage (null_on Plain b c) ∷ []) _ (model.Frames 1) (answer.Frames 1)
-        (ap (λ z. cond z (model.put_frames w (model.NullFrame i (length lines) (promise (net_of t) Plain p x.knowledge x.ran i) ∷ []), model.Frames 1) (w, model.NoSuch)) (model_sends t p r c true yes)) refl
-        (with_null Plain))
+    pub null_sent : (promise : Promise) (null : Null) → Some null ≡ only_if (is_outgoing b ch) (null_on (kind_of promise) b ch) → Steps t w (null_step promise p r c) (Ok (answer.Frames 1)) books (bag ++ NullMessage null ∷ [])
+    null_sent promise null e =
+        subst (λ z. Steps t w (null_step promise p r c) (Ok (answer.Frames 1)) books (bag ++ NullMessage z ∷ [])) (sym (null_is (kind_of promise) null e))
+        (step_done t w (null_step promise p r c) books (bag ++ NullMessage (null_on (kind_of promise) b c) ∷ []) _ (model.Frames 1) (answer.Frames 1) (null_happens promise true yes) refl (with_null (kind_of promise)))
 
     -- where the channel goes out there is an answer
     pub no_answer : {X : Type 0} (v : X) → None ≡ only_if (is_outgoing b ch) v → ⊥
@@ -227,12 +221,3 @@ module _ (b : BookValue) (c : ℕ) where
       none_left (suc n) [] h k = refl
       none_left zero (y ∷ l) h k = absurd (omega (arith, h))
       none_left (suc n) (y ∷ l) h k = none_left n l (omega (arith, h)) k
-
--- where there is a message of this number, it is given
-pub is_given : (sent : List (ℕ × List ℕ)) (c n : ℕ) (out : Bool) → out ≡ true → n < length sent → None ≡ option_and_then (λ l. data_from c n (nth l n)) (only_if out sent) → ⊥
-is_given sent c n out h lt e = past sent n lt (was_not_sent sent c n out h e)
-  where
-    past : (l : List (ℕ × List ℕ)) (n : ℕ) → n < length l → nth l n ≡ None → ⊥
-    past [] n lt e = omega (arith, lt)
-    past (y ∷ l) zero lt e = absurd (let g : Some y ≡ None = e in cc)
-    past (y ∷ l) (suc n) lt e = past l n (omega (arith, lt)) e

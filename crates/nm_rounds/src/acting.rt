@@ -1,19 +1,21 @@
 //! What each step does.
 
-ghost use Rattle.std.specs.Prelude.{◌≡◌, ℕ, ◌<◌, ◌≤◌, true, List, IfOk, OnOk, length};
+ghost use Rattle.std.specs.Prelude.{◌≡◌, ℕ, List};
 ghost use Rattle.std.specs.Arc.{arc_value};
-ghost use Rattle.nm_book.specs.Book.{is_outgoing, sent_over};
+ghost use Rattle.nm_book.specs.Book.{is_outgoing, null_on, only_if};
 ghost use Rattle.nm_book.specs.declared.message.ChannelMessage.{ChannelMessage as Message};
 ghost use Rattle.nm_model.specs.World.{World};
-ghost use Rattle.nm_rounds.specs.World.{AreMessages, IsPushed, IsWorld, Steps, merge_answer_of};
+ghost use Rattle.nm_rounds.specs.World.{IsWorld, Steps, kind_of, merge_answer_of, null_step};
 ghost use Rattle.nm_rounds.specs.World.{refusal_of};
 ghost use Rattle.nm_rounds.specs.declared.step.WorldStep.TheVariants as step;
 
+use crate::messages::messages_from;
 use crate::places::{place_of, sending_place};
 use crate::step::StepAnswer;
 use crate::world::Stop;
 use nm_base::{ChanNo, PartNo};
 use nm_book::channels::receiver_of;
+use nm_book::message::Null;
 use nm_book::{AcceptFault, Book, BookFault, ChannelMessage, MergeFault, Ran};
 use nm_knowledge::KnowFault;
 use nm_knowledge::laws::packets_are_told_apart;
@@ -22,7 +24,7 @@ use nm_topology::Topology;
 use nm_topology::topology::{
     accepted_topologies_are_in_order, channels_are_numbered_by_their_receivers,
 };
-use std::alloc::{AllocError, Global};
+use std::alloc::Global;
 use std::sync::Arc;
 
 /// A replica runs.
@@ -75,43 +77,6 @@ pub(crate) fn send(
     Ok(StepAnswer::Frames(1))
 }
 
-/// Message `number` of a channel, which was sent, behind others.
-fn push_message(
-    messages: &mut Vec<ChannelMessage>,
-    book: &Book,
-    channel: ChanNo,
-    number: u64,
-) -> Result<(), AllocError>
-    requires goes { is_outgoing book.now channel ≡ true }
-    requires sent { number < length (sent_over book.now channel) }
-    ensures { OnOk result (IsPushed book.now channel number messages.old.items messages.new.items) }
-{
-    if let Some(message) = book.data(channel, number)? {
-        messages.push(ChannelMessage::Data(message))?;
-    }
-    Ok(())
-}
-
-/// The messages of a channel from number `first` on, of which `count` were sent.
-fn messages_from(
-    alloc: Global,
-    book: &Book,
-    channel: ChanNo,
-    first: u64,
-    count: u64,
-) -> Result<Vec<ChannelMessage>, AllocError>
-    requires goes { is_outgoing book.now channel ≡ true }
-    requires sent { length (sent_over book.now channel) ≡ count }
-    requires there { first ≤ count }
-    ensures { IfOk result (λ v. AreMessages book.now channel first v.items) }
-{
-    let mut messages = Vec::new(alloc);
-    for number in first..count {
-        push_message(&mut messages, book, channel, number)?;
-    }
-    Ok(messages)
-}
-
 /// A replica sends all messages from a number on.
 pub(crate) fn send_again(
     alloc: Global,
@@ -143,48 +108,45 @@ pub(crate) fn send_again(
     Ok(StepAnswer::Frames(count - number))
 }
 
-/// A replica sends a null message with its promise.
+/// Which promise a null message makes.
+#[derive(Clone, Copy)]
+pub(crate) enum Promise {
+    /// That of the moment, `Book::promise`.
+    Tight,
+    /// The old one, `Book::old_promise`.
+    Plain,
+}
+
+/// The null message of a channel that makes this promise.
+fn null_with(book: &Book, promise: Promise, channel: ChanNo) -> Option<Null>
+    ensures { result ≡ only_if (is_outgoing book.now channel)
+        (null_on (kind_of promise) book.now channel) }
+{
+    match promise {
+        Promise::Tight => book.null(channel),
+        Promise::Plain => book.old_null(channel),
+    }
+}
+
+/// A replica sends a null message that makes this promise.
 pub(crate) fn send_null(
     topology: &Topology,
     books: &[Book],
     bag: &mut Vec<ChannelMessage>,
+    promise: Promise,
     partition: PartNo,
     replica: u8,
     channel: ChanNo,
 ) -> Result<StepAnswer, Stop>
     requires { (w : World (List ℕ)) × IsWorld topology.now books.now bag.old.items w }
     ensures { (w : World (List ℕ)) → IsWorld topology.now books.now bag.old.items w
-        → Steps topology.now w (step.Null partition replica channel) result books.now
+        → Steps topology.now w (null_step promise partition replica channel) result books.now
         bag.new.items }
 {
     let Some(place) = sending_place(topology, partition, replica, channel) else {
         return Err(Stop::NoSuch);
     };
-    let Some(null) = books[place].null(channel) else {
-        return Err(Stop::NoSuch);
-    };
-    bag.push(ChannelMessage::Null(null))?;
-    Ok(StepAnswer::Frames(1))
-}
-
-/// A replica sends a null message with its old promise.
-pub(crate) fn send_old_null(
-    topology: &Topology,
-    books: &[Book],
-    bag: &mut Vec<ChannelMessage>,
-    partition: PartNo,
-    replica: u8,
-    channel: ChanNo,
-) -> Result<StepAnswer, Stop>
-    requires { (w : World (List ℕ)) × IsWorld topology.now books.now bag.old.items w }
-    ensures { (w : World (List ℕ)) → IsWorld topology.now books.now bag.old.items w
-        → Steps topology.now w (step.OldNull partition replica channel) result books.now
-        bag.new.items }
-{
-    let Some(place) = sending_place(topology, partition, replica, channel) else {
-        return Err(Stop::NoSuch);
-    };
-    let Some(null) = books[place].old_null(channel) else {
+    let Some(null) = null_with(&books[place], promise, channel) else {
         return Err(Stop::NoSuch);
     };
     bag.push(ChannelMessage::Null(null))?;

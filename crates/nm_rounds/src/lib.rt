@@ -7,6 +7,7 @@ mod acting;
 pub mod certify;
 pub mod fault;
 pub mod laws;
+mod messages;
 mod places;
 pub mod replay;
 mod round;

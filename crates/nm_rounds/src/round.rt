@@ -8,12 +8,12 @@ ghost use Rattle.nm_model.specs.World.{Replica};
 ghost use Rattle.nm_sim.specs.Network.{net_of};
 ghost use Rattle.nm_knowledge.specs.declared.answer.KnowFault.TheVariants.{Memory};
 ghost use Rattle.nm_topology.specs.TopologyValue.{TopologyValue};
-ghost use Rattle.nm_book.specs.Book.{is_incoming, is_outgoing, message_channel, sent_over};
-ghost use Rattle.nm_rounds.specs.World.{IsPushed};
+ghost use Rattle.nm_book.specs.Book.{is_incoming, is_outgoing, message_channel};
 ghost use Rattle.nm_rounds.specs.Rounds.{AreAllNews, AreBooks, AllAreFinished, AreNews, AreNewsOf};
 ghost use Rattle.nm_rounds.specs.Rounds.{AreOfChannel, AreRounds, EndsRound, RunsAll};
 ghost use Rattle.nm_rounds.specs.Rounds.{after_hearing, told_all, told_message};
 
+use crate::messages::messages_from;
 use nm_base::{ChanNo, Packet};
 use nm_book::channels::{receiver_of, sender_of};
 use nm_book::{AcceptFault, Book, ChannelMessage, Ran};
@@ -78,24 +78,6 @@ fn next_number(receiver: &Book, channel: ChanNo) -> u64
     }
 }
 
-/// Message `number` of a channel, which was sent, behind others.
-fn push_data(
-    messages: &mut Vec<ChannelMessage>,
-    sender: &Book,
-    channel: ChanNo,
-    number: u64,
-) -> Result<(), AllocError>
-    requires goes { is_outgoing sender.now channel ≡ true }
-    requires sent { number < length (sent_over sender.now channel) }
-    ensures { OnOk result
-        (IsPushed sender.now channel number messages.old.items messages.new.items) }
-{
-    if let Some(message) = sender.data(channel, number)? {
-        messages.push(ChannelMessage::Data(message))?;
-    }
-    Ok(())
-}
-
 /// All messages of a channel that the receiver does not know, and then the channel's null message.
 fn news(
     alloc: Global,
@@ -109,13 +91,11 @@ fn news(
         (slice_index_or receiver.now.knows channel nothing_known)
         sender.now channel messages.items) }
 {
-    let mut messages = Vec::new(alloc);
     let Some(null) = sender.null(channel) else {
-        return Ok(messages);
+        return Ok(Vec::new(alloc));
     };
-    for number in next_number(receiver, channel)..null.count {
-        push_data(&mut messages, sender, channel, number)?;
-    }
+    let first = next_number(receiver, channel);
+    let mut messages = messages_from(alloc, sender, channel, first, null.count)?;
     messages.push(ChannelMessage::Null(null))?;
     Ok(messages)
 }

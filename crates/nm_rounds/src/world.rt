@@ -1,13 +1,12 @@
 //! All replicas of a network's partitions, and the frames that they sent.
 
-ghost use Rattle.std.specs.Prelude.{◌≡◌, ◌+◌, ◌*◌, ◌<◌, ℕ, [], IfOk, OnOk, List, length};
+ghost use Rattle.std.specs.Prelude.{◌≡◌, ◌+◌, ◌*◌, ◌<◌, ℕ, [], IfOk, OnOk, List};
 ghost use Rattle.std.specs.Arc.{arc_value};
-ghost use Rattle.nm_book.specs.declared.message.ChannelMessage.{ChannelMessage as Message};
 ghost use Rattle.nm_model.specs.World.{World as ModelWorld, opening};
 ghost use Rattle.nm_rounds.specs.World.{AreFirst, IsWorld, Steps};
 ghost use Rattle.nm_rounds.specs.declared.world.Stop.TheVariants.{Memory};
 
-use crate::acting::{deliver, merge, restart, run, send, send_again, send_null, send_old_null};
+use crate::acting::{Promise, deliver, merge, restart, run, send, send_again, send_null};
 use crate::step::{StepAnswer, WorldStep};
 use nm_base::PartNo;
 use nm_base::limits::MAX_REPLICAS;
@@ -116,12 +115,28 @@ pub(crate) fn do_step(
             partition,
             replica,
             channel,
-        } => send_null(topology, books, bag, partition, replica, channel),
+        } => send_null(
+            topology,
+            books,
+            bag,
+            Promise::Tight,
+            partition,
+            replica,
+            channel,
+        ),
         WorldStep::OldNull {
             partition,
             replica,
             channel,
-        } => send_old_null(topology, books, bag, partition, replica, channel),
+        } => send_null(
+            topology,
+            books,
+            bag,
+            Promise::Plain,
+            partition,
+            replica,
+            channel,
+        ),
         WorldStep::Deliver { frame, replica } => deliver(topology, books, bag, frame, replica),
         WorldStep::Merge { partition, replica } => {
             merge(alloc, topology, books, partition, replica)

@@ -1,13 +1,13 @@
-use Rattle.std.proofs.Common.{◌≡◌, ◌↔◌, IsOk, map, None, Err, sym, ap, ◌∙◌, subst, rules}
+use Rattle.std.proofs.Common.{◌≡◌, map, None, Err, sym, ap, ◌∙◌, subst, rules}
 use Rattle.std.proofs.lemmas.List.Elements.{All-contains}
-use Rattle.nm_model.specs.Certificate.{IsCertified, book_fault, first_below, first_of}
+use Rattle.nm_model.specs.Certificate.{book_fault, first_below, first_of}
 use Rattle.nm_model.specs.Join.{or_else}
 use Rattle.nm_model.specs.Promise.{Tight}
 use Rattle.nm_knowledge.specs.Octets.{same_octets}
 use Rattle.nm_sim.specs.Network.{net_of}
-use Rattle.nm_rounds.specs.Certify.{AreOf, Certifies, FindsFault, books_of, missing, unfinished}
+use Rattle.nm_rounds.specs.Certify.{FindsFault, books_of, missing, unfinished}
 use Rattle.nm_rounds.specs.SameTopology.{SaysSame}
-use Rattle.nm_rounds.proofs.CertifySteps.{all_certified, answered, exactly, first_step, next_step, not_certified, parts_are, refused}
+use Rattle.nm_rounds.proofs.CertifySteps.{all_certified, answered, exactly, first_step, next_step, parts_are, refuses}
 use Rattle.nm_rounds.proofs.certify.certify.Goals as goal
 
 pub returns-then-not-are_of-clause-exact : goal.returns-then-not-are_of-clause-exact
@@ -21,40 +21,30 @@ pub returns-in_err-check_partitions : goal.returns-in_err-check_partitions
 returns-in_err-check_partitions c =
     let t = c.args.topology.now in
     let net = net_of t in
-    let ok = c.every_topology_is_a_network.ensures in
     let packets = c.packets_are_told_apart.ensures in
     let books = map (λ b. b.now) c.args.books.now in
     let fault = c.in_err-check_partitions.field-0.0 in
-    let e : c.from_residual.result ≡ Err fault = search rules in
     let here = subst (λ n. FindsFault t (first_below (missing books) n) (Err fault)) (sym (parts_are t)) c.in_err-check_partitions.ensures in
     let rest = or_else (first_of (unfinished t) (books_of books)) (first_of (book_fault net same_octets Tight (books_of books)) (books_of books)) in
-    let ours = c.are_of.ensures.all (search rules) in
-    let finds = first_step t (first_below (missing books) net.parts) rest fault here in
-    record {
-      answer = subst (Certifies t books) (sym e) (refused t books ours (c.certify_faults_are_right.ensures net ok.network same_octets packets.same packets.apart Tight (books_of books)) fault finds);
-      exact = subst (λ r. IsOk r ↔ (AreOf t books × IsCertified net Tight (books_of books))) (sym e)
-          (not_certified t books ours (c.certify_is_exact.ensures.complete net same_octets packets.same packets.apart Tight (books_of books)) fault finds);
-    }
+    let both = refuses t books (c.are_of.ensures.all (search rules)) (c.certify_is_exact.ensures.complete net same_octets packets.same packets.apart Tight (books_of books))
+    (c.certify_faults_are_right.ensures net c.every_topology_is_a_network.ensures.network same_octets packets.same packets.apart Tight (books_of books)) fault c.from_residual.result (search rules)
+    (first_step t (first_below (missing books) net.parts) rest fault here) in
+    record { answer = both.0; exact = both.1 }
 
 pub returns-in_err-check_done : goal.returns-in_err-check_done
 returns-in_err-check_done c =
     let t = c.args.topology.now in
     let net = net_of t in
-    let ok = c.every_topology_is_a_network.ensures in
     let packets = c.packets_are_told_apart.ensures in
     let books = map (λ b. b.now) c.args.books.now in
     let fault = c.in_err-check_done.field-0.0 in
-    let e : c.from_residual-in_err-check_done.result ≡ Err fault = search rules in
     let there : first_below (missing books) net.parts ≡ None = ap (first_below (missing books)) (parts_are t) ∙ c.in_ok-check_partitions.ensures in
     let matches = first_of (book_fault net same_octets Tight (books_of books)) (books_of books) in
     let done = first_of (unfinished t) (books_of books) in
-    let ours = c.are_of.ensures.all (search rules) in
-    let finds = next_step t (first_below (missing books) net.parts) (or_else done matches) (Err fault) there (first_step t done matches fault c.in_err-check_done.ensures.finds) in
-    record {
-      answer = subst (Certifies t books) (sym e) (refused t books ours (c.certify_faults_are_right.ensures net ok.network same_octets packets.same packets.apart Tight (books_of books)) fault finds);
-      exact = subst (λ r. IsOk r ↔ (AreOf t books × IsCertified net Tight (books_of books))) (sym e)
-          (not_certified t books ours (c.certify_is_exact.ensures.complete net same_octets packets.same packets.apart Tight (books_of books)) fault finds);
-    }
+    let both = refuses t books (c.are_of.ensures.all (search rules)) (c.certify_is_exact.ensures.complete net same_octets packets.same packets.apart Tight (books_of books))
+    (c.certify_faults_are_right.ensures net c.every_topology_is_a_network.ensures.network same_octets packets.same packets.apart Tight (books_of books)) fault c.from_residual-in_err-check_done.result (search rules)
+    (next_step t (first_below (missing books) net.parts) (or_else done matches) (Err fault) there (first_step t done matches fault c.in_err-check_done.ensures.finds)) in
+    record { answer = both.0; exact = both.1 }
 
 pub returns : goal.returns
 returns c =

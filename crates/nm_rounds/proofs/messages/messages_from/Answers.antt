@@ -1,6 +1,6 @@
 use Rattle.std.proofs.Common.{arith, sym, subst}
 use Rattle.nm_rounds.proofs.Sends.{AreGathered, gathered_all, gathered_more, gathered_none}
-use Rattle.nm_rounds.proofs.acting.messages_from.Goals as goal
+use Rattle.nm_rounds.proofs.messages.messages_from.Goals as goal
 
 pub loop-number-init : goal.loop-number-init
 loop-number-init c = subst (AreGathered c.args.book.now c.args.channel c.args.first c.args.first) (sym c.new-messages.ensures.items) (gathered_none c.args.book.now c.args.channel c.args.first)
