@@ -1,8 +1,8 @@
 //! All that is wrong with the tables of a text: the first fault of each table, a line each.
 //!
 //! That the line which stands first names the first fault in the reading order is proved
-//! (`place::find`). The others are found by the same look at one table (`place::spot_of`); that all
-//! are told is tested.
+//! (`place::find`). The others are found by the same look at one member of an array
+//! (`place::place_of_member`); that all are told is tested.
 
 ghost use Rattle.std.specs.Prelude.{◌≤◌, IfOk};
 
@@ -11,7 +11,7 @@ use crate::field::Form;
 use crate::fields::ARRAYS;
 use crate::first::keys_of;
 use crate::line::{table_line, top_line};
-use crate::place::{FaultPlace, Found, TOP_KEYS, any_head, fields_of, spot_of};
+use crate::place::{FaultPlace, Found, TOP_KEYS, any_head, fields_of, place_of_member};
 use crate::sentence::{member, push_found, unknown_key};
 use crate::spot::Spot;
 use crate::words::{Piece, push};
@@ -123,32 +123,20 @@ fn is_in(place: &FaultPlace, array: Array, number: usize) -> bool {
     }
 }
 
-/// Appends the fault of a table of an array, if it has one and not too many stand there: how many
-/// there are now.
-fn push_table_of(
+/// Appends one fault more, if not too many stand there: how many there are now.
+fn push_other(
     alloc: Global,
     out: &mut Vec<u8>,
     text: &str,
     top: &Table,
-    head: Head,
-    array: Array,
-    number: usize,
-    table: &Table,
+    found: Found,
     count: usize,
 ) -> Result<usize, AllocError>
-    requires { 28 ≤ head.mtu }
+    requires { 28 ≤ found.head.mtu }
 {
-    let Some(spot) = spot_of(alloc, head, array, table)? else {
-        return Ok(count);
-    };
     if count < MAX_FAULTS {
         out.push(b'\n')?;
-        let place = FaultPlace::Table {
-            array,
-            number,
-            spot,
-        };
-        push_fault(alloc, out, text, top, Found { head, place })?;
+        push_fault(alloc, out, text, top, found)?;
     }
     Ok(count.saturating_add(1))
 }
@@ -174,8 +162,8 @@ fn push_array(
         if is_in(first, array, number) {
             continue;
         }
-        if let Value::Table(table) = item {
-            count = push_table_of(alloc, out, text, top, head, array, number, table, count)?;
+        if let Some(place) = place_of_member(alloc, head, array, number, item)? {
+            count = push_other(alloc, out, text, top, Found { head, place }, count)?;
         }
     }
     Ok(count)

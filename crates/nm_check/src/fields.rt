@@ -8,111 +8,62 @@ use nm_base::limits::{
     MIN_MTU, MIN_RATE,
 };
 
-const NAME: Field = Field {
-    key: TableKey::Name,
-    form: Form::Name,
-};
+/// A field: its key, and what stands behind it, of a number from which to which. (A constant can
+/// call no function.)
+macro_rules! field {
+    ($key:ident, $form:expr) => {
+        Field {
+            key: TableKey::$key,
+            form: $form,
+        }
+    };
+    ($key:ident, $form:ident, $least:expr, $greatest:expr) => {
+        Field {
+            key: TableKey::$key,
+            form: Form::$form {
+                least: $least,
+                greatest: $greatest,
+            },
+        }
+    };
+}
 
-const NODE: Field = Field {
-    key: TableKey::Node,
-    form: Form::Name,
-};
+const NAME: Field = field!(Name, Form::Name);
 
-const VIA: Field = Field {
-    key: TableKey::Via,
-    form: Form::Name,
-};
+const NODE: Field = field!(Node, Form::Name);
 
-const SOURCE_KIND: Field = Field {
-    key: TableKey::Kind,
-    form: Form::SourceKind,
-};
+const VIA: Field = field!(Via, Form::Name);
 
-const DESTINATION: Field = Field {
-    key: TableKey::To,
-    form: Form::Address,
-};
+const SOURCE_KIND: Field = field!(Kind, Form::SourceKind);
 
-const ADDRESS: Field = Field {
-    key: TableKey::Address,
-    form: Form::Address,
-};
+const DESTINATION: Field = field!(To, Form::Address);
 
-const QUEUE: Field = Field {
-    key: TableKey::Queue,
-    form: Form::Number {
-        least: 0,
-        greatest: MAX_QUEUE,
-    },
-};
+const ADDRESS: Field = field!(Address, Form::Address);
+
+const QUEUE: Field = field!(Queue, Number, 0, MAX_QUEUE);
 
 /// The head of the top table.
 pub const HEAD: [Field; 3] = [
-    Field {
-        key: TableKey::Format,
-        form: Form::Number {
-            least: 1,
-            greatest: 2,
-        },
-    },
-    Field {
-        key: TableKey::Stop,
-        form: Form::Number {
-            least: 1,
-            greatest: MAX_TIME,
-        },
-    },
-    Field {
-        key: TableKey::Mtu,
-        form: Form::Number {
-            least: MIN_MTU,
-            greatest: MAX_MTU,
-        },
-    },
+    field!(Format, Number, 1, 2),
+    field!(Stop, Number, 1, MAX_TIME),
+    field!(Mtu, Number, MIN_MTU, MAX_MTU),
 ];
 
 /// The arrays of the top table, which are read once its head is.
 pub const ARRAYS: [Field; 5] = [
-    Field {
-        key: TableKey::Node,
-        form: Form::Tables(Array::Node),
-    },
-    Field {
-        key: TableKey::Iface,
-        form: Form::Tables(Array::Iface),
-    },
-    Field {
-        key: TableKey::Link,
-        form: Form::Tables(Array::Link),
-    },
-    Field {
-        key: TableKey::Route,
-        form: Form::Tables(Array::Route),
-    },
-    Field {
-        key: TableKey::Source,
-        form: Form::Tables(Array::Source),
-    },
+    field!(Node, Form::Tables(Array::Node)),
+    field!(Iface, Form::Tables(Array::Iface)),
+    field!(Link, Form::Tables(Array::Link)),
+    field!(Route, Form::Tables(Array::Route)),
+    field!(Source, Form::Tables(Array::Source)),
 ];
 
 /// A table of `node`.
 pub const NODE_TABLE: [Field; 4] = [
     NAME,
-    Field {
-        key: TableKey::Kind,
-        form: Form::NodeKind,
-    },
-    Field {
-        key: TableKey::Partition,
-        form: Form::Number {
-            least: 0,
-            greatest: 63,
-        },
-    },
-    Field {
-        key: TableKey::Ports,
-        form: Form::Ports,
-    },
+    field!(Kind, Form::NodeKind),
+    field!(Partition, Number, 0, 63),
+    field!(Ports, Form::Ports),
 ];
 
 /// A table of `iface` in format 1.
@@ -124,122 +75,40 @@ pub const IFACE_TABLE_TWO: [Field; 5] = [
     NODE,
     ADDRESS,
     QUEUE,
-    Field {
-        key: TableKey::QueueOctets,
-        form: Form::OptionalNumber {
-            least: 0,
-            greatest: MAX_QUEUE_OCTETS,
-        },
-    },
+    field!(QueueOctets, OptionalNumber, 0, MAX_QUEUE_OCTETS),
 ];
 
 /// A table of `link`.
 pub const LINK_TABLE: [Field; 4] = [
-    Field {
-        key: TableKey::A,
-        form: Form::Name,
-    },
-    Field {
-        key: TableKey::B,
-        form: Form::Name,
-    },
-    Field {
-        key: TableKey::Rate,
-        form: Form::Number {
-            least: MIN_RATE,
-            greatest: MAX_RATE,
-        },
-    },
-    Field {
-        key: TableKey::Delay,
-        form: Form::Number {
-            least: 0,
-            greatest: MAX_DELAY,
-        },
-    },
+    field!(A, Form::Name),
+    field!(B, Form::Name),
+    field!(Rate, Number, MIN_RATE, MAX_RATE),
+    field!(Delay, Number, 0, MAX_DELAY),
 ];
 
 /// A table of `route`.
-pub const ROUTE_TABLE: [Field; 3] = [
-    NODE,
-    Field {
-        key: TableKey::To,
-        form: Form::Prefix,
-    },
-    VIA,
-];
+pub const ROUTE_TABLE: [Field; 3] = [NODE, field!(To, Form::Prefix), VIA];
 
 /// The kind of a source, which is read before all else.
 pub const KIND_OF_SOURCE: [Field; 1] = [SOURCE_KIND];
 
-const SIZE: Field = Field {
-    key: TableKey::Size,
-    form: Form::Size,
-};
+const SIZE: Field = field!(Size, Form::Size);
 
-const FILL: Field = Field {
-    key: TableKey::Fill,
-    form: Form::OptionalNumber {
-        least: 0,
-        greatest: 255,
-    },
-};
+const FILL: Field = field!(Fill, OptionalNumber, 0, 255);
 
-const START: Field = Field {
-    key: TableKey::Start,
-    form: Form::Number {
-        least: 0,
-        greatest: MAX_TIME,
-    },
-};
+const START: Field = field!(Start, Number, 0, MAX_TIME);
 
-const INTERVAL: Field = Field {
-    key: TableKey::Interval,
-    form: Form::Number {
-        least: 1,
-        greatest: MAX_INTERVAL,
-    },
-};
+const INTERVAL: Field = field!(Interval, Number, 1, MAX_INTERVAL);
 
-const COUNT: Field = Field {
-    key: TableKey::Count,
-    form: Form::Number {
-        least: 0,
-        greatest: MAX_COUNT,
-    },
-};
+const COUNT: Field = field!(Count, Number, 0, MAX_COUNT);
 
-const TTL: Field = Field {
-    key: TableKey::Ttl,
-    form: Form::OptionalNumber {
-        least: 1,
-        greatest: 255,
-    },
-};
+const TTL: Field = field!(Ttl, OptionalNumber, 1, 255);
 
-const SOURCE_PORT: Field = Field {
-    key: TableKey::SourcePort,
-    form: Form::Number {
-        least: 0,
-        greatest: 65_535,
-    },
-};
+const SOURCE_PORT: Field = field!(SourcePort, Number, 0, 65_535);
 
-const DESTINATION_PORT: Field = Field {
-    key: TableKey::DestinationPort,
-    form: Form::Number {
-        least: 0,
-        greatest: 65_535,
-    },
-};
+const DESTINATION_PORT: Field = field!(DestinationPort, Number, 0, 65_535);
 
-const IDENTIFIER: Field = Field {
-    key: TableKey::Identifier,
-    form: Form::Number {
-        least: 0,
-        greatest: 65_535,
-    },
-};
+const IDENTIFIER: Field = field!(Identifier, Number, 0, 65_535);
 
 /// A table of `source` of kind "cbr".
 pub const CBR_TABLE: [Field; 11] = [
@@ -271,12 +140,4 @@ pub const ECHO_TABLE: [Field; 10] = [
 ];
 
 /// A table of `source` of kind "raw".
-pub const RAW_TABLE: [Field; 4] = [
-    SOURCE_KIND,
-    NODE,
-    VIA,
-    Field {
-        key: TableKey::Packet,
-        form: Form::Packets,
-    },
-];
+pub const RAW_TABLE: [Field; 4] = [SOURCE_KIND, NODE, VIA, field!(Packet, Form::Packets)];

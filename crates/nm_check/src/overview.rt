@@ -1,6 +1,6 @@
 //! What an accepted topology says, as lines.
 
-use crate::remarks::push_remarks;
+use crate::remarks::with_remarks;
 use crate::words::{Piece, push};
 use nm_base::Time;
 use nm_base::limits::MAX_RATE;
@@ -203,6 +203,5 @@ fn push_counts(out: &mut Vec<u8>, topology: &Topology) -> Result<(), AllocError>
 pub fn summary(alloc: Global, topology: &Topology) -> Result<Vec<u8>, AllocError> {
     let mut out = Vec::new(alloc);
     push_counts(&mut out, topology)?;
-    push_remarks(alloc, &mut out, topology)?;
-    Ok(out)
+    with_remarks(alloc, out, topology)
 }

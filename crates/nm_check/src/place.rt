@@ -156,7 +156,7 @@ fn source_spot(alloc: Global, head: Head, table: &Table) -> Result<Option<Spot>,
 }
 
 /// Where a table of an array is refused.
-pub fn spot_of(
+fn spot_of(
     alloc: Global,
     head: Head,
     array: Array,
@@ -193,7 +193,7 @@ fn first_table(
 }
 
 /// Where a member of an array is refused, of this number.
-fn place_of_member(
+pub fn place_of_member(
     alloc: Global,
     head: Head,
     array: Array,

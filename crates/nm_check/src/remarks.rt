@@ -11,14 +11,40 @@ use std::alloc::{AllocError, Global};
 /// The most remarks that are written out.
 const MAX_REMARKS: u64 = 20;
 
-/// Appends a remark, if not too many stand there: how many there are now.
-fn push_remark(out: &mut Vec<u8>, count: u64, pieces: &[Piece]) -> Result<u64, AllocError> {
-    if count < MAX_REMARKS {
-        push(out, &[Piece::Text("remark: ")])?;
-        push(out, pieces)?;
-        push(out, &[Piece::Text("\n")])?;
+/// A text that remarks are appended to, a line each, and how many remarks there are.
+#[derive(Drop)]
+struct Remarks {
+    text: Vec<u8>,
+    count: u64,
+}
+
+impl Remarks {
+    /// One remark more, which is written out if not too many are.
+    fn push(&mut self, pieces: &[Piece]) -> Result<(), AllocError> {
+        if self.count < MAX_REMARKS {
+            push(&mut self.text, &[Piece::Text("remark: ")])?;
+            push(&mut self.text, pieces)?;
+            push(&mut self.text, &[Piece::Text("\n")])?;
+        }
+        self.count = self.count.saturating_add(1);
+        Ok(())
     }
-    Ok(count.saturating_add(1))
+
+    /// Appends how many remarks there are more than were written out.
+    fn push_more(&mut self) -> Result<(), AllocError> {
+        if self.count <= MAX_REMARKS {
+            return Ok(());
+        }
+        let more = self.count - MAX_REMARKS;
+        push(
+            &mut self.text,
+            &[
+                Piece::Text("and "),
+                Piece::Number(more),
+                Piece::Text(" more\n"),
+            ],
+        )
+    }
 }
 
 /// The addresses of all interfaces, least first.
@@ -54,60 +80,51 @@ fn iface_name(topology: &Topology, iface: IfaceNo) -> &str {
 
 /// Appends a remark on a route that leads to no address.
 fn push_route<'a>(
-    out: &mut Vec<u8>,
-    count: u64,
+    remarks: &mut Remarks,
     topology: &'a Topology,
     node: &'a str,
     route: Route,
-) -> Result<u64, AllocError> {
+) -> Result<(), AllocError> {
     let to = route.to;
     let via = iface_name(topology, route.via);
-    push_remark(
-        out,
-        count,
-        &[
-            Piece::Text("node "),
-            Piece::Quoted(node),
-            Piece::Text(": the route to "),
-            Piece::Address(to.address),
-            Piece::Text("/"),
-            Piece::Number(to.length as u64),
-            Piece::Text(" via "),
-            Piece::Quoted(via),
-            Piece::Text(" leads to no address"),
-        ],
-    )
+    remarks.push(&[
+        Piece::Text("node "),
+        Piece::Quoted(node),
+        Piece::Text(": the route to "),
+        Piece::Address(to.address),
+        Piece::Text("/"),
+        Piece::Number(to.length as u64),
+        Piece::Text(" via "),
+        Piece::Quoted(via),
+        Piece::Text(" leads to no address"),
+    ])
 }
 
 /// Appends a remark for each route of a node that leads to no address.
 fn push_routes_of(
-    out: &mut Vec<u8>,
-    count: u64,
+    remarks: &mut Remarks,
     topology: &Topology,
     node: &Node,
     addresses: &[u32],
-) -> Result<u64, AllocError> {
-    let mut count = count;
+) -> Result<(), AllocError> {
     for route in node.routes() {
         if !holds_any(route.to, addresses) {
-            count = push_route(out, count, topology, node.name(), *route)?;
+            push_route(remarks, topology, node.name(), *route)?;
         }
     }
-    Ok(count)
+    Ok(())
 }
 
 /// Appends a remark for each route that leads to no address.
 fn push_routes(
-    out: &mut Vec<u8>,
-    count: u64,
+    remarks: &mut Remarks,
     topology: &Topology,
     addresses: &[u32],
-) -> Result<u64, AllocError> {
-    let mut count = count;
+) -> Result<(), AllocError> {
     for node in topology.nodes() {
-        count = push_routes_of(out, count, topology, node, addresses)?;
+        push_routes_of(remarks, topology, node, addresses)?;
     }
-    Ok(count)
+    Ok(())
 }
 
 /// Where a source sends its packets, if it says so.
@@ -129,43 +146,36 @@ fn node_name<'a>(topology: &'a Topology, source: &Source) -> &'a str {
 
 /// Appends a remark on a source whose destination nobody has.
 fn push_source(
-    out: &mut Vec<u8>,
-    count: u64,
+    remarks: &mut Remarks,
     number: usize,
     node: &str,
     to: Address,
-) -> Result<u64, AllocError> {
-    push_remark(
-        out,
-        count,
-        &[
-            Piece::Text("source "),
-            Piece::Number(number as u64),
-            Piece::Text(" (node "),
-            Piece::Quoted(node),
-            Piece::Text("): no interface has its destination, "),
-            Piece::Address(to),
-        ],
-    )
+) -> Result<(), AllocError> {
+    remarks.push(&[
+        Piece::Text("source "),
+        Piece::Number(number as u64),
+        Piece::Text(" (node "),
+        Piece::Quoted(node),
+        Piece::Text("): no interface has its destination, "),
+        Piece::Address(to),
+    ])
 }
 
 /// Appends a remark for each source whose destination nobody has.
 fn push_sources(
-    out: &mut Vec<u8>,
-    count: u64,
+    remarks: &mut Remarks,
     topology: &Topology,
     addresses: &[u32],
-) -> Result<u64, AllocError> {
-    let mut count = count;
+) -> Result<(), AllocError> {
     for (number, source) in topology.sources().iter().enumerate() {
         if let Some(to) = destination(source) {
             if addresses.binary_search(&to.bits()).is_err() {
                 let node = node_name(topology, source);
-                count = push_source(out, count, number, node, to)?;
+                push_source(remarks, number, node, to)?;
             }
         }
     }
-    Ok(count)
+    Ok(())
 }
 
 /// Notes that an interface is used.
@@ -193,51 +203,46 @@ fn used_ifaces(alloc: Global, topology: &Topology) -> Result<Vec<bool>, AllocErr
 
 /// Appends a remark for each interface that no route and no raw source uses.
 fn push_ifaces(
-    out: &mut Vec<u8>,
-    count: u64,
+    remarks: &mut Remarks,
     topology: &Topology,
     used: &[bool],
-) -> Result<u64, AllocError> {
-    let mut count = count;
+) -> Result<(), AllocError> {
     for (number, iface) in topology.ifaces().iter().enumerate() {
         if used.get(number) == Some(&false) {
-            count = push_remark(
-                out,
-                count,
-                &[
-                    Piece::Text("iface "),
-                    Piece::Number(number as u64),
-                    Piece::Text(" ("),
-                    Piece::Quoted(iface.name()),
-                    Piece::Text("): no route and no raw source uses it"),
-                ],
-            )?;
+            remarks.push(&[
+                Piece::Text("iface "),
+                Piece::Number(number as u64),
+                Piece::Text(" ("),
+                Piece::Quoted(iface.name()),
+                Piece::Text("): no route and no raw source uses it"),
+            ])?;
         }
     }
-    Ok(count)
+    Ok(())
 }
 
-/// Appends the remarks: on routes, on sources and on interfaces, each in the order of the text; at
-/// most 20, and how many more there are.
-pub fn push_remarks(
+/// A text with the remarks behind it: on routes, on sources and on interfaces, each in the order of
+/// the topology's text; at most 20, and how many more there are.
+pub fn with_remarks(
     alloc: Global,
-    out: &mut Vec<u8>,
+    text: Vec<u8>,
+    topology: &Topology,
+) -> Result<Vec<u8>, AllocError> {
+    let mut remarks = Remarks { text, count: 0 };
+    push_remarks(alloc, &mut remarks, topology)?;
+    Ok(remarks.text)
+}
+
+/// Appends the remarks.
+fn push_remarks(
+    alloc: Global,
+    remarks: &mut Remarks,
     topology: &Topology,
 ) -> Result<(), AllocError> {
     let addresses = addresses(alloc, topology)?;
+    push_routes(remarks, topology, &addresses)?;
+    push_sources(remarks, topology, &addresses)?;
     let used = used_ifaces(alloc, topology)?;
-    let count = push_routes(out, 0, topology, &addresses)?;
-    let count = push_sources(out, count, topology, &addresses)?;
-    let count = push_ifaces(out, count, topology, &used)?;
-    if count > MAX_REMARKS {
-        return push(
-            out,
-            &[
-                Piece::Text("and "),
-                Piece::Number(count - MAX_REMARKS),
-                Piece::Text(" more\n"),
-            ],
-        );
-    }
-    Ok(())
+    push_ifaces(remarks, topology, &used)?;
+    remarks.push_more()
 }

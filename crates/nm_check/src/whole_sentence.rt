@@ -162,28 +162,25 @@ fn push_none<'a>(
     push_meant(out, name, known)
 }
 
-/// Appends that there is no node of this name.
-fn push_no_node(
+/// Appends that there is no node, or no interface, of the name that a table has there.
+fn push_no_such(
     alloc: Global,
     out: &mut Vec<u8>,
     document: &Document,
-    name: &str,
+    lacking: Lacking,
 ) -> Result<(), AllocError> {
     let nodes = names_of(alloc, &document.nodes)?;
     let ifaces = names_of(alloc, &document.ifaces)?;
-    push_none(out, "node", name, &nodes, &ifaces, "an interface")
-}
-
-/// Appends that there is no interface of this name.
-fn push_no_iface(
-    alloc: Global,
-    out: &mut Vec<u8>,
-    document: &Document,
-    name: &str,
-) -> Result<(), AllocError> {
-    let nodes = names_of(alloc, &document.nodes)?;
-    let ifaces = names_of(alloc, &document.ifaces)?;
-    push_none(out, "interface", name, &ifaces, &nodes, "a node")
+    match lacking.lack {
+        Lack::Node => {
+            let name = node_of(document, lacking.array, lacking.number);
+            push_none(out, "node", name, &nodes, &ifaces, "an interface")
+        }
+        _ => {
+            let name = iface_of(document, lacking);
+            push_none(out, "interface", name, &ifaces, &nodes, "a node")
+        }
+    }
 }
 
 /// Appends what a table names that is not there.
@@ -196,14 +193,7 @@ fn push_lack(
     push_table_name(out, document, lacking.array, lacking.number)?;
     push(out, &[Piece::Text(": ")])?;
     match lacking.lack {
-        Lack::Node => {
-            let name = node_of(document, lacking.array, lacking.number);
-            push_no_node(alloc, out, document, name)
-        }
-        Lack::Iface(_) => {
-            let name = iface_of(document, lacking);
-            push_no_iface(alloc, out, document, name)
-        }
+        Lack::Node | Lack::Iface(_) => push_no_such(alloc, out, document, lacking),
         Lack::Own => {
             let name = iface_of(document, lacking);
             push(
