@@ -1,9 +1,11 @@
 -- The rows of interfaces in a step.
 use Rattle.std.specs.Prelude.{◌≡◌, ℕ, suc, ◌-◌, List, [], ◌∷◌, ◌++◌, length, slice_get, Some, codes, decimal}
 use Rattle.nm_forward.specs.State.{NodeStateValue}
-use Rattle.nm_model.specs.Run.{State}
+use Rattle.nm_model.specs.Before.{IsBefore}
+use Rattle.nm_model.specs.Run.{State, one_list}
 use Rattle.nm_topology.specs.PartValues.{IfaceValue}
 use Rattle.nm_topology.specs.TopologyValue.{TopologyValue}
+use Rattle.nm_sim.specs.Network.{net_of}
 use Rattle.nm_measure.specs.Amounts.{traffic_of}
 use Rattle.nm_measure.specs.Measured.{drops_of}
 use Rattle.nm_measure.specs.declared.amounts.IfaceTraffic.{IfaceTraffic}
@@ -23,6 +25,12 @@ had i s = record { traffic = traffic_of i s.records; dropped = drops_of i s }
 pub record AreIfaceTotals (t : TopologyValue) (s : State (List ℕ) NodeStateValue) (all : List IfaceTotals) : Type 0 where
   pub count : length all ≡ length t.ifaces
   pub each : (i : ℕ) (x : IfaceTotals) → slice_get all i ≡ Some x → (x.traffic ≡ (had i s).traffic) × (x.dropped ≡ (had i s).dropped)
+
+-- each interface's before a time of the run: in the one event list after all events that are before it
+pub record HadIfaces (t : TopologyValue) (time : ℕ) (all : List IfaceTotals) : Type 0 where
+  pub events : ℕ
+  pub over : IsBefore (net_of t) time events
+  pub totals : AreIfaceTotals t (one_list (net_of t) events) all
 
 -- a value behind others
 abbrev pub cell : ℕ → List ℕ
@@ -49,3 +57,13 @@ abbrev pub rows_of : (from : ℕ) (old new : State (List ℕ) NodeStateValue) �
 rows_of from old new n [] seen = []
 rows_of from old new n (i ∷ ifaces) [] = []
 rows_of from old new n (i ∷ ifaces) (x ∷ seen) = iface_row from i.name (had n old) (had n new) x ++ rows_of from old new (suc n) ifaces seen
+
+-- the rows of a step: what each interface had more in the one event list before its end than before its begin
+pub record IsIfaceStep (t : TopologyValue) (from until : ℕ) (text : List ℕ) : Type 0 where
+  pub before : ℕ
+  pub after : ℕ
+  pub begins : IsBefore (net_of t) from before
+  pub ends : IsBefore (net_of t) until after
+  pub seen : List IfaceSeen
+  pub all : length seen ≡ length t.ifaces
+  pub rows : text ≡ rows_of from (one_list (net_of t) before) (one_list (net_of t) after) 0 t.ifaces seen

@@ -50,12 +50,10 @@ pub fn delays_text(
     let mut text = Vec::new(alloc);
     push_text(&mut text, HEAD)?;
     end_line(&mut text)?;
-    let mut number = 0u32;
-    for _ in topology.sources() {
+    for (number, _) in (0..u32::MAX).zip(topology.sources()) {
         if let Some(times) = measured.times(SourceNo::new(number)) {
             push_delays(&mut text, number, &times.delays)?;
         }
-        number = number.saturating_add(1);
     }
     Ok(text)
 }

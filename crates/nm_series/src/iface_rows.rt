@@ -1,15 +1,13 @@
 //! The rows of interfaces in a step.
 
-ghost use Rattle.std.specs.Prelude.{◌≡◌, ℕ, ◌<◌, ◌++◌, List, IfOk, OnOk, Some, length, slice_get};
-ghost use Rattle.nm_base.specs.declared.limits.TheConstants.{MAX_IFACES};
+ghost use Rattle.std.specs.Prelude.{◌≡◌, ℕ, ◌++◌, List, OnOk, length};
 ghost use Rattle.nm_forward.specs.State.{NodeStateValue};
-ghost use Rattle.nm_model.specs.Run.{State, one_list};
-ghost use Rattle.nm_sim.specs.Network.{net_of};
-ghost use Rattle.nm_measure.specs.Measured.{IsMeasuredBefore};
-ghost use Rattle.nm_series.specs.Rows.{AreIfaceTotals, Had, counts_text, iface_row};
-ghost use Rattle.nm_series.specs.Rows.{rows_of, seen_text};
+ghost use Rattle.nm_model.specs.Run.{State};
+ghost use Rattle.nm_series.specs.Rows.{AreIfaceTotals, HadIfaces, IsIfaceStep, counts_text};
+ghost use Rattle.nm_series.specs.Rows.{iface_row, rows_of, seen_text};
 
 use crate::cells::{end_row, push_cell};
+use crate::series::{Span, Told};
 use nm_base::{IfaceNo, Time, push_number, push_text};
 use nm_measure::{IfaceTotals, Measured, thousandths};
 use nm_topology::Topology;
@@ -29,42 +27,6 @@ pub struct IfaceSeen {
     pub mean_octets: u64,
     /// In which share of the time it transmitted, in thousandths, rounded down.
     pub busy: u64,
-}
-
-/// A step: from when to when.
-#[derive(Clone, Copy)]
-pub(crate) struct Span {
-    pub from: Time,
-    pub until: Time,
-}
-
-impl Span {
-    /// How long it is, in nanoseconds.
-    fn length(&self) -> u64 {
-        self.until
-            .nanoseconds()
-            .saturating_sub(self.from.nanoseconds())
-    }
-}
-
-/// What all interfaces had up to this time, before which all events were done, by number.
-pub(crate) fn totals_of(
-    alloc: Global,
-    topology: &Topology,
-    measured: &Measured,
-    time: Time,
-) -> Result<Vec<IfaceTotals>, AllocError>
-    requires { (until : ℕ) × IsMeasuredBefore topology.now until measured.now }
-    ensures { IfOk result (λ all. (until : ℕ)
-        (m : IsMeasuredBefore topology.now until measured.now)
-        → AreIfaceTotals topology.now (one_list (net_of topology.now) m.events) all.items) }
-{
-    accepted_topologies_are_in_order(topology); // law: there are few interfaces
-    let mut all = Vec::new(alloc);
-    for number in 0..topology.ifaces().len() {
-        all.push(measured.totals(IfaceNo::new(number as u32), time))?;
-    }
-    Ok(all)
 }
 
 /// How many waited in the mean in a step, rounded down, where all waited for so many nanoseconds
@@ -149,7 +111,7 @@ fn push_row(
 }
 
 /// Appends the rows of all interfaces in a step, in the order of the topology's text.
-pub(crate) fn push_rows(
+fn push_rows(
     text: &mut Vec<u8>,
     topology: &Topology,
     measured: &mut Measured,
@@ -185,4 +147,37 @@ pub(crate) fn push_rows(
         )?;
     }
     Ok(())
+}
+
+impl Told for IfaceTotals {
+    ghost had = { λ t time all. HadIfaces t time all };
+
+    ghost are_rows = { λ t from until text. IsIfaceStep t from until text };
+
+    fn all_before(
+        alloc: Global,
+        topology: &Topology,
+        measured: &Measured,
+        time: Time,
+    ) -> Result<Vec<IfaceTotals>, AllocError> {
+        accepted_topologies_are_in_order(topology); // law: there are few interfaces
+        let mut all = Vec::new(alloc);
+        for number in 0..topology.ifaces().len() {
+            all.push(measured.totals(IfaceNo::new(number as u32), time))?;
+        }
+        Ok(all)
+    }
+
+    fn rows(
+        alloc: Global,
+        topology: &Topology,
+        measured: &mut Measured,
+        before: &[IfaceTotals],
+        after: &[IfaceTotals],
+        span: &Span,
+    ) -> Result<Vec<u8>, AllocError> {
+        let mut text = Vec::new(alloc);
+        push_rows(&mut text, topology, measured, before, after, span)?;
+        Ok(text)
+    }
 }

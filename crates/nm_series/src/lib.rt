@@ -4,13 +4,12 @@
 
 mod buckets;
 mod cells;
-mod flow_series;
+mod flow_rows;
 mod iface_rows;
-mod iface_series;
 mod packets;
+mod series;
 pub mod steps;
 
 pub use buckets::delays_text;
-pub use flow_series::FlowSeries;
-pub use iface_series::IfaceSeries;
 pub use packets::packets_text;
+pub use series::{Series, Span, Told};

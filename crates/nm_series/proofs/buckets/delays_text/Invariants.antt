@@ -1,5 +1,5 @@
 use Rattle.nm_measure.specs.Lines.{EndsLine}
 use Rattle.nm_series.proofs.buckets.delays_text.Given as goal
 
-abbrev pub invariant-loop : goal.invariant-loop
-invariant-loop l = EndsLine l.text.items
+abbrev pub invariant-loop-number : goal.invariant-loop-number
+invariant-loop-number l = EndsLine l.text.items

@@ -1,6 +1,6 @@
 use Rattle.std.proofs.Common.{◌≡◌}
 use Rattle.nm_series.specs.Flows.{AreLines}
-use Rattle.nm_series.proofs.flow_series.push_rows.Given as goal
+use Rattle.nm_series.proofs.flow_rows.push_rows.Given as goal
 
 abbrev pub invariant-loop-old : goal.invariant-loop-old
 invariant-loop-old l = record {

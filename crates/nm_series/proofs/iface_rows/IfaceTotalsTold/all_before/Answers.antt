@@ -3,7 +3,7 @@ use Rattle.nm_model.specs.Run.{one_list}
 use Rattle.nm_sim.specs.Network.{net_of}
 use Rattle.nm_series.specs.Rows.{had}
 use Rattle.nm_series.proofs.RowsMore.{pushed}
-use Rattle.nm_series.proofs.iface_rows.totals_of.Goals as goal
+use Rattle.nm_series.proofs.iface_rows.IfaceTotalsTold.all_before.Goals as goal
 
 pub loop-number-preserved : goal.loop-number-preserved
 loop-number-preserved c =
@@ -16,25 +16,27 @@ loop-number-preserved c =
     record {
       within = omega (arith, low);
       count = search rules;
-      each = λ until m i x got.
+      each = λ m i x got.
           let s = one_list (net_of t) m.events in
           ⊎_elim
-          (λ before. c.loop-number.invariant.each until m i x before)
+          (λ before. c.loop-number.invariant.each m i x before)
           (λ last.
           let at : c.new.result ≡ i = same ∙ sym count ∙ sym last.0 in (
-            ap (λ v. v.traffic) last.1 ∙ subst (λ j. c.totals.result.traffic ≡ (had j s).traffic) at (c.totals.ensures.traffic t until m),
-            ap (λ v. v.dropped) last.1 ∙ subst (λ j. c.totals.result.dropped ≡ (had j s).dropped) at (c.totals.ensures.dropped t until m),
+            ap (λ v. v.traffic) last.1 ∙ subst (λ j. c.totals.result.traffic ≡ (had j s).traffic) at (c.totals.ensures.traffic t c.args.time m),
+            ap (λ v. v.dropped) last.1 ∙ subst (λ j. c.totals.result.dropped ≡ (had j s).dropped) at (c.totals.ensures.dropped t c.args.time m),
           ))
           (pushed c.loop-number.all.items c.totals.result i x (sym (ap (λ l. slice_get l i) more) ∙ got));
     }
 
 pub returns : goal.returns
-returns c = λ until m.
+returns c =
+    let m = c.requires in
     let n = c.loop-number.number in
     let low = c.loop-number.invariant.within in
     let over : length c.args.topology.now.ifaces ≤ n = search rules in
     let count = c.loop-number.invariant.count in
     record {
-      count = omega (arith, low, over, count);
-      each = c.loop-number.invariant.each until m;
+      events = m.events;
+      over = m.over;
+      totals = record { count = omega (arith, low, over, count); each = c.loop-number.invariant.each m };
     }

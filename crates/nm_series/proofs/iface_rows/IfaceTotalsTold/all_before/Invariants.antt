@@ -4,12 +4,12 @@ use Rattle.nm_sim.specs.Network.{net_of}
 use Rattle.nm_measure.specs.Measured.{IsMeasuredBefore}
 use Rattle.nm_measure.specs.declared.totals.IfaceTotals.{IfaceTotals}
 use Rattle.nm_series.specs.Rows.{had}
-use Rattle.nm_series.proofs.iface_rows.totals_of.Given as goal
+use Rattle.nm_series.proofs.iface_rows.IfaceTotalsTold.all_before.Given as goal
 
 abbrev pub invariant-loop-number : goal.invariant-loop-number
 invariant-loop-number l = record {
   within : l.number ≤ length l.topology.ifaces;
   count : length l.all.items ≡ l.number;
-  each : (until : ℕ) (m : IsMeasuredBefore l.topology until l.measured) (i : ℕ) (x : IfaceTotals) → slice_get l.all.items i ≡ Some x
+  each : (m : IsMeasuredBefore l.topology l.time l.measured) (i : ℕ) (x : IfaceTotals) → slice_get l.all.items i ≡ Some x
       → (x.traffic ≡ (had i (one_list (net_of l.topology) m.events)).traffic) × (x.dropped ≡ (had i (one_list (net_of l.topology) m.events)).dropped);
 }
