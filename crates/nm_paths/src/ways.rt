@@ -70,13 +70,23 @@ fn is_holder(holders: &[NodeNo], node: NodeNo) -> bool
     holders.iter().any(|holder| node == *holder)
 }
 
-/// Whether an address, which these nodes have, is a node's own.
-fn is_own(topology: &Topology, holders: &[NodeNo], node: NodeNo) -> bool
-    ensures { (to : ℕ) → holders.now ≡ nodes_with topology.now.ifaces to
-        → result ≡ is_own (table_of topology.now node) to }
+/// Where packets to an address go: by the routes of all nodes, to the nodes that have the address.
+#[derive(Clone, Copy)]
+struct Routing<'a> {
+    topology: &'a Topology,
+    tables: &'a Tables,
+    holders: &'a [NodeNo],
+    to: Address,
+    ghost routes: { tables.now ≡ routes_of_all topology.now },
+    ghost held: { holders.now ≡ nodes_with topology.now.ifaces to },
+}
+
+/// Whether the address is a node's own.
+fn is_own(routing: &Routing<'_>, node: NodeNo) -> bool
+    ensures { result ≡ is_own (table_of routing.now.topology.now node) routing.now.to }
 {
-    match topology.nodes().get(node.index()) {
-        Some(_) => is_holder(holders, node),
+    match routing.topology.nodes().get(node.index()) {
+        Some(_) => is_holder(routing.holders, node),
         None => false,
     }
 }
@@ -92,78 +102,55 @@ fn kind_of(topology: &Topology, node: NodeNo) -> NodeKind
     }
 }
 
-/// The interface by which the longest route of a node to an address leads.
-fn route_at(topology: &Topology, tables: &Tables, node: NodeNo, to: Address) -> Option<IfaceNo>
-    requires { tables.now ≡ routes_of_all topology.now }
-    ensures { result ≡ route_of (table_of topology.now node).routes to }
+/// The interface by which the longest route of a node to the address leads.
+fn route_at(routing: &Routing<'_>, node: NodeNo) -> Option<IfaceNo>
+    ensures { result ≡ route_of (table_of routing.now.topology.now node).routes routing.now.to }
 {
-    match topology.nodes().get(node.index()) {
-        Some(_) => tables.look(node, to),
+    match routing.topology.nodes().get(node.index()) {
+        Some(_) => routing.tables.look(node, routing.to),
         None => None,
     }
 }
 
 /// What a node does with a packet that comes to it with this time to live.
-fn turn_at(
-    topology: &Topology,
-    tables: &Tables,
-    holders: &[NodeNo],
-    node: NodeNo,
-    to: Address,
-    time_to_live: u8,
-) -> Turn
-    requires tables { tables.now ≡ routes_of_all topology.now }
-    requires holders { holders.now ≡ nodes_with topology.now.ifaces to }
-    ensures { result ≡ turn_at (table_of topology.now node) to time_to_live }
+fn turn_at(routing: &Routing<'_>, node: NodeNo, time_to_live: u8) -> Turn
+    ensures { result ≡ turn_at (table_of routing.now.topology.now node) routing.now.to time_to_live }
 {
-    if is_own(topology, holders, node) {
+    if is_own(routing, node) {
         return Turn::Stops(WalkEnd::Arrived);
     }
-    let route = route_at(topology, tables, node, to);
-    transit_turn(kind_of(topology, node), route, time_to_live)
+    let route = route_at(routing, node);
+    transit_turn(kind_of(routing.topology, node), route, time_to_live)
 }
 
 /// What a node does with a packet of its own.
-fn first_turn(
-    topology: &Topology,
-    tables: &Tables,
-    holders: &[NodeNo],
-    node: NodeNo,
-    to: Address,
-) -> Turn
-    requires tables { tables.now ≡ routes_of_all topology.now }
-    requires holders { holders.now ≡ nodes_with topology.now.ifaces to }
-    ensures { result ≡ first_turn (table_of topology.now node) to }
+fn first_turn(routing: &Routing<'_>, node: NodeNo) -> Turn
+    ensures { result ≡ first_turn (table_of routing.now.topology.now node) routing.now.to }
 {
-    if is_own(topology, holders, node) {
+    if is_own(routing, node) {
         return Turn::Stops(WalkEnd::Arrived);
     }
-    route_turn(route_at(topology, tables, node, to))
+    route_turn(route_at(routing, node))
 }
 
 /// Goes on from a node to which a packet comes with this time to live: appends the interfaces by
 /// which it leaves, and gives what ends its way.
 fn go_on(
-    topology: &Topology,
-    tables: &Tables,
-    holders: &[NodeNo],
-    to: Address,
+    routing: &Routing<'_>,
     time_to_live: u8,
     first: NodeNo,
     hops: &mut Vec<IfaceNo>,
 ) -> Result<WalkEnd, AllocError>
-    requires tables { tables.now ≡ routes_of_all topology.now }
-    requires holders { holders.now ≡ nodes_with topology.now.ifaces to }
-    ensures { IfOk result (λ ending. (hops.new.items, ending)
-        ≡ behind hops.old.items (course topology.now to (time_to_live + 1) first)) }
+    ensures { IfOk result (λ ending. (hops.new.items, ending) ≡ behind hops.old.items
+        (course routing.now.topology.now routing.now.to (time_to_live + 1) first)) }
 {
     let mut node = first;
     for left in (0..u16::from(time_to_live) + 1).rev() {
-        match turn_at(topology, tables, holders, node, to, left as u8) {
+        match turn_at(routing, node, left as u8) {
             Turn::Stops(ending) => return Ok(ending),
             Turn::Leaves(via) => {
                 hops.push(via)?;
-                node = node_behind(topology.ifaces(), via);
+                node = node_behind(routing.topology.ifaces(), via);
             }
         }
     }
@@ -189,21 +176,19 @@ pub fn walk(
         ≡ walk_of topology.now node to time_to_live) }
 {
     let holders = nodes_with(alloc, topology.ifaces(), to)?;
+    let routing = Routing {
+        topology,
+        tables,
+        holders: holders.as_slice(),
+        to,
+    };
     let mut hops = Vec::new(alloc);
-    let ending = match first_turn(topology, tables, &holders, node, to) {
+    let ending = match first_turn(&routing, node) {
         Turn::Stops(ending) => ending,
         Turn::Leaves(via) => {
             hops.push(via)?;
             let next = node_behind(topology.ifaces(), via);
-            go_on(
-                topology,
-                tables,
-                &holders,
-                to,
-                time_to_live,
-                next,
-                &mut hops,
-            )?
+            go_on(&routing, time_to_live, next, &mut hops)?
         }
     };
     Ok(Way { hops, ending })
@@ -228,16 +213,14 @@ pub fn walk_by(
         ≡ walk_by topology.now via to time_to_live) }
 {
     let holders = nodes_with(alloc, topology.ifaces(), to)?;
-    let mut hops = vec![in alloc; via; 1]?;
-    let next = node_behind(topology.ifaces(), via);
-    let ending = go_on(
+    let routing = Routing {
         topology,
         tables,
-        &holders,
+        holders: holders.as_slice(),
         to,
-        time_to_live,
-        next,
-        &mut hops,
-    )?;
+    };
+    let mut hops = vec![in alloc; via; 1]?;
+    let next = node_behind(topology.ifaces(), via);
+    let ending = go_on(&routing, time_to_live, next, &mut hops)?;
     Ok(Way { hops, ending })
 }

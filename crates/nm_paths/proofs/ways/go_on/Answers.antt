@@ -6,34 +6,34 @@ use Rattle.nm_paths.proofs.ways.go_on.Goals as goal
 
 pub returns-in-Stops : goal.returns-in-Stops
 returns-in-Stops c =
-    let t = c.args.topology.now in
+    let t = c.args.routing.now.topology.now in
     let left = c.loop-left.left in
     let hops = c.loop-left.hops.items in
     let one_more : left ≡ left - 1 + 1 = omega arith in
     sym (c.loop-left.invariant
-    ∙ ap (λ n. behind hops (course t c.args.to n c.loop-left.node)) one_more
-    ∙ course-stops t c.args.to (left - 1) c.loop-left.node hops c.in-Stops.ending
+    ∙ ap (λ n. behind hops (course t c.args.routing.now.to n c.loop-left.node)) one_more
+    ∙ course-stops t c.args.routing.now.to (left - 1) c.loop-left.node hops c.in-Stops.ending
     (sym c.turn_at.ensures ∙ c.in-Stops.is))
 
 pub loop-left-preserved : goal.loop-left-preserved
 loop-left-preserved c =
-    let t = c.args.topology.now in
+    let t = c.args.routing.now.topology.now in
     let left = c.loop-left.left in
     let hops = c.loop-left.hops.items in
     let one_more : left ≡ left - 1 + 1 = omega arith in
     c.loop-left.invariant
-    ∙ ap (λ n. behind hops (course t c.args.to n c.loop-left.node)) one_more
-    ∙ course-leaves t c.args.to (left - 1) c.loop-left.node c.in-Leaves.via hops
+    ∙ ap (λ n. behind hops (course t c.args.routing.now.to n c.loop-left.node)) one_more
+    ∙ course-leaves t c.args.routing.now.to (left - 1) c.loop-left.node c.in-Leaves.via hops
     (sym c.turn_at.ensures ∙ c.in-Leaves.is)
-    ∙ sym (ap₂ (λ l v. behind l (course t c.args.to (left - 1) v)) c.in_ok-push-in-Leaves.ensures.items
+    ∙ sym (ap₂ (λ l v. behind l (course t c.args.routing.now.to (left - 1) v)) c.in_ok-push-in-Leaves.ensures.items
     (c.node_behind-node.ensures ∙ ap (λ l. node_behind l c.in-Leaves.via) c.ifaces.ensures))
 
 pub returns : goal.returns
 returns c =
-    let t = c.args.topology.now in
+    let t = c.args.routing.now.topology.now in
     let hops = c.loop-left.hops.items in
     let none : c.loop-left.left ≡ 0 = omega arith in
     sym (c.loop-left.invariant
-    ∙ ap (λ n. behind hops (course t c.args.to n c.loop-left.node)) none
-    ∙ ap (behind hops) (course-none t c.args.to c.loop-left.node)
+    ∙ ap (λ n. behind hops (course t c.args.routing.now.to n c.loop-left.node)) none
+    ∙ ap (behind hops) (course-none t c.args.routing.now.to c.loop-left.node)
     ∙ ap (λ l. (l, Expired)) (append-nil hops))

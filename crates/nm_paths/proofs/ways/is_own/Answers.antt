@@ -4,17 +4,17 @@ use Rattle.nm_paths.proofs.Nodes.{got-none, got-some, own-absent, own-there}
 use Rattle.nm_paths.proofs.ways.is_own.Goals as goal
 
 pub returns-in-Some : goal.returns-in-Some
-returns-in-Some c = λ to holders.
-    let t = c.args.topology.now in
+returns-in-Some c =
+    let t = c.args.routing.now.topology.now in
     let v = c.args.node in
     let there : slice_get t.nodes v ≡ Some c.in-Some.field-0.now =
     got-some c.nodes.result.now t.nodes c.index.result v c.get.result c.nodes.ensures c.index.ensures c.get.ensures.lookup c.in-Some.field-0 c.in-Some.is in
-    c.is_holder.ensures ∙ ap (list_any (nat_eq v)) holders ∙ sym (own-there t v to _ there)
+    c.is_holder.ensures ∙ ap (list_any (nat_eq v)) c.args.routing.now.held ∙ sym (own-there t v c.args.routing.now.to _ there)
 
 pub returns-in-None : goal.returns-in-None
-returns-in-None c = λ to holders.
-    let t = c.args.topology.now in
+returns-in-None c =
+    let t = c.args.routing.now.topology.now in
     let v = c.args.node in
     let none : slice_get t.nodes v ≡ None =
     got-none c.nodes.result.now t.nodes c.index.result v c.get.result c.nodes.ensures c.index.ensures c.get.ensures.lookup c.in-None.is in
-    sym (own-absent t v to none)
+    sym (own-absent t v c.args.routing.now.to none)
