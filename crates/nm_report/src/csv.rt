@@ -13,22 +13,51 @@ use nm_topology::Topology;
 use nm_topology::traffic::{Source, Traffic};
 use std::alloc::{AllocError, Global};
 
-/// Appends a value of a node, an interface or a source, whose names need no quotes.
-fn push_value(
+/// What has a value. The names of nodes and of interfaces need no quotes, and a source's name is its
+/// number.
+#[derive(Clone, Copy)]
+enum Owner<'a> {
+    Node(&'a str),
+    Iface(&'a str),
+    Source(SourceNo),
+}
+
+/// Appends what has a value: its kind and its name.
+fn push_owner(text: &mut Vec<u8>, owner: &Owner<'_>) -> Result<(), AllocError> {
+    match owner {
+        Owner::Node(name) => {
+            push_text(text, b"node,")?;
+            push_text(text, name.as_bytes())
+        }
+        Owner::Iface(name) => {
+            push_text(text, b"interface,")?;
+            push_text(text, name.as_bytes())
+        }
+        Owner::Source(source) => {
+            push_text(text, b"source,")?;
+            push_number(text, source.index() as u64)
+        }
+    }
+}
+
+/// Appends values of a node, an interface or a source, each with which measure it is.
+fn push_values(
     text: &mut Vec<u8>,
-    kind: &str,
-    name: &str,
-    measure: &str,
-    value: u64,
+    owner: &Owner<'_>,
+    values: &[(&str, u64)],
 ) -> Result<(), AllocError>
+    requires { EndsLine text.old.items }
     ensures { OnOk result (EndsLine text.new.items) }
 {
-    for word in [kind, name, measure] {
-        push_text(text, word.as_bytes())?;
+    for (measure, value) in values {
+        push_owner(text, owner)?;
         push_text(text, b",")?;
+        push_text(text, measure.as_bytes())?;
+        push_text(text, b",")?;
+        push_number(text, *value)?;
+        end_line(text)?;
     }
-    push_number(text, value)?;
-    end_line(text)
+    Ok(())
 }
 
 /// The counters of a node, also those that are 0.
@@ -36,31 +65,14 @@ fn push_node(
     text: &mut Vec<u8>,
     measured: &Measured,
     name: &str,
-    node: u32,
+    node: NodeNo,
 ) -> Result<(), AllocError>
     requires { EndsLine text.old.items }
     ensures { OnOk result (EndsLine text.new.items) }
 {
     for counter in Counter::ALL {
-        let count = measured.counter(NodeNo::new(node), counter).unwrap_or(0);
-        push_value(text, "node", name, counter.name(), count)?;
-    }
-    Ok(())
-}
-
-/// The values of nodes.
-fn push_nodes(
-    text: &mut Vec<u8>,
-    topology: &Topology,
-    measured: &Measured,
-) -> Result<(), AllocError>
-    requires { EndsLine text.old.items }
-    ensures { OnOk result (EndsLine text.new.items) }
-{
-    let mut number = 0u32;
-    for node in topology.nodes() {
-        push_node(text, measured, node.name(), number)?;
-        number = number.saturating_add(1);
+        let count = measured.counter(node, counter).unwrap_or(0);
+        push_values(text, &Owner::Node(name), &[(counter.name(), count)])?;
     }
     Ok(())
 }
@@ -70,108 +82,75 @@ fn push_iface(
     text: &mut Vec<u8>,
     measured: &Measured,
     name: &str,
-    iface: u32,
+    iface: IfaceNo,
 ) -> Result<(), AllocError>
     requires { EndsLine text.old.items }
     ensures { OnOk result (EndsLine text.new.items) }
 {
-    let iface = IfaceNo::new(iface);
     let IfaceTraffic { came, went } = traffic_at(measured, iface);
-    for (measure, value) in [
-        ("packets_in", came.packets),
-        ("octets_in", came.octets),
-        ("packets_out", went.packets),
-        ("octets_out", went.octets),
-        ("dropped", measured.dropped(iface).unwrap_or(0)),
-        ("longest_queue", measured.longest_queue(iface)),
-        ("busy_nanoseconds", measured.busy(iface)),
-    ] {
-        push_value(text, "interface", name, measure, value)?;
-    }
-    Ok(())
-}
-
-/// The values of interfaces.
-fn push_ifaces(
-    text: &mut Vec<u8>,
-    topology: &Topology,
-    measured: &Measured,
-) -> Result<(), AllocError>
-    requires { EndsLine text.old.items }
-    ensures { OnOk result (EndsLine text.new.items) }
-{
-    let mut number = 0u32;
-    for iface in topology.ifaces() {
-        push_iface(text, measured, iface.name(), number)?;
-        number = number.saturating_add(1);
-    }
-    Ok(())
-}
-
-/// Appends a value of a source, whose name is its number.
-fn push_source_value(
-    text: &mut Vec<u8>,
-    source: u32,
-    measure: &str,
-    value: u64,
-) -> Result<(), AllocError>
-    ensures { OnOk result (EndsLine text.new.items) }
-{
-    push_text(text, b"source,")?;
-    push_number(text, u64::from(source))?;
-    push_text(text, b",")?;
-    push_text(text, measure.as_bytes())?;
-    push_text(text, b",")?;
-    push_number(text, value)?;
-    end_line(text)
+    push_values(
+        text,
+        &Owner::Iface(name),
+        &[
+            ("packets_in", came.packets),
+            ("octets_in", came.octets),
+            ("packets_out", went.packets),
+            ("octets_out", went.octets),
+            ("dropped", measured.dropped(iface).unwrap_or(0)),
+            ("longest_queue", measured.longest_queue(iface)),
+            ("busy_nanoseconds", measured.busy(iface)),
+        ],
+    )
 }
 
 /// The values that each source has.
 fn push_flow(
     text: &mut Vec<u8>,
-    source: u32,
+    source: SourceNo,
     flow: &FlowCounts,
     times: &FlowTimes,
 ) -> Result<(), AllocError>
     requires { EndsLine text.old.items }
     ensures { OnOk result (EndsLine text.new.items) }
 {
-    for (measure, value) in [
-        ("sent", flow.sent),
-        ("delivered", flow.delivered),
-        ("refused", flow.refused),
-        ("dropped", flow.dropped),
-        ("discarded", flow.discarded),
-        ("under_way", flow.under_way),
-        ("least_delay_nanoseconds", times.delays.least()),
-        ("mean_delay_nanoseconds", times.delays.mean()),
-        ("greatest_delay_nanoseconds", times.delays.greatest()),
-    ] {
-        push_source_value(text, source, measure, value)?;
-    }
-    Ok(())
+    push_values(
+        text,
+        &Owner::Source(source),
+        &[
+            ("sent", flow.sent),
+            ("delivered", flow.delivered),
+            ("refused", flow.refused),
+            ("dropped", flow.dropped),
+            ("discarded", flow.discarded),
+            ("under_way", flow.under_way),
+            ("least_delay_nanoseconds", times.delays.least()),
+            ("mean_delay_nanoseconds", times.delays.mean()),
+            ("greatest_delay_nanoseconds", times.delays.greatest()),
+        ],
+    )
 }
 
 /// The values of a source to whose packets there may be echo replies.
 fn push_replies(
     text: &mut Vec<u8>,
-    source: u32,
+    source: SourceNo,
     astray: u64,
     trips: &Delays,
 ) -> Result<(), AllocError>
     requires { EndsLine text.old.items }
     ensures { OnOk result (EndsLine text.new.items) }
 {
-    for (measure, value) in [
-        ("answered", trips.count()),
-        ("astray", astray),
-        ("least_round_trip_nanoseconds", trips.least()),
-        ("mean_round_trip_nanoseconds", trips.mean()),
-        ("greatest_round_trip_nanoseconds", trips.greatest()),
-    ] {
-        push_source_value(text, source, measure, value)?;
-    }
-    Ok(())
+    push_values(
+        text,
+        &Owner::Source(source),
+        &[
+            ("answered", trips.count()),
+            ("astray", astray),
+            ("least_round_trip_nanoseconds", trips.least()),
+            ("mean_round_trip_nanoseconds", trips.mean()),
+            ("greatest_round_trip_nanoseconds", trips.greatest()),
+        ],
+    )
 }
 
 /// The values of a source.
@@ -179,13 +158,13 @@ fn push_source(
     text: &mut Vec<u8>,
     measured: &Measured,
     source: &Source,
-    number: u32,
+    number: SourceNo,
 ) -> Result<(), AllocError>
     requires { EndsLine text.old.items }
     ensures { OnOk result (EndsLine text.new.items) }
 {
-    let flow = flow_of(measured, SourceNo::new(number));
-    let Some(times) = measured.times(SourceNo::new(number)) else {
+    let flow = flow_of(measured, number);
+    let Some(times) = measured.times(number) else {
         return Ok(());
     };
     push_flow(text, number, &flow, times)?;
@@ -197,19 +176,19 @@ fn push_source(
     }
 }
 
-/// The values of sources.
-fn push_sources(
-    text: &mut Vec<u8>,
-    topology: &Topology,
-    measured: &Measured,
-) -> Result<(), AllocError>
+/// The values of nodes, of interfaces and of sources.
+fn push_all(text: &mut Vec<u8>, topology: &Topology, measured: &Measured) -> Result<(), AllocError>
     requires { EndsLine text.old.items }
     ensures { OnOk result (EndsLine text.new.items) }
 {
-    let mut number = 0u32;
-    for source in topology.sources() {
-        push_source(text, measured, source, number)?;
-        number = number.saturating_add(1);
+    for (number, node) in (0..u32::MAX).zip(topology.nodes()) {
+        push_node(text, measured, node.name(), NodeNo::new(number))?;
+    }
+    for (number, iface) in (0..u32::MAX).zip(topology.ifaces()) {
+        push_iface(text, measured, iface.name(), IfaceNo::new(number))?;
+    }
+    for (number, source) in (0..u32::MAX).zip(topology.sources()) {
+        push_source(text, measured, source, SourceNo::new(number))?;
     }
     Ok(())
 }
@@ -230,9 +209,7 @@ pub fn csv_text(
     let mut text = Vec::new(alloc);
     push_text(&mut text, b"kind,name,measure,value")?;
     end_line(&mut text)?;
-    push_nodes(&mut text, topology, measured)?;
-    push_ifaces(&mut text, topology, measured)?;
-    push_sources(&mut text, topology, measured)?;
+    push_all(&mut text, topology, measured)?;
     end_line(&mut text)?;
     push_source_rows(&mut text, topology, measured)?;
     Ok(text)

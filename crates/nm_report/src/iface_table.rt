@@ -63,12 +63,10 @@ fn rank_of(measured: &Measured, iface: IfaceNo) -> Option<Rank> {
 /// others by number.
 fn ranks(alloc: Global, topology: &Topology, measured: &Measured) -> Result<Vec<Rank>, AllocError> {
     let mut ranks = Vec::new(alloc);
-    let mut number = 0u32;
-    for _ in topology.ifaces() {
+    for (number, _) in (0..u32::MAX).zip(topology.ifaces()) {
         if let Some(rank) = rank_of(measured, IfaceNo::new(number)) {
             ranks.push(rank)?;
         }
-        number = number.saturating_add(1);
     }
     ranks.sort_by_key(|rank: &Rank| (Reverse(rank.dropped), Reverse(rank.busy)))?;
     Ok(ranks)

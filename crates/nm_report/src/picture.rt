@@ -59,11 +59,9 @@ fn load_of(topology: &Topology, measured: &Measured, link: Link, way: Way) -> Lo
 /// How many packets were dropped at all interfaces, up to 2^64 - 1.
 fn all_dropped(topology: &Topology, measured: &Measured) -> u64 {
     let mut dropped = 0u64;
-    let mut number = 0u32;
-    for _ in topology.ifaces() {
+    for (number, _) in (0..u32::MAX).zip(topology.ifaces()) {
         let here = measured.dropped(IfaceNo::new(number)).unwrap_or(0);
         dropped = dropped.saturating_add(here);
-        number = number.saturating_add(1);
     }
     dropped
 }

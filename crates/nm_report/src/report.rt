@@ -4,7 +4,7 @@ ghost use Rattle.std.specs.Prelude.{IfOk};
 ghost use Rattle.nm_measure.specs.Lines.{EndsLine};
 
 use crate::iface_table::push_ifaces;
-use crate::source_tables::{push_delays, push_echoes, push_sources};
+use crate::source_tables::{Trip, push_sources, push_trips};
 use crate::table::{Table, push_left_out};
 use nm_base::{NodeNo, push_text};
 use nm_forward::Counter;
@@ -41,12 +41,10 @@ fn push_nodes(
 ) -> Result<(), AllocError> {
     let mut table = Table::new(alloc, &["node", "counter", "packets"], 2)?;
     let mut idle = 0u64;
-    let mut number = 0u32;
-    for node in topology.nodes() {
+    for (number, node) in (0..u32::MAX).zip(topology.nodes()) {
         if !add_node(&mut table, measured, node.name(), NodeNo::new(number))? {
             idle = idle.saturating_add(1);
         }
-        number = number.saturating_add(1);
     }
     table.print(text)?;
     push_left_out(text, "nodes", idle)
@@ -73,8 +71,9 @@ pub fn report_text(
     push_nodes(alloc, &mut text, topology, measured)?;
     push_text(&mut text, b"\n")?;
     push_sources(alloc, &mut text, topology, measured)?;
-    push_delays(alloc, &mut text, topology, measured)?;
-    push_echoes(alloc, &mut text, topology, measured)?;
+    for trip in [Trip::OneWay, Trip::Round] {
+        push_trips(alloc, &mut text, topology, measured, trip)?;
+    }
     push_text(
         &mut text,
         b"\nTimes are in nanoseconds, rates in bits per second; under way is what waited or was on \

@@ -87,15 +87,13 @@ pub(crate) fn push_source_rows(
 {
     push_text(text, HEAD)?;
     end_line(text)?;
-    let mut number = 0u32;
-    for source in topology.sources() {
+    for (number, source) in (0..u32::MAX).zip(topology.sources()) {
         let place = SourceNo::new(number);
         if let Some(times) = measured.times(place) {
             push_source(text, topology, source, number)?;
             push_measures(text, &flow_of(measured, place), times)?;
             end_line(text)?;
         }
-        number = number.saturating_add(1);
     }
     Ok(())
 }

@@ -166,8 +166,7 @@ pub(crate) fn push_sources(
 ) -> Result<(), AllocError> {
     let mut table = Table::new(alloc, &COUNT_HEAD, 4)?;
     let mut idle = 0u64;
-    let mut number = 0u32;
-    for source in topology.sources() {
+    for (number, source) in (0..u32::MAX).zip(topology.sources()) {
         let place = SourceNo::new(number);
         let flow = flow_of(measured, place);
         if flow.sent == 0 {
@@ -176,45 +175,26 @@ pub(crate) fn push_sources(
             add_source(alloc, &mut table, topology, source, place)?;
             add_counts(&mut table, &flow, measured.times(place))?;
         }
-        number = number.saturating_add(1);
     }
     table.print(text)?;
     push_left_out(text, "sources", idle)
 }
 
-/// Adds the row of the delays of a source, if something of it was delivered.
-fn add_late(
-    alloc: Global,
-    table: &mut Table,
-    topology: &Topology,
-    measured: &Measured,
-    source: &Source,
-    number: SourceNo,
-) -> Result<(), AllocError> {
-    match measured.times(number) {
-        Some(times) if times.delays.count() > 0 => {
-            add_source(alloc, table, topology, source, number)?;
-            add_delays(alloc, table, &times.delays)
-        }
-        _ => Ok(()),
-    }
+/// Which way it is told how long packets took.
+#[derive(Clone, Copy)]
+pub(crate) enum Trip {
+    /// From where they were sent to where they were delivered.
+    OneWay,
+    /// From an echo request to its reply.
+    Round,
 }
 
-/// How late packets of sources were delivered, after an empty line, where any were.
-pub(crate) fn push_delays(
-    alloc: Global,
-    text: &mut Vec<u8>,
-    topology: &Topology,
-    measured: &Measured,
-) -> Result<(), AllocError> {
-    let mut table = Table::new(alloc, &DELAY_HEAD, 4)?;
-    let mut number = 0u32;
-    for source in topology.sources() {
-        let place = SourceNo::new(number);
-        add_late(alloc, &mut table, topology, measured, source, place)?;
-        number = number.saturating_add(1);
+/// The columns of how long packets took.
+fn trip_head(trip: Trip) -> &'static [&'static str] {
+    match trip {
+        Trip::OneWay => &DELAY_HEAD,
+        Trip::Round => &ECHO_HEAD,
     }
-    table.print_behind(text)
 }
 
 /// Whether echo replies are told of a source: of an `echo` source that sent requests, and of a
@@ -227,18 +207,27 @@ fn has_replies(source: &Source, flow: &FlowCounts, times: &FlowTimes) -> bool {
     }
 }
 
-/// Adds the row of what was answered to a source, if that is told of it.
-fn add_answered(
+/// Adds the row of how long packets of a source took: one way, if something of it was delivered,
+/// and there and back, if replies are told of it.
+fn add_trips(
     alloc: Global,
     table: &mut Table,
     topology: &Topology,
     measured: &Measured,
     source: &Source,
     number: SourceNo,
+    trip: Trip,
 ) -> Result<(), AllocError> {
+    let Some(times) = measured.times(number) else {
+        return Ok(());
+    };
     let flow = flow_of(measured, number);
-    match measured.times(number) {
-        Some(times) if has_replies(source, &flow, times) => {
+    match trip {
+        Trip::OneWay if times.delays.count() > 0 => {
+            add_source(alloc, table, topology, source, number)?;
+            add_delays(alloc, table, &times.delays)
+        }
+        Trip::Round if has_replies(source, &flow, times) => {
             add_source(alloc, table, topology, source, number)?;
             table.number(flow.sent)?;
             table.number(times.round_trips.count())?;
@@ -249,19 +238,18 @@ fn add_answered(
     }
 }
 
-/// What was answered to sources of echo requests, after an empty line, where there are any.
-pub(crate) fn push_echoes(
+/// How long packets of sources took, after an empty line, where it is told of any.
+pub(crate) fn push_trips(
     alloc: Global,
     text: &mut Vec<u8>,
     topology: &Topology,
     measured: &Measured,
+    trip: Trip,
 ) -> Result<(), AllocError> {
-    let mut table = Table::new(alloc, &ECHO_HEAD, 4)?;
-    let mut number = 0u32;
-    for source in topology.sources() {
+    let mut table = Table::new(alloc, trip_head(trip), 4)?;
+    for (number, source) in (0..u32::MAX).zip(topology.sources()) {
         let place = SourceNo::new(number);
-        add_answered(alloc, &mut table, topology, measured, source, place)?;
-        number = number.saturating_add(1);
+        add_trips(alloc, &mut table, topology, measured, source, place, trip)?;
     }
     table.print_behind(text)
 }

@@ -1,5 +1,5 @@
 use Rattle.nm_measure.specs.Lines.{EndsLine}
 use Rattle.nm_report.proofs.source_rows.push_source_rows.Given as goal
 
-abbrev pub invariant-loop-source : goal.invariant-loop-source
-invariant-loop-source l = EndsLine l.text.items
+abbrev pub invariant-loop-number : goal.invariant-loop-number
+invariant-loop-number l = EndsLine l.text.items
