@@ -36,10 +36,6 @@ first_step t o p e h = let s = found t o e h in s.2 (or_else o p) (ap (λ z. or_
 pub next_step : (t : TopologyValue) (o p : Option Fault) (r : Result Unit CertFault) → o ≡ None → FindsFault t p r → FindsFault t (or_else o p) r
 next_step t o p r none h = subst (λ z. FindsFault t z r) (ap (λ z. or_else z p) (sym none)) h
 
-pub parts_are : (t : TopologyValue) → (net_of t).parts ≡ t.partitions
-unfolding net_of
-parts_are t = refl
-
 pub ifaces_are : (t : TopologyValue) → (net_of t).ifaces ≡ length t.ifaces
 unfolding net_of
 ifaces_are t = refl

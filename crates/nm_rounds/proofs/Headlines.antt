@@ -142,9 +142,6 @@ module _ (t : TopologyValue) where
       state = λ n e. mine (λ t' p' x'. events_at (net_of t) (in_part (net_of t) p') n ≡ x'.ran → Agrees (net_of t) p' (one_list (net_of t) n) (model.state_of (net_of t') p' x')) (agrees n) e;
     }
 
-    pub book_within : IsWithin (net_of b.topology) b.partition (knowledge b) b.events
-    book_within = mine (λ t p x. IsWithin (net_of t) p x.knowledge x.ran) within
-
 -- what is known of one history has a join
 pub have_join : (a b : Know (List ℕ)) (H : List (ℕ × List ℕ)) → IsRising H → IsValid a H → IsValid b H
     → IsUnder a (join a b) → IsUnder b (join a b) → ((d : Know (List ℕ)) → IsUnder a d → IsUnder b d → IsUnder (join a b) d) → HaveJoin a b

@@ -1,5 +1,5 @@
 -- Steps done one after another, and what is reported of them.
-use Rattle.std.proofs.Common.{◌≡◌, ◌⊎◌, inl, inr, ℕ, zero, suc, ◌+◌, ◌*◌, ◌<◌, ◌≤◌, List, [], ◌∷◌, ◌++◌, length, map, take, slice_get, replicate, get_or, Some, None, Result, Ok, Err, refl, sym, ◌∙◌, ap, ap₂, subst, arith, ⊎_elim, length-append}
+use Rattle.std.proofs.Common.{◌≡◌, ◌⊎◌, inl, inr, ℕ, zero, suc, ◌+◌, ◌*◌, ◌<◌, List, [], ◌∷◌, ◌++◌, length, map, take, slice_get, replicate, get_or, Some, None, Result, Ok, Err, refl, sym, ◌∙◌, ap, ap₂, subst, arith, ⊎_elim, length-append}
 use Rattle.std.proofs.lemmas.List.{map-append}
 use Rattle.std.proofs.lemmas.Option.{slice_get_read}
 use Rattle.nm_topology.specs.TopologyValue.{TopologyValue}
@@ -24,12 +24,6 @@ take_next : {X : Type 0} (l : List X) (n : ℕ) (x : X) → slice_get l n ≡ So
 take_next [] n x e = absurd (let g : None ≡ Some x = e in cc)
 take_next (y ∷ l) zero x e = let g : y ≡ x = cc in ap (λ z. z ∷ []) g
 take_next (y ∷ l) (suc n) x e = ap (λ z. y ∷ z) (take_next l n x e)
-
-take_all : {X : Type 0} (l : List X) (n : ℕ) → length l ≤ n → take n l ≡ l
-take_all [] zero h = refl
-take_all [] (suc n) h = refl
-take_all (y ∷ l) zero h = absurd (omega (arith, h))
-take_all (y ∷ l) (suc n) h = ap (λ z. y ∷ z) (take_all l n (omega (arith, h)))
 
 module _ (t : TopologyValue) where
   world_more : (xs ys : List model.Step) (w : model.World (List ℕ)) → model.world (net_of t) same_octets (xs ++ ys) w ≡ model.world (net_of t) same_octets ys (model.world (net_of t) same_octets xs w)
@@ -152,9 +146,3 @@ module _ (t : TopologyValue) where
       at q s d low f (inr g) =
           let one = places_apart p r q s two low (g.0 ∙ h.count) in
           subst (λ z. IsReplicaOf t z s d model.fresh) (sym one.0) (subst (λ z. IsReplicaOf t p z d model.fresh) (sym one.1) (subst (λ z. IsReplicaOf t p r z model.fresh) g.1 (fresh_book t p r b e)))
-
-  pub all_first : (books : List BookValue) → AreFirst t (2 * t.partitions) books → IsWorld t books [] model.opening
-  all_first books h = record {
-    replicas = record { count = h.count; each = h.each };
-    sent = record { frames = refl; named = λ i m e. absurd (let g : None ≡ Some m = e in cc) };
-  }

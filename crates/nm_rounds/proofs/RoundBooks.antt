@@ -23,7 +23,7 @@ use Rattle.nm_book.proofs.Incoming.{goes_out_at, ifaces_are, peer_there}
 use Rattle.nm_book.proofs.Tellings.{known_here}
 use Rattle.nm_rounds.specs.World.{IsReplicaOf}
 use Rattle.nm_rounds.specs.Rounds.{AreAllNews, AreBooks, AreNews, AreNewsOf, RunsAll, told_all}
-use Rattle.nm_rounds.proofs.Standing.{get_set_here, get_set_there}
+use Rattle.nm_rounds.proofs.Standing.{get_set_here, get_set_there, parts_are}
 use Rattle.nm_rounds.proofs.Acts.{moved}
 use Rattle.nm_rounds.proofs.Mergings.{fresh_book}
 
@@ -113,10 +113,6 @@ one_more t n books b are e = record {
       (last_is books b p c f);
 }
 
-parts_are : (t : TopologyValue) → (net_of t).parts ≡ t.partitions
-unfolding net_of
-parts_are t = refl
-
 -- The partitions at both ends of a channel are there.
 module _ (t : TopologyValue) (ok : IsNet (net_of t)) (parted : IsParted (net_of t)) (i : ℕ) (low : i < length t.ifaces) where
   within : i < (net_of t).ifaces
@@ -168,9 +164,6 @@ news_are t x c r s is_r is_s here messages news =
 
 -- the news of one channel more
 module _ (t : TopologyValue) (x : ℕ → Replica (List ℕ)) where
-  pub no_news : AreAllNews t x 0 []
-  no_news = record { count = refl; each = λ c m e. absurd (let g : None ≡ Some m = e in cc) }
-
   pub more_news : {X : Type 0} (f : X → List ChannelMessage) (n : ℕ) (l : List X) (m : X) → AreAllNews t x n (map f l) → AreNewsOf t x n (f m) → AreAllNews t x (n + 1) (map f (l ++ m ∷ []))
   more_news f n l m are new = subst (AreAllNews t x (n + 1)) (sym (map-append f l (m ∷ []))) (record {
     count = length-append (map f l) (f m ∷ []) ∙ ap (λ z. z + 1) are.count;

@@ -6,6 +6,7 @@ use Rattle.nm_topology.specs.TopologyValue.{TopologyValue}
 use Rattle.nm_model.specs.Before.{IsBefore, IsCount, trace}
 use Rattle.nm_model.specs.Certificate.{is_done}
 use Rattle.nm_model.specs.Knowledge.{Knowledge}
+use Rattle.nm_model.proofs.ListLemmas.{number_is}
 use Rattle.nm_model.specs.Partition.{comes_in}
 use Rattle.nm_model.specs.Promise.{Tight, lookahead}
 use Rattle.nm_model.specs.Replica.{from_scratch, safe_time}
@@ -17,11 +18,8 @@ use Rattle.nm_book.specs.Book.{BookValue, state_of}
 use Rattle.nm_rounds.specs.World.{IsReplicaOf}
 use Rattle.nm_rounds.specs.Rounds.{AreBooks, AreDoneWithin, AllAreFinished, AreRounds, AreUnfinished, EndsRound, IsFinished, IsLeft, IsWhole, after_hearing, after_runs}
 use Rattle.nm_rounds.proofs.Acts.{moved}
+use Rattle.nm_rounds.proofs.Standing.{both}
 use Rattle.nm_rounds.proofs.RoundBooks.{as_others, is_there}
-
-both : (a b : Bool) → (a && b) ≡ true → (a ≡ true) × (b ≡ true)
-both true b h = (refl, h)
-both false b h = absurd (let e : false ≡ true = h in cc)
 
 -- what is below the number after n is below n, or n
 below_next : (j n : ℕ) → j < suc n → (j < n) ⊎ (j ≡ n)
@@ -38,10 +36,7 @@ more_times (suc a) (suc b) n h = let i = more_times a b n (omega (arith, h)) in 
 
 module _ (t : TopologyValue) where
   done_safe : (p : ℕ) (x : Replica (List ℕ)) → is_done (net_of t) p x ≡ true → safe_time (net_of t) p x.knowledge ≡ (net_of t).stop
-  done_safe p x h = let e = (both _ _ h).0 in same _ _ e
-    where
-      same : (a b : ℕ) → (a == b) ≡ true → a ≡ b
-      same a b e = grind (arith, nat_tests, e)
+  done_safe p x h = number_is _ _ (both _ _ h).0
 
   done_is : (p : ℕ) (x : Replica (List ℕ)) → safe_time (net_of t) p x.knowledge ≡ (net_of t).stop → pends_before (net_of t).stop (model_state (net_of t) p x) ≡ false → is_done (net_of t) p x ≡ true
   done_is p x safe over = ap₂ (λ a b. a && not b) (same _ _ safe) over

@@ -1,8 +1,7 @@
 -- Each book hears what is told of its channels, one channel after another.
-use Rattle.std.proofs.Common.{◌≡◌, ◌≢◌, ◌⊎◌, inl, inr, ℕ, zero, suc, ◌<◌, ◌≤◌, ◌==◌, Bool, true, false, cond, List, [], ◌∷◌, length, slice_get, slice_set, slice_index_or, get_or, Option, Some, None, refl, sym, ◌∙◌, ap, ap₂, subst, arith, ⊎_elim}
+use Rattle.std.proofs.Common.{◌≡◌, ◌≢◌, ◌⊎◌, inl, inr, ℕ, zero, suc, ◌<◌, ◌≤◌, Bool, true, false, cond, List, [], ◌∷◌, length, slice_get, slice_set, slice_index_or, get_or, Option, Some, None, refl, sym, ◌∙◌, ap, ap₂, subst, arith, ⊎_elim}
 use Rattle.std.proofs.Math.Path.{fun_ext}
 use Rattle.std.proofs.lemmas.Bool.{cases_lt}
-use Rattle.std.proofs.lemmas.Bool.Decides.{nat_tests}
 use Rattle.std.proofs.lemmas.List.{length-set}
 use Rattle.std.proofs.lemmas.Option.{slice_get_read}
 use Rattle.nm_topology.specs.Topology.{channel_from, receiving_iface}
@@ -13,7 +12,7 @@ use Rattle.nm_model.specs.Partition.{comes_in, receiver_of}
 use Rattle.nm_model.specs.Promise.{Tight}
 use Rattle.nm_model.specs.Rounds.{given, hear, promised}
 use Rattle.nm_model.specs.World.{Replica}
-use Rattle.nm_model.proofs.ListLemmas.{same_number}
+use Rattle.nm_model.proofs.ListLemmas.{number_is, same_number}
 use Rattle.nm_sim.specs.Network.{net_of}
 use Rattle.nm_book.specs.Book.{BookValue, is_incoming, knowledge_of, known_at}
 use Rattle.nm_book.specs.declared.message.ChannelMessage.{ChannelMessage}
@@ -22,9 +21,6 @@ use Rattle.nm_book.proofs.Tellings.{comes_at, known_here, set_elsewhere, set_her
 use Rattle.nm_rounds.specs.World.{IsReplicaOf}
 use Rattle.nm_rounds.specs.Rounds.{AreBooks, AreNewsOf, AreOfChannel, after_hearing, told_all}
 use Rattle.nm_rounds.proofs.Standing.{get_set_here, get_set_there}
-
-is_one : (a b : ℕ) → (a == b) ≡ true → a ≡ b
-is_one a b h = grind (arith, nat_tests, h)
 
 module _ (t : TopologyValue) (x : ℕ → Replica (List ℕ)) where
   abbrev iface : ℕ → ℕ
@@ -87,7 +83,7 @@ module _ (t : TopologyValue) (x : ℕ → Replica (List ℕ)) where
         heard = λ c lt into. ⊎_elim (λ below. is.heard c below into) (λ ge. absurd (
             let same : c ≡ k = omega (arith, lt, ge) in
             let into_k : comes_in (net_of t) p (iface k) ≡ true = subst (λ z. comes_in (net_of t) p (iface z) ≡ true) same into in
-            far (sym (is_one q p (comes_in_at (net_of t) p (iface k) comes ∙ into_k))))) (cases_lt c k);
+            far (sym (number_is q p (comes_in_at (net_of t) p (iface k) comes ∙ into_k))))) (cases_lt c k);
         unheard = λ c le h. is.unheard c (omega (arith, le)) h;
         quiet = is.quiet;
       }

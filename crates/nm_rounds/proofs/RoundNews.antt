@@ -1,5 +1,5 @@
 -- What is told of a channel: the messages that the receiver does not know, and the null message.
-use Rattle.std.proofs.Common.{◌≡◌, ◌++◌, ℕ, zero, suc, List, [], ◌∷◌, length, drop, map, slice_get, Some, None, refl, sym, ◌∙◌, ap, ap₂, ⊎_elim}
+use Rattle.std.proofs.Common.{◌≡◌, ◌++◌, ℕ, suc, List, [], ◌∷◌, length, drop, map, refl, sym, ◌∙◌, ap, ap₂, ⊎_elim}
 use Rattle.nm_topology.specs.Topology.{receiving_iface}
 use Rattle.nm_topology.specs.TopologyValue.{TopologyValue}
 use Rattle.nm_knowledge.specs.Octets.{same_octets}
@@ -14,7 +14,7 @@ use Rattle.nm_book.specs.declared.message.ChannelMessage.TheVariants.{Data as Da
 use Rattle.nm_book.specs.declared.message.Null.{Null}
 use Rattle.nm_rounds.specs.World.{AreMessages, frame_of}
 use Rattle.nm_rounds.specs.Rounds.{AreNews, AreOfChannel, told_all, told_message}
-use Rattle.nm_rounds.proofs.Standing.{get_append}
+use Rattle.nm_rounds.proofs.Standing.{get_append, only_one}
 use Rattle.nm_rounds.proofs.RoundTells.{told_append}
 
 -- messages that are told one after another are heard as a list
@@ -30,11 +30,7 @@ told_list t i n (b ∷ l) (DataMessage d ∷ messages) a e =
 told_list t i n (b ∷ l) (NullMessage x ∷ messages) a e = cc
 
 of_one_more : (c : ℕ) (messages : List ChannelMessage) (m : ChannelMessage) → AreOfChannel c messages → message_channel m ≡ c → AreOfChannel c (messages ++ m ∷ [])
-of_one_more c messages m are same i x e = ⊎_elim (λ f. are i x f) (λ f. last f.0 f.1) (get_append messages (m ∷ []) i x e)
-  where
-    last : (j : ℕ) → slice_get (m ∷ []) j ≡ Some x → message_channel x ≡ c
-    last zero f = let g : m ≡ x = cc in ap message_channel (sym g) ∙ same
-    last (suc j) f = absurd (let g : None ≡ Some x = f in cc)
+of_one_more c messages m are same i x e = ⊎_elim (λ f. are i x f) (λ f. ap message_channel (sym (only_one m x f.0 f.1)) ∙ same) (get_append messages (m ∷ []) i x e)
 
 -- told to who knows a of channel c: the messages behind those that are known, and the null message
 pub news_all : (a : Know (List ℕ)) (sender : BookValue) (c : ℕ) (messages : List ChannelMessage) (null : Null) → AreMessages sender c (length a.list) messages → null ≡ null_on Tight sender c

@@ -80,9 +80,6 @@ module _ (b : BookValue) (messages : List ChannelMessage) (c : ℕ) where
   abbrev pub with_told : ℕ → BookValue
   with_told i = record b { knows = slice_set b.knows c (told_all (slice_index_or b.knows c nothing_known) (take i messages)) }
 
-  pub told_none : b ≡ with_told 0
-  told_none = ap (λ z. record b { knows = z }) (sym (set_same b.knows c))
-
   pub told_next : (now new : BookValue) (i : ℕ) (m : ChannelMessage) → now ≡ with_told i → is_incoming b c ≡ true → c < length b.knows → AreOfChannel c messages → slice_get messages i ≡ Some m
       → (is_incoming now (message_channel m) ≡ true → new ≡ record now { knows = slice_set now.knows (message_channel m) (told_message (slice_index_or now.knows (message_channel m) nothing_known) m) })
       → new ≡ with_told (suc i)

@@ -21,16 +21,12 @@ use Rattle.nm_rounds.specs.declared.acting.Promise.TheVariants as made
 use Rattle.nm_rounds.specs.declared.step.StepAnswer.TheVariants as answer
 use Rattle.nm_rounds.specs.declared.step.WorldStep.TheVariants as step
 use Rattle.nm_rounds.specs.declared.world.Stop.TheVariants as stop
-use Rattle.nm_rounds.proofs.Standing.{get_append, is_replica_is, is_there, not_and_right, put_frames}
+use Rattle.nm_rounds.proofs.Standing.{both, get_append, is_absent, is_replica_is, is_there, not_and_right, only_one, put_frames}
 use Rattle.nm_rounds.proofs.Acts.{book_read, moved, step_done, step_names_nothing}
 
 -- the end of a channel at which a replica sends
 abbrev pub sends_on : TopologyValue → ℕ → ℕ → ℕ → Bool
 sends_on t p r c = is_replica t p r && goes_out (net_of t) p (receiving_iface t c)
-
-both : (a b : Bool) → (a && b) ≡ true → (a ≡ true) × (b ≡ true)
-both true b h = (refl, h)
-both false b h = absurd (let e : false ≡ true = h in cc)
 
 and_false : (a b : Bool) → a ≡ false → (a && b) ≡ false
 and_false a b e = ap (λ z. z && b) e
@@ -76,104 +72,94 @@ module _ (t : TopologyValue) (books : List BookValue) (bag : List ChannelMessage
   null_happens made.Tight v e = ap (λ z. cond z (null_goes Tight) (w, model.NoSuch)) (model_sends t p r c v e)
   null_happens made.Plain v e = ap (λ z. cond z (null_goes Plain) (w, model.NoSuch)) (model_sends t p r c v e)
 
+  -- all messages from number n on are
+  abbrev resent : ℕ → model.World (List ℕ) × model.Outcome
+  resent n = (model.put_frames w (model.data_frames i n (drop n lines)), model.Frames (length lines - n))
+
   -- the channel does not go out from such a replica
-  module _ (no : sends_on t p r c ≡ false) where
+  module _ (none : only_if (sends_on t p r c) (2 * p + r) ≡ None) where
+    no : sends_on t p r c ≡ false
+    no = is_absent _ _ none
+
     pub nothing_to_send : (n : ℕ) → Steps t w (step.Data p r c n) (Err stop.NoSuch) books bag
     nothing_to_send n = step_names_nothing t w (step.Data p r c n) books bag (ap (λ z. cond z (model.sends w i n (nth lines n)) (w, model.NoSuch)) (model_sends t p r c false no)) stands
 
     pub nothing_to_resend : (n : ℕ) → Steps t w (step.Resend p r c n) (Err stop.NoSuch) books bag
-    nothing_to_resend n =
-        step_names_nothing t w (step.Resend p r c n) books bag
-        (ap (λ z. cond z (model.put_frames w (model.data_frames i n (drop n lines)), model.Frames (length lines - n)) (w, model.NoSuch)) (and_false _ _ (model_sends t p r c false no))) stands
+    nothing_to_resend n = step_names_nothing t w (step.Resend p r c n) books bag (ap (λ z. cond z (resent n) (w, model.NoSuch)) (and_false _ _ (model_sends t p r c false no))) stands
 
     pub no_null : (promise : Promise) → Steps t w (null_step promise p r c) (Err stop.NoSuch) books bag
     no_null promise = step_names_nothing t w (null_step promise p r c) books bag (null_happens promise false no) stands
 
   -- it goes out from the replica that stands here
-  module _ (yes : sends_on t p r c ≡ true) (within : c < length t.receivers) (place : ℕ) (at : place ≡ 2 * p + r) (b : BookValue) (read : b ≡ get_or books place b) (ch : ℕ) (same : ch ≡ c) where
-    abbrev is : IsReplicaOf t p r b x
-    is = book_read t books bag w stands p r (both _ _ yes).0 place at b read
+  module _ (place : ℕ) (found : only_if (sends_on t p r c) (2 * p + r) ≡ Some place) (within : c < length t.receivers) (b : BookValue) (read : b ≡ get_or books place b) where
+    yes : sends_on t p r c ≡ true
+    yes = (is_there _ _ _ found).0
 
-    pub goes : is_outgoing b c ≡ true
+    abbrev is : IsReplicaOf t p r b x
+    is = book_read t books bag w stands p r (both _ _ yes).0 place (is_there _ _ _ found).1 b read
+
+    goes : is_outgoing b c ≡ true
     goes = let q = sym is.partition in let s = sym is.topology in
         subst (λ z. goes_out (net_of z) b.partition (receiving_iface z c) ≡ true) s (subst (λ z. goes_out (net_of t) z (receiving_iface t c) ≡ true) q (both _ _ yes).1)
 
-    pub lines_are : sent_over b c ≡ lines
+    lines_are : sent_over b c ≡ lines
     lines_are = sym (moved (λ t p x. model.outgoing (net_of t) p x (receiving_iface t c) ≡ sent_over b c) t p r b x is refl)
 
-    -- what the book says of the channel's number
-    abbrev given : ℕ → Option Data → ℕ → Type 0
-    given n o z = o ≡ option_and_then (λ l. data_from z n (nth l n)) (only_if (is_outgoing b z) (sent_over b z))
+    -- one message of the channel is of a channel that is there
+    one_there : (m : ChannelMessage) → message_channel m ≡ c → (j : ℕ) (x : ChannelMessage) → slice_get (m ∷ []) j ≡ Some x → message_channel x < length t.receivers
+    one_there m same j x e = let one = ap message_channel (only_one m x j e) in omega (arith, one, same, within)
 
-    pub data_sent : (n : ℕ) (d : Data) → Some d ≡ option_and_then (λ l. data_from ch n (nth l n)) (only_if (is_outgoing b ch) (sent_over b ch))
+    pub data_sent : (n : ℕ) (d : Data) → Some d ≡ option_and_then (λ l. data_from c n (nth l n)) (only_if (is_outgoing b c) (sent_over b c))
         → Steps t w (step.Data p r c n) (Ok (answer.Frames 1)) books (bag ++ DataMessage d ∷ [])
     data_sent n d e =
-        let sent = was_sent (is_outgoing b c) (sent_over b c) c n d (sym (subst (given n (Some d)) same e)) in
+        let sent = was_sent (is_outgoing b c) (sent_over b c) c n d (sym e) in
         let frame : frame_of t (DataMessage d) ≡ model.DataFrame i n (d.time, d.packet) = ap₂ (λ a z. model.DataFrame (receiving_iface t a) z (d.time, d.packet)) sent.2 sent.3 in
         step_done t w (step.Data p r c n) books (bag ++ DataMessage d ∷ []) (model.put_frames w (model.DataFrame i n (d.time, d.packet) ∷ [])) (model.Frames 1) (answer.Frames 1)
         (ap (λ z. cond z (model.sends w i n (nth lines n)) (w, model.NoSuch)) (model_sends t p r c true yes)
         ∙ ap (model.sends w i n) (ap (λ l. nth l n) (sym lines_are) ∙ sent.1)) refl
-        (put_frames t books bag (DataMessage d ∷ []) w (model.DataFrame i n (d.time, d.packet) ∷ []) stands (ap (λ z. z ∷ []) frame) (one_there sent.2))
-      where
-        one_there : d.channel ≡ c → (j : ℕ) (m : ChannelMessage) → slice_get (DataMessage d ∷ []) j ≡ Some m → message_channel m < length t.receivers
-        one_there same zero m f = let g : DataMessage d ≡ m = cc in subst (λ z. message_channel z < length t.receivers) g (omega (arith, same, within))
-        one_there same (suc j) m f = absurd (let g : None ≡ Some m = f in cc)
+        (put_frames t books bag (DataMessage d ∷ []) w (model.DataFrame i n (d.time, d.packet) ∷ []) stands (ap (λ z. z ∷ []) frame) (one_there (DataMessage d) sent.2))
 
     -- no such message was sent
-    pub data_missing : (n : ℕ) → None ≡ option_and_then (λ l. data_from ch n (nth l n)) (only_if (is_outgoing b ch) (sent_over b ch)) → Steps t w (step.Data p r c n) (Err stop.NoSuch) books bag
+    pub data_missing : (n : ℕ) → None ≡ option_and_then (λ l. data_from c n (nth l n)) (only_if (is_outgoing b c) (sent_over b c)) → Steps t w (step.Data p r c n) (Err stop.NoSuch) books bag
     data_missing n e =
         step_names_nothing t w (step.Data p r c n) books bag
         (ap (λ z. cond z (model.sends w i n (nth lines n)) (w, model.NoSuch)) (model_sends t p r c true yes)
-        ∙ ap (model.sends w i n) (ap (λ l. nth l n) (sym lines_are) ∙ was_not_sent (sent_over b c) c n (is_outgoing b c) goes (subst (given n None) same e))) stands
+        ∙ ap (model.sends w i n) (ap (λ l. nth l n) (sym lines_are) ∙ was_not_sent (sent_over b c) c n (is_outgoing b c) goes e)) stands
 
     -- a null message with its promise
     null_frame : (kind : Promising) → frame_of t (NullMessage (null_on kind b c)) ≡ model.NullFrame i (length lines) (promise_of (net_of t) kind p x.knowledge x.ran i)
     null_frame kind = sym (moved (λ t p x. ◌≡◌ {A = model.Frame (List ℕ)} (model.NullFrame (receiving_iface t c) (length (model.outgoing (net_of t) p x (receiving_iface t c))) (promise_of (net_of t) kind p x.knowledge x.ran (receiving_iface t c)))
         (model.NullFrame (receiving_iface t c) (length (sent_over b c)) (promise_on kind b c))) t p r b x is refl)
 
-    null_there : (kind : Promising) (j : ℕ) (m : ChannelMessage) → slice_get (NullMessage (null_on kind b c) ∷ []) j ≡ Some m → message_channel m < length t.receivers
-    null_there kind zero m f = let g : NullMessage (null_on kind b c) ≡ m = cc in subst (λ z. message_channel z < length t.receivers) g within
-    null_there kind (suc j) m f = absurd (let g : None ≡ Some m = f in cc)
-
-    with_null : (kind : Promising) → IsWorld t books (bag ++ NullMessage (null_on kind b c) ∷ []) (model.put_frames w (model.NullFrame i (length lines) (promise_of (net_of t) kind p x.knowledge x.ran i) ∷ []))
-    with_null kind = put_frames t books bag (NullMessage (null_on kind b c) ∷ []) w _ stands (ap (λ z. z ∷ []) (null_frame kind)) (null_there kind)
-
-    null_is : (kind : Promising) (null : Null) → Some null ≡ only_if (is_outgoing b ch) (null_on kind b ch) → null ≡ null_on kind b c
-    null_is kind null e = (is_there (is_outgoing b c) (null_on kind b c) null (sym (subst (λ z. Some null ≡ only_if (is_outgoing b z) (null_on kind b z)) same e))).1
-
-    pub null_sent : (promise : Promise) (null : Null) → Some null ≡ only_if (is_outgoing b ch) (null_on (kind_of promise) b ch) → Steps t w (null_step promise p r c) (Ok (answer.Frames 1)) books (bag ++ NullMessage null ∷ [])
+    pub null_sent : (promise : Promise) (null : Null) → Some null ≡ only_if (is_outgoing b c) (null_on (kind_of promise) b c) → Steps t w (null_step promise p r c) (Ok (answer.Frames 1)) books (bag ++ NullMessage null ∷ [])
     null_sent promise null e =
-        subst (λ z. Steps t w (null_step promise p r c) (Ok (answer.Frames 1)) books (bag ++ NullMessage z ∷ [])) (sym (null_is (kind_of promise) null e))
-        (step_done t w (null_step promise p r c) books (bag ++ NullMessage (null_on (kind_of promise) b c) ∷ []) _ (model.Frames 1) (answer.Frames 1) (null_happens promise true yes) refl (with_null (kind_of promise)))
+        let kind = kind_of promise in
+        let one : NullMessage null ≡ NullMessage (null_on kind b c) = ap NullMessage (is_there (is_outgoing b c) (null_on kind b c) null (sym e)).1 in
+        step_done t w (null_step promise p r c) books (bag ++ NullMessage null ∷ []) _ (model.Frames 1) (answer.Frames 1) (null_happens promise true yes) refl
+        (put_frames t books bag (NullMessage null ∷ []) w _ stands (ap (λ z. z ∷ []) (ap (frame_of t) one ∙ null_frame kind)) (one_there (NullMessage null) (ap message_channel one)))
 
     -- where the channel goes out there is an answer
-    pub no_answer : {X : Type 0} (v : X) → None ≡ only_if (is_outgoing b ch) v → ⊥
-    no_answer v e = let f : None ≡ only_if true v = e ∙ ap (λ z. only_if z v) (ap (is_outgoing b) same ∙ goes) in absurd (let g : None ≡ Some v = f in cc)
+    pub no_answer : {X : Type 0} (v : X) → None ≡ only_if (is_outgoing b c) v → ⊥
+    no_answer v e = let f : None ≡ only_if true v = e ∙ ap (λ z. only_if z v) goes in absurd (let g : None ≡ Some v = f in cc)
 
     -- all messages from number n on
     both_hold : (a d : Bool) → a ≡ true → d ≡ true → (a && d) ≡ true
     both_hold a d e f = ap₂ (λ y z. y && z) e f
 
-    again : (n : ℕ) (more : List ChannelMessage) → n ≤ length (sent_over b c) → AreMessages b c n more
+    pub again_sent : (n : ℕ) (more : List ChannelMessage) → n ≤ length (sent_over b c) → AreMessages b c n more
         → Steps t w (step.Resend p r c n) (Ok (answer.Frames (length (sent_over b c) - n))) books (bag ++ more)
-    again n more le are =
+    again_sent n more le are =
         let few : leb n (length lines) ≡ true = let e = ap length lines_are in grind (arith, nat_tests, le, e) in
         let frames : map (frame_of t) more ≡ model.data_frames i n (drop n lines) =
         ap (λ z. map (frame_of z) more) (sym is.topology) ∙ are.frames ∙ ap (λ z. model.data_frames (receiving_iface z c) n (drop n (sent_over b c))) is.topology ∙ ap (λ z. model.data_frames i n (drop n z)) lines_are in
-        step_done t w (step.Resend p r c n) books (bag ++ more) (model.put_frames w (model.data_frames i n (drop n lines))) (model.Frames (length lines - n)) (answer.Frames (length (sent_over b c) - n))
-        (ap (λ z. cond z (model.put_frames w (model.data_frames i n (drop n lines)), model.Frames (length lines - n)) (w, model.NoSuch)) (both_hold _ _ (model_sends t p r c true yes) few))
-        (ap (λ z. Some (model.Frames (length z - n))) lines_are)
+        step_done t w (step.Resend p r c n) books (bag ++ more) (resent n).0 (model.Frames (length lines - n)) (answer.Frames (length (sent_over b c) - n))
+        (ap (λ z. cond z (resent n) (w, model.NoSuch)) (both_hold _ _ (model_sends t p r c true yes) few)) (ap (λ z. Some (model.Frames (length z - n))) lines_are)
         (put_frames t books bag more w (model.data_frames i n (drop n lines)) stands frames (λ j m e. let s = are.named j m e in omega (arith, s, within)))
 
-    pub again_sent : (n : ℕ) (more : List ChannelMessage) → n ≤ length (sent_over b ch) → AreMessages b ch n more
-        → Steps t w (step.Resend p r c n) (Ok (answer.Frames (length (sent_over b ch) - n))) books (bag ++ more)
-    again_sent n more few are = subst (λ z. n ≤ length (sent_over b z) → AreMessages b z n more → Steps t w (step.Resend p r c n) (Ok (answer.Frames (length (sent_over b z) - n))) books (bag ++ more)) (sym same) (again n more) few are
-
-    pub none_so_far : (n : ℕ) → length (sent_over b ch) < n → Steps t w (step.Resend p r c n) (Err stop.NoSuch) books bag
+    pub none_so_far : (n : ℕ) → length (sent_over b c) < n → Steps t w (step.Resend p r c n) (Err stop.NoSuch) books bag
     none_so_far n lt =
-        let past : leb n (length lines) ≡ false = let e = ap length lines_are in let f = ap (λ z. length (sent_over b z)) same in grind (arith, nat_tests, lt, e, f) in
-        step_names_nothing t w (step.Resend p r c n) books bag
-        (ap (λ z. cond z (model.put_frames w (model.data_frames i n (drop n lines)), model.Frames (length lines - n)) (w, model.NoSuch)) (not_and_right _ _ past)) stands
+        let past : leb n (length lines) ≡ false = let e = ap length lines_are in grind (arith, nat_tests, lt, e) in
+        step_names_nothing t w (step.Resend p r c n) books bag (ap (λ z. cond z (resent n) (w, model.NoSuch)) (not_and_right _ _ past)) stands
 
 -- What is gathered of a channel's messages.
 module _ (b : BookValue) (c : ℕ) where
@@ -203,12 +189,8 @@ module _ (b : BookValue) (c : ℕ) where
             ∙ append_assoc (map (frame_of b.topology) before) (frame_of b.topology (DataMessage p.message) ∷ []) (to_come (suc n))
             ∙ ap (λ z. map (frame_of b.topology) before ++ z ∷ to_come (suc n)) one
             ∙ ap (λ z. map (frame_of b.topology) before ++ z) (sym (next_frame (receiving_iface b.topology c) n (sent_over b c) (p.message.time, p.message.packet) p.sent n)) ∙ are.frames;
-        named = λ i m e. ⊎_elim (λ f. are.named i m f) (λ f. last f.0 m f.1) (get_append before (DataMessage p.message ∷ []) i m (ap (λ z. slice_get z i) (sym p.pushed) ∙ e));
+        named = λ i m e. ⊎_elim (λ f. are.named i m f) (λ f. ap message_channel (sym (only_one (DataMessage p.message) m f.0 f.1)) ∙ p.channel) (get_append before (DataMessage p.message ∷ []) i m (ap (λ z. slice_get z i) (sym p.pushed) ∙ e));
       }
-    where
-      last : (j : ℕ) (m : ChannelMessage) → slice_get (DataMessage p.message ∷ []) j ≡ Some m → message_channel m ≡ c
-      last zero m e = let g : DataMessage p.message ≡ m = cc in ap message_channel (sym g) ∙ p.channel
-      last (suc j) m e = absurd (let g : None ≡ Some m = e in cc)
 
   pub gathered_all : (first n : ℕ) (messages : List ChannelMessage) → AreGathered first n messages → length (sent_over b c) ≤ n → AreMessages b c first messages
   gathered_all first n messages are le = record {

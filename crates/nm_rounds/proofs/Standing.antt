@@ -29,6 +29,10 @@ get_append [] m i x e = inr (i, e)
 get_append (y ∷ l) m zero x e = inl e
 get_append (y ∷ l) m (suc i) x e = get_append l m i x e
 
+pub only_one : {X : Type 0} (x y : X) (i : ℕ) → slice_get (x ∷ []) i ≡ Some y → x ≡ y
+only_one x y zero e = cc
+only_one x y (suc i) e = absurd (let f : None ≡ Some y = e in cc)
+
 -- to set what is there changes nothing
 pub set_same : {X : Type 0} (l : List X) (i : ℕ) (x : X) → slice_get l i ≡ Some x → slice_set l i x ≡ l
 set_same [] i x e = refl
@@ -44,12 +48,18 @@ pub is_absent : {X : Type 0} (b : Bool) (x : X) → only_if b x ≡ None → b �
 is_absent true x e = absurd cc
 is_absent false x e = refl
 
-pub only_if_not : {X : Type 0} (b : Bool) (x : X) → b ≡ false → None ≡ only_if b x
-only_if_not b x e = ap (λ z. only_if z x) (sym e)
-
 pub not_and_right : (a b : Bool) → b ≡ false → (a && b) ≡ false
 not_and_right true b e = e
 not_and_right false b e = refl
+
+pub both : (a b : Bool) → (a && b) ≡ true → (a ≡ true) × (b ≡ true)
+both true b h = (refl, h)
+both false b h = absurd (let e : false ≡ true = h in cc)
+
+-- the network has the topology's partitions
+pub parts_are : (t : TopologyValue) → (net_of t).parts ≡ t.partitions
+unfolding net_of
+parts_are t = refl
 
 -- the program's test of a replica is the model's
 pub is_replica_is : (t : TopologyValue) (p r : ℕ) → is_replica t p r ≡ model.is_replica (net_of t) p r
@@ -59,14 +69,10 @@ is_replica_is t p r = refl
 -- a replica that is there has its place among all
 pub there_is : (t : TopologyValue) (p r : ℕ) → is_replica t p r ≡ true → (p < t.partitions) × (r < 2) × (2 * p + r < 2 * t.partitions)
 there_is t p r h =
-    let both = parts (ltb p t.partitions) (ltb r 2) h in
-    let a : p < t.partitions = let e = both.0 in grind (arith, nat_tests, e) in
-    let b : r < 2 = let e = both.1 in grind (arith, nat_tests, e) in
+    let tests = both (ltb p t.partitions) (ltb r 2) h in
+    let a : p < t.partitions = let e = tests.0 in grind (arith, nat_tests, e) in
+    let b : r < 2 = let e = tests.1 in grind (arith, nat_tests, e) in
     (a, b, omega (arith, a, b))
-  where
-    parts : (a b : Bool) → (a && b) ≡ true → (a ≡ true) × (b ≡ true)
-    parts true b h = (refl, h)
-    parts false b h = absurd (let e : false ≡ true = h in cc)
 
 -- two places are one only for one replica
 pub places_apart : (p r q s : ℕ) → r < 2 → s < 2 → 2 * q + s ≡ 2 * p + r → (q ≡ p) × (s ≡ r)

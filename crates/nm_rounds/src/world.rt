@@ -6,7 +6,8 @@ ghost use Rattle.nm_model.specs.World.{World as ModelWorld, opening};
 ghost use Rattle.nm_rounds.specs.World.{AreFirst, IsWorld, Steps};
 ghost use Rattle.nm_rounds.specs.declared.world.Stop.TheVariants.{Memory};
 
-use crate::acting::{Promise, deliver, merge, restart, run, send, send_again, send_null};
+use crate::acting::Promise::{Plain, Tight};
+use crate::acting::{deliver, merge, restart, run, send, send_again, send_null};
 use crate::step::{StepAnswer, WorldStep};
 use nm_base::PartNo;
 use nm_base::limits::MAX_REPLICAS;
@@ -115,28 +116,12 @@ pub(crate) fn do_step(
             partition,
             replica,
             channel,
-        } => send_null(
-            topology,
-            books,
-            bag,
-            Promise::Tight,
-            partition,
-            replica,
-            channel,
-        ),
+        } => send_null(topology, books, bag, Tight, partition, replica, channel),
         WorldStep::OldNull {
             partition,
             replica,
             channel,
-        } => send_null(
-            topology,
-            books,
-            bag,
-            Promise::Plain,
-            partition,
-            replica,
-            channel,
-        ),
+        } => send_null(topology, books, bag, Plain, partition, replica, channel),
         WorldStep::Deliver { frame, replica } => deliver(topology, books, bag, frame, replica),
         WorldStep::Merge { partition, replica } => {
             merge(alloc, topology, books, partition, replica)

@@ -7,7 +7,8 @@ use Rattle.nm_knowledge.specs.Octets.{same_octets}
 use Rattle.nm_sim.specs.Network.{net_of}
 use Rattle.nm_rounds.specs.Certify.{FindsFault, books_of, missing, unfinished}
 use Rattle.nm_rounds.specs.SameTopology.{SaysSame}
-use Rattle.nm_rounds.proofs.CertifySteps.{all_certified, answered, exactly, first_step, next_step, parts_are, refuses}
+use Rattle.nm_rounds.proofs.CertifySteps.{all_certified, answered, exactly, first_step, next_step, refuses}
+use Rattle.nm_rounds.proofs.Standing.{parts_are}
 use Rattle.nm_rounds.proofs.certify.certify.Goals as goal
 
 pub returns-then-not-are_of-clause-exact : goal.returns-then-not-are_of-clause-exact
