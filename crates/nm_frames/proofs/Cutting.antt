@@ -1,5 +1,5 @@
 -- Frames cut off the front of octets, one after another.
-use Rattle.std.proofs.Common.{◌≡◌, ℕ, ◌-◌, drop, ◌<◌, ◌≤◌, List, [], ◌∷◌, ◌++◌, length, None, false, Err, refl, sym, ap, subst, ◌∙◌, append_assoc, append-nil, length-append, arith}
+use Rattle.std.proofs.Common.{◌≡◌, ℕ, ◌-◌, drop, ◌<◌, List, [], ◌∷◌, ◌++◌, length, None, false, Err, refl, sym, ap, subst, ◌∙◌, append_assoc, append-nil, length-append, arith}
 use Rattle.std.proofs.lemmas.List.{drop_at}
 use Rattle.std.proofs.lemmas.Grind.{flat_map-append}
 use Rattle.std.specs.List.{AllByRecursion}
@@ -53,9 +53,6 @@ pub end_of : (o r : List ℕ) (b c : List Frame) → Cuts o r b c → drop (leng
 end_of o r b c cut =
     let n : length o - length r ≡ length (stream_octets cut.frames) = omega (arith, ap length cut.parts, length-append (stream_octets cut.frames) r) in
     ap (λ l. drop (length o - length r) l) cut.parts ∙ drop_at (stream_octets cut.frames) r (length o - length r) (sym n)
-
-pub end_within : (o r : List ℕ) (b c : List Frame) → Cuts o r b c → length r ≤ length o
-end_within o r b c cut = omega (arith, ap length cut.parts, length-append (stream_octets cut.frames) r)
 
 pub fed_whole : (old new : ReaderValue) (piece whole r : List ℕ) (b c : List Frame) → old.failed ≡ false → whole ≡ old.rest ++ piece → Cuts whole r b c → fault_shown r ≡ None → IsShort r → new.rest ≡ drop (length whole - length r) whole → new.failed ≡ false → FedWhole old new piece b c
 fed_whole old new piece whole r b c sound all cut none short kept still =

@@ -3,6 +3,7 @@ use Rattle.std.proofs.Common.{◌≡◌, ℕ, ◌+◌, ◌<◌, ◌≤◌, min, 
 use Rattle.std.proofs.lemmas.List.{take-append-le, drop-append-le, get_or_append_left, take-append-drop, length-take, length-drop}
 use Rattle.std.proofs.lemmas.Bool.Decides.{nat_tests}
 use Rattle.std.specs.Int.{w32, from_be_bytes}
+use Rattle.nm_model.proofs.ListLemmas.{number_is}
 use Rattle.nm_frames.specs.declared.fault.FrameFault.{FrameFault}
 use Rattle.nm_frames.specs.declared.fault.FrameFault.TheVariants.{BadLength, BadKind, BadBody}
 use Rattle.nm_frames.specs.Stream.{stated_length, has_first_word, fits_kind, fault_shown, is_bad_length, is_bad_kind, deciding_octets}
@@ -37,9 +38,6 @@ eq_true m n h = grind (arith, nat_tests, h)
 is_not_eq : (m n : ℕ) → n ≤ m → (m == n) ≡ false → n < m
 is_not_eq m n h e = grind (arith, nat_tests, h, e)
 
-is_eq : (m n : ℕ) → (m == n) ≡ true → m ≡ n
-is_eq m n e = grind (arith, nat_tests, e)
-
 some_length : (n : ℕ) → is_bad_length n ≡ false → 1 ≤ n
 some_length n h = grind (arith, nat_tests, h)
 
@@ -60,7 +58,7 @@ module _ (p q o : List ℕ) (whole : p ++ q ≡ o) where
   same_word h = rw (fields_at 0 (omega (arith, h)) (omega (arith, h)), fields_at 1 (omega (arith, h)) (omega (arith, h)), fields_at 2 (omega (arith, h)) (omega (arith, h)), fields_at 3 (omega (arith, h)) (omega (arith, h))) refl
 
   same_hello : (n : ℕ) (b : Bool) → (n == 44) ≡ b → 4 + n ≤ length p → ((n == 44) && has_first_word (drop 5 o)) ≡ ((n == 44) && has_first_word (drop 5 p))
-  same_hello n true e h = ap (λ x. (n == 44) && x) (same_word (omega (arith, is_eq n 44 e, h)))
+  same_hello n true e h = ap (λ x. (n == 44) && x) (same_word (omega (arith, number_is n 44 e, h)))
   same_hello n false e h = rw e refl
 
   pub same_fit : (k n : ℕ) → 4 + n ≤ length p → fits_kind k n (drop 5 o) ≡ fits_kind k n (drop 5 p)
@@ -177,7 +175,7 @@ module _ (o : List ℕ) (least : 4 ≤ length o) (long : 4 + stated_length o ≤
   whole_if : (a l e k s f : Bool) → nat_lt (length o) 4 ≡ a → is_bad_length (stated_length o) ≡ l → (length o == 4) ≡ e → is_bad_kind (slice_index o 4) ≡ k → nat_lt (length o) (4 + stated_length o) ≡ s → fits_kind (slice_index o 4) (stated_length o) (drop 5 o) ≡ f → fault_by a l e k s f ≡ None → Whole
   whole_if true l e k s f ea el ee ek es ef h = absurd (omega (arith, is_lt (length o) 4 ea))
   whole_if false true e k s f ea el ee ek es ef h = absurd (some_none BadLength h)
-  whole_if false false true k s f ea el ee ek es ef h = absurd (omega (arith, is_eq (length o) 4 ee, some_length (stated_length o) el))
+  whole_if false false true k s f ea el ee ek es ef h = absurd (omega (arith, number_is (length o) 4 ee, some_length (stated_length o) el))
   whole_if false false false true s f ea el ee ek es ef h = absurd (some_none BadKind h)
   whole_if false false false false true f ea el ee ek es ef h = absurd (omega (arith, is_lt (length o) (4 + stated_length o) es))
   whole_if false false false false false true ea el ee ek es ef h = (el, ek, ef)

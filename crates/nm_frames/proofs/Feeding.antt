@@ -1,6 +1,7 @@
 -- A stream that comes in pieces is frames and a rest.
 use Rattle.std.proofs.Common.{true≢false, if◌then◌else◌, arith, ◌≡◌, ℕ, ◌⊎◌, inl, inr, Bool, true, false, List, [], ◌∷◌, ◌++◌, Some, None, Result, Ok, Err, refl, sym, ap, subst, ◌∙◌, append_assoc, append-nil}
 use Rattle.std.specs.List.{AllByRecursion}
+use Rattle.nm_model.proofs.ListLemmas.{not_some}
 use Rattle.nm_frames.specs.declared.frame.Frame.{Frame}
 use Rattle.nm_frames.specs.declared.fault.FrameFault.{FrameFault}
 use Rattle.nm_frames.specs.declared.fault.FrameFault.TheVariants.{BadLength, BadKind, BadBody, Failed, Memory}
@@ -92,16 +93,10 @@ same_reader s h k fs gs (inl so) (inl to) =
     (one.0, ap (λ (x : List ℕ). record { rest = x; failed = h.failed }) one.1 ∙ ap (λ (x : Bool). record { rest = k.rest; failed = x }) (so.0 ∙ sym to.0))
 same_reader s h k fs gs (inl so) (inr to) =
     let one = one_splitting s fs gs h.rest to.1 (splits_at s h.rest fs so.1 (inr (so.2, so.3))) (splits_at s to.1 gs to.3 (inl (to.2, to.4))) in
-    absurd (none_some to.2 (sym so.2 ∙ ap fault_shown one.1 ∙ to.4))
-  where
-    none_some : (e : FrameFault) → None ≡ Some e → ⊥
-    none_some e h = cc
+    absurd (not_some to.2 (sym so.2 ∙ ap fault_shown one.1 ∙ to.4))
 same_reader s h k fs gs (inr so) (inl to) =
     let one = one_splitting s fs gs so.1 k.rest (splits_at s so.1 fs so.3 (inl (so.2, so.4))) (splits_at s k.rest gs to.1 (inr (to.2, to.3))) in
-    absurd (none_some so.2 (sym to.2 ∙ sym (ap fault_shown one.1) ∙ so.4))
-  where
-    none_some : (e : FrameFault) → None ≡ Some e → ⊥
-    none_some e h = cc
+    absurd (not_some so.2 (sym to.2 ∙ sym (ap fault_shown one.1) ∙ so.4))
 same_reader s h k fs gs (inr so) (inr to) =
     let one = one_splitting s fs gs so.1 to.1 (splits_at s so.1 fs so.3 (inl (so.2, so.4))) (splits_at s to.1 gs to.3 (inl (to.2, to.4))) in
     (one.0, so.0 ∙ sym to.0)

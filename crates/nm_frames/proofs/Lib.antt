@@ -8,3 +8,4 @@ pub mod Taking
 pub mod Consecutive
 pub mod Splitting
 pub mod Telling
+pub mod Changing

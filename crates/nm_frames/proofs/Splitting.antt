@@ -6,6 +6,7 @@ use Rattle.std.proofs.lemmas.List.{get_or-drop, get_or-take, get_or_past, length
 use Rattle.std.proofs.lemmas.List.Elements.{All-get_or}
 use Rattle.std.proofs.Math.ListN.{drop_of_length-le}
 use Rattle.std.specs.Int.{w16, w32, w64, from_be_bytes}
+use Rattle.nm_model.proofs.ListLemmas.{number_is}
 use Rattle.nm_base.specs.declared.limits.TheConstants.{MAX_BODY_OCTETS}
 use Rattle.nm_frames.specs.declared.frame.Frame.{Frame}
 use Rattle.nm_frames.specs.declared.frame.Frame.TheVariants.{Bye}
@@ -30,9 +31,6 @@ bound_4 xs small = omega (arith, small 0, small 1, small 2, small 3)
 bound_8 : (xs : List ℕ) → Octets xs → from_be_bytes w64 xs < 2 ^ 64
 bound_8 xs small = omega (arith, small 0, small 1, small 2, small 3, small 4, small 5, small 6, small 7)
 
-is_eq : (m n : ℕ) → (m == n) ≡ true → m ≡ n
-is_eq m n e = grind (arith, nat_tests, e)
-
 -- the frame with this body
 abbrev pub FrameWith : List ℕ → Type 0
 FrameWith body = (f : Frame) × (body ≡ frame_body f) × IsFrame f
@@ -47,7 +45,7 @@ abbrev at_8 : List ℕ → ℕ → ℕ
 at_8 b i = from_be_bytes w64 (take 8 (drop i b))
 
 is_bye : (k n : ℕ) (fields : List ℕ) → k ≡ 5 → fits_kind k n fields ≡ true → n ≡ 1
-is_bye k n fields e h = is_eq n 1 (subst (λ (x : ℕ). fits_kind x n fields ≡ true) e h)
+is_bye k n fields e h = number_is n 1 (subst (λ (x : ℕ). fits_kind x n fields ≡ true) e h)
 
 the_last : (k : ℕ) → 1 ≤ k → k ≤ 5 → (k == 1) ≡ false → (k == 2) ≡ false → (k == 3) ≡ false → (k == 4) ≡ false → k ≡ 5
 the_last k least most a b c d = grind (arith, nat_tests, least, most, a, b, c, d)
@@ -94,10 +92,10 @@ module _ (b : List ℕ) (small : Octets b) (most : length b ≤ MAX_BODY_OCTETS)
       (Bye, head_of b 5 (omega (arith, n)) e ∙ ap (λ l. 5 ∷ l) (drop_of_length-le b {i = 1} (omega (arith, n))), tt)
 
   by_kind : (c d e f : Bool) → 1 ≤ get_or b 0 0 → get_or b 0 0 ≤ 5 → (get_or b 0 0 == 1) ≡ c → (get_or b 0 0 == 2) ≡ d → (get_or b 0 0 == 3) ≡ e → (get_or b 0 0 == 4) ≡ f → FrameWith b
-  by_kind true d e f lo hi e1 e2 e3 e4 = as_hello (is_eq (get_or b 0 0) 1 e1)
-  by_kind false true e f lo hi e1 e2 e3 e4 = as_have (is_eq (get_or b 0 0) 2 e2)
-  by_kind false false true f lo hi e1 e2 e3 e4 = as_data (is_eq (get_or b 0 0) 3 e3)
-  by_kind false false false true lo hi e1 e2 e3 e4 = as_null (is_eq (get_or b 0 0) 4 e4)
+  by_kind true d e f lo hi e1 e2 e3 e4 = as_hello (number_is (get_or b 0 0) 1 e1)
+  by_kind false true e f lo hi e1 e2 e3 e4 = as_have (number_is (get_or b 0 0) 2 e2)
+  by_kind false false true f lo hi e1 e2 e3 e4 = as_data (number_is (get_or b 0 0) 3 e3)
+  by_kind false false false true lo hi e1 e2 e3 e4 = as_null (number_is (get_or b 0 0) 4 e4)
   by_kind false false false false lo hi e1 e2 e3 e4 = as_bye (the_last (get_or b 0 0) lo hi e1 e2 e3 e4)
 
   frame_with : 1 ≤ get_or b 0 0 → get_or b 0 0 ≤ 5 → FrameWith b

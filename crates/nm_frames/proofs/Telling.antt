@@ -20,7 +20,7 @@ use Rattle.nm_frames.specs.declared.side.ChannelOut.{ChannelOut}
 use Rattle.nm_frames.specs.Frame.{have_frame}
 use Rattle.nm_frames.specs.Owed.{bye_owed, have_owed, held_on, hello_of, is_cursor, is_last, is_told, message_owed, null_owed, owed, owed_at, promising_of}
 use Rattle.nm_frames.specs.Session.{SessionValue, broken, goes_to_peer, is_there, new_incoming, new_outgoing, restarted, taken, with_channel}
-use Rattle.nm_frames.specs.Told.{HasAsked, HasSaid, HasTold, HasToldFrom, IsOwedFrom, IsAllTold, IsUnasked, IsUntold}
+use Rattle.nm_frames.specs.Told.{HasAsked, HasSaid, HasTold, HasToldFrom, IsOwedFrom, IsAllTold, IsSilent, IsUnasked, IsUntold, MayLeave}
 
 none_left : {A : Type 0} (o p : Option A) → or_else o p ≡ None → o ≡ None
 none_left None p e = refl
@@ -180,29 +180,22 @@ module _ (s : SessionValue) (b : BookValue) where
   abbrev rest : Option Frame
   rest = or_else (have_owed b s.incoming) (or_else (message_owed b (promising_of s) s.outgoing) (bye_owed b (promising_of s) s.outgoing))
 
-  abbrev Said : Type 0
-  Said = (is_there s.hello_given ≡ true) × AllByRecursion (HasAsked b) s.incoming × AllByRecursion (HasTold b (promising_of s)) s.outgoing
-      × (is_done (net_of b.topology) b.partition (replica_of b) ≡ true → AllByRecursion (IsAllTold b (promising_of s)) s.outgoing → ⊥)
-
-  pub quiet : owed s b ≡ None → s.bye_given ≡ false → Said
+  pub quiet : owed s b ≡ None → s.bye_given ≡ false → IsSilent s b
   quiet e unsaid =
       greeting (is_there s.hello_given) refl (subst (λ z. cond z None (cond (not (is_there s.hello_given)) (Some (hello_of s)) rest) ≡ None) unsaid e)
     where
-      greeting : (h : Bool) → is_there s.hello_given ≡ h → cond (not h) (Some (hello_of s)) rest ≡ None → Said
+      greeting : (h : Bool) → is_there s.hello_given ≡ h → cond (not h) (Some (hello_of s)) rest ≡ None → IsSilent s b
       greeting false is g = absurd (cc)
       greeting true is g =
-          let more = none_right (have_owed b s.incoming) _ g in (
-            is,
-            asked b s.incoming (none_left (have_owed b s.incoming) _ g),
-            told b (promising_of s) s.outgoing (none_left (message_owed b (promising_of s) s.outgoing) _ more),
-            no_bye b (promising_of s) s.outgoing (none_right (message_owed b (promising_of s) s.outgoing) _ more),
-          )
+          let more = none_right (have_owed b s.incoming) _ g in
+          record {
+            greeted = is;
+            asked = asked b s.incoming (none_left (have_owed b s.incoming) _ g);
+            told = told b (promising_of s) s.outgoing (none_left (message_owed b (promising_of s) s.outgoing) _ more);
+            goes_on = no_bye b (promising_of s) s.outgoing (none_right (message_owed b (promising_of s) s.outgoing) _ more);
+          }
 
-  abbrev Leaves : Type 0
-  Leaves = (s.bye_given ≡ false) × (is_done (net_of b.topology) b.partition (replica_of b) ≡ true) × AllByRecursion (HasAsked b) s.incoming
-      × AllByRecursion (IsAllTold b (promising_of s)) s.outgoing
-
-  pub leaves : owed s b ≡ Some Bye → Leaves
+  pub leaves : owed s b ≡ Some Bye → MayLeave s b
   leaves e = unsaid s.bye_given refl e
     where
       told_all : (p : Option Frame) → message_owed b (promising_of s) s.outgoing ≡ p → or_else p (bye_owed b (promising_of s) s.outgoing) ≡ Some Bye
@@ -220,12 +213,12 @@ module _ (s : SessionValue) (b : BookValue) where
       greeting false g = absurd (cc)
       greeting true g = g
 
-      unsaid : (z : Bool) → s.bye_given ≡ z → cond z None (cond (not (is_there s.hello_given)) (Some (hello_of s)) rest) ≡ Some Bye → Leaves
+      unsaid : (z : Bool) → s.bye_given ≡ z → cond z None (cond (not (is_there s.hello_given)) (Some (hello_of s)) rest) ≡ Some Bye → MayLeave s b
       unsaid true is g = absurd (cc)
       unsaid false is g =
           let all = asked_all (have_owed b s.incoming) refl (greeting (is_there s.hello_given) g) in
           let bye = bye_is b (promising_of s) s.outgoing all.1 in
-          (is, bye.0, asked b s.incoming all.0, bye.1)
+          record { first = is; done = bye.0; asked = asked b s.incoming all.0; told = bye.1 }
 
 -- after a Have
 owed_from : (c n : ℕ) (os : List ChannelOut) → AllByRecursion (IsOwedFrom c n) (map (with_channel c (restarted n)) os)

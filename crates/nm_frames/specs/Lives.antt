@@ -1,12 +1,13 @@
 -- A session over any frames taken and given, and breaks.
 use Rattle.std.specs.Prelude.{◌≡◌, ℕ, ◌+◌, ◌==◌, List, [], ◌∷◌, Option, Some, None, Ok, if◌then◌else◌}
 use Rattle.std.specs.List.{AllByRecursion}
+use Rattle.nm_topology.specs.TopologyValue.{TopologyValue}
 use Rattle.nm_book.specs.Book.{BookValue}
 use Rattle.nm_frames.specs.declared.frame.Frame.{Frame}
 use Rattle.nm_frames.specs.declared.frame.Frame.TheVariants.{Hello, Have, Data, Null, Bye}
 use Rattle.nm_frames.specs.declared.side.ChannelOut.{ChannelOut}
 use Rattle.nm_frames.specs.Owed.{after_giving, owed}
-use Rattle.nm_frames.specs.Session.{SessionValue, broken, taken}
+use Rattle.nm_frames.specs.Session.{SessionValue, broken, new_session, taken}
 
 pub data SessionStep : Type 0 where
   Took : Frame → SessionStep
@@ -62,3 +63,9 @@ due_after c due (Broke ∷ r) = due_after c None r
 -- the cursor of channel c, where that is one of these
 abbrev pub HasCursor : ℕ → Option ℕ → List ChannelOut → Type 0
 HasCursor c due os = AllByRecursion (λ o. o.channel ≡ c → o.cursor ≡ due) os
+
+-- The messages that a session gives on channel c over these steps have their numbers in order: from the start of a session on; and from the cursor of one that
+-- has lived already, which then stands behind them.
+pub record AreNumbered (c : ℕ) (steps : List SessionStep) (last : SessionValue) : Type 0 where
+  pub first : (t : TopologyValue) (me replica peer : ℕ) → Lives (new_session t me replica peer) steps last → AreConsecutive c None steps
+  pub later : (s : SessionValue) (cursor : Option ℕ) → HasCursor c cursor s.outgoing → Lives s steps last → AreConsecutive c cursor steps × HasCursor c (due_after c cursor steps) last.outgoing

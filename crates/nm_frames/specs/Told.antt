@@ -1,10 +1,15 @@
 -- What a peer was told, in the words of the book and not of the rules by which a session goes.
 use Rattle.std.specs.Prelude.{◌≡◌, ◌⊎◌, ℕ, ◌<◌, true, false, length, Option, Some, None}
+use Rattle.std.specs.List.{AllByRecursion}
+use Rattle.nm_model.specs.Certificate.{is_done}
 use Rattle.nm_model.specs.Promise.{Promising}
-use Rattle.nm_book.specs.Book.{BookValue, is_incoming, is_outgoing, null_on, sent_over}
+use Rattle.nm_sim.specs.Network.{net_of}
+use Rattle.nm_book.specs.Book.{BookValue, is_incoming, is_outgoing, null_on, replica_of, sent_over}
 use Rattle.nm_book.specs.declared.message.Null.{Null as NullMessage}
 use Rattle.nm_frames.specs.declared.side.ChannelIn.{ChannelIn}
 use Rattle.nm_frames.specs.declared.side.ChannelOut.{ChannelOut}
+use Rattle.nm_frames.specs.Owed.{promising_of}
+use Rattle.nm_frames.specs.Session.{SessionValue, is_there}
 
 -- the peer was asked for what is not held of this channel, if it comes in
 abbrev pub HasAsked : BookValue → ChannelIn → Type 0
@@ -28,6 +33,30 @@ pub record IsAllTold (b : BookValue) (kind : Promising) (o : ChannelOut) : Type 
   pub goes_out : is_outgoing b o.channel ≡ true
   pub all : o.cursor ≡ Some (length (sent_over b o.channel))
   pub promise : HasSaid o.last_null (null_on kind b o.channel)
+
+-- all that a session is to tell of a book
+module _ (s : SessionValue) (b : BookValue) where
+  -- what there is to tell is told
+  pub record IsSilent : Type 0 where
+    -- it has greeted its peer
+    pub greeted : is_there s.hello_given ≡ true
+    -- has asked for each channel that comes in
+    pub asked : AllByRecursion (HasAsked b) s.incoming
+    -- and has told all of each channel for which the peer has asked, its last promise too
+    pub told : AllByRecursion (HasTold b (promising_of s)) s.outgoing
+    -- the book has something left to do, or the peer has not asked for some channel
+    pub goes_on : is_done (net_of b.topology) b.partition (replica_of b) ≡ true → AllByRecursion (IsAllTold b (promising_of s)) s.outgoing → ⊥
+
+  -- nothing is left, and it may leave
+  pub record MayLeave : Type 0 where
+    -- it has not left before
+    pub first : s.bye_given ≡ false
+    -- the book has nothing left to do
+    pub done : is_done (net_of b.topology) b.partition (replica_of b) ≡ true
+    -- each channel was asked for
+    pub asked : AllByRecursion (HasAsked b) s.incoming
+    -- and told, its last promise too
+    pub told : AllByRecursion (IsAllTold b (promising_of s)) s.outgoing
 
 -- the peer holds n messages of this channel, and no null message: all from there on is owed
 abbrev pub IsOwedFrom : ℕ → ℕ → ChannelOut → Type 0

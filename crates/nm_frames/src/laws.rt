@@ -1,28 +1,24 @@
 //! Laws of the definitions: each function's contract is a law, and its body is empty.
 
-ghost use Rattle.std.specs.Prelude.{◌≡◌, ℕ, ◌+◌, ◌<◌, ◌++◌, List, [], ◌∷◌, All, true, false, Ok};
-ghost use Rattle.std.specs.Prelude.{None, Some, Option, Result, if◌then◌else◌, nat_lt, take};
+ghost use Rattle.std.specs.Prelude.{◌≡◌, ℕ, ◌+◌, ◌<◌, ◌++◌, List, [], ◌∷◌, All, false, Ok};
+ghost use Rattle.std.specs.Prelude.{None, Some, Result, if◌then◌else◌, nat_lt, take};
 ghost use Rattle.std.specs.List.{AllByRecursion};
 ghost use Rattle.nm_base.specs.declared.limits.TheConstants as limits;
-ghost use Rattle.nm_model.specs.Certificate.{is_done};
-ghost use Rattle.nm_sim.specs.Network.{net_of};
-ghost use Rattle.nm_book.specs.Book.{BookValue, replica_of};
+ghost use Rattle.nm_book.specs.Book.{BookValue};
 ghost use Rattle.nm_frames.specs.declared.format.TheConstants as format;
 ghost use Rattle.nm_frames.specs.declared.format.kind.TheConstants as kind;
 ghost use Rattle.nm_frames.specs.declared.frame.Frame.TheVariants.{Have, Bye};
 ghost use Rattle.nm_frames.specs.declared.frame.Have.{Have as HaveValue};
-ghost use Rattle.nm_frames.specs.Owed.{owed, promising_of};
-ghost use Rattle.nm_frames.specs.Told.{HasAsked, HasTold, IsAllTold};
-ghost use Rattle.nm_frames.specs.Told.{IsOwedFrom, IsUnasked, IsUntold};
+ghost use Rattle.nm_frames.specs.Owed.{owed};
+ghost use Rattle.nm_frames.specs.Told.{IsOwedFrom, IsSilent, IsUnasked, IsUntold, MayLeave};
 ghost use Rattle.nm_frames.specs.declared.frame.Frame.{Frame};
 ghost use Rattle.nm_frames.specs.declared.fault.FrameFault.{FrameFault};
 ghost use Rattle.nm_frames.specs.Frame.{IsFrame, frame_octets};
 ghost use Rattle.nm_frames.specs.Stream.{Splits, deciding_octets, fault_shown};
 ghost use Rattle.nm_frames.specs.Reader.{ReaderValue};
 ghost use Rattle.nm_frames.specs.Pieces.{FeedsAll, HasRead, new_reader, stream_of};
-ghost use Rattle.nm_topology.specs.TopologyValue.{TopologyValue};
-ghost use Rattle.nm_frames.specs.Session.{SessionValue, broken, is_there, new_session, taken};
-ghost use Rattle.nm_frames.specs.Lives.{AreConsecutive, HasCursor, Lives, SessionStep, due_after};
+ghost use Rattle.nm_frames.specs.Session.{SessionValue, broken, is_there, taken};
+ghost use Rattle.nm_frames.specs.Lives.{AreNumbered, SessionStep};
 
 /// No frame's octets begin another's.
 pub fn no_frame_begins_another()
@@ -70,20 +66,13 @@ pub fn cuts_do_not_matter()
 /// So what is there to tell is told.
 pub fn a_silent_session_has_told_all()
     ensures { (s : SessionValue) (b : BookValue) → owed s b ≡ None → s.bye_given ≡ false
-        → (is_there s.hello_given ≡ true) × AllByRecursion (HasAsked b) s.incoming
-        × AllByRecursion (HasTold b (promising_of s)) s.outgoing
-        × (is_done (net_of b.topology) b.partition (replica_of b) ≡ true
-        → AllByRecursion (IsAllTold b (promising_of s)) s.outgoing → ⊥) }
+        → IsSilent s b }
 {}
 
 /// Bye comes last, and once: nothing is left for the book to do, and each channel was asked for and
 /// told, its last promise too.
 pub fn bye_comes_last()
-    ensures { (s : SessionValue) (b : BookValue) → owed s b ≡ Some Bye
-        → (s.bye_given ≡ false)
-        × (is_done (net_of b.topology) b.partition (replica_of b) ≡ true)
-        × AllByRecursion (HasAsked b) s.incoming
-        × AllByRecursion (IsAllTold b (promising_of s)) s.outgoing }
+    ensures { (s : SessionValue) (b : BookValue) → owed s b ≡ Some Bye → MayLeave s b }
 {}
 
 /// After a Have all that follows is owed, and the promise too, whatever was given before. After a
@@ -100,13 +89,8 @@ pub fn what_was_lost_is_owed_again()
 /// the number that the peer's last Have stated, or the one after that of the message given before.
 /// A session that has lived already goes on from its cursor.
 pub fn messages_are_consecutive()
-    ensures first { (t : TopologyValue) (me replica peer : ℕ) (steps : List SessionStep)
-        (last : SessionValue) (channel : ℕ)
-        → Lives (new_session t me replica peer) steps last → AreConsecutive channel None steps }
-    ensures later { (s last : SessionValue) (steps : List SessionStep) (channel : ℕ)
-        (cursor : Option ℕ) → HasCursor channel cursor s.outgoing → Lives s steps last
-        → AreConsecutive channel cursor steps
-        × HasCursor channel (due_after channel cursor steps) last.outgoing }
+    ensures { (channel : ℕ) (steps : List SessionStep) (last : SessionValue)
+        → AreNumbered channel steps last }
 {}
 
 /// The kinds of frames, as numbers.

@@ -118,7 +118,7 @@ has_asked a b s t v silent = go t.bye_given refl
   where
     go : (z : Bool) → t.bye_given ≡ z → AllByRecursion (HasAsked b) t.incoming
     go true e = v.asked e
-    go false e = (quiet t b silent e).1
+    go false e = (quiet t b silent e).asked
 
 has_left : (a b : BookValue) (s t : SessionValue) → Way a b s t → Way b a t s → is_done (net_of a.topology) a.partition (replica_of a) ≡ true → owed s a ≡ None → owed t b ≡ None → s.bye_given ≡ true
 has_left a b s t w v done silent other_silent = go s.bye_given refl
@@ -127,7 +127,7 @@ has_left a b s t w v done silent other_silent = go s.bye_given refl
     go true e = e
     go false e =
         let said = quiet s a silent e in
-        absurd (said.3 done (told_all a b (promising_of s) t.incoming s.outgoing w.pairs (has_asked a b s t v other_silent) said.2))
+        absurd (said.goes_on done (told_all a b (promising_of s) t.incoming s.outgoing w.pairs (has_asked a b s t v other_silent) said.told))
 
 pub parted : (a b : BookValue) → AreNeighbours a b → HoldsSent a b → HoldsSent b a → (turns : List Turn) (s t : SessionValue) → Talks a b turns (session_of a b) (session_of b a) s t
     → owed s a ≡ None → owed t b ≡ None → (s.bye_taken ≡ true) × (t.bye_taken ≡ true)

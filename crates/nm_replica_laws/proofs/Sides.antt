@@ -164,7 +164,7 @@ module _ (a b : BookValue) (holds : HoldsSent b a) (s t u : SessionValue) where
         record {
           bye = k.bye_is;
           pairs = subst (λ z. Pairs a b z s.outgoing) (sym k.incoming) w.pairs;
-          asked = λ left. (leaves s a e).2;
+          asked = λ left. (leaves s a e).asked;
         },
         back (after_giving s Bye) t.outgoing true k refl v.pairs v,
       )

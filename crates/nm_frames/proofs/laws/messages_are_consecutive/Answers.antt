@@ -1,8 +1,8 @@
 use Rattle.nm_frames.proofs.Consecutive.{consecutive, from_cursor}
 use Rattle.nm_frames.proofs.laws.messages_are_consecutive.Goals as goal
 
-pub returns-clause-first : goal.returns-clause-first
-returns-clause-first c = consecutive
-
-pub returns-clause-later : goal.returns-clause-later
-returns-clause-later c = from_cursor
+pub returns : goal.returns
+returns c channel steps last = record {
+  first = λ t me replica peer lives. consecutive t me replica peer steps last channel lives;
+  later = λ s cursor has lives. from_cursor s last steps channel cursor has lives;
+}

@@ -1,16 +1,7 @@
-use Rattle.std.proofs.Common.{◌≡◌, ◌∙◌, ◌<◌, ◌+◌, ◌++◌, length, map, take, drop, get_or, set, sym, ap, subst, arith}
-use Rattle.std.proofs.lemmas.List.Edits.{map_over_more}
-use Rattle.nm_frames.specs.declared.side.ChannelIn.{ChannelIn}
+use Rattle.std.proofs.Common.{arith}
 use Rattle.nm_frames.specs.Session.{new_incoming}
+use Rattle.nm_frames.proofs.Changing.{changed_more}
 use Rattle.nm_frames.proofs.side.forget_given.Goals as goal
 
 pub loop-side-preserved : goal.loop-side-preserved
-loop-side-preserved c =
-    let xs = c.args.incoming.now in
-    let ys = c.loop-side.incoming in
-    let i = c.loop-side.side-index in
-    let d = c.side-item.result in
-    let f : ChannelIn → ChannelIn = λ i. new_incoming i.channel in
-    let e : d ≡ get_or ys i d = c.side-item.is in
-    let below : i < length xs = omega arith in
-    subst (λ (v : ChannelIn). set ys i v ≡ map f (take (i + 1) xs) ++ drop (i + 1) xs) (sym (c.new.ensures ∙ ap f (sym e))) (map_over_more f xs ys i d below c.loop-side.invariant e)
+loop-side-preserved c = changed_more (λ i. new_incoming i.channel) c.args.incoming.now c.loop-side.incoming c.loop-side.side-index c.side-item.result _ (omega arith) c.loop-side.invariant c.side-item.is c.new.ensures

@@ -1,6 +1,5 @@
 use Rattle.std.proofs.Common.{◌≡◌, ◌++◌, take, drop, map}
-use Rattle.nm_frames.specs.Session.{restarted}
-use Rattle.nm_frames.specs.Session.{with_channel}
+use Rattle.nm_frames.specs.Session.{restarted, with_channel}
 use Rattle.nm_frames.proofs.side.restart.Given as goal
 
 abbrev pub invariant-loop-side : goal.invariant-loop-side
