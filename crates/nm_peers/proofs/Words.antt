@@ -1,5 +1,5 @@
 -- The words of a listener.
-use Rattle.std.proofs.Common.{◌≡◌, ℕ, ◌<◌, ◌^◌, ◌⊎◌, inl, inr, List, [], ◌∷◌, ◌++◌, decimal, codes, sym, subst, ◌∙◌, arith, append_assoc}
+use Rattle.std.proofs.Common.{◌≡◌, ℕ, ◌<◌, ◌^◌, ◌⊎◌, inl, inr, List, [], ◌∷◌, ◌++◌, Some, decimal, codes, sym, subst, ◌∙◌, arith, append_assoc}
 use Rattle.std.specs.Int.{IsInRange}
 use Rattle.std.specs.List.{All}
 use Rattle.std.proofs.lemmas.Bool.Decides.{nat_tests}
@@ -87,6 +87,23 @@ pub second_cut : (p : ℕ) (rest second third : List ℕ) (a : Listener) → Fit
 second_cut p rest second third a fits e cut none =
     let within = fits.replica in
     one_split 32 second (decimal a.replica) third (socket_v4_text a.address) none (no_mark 32 a.replica (inl (omega arith)) (omega arith)) (sym cut ∙ e)
+
+-- a line that is split at both, and what its numbers are then
+pub both_cut : (p : ℕ) (line first rest second third : List ℕ) (a : Listener) → p < 2 ^ 64 → Fits p a → line ≡ listener_words a → (line ≡ first ++ 32 ∷ rest) × HasNo 32 first → (rest ≡ second ++ 32 ∷ third) × HasNo 32 second
+    → (first ≡ decimal a.partition) × (second ≡ decimal a.replica) × (third ≡ socket_v4_text a.address)
+both_cut p line first rest second third a small fits e one two =
+    let head = first_cut p line first rest a small fits e one.0 one.1 in
+    let tail = second_cut p rest second third a fits head.1 two.0 two.1 in
+    (head.0, tail.0, tail.1)
+
+pub same_numbers : (p : ℕ) (first second : List ℕ) (partition replica : ℕ) (a : Listener) → p < 2 ^ 64 → Fits p a → first ≡ decimal a.partition → second ≡ decimal a.replica
+    → ((n : ℕ) → n < 2 ^ 64 → first ≡ decimal n → Some partition ≡ Some n) → ((n : ℕ) → n < 2 ^ 64 → second ≡ decimal n → Some replica ≡ Some n) → (partition ≡ a.partition) × (replica ≡ a.replica)
+same_numbers p first second partition replica a small fits head tail one two =
+    let within = fits.partition in
+    let also = fits.replica in
+    let partition_only = one a.partition (omega arith) head in
+    let replica_only = two a.replica (omega arith) tail in
+    (cc, cc)
 
 pub same_listener : (a b : Listener) → a.partition ≡ b.partition → a.replica ≡ b.replica → a.address ≡ b.address → a ≡ b
 same_listener a b p q r = λ i. record { partition = p i; replica = q i; address = r i }

@@ -1,5 +1,5 @@
 use Rattle.std.proofs.Common.{◌≡◌, ap, ◌∙◌, Some, arith}
-use Rattle.nm_peers.proofs.Words.{first_cut, same_listener, second_cut, second_has, words_have}
+use Rattle.nm_peers.proofs.Words.{both_cut, first_cut, same_listener, same_numbers, second_has, words_have}
 use Rattle.nm_peers.proofs.line.listener_of.Goals as goal
 
 pub returns-in_err-first-clause-only : goal.returns-in_err-first-clause-only
@@ -19,41 +19,29 @@ returns-in_err-partition-clause-only c = λ a fits e.
 
 pub returns-in_err-replica-clause-only : goal.returns-in_err-replica-clause-only
 returns-in_err-replica-clause-only c = λ a fits e.
-    let one = first_cut c.args.partitions c.args.line.now c.in_ok-first.first.now c.in_ok-first.rest.now a (omega arith) fits e c.in_ok-first.ensures.0 c.in_ok-first.ensures.1 in
-    let two = second_cut c.args.partitions c.in_ok-first.rest.now c.in_ok-second.second.now c.in_ok-second.third.now a fits one.1 c.in_ok-second.ensures.0 c.in_ok-second.ensures.1 in
+    let cut = both_cut c.args.partitions c.args.line.now c.in_ok-first.first.now c.in_ok-first.rest.now c.in_ok-second.second.now c.in_ok-second.third.now a (omega arith) fits e c.in_ok-first.ensures c.in_ok-second.ensures in
     let within = fits.replica in
-    let not = c.in_err-replica.ensures.only a.replica (omega arith) two.0 in
+    let not = c.in_err-replica.ensures.only a.replica (omega arith) cut.1 in
     absurd (cc)
 
 pub returns-in_err-address-clause-only : goal.returns-in_err-address-clause-only
 returns-in_err-address-clause-only c = λ a fits e.
-    let one = first_cut c.args.partitions c.args.line.now c.in_ok-first.first.now c.in_ok-first.rest.now a (omega arith) fits e c.in_ok-first.ensures.0 c.in_ok-first.ensures.1 in
-    let two = second_cut c.args.partitions c.in_ok-first.rest.now c.in_ok-second.second.now c.in_ok-second.third.now a fits one.1 c.in_ok-second.ensures.0 c.in_ok-second.ensures.1 in
-    let not = c.in_err-address.ensures.only a.address fits.address two.1 in
+    let cut = both_cut c.args.partitions c.args.line.now c.in_ok-first.first.now c.in_ok-first.rest.now c.in_ok-second.second.now c.in_ok-second.third.now a (omega arith) fits e c.in_ok-first.ensures c.in_ok-second.ensures in
+    let not = c.in_err-address.ensures.only a.address fits.address cut.2 in
     absurd (cc)
 
 pub returns-then-partition-partitions-clause-only : goal.returns-then-partition-partitions-clause-only
 returns-then-partition-partitions-clause-only c = λ a fits e.
-    let one = first_cut c.args.partitions c.args.line.now c.in_ok-first.first.now c.in_ok-first.rest.now a (omega arith) fits e c.in_ok-first.ensures.0 c.in_ok-first.ensures.1 in
-    let two = second_cut c.args.partitions c.in_ok-first.rest.now c.in_ok-second.second.now c.in_ok-second.third.now a fits one.1 c.in_ok-second.ensures.0 c.in_ok-second.ensures.1 in
+    let cut = both_cut c.args.partitions c.args.line.now c.in_ok-first.first.now c.in_ok-first.rest.now c.in_ok-second.second.now c.in_ok-second.third.now a (omega arith) fits e c.in_ok-first.ensures c.in_ok-second.ensures in
+    let same = same_numbers c.args.partitions c.in_ok-first.first.now c.in_ok-second.second.now c.in_ok-partition.partition c.in_ok-replica.replica a (omega arith) fits cut.0 cut.1 c.in_ok-partition.ensures.only c.in_ok-replica.ensures.only in
     let within = fits.partition in
     let also = fits.replica in
-    let partition_only = c.in_ok-partition.ensures.only a.partition (omega arith) one.0 in
-    let replica_only = c.in_ok-replica.ensures.only a.replica (omega arith) two.0 in
-    let partition : c.in_ok-partition.partition ≡ a.partition = cc in
-    let replica : c.in_ok-replica.replica ≡ a.replica = cc in
     absurd (omega arith)
 
 pub returns-clause-only : goal.returns-clause-only
 returns-clause-only c = λ a fits e.
-    let one = first_cut c.args.partitions c.args.line.now c.in_ok-first.first.now c.in_ok-first.rest.now a (omega arith) fits e c.in_ok-first.ensures.0 c.in_ok-first.ensures.1 in
-    let two = second_cut c.args.partitions c.in_ok-first.rest.now c.in_ok-second.second.now c.in_ok-second.third.now a fits one.1 c.in_ok-second.ensures.0 c.in_ok-second.ensures.1 in
-    let within = fits.partition in
-    let also = fits.replica in
-    let partition_only = c.in_ok-partition.ensures.only a.partition (omega arith) one.0 in
-    let replica_only = c.in_ok-replica.ensures.only a.replica (omega arith) two.0 in
-    let address_only = c.in_ok-address.ensures.only a.address fits.address two.1 in
-    let partition : c.in_ok-partition.partition ≡ a.partition = cc in
-    let replica : c.in_ok-replica.replica ≡ a.replica = cc in
+    let cut = both_cut c.args.partitions c.args.line.now c.in_ok-first.first.now c.in_ok-first.rest.now c.in_ok-second.second.now c.in_ok-second.third.now a (omega arith) fits e c.in_ok-first.ensures c.in_ok-second.ensures in
+    let same = same_numbers c.args.partitions c.in_ok-first.first.now c.in_ok-second.second.now c.in_ok-partition.partition c.in_ok-replica.replica a (omega arith) fits cut.0 cut.1 c.in_ok-partition.ensures.only c.in_ok-replica.ensures.only in
+    let address_only = c.in_ok-address.ensures.only a.address fits.address cut.2 in
     let address : c.in_ok-address.address ≡ a.address = cc in
-    ap Some (same_listener _ a (c.new.ensures ∙ partition) replica address)
+    ap Some (same_listener _ a (c.new.ensures ∙ same.0) same.1 address)
