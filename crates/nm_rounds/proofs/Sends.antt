@@ -15,7 +15,8 @@ use Rattle.nm_book.specs.declared.message.ChannelMessage.{ChannelMessage}
 use Rattle.nm_book.specs.declared.message.ChannelMessage.TheVariants.{Data as DataMessage, Null as NullMessage}
 use Rattle.nm_book.specs.declared.message.Data.{Data}
 use Rattle.nm_book.specs.declared.message.Null.{Null}
-use Rattle.nm_rounds.specs.World.{AreMessages, IsPushed, IsReplicaOf, IsWorld, Steps, frame_of, happens, kind_of, null_step}
+use Rattle.nm_rounds.specs.World.{AreMessages, IsPushed, IsReplicaOf, IsWorld, Steps, frame_of, happens}
+use Rattle.nm_rounds.specs.Acting.{kind_of, null_step}
 use Rattle.nm_rounds.specs.declared.acting.Promise.{Promise}
 use Rattle.nm_rounds.specs.declared.acting.Promise.TheVariants as made
 use Rattle.nm_rounds.specs.declared.step.StepAnswer.TheVariants as answer

@@ -1,4 +1,5 @@
 pub mod World
+pub mod Acting
 pub mod Replay
 pub mod Headline
 pub mod Certify

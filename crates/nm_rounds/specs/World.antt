@@ -9,7 +9,7 @@ use Rattle.nm_knowledge.specs.declared.answer.KnowFault.{KnowFault}
 use Rattle.nm_knowledge.specs.declared.answer.KnowFault.TheVariants.{Memory as NoMemory}
 use Rattle.nm_model.specs.Knowledge.{nothing_known}
 use Rattle.nm_model.specs.Lists.{nth}
-use Rattle.nm_model.specs.Promise.{Promising, Plain, Tight}
+use Rattle.nm_model.specs.Promise.{Plain, Tight}
 use Rattle.nm_model.specs.World as model
 use Rattle.nm_sim.specs.Network.{net_of}
 use Rattle.nm_book.specs.Book.{BookValue, is_incoming, message_channel, replica_of, sent_over}
@@ -18,8 +18,6 @@ use Rattle.nm_book.specs.declared.fault.MergeFault.TheVariants.{Stranger, Channe
 use Rattle.nm_book.specs.declared.message.ChannelMessage.{ChannelMessage}
 use Rattle.nm_book.specs.declared.message.Data.{Data as DataValue}
 use Rattle.nm_book.specs.declared.message.ChannelMessage.TheVariants.{Data as DataMessage, Null as NullMessage}
-use Rattle.nm_rounds.specs.declared.acting.Promise.{Promise}
-use Rattle.nm_rounds.specs.declared.acting.Promise.TheVariants as made
 use Rattle.nm_rounds.specs.declared.step.StepAnswer.{StepAnswer}
 use Rattle.nm_rounds.specs.declared.step.StepAnswer.TheVariants.{All, Limit, Frames, Accepted, Refused, Merged, MergeRefused, Emptied}
 use Rattle.nm_rounds.specs.declared.step.WorldStep.{WorldStep}
@@ -37,15 +35,6 @@ step_of t (OldNull p r c) = model.Null Plain p r (receiving_iface t c)
 step_of t (Deliver i r) = model.Deliver i r
 step_of t (Merge p r) = model.Merge p r
 step_of t (Restart p r) = model.Restart p r
-
--- the promise that a null message makes, in the model's words, and the step that sends such a message
-abbrev pub kind_of : Promise → Promising
-kind_of made.Tight = Tight
-kind_of made.Plain = Plain
-
-abbrev pub null_step : Promise → ℕ → ℕ → ℕ → WorldStep
-null_step made.Tight p r c = Null p r c
-null_step made.Plain p r c = OldNull p r c
 
 -- no definition speaks of memory
 abbrev pub outcome_of : TopologyValue → StepAnswer → Option model.Outcome

@@ -5,8 +5,8 @@ ghost use Rattle.std.specs.Arc.{arc_value};
 ghost use Rattle.nm_book.specs.Book.{is_outgoing, null_on, only_if};
 ghost use Rattle.nm_book.specs.declared.message.ChannelMessage.{ChannelMessage as Message};
 ghost use Rattle.nm_model.specs.World.{World};
-ghost use Rattle.nm_rounds.specs.World.{IsWorld, Steps, kind_of, merge_answer_of, null_step};
-ghost use Rattle.nm_rounds.specs.World.{refusal_of};
+ghost use Rattle.nm_rounds.specs.Acting.{kind_of, null_step};
+ghost use Rattle.nm_rounds.specs.World.{IsWorld, Steps, merge_answer_of, refusal_of};
 ghost use Rattle.nm_rounds.specs.declared.step.WorldStep.TheVariants as step;
 
 use crate::messages::messages_from;

@@ -1,5 +1,6 @@
 use Rattle.std.proofs.Common.{Ok, sym, refl, subst}
-use Rattle.nm_rounds.specs.World.{Steps, null_step}
+use Rattle.nm_rounds.specs.Acting.{null_step}
+use Rattle.nm_rounds.specs.World.{Steps}
 use Rattle.nm_rounds.specs.declared.step.StepAnswer.TheVariants.{Frames}
 use Rattle.nm_rounds.proofs.Sends.{no_answer, no_null, null_sent}
 use Rattle.nm_rounds.proofs.acting.send_null.Goals as goal
