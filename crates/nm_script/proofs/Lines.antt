@@ -9,7 +9,7 @@ use Rattle.nm_rounds.specs.declared.step.WorldStep.{WorldStep}
 use Rattle.nm_script.specs.declared.line.Line.{Line}
 use Rattle.nm_base.specs.declared.limits.TheConstants.{MAX_SCRIPT_STEPS}
 use Rattle.nm_script.specs.Grammar.{Says}
-use Rattle.nm_script.specs.Script.{AreLines, BeginsBadly, IsFirstFault, IsScript, Said, steps_in}
+use Rattle.nm_script.specs.Script.{AreLines, IsScript, Said, steps_in}
 
 -- the text is read up to this rest of it: so many lines, which say these steps
 pub record IsReadTo (text rest : List ℕ) (steps : List WorldStep) (number : ℕ) : Type 0 where
@@ -31,18 +31,6 @@ begins text = record {
 pub ends : (text : List ℕ) (steps : List WorldStep) (n : ℕ) → IsReadTo text [] steps n → IsScript text steps
 ends text steps n h =
     record { lines = h.lines; are = subst (λ (t : List ℕ). AreLines h.lines t steps) (sym (append-nil h.front) ∙ sym h.parts) h.are }
-
-pub fails : (text rest : List ℕ) (steps : List WorldStep) (n : ℕ) → IsReadTo text rest steps n → BeginsBadly (length steps) rest → IsFirstFault text (n + 1)
-fails text rest steps n h bad = record {
-  front = h.front;
-  rest = rest;
-  parts = h.parts;
-  steps = steps;
-  lines = h.lines;
-  are = h.are;
-  counted = ap (λ (k : ℕ). k + 1) h.counted;
-  bad = bad;
-}
 
 -- one more line, and one more line's steps
 flat_map_more_one : (lines : List Said) (l : Said) → flat_map (λ (m : Said). m.0 ++ codes "\n") lines ++ (l.0 ++ 10 ∷ []) ≡ flat_map (λ (m : Said). m.0 ++ codes "\n") (lines ++ l ∷ [])
