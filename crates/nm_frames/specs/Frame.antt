@@ -22,10 +22,15 @@ null_frame c n t = Null (record { channel = c; count = n; clock = t })
 
 -- the kind, and then the fields; all numbers are big-endian
 abbrev pub frame_body : Frame → List ℕ
-frame_body (Hello h) = HELLO ∷ FIRST_WORD ++ to_be_bytes w16 h.version ++ to_be_bytes w32 h.partition ++ h.replica ∷ h.digest
+frame_body (Hello h) =
+    HELLO ∷ FIRST_WORD ++ to_be_bytes w16 h.version ++ to_be_bytes w32 h.partition
+    ++ h.replica ∷ h.digest
 frame_body (Have h) = HAVE ∷ to_be_bytes w32 h.channel ++ to_be_bytes w64 h.count
-frame_body (Data d) = DATA ∷ to_be_bytes w32 d.channel ++ to_be_bytes w64 d.number ++ to_be_bytes w64 d.time ++ d.packet
-frame_body (Null n) = NULL ∷ to_be_bytes w32 n.channel ++ to_be_bytes w64 n.count ++ to_be_bytes w64 n.clock
+frame_body (Data d) =
+    DATA ∷ to_be_bytes w32 d.channel ++ to_be_bytes w64 d.number ++ to_be_bytes w64 d.time
+    ++ d.packet
+frame_body (Null n) =
+    NULL ∷ to_be_bytes w32 n.channel ++ to_be_bytes w64 n.count ++ to_be_bytes w64 n.clock
 frame_body Bye = BYE ∷ []
 
 -- the length of the body before it
@@ -34,9 +39,13 @@ frame_octets f = to_be_bytes w32 (length (frame_body f)) ++ frame_body f
 
 -- each field fits its octets: any version, partition, replica and channel may stand in a frame
 abbrev pub IsFrame : Frame → Type 0
-IsFrame (Hello h) = (h.version < 2 ^ 16) × (h.partition < 2 ^ 32) × (h.replica < 256) × (length h.digest ≡ DIGEST_OCTETS)
+IsFrame (Hello h) =
+    (h.version < 2 ^ 16) × (h.partition < 2 ^ 32) × (h.replica < 256)
+    × (length h.digest ≡ DIGEST_OCTETS)
 IsFrame (Have h) = (h.channel < 2 ^ 32) × (h.count < 2 ^ 64)
-IsFrame (Data d) = (d.channel < 2 ^ 32) × (d.number < 2 ^ 64) × (d.time < 2 ^ 64) × (1 ≤ length d.packet) × (length d.packet ≤ MAX_PACKET_OCTETS)
+IsFrame (Data d) =
+    (d.channel < 2 ^ 32) × (d.number < 2 ^ 64) × (d.time < 2 ^ 64) × (1 ≤ length d.packet)
+    × (length d.packet ≤ MAX_PACKET_OCTETS)
 IsFrame (Null n) = (n.channel < 2 ^ 32) × (n.count < 2 ^ 64) × (n.clock < 2 ^ 64)
 IsFrame Bye = Unit {0}
 

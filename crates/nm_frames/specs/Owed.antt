@@ -21,7 +21,8 @@ use Rattle.nm_frames.specs.Version.{promising, version_number}
 
 -- Hello
 abbrev pub hello_of : SessionValue → Frame
-hello_of s = hello_frame (version_number (next_version s.hello_taken s.offered)) s.me s.replica s.digest
+hello_of s =
+    hello_frame (version_number (next_version s.hello_taken s.offered)) s.me s.replica s.digest
 
 -- how many messages of an incoming channel a book holds
 abbrev pub held_on : BookValue → ℕ → ℕ
@@ -42,19 +43,23 @@ is_last (Some last) null = (last.count == null.count) && (last.clock == null.clo
 abbrev pub null_owed : Option NullMessage → NullMessage → Option Frame
 null_owed last null = if is_last last null then None else Some (Null null)
 
--- of a channel the message at the cursor; once all were given, the null message, if it is not the last one; a cursor past them waits
+-- of a channel the message at the cursor; once all were given, the null message, if it is not the
+-- last one; a cursor past them waits
 abbrev pub owed_at : BookValue → Promising → ChannelOut → Option ℕ → Option Frame
 owed_at b kind o None = None
 owed_at b kind o (Some n) =
-    if nat_lt n (length (sent_over b o.channel)) then option_map Data (data_from o.channel n (nth (sent_over b o.channel) n))
-    else if n == length (sent_over b o.channel) then null_owed o.last_null (null_on kind b o.channel)
+    if nat_lt n (length (sent_over b o.channel))
+    then option_map Data (data_from o.channel n (nth (sent_over b o.channel) n))
+    else if n == length (sent_over b o.channel)
+    then null_owed o.last_null (null_on kind b o.channel)
     else None
 
 -- of the first channel that owes something
 abbrev pub message_owed : BookValue → Promising → List ChannelOut → Option Frame
 message_owed b kind [] = None
 message_owed b kind (o ∷ os) =
-    or_else (if is_outgoing b o.channel then owed_at b kind o o.cursor else None) (message_owed b kind os)
+    or_else (if is_outgoing b o.channel then owed_at b kind o o.cursor else None)
+    (message_owed b kind os)
 
 abbrev pub is_cursor : Option ℕ → ℕ → Bool
 is_cursor None n = false
@@ -63,12 +68,14 @@ is_cursor (Some k) n = k == n
 -- all messages of the channel were given, and its null message last
 abbrev pub is_told : BookValue → Promising → ChannelOut → Bool
 is_told b kind o =
-    is_outgoing b o.channel && is_cursor o.cursor (length (sent_over b o.channel)) && is_last o.last_null (null_on kind b o.channel)
+    is_outgoing b o.channel && is_cursor o.cursor (length (sent_over b o.channel))
+    && is_last o.last_null (null_on kind b o.channel)
 
 -- Bye, once the book is done and all was told
 abbrev pub bye_owed : BookValue → Promising → List ChannelOut → Option Frame
 bye_owed b kind os =
-    if is_done (net_of b.topology) b.partition (replica_of b) && list_all (λ o. is_told b kind o) os then Some Bye else None
+    if is_done (net_of b.topology) b.partition (replica_of b) && list_all (λ o. is_told b kind o) os
+    then Some Bye else None
 
 -- which promise its null messages carry
 abbrev pub promising_of : SessionValue → Promising
@@ -79,7 +86,9 @@ abbrev pub owed : SessionValue → BookValue → Option Frame
 owed s b =
     if s.bye_given then None
     else if not (is_there s.hello_given) then Some (hello_of s)
-    else or_else (have_owed b s.incoming) (or_else (message_owed b (promising_of s) s.outgoing) (bye_owed b (promising_of s) s.outgoing))
+    else or_else (have_owed b s.incoming)
+    (or_else (message_owed b (promising_of s) s.outgoing)
+    (bye_owed b (promising_of s) s.outgoing))
 
 -- ---- what counts as given
 
@@ -106,10 +115,13 @@ MayHaveNext (Some f) = HasNext f
 
 -- the session after a frame is given
 abbrev pub after_giving : SessionValue → Frame → SessionValue
-after_giving s (Hello h) = record s { hello_given = Some (next_version s.hello_taken s.offered); offered = Two }
+after_giving s (Hello h) =
+    record s { hello_given = Some (next_version s.hello_taken s.offered); offered = Two }
 after_giving s (Have h) = record s { incoming = map (marked h.channel) s.incoming }
-after_giving s (Data d) = record s { outgoing = map (with_channel d.channel (moved_to (d.number + 1))) s.outgoing }
-after_giving s (Null n) = record s { outgoing = map (with_channel n.channel (with_null n)) s.outgoing }
+after_giving s (Data d) =
+    record s { outgoing = map (with_channel d.channel (moved_to (d.number + 1))) s.outgoing }
+after_giving s (Null n) =
+    record s { outgoing = map (with_channel n.channel (with_null n)) s.outgoing }
 after_giving s Bye = record s { bye_given = true }
 
 abbrev pub given_maybe : SessionValue → Option Frame → SessionValue

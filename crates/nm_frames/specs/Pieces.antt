@@ -25,14 +25,19 @@ stream_of [] = []
 stream_of (p ∷ ps) = if has_come p.1 then p.0 ++ stream_of ps else stream_of ps
 
 -- the pieces were fed one after another, each with its answer
-abbrev pub FeedsAll : ReaderValue → List Frame → List (List ℕ × Result Unit FrameFault) → ReaderValue → List Frame → Type 0
+abbrev pub FeedsAll : ReaderValue → List Frame → List (List ℕ × Result Unit FrameFault)
+    → ReaderValue → List Frame → Type 0
 FeedsAll old before [] new after = (new ≡ old) × (after ≡ before)
 FeedsAll old before (p ∷ ps) new after =
-    (mid : ReaderValue) × (frames : List Frame) × Feeds old mid p.0 before frames p.1 × FeedsAll mid frames ps new after
+    (mid : ReaderValue) × (frames : List Frame) × Feeds old mid p.0 before frames p.1
+    × FeedsAll mid frames ps new after
 
--- The stream is these frames and a rest. Either the rest shows no fault, and the reader holds it, or it shows one, and the reader has failed.
+-- The stream is these frames and a rest. Either the rest shows no fault, and the reader holds it,
+-- or it shows one, and the reader has failed.
 pub record HasRead (stream : List ℕ) (reader : ReaderValue) (frames : List Frame) : Type 0 where
   pub rest : List ℕ
   pub splits : Splits stream frames rest
-  pub sound : reader.failed ≡ false → (reader.rest ≡ rest) × (fault_shown rest ≡ None) × IsShort rest
-  pub over : reader.failed ≡ true → (reader.rest ≡ []) × (e : FrameFault) × (fault_shown rest ≡ Some e)
+  pub sound : reader.failed ≡ false
+      → (reader.rest ≡ rest) × (fault_shown rest ≡ None) × IsShort rest
+  pub over : reader.failed ≡ true
+      → (reader.rest ≡ []) × (e : FrameFault) × (fault_shown rest ≡ Some e)

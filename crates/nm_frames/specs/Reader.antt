@@ -7,7 +7,8 @@ use Rattle.nm_frames.specs.declared.fault.FrameFault.TheVariants.{BadLength, Bad
 use Rattle.nm_frames.specs.Frame.{IsFrame, frame_octets, stream_octets}
 use Rattle.nm_frames.specs.Stream.{fault_shown, IsShort}
 
--- the octets of a frame that has not come whole, none once the stream has shown a fault, and whether it has
+-- the octets of a frame that has not come whole, none once the stream has shown a fault, and
+-- whether it has
 pub record ReaderValue : Type 0 where
   pub rest : List ℕ
   pub failed : Bool
@@ -23,7 +24,8 @@ FindsFrame octets (Err Failed) = ⊥
 FindsFrame octets (Err Memory) = Unit {0}
 
 -- The same of a call's answer, whose rest is lent.
-abbrev pub Found : {B : Type 0} → (B → List ℕ) → List ℕ → Result (Option (Frame × B)) FrameFault → Type 0
+abbrev pub Found : {B : Type 0} → (B → List ℕ) → List ℕ → Result (Option (Frame × B)) FrameFault
+    → Type 0
 Found now octets (Ok None) = FindsFrame octets (Ok None)
 Found now octets (Ok (Some found)) = FindsFrame octets (Ok (Some (found.0, now found.1)))
 Found now octets (Err e) = FindsFrame octets (Err e)
@@ -37,16 +39,22 @@ pub record Cuts (octets rest : List ℕ) (before after : List Frame) : Type 0 wh
 
 -- up to the octets that show the fault
 abbrev pub CutsTo : FrameFault → List ℕ → List Frame → List Frame → Type 0
-CutsTo BadLength octets before after = (rest : List ℕ) × Cuts octets rest before after × (fault_shown rest ≡ Some BadLength)
-CutsTo BadKind octets before after = (rest : List ℕ) × Cuts octets rest before after × (fault_shown rest ≡ Some BadKind)
-CutsTo BadBody octets before after = (rest : List ℕ) × Cuts octets rest before after × (fault_shown rest ≡ Some BadBody)
+CutsTo BadLength octets before after =
+    (rest : List ℕ) × Cuts octets rest before after × (fault_shown rest ≡ Some BadLength)
+CutsTo BadKind octets before after =
+    (rest : List ℕ) × Cuts octets rest before after × (fault_shown rest ≡ Some BadKind)
+CutsTo BadBody octets before after =
+    (rest : List ℕ) × Cuts octets rest before after × (fault_shown rest ≡ Some BadBody)
 CutsTo Failed octets before after = ⊥
 CutsTo Memory octets before after = (frames : List Frame) × (after ≡ before ++ frames)
 
 -- one frame was cut off the front, or the octets are short, or show a fault
-abbrev pub CutsOne : {B : Type 0} → (B → List ℕ) → List ℕ → List Frame → List Frame → Result (Option B) FrameFault → Type 0
-CutsOne now octets before after (Ok None) = (after ≡ before) × (fault_shown octets ≡ None) × IsShort octets
-CutsOne now octets before after (Ok (Some rest)) = Cuts octets (now rest) before after × (length (now rest) < length octets)
+abbrev pub CutsOne : {B : Type 0} → (B → List ℕ) → List ℕ → List Frame → List Frame
+    → Result (Option B) FrameFault → Type 0
+CutsOne now octets before after (Ok None) =
+    (after ≡ before) × (fault_shown octets ≡ None) × IsShort octets
+CutsOne now octets before after (Ok (Some rest)) =
+    Cuts octets (now rest) before after × (length (now rest) < length octets)
 CutsOne now octets before after (Err e) = CutsTo e octets before after
 
 module _ (old new : ReaderValue) (piece : List ℕ) (before after : List Frame) where

@@ -18,9 +18,10 @@ use Rattle.nm_frames.specs.declared.version.Version.TheVariants.{Two}
 use Rattle.nm_frames.specs.Channels.{channels_between}
 use Rattle.nm_frames.specs.Version.{lesser_version, other_version, version_of}
 
--- Who speaks to whom of which topology; the channels that come from the peer, and those that go to it, by number; the versions of
--- the Hellos given and taken since the last break, the replica of the one that was taken, and the version of the next Hello, if the peer's does not
--- lower it; whether Bye was given and taken.
+-- Who speaks to whom of which topology; the channels that come from the peer, and those that go to
+-- it, by number; the versions of the Hellos given and taken since the last break, the replica of
+-- the one that was taken, and the version of the next Hello, if the peer's does not lower it;
+-- whether Bye was given and taken.
 pub record SessionValue : Type 0 where
   pub me : ℕ
   pub replica : ℕ
@@ -97,7 +98,8 @@ abbrev pub goes_to_peer : SessionValue → ℕ → Bool
 goes_to_peer s c = list_any (λ o. o.channel == c) s.outgoing
 
 -- a Hello of this version, partition, replica and digest
-abbrev pub greeted : SessionValue → Option Version → ℕ → ℕ → List ℕ → Result SessionValue SessionFault
+abbrev pub greeted : SessionValue → Option Version → ℕ → ℕ → List ℕ
+    → Result SessionValue SessionFault
 greeted s None partition replica digest = Err BadVersion
 greeted s (Some v) partition replica digest =
     if not (pointwise nat_eq digest s.digest) then Err Topology
@@ -116,7 +118,9 @@ taken_first s Bye = Err Order
 abbrev pub taken_later : SessionValue → Frame → Result SessionValue SessionFault
 taken_later s (Hello h) = Err Order
 taken_later s (Have h) =
-    if goes_to_peer s h.channel then Ok (record s { outgoing = map (with_channel h.channel (restarted h.count)) s.outgoing })
+    if goes_to_peer s h.channel
+    then Ok (record s
+    { outgoing = map (with_channel h.channel (restarted h.count)) s.outgoing })
     else Err Channel
 taken_later s (Data d) = if comes_from_peer s d.channel then Ok s else Err Channel
 taken_later s (Null n) = if comes_from_peer s n.channel then Ok s else Err Channel

@@ -24,8 +24,10 @@ is_bad_kind kind = (kind == 0) || nat_lt BYE kind
 -- the fields begin with the first word of a Hello
 abbrev pub has_first_word : List ℕ → Bool
 has_first_word fields =
-    (slice_index fields 0 == slice_index FIRST_WORD 0) && (slice_index fields 1 == slice_index FIRST_WORD 1)
-    && (slice_index fields 2 == slice_index FIRST_WORD 2) && (slice_index fields 3 == slice_index FIRST_WORD 3)
+    (slice_index fields 0 == slice_index FIRST_WORD 0)
+    && (slice_index fields 1 == slice_index FIRST_WORD 1)
+    && (slice_index fields 2 == slice_index FIRST_WORD 2)
+    && (slice_index fields 3 == slice_index FIRST_WORD 3)
 
 -- whether a body of so many octets fits its kind, where these are the fields
 abbrev pub fits_kind : ℕ → ℕ → List ℕ → Bool
@@ -44,7 +46,8 @@ fault_shown octets =
     else if length octets == LENGTH_OCTETS then None
     else if is_bad_kind (slice_index octets LENGTH_OCTETS) then Some BadKind
     else if nat_lt (length octets) (LENGTH_OCTETS + stated_length octets) then None
-    else if fits_kind (slice_index octets LENGTH_OCTETS) (stated_length octets) (drop HEAD_OCTETS octets) then None
+    else if fits_kind (slice_index octets LENGTH_OCTETS) (stated_length octets)
+    (drop HEAD_OCTETS octets) then None
     else Some BadBody
 
 -- how many octets decide a fault; a stream shows no other
@@ -57,11 +60,14 @@ deciding_octets Memory octets = 0
 
 -- shorter than a length, or than its length says
 abbrev pub IsShort : List ℕ → Type 0
-IsShort octets = (length octets < LENGTH_OCTETS) ⊎ (length octets < LENGTH_OCTETS + stated_length octets)
+IsShort octets =
+    (length octets < LENGTH_OCTETS) ⊎ (length octets < LENGTH_OCTETS + stated_length octets)
 
 -- what follows the last whole frame of a stream: it shows a fault, or is short
 abbrev pub IsRest : List ℕ → Type 0
-IsRest octets = ((e : FrameFault) × (fault_shown octets ≡ Some e)) ⊎ ((fault_shown octets ≡ None) × IsShort octets)
+IsRest octets =
+    ((e : FrameFault) × (fault_shown octets ≡ Some e))
+    ⊎ ((fault_shown octets ≡ None) × IsShort octets)
 
 -- the stream is these frames, and then that rest
 pub record Splits (stream : List ℕ) (frames : List Frame) (rest : List ℕ) : Type 0 where

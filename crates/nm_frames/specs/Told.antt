@@ -17,16 +17,21 @@ HasAsked b i = is_incoming b i.channel ≡ true → i.have_given ≡ true
 
 -- the last null message said the same
 abbrev pub HasSaid : Option NullMessage → NullMessage → Type 0
-HasSaid last null = (said : NullMessage) × (last ≡ Some said) × (said.count ≡ null.count) × (said.clock ≡ null.clock)
+HasSaid last null =
+    (said : NullMessage) × (last ≡ Some said) × (said.count ≡ null.count)
+    × (said.clock ≡ null.clock)
 
--- All messages of this channel were given, and the promise of the moment, to a peer that held n of them; one that says that it holds more waits.
+-- All messages of this channel were given, and the promise of the moment, to a peer that held n of
+-- them; one that says that it holds more waits.
 abbrev pub HasToldFrom : BookValue → Promising → ChannelOut → ℕ → Type 0
 HasToldFrom b kind o n =
-    (length (sent_over b o.channel) < n) ⊎ ((n ≡ length (sent_over b o.channel)) × HasSaid o.last_null (null_on kind b o.channel))
+    (length (sent_over b o.channel) < n)
+    ⊎ ((n ≡ length (sent_over b o.channel)) × HasSaid o.last_null (null_on kind b o.channel))
 
 -- the same once the peer has said what it holds
 abbrev pub HasTold : BookValue → Promising → ChannelOut → Type 0
-HasTold b kind o = is_outgoing b o.channel ≡ true → (n : ℕ) → o.cursor ≡ Some n → HasToldFrom b kind o n
+HasTold b kind o =
+    is_outgoing b o.channel ≡ true → (n : ℕ) → o.cursor ≡ Some n → HasToldFrom b kind o n
 
 -- the peer has said what it holds, and all was told
 pub record IsAllTold (b : BookValue) (kind : Promising) (o : ChannelOut) : Type 0 where
@@ -45,7 +50,8 @@ module _ (s : SessionValue) (b : BookValue) where
     -- and has told all of each channel for which the peer has asked, its last promise too
     pub told : AllByRecursion (HasTold b (promising_of s)) s.outgoing
     -- the book has something left to do, or the peer has not asked for some channel
-    pub goes_on : is_done (net_of b.topology) b.partition (replica_of b) ≡ true → AllByRecursion (IsAllTold b (promising_of s)) s.outgoing → ⊥
+    pub goes_on : is_done (net_of b.topology) b.partition (replica_of b) ≡ true
+        → AllByRecursion (IsAllTold b (promising_of s)) s.outgoing → ⊥
 
   -- nothing is left, and it may leave
   pub record MayLeave : Type 0 where

@@ -28,8 +28,8 @@ is_sure Open = false
 is_sure Once = false
 is_sure Sure = true
 
--- For how many periods a peer is not called again: at once where it greeted last time, and seldom once the link has ended for sure, for one that was
--- lost and begun anew.
+-- For how many periods a peer is not called again: at once where it greeted last time, and seldom
+-- once the link has ended for sure, for one that was lost and begun anew.
 abbrev pub rest_of : Ends → (has_greeted : Bool) → ℕ
 rest_of Open has_greeted = if has_greeted then 0 else REST_PERIODS
 rest_of Once has_greeted = if has_greeted then 0 else REST_PERIODS
@@ -39,10 +39,12 @@ rest_of Sure has_greeted = RECALL_PERIODS
 abbrev pub rest_after : (before : ℕ) → (ran_out : Bool) → ℕ
 rest_after before ran_out = if ran_out then before - 1 else before
 
--- How often a link has ended after a connection of it broke. Nobody was there where no Hello came and no octet could be written: a connection that
--- took octets may have been cut before the peer's Hello came.
+-- How often a link has ended after a connection of it broke. Nobody was there where no Hello came
+-- and no octet could be written: a connection that took octets may have been cut before the peer's
+-- Hello came.
 abbrev pub after_break : Ends → (has_greeted has_written : Bool) → Ends
-after_break ends has_greeted has_written = if has_greeted || has_written then ends else after_nobody ends
+after_break ends has_greeted has_written =
+    if has_greeted || has_written then ends else after_nobody ends
 
 -- a caller whose link has not ended
 abbrev pub new_caller : ReplicaName → Caller

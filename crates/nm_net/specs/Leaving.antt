@@ -15,10 +15,12 @@ abbrev pub IsServing : {W : Type 0} → Slab (Connection W) → Bool → Type 0
 IsServing all true = (key : ℕ) × IsSomeAnd (get all key) (λ c. has_greeted c.link.session ≡ true)
 IsServing all false = (key : ℕ) → IfSome (get all key) (λ c. has_greeted c.link.session ≡ false)
 
--- After a poll that ran out or not: not before its links have ended, nor while a peer that said Hello is connected, nor before it has stayed as
--- long as it has to.
-abbrev pub LeavesAfter : {W : Type 0} → (ran_out : Bool) → List Caller → List Dialing → Slab (Connection W) → Stay → Bool → Type 0
+-- After a poll that ran out or not: not before its links have ended, nor while a peer that said
+-- Hello is connected, nor before it has stayed as long as it has to.
+abbrev pub LeavesAfter : {W : Type 0} → (ran_out : Bool) → List Caller → List Dialing
+    → Slab (Connection W) → Stay → Bool → Type 0
 LeavesAfter ran_out callers peers all stay result = result ≡ true
     → (have_ended callers peers ≡ true)
     × IsServing all false
-    × (may_leave (are_sure callers peers) (have_broken callers) (lasted_after stay.all.periods ran_out) (quiet_after stay.quiet ran_out) ≡ true)
+    × (may_leave (are_sure callers peers) (have_broken callers)
+    (lasted_after stay.all.periods ran_out) (quiet_after stay.quiet ran_out) ≡ true)

@@ -7,11 +7,13 @@ use Rattle.nm_net.specs.declared.dialing.Dialing.{Dialing}
 
 -- all of them have ended
 abbrev pub have_ended : List Caller → List Dialing → Bool
-have_ended callers peers = list_all (λ c. has_ended c.ends) callers && list_all (λ p. has_ended p.ends) peers
+have_ended callers peers =
+    list_all (λ c. has_ended c.ends) callers && list_all (λ p. has_ended p.ends) peers
 
 -- and nobody is to call again
 abbrev pub are_sure : List Caller → List Dialing → Bool
-are_sure callers peers = list_all (λ c. is_sure c.ends) callers && list_all (λ p. is_sure p.ends) peers
+are_sure callers peers =
+    list_all (λ c. is_sure c.ends) callers && list_all (λ p. is_sure p.ends) peers
 
 -- a connection broke of those that call
 abbrev pub have_broken : List Caller → Bool

@@ -8,12 +8,15 @@ use Rattle.nm_book.specs.Book.{BookValue, state_of}
 use Rattle.nm_shared.specs.Known.{Home, home_of}
 
 -- book b hands out the first n of the records that it keeps, behind those of a list, and is c then
-abbrev pub TakesOut : BookValue → List (Record (List ℕ)) → BookValue → List (Record (List ℕ)) → Type 0
+abbrev pub TakesOut : BookValue → List (Record (List ℕ)) → BookValue → List (Record (List ℕ))
+    → Type 0
 TakesOut b before c after =
-    (n : ℕ) × (c ≡ record b { handed = b.handed + n }) × (after ≡ before ++ take n (drop b.handed (state_of b).records))
+    (n : ℕ) × (c ≡ record b { handed = b.handed + n })
+    × (after ≡ before ++ take n (drop b.handed (state_of b).records))
 
 -- and a trace file can say the times of its records
-pub record HandsOut (b : BookValue) (before : List (Record (List ℕ))) (c : BookValue) (after : List (Record (List ℕ))) : Type 0 where
+pub record HandsOut (b : BookValue) (before : List (Record (List ℕ))) (c : BookValue)
+    (after : List (Record (List ℕ))) : Type 0 where
   pub takes : TakesOut b before c after
   pub times : All (λ r. r.time ≤ MAX_TIME) (state_of b).records
 
@@ -21,13 +24,17 @@ pub record HandsOut (b : BookValue) (before : List (Record (List ℕ))) (c : Boo
 abbrev pub out_of : BookValue × ℕ → List (Record (List ℕ))
 out_of out = take out.1 (drop out.0.handed (state_of out.0).records)
 
--- what was handed out of books, one hand-out behind another: of those of this replica, if the counts are exact
+-- what was handed out of books, one hand-out behind another: of those of this replica, if the
+-- counts are exact
 abbrev pub AreHandedOut : (exact : Bool) → Home → List (Record (List ℕ)) → Type 0
 AreHandedOut exact own records =
-    (outs : List (BookValue × ℕ)) × All (λ out. exact ≡ true → home_of out.0 ≡ own) outs × (records ≡ flat_map out_of outs)
+    (outs : List (BookValue × ℕ)) × All (λ out. exact ≡ true → home_of out.0 ≡ own) outs
+    × (records ≡ flat_map out_of outs)
 
--- the files took the parts of so many records that were handed out, each those at its own interface, and may be written on
-pub record Wrote {S : Type 0} (taken : S → Option (List ℕ)) (failures : S → ℕ) (exact : Bool) (own : Home) (written : ℕ)
+-- the files took the parts of so many records that were handed out, each those at its own
+-- interface, and may be written on
+pub record Wrote {S : Type 0} (taken : S → Option (List ℕ)) (failures : S → ℕ) (exact : Bool)
+    (own : Home) (written : ℕ)
     (old new : List (Option (Writer S))) : Type 0 where
   pub records : List (Record (List ℕ))
   pub count : length records ≡ written
@@ -36,5 +43,6 @@ pub record Wrote {S : Type 0} (taken : S → Option (List ℕ)) (failures : S �
   pub sound : All IsSound new
 
 -- however many
-abbrev pub Streams : {S : Type 0} → (S → Option (List ℕ)) → (S → ℕ) → Bool → Home → List (Option (Writer S)) → List (Option (Writer S)) → Type 0
+abbrev pub Streams : {S : Type 0} → (S → Option (List ℕ)) → (S → ℕ) → Bool → Home
+    → List (Option (Writer S)) → List (Option (Writer S)) → Type 0
 Streams taken failures exact own old new = (n : ℕ) × Wrote taken failures exact own n old new

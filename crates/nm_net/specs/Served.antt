@@ -13,7 +13,8 @@ use Rattle.nm_net.specs.declared.served.Served.{Served}
 use Rattle.nm_net.specs.declared.served.Served.TheVariants.{Ended, Net, Memory, File, Stalled}
 use Rattle.nm_net.specs.declared.limits.TheConstants.{MAX_POLLS}
 
--- how serving ends because a link broke: not, where its wire did, or where who said no Hello spoke nonsense
+-- how serving ends because a link broke: not, where its wire did, or where who said no Hello spoke
+-- nonsense
 abbrev pub break_served : Cause → Bool → Option Served
 break_served cause.End is_peer = None
 break_served cause.Fault is_peer = None
@@ -33,37 +34,49 @@ IsFinished b = is_done (net_of b.topology) b.partition (replica_of b) ≡ true
 
 -- and no record to hand out
 abbrev pub is_handed_out : BookValue → Bool
-is_handed_out b = is_done (net_of b.topology) b.partition (replica_of b) && (b.handed == length (state_of b).records)
+is_handed_out b =
+    is_done (net_of b.topology) b.partition (replica_of b)
+    && (b.handed == length (state_of b).records)
 
 -- so far it was when a book of this replica, if the counts are exact, was looked at
 abbrev pub WasSeen : (exact : Bool) → Home → Standing → Type 0
 WasSeen exact own s =
-    (b : BookValue) × (exact ≡ true → home_of b ≡ own) × (s.is_done ≡ is_done (net_of b.topology) b.partition (replica_of b))
+    (b : BookValue) × (exact ≡ true → home_of b ≡ own)
+    × (s.is_done ≡ is_done (net_of b.topology) b.partition (replica_of b))
     × (s.handed ≡ b.handed) × (s.records ≡ length (state_of b).records)
 
--- a book of this replica, if the counts are exact, was seen to be done, and to have no record left to hand out unless it keeps them
+-- a book of this replica, if the counts are exact, was seen to be done, and to have no record left
+-- to hand out unless it keeps them
 abbrev pub WasFinished : (exact : Bool) → Home → (keeps_records : Bool) → Type 0
 WasFinished exact own keeps =
-    (b : BookValue) × (exact ≡ true → home_of b ≡ own) × IsFinished b × (keeps ≡ false → b.handed ≡ length (state_of b).records)
+    (b : BookValue) × (exact ≡ true → home_of b ≡ own) × IsFinished b
+    × (keeps ≡ false → b.handed ≡ length (state_of b).records)
 
--- Of each of so many replicas a book was seen to be done. It had done no fewer events than the replica's pass has counted, if the counts are exact.
+-- Of each of so many replicas a book was seen to be done. It had done no fewer events than the
+-- replica's pass has counted, if the counts are exact.
 abbrev pub WereFinished : (exact : Bool) → (replicas : ℕ) → (counted : List ℕ) → Type 0
 WereFinished exact replicas counted =
-    (n : ℕ) → n < replicas → (b : BookValue) × (exact ≡ true → slice_index_or counted n 0 ≤ b.events) × IsFinished b
+    (n : ℕ) → n < replicas
+    → (b : BookValue) × (exact ≡ true → slice_index_or counted n 0 ≤ b.events) × IsFinished b
 
--- A replica's book was seen to have something left to do; or there is no other replica, or not a pass for each.
+-- A replica's book was seen to have something left to do; or there is no other replica, or not a
+-- pass for each.
 abbrev pub IsSomeLeft : (replicas passes : ℕ) → Type 0
 IsSomeLeft replicas passes =
-    ((b : BookValue) × (is_done (net_of b.topology) b.partition (replica_of b) ≡ false)) ⊎ (replicas ≡ 0) ⊎ (passes < replicas)
+    ((b : BookValue) × (is_done (net_of b.topology) b.partition (replica_of b) ≡ false))
+    ⊎ (replicas ≡ 0) ⊎ (passes < replicas)
 
--- Why serving ends: the replica was done, and its records were handed out; or no fewer waits ran out than the limit since the transport had had
--- `before`, and it has had `after`, or no more polls may be made.
-abbrev pub EndsWith : (exact : Bool) → Home → (keeps_records : Bool) → (limit before after : ℕ) → Served → Type 0
+-- Why serving ends: the replica was done, and its records were handed out; or no fewer waits ran
+-- out than the limit since the transport had had `before`, and it has had `after`, or no more polls
+-- may be made.
+abbrev pub EndsWith : (exact : Bool) → Home → (keeps_records : Bool) → (limit before after : ℕ)
+    → Served → Type 0
 EndsWith exact own keeps limit before after Ended = WasFinished exact own keeps
 EndsWith exact own keeps limit before after Net = Unit {0}
 EndsWith exact own keeps limit before after Memory = Unit {0}
 EndsWith exact own keeps limit before after (File iface written) = Unit {0}
-EndsWith exact own keeps limit before after (Stalled polls) = (before + limit ≤ after) ⊎ (MAX_POLLS ≤ polls)
+EndsWith exact own keeps limit before after (Stalled polls) =
+    (before + limit ≤ after) ⊎ (MAX_POLLS ≤ polls)
 
 -- how serving ends where the replica was not seen to be done, and is not stalled
 abbrev pub EndsEarly : Served → Type 0

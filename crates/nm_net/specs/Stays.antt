@@ -9,8 +9,9 @@ abbrev pub quiet_after : (before : ℕ) → (ran_out : Bool) → ℕ
 quiet_after before true = saturated (before + 1)
 quiet_after before false = 0
 
--- Whether a replica may leave that has stayed for so long since its links ended, with so many polls in a row that ran out last: the ends of its
--- links are sure, and where connections broke of those that call it these have been quiet; or it has stayed long enough.
+-- Whether a replica may leave that has stayed for so long since its links ended, with so many polls
+-- in a row that ran out last: the ends of its links are sure, and where connections broke of those
+-- that call it these have been quiet; or it has stayed long enough.
 abbrev pub may_leave : (are_sure have_broken : Bool) → (stayed quiet : ℕ) → Bool
 may_leave are_sure have_broken stayed quiet =
     (are_sure && (not have_broken || nat_le QUIET_POLLS quiet)) || has_lasted LINGER_PERIODS stayed

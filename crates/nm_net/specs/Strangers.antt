@@ -14,4 +14,5 @@ is_stranger (Some peer) session = false
 abbrev pub IsFirstStranger : {W : Type 0} → Slab (Connection W) → ℕ → Type 0
 IsFirstStranger {W = W} all key =
     (c : Connection W) × (get all key ≡ Some c) × (is_stranger c.peer c.link.session ≡ true)
-    × ((other : ℕ) (d : Connection W) → get all other ≡ Some d → is_stranger d.peer d.link.session ≡ true → c.came ≤ d.came)
+    × ((other : ℕ) (d : Connection W) → get all other ≡ Some d
+    → is_stranger d.peer d.link.session ≡ true → c.came ≤ d.came)

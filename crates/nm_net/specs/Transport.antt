@@ -3,7 +3,8 @@ use Rattle.std.specs.Prelude.{◌≡◌, ℕ, ◌+◌, Bool, true, false, List, 
 use Rattle.nm_net.specs.declared.transport.Waited.{Waited}
 use Rattle.nm_net.specs.declared.transport.Waited.TheVariants.{Ready, RanOut, Fault}
 
--- the octets that a connection gave and took, as the system answered, how often a read found the end, and how often it failed
+-- the octets that a connection gave and took, as the system answered, how often a read found the
+-- end, and how often it failed
 pub record WireValue : Type 0 where
   pub given : List ℕ
   pub taken : List ℕ
@@ -12,7 +13,8 @@ pub record WireValue : Type 0 where
 
 -- nothing has moved on the wire
 abbrev pub IsFresh : {W : Type 0} → (W → List ℕ) → (W → List ℕ) → (W → ℕ) → (W → ℕ) → W → Type 0
-IsFresh given taken ends failures w = (given w ≡ []) × (taken w ≡ []) × (ends w ≡ 0) × (failures w ≡ 0)
+IsFresh given taken ends failures w =
+    (given w ≡ []) × (taken w ≡ []) × (ends w ≡ 0) × (failures w ≡ 0)
 
 -- a period was over when a wait ended, or it could not wait
 abbrev pub has_run_out : Waited → Bool

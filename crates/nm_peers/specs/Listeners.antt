@@ -11,13 +11,15 @@ use Rattle.nm_peers.specs.declared.fault.ListenersFault.TheVariants.{Refused, Me
 
 -- `P R A.B.C.D:PORT`
 abbrev pub listener_words : Listener → List ℕ
-listener_words a = decimal a.partition ++ codes " " ++ decimal a.replica ++ codes " " ++ socket_v4_text a.address
+listener_words a =
+    decimal a.partition ++ codes " " ++ decimal a.replica ++ codes " " ++ socket_v4_text a.address
 
 -- the same with its line feed
 abbrev pub listener_line : Listener → List ℕ
 listener_line a = listener_words a ++ codes "\n"
 
--- The numbers of a listener are such as there may be. Four octets are below 256, and a port is below 2 ^ 16.
+-- The numbers of a listener are such as there may be. Four octets are below 256, and a port is
+-- below 2 ^ 16.
 pub record Fits (partitions : ℕ) (a : Listener) : Type 0 where
   pub partition : a.partition < partitions
   pub replica : a.replica ≤ 1
@@ -31,15 +33,20 @@ is_of partition replica a = (a.partition == partition) && (a.replica == replica)
 abbrev pub is_same : Listener → Listener → Bool
 is_same a b = is_of b.partition b.replica a
 
--- The text is the lines of these listeners, no two are of one replica, and this replica of this partition has one.
-pub record AreListeners (text : List ℕ) (partitions partition replica : ℕ) (listeners : List Listener) : Type 0 where
+-- The text is the lines of these listeners, no two are of one replica, and this replica of this
+-- partition has one.
+pub record AreListeners (text : List ℕ) (partitions partition replica : ℕ)
+    (listeners : List Listener) : Type 0 where
   pub whole : text ≡ flat_map listener_line listeners
   pub fit : All (Fits partitions) listeners
   pub apart : IsDistinct is_same listeners
   pub own : list_any (is_of partition replica) listeners ≡ true
 
 -- the listeners that the text says; or it says none; or memory was refused
-abbrev pub ReadsListeners : List ℕ → ℕ → ℕ → ℕ → Result (Vec Listener Global) ListenersFault → Type 0
-ReadsListeners text partitions partition replica (Ok listeners) = AreListeners text partitions partition replica listeners.items
-ReadsListeners text partitions partition replica (Err Refused) = (listeners : List Listener) → AreListeners text partitions partition replica listeners → ⊥
+abbrev pub ReadsListeners : List ℕ → ℕ → ℕ → ℕ → Result (Vec Listener Global) ListenersFault
+    → Type 0
+ReadsListeners text partitions partition replica (Ok listeners) =
+    AreListeners text partitions partition replica listeners.items
+ReadsListeners text partitions partition replica (Err Refused) =
+    (listeners : List Listener) → AreListeners text partitions partition replica listeners → ⊥
 ReadsListeners text partitions partition replica (Err Memory) = Unit {0}

@@ -29,8 +29,8 @@ books_of books = map book_of books
 abbrev pub AreOf : TopologyValue → List BookValue → Type 0
 AreOf t books = All (λ b. SaysSame b.topology t) books
 
--- All are books of this topology, each partition has one, each is done, and on each channel what the receiver knows is what the sender says. Then each
--- one's trace is the network's, whole.
+-- All are books of this topology, each partition has one, each is done, and on each channel what
+-- the receiver knows is what the sender says. Then each one's trace is the network's, whole.
 pub record AreCertified (t : TopologyValue) (books : List BookValue) : Type 0 where
   pub ours : AreOf t books
   pub certified : IsCertified (net_of t) Tight (books_of books)
@@ -85,12 +85,15 @@ list_fault c a sent promised =
     (or_else (clock_fault c a.clock (nth sent (length a.list)))
     (cond (ltb promised a.clock && not (last_from a.clock a.list)) (Some (PromiseFault c)) None))
 
--- the fault of channel c between the receiving book r and book s, if that sends on it; and beside each of the books, if it comes into r
+-- the fault of channel c between the receiving book r and book s, if that sends on it; and beside
+-- each of the books, if it comes into r
 abbrev pub sender_fault : TopologyValue → ℕ → Book (List ℕ) → Book (List ℕ) → Option Fault
-sender_fault t c r s = cond (s.part == sender_of (net_of t) c) (channel_fault (net_of t) same_octets Tight c r s) None
+sender_fault t c r s =
+    cond (s.part == sender_of (net_of t) c) (channel_fault (net_of t) same_octets Tight c r s) None
 
 abbrev pub incoming_fault : TopologyValue → List BookValue → Book (List ℕ) → ℕ → Option Fault
-incoming_fault t books r c = cond (comes_in (net_of t) r.part c) (first_of (sender_fault t c r) (books_of books)) None
+incoming_fault t books r c =
+    cond (comes_in (net_of t) r.part c) (first_of (sender_fault t c r) (books_of books)) None
 
 -- the number by which reports name the fault
 abbrev pub cert_fault_number : CertFault → ℕ

@@ -33,10 +33,12 @@ world_after t did = model.world (net_of t) same_octets did model.opening
 abbrev pub answers_of : TopologyValue → List model.Step → List model.Outcome
 answers_of t did = model.answers (net_of t) same_octets did model.opening
 
--- Memory was refused at a step, before which these were done: nothing more was, but of a run so many whole events.
+-- Memory was refused at a step, before which these were done: nothing more was, but of a run so
+-- many whole events.
 abbrev pub IsInterrupted : Option WorldStep → List model.Step → List model.Step → Type 0
 IsInterrupted None before did = ⊥
-IsInterrupted (Some (step.Run p r limit)) before did = (n : ℕ) × (n < limit) × (did ≡ before ++ model.Run p r n ∷ [])
+IsInterrupted (Some (step.Run p r limit)) before did =
+    (n : ℕ) × (n < limit) × (did ≡ before ++ model.Run p r n ∷ [])
 IsInterrupted (Some (step.Data p r c n)) before did = did ≡ before
 IsInterrupted (Some (step.Resend p r c n)) before did = did ≡ before
 IsInterrupted (Some (step.Null p r c)) before did = did ≡ before
@@ -53,14 +55,19 @@ NamesNothing t w (Some s) = (happens t w s).1 ≡ model.NoSuch
 -- which steps were done by the ending, of which so many were answered
 abbrev pub Ends : TopologyValue → List WorldStep → ℕ → ReplayEnd → List model.Step → Type 0
 Ends t steps answered Ended did = (answered ≡ length steps) × (did ≡ first_steps t steps answered)
-Ends t steps answered (NoSuch k) did = (answered ≡ k) × (did ≡ first_steps t steps k) × NamesNothing t (world_after t did) (slice_get steps k)
-Ends t steps answered (Memory k) did = (answered ≡ k) × IsInterrupted (slice_get steps k) (first_steps t steps k) did
+Ends t steps answered (NoSuch k) did =
+    (answered ≡ k) × (did ≡ first_steps t steps k)
+    × NamesNothing t (world_after t did) (slice_get steps k)
+Ends t steps answered (Memory k) did =
+    (answered ≡ k) × IsInterrupted (slice_get steps k) (first_steps t steps k) did
 
 -- The steps that were done are answered, and the books left, as the model says of these steps.
-pub record IsReplay (t : TopologyValue) (steps : List WorldStep) (answers : List StepAnswer) (books : List BookValue) (ending : ReplayEnd) : Type 0 where
+pub record IsReplay (t : TopologyValue) (steps : List WorldStep) (answers : List StepAnswer)
+    (books : List BookValue) (ending : ReplayEnd) : Type 0 where
   pub did : List model.Step
   pub ends : Ends t steps (length answers) ending did
-  pub answered : map (outcome_of t) answers ≡ map Some (answers_of t (first_steps t steps (length answers)))
+  pub answered : map (outcome_of t) answers
+      ≡ map Some (answers_of t (first_steps t steps (length answers)))
   pub replicas : AreReplicas t books (world_after t did)
 
 -- why a text is read to no topology
@@ -74,10 +81,12 @@ Reads text (Ok shared) = topology_of text ≡ Ok (arc_value shared)
 Reads text (Err (Topo f)) = Refuses (topology_of text) f
 Reads text (Err OutOfMemory) = Unit {0}
 
--- A text is read to the report's topology, of which it is a replay; or the text is refused; or memory was refused before the first step.
+-- A text is read to the report's topology, of which it is a replay; or the text is refused; or
+-- memory was refused before the first step.
 abbrev pub Reports : List ℕ → List WorldStep → Result WorldReport ReplayFault → Type 0
 Reports text steps (Ok report) =
     (topology_of text ≡ Ok (arc_value report.topology))
-    × IsReplay (arc_value report.topology) steps report.answers.items report.books.items report.ending
+    × IsReplay (arc_value report.topology) steps report.answers.items report.books.items
+    report.ending
 Reports text steps (Err (Topo f)) = Refuses (topology_of text) f
 Reports text steps (Err OutOfMemory) = Unit {0}

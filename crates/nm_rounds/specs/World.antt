@@ -44,13 +44,15 @@ outcome_of t (Frames n) = Some (model.Frames n)
 outcome_of t (Accepted a) = option_map model.Answered (answer (Ok a))
 outcome_of t (Refused f) = option_map model.Answered (reason f)
 outcome_of t Merged = Some model.Merged
-outcome_of t (MergeRefused (Channel c f)) = option_map (model.MergeRefused (receiving_iface t c)) (reason f)
+outcome_of t (MergeRefused (Channel c f)) =
+    option_map (model.MergeRefused (receiving_iface t c)) (reason f)
 outcome_of t (MergeRefused Stranger) = None
 outcome_of t (MergeRefused NoMemoryLeft) = None
 outcome_of t Emptied = Some model.Emptied
 
 abbrev pub frame_of : TopologyValue → ChannelMessage → model.Frame (List ℕ)
-frame_of t (DataMessage d) = model.DataFrame (receiving_iface t d.channel) d.number (d.time, d.packet)
+frame_of t (DataMessage d) =
+    model.DataFrame (receiving_iface t d.channel) d.number (d.time, d.packet)
 frame_of t (NullMessage n) = model.NullFrame (receiving_iface t n.channel) n.count n.clock
 
 -- what a step answers where a replica refused a frame
@@ -65,39 +67,49 @@ merge_answer_of (Err Stranger) = Err NoSuch
 merge_answer_of (Err (Channel c f)) = Ok (MergeRefused (Channel c f))
 merge_answer_of (Err NoMemoryLeft) = Err Memory
 
--- the book is the model's replica r of partition p: it handed no record out, and of channels that do not come in it knows nothing
-pub record IsReplicaOf (t : TopologyValue) (p r : ℕ) (b : BookValue) (x : model.Replica (List ℕ)) : Type 0 where
+-- the book is the model's replica r of partition p: it handed no record out, and of channels that
+-- do not come in it knows nothing
+pub record IsReplicaOf (t : TopologyValue) (p r : ℕ) (b : BookValue)
+    (x : model.Replica (List ℕ)) : Type 0 where
   pub topology : b.topology ≡ t
   pub partition : b.partition ≡ p
   pub number : b.replica ≡ r
   pub replica : replica_of b ≡ x
   pub handed : b.handed ≡ 0
   pub count : length b.knows ≡ length t.receivers
-  pub quiet : (c : ℕ) → is_incoming b c ≡ false → slice_index_or b.knows c nothing_known ≡ nothing_known
+  pub quiet : (c : ℕ) → is_incoming b c ≡ false
+      → slice_index_or b.knows c nothing_known ≡ nothing_known
 
 -- the books are the world's: replica r of partition p is the book of number 2p + r
-pub record AreReplicas (t : TopologyValue) (books : List BookValue) (w : model.World (List ℕ)) : Type 0 where
+pub record AreReplicas (t : TopologyValue) (books : List BookValue)
+    (w : model.World (List ℕ)) : Type 0 where
   pub count : length books ≡ 2 * t.partitions
-  pub each : (p r : ℕ) (b : BookValue) → r < 2 → slice_get books (2 * p + r) ≡ Some b → IsReplicaOf t p r b (w.replica p r)
+  pub each : (p r : ℕ) (b : BookValue) → r < 2 → slice_get books (2 * p + r) ≡ Some b
+      → IsReplicaOf t p r b (w.replica p r)
 
 -- the first n of the replicas, by partition and number, which know nothing
 pub record AreFirst (t : TopologyValue) (n : ℕ) (books : List BookValue) : Type 0 where
   pub count : length books ≡ n
-  pub each : (p r : ℕ) (b : BookValue) → r < 2 → slice_get books (2 * p + r) ≡ Some b → IsReplicaOf t p r b model.fresh
+  pub each : (p r : ℕ) (b : BookValue) → r < 2 → slice_get books (2 * p + r) ≡ Some b
+      → IsReplicaOf t p r b model.fresh
 
 -- the messages are the world's frames, of channels that are there
-pub record AreFrames (t : TopologyValue) (bag : List ChannelMessage) (w : model.World (List ℕ)) : Type 0 where
+pub record AreFrames (t : TopologyValue) (bag : List ChannelMessage)
+    (w : model.World (List ℕ)) : Type 0 where
   pub frames : map (frame_of t) bag ≡ w.bag
-  pub named : (i : ℕ) (m : ChannelMessage) → slice_get bag i ≡ Some m → message_channel m < length t.receivers
+  pub named : (i : ℕ) (m : ChannelMessage) → slice_get bag i ≡ Some m
+      → message_channel m < length t.receivers
 
 -- books and messages are those of the model's world
-pub record IsWorld (t : TopologyValue) (books : List BookValue) (bag : List ChannelMessage) (w : model.World (List ℕ)) : Type 0 where
+pub record IsWorld (t : TopologyValue) (books : List BookValue) (bag : List ChannelMessage)
+    (w : model.World (List ℕ)) : Type 0 where
   pub replicas : AreReplicas t books w
   pub sent : AreFrames t bag w
 
 -- these are the messages of channel c from number n on
 pub record AreMessages (b : BookValue) (c n : ℕ) (messages : List ChannelMessage) : Type 0 where
-  pub frames : map (frame_of b.topology) messages ≡ model.data_frames (receiving_iface b.topology c) n (drop n (sent_over b c))
+  pub frames : map (frame_of b.topology) messages
+      ≡ model.data_frames (receiving_iface b.topology c) n (drop n (sent_over b c))
   pub named : (i : ℕ) (m : ChannelMessage) → slice_get messages i ≡ Some m → message_channel m ≡ c
 
 -- message n of channel c was put behind others
@@ -108,12 +120,15 @@ pub record IsPushed (b : BookValue) (c n : ℕ) (before after : List ChannelMess
   pub number : message.number ≡ n
   pub sent : nth (sent_over b c) n ≡ Some (message.time, message.packet)
 
-abbrev pub happens : TopologyValue → model.World (List ℕ) → WorldStep → model.World (List ℕ) × model.Outcome
+abbrev pub happens : TopologyValue → model.World (List ℕ) → WorldStep
+    → model.World (List ℕ) × model.Outcome
 happens t w s = model.happens (net_of t) same_octets w (step_of t s)
 
 -- Want of memory changed nothing, but a run did so many whole events.
-abbrev pub Interrupts : TopologyValue → model.World (List ℕ) → WorldStep → List BookValue → List ChannelMessage → Type 0
-Interrupts t w (Run p r limit) books bag = (n : ℕ) × (n < limit) × IsWorld t books bag (happens t w (Run p r n)).0
+abbrev pub Interrupts : TopologyValue → model.World (List ℕ) → WorldStep → List BookValue
+    → List ChannelMessage → Type 0
+Interrupts t w (Run p r limit) books bag =
+    (n : ℕ) × (n < limit) × IsWorld t books bag (happens t w (Run p r n)).0
 Interrupts t w (Data p r c n) books bag = IsWorld t books bag w
 Interrupts t w (Resend p r c n) books bag = IsWorld t books bag w
 Interrupts t w (Null p r c) books bag = IsWorld t books bag w
@@ -122,8 +137,11 @@ Interrupts t w (Deliver i r) books bag = IsWorld t books bag w
 Interrupts t w (Merge p r) books bag = IsWorld t books bag w
 Interrupts t w (Restart p r) books bag = IsWorld t books bag w
 
--- A step leaves the world and answers as the model says; or it names what is not there, and changed nothing; or memory was refused.
-abbrev pub Steps : TopologyValue → model.World (List ℕ) → WorldStep → Result StepAnswer Stop → List BookValue → List ChannelMessage → Type 0
-Steps t w s (Ok a) books bag = (outcome_of t a ≡ Some (happens t w s).1) × IsWorld t books bag (happens t w s).0
+-- A step leaves the world and answers as the model says; or it names what is not there, and changed
+-- nothing; or memory was refused.
+abbrev pub Steps : TopologyValue → model.World (List ℕ) → WorldStep → Result StepAnswer Stop
+    → List BookValue → List ChannelMessage → Type 0
+Steps t w s (Ok a) books bag =
+    (outcome_of t a ≡ Some (happens t w s).1) × IsWorld t books bag (happens t w s).0
 Steps t w s (Err NoSuch) books bag = ((happens t w s).1 ≡ model.NoSuch) × IsWorld t books bag w
 Steps t w s (Err Memory) books bag = Interrupts t w s books bag

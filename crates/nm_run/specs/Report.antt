@@ -11,9 +11,12 @@ use Rattle.nm_run.specs.declared.fault.RunFault.{RunFault}
 use Rattle.nm_run.specs.declared.fault.RunFault.TheVariants.{File, Net, Memory, NotCertified, Stalled}
 use Rattle.nm_run.specs.declared.report.IfaceTotals.{IfaceTotals}
 
--- the totals of an interface are those of its records in the trace of the one event list, over the whole run
+-- the totals of an interface are those of its records in the trace of the one event list, over the
+-- whole run
 abbrev pub IsTotal : TopologyValue → ℕ → IfaceTotals → Type 0
-IsTotal t i x = (records : List (Record (List ℕ))) → IsTraceBefore t t.stop records → (x.records, x.octets) ≡ totals_of i records
+IsTotal t i x =
+    (records : List (Record (List ℕ))) → IsTraceBefore t t.stop records
+    → (x.records, x.octets) ≡ totals_of i records
 
 -- those of all interfaces, by number
 pub record AreTotals (t : TopologyValue) (totals : List IfaceTotals) : Type 0 where
@@ -26,13 +29,15 @@ pub record IsCertifiedRun (t : TopologyValue) (found : List IfaceTotals) : Type 
   pub certified : AreCertified t books
   pub totals : AreTotals t found
 
--- the book of the replica that has this number, where each partition has so many replicas: by partition and replica
+-- the book of the replica that has this number, where each partition has so many replicas: by
+-- partition and replica
 pub record IsInPlace (replicas number : ℕ) (b : BookValue) : Type 0 where
   pub replica : b.replica < replicas
   pub number_is : number ≡ b.partition * replicas + b.replica
 
 abbrev pub AreInPlace : ℕ → List BookValue → Type 0
-AreInPlace replicas books = (i : ℕ) (b : BookValue) → slice_get books i ≡ Some b → IsInPlace replicas i b
+AreInPlace replicas books =
+    (i : ℕ) (b : BookValue) → slice_get books i ≡ Some b → IsInPlace replicas i b
 
 -- the books of a run: one of each replica, in their order
 pub record AreOfRun (t : TopologyValue) (replicas : ℕ) (books : List BookValue) : Type 0 where
@@ -41,7 +46,8 @@ pub record AreOfRun (t : TopologyValue) (replicas : ℕ) (books : List BookValue
 
 -- the books of a run were compared, and this is the first fault that the certificate found
 abbrev pub IsNotCertified : TopologyValue → ℕ → CertFault → Type 0
-IsNotCertified t replicas fault = (books : List BookValue) × AreOfRun t replicas books × Certifies t books (Err fault)
+IsNotCertified t replicas fault =
+    (books : List BookValue) × AreOfRun t replicas books × Certifies t books (Err fault)
 
 -- what the certificate says of books, as the fault of a run; or memory was refused
 abbrev pub CertifiesRun : TopologyValue → List BookValue → Result Unit RunFault → Type 0

@@ -7,4 +7,5 @@ use Rattle.nm_run.specs.declared.sides.SideEnd.{SideEnd}
 
 -- the trace files of one that was done are counted
 abbrev pub StillCounts : {S : Type 0} → (S → Option (List ℕ)) → Option Files → SideEnd S → Type 0
-StillCounts taken made end = end.served ≡ Ended → AreCounted taken made end.holdings.files.files.items
+StillCounts taken made end =
+    end.served ≡ Ended → AreCounted taken made end.holdings.files.files.items

@@ -5,5 +5,7 @@ use Rattle.nm_pcap.specs.Writer.{Writer}
 use Rattle.nm_files.specs.Files.{FilesTook}
 
 -- they took some records, each those at its own interface
-abbrev pub TookSome : {S : Type 0} → (S → Option (List ℕ)) → (S → ℕ) → (old new : List (Option (Writer S))) → Type 0
-TookSome taken failures old new = (records : List (Record (List ℕ))) × FilesTook taken failures records old new
+abbrev pub TookSome : {S : Type 0} → (S → Option (List ℕ)) → (S → ℕ)
+    → (old new : List (Option (Writer S))) → Type 0
+TookSome taken failures old new =
+    (records : List (Record (List ℕ))) × FilesTook taken failures records old new

@@ -12,7 +12,8 @@ use Rattle.nm_script.specs.Words.{step_said}
 abbrev pub words_of : List ℕ → List (List ℕ)
 words_of line = parts_at 32 line
 
--- The line is a step: its words are a word and numbers, which are written in decimal without leading zeros.
+-- The line is a step: its words are a word and numbers, which are written in decimal without
+-- leading zeros.
 pub record IsStep (line : List ℕ) (s : WorldStep) : Type 0 where
   pub word : List ℕ
   pub numbers : List ℕ

@@ -21,7 +21,8 @@ steps_in (Step s) = s ∷ []
 abbrev pub Said : Type 0
 Said = List ℕ × Line
 
--- The text is these lines, each with its line feed, and they say these steps, of which there are not too many.
+-- The text is these lines, each with its line feed, and they say these steps, of which there are
+-- not too many.
 pub record AreLines (lines : List Said) (text : List ℕ) (steps : List WorldStep) : Type 0 where
   pub whole : text ≡ flat_map (λ l. l.0 ++ codes "\n") lines
   pub ended : All (λ l. HasNo 10 l.0) lines
@@ -29,15 +30,18 @@ pub record AreLines (lines : List Said) (text : List ℕ) (steps : List WorldSte
   pub all : steps ≡ flat_map (λ l. steps_in l.1) lines
   pub few : length steps ≤ MAX_SCRIPT_STEPS
 
--- Behind so many steps no line like this may come: it says nothing that a script may have, or a step too many.
+-- Behind so many steps no line like this may come: it says nothing that a script may have, or a
+-- step too many.
 abbrev pub IsBadLine : ℕ → List ℕ → Type 0
-IsBadLine count line = (said : Line) → Says line said → MAX_SCRIPT_STEPS < count + length (steps_in said)
+IsBadLine count line =
+    (said : Line) → Says line said → MAX_SCRIPT_STEPS < count + length (steps_in said)
 
 -- The text begins with such a line, or with one that has no line feed.
 abbrev pub BeginsBadly : ℕ → List ℕ → Type 0
 BeginsBadly count text =
     ((0 < length text) × HasNo 10 text)
-    ⊎ ((line : List ℕ) × (more : List ℕ) × (text ≡ line ++ 10 ∷ more) × HasNo 10 line × IsBadLine count line)
+    ⊎ ((line : List ℕ) × (more : List ℕ) × (text ≡ line ++ 10 ∷ more) × HasNo 10 line
+    × IsBadLine count line)
 
 -- the text is a script of these steps
 pub record IsScript (text : List ℕ) (steps : List WorldStep) : Type 0 where
@@ -61,9 +65,13 @@ Tells text (Ok steps) = IsScript text steps.items
 Tells text (Err (fault.Line number)) = IsFirstFault text number
 Tells text (Err fault.Memory) = Unit {0}
 
--- A line of this number is taken in behind others: its steps come behind theirs. Or it is bad; or memory was refused.
-abbrev pub AddsStep : List WorldStep → List ℕ → ℕ → Result Unit ScriptFault → List WorldStep → Type 0
+-- A line of this number is taken in behind others: its steps come behind theirs. Or it is bad; or
+-- memory was refused.
+abbrev pub AddsStep : List WorldStep → List ℕ → ℕ → Result Unit ScriptFault → List WorldStep
+    → Type 0
 AddsStep before line number (Ok done) after =
-    (said : Line) × Says line said × (after ≡ before ++ steps_in said) × (length after ≤ MAX_SCRIPT_STEPS)
-AddsStep before line number (Err (fault.Line n)) after = (n ≡ number) × IsBadLine (length before) line
+    (said : Line) × Says line said × (after ≡ before ++ steps_in said)
+    × (length after ≤ MAX_SCRIPT_STEPS)
+AddsStep before line number (Err (fault.Line n)) after =
+    (n ≡ number) × IsBadLine (length before) line
 AddsStep before line number (Err fault.Memory) after = Unit {0}

@@ -22,11 +22,14 @@ abbrev pub had : ℕ → State (List ℕ) NodeStateValue → Had
 had i s = record { traffic = traffic_of i s.records; dropped = drops_of i s }
 
 -- each interface's, by number
-pub record AreIfaceTotals (t : TopologyValue) (s : State (List ℕ) NodeStateValue) (all : List IfaceTotals) : Type 0 where
+pub record AreIfaceTotals (t : TopologyValue) (s : State (List ℕ) NodeStateValue)
+    (all : List IfaceTotals) : Type 0 where
   pub count : length all ≡ length t.ifaces
-  pub each : (i : ℕ) (x : IfaceTotals) → slice_get all i ≡ Some x → (x.traffic ≡ (had i s).traffic) × (x.dropped ≡ (had i s).dropped)
+  pub each : (i : ℕ) (x : IfaceTotals) → slice_get all i ≡ Some x
+      → (x.traffic ≡ (had i s).traffic) × (x.dropped ≡ (had i s).dropped)
 
--- each interface's before a time of the run: in the one event list after all events that are before it
+-- each interface's before a time of the run: in the one event list after all events that are before
+-- it
 pub record HadIfaces (t : TopologyValue) (time : ℕ) (all : List IfaceTotals) : Type 0 where
   pub events : ℕ
   pub over : IsBefore (net_of t) time events
@@ -46,19 +49,26 @@ counts_text before after =
     ++ cell (after.dropped - before.dropped)
 
 abbrev pub seen_text : IfaceSeen → List ℕ
-seen_text seen = cell seen.longest ++ cell seen.mean ++ cell seen.longest_octets ++ cell seen.mean_octets ++ cell seen.busy
+seen_text seen =
+    cell seen.longest ++ cell seen.mean ++ cell seen.longest_octets ++ cell seen.mean_octets
+    ++ cell seen.busy
 
 -- the row of an interface in the step from this time on
 abbrev pub iface_row : (from : ℕ) (name : List ℕ) (before after : Had) → IfaceSeen → List ℕ
-iface_row from name before after seen = decimal from ++ codes "," ++ name ++ counts_text before after ++ seen_text seen ++ codes "\n"
+iface_row from name before after seen =
+    decimal from ++ codes "," ++ name ++ counts_text before after ++ seen_text seen ++ codes "\n"
 
--- the rows of interfaces from number n on, as far as what was seen of them goes; the state was `old` before the step and is `new` after it
-abbrev pub rows_of : (from : ℕ) (old new : State (List ℕ) NodeStateValue) → ℕ → List IfaceValue → List IfaceSeen → List ℕ
+-- the rows of interfaces from number n on, as far as what was seen of them goes; the state was
+-- `old` before the step and is `new` after it
+abbrev pub rows_of : (from : ℕ) (old new : State (List ℕ) NodeStateValue) → ℕ → List IfaceValue
+    → List IfaceSeen → List ℕ
 rows_of from old new n [] seen = []
 rows_of from old new n (i ∷ ifaces) [] = []
-rows_of from old new n (i ∷ ifaces) (x ∷ seen) = iface_row from i.name (had n old) (had n new) x ++ rows_of from old new (suc n) ifaces seen
+rows_of from old new n (i ∷ ifaces) (x ∷ seen) =
+    iface_row from i.name (had n old) (had n new) x ++ rows_of from old new (suc n) ifaces seen
 
--- the rows of a step: what each interface had more in the one event list before its end than before its begin
+-- the rows of a step: what each interface had more in the one event list before its end than before
+-- its begin
 pub record IsIfaceStep (t : TopologyValue) (from until : ℕ) (text : List ℕ) : Type 0 where
   pub before : ℕ
   pub after : ℕ
@@ -66,4 +76,5 @@ pub record IsIfaceStep (t : TopologyValue) (from until : ℕ) (text : List ℕ) 
   pub ends : IsBefore (net_of t) until after
   pub seen : List IfaceSeen
   pub all : length seen ≡ length t.ifaces
-  pub rows : text ≡ rows_of from (one_list (net_of t) before) (one_list (net_of t) after) 0 t.ifaces seen
+  pub rows : text ≡ rows_of from (one_list (net_of t) before)
+      (one_list (net_of t) after) 0 t.ifaces seen

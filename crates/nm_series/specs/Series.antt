@@ -17,7 +17,10 @@ module _ {X : Type 0} (Had : TopologyValue → ℕ → List X → Type 0) where
     pub within : x.time ≤ t.stop
 
   -- the next step was made, or there is none
-  abbrev pub Nexts : (AreRows : TopologyValue → (from until : ℕ) → List ℕ → Type 0) → TopologyValue → (old new : SeriesValue X) → Option (List ℕ) → Type 0
+  abbrev pub Nexts : (AreRows : TopologyValue → (from until : ℕ) → List ℕ → Type 0) → TopologyValue
+      → (old new : SeriesValue X) → Option (List ℕ) → Type 0
   Nexts AreRows t old new None = (t.stop ≤ old.time) × (new ≡ old)
-  Nexts AreRows t old new (Some text) = IsSeries t new × (old.time < t.stop) × (new.time ≡ min (old.time + old.step) t.stop) × (new.step ≡ old.step)
+  Nexts AreRows t old new (Some text) =
+      IsSeries t new × (old.time < t.stop) × (new.time ≡ min (old.time + old.step) t.stop)
+      × (new.step ≡ old.step)
       × AreRows t old.time new.time text

@@ -14,7 +14,9 @@ module _ (Is : (from until : ℕ) → List ℕ → Type 0) (head : List ℕ) (st
   -- the head, and behind it the texts of the first k steps, one after another
   abbrev pub AreSteps : ℕ → List ℕ → Type 0
   AreSteps zero octets = octets ≡ head
-  AreSteps (suc k) octets = (front : List ℕ) × (last : List ℕ) × AreSteps k front × Is (step_time step stop k) (step_time step stop (suc k)) last
+  AreSteps (suc k) octets =
+      (front : List ℕ) × (last : List ℕ) × AreSteps k front
+      × Is (step_time step stop k) (step_time step stop (suc k)) last
       × (octets ≡ front ++ last)
 
   -- of all steps up to stop
