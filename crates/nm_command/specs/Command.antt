@@ -123,15 +123,11 @@ of_three word topology third =
     else (if bytes_eq word (codes "script") then Some (Script topology third)
     else timed_of word topology third (shown_of word topology third (trace_from topology (Some third) (form_of word))))
 
--- `path TOPO NODE ADDRESS`
-abbrev pub of_path : List ℕ → List ℕ → List ℕ → List ℕ → Option CommandValue
-of_path word topology node address = if bytes_eq word (codes "path") then Some (Path topology node address) else None
-
--- `series TOPO STEP flows`, and else a path
+-- `series TOPO STEP flows` and `path TOPO NODE ADDRESS`
 abbrev pub of_four : List ℕ → List ℕ → List ℕ → List ℕ → Option CommandValue
 of_four word topology third fourth =
     if bytes_eq word (codes "series") && bytes_eq fourth (codes "flows") then series_of topology Sources (asked_number 1 MAX_TIME third)
-    else of_path word topology third fourth
+    else (if bytes_eq word (codes "path") then Some (Path topology third fourth) else None)
 
 -- `run`, if its two numbers are such
 abbrev pub run_of : List ℕ → List ℕ → Option ℕ → Option ℕ → Option CommandValue

@@ -5,7 +5,7 @@ ghost use Rattle.std.specs.Prelude.{string_bytes};
 ghost use Rattle.nm_command.specs.Command.{AsksWithinLimits, asked_number, command_of};
 ghost use Rattle.nm_command.specs.Command.{command_value, form_of, node_of, of_five, of_four};
 ghost use Rattle.nm_command.specs.Command.{of_number, of_six, of_three, of_two, run_of, shown_of};
-ghost use Rattle.nm_command.specs.Command.{of_path, series_of, timed_of, trace_from};
+ghost use Rattle.nm_command.specs.Command.{series_of, timed_of, trace_from};
 ghost use Rattle.nm_command.specs.declared.command.TheConstants.{MAX_SOURCE};
 ghost use Rattle.nm_base.specs.declared.limits.TheConstants.{MAX_PARTITION, MAX_REPLICA};
 ghost use Rattle.nm_base.specs.declared.limits.TheConstants.{MAX_REPLICAS, MAX_TIME, MAX_WORKERS};
@@ -226,27 +226,6 @@ fn of_three<'a>(word: &'a str, topology: &'a str, third: &'a str) -> Option<Comm
     timed_of(word, topology, third)
 }
 
-/// The command `path`, or none.
-fn of_path<'a>(
-    word: &'a str,
-    topology: &'a str,
-    node: &'a str,
-    address: &'a str,
-) -> Option<Command<'a>>
-    ensures value { option_map command_value result
-        ≡ of_path word.now topology.now node.now address.now }
-    ensures limits { IfSome result AsksWithinLimits }
-{
-    if word == "path" {
-        return Some(Command::Path(PathWords {
-            topology,
-            node,
-            address,
-        }));
-    }
-    None
-}
-
 /// The command of four words.
 fn of_four<'a>(
     word: &'a str,
@@ -258,10 +237,15 @@ fn of_four<'a>(
         ≡ of_four word.now topology.now third.now fourth.now }
     ensures limits { IfSome result AsksWithinLimits }
 {
-    if word == "series" && fourth == "flows" {
-        return series_of(topology, third, Subject::Sources);
+    match word {
+        "series" if fourth == "flows" => series_of(topology, third, Subject::Sources),
+        "path" => Some(Command::Path(PathWords {
+            topology,
+            node: third,
+            address: fourth,
+        })),
+        _ => None,
     }
-    of_path(word, topology, third, fourth)
 }
 
 /// The command of five words.
