@@ -1,5 +1,5 @@
 -- Frames that were given, one after another.
-use Rattle.std.proofs.Common.{◌≡◌, ℕ, List, [], ◌∷◌, ◌++◌, map, Option, Some, None, Result, Ok, Err, refl, sym, ◌∙◌, ap, subst, append_assoc, append-nil}
+use Rattle.std.proofs.Common.{◌≡◌, ℕ, List, [], ◌∷◌, ◌++◌, map, Option, Some, Result, Ok, Err, refl, sym, ◌∙◌, ap, subst, append_assoc, append-nil}
 use Rattle.std.specs.Prelude.{IfOk}
 use Rattle.std.proofs.lemmas.Grind.{flat_map-append}
 use Rattle.std.proofs.lemmas.List.{map-append}
@@ -11,7 +11,7 @@ use Rattle.nm_frames.specs.Owed.{after_giving, given_maybe, owed}
 use Rattle.nm_frames.specs.Session.{SessionValue}
 use Rattle.nm_engine.specs.declared.answer.Cause.{Cause}
 use Rattle.nm_engine.specs.declared.answer.Cause.TheVariants.{End, Fault, Frame as BadFrame, Session as BadSession, Book, Memory}
-use Rattle.nm_engine.specs.Giving.{GivesFrames, GivesOr, OwesNone}
+use Rattle.nm_engine.specs.Giving.{GivesFrames, GivesOr}
 use Rattle.nm_engine.specs.Acceptor.{AcceptorValue}
 use Rattle.nm_engine.specs.Lives.{LinkLives}
 use Rattle.nm_engine.proofs.Steps.{lives_append}
@@ -46,10 +46,3 @@ module _ (h : Option AcceptorValue) where
   gives_then A B s m t a b c BadSession one two = absurd two
   gives_then A B s m t a b c Book one two = absurd two
   gives_then A B s m t a b c Memory one two = (two.0, gives_more s m t a b c two.0 one two.1)
-
--- a session that was asked owes nothing
-pub owes_none : {E : Type 0} (s t : SessionValue) (b : BookValue) (o : Result (Option Frame) E) → o ≡ Ok None → IfOk o (λ x. x ≡ owed s b) → IfOk o (λ x. t ≡ given_maybe s x) → OwesNone (Some t)
-owes_none {E} s t b o e is then =
-    let none : None ≡ owed s b = subst (λ (x : Result (Option Frame) E). IfOk x (λ y. y ≡ owed s b)) e is in
-    let same : t ≡ s = subst (λ (x : Result (Option Frame) E). IfOk x (λ y. t ≡ given_maybe s y)) e then in
-    (b, ap (λ (x : SessionValue). owed x b) same ∙ sym none)

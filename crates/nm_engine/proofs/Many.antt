@@ -1,5 +1,5 @@
 -- One turn after another.
-use Rattle.std.proofs.Common.{◌≡◌, ℕ, ◌&&◌, nat_lt, Bool, true, false, List, [], ◌∷◌, ◌++◌, length, map, Option, Some, None, Result, Ok, Err, if◌then◌else◌, refl, sym, ◌∙◌, ap, ◌⊎◌, inl, inr, subst, append_assoc, append-nil}
+use Rattle.std.proofs.Common.{◌≡◌, ℕ, ◌+◌, ◌&&◌, nat_lt, Bool, true, false, List, [], ◌∷◌, ◌++◌, length, map, Option, Some, None, Ok, Err, if◌then◌else◌, refl, sym, ◌∙◌, ap, ◌⊎◌, inl, inr, subst, append_assoc, append-nil}
 use Rattle.std.proofs.lemmas.Grind.{flat_map-append}
 use Rattle.nm_frames.specs.declared.frame.Frame.{Frame}
 use Rattle.nm_frames.specs.declared.frame.Frame.TheVariants.{Hello, Have, Data, Null, Bye}
@@ -10,15 +10,13 @@ use Rattle.nm_frames.specs.Lives.{SessionStep, Took, Gave, Broke, AreConsecutive
 use Rattle.nm_frames.specs.Owed.{after_giving, owed}
 use Rattle.nm_frames.specs.Session.{SessionValue, new_outgoing, taken}
 use Rattle.nm_frames.proofs.Consecutive.{from_cursor}
-use Rattle.nm_book.specs.Book.{BookValue}
-use Rattle.nm_engine.specs.declared.answer.Cause.{Cause}
 use Rattle.nm_engine.specs.declared.answer.Turn.{Turn}
 use Rattle.nm_engine.specs.declared.answer.Turn.TheVariants.{Progress, Idle, Ended, Broken, Failed}
 use Rattle.nm_engine.specs.Acceptor.{AcceptorValue, session_with, taken_at}
 use Rattle.nm_engine.specs.Link.{LinkValue}
 use Rattle.nm_engine.specs.Lives.{LinkLives, frames_in, frames_out}
 use Rattle.nm_engine.specs.Many.{Accounts, GoesOn, HasDue}
-use Rattle.nm_engine.specs.Turn.{Breaks, Heard, Hears, Moves, Turns, Went}
+use Rattle.nm_engine.specs.Turn.{Heard, Hears, Moves, Says, Turns, Went}
 use Rattle.nm_engine.proofs.Steps.{lives_append}
 
 -- octets in two parts, and the frames of both
@@ -139,24 +137,30 @@ module _ {W : Type 0} (given taken : W → List ℕ) (ends failures : W → ℕ)
         whole = b.whole;
       }
 
-  -- a link that has failed stays as it is
-  stays_turn : (turn : Turn) (old new : LinkValue W) → old.failed ≡ true → Turns given taken ends failures old new turn → new ≡ old
-  stays_turn Progress old new over t = absurd (never (sym over ∙ t.0.moves.was_whole))
-  stays_turn Idle old new over t = absurd (never (sym over ∙ t.0.moves.was_whole))
-  stays_turn Ended old new over t = absurd (never (sym over ∙ t.0.moves.was_whole))
-  stays_turn (Broken cause) old new over t = absurd (never (sym over ∙ t.moves.was_whole))
-  stays_turn Failed old new over t = t.1
+  -- a turn, or half of one, that went well in some way, broke, or found that the link had failed
+  module _ (old new : LinkValue W) (Well : Type 0) (moved : Well → ℕ) (moves : Well → Moves given taken ends failures old new new.rest new.out) (whole : Well → new.failed ≡ false) where
+    -- a link that has failed stays as it is
+    stays_by : (turn : Turn) → old.failed ≡ true → Says given taken ends failures old new Well moved turn → new ≡ old
+    stays_by Progress over t = absurd (never (sym over ∙ (moves t.0).was_whole))
+    stays_by Idle over t = absurd (never (sym over ∙ (moves t.0).was_whole))
+    stays_by Ended over t = absurd (never (sym over ∙ (moves t.0).was_whole))
+    stays_by (Broken cause) over t = absurd (never (sym over ∙ t.moves.was_whole))
+    stays_by Failed over t = t.1
 
-  stays_heard : (turn : Turn) (old new : LinkValue W) → old.failed ≡ true → Hears given taken ends failures old new turn → new ≡ old
-  stays_heard Progress old new over t = absurd (never (sym over ∙ t.0.moves.was_whole))
-  stays_heard Idle old new over t = absurd (never (sym over ∙ t.0.moves.was_whole))
-  stays_heard Ended old new over t = absurd (never (sym over ∙ t.0.moves.was_whole))
-  stays_heard (Broken cause) old new over t = absurd (never (sym over ∙ t.moves.was_whole))
-  stays_heard Failed old new over t = t.1
+    of_well : Well → Accounts given taken old new × ((new.failed ≡ false) ⊎ (new.failed ≡ true))
+    of_well w = (of_moves old new new.rest new.out (moves w) (λ e. (refl, refl)), inl (whole w))
+
+    of_answer : (turn : Turn) → Says given taken ends failures old new Well moved turn → Accounts given taken old new × ((new.failed ≡ false) ⊎ (new.failed ≡ true))
+    of_answer Progress t = of_well t.0
+    of_answer Idle t = of_well t.0
+    of_answer Ended t = of_well t.0
+    of_answer (Broken cause) t = (of_moves old new t.rest t.left t.moves (λ e. absurd (never (sym t.over ∙ e))), inr t.over)
+    of_answer Failed t = (subst (λ (x : LinkValue W). Accounts given taken old x) (sym t.1) (of_none old), inr (ap (λ (l : LinkValue W). l.failed) t.1 ∙ t.0))
 
   stays : (turn : Turn) (old new : LinkValue W) → old.failed ≡ true → Turns given taken ends failures old new turn ⊎ Hears given taken ends failures old new turn → new ≡ old
-  stays turn old new over (inl t) = stays_turn turn old new over t
-  stays turn old new over (inr t) = stays_heard turn old new over t
+  stays turn old new over (inl t) =
+      stays_by old new (Went given taken ends failures old new) (λ w. length w.moves.came + length w.moves.went) (λ w. w.moves) (λ w. w.whole) turn over t
+  stays turn old new over (inr t) = stays_by old new (Heard given taken ends failures old new) (λ h. length h.moves.came) (λ h. h.moves) (λ h. h.whole) turn over t
 
   stays_failed : (path : List (Turn × LinkValue W)) (old new : LinkValue W) → old.failed ≡ true → GoesOn given taken ends failures old path new → new ≡ old
   stays_failed [] old new over g = g
@@ -164,29 +168,10 @@ module _ {W : Type 0} (given taken : W → List ℕ) (ends failures : W → ℕ)
       let same = stays p.0 old p.1 over g.0 in
       stays_failed path p.1 new (ap (λ (l : LinkValue W). l.failed) same ∙ over) g.1 ∙ same
 
-  well_turn : (old new : LinkValue W) → Went given taken ends failures old new → Accounts given taken old new × ((new.failed ≡ false) ⊎ (new.failed ≡ true))
-  well_turn old new w = (of_moves old new new.rest new.out w.moves (λ e. (refl, refl)), inl w.whole)
-
-  of_turn : (turn : Turn) (old new : LinkValue W) → Turns given taken ends failures old new turn → Accounts given taken old new × ((new.failed ≡ false) ⊎ (new.failed ≡ true))
-  of_turn Progress old new t = well_turn old new t.0
-  of_turn Idle old new t = well_turn old new t.0
-  of_turn Ended old new t = well_turn old new t.0
-  of_turn (Broken cause) old new t = (of_moves old new t.rest t.left t.moves (λ e. absurd (never (sym t.over ∙ e))), inr t.over)
-  of_turn Failed old new t = (subst (λ (x : LinkValue W). Accounts given taken old x) (sym t.1) (of_none old), inr (ap (λ (l : LinkValue W). l.failed) t.1 ∙ t.0))
-
-  well_heard : (old new : LinkValue W) → Heard given taken ends failures old new → Accounts given taken old new × ((new.failed ≡ false) ⊎ (new.failed ≡ true))
-  well_heard old new h = (of_moves old new new.rest new.out h.moves (λ e. (refl, refl)), inl h.whole)
-
-  of_heard : (turn : Turn) (old new : LinkValue W) → Hears given taken ends failures old new turn → Accounts given taken old new × ((new.failed ≡ false) ⊎ (new.failed ≡ true))
-  of_heard Progress old new t = well_heard old new t.0
-  of_heard Idle old new t = well_heard old new t.0
-  of_heard Ended old new t = well_heard old new t.0
-  of_heard (Broken cause) old new t = (of_moves old new t.rest t.left t.moves (λ e. absurd (never (sym t.over ∙ e))), inr t.over)
-  of_heard Failed old new t = (subst (λ (x : LinkValue W). Accounts given taken old x) (sym t.1) (of_none old), inr (ap (λ (l : LinkValue W). l.failed) t.1 ∙ t.0))
-
   of_step : (turn : Turn) (old new : LinkValue W) → Turns given taken ends failures old new turn ⊎ Hears given taken ends failures old new turn → Accounts given taken old new × ((new.failed ≡ false) ⊎ (new.failed ≡ true))
-  of_step turn old new (inl t) = of_turn turn old new t
-  of_step turn old new (inr t) = of_heard turn old new t
+  of_step turn old new (inl t) =
+      of_answer old new (Went given taken ends failures old new) (λ w. length w.moves.came + length w.moves.went) (λ w. w.moves) (λ w. w.whole) turn t
+  of_step turn old new (inr t) = of_answer old new (Heard given taken ends failures old new) (λ h. length h.moves.came) (λ h. h.moves) (λ h. h.whole) turn t
 
   go_on : (path : List (Turn × LinkValue W)) (first mid last : LinkValue W) → Accounts given taken first mid × ((mid.failed ≡ false) ⊎ (mid.failed ≡ true)) → GoesOn given taken ends failures mid path last → Accounts given taken mid last → Accounts given taken first last
   go_on path first mid last (a, inl fine) g rest = of_both first mid last fine a rest

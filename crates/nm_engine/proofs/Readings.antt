@@ -8,7 +8,7 @@ use Rattle.nm_frames.specs.declared.frame.Frame.{Frame}
 use Rattle.nm_frames.specs.declared.fault.FrameFault.{FrameFault}
 use Rattle.nm_frames.specs.declared.fault.FrameFault.TheVariants.{BadLength}
 use Rattle.nm_frames.specs.Frame.{IsFrame, stream_octets}
-use Rattle.nm_frames.specs.Reader.{FedFault, ReaderValue}
+use Rattle.nm_frames.specs.Reader.{FedFault, Feeds, ReaderValue}
 use Rattle.nm_frames.specs.Stream.{IsShort, fault_shown, is_bad_length, stated_length}
 use Rattle.nm_engine.specs.declared.answer.Cause.{Cause}
 use Rattle.nm_engine.specs.declared.answer.Cause.TheVariants.{End, Fault, Frame as BadFrame, Session as BadSession, Book, Memory}
@@ -63,18 +63,25 @@ module _ {W : Type 0} (given : W → List ℕ) (ends failures : W → ℕ) (old 
   )
 
 -- a reader's answer to a piece, from what it cut
-pub fed_fault : (old new : ReaderValue) (piece : List ℕ) (before after : List Frame) (e : FrameFault) → before ≡ [] → FedFault old new piece before after e → (rest : List ℕ) × IsFramed (old.rest ++ piece) after rest × ((x : FrameFault) × (fault_shown rest ≡ Some x))
+fed_fault : (old new : ReaderValue) (piece : List ℕ) (before after : List Frame) (e : FrameFault) → before ≡ [] → FedFault old new piece before after e → (rest : List ℕ) × IsFramed (old.rest ++ piece) after rest × ((x : FrameFault) × (fault_shown rest ≡ Some x))
 fed_fault old new piece before after e none fed =
     let same : after ≡ fed.cut.frames = fed.cut.added ∙ ap (λ (l : List Frame). l ++ fed.cut.frames) none in
     (fed.rest, record { parts = fed.cut.parts ∙ ap (λ fs. stream_octets fs ++ fed.rest) (sym same); each = subst (λ (fs : List Frame). AllByRecursion IsFrame fs) (sym same) fed.cut.each }, (e, fed.shown))
 
 -- no octets are a part of a frame
-pub none_part : IsPart []
+none_part : IsPart []
 none_part = record { none = refl; short = omega arith; most = omega arith }
 
-pub part_fault : (old new : ReaderValue) (piece : List ℕ) (before after : List Frame) (e : FrameFault) → FedFault old new piece before after e → IsPart new.rest
+part_fault : (old new : ReaderValue) (piece : List ℕ) (before after : List Frame) (e : FrameFault) → FedFault old new piece before after e → IsPart new.rest
 unfolding none_part
 part_fault old new piece before after e fed = subst (λ (r : ReaderValue). IsPart r.rest) (sym fed.over) none_part
+
+-- a reader that found the fault e in a piece
+pub fed_bad : (old new : ReaderValue) (piece : List ℕ) (before after : List Frame) → before ≡ [] → (e : FrameFault) → (Feeds old new piece before after (Err e) → FedFault old new piece before after e)
+    → (x : FrameFault) → x ≡ e → Feeds old new piece before after (Err x) → FeedsReader old piece after new (Err BadFrame) × IsPart new.rest
+fed_bad old new piece before after none e shows x same fed =
+    let fault = shows (subst (λ (y : FrameFault). Feeds old new piece before after (Err y)) same fed) in
+    (fed_fault old new piece before after e none fault, part_fault old new piece before after e fault)
 
 short_length : (rest : List ℕ) → IsShort rest → length rest < 4 + stated_length rest
 short_length rest (inl lt) = omega (arith, lt)

@@ -1,25 +1,24 @@
 -- A turn from its parts.
-use Rattle.std.proofs.Common.{◌≡◌, ℕ, ◌+◌, ◌<◌, ◌≤◌, Bool, true, false, nat_lt, if◌then◌else◌, List, [], ◌∷◌, ◌++◌, length, map, Option, Some, None, Result, Ok, Err, ◌⊎◌, inl, inr, refl, sym, ◌∙◌, ap, subst, append_assoc, append-nil, arith}
+use Rattle.std.proofs.Common.{◌≡◌, ℕ, ◌+◌, ◌≤◌, Bool, true, false, nat_lt, if◌then◌else◌, List, [], ◌∷◌, ◌++◌, length, map, Option, Result, Ok, Err, ◌⊎◌, inl, inr, refl, sym, ◌∙◌, ap, subst, append_assoc, append-nil, arith}
 use Rattle.std.specs.List.{AllByRecursion}
 use Rattle.std.proofs.lemmas.Bool.Decides.{nat_tests}
 use Rattle.std.proofs.lemmas.Grind.{flat_map-append}
 use Rattle.nm_frames.specs.declared.frame.Frame.{Frame}
 use Rattle.nm_frames.specs.Frame.{IsFrame, frame_octets, stream_octets}
-use Rattle.nm_frames.specs.Lives.{SessionStep, Took, Gave}
-use Rattle.nm_frames.specs.Reader.{ReaderValue}
+use Rattle.nm_frames.specs.Lives.{Took, Gave}
 use Rattle.nm_frames.specs.Session.{SessionValue}
 use Rattle.nm_engine.specs.declared.answer.Cause.{Cause}
 use Rattle.nm_engine.specs.declared.answer.Cause.TheVariants.{End, Fault, Frame as BadFrame, Session as BadSession, Book, Memory}
 use Rattle.nm_engine.specs.declared.answer.Turn.TheVariants.{Progress, Idle}
 use Rattle.nm_base.specs.declared.limits.TheConstants.{MAX_READ_OCTETS}
 use Rattle.nm_engine.specs.Giving.{GivesFrames, GivesOr, HoldsNone}
-use Rattle.nm_engine.specs.Acceptor.{AcceptorValue}
-use Rattle.nm_engine.specs.Link.{IsPart, bye_taken}
+use Rattle.nm_engine.specs.Link.{IsPart, LinkValue, bye_taken}
 use Rattle.nm_engine.specs.Lives.{LinkLives}
 use Rattle.nm_engine.specs.Reading.{Came, Reads}
-use Rattle.nm_engine.specs.Taking.{Stops, TakesAll}
-use Rattle.nm_engine.specs.Turn.{Breaks, HasEnded, Heard, Hears, IsReason, Moves, Turns, Went, answer_of, faults_of, link_of}
-use Rattle.nm_engine.specs.Writing.{Leaves, Writes}
+use Rattle.nm_engine.specs.Taking.{TakesAll}
+use Rattle.nm_engine.specs.Turn.{Breaks, HasEnded, Heard, IsReason, Moves, Says, TakesIn, Turns, Went, answer_of, faults_of, link_of}
+use Rattle.nm_engine.specs.declared.parts.Parts.{Parts}
+use Rattle.nm_engine.specs.Writing.{Writes}
 
 -- the octets from a frame on
 from_frame : (octets rest : List ℕ) (frames front back : List Frame) (f : Frame) → octets ≡ stream_octets frames ++ rest → frames ≡ front ++ f ∷ back → octets ≡ stream_octets front ++ (frame_octets f ++ (stream_octets back ++ rest))
@@ -38,10 +37,18 @@ each_mid : (front back : List Frame) (f : Frame) → AllByRecursion IsFrame (fro
 each_mid [] back f each = each.0
 each_mid (x ∷ front) back f each = each_mid front back f each.1
 
-module _ {W : Type 0} (given taken : W → List ℕ) (ends failures : W → ℕ) (v w : W) (h : Option AcceptorValue) (s t : Option SessionValue) (r q : ReaderValue) (o : List ℕ) (frames : List Frame) (e : Bool) (bye : e ≡ bye_taken s) where
+-- The frames that were read were taken, and nothing else was done with the parts of a link.
+module _ {W : Type 0} (given taken : W → List ℕ) (ends failures : W → ℕ) (old new : Parts W) (frames : List Frame) (e : Bool) (bye : e ≡ bye_taken old.party.session)
+    (keeps : new.party.acceptor ≡ old.party.acceptor) (kept : taken new.wire ≡ taken old.wire) (same : new.out.items ≡ old.out.items) where
+  abbrev Read : Result ℕ Cause → Type 0
+  Read read = Reads given ends failures old.wire new.wire e old.reader frames new.reader read
+
+  abbrev TookAll : List Frame → Type 0
+  TookAll ins = LinkLives old.party.acceptor old.party.session (map Took ins) new.party.session
+
   -- what came, whatever the read's answer, and that the wire has not failed if there are frames
-  read_came : (read : Result ℕ Cause) → Reads given ends failures v w e r frames q read → (rest : List ℕ) × Came given ends failures v w r.rest frames rest × ((failures w ≡ failures v) ⊎ (frames ≡ []))
-  read_came (Ok n) c = (q.rest, c.came, inl c.sound)
+  read_came : (read : Result ℕ Cause) → Read read → (rest : List ℕ) × Came given ends failures old.wire new.wire old.reader.rest frames rest × ((failures new.wire ≡ failures old.wire) ⊎ (frames ≡ []))
+  read_came (Ok n) c = (new.reader.rest, c.came, inl c.sound)
   read_came (Err End) c = (c.0, c.1, inl c.2.2)
   read_came (Err Fault) c = (c.0, c.1, inr c.2.0)
   read_came (Err BadFrame) c = (c.0, c.1, inl c.2.1)
@@ -49,176 +56,180 @@ module _ {W : Type 0} (given taken : W → List ℕ) (ends failures : W → ℕ)
   read_came (Err Book) c = absurd c.2
   read_came (Err Memory) c = (c.0, c.1, inl c.2)
 
-  sound_if : (front back : List Frame) (f : Frame) → frames ≡ front ++ f ∷ back → (failures w ≡ failures v) ⊎ (frames ≡ []) → failures w ≡ failures v + 0
+  sound_if : (front back : List Frame) (f : Frame) → frames ≡ front ++ f ∷ back → (failures new.wire ≡ failures old.wire) ⊎ (frames ≡ []) → failures new.wire ≡ failures old.wire + 0
   sound_if front back f split (inl e) = omega (arith, e)
   sound_if front back f split (inr e) = absurd (not_none front back f (sym split ∙ e))
 
-  -- the same with no session's step after the frames, and no octet that went
-  abbrev still : (came rest left : List ℕ) (t' : Option SessionValue) (ins : List Frame) (b : Bool) → length came ≤ MAX_READ_OCTETS → given w ≡ given v ++ came → r.rest ++ came ≡ stream_octets ins ++ rest → LinkLives h s (map Took ins) t' → taken w ≡ taken v → left ≡ o → Moves given taken ends failures (link_of v h s r.rest o false) (link_of w h t' q.rest left b) rest left
-  still came rest left t' ins b most came_in framed took kept same = record {
+  -- no octet went
+  abbrev still : (came rest : List ℕ) (ins : List Frame) (b : Bool) → length came ≤ MAX_READ_OCTETS → given new.wire ≡ given old.wire ++ came → old.reader.rest ++ came ≡ stream_octets ins ++ rest → TookAll ins → Moves given taken ends failures (link_of old false) (link_of new b) rest new.out.items
+  still came rest ins b most came_in framed took = record {
     was_whole = refl;
     came = came;
     went = [];
     ins = ins;
     outs = [];
-    mid = t';
+    mid = new.party.session;
     most = most;
     came_in = came_in;
     framed = framed;
     took = took;
     gave = refl;
-    went_out = kept ∙ sym (append-nil (taken v));
-    sent = same ∙ sym (append-nil o);
-    acceptor = refl;
+    went_out = kept ∙ sym (append-nil (taken old.wire));
+    sent = same ∙ sym (append-nil old.out.items);
+    acceptor = keeps;
+  }
+
+  broke : (cause : Cause) (came rest : List ℕ) (ins : List Frame) → length came ≤ MAX_READ_OCTETS → given new.wire ≡ given old.wire ++ came → old.reader.rest ++ came ≡ stream_octets ins ++ rest → TookAll ins
+      → IsReason given taken ends failures (link_of old false) (link_of new true) cause rest new.party.session → failures new.wire ≡ failures old.wire + faults_of cause
+      → Breaks given taken ends failures (link_of old false) (link_of new true) cause
+  broke cause came rest ins most came_in framed took reason faults = record {
+    rest = rest;
+    left = new.out.items;
+    moves = still came rest ins true most came_in framed took;
+    reason = reason;
+    faults = faults;
+    over = refl;
   }
 
   -- a frame was not taken
-  stopped_by : (cause : Cause) (rest : List ℕ) (c : Came given ends failures v w r.rest frames rest) (front back : List Frame) (f : Frame) → faults_of cause ≡ 0 → failures w ≡ failures v + 0 → (IsFrame f → IsReason given taken ends failures (link_of v h s r.rest o false) (link_of w h t q.rest o true) cause (frame_octets f ++ (stream_octets back ++ rest)) t) → frames ≡ front ++ f ∷ back → LinkLives h s (map Took front) t → taken w ≡ taken v → Breaks given taken ends failures (link_of v h s r.rest o false) (link_of w h t q.rest o true) cause
-  stopped_by cause rest c front back f none sound reason split took kept = record {
-    rest = frame_octets f ++ (stream_octets back ++ rest);
-    left = o;
-    moves = still c.came (frame_octets f ++ (stream_octets back ++ rest)) o t front true c.most c.came_in (from_frame (r.rest ++ c.came) rest frames front back f c.framed.parts split) took kept refl;
-    reason = reason (each_mid front back f (subst (λ (fs : List Frame). AllByRecursion IsFrame fs) split c.framed.each));
-    faults = omega (arith, sound, none);
-    over = refl;
-  }
+  stopped_by : (cause : Cause) (rest : List ℕ) (c : Came given ends failures old.wire new.wire old.reader.rest frames rest) (front back : List Frame) (f : Frame) → failures new.wire ≡ failures old.wire + faults_of cause
+      → (IsFrame f → IsReason given taken ends failures (link_of old false) (link_of new true) cause (frame_octets f ++ (stream_octets back ++ rest)) new.party.session) → frames ≡ front ++ f ∷ back → TookAll front
+      → Breaks given taken ends failures (link_of old false) (link_of new true) cause
+  stopped_by cause rest c front back f sound reason split took =
+      broke cause c.came (frame_octets f ++ (stream_octets back ++ rest)) front c.most c.came_in (from_frame (old.reader.rest ++ c.came) rest frames front back f c.framed.parts split) took
+      (reason (each_mid front back f (subst (λ (fs : List Frame). AllByRecursion IsFrame fs) split c.framed.each))) sound
 
-  pub breaks_take : (read : Result ℕ Cause) (cause : Cause) → Reads given ends failures v w e r frames q read → TakesAll h s frames t (Err cause) → taken w ≡ taken v → Breaks given taken ends failures (link_of v h s r.rest o false) (link_of w h t q.rest o true) cause
-  breaks_take read End reads takes kept = absurd takes.5
-  breaks_take read Fault reads takes kept = absurd takes.5
-  breaks_take read BadFrame reads takes kept = absurd takes.5
-  breaks_take read BadSession reads takes kept = let c = read_came read reads in stopped_by BadSession c.0 c.1 takes.0 takes.2 takes.1 refl (sound_if takes.0 takes.2 takes.1 takes.3 c.2) (λ fits. (takes.1, stream_octets takes.2 ++ c.0, fits, refl, takes.5)) takes.3 takes.4 kept
-  breaks_take read Book reads takes kept = let c = read_came read reads in stopped_by Book c.0 c.1 takes.0 takes.2 takes.1 refl (sound_if takes.0 takes.2 takes.1 takes.3 c.2) (λ fits. (takes.1, stream_octets takes.2 ++ c.0, fits, refl, takes.5)) takes.3 takes.4 kept
-  breaks_take read Memory reads takes kept = let c = read_came read reads in stopped_by Memory c.0 c.1 takes.0 takes.2 takes.1 refl (sound_if takes.0 takes.2 takes.1 takes.3 c.2) (λ fits. tt) takes.3 takes.4 kept
+  pub breaks_take : (read : Result ℕ Cause) (cause : Cause) → Read read → TakesAll old.party.acceptor old.party.session frames new.party.session (Err cause) → Breaks given taken ends failures (link_of old false) (link_of new true) cause
+  breaks_take read End reads takes = absurd takes.5
+  breaks_take read Fault reads takes = absurd takes.5
+  breaks_take read BadFrame reads takes = absurd takes.5
+  breaks_take read BadSession reads takes =
+      let c = read_came read reads in
+      stopped_by BadSession c.0 c.1 takes.0 takes.2 takes.1 (sound_if takes.0 takes.2 takes.1 takes.3 c.2) (λ fits. (takes.1, stream_octets takes.2 ++ c.0, fits, refl, takes.5)) takes.3 takes.4
+  breaks_take read Book reads takes =
+      let c = read_came read reads in
+      stopped_by Book c.0 c.1 takes.0 takes.2 takes.1 (sound_if takes.0 takes.2 takes.1 takes.3 c.2) (λ fits. (takes.1, stream_octets takes.2 ++ c.0, fits, refl, takes.5)) takes.3 takes.4
+  breaks_take read Memory reads takes =
+      let c = read_came read reads in stopped_by Memory c.0 c.1 takes.0 takes.2 takes.1 (sound_if takes.0 takes.2 takes.1 takes.3 c.2) (λ fits. tt) takes.3 takes.4
 
   -- the read ended
-  pub breaks_read : (cause : Cause) → Reads given ends failures v w e r frames q (Err cause) → LinkLives h s (map Took frames) t → taken w ≡ taken v → Breaks given taken ends failures (link_of v h s r.rest o false) (link_of w h t q.rest o true) cause
-  breaks_read End c took kept = record {
-    rest = c.0;
-    left = o;
-    moves = still c.1.came c.0 o t frames true c.1.most c.1.came_in c.1.framed.parts took kept refl;
-    reason = (c.2.0, sym bye ∙ c.2.1);
-    faults = omega (arith, c.2.2);
-    over = refl;
-  }
-  breaks_read Fault c took kept = record {
-    rest = c.0;
-    left = o;
-    moves = still c.1.came c.0 o t frames true c.1.most c.1.came_in c.1.framed.parts took kept refl;
-    reason = tt;
-    faults = c.2.1;
-    over = refl;
-  }
-  breaks_read BadFrame c took kept = record {
-    rest = c.0;
-    left = o;
-    moves = still c.1.came c.0 o t frames true c.1.most c.1.came_in c.1.framed.parts took kept refl;
-    reason = c.2.0;
-    faults = omega (arith, c.2.1);
-    over = refl;
-  }
-  breaks_read BadSession c took kept = absurd c.2
-  breaks_read Book c took kept = absurd c.2
-  breaks_read Memory c took kept = record {
-    rest = c.0;
-    left = o;
-    moves = still c.1.came c.0 o t frames true c.1.most c.1.came_in c.1.framed.parts took kept refl;
-    reason = tt;
-    faults = omega (arith, c.2);
-    over = refl;
-  }
+  breaks_read : (cause : Cause) → Read (Err cause) → TookAll frames → Breaks given taken ends failures (link_of old false) (link_of new true) cause
+  breaks_read End c took = broke End c.1.came c.0 frames c.1.most c.1.came_in c.1.framed.parts took (c.2.0, sym bye ∙ c.2.1) (omega (arith, c.2.2))
+  breaks_read Fault c took = broke Fault c.1.came c.0 frames c.1.most c.1.came_in c.1.framed.parts took tt c.2.1
+  breaks_read BadFrame c took = broke BadFrame c.1.came c.0 frames c.1.most c.1.came_in c.1.framed.parts took c.2.0 (omega (arith, c.2.1))
+  breaks_read BadSession c took = absurd c.2
+  breaks_read Book c took = absurd c.2
+  breaks_read Memory c took = broke Memory c.1.came c.0 frames c.1.most c.1.came_in c.1.framed.parts took tt (omega (arith, c.2))
 
-  -- the frames were taken, and nothing else was done
-  module _ (n : ℕ) (c : Came given ends failures v w r.rest frames q.rest) (took : LinkLives h s (map Took frames) t) (sound : failures w ≡ failures v) (kept : taken w ≡ taken v) (count : length c.came ≡ n) (no_end : e ≡ false → ends w ≡ ends v) (part : IsPart q.rest) where
-    abbrev only_heard : Heard given taken ends failures (link_of v h s r.rest o false) (link_of w h t q.rest o false)
-    only_heard = record {
-      moves = still c.came q.rest o t frames false c.most c.came_in c.framed.parts took kept refl;
+  -- all frames were taken
+  pub took_in : (read : Result ℕ Cause) → Read read → TookAll frames → IsPart new.reader.rest → TakesIn given taken ends failures old new read
+  took_in (Ok n) c took part = (
+    record {
+      moves = still c.came.came new.reader.rest frames false c.came.most c.came.came_in c.came.framed.parts took;
       none_given = refl;
       none_went = refl;
-      sound = sound;
-      no_end = λ is. no_end (bye ∙ is);
+      sound = c.sound;
+      no_end = λ is. c.no_end (bye ∙ is);
       part = part;
       whole = refl;
-    }
+    },
+    c.count,
+  )
+  took_in (Err cause) c took part = breaks_read cause c took
 
-    heard_by : (HasEnded t o → ⊥) → (b : Bool) → nat_lt 0 n ≡ b → Hears given taken ends failures (link_of v h s r.rest o false) (link_of w h t q.rest o false) (if b then Progress else Idle)
-    heard_by on true is = (only_heard, (grind (arith, nat_tests, is, count)), on)
-    heard_by on false is = (only_heard, (grind (arith, nat_tests, is, count)), on)
+-- The answer where all went well.
+module _ {W : Type 0} (given taken : W → List ℕ) (ends failures : W → ℕ) (old new : LinkValue W) (Well : Type 0) (moved : Well → ℕ) (well : Well) (n : ℕ) (count : moved well ≡ n) where
+  by_count : (HasEnded new.session new.out → ⊥) → (b : Bool) → nat_lt 0 n ≡ b → Says given taken ends failures old new Well moved (if b then Progress else Idle)
+  by_count on true is = (well, (grind (arith, nat_tests, is, count)), on)
+  by_count on false is = (well, (grind (arith, nat_tests, is, count)), on)
 
-    pub hears_well : (ended : Bool) → (ended ≡ true → HasEnded t o) → (HasEnded t o → ended ≡ true) → Hears given taken ends failures (link_of v h s r.rest o false) (link_of w h t q.rest o false) (answer_of ended n)
-    hears_well true over only = (only_heard, over refl)
-    hears_well false over only = heard_by (λ is. never (only is)) (nat_lt 0 n) refl
+  pub says_well : (ended : Bool) → (ended ≡ true → HasEnded new.session new.out) → (HasEnded new.session new.out → ended ≡ true) → Says given taken ends failures old new Well moved (answer_of ended n)
+  says_well true over only = (well, over refl)
+  says_well false over only = by_count (λ is. never (only is)) (nat_lt 0 n) refl
 
-  -- what was given, after the frames were taken
-  module _ (z : Option SessionValue) (x : W) (p : List ℕ) (n : ℕ) (c : Came given ends failures v w r.rest frames q.rest) (took : LinkLives h s (map Took frames) t) (sound : failures w ≡ failures v) (kept : taken w ≡ taken v) where
-    abbrev gave_moves : (went left lost out y : List ℕ) (b : Bool) → GivesFrames h t z o p lost → given x ≡ given w → taken x ≡ taken w ++ went → went ++ y ≡ p ++ lost → Moves given taken ends failures (link_of v h s r.rest o false) (link_of x h z q.rest out b) q.rest y
-    gave_moves went left lost out y b g same went_out sent = record {
-      was_whole = refl;
-      came = c.came;
-      went = went;
-      ins = frames;
-      outs = g.outs;
-      mid = t;
-      most = c.most;
-      came_in = same ∙ c.came_in;
-      framed = c.framed.parts;
-      took = took;
-      gave = g.gave;
-      went_out = went_out ∙ ap (λ l. l ++ went) kept;
-      sent = sent ∙ g.put;
-      acceptor = refl;
-    }
+-- What was given, once the link had heard.
+module _ {W : Type 0} (given taken : W → List ℕ) (ends failures : W → ℕ) (old mid : LinkValue W) (h : Heard given taken ends failures old mid) (z : Option SessionValue) (x : W) (p : List ℕ) where
+  abbrev gone : List ℕ → Bool → LinkValue W
+  gone out failed = record { wire = x; acceptor = mid.acceptor; session = z; rest = mid.rest; out = out; failed = failed }
 
-    -- memory for a frame was refused
-    pub breaks_give : (cause : Cause) → GivesOr {A = Unit {0}} h t z o p (Err cause) → x ≡ w → Breaks given taken ends failures (link_of v h s r.rest o false) (link_of x h z q.rest p true) cause
-    breaks_give End g same = absurd g
-    breaks_give Fault g same = absurd g
-    breaks_give BadFrame g same = absurd g
-    breaks_give BadSession g same = absurd g
-    breaks_give Book g same = absurd g
-    breaks_give Memory g same =
-        let fine : failures x ≡ failures w = ap failures same in
-        record {
-          rest = q.rest;
-          left = p ++ g.0;
-          moves = gave_moves [] [] g.0 p (p ++ g.0) true g.1 (ap given same) (ap taken same ∙ sym (append-nil (taken w))) refl;
-          reason = tt;
-          faults = omega (arith, fine, sound);
-          over = refl;
-        }
+  took : LinkLives old.acceptor old.session (map Took h.moves.ins) mid.session
+  took =
+      let same : mid.session ≡ h.moves.mid = subst (λ (fs : List Frame). LinkLives old.acceptor h.moves.mid (map Gave fs) mid.session) h.none_given h.moves.gave in
+      subst (λ (m : Option SessionValue). LinkLives old.acceptor old.session (map Took h.moves.ins) m) (sym same) h.moves.took
 
-    module _ (y : List ℕ) (gives : GivesFrames h t z o p []) (same : given x ≡ given w) where
-      -- the wire failed as it took octets
-      pub breaks_write : (cause : Cause) → Writes taken failures w x p y (Err cause) → Breaks given taken ends failures (link_of v h s r.rest o false) (link_of x h z q.rest y true) cause
-      breaks_write End l = absurd l
-      breaks_write Fault l = record {
-        rest = q.rest;
-        left = y;
-        moves = gave_moves l.0.went [] [] y y true gives same l.0.went_out (l.0.front ∙ sym (append-nil p));
+  kept : taken mid.wire ≡ taken old.wire
+  kept = h.moves.went_out ∙ ap (λ l. taken old.wire ++ l) h.none_went ∙ append-nil (taken old.wire)
+
+  same_out : mid.out ≡ old.out
+  same_out = ap (λ l. l ++ mid.out) (sym h.none_went) ∙ h.moves.sent ∙ ap (λ fs. old.out ++ stream_octets fs) h.none_given ∙ append-nil old.out
+
+  abbrev gave_moves : (went left lost out : List ℕ) (b : Bool) → GivesFrames old.acceptor mid.session z mid.out p lost → given x ≡ given mid.wire → taken x ≡ taken mid.wire ++ went → went ++ left ≡ p ++ lost → Moves given taken ends failures old (gone out b) mid.rest left
+  gave_moves went left lost out b g same went_out sent = record {
+    was_whole = h.moves.was_whole;
+    came = h.moves.came;
+    went = went;
+    ins = h.moves.ins;
+    outs = g.outs;
+    mid = mid.session;
+    most = h.moves.most;
+    came_in = same ∙ h.moves.came_in;
+    framed = h.moves.framed;
+    took = took;
+    gave = g.gave;
+    went_out = went_out ∙ ap (λ l. l ++ went) kept;
+    sent = sent ∙ g.put ∙ ap (λ l. l ++ stream_octets g.outs) same_out;
+    acceptor = h.moves.acceptor;
+  }
+
+  -- memory for a frame was refused
+  pub breaks_give : (cause : Cause) → GivesOr {A = Unit {0}} old.acceptor mid.session z mid.out p (Err cause) → x ≡ mid.wire → Breaks given taken ends failures old (gone p true) cause
+  breaks_give End g same = absurd g
+  breaks_give Fault g same = absurd g
+  breaks_give BadFrame g same = absurd g
+  breaks_give BadSession g same = absurd g
+  breaks_give Book g same = absurd g
+  breaks_give Memory g same =
+      let fine : failures x ≡ failures mid.wire = ap failures same in
+      let sound = h.sound in
+      record {
+        rest = mid.rest;
+        left = p ++ g.0;
+        moves = gave_moves [] (p ++ g.0) g.0 p true g.1 (ap given same) (ap taken same ∙ sym (append-nil (taken mid.wire))) refl;
         reason = tt;
-        faults = omega (arith, l.1, sound);
+        faults = omega (arith, fine, sound);
         over = refl;
       }
-      breaks_write BadFrame l = absurd l
-      breaks_write BadSession l = absurd l
-      breaks_write Book l = absurd l
-      breaks_write Memory l = absurd l
 
-      module _ (m : ℕ) (count : length c.came ≡ n) (l : Writes taken failures w x p y (Ok m)) (still_on : ends x ≡ ends w) (no_end : e ≡ false → ends w ≡ ends v) (part : IsPart q.rest) (all : HoldsNone z p) where
-        abbrev well : Went given taken ends failures (link_of v h s r.rest o false) (link_of x h z q.rest y false)
-        well = record {
-          moves = gave_moves l.0.went [] [] y y false gives same l.0.went_out (l.0.front ∙ sym (append-nil p));
-          sound = l.2 ∙ sound;
-          no_end = λ is. still_on ∙ no_end (bye ∙ is);
-          part = part;
+  module _ (y : List ℕ) (gives : GivesFrames old.acceptor mid.session z mid.out p []) (same : given x ≡ given mid.wire) where
+    -- the wire failed as it took octets
+    pub breaks_write : (cause : Cause) → Writes taken failures mid.wire x p y (Err cause) → Breaks given taken ends failures old (gone y true) cause
+    breaks_write End l = absurd l
+    breaks_write Fault l =
+        let sound = h.sound in
+        record {
+          rest = mid.rest;
+          left = y;
+          moves = gave_moves l.0.went y [] y true gives same l.0.went_out (l.0.front ∙ sym (append-nil p));
+          reason = tt;
+          faults = omega (arith, l.1, sound);
+          over = refl;
+        }
+    breaks_write BadFrame l = absurd l
+    breaks_write BadSession l = absurd l
+    breaks_write Book l = absurd l
+    breaks_write Memory l = absurd l
+
+    pub turned_well : (n m : ℕ) → length h.moves.came ≡ n → Writes taken failures mid.wire x p y (Ok m) → ends x ≡ ends mid.wire → HoldsNone z p → (ended : Bool) → (ended ≡ true → HasEnded z y) → (HasEnded z y → ended ≡ true)
+        → Turns given taken ends failures old (gone y false) (answer_of ended (n + m))
+    turned_well n m count l still_on all ended over only =
+        let well : Went given taken ends failures old (gone y false) = record {
+          moves = gave_moves l.0.went y [] y false gives same l.0.went_out (l.0.front ∙ sym (append-nil p));
+          sound = l.2 ∙ h.sound;
+          no_end = λ is. still_on ∙ h.no_end is;
+          part = h.part;
           all = subst (λ (octets : List ℕ). HoldsNone z octets) (sym l.0.front) all;
           whole = refl;
-        }
-
-        by_count : (HasEnded z y → ⊥) → (b : Bool) → nat_lt 0 (n + m) ≡ b → Turns given taken ends failures (link_of v h s r.rest o false) (link_of x h z q.rest y false) (if b then Progress else Idle)
-        by_count on true is = (well, (let k = l.1 in grind (arith, nat_tests, is, count, k)), on)
-        by_count on false is = (well, (let k = l.1 in grind (arith, nat_tests, is, count, k)), on)
-
-        pub turns_well : (ended : Bool) → (ended ≡ true → HasEnded z y) → (HasEnded z y → ended ≡ true) → Turns given taken ends failures (link_of v h s r.rest o false) (link_of x h z q.rest y false) (answer_of ended (n + m))
-        turns_well true over only = (well, over refl)
-        turns_well false over only = by_count (λ is. never (only is)) (nat_lt 0 (n + m)) refl
+        } in
+        let went = l.1 in
+        let sum : length h.moves.came + length l.0.went ≡ n + m = omega (arith, count, went) in
+        says_well given taken ends failures old (gone y false) (Went given taken ends failures old (gone y false)) (λ w. length w.moves.came + length w.moves.went) well (n + m) sum ended over only

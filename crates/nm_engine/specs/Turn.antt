@@ -10,8 +10,8 @@ use Rattle.nm_engine.specs.declared.answer.Cause.{Cause}
 use Rattle.nm_engine.specs.declared.answer.Cause.TheVariants.{End, Fault, Frame as BadFrame, Session as BadSession, Book, Memory}
 use Rattle.nm_engine.specs.declared.answer.Turn.{Turn}
 use Rattle.nm_engine.specs.declared.answer.Turn.TheVariants.{Progress, Idle, Ended, Broken, Failed}
+use Rattle.nm_engine.specs.declared.parts.Parts.{Parts}
 use Rattle.nm_base.specs.declared.limits.TheConstants.{MAX_READ_OCTETS}
-use Rattle.nm_engine.specs.Acceptor.{AcceptorValue}
 use Rattle.nm_engine.specs.Giving.{HoldsNone}
 use Rattle.nm_engine.specs.Link.{IsPart, LinkValue, bye_taken}
 use Rattle.nm_engine.specs.Lives.{LinkLives}
@@ -100,34 +100,51 @@ module _ {W : Type 0} (given taken : W → List ℕ) (ends failures : W → ℕ)
     pub part : IsPart new.rest
     pub whole : new.failed ≡ false
 
+  -- what the answer says of a turn, or of half of one: it went well, with so many octets moved;
+  -- or the link broke, or had broken before
+  abbrev pub Says : (Well : Type 0) → (Well → ℕ) → Turn → Type 0
+  Says Well moved Progress = (w : Well) × (0 < moved w) × (HasEnded new.session new.out → ⊥)
+  Says Well moved Idle = (w : Well) × (moved w ≡ 0) × (HasEnded new.session new.out → ⊥)
+  Says Well moved Ended = Well × HasEnded new.session new.out
+  Says Well moved (Broken cause) = Breaks cause
+  Says Well moved Failed = (old.failed ≡ true) × (new ≡ old)
+
   abbrev pub Hears : Turn → Type 0
-  Hears Progress = (h : Heard) × (0 < length h.moves.came) × (HasEnded new.session new.out → ⊥)
-  Hears Idle = (h : Heard) × (length h.moves.came ≡ 0) × (HasEnded new.session new.out → ⊥)
-  Hears Ended = Heard × HasEnded new.session new.out
-  Hears (Broken cause) = Breaks cause
-  Hears Failed = (old.failed ≡ true) × (new ≡ old)
+  Hears turn = Says Heard (λ h. length h.moves.came) turn
 
   abbrev pub Turns : Turn → Type 0
-  Turns Progress = (w : Went) × (0 < length w.moves.came + length w.moves.went) × (HasEnded new.session new.out → ⊥)
-  Turns Idle = (w : Went) × (length w.moves.came + length w.moves.went ≡ 0) × (HasEnded new.session new.out → ⊥)
-  Turns Ended = Went × HasEnded new.session new.out
-  Turns (Broken cause) = Breaks cause
-  Turns Failed = (old.failed ≡ true) × (new ≡ old)
+  Turns turn = Says Went (λ w. length w.moves.came + length w.moves.went) turn
 
 -- the link of these parts
-abbrev pub link_of : {W : Type 0} → W → Option AcceptorValue → Option SessionValue → List ℕ → List ℕ → Bool → LinkValue W
-link_of wire acceptor session rest out failed = record { wire = wire; acceptor = acceptor; session = session; rest = rest; out = out; failed = failed }
+abbrev pub link_of : {W : Type 0} → Parts W → Bool → LinkValue W
+link_of parts failed = record {
+  wire = parts.wire;
+  acceptor = parts.party.acceptor;
+  session = parts.party.session;
+  rest = parts.reader.rest;
+  out = parts.out.items;
+  failed = failed;
+}
 
--- the same of a turn's work on the parts of a link that has not failed
-abbrev pub Works : {W : Type 0} → (W → List ℕ) → (W → List ℕ) → (W → ℕ) → (W → ℕ) → W → W → Option AcceptorValue → Option SessionValue → Option SessionValue → List ℕ → List ℕ → List ℕ → List ℕ → Result Turn Cause → Type 0
-Works given taken ends failures v w h s t r q o p (Ok turn) =
-    Turns given taken ends failures (link_of v h s r o false) (link_of w h t q p false) turn
-Works given taken ends failures v w h s t r q o p (Err cause) =
-    Breaks given taken ends failures (link_of v h s r o false) (link_of w h t q p true) cause
+-- the parts of a link that has not failed
+module _ {W : Type 0} (given taken : W → List ℕ) (ends failures : W → ℕ) (old new : Parts W) where
+  -- this, or the link broke
+  abbrev pub OrBreaks : {A : Type 0} → (A → Type 0) → Result A Cause → Type 0
+  OrBreaks Fine (Ok x) = Fine x
+  OrBreaks Fine (Err cause) =
+      Breaks given taken ends failures (link_of old false) (link_of new true) cause
 
--- the same of what a link heard
-abbrev pub Listens : {W : Type 0} → (W → List ℕ) → (W → List ℕ) → (W → ℕ) → (W → ℕ) → W → W → Option AcceptorValue → Option SessionValue → Option SessionValue → List ℕ → List ℕ → List ℕ → List ℕ → Result Turn Cause → Type 0
-Listens given taken ends failures v w h s t r q o p (Ok turn) =
-    Hears given taken ends failures (link_of v h s r o false) (link_of w h t q p false) turn
-Listens given taken ends failures v w h s t r q o p (Err cause) =
-    Breaks given taken ends failures (link_of v h s r o false) (link_of w h t q p true) cause
+  -- the link heard, and so many octets came
+  abbrev pub TakesIn : Result ℕ Cause → Type 0
+  TakesIn result = OrBreaks
+      (λ n. (h : Heard given taken ends failures (link_of old false) (link_of new false))
+      × (length h.moves.came ≡ n))
+      result
+
+  abbrev pub Listens : Result Turn Cause → Type 0
+  Listens result =
+      OrBreaks (Hears given taken ends failures (link_of old false) (link_of new false)) result
+
+  abbrev pub Works : Result Turn Cause → Type 0
+  Works result =
+      OrBreaks (Turns given taken ends failures (link_of old false) (link_of new false)) result

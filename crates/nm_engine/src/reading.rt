@@ -15,7 +15,7 @@ use std::alloc::{AllocError, Global};
 /// Where octets stand between a wire and a reader. One serves all links of a thread.
 #[derive(Drop)]
 pub struct ReadBuffer {
-    octets: Vec<u8>,
+    pub(crate) octets: Vec<u8>,
     ghost size: { length octets.items ≡ MAX_READ_OCTETS },
 }
 
@@ -56,8 +56,9 @@ fn feed(
     }
 }
 
-/// Reads once into the front of a list of octets, and hands on what came. How many octets came.
-fn read_into<W: Wire>(
+/// Reads once into the front of a list of octets, and puts the frames that came whole into a list.
+/// How many octets came.
+pub(crate) fn read_in<W: Wire>(
     alloc: Global,
     wire: &mut W,
     reader: &mut Reader,
@@ -85,29 +86,4 @@ fn read_into<W: Wire>(
         Read::Later => Ok(0),
         Read::Fault => Err(Cause::Fault),
     }
-}
-
-/// Reads once, and puts the frames that came whole into a list. How many octets came.
-pub(crate) fn read_in<W: Wire>(
-    alloc: Global,
-    wire: &mut W,
-    reader: &mut Reader,
-    may_end: bool,
-    buffer: &mut ReadBuffer,
-    frames: &mut Vec<Frame>,
-) -> Result<usize, Cause>
-    // No fault was read, and frames were taken.
-    requires sound { reader.old.failed ≡ false }
-    requires none { frames.old.items ≡ [] }
-    requires part { IsPart reader.old.rest }
-
-    // What the wire gave is frames and the part of one that is kept.
-    ensures reads { Reads W.given W.ends W.failures wire.old wire.new may_end reader.old
-        frames.new.items reader.new result }
-    ensures part { IsPart reader.new.rest }
-
-    // Nothing is written.
-    ensures keeps { W.taken wire.new ≡ W.taken wire.old }
-{
-    read_into(alloc, wire, reader, may_end, &mut buffer.octets, frames)
 }

@@ -1,7 +1,7 @@
 //! A turn, over the parts of a link that has not failed.
 
 ghost use Rattle.std.specs.Prelude.{◌≡◌, false, true, IfOk};
-ghost use Rattle.nm_engine.specs.Turn.{HasEnded, Listens, Works, answer_of};
+ghost use Rattle.nm_engine.specs.Turn.{HasEnded, Listens, TakesIn, Works, answer_of};
 ghost use Rattle.nm_engine.specs.Link.{IsBounded, bye_taken};
 
 use crate::answer::{Cause, Turn};
@@ -50,6 +50,35 @@ fn answer(ended: bool, moved: usize) -> Turn
     }
 }
 
+/// Reads once, and takes the frames that came. Nothing is given or written. How many octets came.
+fn take_in<W: Wire, C: Counts, R: Wait>(
+    rt: &R,
+    alloc: Global,
+    parts: &mut Parts<W>,
+    book: &SharedBook<C>,
+    pass: &mut Pass<C>,
+    buffer: &mut ReadBuffer,
+) -> Result<usize, Cause>
+    requires sound { parts.old.reader.failed ≡ false }
+    requires bounded { IsBounded parts.old.reader.rest parts.old.out.items }
+    ensures takes { TakesIn W.given W.taken W.ends W.failures parts.old parts.new result }
+    ensures bounded { IsBounded parts.new.reader.rest parts.new.out.items }
+    ensures sound { IfOk result (λ _. parts.new.reader.failed ≡ false) }
+{
+    let may_end = bye_taken(&parts.party.session);
+    let mut frames = Vec::new(alloc);
+    let read = read_in(
+        alloc,
+        &mut parts.wire,
+        &mut parts.reader,
+        may_end,
+        &mut buffer.octets,
+        &mut frames,
+    );
+    take_all(rt, alloc, &mut parts.party, book, pass, frames)?;
+    read
+}
+
 /// Reads once, and takes the frames that came. Nothing is given or written.
 pub(crate) fn listen<W: Wire, C: Counts, R: Wait>(
     rt: &R,
@@ -61,25 +90,11 @@ pub(crate) fn listen<W: Wire, C: Counts, R: Wait>(
 ) -> Result<Turn, Cause>
     requires sound { parts.old.reader.failed ≡ false }
     requires bounded { IsBounded parts.old.reader.rest parts.old.out.items }
-    ensures hears { Listens W.given W.taken W.ends W.failures parts.old.wire parts.new.wire
-        parts.old.party.acceptor parts.old.party.session parts.new.party.session
-        parts.old.reader.rest parts.new.reader.rest parts.old.out.items parts.new.out.items result }
-    ensures keeps { parts.new.party.acceptor ≡ parts.old.party.acceptor }
+    ensures hears { Listens W.given W.taken W.ends W.failures parts.old parts.new result }
     ensures bounded { IsBounded parts.new.reader.rest parts.new.out.items }
     ensures sound { IfOk result (λ _. parts.new.reader.failed ≡ false) }
 {
-    let may_end = bye_taken(&parts.party.session);
-    let mut frames = Vec::new(alloc);
-    let read = read_in(
-        alloc,
-        &mut parts.wire,
-        &mut parts.reader,
-        may_end,
-        buffer,
-        &mut frames,
-    );
-    take_all(rt, alloc, &mut parts.party, book, pass, frames)?;
-    let came = read?;
+    let came = take_in(rt, alloc, parts, book, pass, buffer)?;
     Ok(answer(has_ended(&parts.party.session, &parts.out), came))
 }
 
@@ -95,25 +110,11 @@ pub(crate) fn work<W: Wire, C: Counts, R: Wait>(
 ) -> Result<Turn, Cause>
     requires sound { parts.old.reader.failed ≡ false }
     requires bounded { IsBounded parts.old.reader.rest parts.old.out.items }
-    ensures works { Works W.given W.taken W.ends W.failures parts.old.wire parts.new.wire
-        parts.old.party.acceptor parts.old.party.session parts.new.party.session
-        parts.old.reader.rest parts.new.reader.rest parts.old.out.items parts.new.out.items result }
-    ensures keeps { parts.new.party.acceptor ≡ parts.old.party.acceptor }
+    ensures works { Works W.given W.taken W.ends W.failures parts.old parts.new result }
     ensures bounded { IsBounded parts.new.reader.rest parts.new.out.items }
     ensures sound { IfOk result (λ _. parts.new.reader.failed ≡ false) }
 {
-    let may_end = bye_taken(&parts.party.session);
-    let mut frames = Vec::new(alloc);
-    let read = read_in(
-        alloc,
-        &mut parts.wire,
-        &mut parts.reader,
-        may_end,
-        buffer,
-        &mut frames,
-    );
-    take_all(rt, alloc, &mut parts.party, book, pass, frames)?;
-    let came = read?;
+    let came = take_in(rt, alloc, parts, book, pass, buffer)?;
     give_all(rt, &mut parts.party.session, book, pass, &mut parts.out)?;
     let went = write_out(&mut parts.wire, &mut parts.out)?;
     Ok(answer(has_ended(&parts.party.session, &parts.out), came + went))

@@ -1,5 +1,4 @@
-use Rattle.std.proofs.Common.{Bool, false, Option, subst, sym}
-use Rattle.nm_engine.specs.Acceptor.{AcceptorValue}
+use Rattle.std.proofs.Common.{Bool, false, subst, sym}
 use Rattle.nm_engine.specs.Link.{LinkValue}
 use Rattle.nm_engine.specs.Turn.{Turns, link_of}
 use Rattle.nm_engine.proofs.link.Link.turn.Goals as goal
@@ -8,8 +7,5 @@ pub returns-in-Ok-clause-turns : goal.returns-in-Ok-clause-turns
 returns-in-Ok-clause-turns g c =
     let i = c.self.inside in
     let n = c.work.new.parts in
-    let new : Option AcceptorValue → Bool → LinkValue g.row.W.Denot = λ h b. link_of n.wire h n.party.session n.reader.rest n.out.items b in
-    let old : Bool → LinkValue g.row.W.Denot = λ b. link_of i.parts.wire i.parts.party.acceptor i.parts.party.session i.parts.reader.rest i.parts.out.items b in
-    subst (λ (x : LinkValue g.row.W.Denot). Turns g.W.Wire.given g.W.Wire.taken g.W.Wire.ends g.W.Wire.failures x (new n.party.acceptor i.failed) c.in-Ok.turn) c.self.view_is
-    (subst (λ (b : Bool). Turns g.W.Wire.given g.W.Wire.taken g.W.Wire.ends g.W.Wire.failures (old b) (new n.party.acceptor b) c.in-Ok.turn) (sym c.if-self.false)
-    (subst (λ (h : Option AcceptorValue). Turns g.W.Wire.given g.W.Wire.taken g.W.Wire.ends g.W.Wire.failures (old false) (new h false) c.in-Ok.turn) (sym c.in-Ok.ensures.keeps) c.in-Ok.ensures.works))
+    subst (λ (x : LinkValue g.row.W.Denot). Turns g.W.Wire.given g.W.Wire.taken g.W.Wire.ends g.W.Wire.failures x (link_of n i.failed) c.in-Ok.turn) c.self.view_is
+    (subst (λ (b : Bool). Turns g.W.Wire.given g.W.Wire.taken g.W.Wire.ends g.W.Wire.failures (link_of i.parts b) (link_of n b) c.in-Ok.turn) (sym c.if-self.false) c.in-Ok.ensures.works)

@@ -1,7 +1,7 @@
-use Rattle.std.proofs.Common.{◌≡◌, ℕ, List, length, arith, true, false, sym, ◌∙◌}
+use Rattle.std.proofs.Common.{◌≡◌, length, arith, true, false, sym, ◌∙◌}
 use Rattle.nm_base.specs.declared.limits.TheConstants.{MAX_READ_OCTETS}
 use Rattle.nm_engine.proofs.Readings.{came_none, read_none, read_some}
-use Rattle.nm_engine.proofs.reading.read_into.Goals as goal
+use Rattle.nm_engine.proofs.reading.read_in.Goals as goal
 
 never : true ≡ false → ⊥
 never e = cc
