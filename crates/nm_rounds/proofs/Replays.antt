@@ -1,5 +1,5 @@
 -- Steps done one after another, and what is reported of them.
-use Rattle.std.proofs.Common.{◌≡◌, ◌⊎◌, inl, inr, ℕ, zero, suc, ◌+◌, ◌*◌, ◌<◌, List, [], ◌∷◌, ◌++◌, length, map, take, slice_get, replicate, get_or, Some, None, Result, Ok, Err, refl, sym, ◌∙◌, ap, ap₂, subst, arith, ⊎_elim, length-append}
+use Rattle.std.proofs.Common.{◌≡◌, ◌⊎◌, inl, inr, ℕ, zero, suc, ◌+◌, ◌*◌, ◌<◌, List, [], ◌∷◌, ◌++◌, length, map, take, slice_get, replicate, get_or, Some, None, Ok, Err, refl, sym, ◌∙◌, ap, ap₂, subst, arith, ⊎_elim, length-append}
 use Rattle.std.proofs.lemmas.List.{map-append}
 use Rattle.std.proofs.lemmas.Option.{slice_get_read}
 use Rattle.nm_topology.specs.TopologyValue.{TopologyValue}
@@ -9,6 +9,7 @@ use Rattle.nm_model.specs.World as model
 use Rattle.nm_sim.specs.Network.{net_of}
 use Rattle.nm_book.specs.Book.{BookValue}
 use Rattle.nm_book.specs.declared.message.ChannelMessage.{ChannelMessage}
+use Rattle.nm_rounds.specs.Acting.{DoesStep}
 use Rattle.nm_rounds.specs.World.{AreFirst, AreReplicas, IsReplicaOf, IsWorld, Steps, happens, outcome_of, step_of}
 use Rattle.nm_rounds.specs.Replay.{IsInterrupted, IsReplay, NamesNothing, answers_of, first_steps, world_after}
 use Rattle.nm_rounds.specs.declared.replay.ReplayEnd.TheVariants as ending
@@ -66,12 +67,8 @@ module _ (t : TopologyValue) where
       here : slice_get steps n ≡ Some s
       here = slice_get_read steps (length steps) n s refl low is
 
-      -- what it did and answered, as it does and answers in any world that stands there
-      abbrev Did : Result StepAnswer Stop → Type 0
-      Did result = (w : model.World (List ℕ)) → IsWorld t old bag w → Steps t w s result new more
-
       -- it was done
-      pub goes_on : (a : StepAnswer) → Did (Ok a) → IsReplaying (n + 1) (answers ++ a ∷ []) new more
+      pub goes_on : (a : StepAnswer) → DoesStep t old bag s (Ok a) new more → IsReplaying (n + 1) (answers ++ a ∷ []) new more
       goes_on a did =
           let now = did (world_after t (first_steps t steps n)) h.stands in
           let did_more = steps_more n s here in
@@ -87,7 +84,7 @@ module _ (t : TopologyValue) where
           })
 
       -- it names what is not there
-      pub named_nothing : (why : Stop) → why ≡ stop.NoSuch → Did (Err why) → IsReplay t steps answers new (ending.NoSuch n)
+      pub named_nothing : (why : Stop) → why ≡ stop.NoSuch → DoesStep t old bag s (Err why) new more → IsReplay t steps answers new (ending.NoSuch n)
       named_nothing why same did =
           let now = subst (λ y. Steps t (world_after t (first_steps t steps n)) s (Err y) new more) same (did (world_after t (first_steps t steps n)) h.stands) in
           record {
@@ -98,7 +95,7 @@ module _ (t : TopologyValue) where
           }
 
       -- memory was refused
-      pub was_interrupted : (why : Stop) → why ≡ stop.Memory → Did (Err why) → IsReplay t steps answers new (ending.Memory n)
+      pub was_interrupted : (why : Stop) → why ≡ stop.Memory → DoesStep t old bag s (Err why) new more → IsReplay t steps answers new (ending.Memory n)
       was_interrupted why same did = go s here (subst (λ y. Steps t (world_after t (first_steps t steps n)) s (Err y) new more) same (did (world_after t (first_steps t steps n)) h.stands))
         where
           as_was : (s : WorldStep) → slice_get steps n ≡ Some s → IsInterrupted (Some s) (first_steps t steps n) (first_steps t steps n) → IsWorld t new more (world_after t (first_steps t steps n)) → IsReplay t steps answers new (ending.Memory n)

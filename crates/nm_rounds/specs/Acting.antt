@@ -1,10 +1,27 @@
--- The null messages that make one promise or the other.
-use Rattle.std.specs.Prelude.{ℕ}
+-- What a step does, and the null messages that make one promise or the other.
+use Rattle.std.specs.Prelude.{ℕ, List, Result}
+use Rattle.nm_topology.specs.TopologyValue.{TopologyValue}
 use Rattle.nm_model.specs.Promise.{Promising, Plain, Tight}
+use Rattle.nm_model.specs.World as model
+use Rattle.nm_book.specs.Book.{BookValue}
+use Rattle.nm_book.specs.declared.message.ChannelMessage.{ChannelMessage}
+use Rattle.nm_rounds.specs.World.{IsWorld, Steps}
 use Rattle.nm_rounds.specs.declared.acting.Promise.{Promise}
 use Rattle.nm_rounds.specs.declared.acting.Promise.TheVariants as made
+use Rattle.nm_rounds.specs.declared.step.StepAnswer.{StepAnswer}
 use Rattle.nm_rounds.specs.declared.step.WorldStep.{WorldStep}
 use Rattle.nm_rounds.specs.declared.step.WorldStep.TheVariants.{Null, OldNull}
+use Rattle.nm_rounds.specs.declared.world.Stop.{Stop}
+
+-- the books and messages are those of some world
+abbrev pub HaveWorld : TopologyValue → List BookValue → List ChannelMessage → Type 0
+HaveWorld t books bag = (w : model.World (List ℕ)) × IsWorld t books bag w
+
+-- over each such world the step answers so, and leaves these books and messages
+abbrev pub DoesStep : TopologyValue → List BookValue → List ChannelMessage → WorldStep
+    → Result StepAnswer Stop → List BookValue → List ChannelMessage → Type 0
+DoesStep t books bag s result new more =
+    (w : model.World (List ℕ)) → IsWorld t books bag w → Steps t w s result new more
 
 -- the promise in the model's words, and the step that sends such a message
 abbrev pub kind_of : Promise → Promising

@@ -1,12 +1,11 @@
 //! What each step does.
 
-ghost use Rattle.std.specs.Prelude.{◌≡◌, ℕ, List};
+ghost use Rattle.std.specs.Prelude.{◌≡◌, List};
 ghost use Rattle.std.specs.Arc.{arc_value};
 ghost use Rattle.nm_book.specs.Book.{is_outgoing, null_on, only_if};
 ghost use Rattle.nm_book.specs.declared.message.ChannelMessage.{ChannelMessage as Message};
-ghost use Rattle.nm_model.specs.World.{World};
-ghost use Rattle.nm_rounds.specs.Acting.{kind_of, null_step};
-ghost use Rattle.nm_rounds.specs.World.{IsWorld, Steps, merge_answer_of, refusal_of};
+ghost use Rattle.nm_rounds.specs.Acting.{DoesStep, HaveWorld, kind_of, null_step};
+ghost use Rattle.nm_rounds.specs.World.{merge_answer_of, refusal_of};
 ghost use Rattle.nm_rounds.specs.declared.step.WorldStep.TheVariants as step;
 
 use crate::messages::messages_from;
@@ -36,11 +35,9 @@ pub(crate) fn run(
     replica: u8,
     limit: u64,
 ) -> Result<StepAnswer, Stop>
-    requires { (bag : List Message) × (w : World (List ℕ))
-        × IsWorld topology.now books.old.items bag w }
-    ensures { (bag : List Message) (w : World (List ℕ))
-        → IsWorld topology.now books.old.items bag w
-        → Steps topology.now w (step.Run partition replica limit) result books.new.items bag }
+    requires { (bag : List Message) × HaveWorld topology.now books.old.items bag }
+    ensures { (bag : List Message) → DoesStep topology.now books.old.items bag
+        (step.Run partition replica limit) result books.new.items bag }
 {
     let Some(place) = place_of(topology, partition, replica) else {
         return Err(Stop::NoSuch);
@@ -62,10 +59,9 @@ pub(crate) fn send(
     channel: ChanNo,
     number: u64,
 ) -> Result<StepAnswer, Stop>
-    requires { (w : World (List ℕ)) × IsWorld topology.now books.now bag.old.items w }
-    ensures { (w : World (List ℕ)) → IsWorld topology.now books.now bag.old.items w
-        → Steps topology.now w (step.Data partition replica channel number) result books.now
-        bag.new.items }
+    requires { HaveWorld topology.now books.now bag.old.items }
+    ensures { DoesStep topology.now books.now bag.old.items
+        (step.Data partition replica channel number) result books.now bag.new.items }
 {
     let Some(place) = sending_place(topology, partition, replica, channel) else {
         return Err(Stop::NoSuch);
@@ -88,10 +84,9 @@ pub(crate) fn send_again(
     channel: ChanNo,
     number: u64,
 ) -> Result<StepAnswer, Stop>
-    requires { (w : World (List ℕ)) × IsWorld topology.now books.now bag.old.items w }
-    ensures { (w : World (List ℕ)) → IsWorld topology.now books.now bag.old.items w
-        → Steps topology.now w (step.Resend partition replica channel number) result books.now
-        bag.new.items }
+    requires { HaveWorld topology.now books.now bag.old.items }
+    ensures { DoesStep topology.now books.now bag.old.items
+        (step.Resend partition replica channel number) result books.now bag.new.items }
 {
     let Some(place) = sending_place(topology, partition, replica, channel) else {
         return Err(Stop::NoSuch);
@@ -138,10 +133,9 @@ pub(crate) fn send_null(
     replica: u8,
     channel: ChanNo,
 ) -> Result<StepAnswer, Stop>
-    requires { (w : World (List ℕ)) × IsWorld topology.now books.now bag.old.items w }
-    ensures { (w : World (List ℕ)) → IsWorld topology.now books.now bag.old.items w
-        → Steps topology.now w (null_step promise partition replica channel) result books.now
-        bag.new.items }
+    requires { HaveWorld topology.now books.now bag.old.items }
+    ensures { DoesStep topology.now books.now bag.old.items
+        (null_step promise partition replica channel) result books.now bag.new.items }
 {
     let Some(place) = sending_place(topology, partition, replica, channel) else {
         return Err(Stop::NoSuch);
@@ -171,9 +165,9 @@ pub(crate) fn deliver(
     frame: u64,
     replica: u8,
 ) -> Result<StepAnswer, Stop>
-    requires { (w : World (List ℕ)) × IsWorld topology.now books.old.items bag.now w }
-    ensures { (w : World (List ℕ)) → IsWorld topology.now books.old.items bag.now w
-        → Steps topology.now w (step.Deliver frame replica) result books.new.items bag.now }
+    requires { HaveWorld topology.now books.old.items bag.now }
+    ensures { DoesStep topology.now books.old.items bag.now (step.Deliver frame replica) result
+        books.new.items bag.now }
 {
     let Some(message) = bag.get(frame as usize) else {
         return Err(Stop::NoSuch);
@@ -211,11 +205,9 @@ pub(crate) fn merge(
     partition: PartNo,
     replica: u8,
 ) -> Result<StepAnswer, Stop>
-    requires { (bag : List Message) × (w : World (List ℕ))
-        × IsWorld topology.now books.old.items bag w }
-    ensures { (bag : List Message) (w : World (List ℕ))
-        → IsWorld topology.now books.old.items bag w
-        → Steps topology.now w (step.Merge partition replica) result books.new.items bag }
+    requires { (bag : List Message) × HaveWorld topology.now books.old.items bag }
+    ensures { (bag : List Message) → DoesStep topology.now books.old.items bag
+        (step.Merge partition replica) result books.new.items bag }
 {
     let Some(place) = place_of(topology, partition, replica) else {
         return Err(Stop::NoSuch);
@@ -237,12 +229,9 @@ pub(crate) fn restart(
     partition: PartNo,
     replica: u8,
 ) -> Result<StepAnswer, Stop>
-    requires { (bag : List Message) × (w : World (List ℕ))
-        × IsWorld (arc_value topology.now) books.old.items bag w }
-    ensures { (bag : List Message) (w : World (List ℕ))
-        → IsWorld (arc_value topology.now) books.old.items bag w
-        → Steps (arc_value topology.now) w (step.Restart partition replica) result books.new.items
-        bag }
+    requires { (bag : List Message) × HaveWorld (arc_value topology.now) books.old.items bag }
+    ensures { (bag : List Message) → DoesStep (arc_value topology.now) books.old.items bag
+        (step.Restart partition replica) result books.new.items bag }
 {
     let Some(place) = place_of(topology, partition, replica) else {
         return Err(Stop::NoSuch);

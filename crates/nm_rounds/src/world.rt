@@ -1,9 +1,10 @@
 //! All replicas of a network's partitions, and the frames that they sent.
 
-ghost use Rattle.std.specs.Prelude.{◌≡◌, ◌+◌, ◌*◌, ◌<◌, ℕ, [], IfOk, OnOk, List};
+ghost use Rattle.std.specs.Prelude.{◌≡◌, ◌+◌, ◌*◌, ◌<◌, [], IfOk, OnOk};
 ghost use Rattle.std.specs.Arc.{arc_value};
-ghost use Rattle.nm_model.specs.World.{World as ModelWorld, opening};
-ghost use Rattle.nm_rounds.specs.World.{AreFirst, IsWorld, Steps};
+ghost use Rattle.nm_model.specs.World.{opening};
+ghost use Rattle.nm_rounds.specs.Acting.{DoesStep, HaveWorld};
+ghost use Rattle.nm_rounds.specs.World.{AreFirst, IsWorld};
 ghost use Rattle.nm_rounds.specs.declared.world.Stop.TheVariants.{Memory};
 
 use crate::acting::Promise::{Plain, Tight};
@@ -86,11 +87,9 @@ pub(crate) fn do_step(
     bag: &mut Vec<ChannelMessage>,
     step: &WorldStep,
 ) -> Result<StepAnswer, Stop>
-    requires { (w : ModelWorld (List ℕ))
-        × IsWorld (arc_value topology.now) books.old.items bag.old.items w }
-    ensures { (w : ModelWorld (List ℕ))
-        → IsWorld (arc_value topology.now) books.old.items bag.old.items w
-        → Steps (arc_value topology.now) w step.now result books.new.items bag.new.items }
+    requires { HaveWorld (arc_value topology.now) books.old.items bag.old.items }
+    ensures { DoesStep (arc_value topology.now) books.old.items bag.old.items step.now result
+        books.new.items bag.new.items }
 {
     match *step {
         WorldStep::Run {
