@@ -8,7 +8,7 @@ use Rattle.nm_command.specs.declared.view.Subject.{Subject}
 use Rattle.nm_command.specs.declared.view.Subject.TheVariants.{Interfaces, Sources}
 use Rattle.nm_files.specs.Writing.{WroteAll, WrotePrefix}
 use Rattle.nm_series.specs.Flows.{AreLines}
-use Rattle.nm_series.specs.Series.{IsIfaceStep}
+use Rattle.nm_series.specs.Rows.{IsIfaceStep}
 use Rattle.nm_series.specs.Steps.{AreAllSteps, AreSteps, steps_in}
 use Rattle.nm_series.specs.declared.steps.TheConstants.{MAX_ROWS}
 use Rattle.nm_words.specs.Input.{HasTopology, IsRefused}
@@ -24,6 +24,10 @@ columns_of Sources = codes "from_nanoseconds,source,sent,delivered,lost,octets,m
 abbrev pub IsStepOf : Subject → TopologyValue → (from until : ℕ) → List ℕ → Type 0
 IsStepOf Interfaces t from until text = IsIfaceStep t from until text
 IsStepOf Sources t from until text = AreLines text
+
+-- rows of this kind are the text of a step
+abbrev pub TellsOf : (AreRows : TopologyValue → (from until : ℕ) → List ℕ → Type 0) → Subject → TopologyValue → Type 0
+TellsOf AreRows subject t = (from until : ℕ) (text : List ℕ) → AreRows t from until text → IsStepOf subject t from until text
 
 -- the names of the columns, and the first so many steps
 abbrev pub TellsSteps : Subject → (step : ℕ) → TopologyValue → ℕ → List ℕ → Type 0

@@ -4,15 +4,13 @@ ghost use Rattle.std.specs.Prelude.{◌≡◌, ◌*◌, ◌≤◌, ◌<◌, IfEr
 ghost use Rattle.nm_base.specs.declared.limits.TheConstants.{MAX_IFACES, MAX_TIME};
 ghost use Rattle.nm_command.specs.Status.{ended};
 ghost use Rattle.nm_command.specs.declared.status.Status.TheVariants.{File};
-ghost use Rattle.nm_command.specs.declared.view.Subject.TheVariants.{Interfaces, Sources};
 ghost use Rattle.nm_files.specs.Writing.{WroteAll, WrotePrefix};
-ghost use Rattle.nm_series.specs.Flows.{IsFlowSeries};
 ghost use Rattle.nm_series.specs.Series.{IsSeries};
 ghost use Rattle.nm_series.specs.Steps.{steps_in};
 ghost use Rattle.nm_series.specs.declared.steps.TheConstants.{MAX_ROWS};
 ghost use Rattle.nm_words.specs.Input.{HasTopology, text_of};
 ghost use Rattle.nm_words.specs.Output.{FailsOfInput};
-ghost use Rattle.nm_words.specs.Series.{EndsSeries, HasFewRows, HasManyRows, WritesSteps};
+ghost use Rattle.nm_words.specs.Series.{EndsSeries, HasFewRows, HasManyRows, TellsOf, WritesSteps};
 ghost use Rattle.nm_words.specs.Series.{columns_of, rows_in};
 
 use crate::input::NamedInputs;
@@ -21,9 +19,10 @@ use crate::reading::read_topology;
 use nm_base::Sink;
 use nm_base::sink::write_all;
 use nm_command::{SeriesWords, Status, Subject};
+use nm_measure::{FlowTotals, IfaceTotals};
 use nm_progress::Progress;
 use nm_series::steps::{MAX_ROWS, steps_in};
-use nm_series::{FlowSeries, IfaceSeries};
+use nm_series::{Series, Told};
 use nm_topology::Topology;
 use nm_topology::topology::accepted_topologies_are_in_order;
 use std::alloc::Global;
@@ -78,20 +77,22 @@ fn put<S: Sink>(sink: &mut S, octets: &[u8]) -> Result<(), Status>
     }
 }
 
-/// Writes what interfaces do, step by step, from the begin of a series.
-fn write_iface_steps<S: Sink>(
+/// Writes the steps of a series from its begin.
+fn write_from_begin<T: Told, S: Sink>(
     alloc: Global,
     topology: &Topology,
-    series: &mut IfaceSeries,
+    subject: Subject,
+    series: &mut Series<T>,
     sink: &mut S,
     progress: &Progress,
 ) -> Result<(), Status>
-    requires series { IsSeries topology.now series.old }
+    requires tells { TellsOf T.are_rows subject topology.now }
+    requires series { IsSeries T.had topology.now series.old }
     requires begin { series.old.time ≡ 0 }
-    ensures { WritesSteps S.taken S.failures sink.old sink.new Interfaces series.old.step
+    ensures { WritesSteps S.taken S.failures sink.old sink.new subject series.old.step
         topology.now (ended result) }
 {
-    put(sink, columns_of(Subject::Interfaces))?;
+    put(sink, columns_of(subject))?;
     for _ in 0..u64::MAX {
         let Some(text) = series.next(alloc, topology, progress)? else {
             return Ok(());
@@ -101,57 +102,20 @@ fn write_iface_steps<S: Sink>(
     Err(Status::Memory)
 }
 
-/// Writes what interfaces do, step by step.
-fn write_ifaces<S: Sink>(
+/// Writes what is told of interfaces or of sources, step by step.
+fn write_all_steps<T: Told, S: Sink>(
     alloc: Global,
     topology: &Topology,
-    step: u64,
+    words: &SeriesWords<'_>,
     sink: &mut S,
     progress: &Progress,
 ) -> Result<(), Status>
-    ensures { WritesSteps S.taken S.failures sink.old sink.new Interfaces step topology.now
-        (ended result) }
-{
-    let mut series = IfaceSeries::begin(alloc, topology, step)?;
-    write_iface_steps(alloc, topology, &mut series, sink, progress)
-}
-
-/// Writes what becomes of the packets of sources, step by step, from the begin of a series.
-fn write_flow_steps<S: Sink>(
-    alloc: Global,
-    topology: &Topology,
-    series: &mut FlowSeries,
-    sink: &mut S,
-    progress: &Progress,
-) -> Result<(), Status>
-    requires series { IsFlowSeries topology.now series.old }
-    requires begin { series.old.time ≡ 0 }
-    ensures { WritesSteps S.taken S.failures sink.old sink.new Sources series.old.step
+    requires { TellsOf T.are_rows words.now.subject topology.now }
+    ensures { WritesSteps S.taken S.failures sink.old sink.new words.now.subject words.now.step
         topology.now (ended result) }
 {
-    put(sink, columns_of(Subject::Sources))?;
-    for _ in 0..u64::MAX {
-        let Some(text) = series.next(alloc, topology, progress)? else {
-            return Ok(());
-        };
-        put(sink, text.as_slice())?;
-    }
-    Err(Status::Memory)
-}
-
-/// Writes what becomes of the packets of sources, step by step.
-fn write_flows<S: Sink>(
-    alloc: Global,
-    topology: &Topology,
-    step: u64,
-    sink: &mut S,
-    progress: &Progress,
-) -> Result<(), Status>
-    ensures { WritesSteps S.taken S.failures sink.old sink.new Sources step topology.now
-        (ended result) }
-{
-    let mut series = FlowSeries::begin(alloc, topology, step)?;
-    write_flow_steps(alloc, topology, &mut series, sink, progress)
+    let mut series = Series::<T>::begin(alloc, topology, words.step)?;
+    write_from_begin(alloc, topology, words.subject, &mut series, sink, progress)
 }
 
 /// Writes a series, step by step.
@@ -166,8 +130,12 @@ fn write_steps<S: Sink>(
         topology.now (ended result) }
 {
     match words.subject {
-        Subject::Interfaces => write_ifaces(alloc, topology, words.step, sink, progress),
-        Subject::Sources => write_flows(alloc, topology, words.step, sink, progress),
+        Subject::Interfaces => write_all_steps::<IfaceTotals, S>(
+            alloc, topology, words, sink, progress,
+        ),
+        Subject::Sources => write_all_steps::<FlowTotals, S>(
+            alloc, topology, words, sink, progress,
+        ),
     }
 }
 

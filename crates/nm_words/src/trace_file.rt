@@ -82,7 +82,7 @@ pub fn write_trace_file<S: Sink + Drop>(
     (outcome, file.into_sink())
 }
 
-/// Writes a trace file of which nothing was written.
+/// Writes a trace file of which nothing was written, as the network runs.
 fn write_file<S: Sink>(
     alloc: Global,
     topology: &Topology,
@@ -97,26 +97,9 @@ fn write_file<S: Sink>(
         (trace_file file.old.form traced.now.iface (going traced.now.ways records)) }
 {
     sink_outcome(file.start())?;
-    write_records(alloc, topology, traced, file, progress)?;
-    sink_outcome(file.end())
-}
-
-/// Runs the network, and writes those of its records that are at the interface.
-fn write_records<S: Sink>(
-    alloc: Global,
-    topology: &Topology,
-    traced: &Traced,
-    file: &mut PcapOut<S>,
-    progress: &Progress,
-) -> Result<(), TraceFault>
-    requires { file.old.failed ≡ false }
-    ensures { (records : List (TraceRecord (List ℕ)))
-        → IsTraceBefore topology.now topology.now.stop records
-        → WritesOn S.taken S.failures file.old file.new result
-        (written_at file.old.form traced.now.iface (going traced.now.ways records)) }
-{
     let mut tracer = Tracer::start(alloc, topology).or(Err(TraceFault::Memory))?;
-    write_all_of(alloc, topology, &mut tracer, traced, file, progress)
+    write_all_of(alloc, topology, &mut tracer, traced, file, progress)?;
+    sink_outcome(file.end())
 }
 
 /// Runs a network from its start, and writes those of its records that are at the interface.

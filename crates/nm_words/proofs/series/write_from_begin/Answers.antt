@@ -1,10 +1,9 @@
 use Rattle.std.proofs.Common.{◌+◌, min, inr, refl, ap, subst, ◌∙◌}
-use Rattle.nm_command.specs.declared.view.Subject.TheVariants.{Sources}
 use Rattle.nm_files.specs.Writing.{WroteAll, WrotePrefix}
 use Rattle.std.proofs.lemmas.Result.{err_from_is_err_and}
 use Rattle.nm_words.specs.Series.{IsStepOf, columns_of}
 use Rattle.nm_words.proofs.Stepping.{begins, goes_on, is_cut}
-use Rattle.nm_words.proofs.series.write_flow_steps.Goals as goal
+use Rattle.nm_words.proofs.series.write_from_begin.Goals as goal
 
 pub loop-init : goal.loop-init
 loop-init g c =
@@ -12,7 +11,7 @@ loop-init g c =
     record {
       series = c.requires.series;
       step = refl;
-      going = begins g.S.Sink.taken g.S.Sink.failures (IsStepOf Sources t) (columns_of Sources) c.args.series.now.step t.stop c.args.sink.now c.put.new.sink c.args.series.now.time
+      going = begins g.S.Sink.taken g.S.Sink.failures (IsStepOf c.args.subject t) (columns_of c.args.subject) c.args.series.now.step t.stop c.args.sink.now c.put.new.sink c.args.series.now.time
           (subst (λ l. WroteAll g.S.Sink.taken g.S.Sink.failures c.args.sink.now c.put.new.sink l) c.columns_of.ensures c.in_ok-put.ensures.whole) c.requires.begin;
     }
 
@@ -23,11 +22,22 @@ loop-preserved g c =
     record {
       series = next.0;
       step = next.3 ∙ c.loop.invariant.step;
-      going = goes_on g.S.Sink.taken g.S.Sink.failures (IsStepOf Sources t) (columns_of Sources) c.args.series.now.step t.stop c.args.sink.now c.loop.sink c.put-in-loop.new.sink
+      going = goes_on g.S.Sink.taken g.S.Sink.failures (IsStepOf c.args.subject t) (columns_of c.args.subject) c.args.series.now.step t.stop c.args.sink.now c.loop.sink c.put-in-loop.new.sink
           c.loop.series.time c.next.new.self.time c.in-Some.text.items c.loop.invariant.going next.1
-          (next.2 ∙ ap (λ s. min (c.loop.series.time + s) t.stop) c.loop.invariant.step) next.4
+          (next.2 ∙ ap (λ s. min (c.loop.series.time + s) t.stop) c.loop.invariant.step) (c.requires.tells _ _ _ next.4)
           (subst (λ l. WroteAll g.S.Sink.taken g.S.Sink.failures c.loop.sink c.put-in-loop.new.sink l) c.as_slice.ensures.value c.in_ok-put-2.ensures.whole);
     }
+
+pub returns-in_err-put : goal.returns-in_err-put
+returns-in_err-put g c =
+    let p = err_from_is_err_and c.from_residual.result c.from_residual.ensures.1 in
+    let cut = c.in_err-put.ensures.cut in
+    rw (p.1, p.2, cut.0) (
+      0,
+      columns_of c.args.subject,
+      refl,
+      subst (λ l. WrotePrefix g.S.Sink.taken g.S.Sink.failures c.args.sink.now c.put.new.sink l) c.columns_of.ensures cut.1,
+    )
 
 pub returns-in_err-text : goal.returns-in_err-text
 returns-in_err-text g c =
@@ -41,7 +51,7 @@ returns-in_err-put-2 g c =
     let p = err_from_is_err_and c.from_residual-in_err-put-2.result c.from_residual-in_err-put-2.ensures.1 in
     let next = rw c.in-Some.is at c.in_ok-text.ensures in
     let cut = c.in_err-put-2.ensures.cut in
-    rw (p.1, p.2, cut.0) (is_cut g.S.Sink.taken g.S.Sink.failures (IsStepOf Sources t) (columns_of Sources) c.args.series.now.step t.stop c.args.sink.now c.loop.sink
+    rw (p.1, p.2, cut.0) (is_cut g.S.Sink.taken g.S.Sink.failures (IsStepOf c.args.subject t) (columns_of c.args.subject) c.args.series.now.step t.stop c.args.sink.now c.loop.sink
     c.put-in-loop.new.sink c.loop.series.time c.next.new.self.time c.in-Some.text.items c.loop.invariant.going
-    (next.2 ∙ ap (λ s. min (c.loop.series.time + s) t.stop) c.loop.invariant.step) next.4
+    (next.2 ∙ ap (λ s. min (c.loop.series.time + s) t.stop) c.loop.invariant.step) (c.requires.tells _ _ _ next.4)
     (subst (λ l. WrotePrefix g.S.Sink.taken g.S.Sink.failures c.loop.sink c.put-in-loop.new.sink l) c.as_slice.ensures.value cut.1))
