@@ -3,8 +3,8 @@
 ghost use Rattle.std.specs.Prelude.{◌≡◌, ℕ, ◌≤◌, map, IfSome, Some, decimal, option_map};
 ghost use Rattle.std.specs.Prelude.{string_bytes};
 ghost use Rattle.nm_command.specs.Command.{AsksWithinLimits, asked_number, command_of};
-ghost use Rattle.nm_command.specs.Command.{command_value, form_of, node_of, of_five, of_four};
-ghost use Rattle.nm_command.specs.Command.{of_number, of_six, of_three, of_two, run_of, shown_of};
+ghost use Rattle.nm_command.specs.Command.{command_value, form_of, of_five, of_four, of_number};
+ghost use Rattle.nm_command.specs.Command.{of_six, of_three, of_two, shown_of};
 ghost use Rattle.nm_command.specs.Command.{series_of, timed_of, trace_from};
 ghost use Rattle.nm_command.specs.declared.command.TheConstants.{MAX_SOURCE};
 ghost use Rattle.nm_base.specs.declared.limits.TheConstants.{MAX_PARTITION, MAX_REPLICA};
@@ -248,7 +248,7 @@ fn of_four<'a>(
     }
 }
 
-/// The command of five words.
+/// The command of five words: `run`, where its two numbers are such.
 fn of_five<'a>(
     word: &'a str,
     topology: &'a str,
@@ -260,24 +260,9 @@ fn of_five<'a>(
         ≡ of_five word.now topology.now folder.now workers.now replicas.now }
     ensures limits { IfSome result AsksWithinLimits }
 {
-    if word == "run" {
-        return run_of(topology, folder, workers, replicas);
+    if word != "run" {
+        return None;
     }
-    None
-}
-
-/// The command `run`, where its two numbers are such.
-fn run_of<'a>(
-    topology: &'a str,
-    folder: &'a str,
-    workers: &str,
-    replicas: &str,
-) -> Option<Command<'a>>
-    ensures value { option_map command_value result
-        ≡ run_of topology.now folder.now (asked_number 1 MAX_WORKERS workers.now)
-        (asked_number 1 MAX_REPLICAS replicas.now) }
-    ensures limits { IfSome result AsksWithinLimits }
-{
     let workers = asked_number(workers, 1, MAX_WORKERS)?;
     let replicas = asked_number(replicas, 1, MAX_REPLICAS as u64)?;
     Some(Command::Run(RunWords {
@@ -288,31 +273,7 @@ fn run_of<'a>(
     }))
 }
 
-/// The command `node`, where its two numbers are such.
-fn node_of<'a>(
-    topology: &'a str,
-    folder: &'a str,
-    partition: &str,
-    replica: &str,
-    addresses: &'a str,
-) -> Option<Command<'a>>
-    ensures value { option_map command_value result
-        ≡ node_of topology.now folder.now (asked_number 0 MAX_PARTITION partition.now)
-        (asked_number 0 MAX_REPLICA replica.now) addresses.now }
-    ensures limits { IfSome result AsksWithinLimits }
-{
-    let partition = asked_number(partition, 0, MAX_PARTITION)?;
-    let replica = asked_number(replica, 0, MAX_REPLICA)?;
-    Some(Command::Node(NodeWords {
-        topology,
-        folder,
-        partition: PartNo::new(partition as u32),
-        replica: replica as u8,
-        addresses,
-    }))
-}
-
-/// The command of six words.
+/// The command of six words: `node`, where its two numbers are such.
 fn of_six<'a>(
     word: &'a str,
     topology: &'a str,
@@ -325,10 +286,18 @@ fn of_six<'a>(
         ≡ of_six word.now topology.now folder.now partition.now replica.now addresses.now }
     ensures limits { IfSome result AsksWithinLimits }
 {
-    if word == "node" {
-        return node_of(topology, folder, partition, replica, addresses);
+    if word != "node" {
+        return None;
     }
-    None
+    let partition = asked_number(partition, 0, MAX_PARTITION)?;
+    let replica = asked_number(replica, 0, MAX_REPLICA)?;
+    Some(Command::Node(NodeWords {
+        topology,
+        folder,
+        partition: PartNo::new(partition as u32),
+        replica: replica as u8,
+        addresses,
+    }))
 }
 
 /// The command of words that are not `all` with a topology and a folder.
