@@ -9,6 +9,7 @@ use Rattle.nm_peers.specs.declared.listener.Listener.{Listener}
 use Rattle.nm_process.specs.Process.{IsDoneReplica}
 use Rattle.nm_files.specs.Outputs.{Files, HasMade}
 use Rattle.nm_program.specs.Node.{HasListeners, SaysLines, SaysServed, own_files, own_lines}
+use Rattle.nm_words.specs.Input.{InputsSeen}
 use Rattle.nm_words.specs.Output.{SaysOfInputs}
 
 -- what is said of it, of texts that give this network and these listeners
@@ -40,8 +41,8 @@ module _ (t : TopologyValue) (p r : ℕ) (folder : List ℕ) (listeners : List L
 
 module _ {V E : Type 0} (items : V → List ℕ) (asked : V → Status) (t : TopologyValue) (p r : ℕ) (folder : List ℕ) (listeners : List Listener) (before after : Option Files) where
   -- the texts are those of two inputs
-  pub says_of_inputs : (one two : Option (List ℕ)) (served : Result V E) → HasListeners one two p r t listeners
+  pub says_of_inputs : (inputs : InputsSeen) (one two : List ℕ) (served : Result V E) → HasListeners inputs one two p r t listeners
       → IfOk served (λ v. SaysOfTexts t p r folder listeners before after (asked v) (items v))
-      → IfOk served (λ v. SaysOfInputs one two (SaysServed p r before after folder) (asked v) (items v))
-  says_of_inputs one two (Ok v) (text, addresses, inputs, read, mean) says = (text, addresses, inputs, says text addresses read mean)
-  says_of_inputs one two (Err e) there says = tt
+      → IfOk served (λ v. SaysOfInputs inputs one two (SaysServed p r before after folder) (asked v) (items v))
+  says_of_inputs inputs one two (Ok v) (text, addresses, had, read, mean) says = (text, addresses, had, says text addresses read mean)
+  says_of_inputs inputs one two (Err e) there says = tt

@@ -5,6 +5,8 @@ use Rattle.nm_command.specs.declared.status.Status.TheVariants.{Done, Usage, Fil
 use Rattle.nm_command.specs.Command.{CommandValue, Trace, All, Rounds, Script, Check, Show, Text, Series, Packets, Path, Run, Node}
 use Rattle.nm_program.specs.Node.{EndsNode}
 use Rattle.nm_files.specs.Outputs.{Files}
+use Rattle.nm_words.specs.Input.{CountedInputs, InputTexts}
+use Rattle.nm_words.specs.Output.{Exchange, exchange}
 use Rattle.nm_words.specs.Rounds.{EndsRounds}
 use Rattle.nm_program.specs.Run.{EndsRun}
 use Rattle.nm_words.specs.All.{MakesAll}
@@ -16,26 +18,57 @@ use Rattle.nm_words.specs.Series.{EndsSeries}
 use Rattle.nm_words.specs.Shown.{EndsShown, EndsText}
 use Rattle.nm_words.specs.Traces.{EndsTrace}
 
--- What each status says of words. The inputs tell what the input of a name has, if they do, and failed so often before and after; the sink was old and is
--- new; these files were closed before and after, if that is told. Words that are no command are `Usage`. Only `all`, `run` and `node` make files.
-module _ {S : Type 0} (taken : S → Option (List ℕ)) (failures : S → ℕ) (told : List ℕ → Option (List ℕ)) (failed_before failed : ℕ) (old new : S) (made_before made : Option Files) where
-  abbrev pub ProgramEnds : Option CommandValue → Status → Type 0
-  ProgramEnds None status = (status ≡ Usage) × (failed ≡ failed_before) × (new ≡ old) × (made ≡ made_before)
-  ProgramEnds (Some (Trace form ways topology iface)) status = EndsTrace taken failures told failed_before failed old new form ways topology iface status × (made ≡ made_before)
-  ProgramEnds (Some (All topology folder ifaces)) status = MakesAll told failed_before failed made_before made topology folder ifaces status × (new ≡ old)
-  ProgramEnds (Some (Rounds topology max)) status = EndsRounds taken failures told failed_before failed old new topology max status × (made ≡ made_before)
-  ProgramEnds (Some (Script topology steps)) status = EndsScript taken failures told failed_before failed old new topology steps status × (made ≡ made_before)
-  ProgramEnds (Some (Check topology)) status = EndsCheck taken failures told failed_before failed old new topology status × (made ≡ made_before)
-  ProgramEnds (Some (Show topology view)) status = EndsShown taken failures told failed_before failed old new topology status × (made ≡ made_before)
-  ProgramEnds (Some (Text topology iface)) status = EndsText taken failures told failed_before failed old new topology iface status × (made ≡ made_before)
-  ProgramEnds (Some (Series topology step subject)) status = EndsSeries taken failures told failed_before failed old new topology step subject status × (made ≡ made_before)
-  ProgramEnds (Some (Packets topology source)) status = EndsPackets taken failures told failed_before failed old new topology source status × (made ≡ made_before)
-  ProgramEnds (Some (Path topology node address)) status = EndsPath taken failures told failed_before failed old new topology node address status × (made ≡ made_before)
-  ProgramEnds (Some (Run topology folder workers replicas)) status = EndsRun taken failures told failed_before failed old new made_before made topology replicas status
-  ProgramEnds (Some (Node topology folder partition replica addresses)) status =
-      EndsNode taken failures told failed_before failed old new made_before made topology folder partition replica addresses status
+-- what the program has to do with, before it or after it: the inputs and the output, and the files
+-- that were placed so far, where that is told
+pub record Surroundings (S : Type 0) : Type 0 where
+  pub exchange : Exchange S
+  pub made : Option Files
 
--- the status once the output was handed on, or was not: what was written is no more than held back then
+abbrev pub surroundings : {I S F : Type 0} → (texts : I → InputTexts)
+    → (taken : S → Option (List ℕ)) → (failures : S → ℕ) → (made : F → Option Files)
+    → CountedInputs I → S → F → Surroundings S
+surroundings texts taken failures made inputs sink outputs =
+    record { exchange = exchange texts taken failures inputs sink; made = made outputs }
+
+-- What each status says of a command. Words that are no command are `Usage`. Only `all`, `run` and
+-- `node` make files.
+module _ {S : Type 0} (before after : Surroundings S) where
+  -- the word itself says it, and makes no file
+  abbrev pub MakesNone : (Exchange S → Exchange S → Type 0) → Type 0
+  MakesNone Ends = Ends before.exchange after.exchange × (after.made ≡ before.made)
+
+  abbrev pub ProgramEnds : Option CommandValue → Status → Type 0
+  ProgramEnds None status = (status ≡ Usage) × (after ≡ before)
+  ProgramEnds (Some (Trace form ways topology iface)) status =
+      MakesNone (λ old new. EndsTrace old new form ways topology iface status)
+  ProgramEnds (Some (All topology folder ifaces)) status =
+      MakesAll before.exchange.inputs after.exchange.inputs before.made after.made
+      topology folder ifaces status
+      × (after.exchange.output ≡ before.exchange.output)
+  ProgramEnds (Some (Rounds topology max)) status =
+      MakesNone (λ old new. EndsRounds old new topology max status)
+  ProgramEnds (Some (Script topology steps)) status =
+      MakesNone (λ old new. EndsScript old new topology steps status)
+  ProgramEnds (Some (Check topology)) status =
+      MakesNone (λ old new. EndsCheck old new topology status)
+  ProgramEnds (Some (Show topology view)) status =
+      MakesNone (λ old new. EndsShown old new topology status)
+  ProgramEnds (Some (Text topology iface)) status =
+      MakesNone (λ old new. EndsText old new topology iface status)
+  ProgramEnds (Some (Series topology step subject)) status =
+      MakesNone (λ old new. EndsSeries old new topology step subject status)
+  ProgramEnds (Some (Packets topology source)) status =
+      MakesNone (λ old new. EndsPackets old new topology source status)
+  ProgramEnds (Some (Path topology node address)) status =
+      MakesNone (λ old new. EndsPath old new topology node address status)
+  ProgramEnds (Some (Run topology folder workers replicas)) status =
+      EndsRun before.exchange after.exchange before.made after.made topology replicas status
+  ProgramEnds (Some (Node topology folder partition replica addresses)) status =
+      EndsNode before.exchange after.exchange before.made after.made
+      topology folder partition replica addresses status
+
+-- the status once the output was handed on, or was not: what was written is no more than held back
+-- then
 abbrev pub handed_on : Bool → Status → Status
 handed_on false Done = File
 handed_on handed status = status

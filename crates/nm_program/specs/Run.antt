@@ -10,13 +10,14 @@ use Rattle.nm_rounds.specs.Certify.{AreCertified, cert_fault_number}
 use Rattle.nm_rounds.specs.declared.certify.CertFault.{CertFault}
 use Rattle.nm_run.specs.Report.{IsNotCertified}
 use Rattle.nm_command.specs.declared.status.Status.{Status}
-use Rattle.nm_command.specs.declared.status.Status.TheVariants.{Done, Usage, NoInterface, ScriptLine, Step, Rows, Topology, File, Memory, NotCertified, Stalled}
+use Rattle.nm_command.specs.declared.status.Status.TheVariants.{Done, File, Memory, NotCertified, Stalled}
 use Rattle.nm_files.specs.Outputs.{Files}
-use Rattle.nm_words.specs.Input.{HasTopology, IsRefused}
+use Rattle.nm_words.specs.Input.{HasTopology, InputsSeen, IsRefused}
 use Rattle.nm_words.specs.Lines.{iface_lines}
-use Rattle.nm_words.specs.Output.{EndsWord, FailsOfInput, SaysOfInput}
+use Rattle.nm_words.specs.Output.{EndsWord, Exchange, FailsOfInput, SaysOfInput}
 
--- Books of all partitions were certified. Each interface has what it has in the trace of the one event list, over the whole run.
+-- Books of all partitions were certified. Each interface has what it has in the trace of the one
+-- event list, over the whole run.
 pub record SaysCertified (text octets : List ℕ) : Type 0 where
   pub network : TopologyValue
   pub read : topology_of text ≡ Ok network
@@ -28,33 +29,33 @@ pub record SaysCertified (text octets : List ℕ) : Type 0 where
 
 -- this number is that of the first fault which the certificate finds in the books of the run
 abbrev pub HasFault : TopologyValue → ℕ → ℕ → Type 0
-HasFault network replicas n = (fault : CertFault) × IsNotCertified network replicas fault × (n ≡ cert_fault_number fault)
+HasFault network replicas n =
+    (fault : CertFault) × IsNotCertified network replicas fault × (n ≡ cert_fault_number fault)
 
--- the endings of a run that was begun and has no report; a run that is not certified leaves what the names of its files had
-abbrev pub StopsRun : TopologyValue → ℕ → Option Files → Option Files → Status → Type 0
-StopsRun network replicas before after Done = ⊥
-StopsRun network replicas before after Usage = ⊥
-StopsRun network replicas before after NoInterface = ⊥
-StopsRun network replicas before after (ScriptLine n) = ⊥
-StopsRun network replicas before after (Step n) = ⊥
-StopsRun network replicas before after (Rows n) = ⊥
-StopsRun network replicas before after (Topology refusal) = ⊥
-StopsRun network replicas before after File = Unit {0}
-StopsRun network replicas before after Memory = Unit {0}
-StopsRun network replicas before after (NotCertified n) = HasFault network replicas n × (after ≡ before)
-StopsRun network replicas before after Stalled = after ≡ before
+-- how a run that was begun ends with no report; one that is not certified leaves what the names of
+-- its files had
+abbrev pub StopsRun : TopologyValue → ℕ → (before after : Option Files) → Status → Type 0
+StopsRun network replicas before after status =
+    (status ≡ File) ⊎ (status ≡ Memory)
+    ⊎ ((n : ℕ) × (status ≡ NotCertified n) × HasFault network replicas n × (after ≡ before))
+    ⊎ ((status ≡ Stalled) × (after ≡ before))
 
 -- it is said once it is certified
 abbrev pub SaysRun : List ℕ → Status → List ℕ → Type 0
 SaysRun text status octets = (status ≡ Done) × SaysCertified text octets
 
--- why nothing is said of an input: there is no network, and no file was made; or it is that of a network, whose run stopped
-abbrev pub FailsRun : ℕ → Option (List ℕ) → ℕ → ℕ → Option Files → Option Files → Status → Type 0
-FailsRun replicas told failed_before failed made_before made status = (FailsOfInput told failed_before failed IsRefused status × (made ≡ made_before))
-    ⊎ ((network : TopologyValue) × HasTopology told network × StopsRun network replicas made_before made status)
+-- Why nothing is said of an input: there is no network, and no file was made; or it is that of a
+-- network, whose run stopped.
+module _ (before after : InputsSeen) (made_before made : Option Files) where
+  abbrev pub FailsRun : (topology : List ℕ) → (replicas : ℕ) → Status → Type 0
+  FailsRun topology replicas status =
+      (FailsOfInput before after topology IsRefused status × (made ≡ made_before))
+      ⊎ ((network : TopologyValue) × HasTopology before topology network
+      × StopsRun network replicas made_before made status)
 
 -- What each status says. Files are made once the books are certified; what is in them is not said.
-module _ {S : Type 0} (taken : S → Option (List ℕ)) (failures : S → ℕ) (told : List ℕ → Option (List ℕ)) (failed_before failed : ℕ) (old new : S) (made_before made : Option Files) where
-  abbrev pub EndsRun : List ℕ → ℕ → Status → Type 0
+module _ {S : Type 0} (before after : Exchange S) (made_before made : Option Files) where
+  abbrev pub EndsRun : (topology : List ℕ) → (replicas : ℕ) → Status → Type 0
   EndsRun topology replicas status =
-      EndsWord taken failures old new (SaysOfInput (told topology) SaysRun) (FailsRun replicas (told topology) failed_before failed made_before made) status
+      EndsWord before after (SaysOfInput before.inputs topology SaysRun)
+      (FailsRun before.inputs after.inputs made_before made topology replicas) status

@@ -7,8 +7,8 @@ ghost use Rattle.nm_peers.specs.Listeners.{AreListeners};
 ghost use Rattle.nm_base.specs.declared.limits.TheConstants.{MAX_TIME};
 ghost use Rattle.nm_book.specs.Book.{state_of};
 ghost use Rattle.nm_process.specs.Process.{IsDoneReplica};
-ghost use Rattle.nm_words.specs.Input.{text_of};
-ghost use Rattle.nm_words.specs.Output.{SaysOfInputs};
+ghost use Rattle.nm_words.specs.Input.{inputs_seen};
+ghost use Rattle.nm_words.specs.Output.{SaysOfInputs, exchange};
 ghost use Rattle.nm_program.specs.Node.{EndsNode, FailsNode, SaysServed, StopsNode};
 ghost use Rattle.nm_program.specs.Node.{own_files, own_line, own_lines};
 ghost use Rattle.nm_command.specs.declared.status.Status.TheVariants.{Done, File, Memory, Stalled};
@@ -188,16 +188,14 @@ fn node_said<I: Inputs, F: Outputs, R: Net + Wait + Clock + Drop + Copy>(
     outputs: &mut F,
 ) -> Result<Output, Status>
     ensures said { IfOk result (λ output. SaysOfInputs
-        (text_of I.standard_text I.file_text inputs.old.inputs words.now.topology.now)
-        (text_of I.standard_text I.file_text inputs.old.inputs words.now.addresses.now)
+        (inputs_seen I.seen inputs.old) words.now.topology.now words.now.addresses.now
         (SaysServed words.now.partition words.now.replica
         (F.made outputs.old) (F.made outputs.new) words.now.folder.now)
         output.status output.text.items) }
     ensures fault { IfErr result (λ status. FailsNode words.now.partition words.now.replica
         (F.made outputs.old) (F.made outputs.new)
-        (text_of I.standard_text I.file_text inputs.old.inputs words.now.topology.now)
-        (text_of I.standard_text I.file_text inputs.old.inputs words.now.addresses.now)
-        inputs.old.failures inputs.new.failures status) }
+        (inputs_seen I.seen inputs.old) (inputs_seen I.seen inputs.new)
+        words.now.topology.now words.now.addresses.now status) }
 {
     let (network, listeners) = read_both(means.alloc, inputs, words)?;
     serve(means, &network, listeners.as_slice(), words, outputs)
@@ -212,10 +210,9 @@ pub(crate) fn say_node<I: Inputs, F: Outputs, O: Sink + Drop, R: Net + Wait + Cl
     outputs: &mut F,
     out: O,
 ) -> (Status, O)
-    ensures { EndsNode O.taken O.failures
-        (text_of I.standard_text I.file_text inputs.old.inputs)
-        inputs.old.failures inputs.new.failures
-        out result.1 (F.made outputs.old) (F.made outputs.new)
+    ensures { EndsNode (exchange I.seen O.taken O.failures inputs.old out)
+        (exchange I.seen O.taken O.failures inputs.new result.1)
+        (F.made outputs.old) (F.made outputs.new)
         words.now.topology.now words.now.folder.now words.now.partition words.now.replica
         words.now.addresses.now result.0 }
 {

@@ -5,7 +5,7 @@ ghost use Rattle.std.specs.Arc.{arc_value};
 ghost use Rattle.nm_peers.specs.Listeners.{AreListeners};
 ghost use Rattle.nm_program.specs.Node.{HasListeners, IsNotServed};
 ghost use Rattle.nm_topology.specs.Topology.{topology_of};
-ghost use Rattle.nm_words.specs.Input.{text_of};
+ghost use Rattle.nm_words.specs.Input.{inputs_seen};
 ghost use Rattle.nm_words.specs.Output.{FailsOfInputs};
 
 pub(crate) use nm_command::NodeWords;
@@ -46,14 +46,12 @@ pub(crate) fn read_both<I: Inputs>(
     inputs: &mut NamedInputs<I>,
     words: &NodeWords<'_>,
 ) -> Result<(Arc<Topology>, Vec<Listener>), Status>
-    ensures read { IfOk result (λ r. HasListeners
-        (text_of I.standard_text I.file_text inputs.old.inputs words.now.topology.now)
-        (text_of I.standard_text I.file_text inputs.old.inputs words.now.addresses.now)
+    ensures read { IfOk result (λ r. HasListeners (inputs_seen I.seen inputs.old)
+        words.now.topology.now words.now.addresses.now
         words.now.partition words.now.replica (arc_value r.0) r.1.items) }
     ensures fault { IfErr result (λ status. FailsOfInputs
-        (text_of I.standard_text I.file_text inputs.old.inputs words.now.topology.now)
-        (text_of I.standard_text I.file_text inputs.old.inputs words.now.addresses.now)
-        inputs.old.failures inputs.new.failures
+        (inputs_seen I.seen inputs.old) (inputs_seen I.seen inputs.new)
+        words.now.topology.now words.now.addresses.now
         (IsNotServed words.now.partition words.now.replica) status) }
 {
     let topology = read_text(alloc, inputs, words.topology)?;

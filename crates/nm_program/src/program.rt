@@ -4,9 +4,8 @@ ghost use Rattle.std.specs.Prelude.{◌≡◌, map, string_bytes};
 ghost use Rattle.std.specs.Io.KnownBytes.{Appends};
 ghost use Rattle.nm_command.specs.Command.{command_of};
 ghost use Rattle.nm_command.specs.Status.{line_of};
-ghost use Rattle.nm_program.specs.Ending.{ProgramEnds, handed_on};
-ghost use Rattle.nm_words.specs.Input.{text_of};
 ghost use Rattle.nm_command.specs.declared.status.Status.TheVariants.{Done, File};
+ghost use Rattle.nm_program.specs.Ending.{ProgramEnds, handed_on, surroundings};
 
 use crate::means::Means;
 use crate::node::say_node;
@@ -48,10 +47,9 @@ pub fn run<I: Inputs, F: Outputs, O: Sink + Drop, E: Sink, R>(
 where
     F::File: Send,
     R: Runtime,
-    ensures ending { ProgramEnds O.taken O.failures
-        (text_of I.standard_text I.file_text inputs.old.inputs)
-        inputs.old.failures inputs.new.failures
-        out result.1 (F.made outputs.old) (F.made outputs.new)
+    ensures ending { ProgramEnds
+        (surroundings I.seen O.taken O.failures F.made inputs.old out outputs.old)
+        (surroundings I.seen O.taken O.failures F.made inputs.new result.1 outputs.new)
         (command_of (map (λ w. string_bytes w) words.now)) result.0 }
     ensures line { E.failures errors.new ≡ E.failures errors.old
         → Appends (E.taken errors.old) (E.taken errors.new) (line_of result.0) }
@@ -71,10 +69,9 @@ fn perform<I: Inputs, F: Outputs, O: Sink + Drop, R>(
 where
     F::File: Send,
     R: Runtime,
-    ensures { ProgramEnds O.taken O.failures
-        (text_of I.standard_text I.file_text inputs.old.inputs)
-        inputs.old.failures inputs.new.failures
-        out result.1 (F.made outputs.old) (F.made outputs.new)
+    ensures { ProgramEnds
+        (surroundings I.seen O.taken O.failures F.made inputs.old out outputs.old)
+        (surroundings I.seen O.taken O.failures F.made inputs.new result.1 outputs.new)
         (command_of (map (λ w. string_bytes w) words.now)) result.0 }
 {
     let Means {

@@ -13,9 +13,9 @@ ghost use Rattle.nm_sim.specs.Trace.{IsTraceBefore};
 ghost use Rattle.nm_topology.specs.PartValues.{IfaceValue};
 ghost use Rattle.nm_topology.specs.Topology.{topology_of};
 ghost use Rattle.nm_topology.specs.TopologyValue.{TopologyValue};
-ghost use Rattle.nm_words.specs.Input.{text_of};
+ghost use Rattle.nm_words.specs.Input.{inputs_seen};
 ghost use Rattle.nm_words.specs.Lines.{iface_line, iface_lines};
-ghost use Rattle.nm_words.specs.Output.{SaysOfInput};
+ghost use Rattle.nm_words.specs.Output.{SaysOfInput, exchange};
 ghost use Rattle.nm_program.specs.Run.{EndsRun, FailsRun, SaysCertified, SaysRun, StopsRun};
 
 use crate::means::Means;
@@ -149,13 +149,13 @@ where
     F::File: Send,
     R: Runtime,
     requires { (1 ≤ words.now.workers) × (words.now.workers ≤ MAX_WORKERS) }
-    ensures said { IfOk result (λ output. SaysOfInput
-        (text_of I.standard_text I.file_text inputs.old.inputs words.now.topology.now)
+    ensures said { IfOk result (λ output. SaysOfInput (inputs_seen I.seen inputs.old)
+        words.now.topology.now
         SaysRun output.status output.text.items) }
-    ensures fault { IfErr result (λ status. FailsRun words.now.replicas
-        (text_of I.standard_text I.file_text inputs.old.inputs words.now.topology.now)
-        inputs.old.failures inputs.new.failures
-        (F.made outputs.old) (F.made outputs.new) status) }
+    ensures fault { IfErr result (λ status. FailsRun
+        (inputs_seen I.seen inputs.old) (inputs_seen I.seen inputs.new)
+        (F.made outputs.old) (F.made outputs.new)
+        words.now.topology.now words.now.replicas status) }
 {
     let network = read_shared(means.alloc, inputs, words.topology)?;
     run_network(means, &network, words, outputs)
@@ -174,10 +174,9 @@ where
     F::File: Send,
     R: Runtime,
     requires { (1 ≤ words.now.workers) × (words.now.workers ≤ MAX_WORKERS) }
-    ensures { EndsRun O.taken O.failures
-        (text_of I.standard_text I.file_text inputs.old.inputs)
-        inputs.old.failures inputs.new.failures
-        out result.1 (F.made outputs.old) (F.made outputs.new) words.now.topology.now
+    ensures { EndsRun (exchange I.seen O.taken O.failures inputs.old out)
+        (exchange I.seen O.taken O.failures inputs.new result.1)
+        (F.made outputs.old) (F.made outputs.new) words.now.topology.now
         words.now.replicas result.0 }
 {
     end(run_said(means, words, inputs, outputs), out)

@@ -24,7 +24,7 @@ use Rattle.nm_files.specs.TraceFile.{trace_file, written_at}
 use Rattle.nm_files.proofs.Made.{appended}
 use Rattle.nm_files.proofs.Records.{file_parts}
 use Rattle.nm_words.specs.All.{AreAsked, MakesAll, is_wanted, wanted_file}
-use Rattle.nm_words.specs.Input.{IsInput}
+use Rattle.nm_words.specs.Input.{InputsSeen, IsInput}
 use Rattle.nm_command.specs.Status.{ended}
 use Rattle.nm_command.specs.declared.status.Status.{Status}
 use Rattle.nm_command.specs.declared.status.Status.TheVariants.{File, Memory}
@@ -143,9 +143,9 @@ one_closed closed made names folder records n iface o closed_one first told =
     ∙ closed_as made (is_wanted names iface) (file_name folder iface, octets_after n records) file (option_map closed o) closed_one (ap (λ l. (file_name folder iface, l)) (whole_file n records)) first told
 
 -- the word ends as the files do
-module _ (told : List ℕ → Option (List ℕ)) (failed_before failed : ℕ) (before after : Option Files) where
-  pub ends_all : (topology folder : List ℕ) (names : List (List ℕ)) (text : List ℕ) (files : Files) (r : Result Unit Status) → IsInput (told topology) text → AreAsked folder names text files
-      → OnOk r (HasMade before after files) → HasMadeSome before after files → IfErr r (λ s. (s ≡ File) ⊎ (s ≡ Memory))
-      → MakesAll told failed_before failed before after topology folder names (ended r)
-  ends_all topology folder names text files (Ok _) input asked made some fault = inl (refl, (text, files, input, asked, made))
-  ends_all topology folder names text files (Err s) input asked made some fault = inr (inr (fault, (text, files, input, asked, some)))
+module _ (before after : InputsSeen) (made_before made : Option Files) where
+  pub ends_all : (topology folder : List ℕ) (names : List (List ℕ)) (text : List ℕ) (files : Files) (r : Result Unit Status) → IsInput (before.text topology) text → AreAsked folder names text files
+      → OnOk r (HasMade made_before made files) → HasMadeSome made_before made files → IfErr r (λ s. (s ≡ File) ⊎ (s ≡ Memory))
+      → MakesAll before after made_before made topology folder names (ended r)
+  ends_all topology folder names text files (Ok _) input asked all some fault = inl (refl, (text, files, input, asked, all))
+  ends_all topology folder names text files (Err s) input asked all some fault = inr (inr (fault, (text, files, input, asked, some)))

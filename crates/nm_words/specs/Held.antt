@@ -15,22 +15,28 @@ abbrev pub octets_after : ℕ → List (Record (List ℕ)) → List ℕ
 octets_after n records = file_header ++ written_at Octets n records
 
 module _ {S : Type 0} (taken : S → Option (List ℕ)) (made : Option Files) where
-  -- where a file is wanted, it is there and holds these octets, if it is told which files were placed; else there is none
+  -- where a file is wanted, it is there and holds these octets, if it is told which files were
+  -- placed; else there is none
   abbrev pub HoldsFile : Bool → List ℕ → Option (Writer S) → Type 0
   HoldsFile false octets file = file ≡ None
   HoldsFile true octets None = ⊥
-  HoldsFile true octets (Some file) = (file.form ≡ Octets) × ((first : Files) → made ≡ Some first → taken file.sink ≡ Some octets)
+  HoldsFile true octets (Some file) =
+      (file.form ≡ Octets) × ((first : Files) → made ≡ Some first → taken file.sink ≡ Some octets)
 
   -- behind the others comes the file of an interface, or none, which has its header alone
   abbrev pub HasOpened : Bool → List (Option (Writer S)) → List (Option (Writer S)) → Type 0
-  HasOpened wanted old new = (file : Option (Writer S)) × (new ≡ old ++ file ∷ []) × HoldsFile wanted file_header file
+  HasOpened wanted old new =
+      (file : Option (Writer S)) × (new ≡ old ++ file ∷ []) × HoldsFile wanted file_header file
 
   -- the files of the first interfaces are those that are wanted, each with these records
-  pub record AreHeld (t : TopologyValue) (names : List (List ℕ)) (records : List (Record (List ℕ))) (files : List (Option (Writer S))) : Type 0 where
-    pub each : (n : ℕ) (iface : IfaceValue) → n < length files → slice_get t.ifaces n ≡ Some iface → HoldsFile (is_wanted names iface) (octets_after n records) (get_or files n None)
+  pub record AreHeld (t : TopologyValue) (names : List (List ℕ)) (records : List (Record (List ℕ)))
+      (files : List (Option (Writer S))) : Type 0 where
+    pub each : (n : ℕ) (iface : IfaceValue) → n < length files → slice_get t.ifaces n ≡ Some iface
+        → HoldsFile (is_wanted names iface) (octets_after n records) (get_or files n None)
 
 -- where a file is wanted, it was closed and is this one; else none was
-abbrev pub IsClosedAs : Option Files → Bool → List ℕ × List ℕ → Option (Option (List ℕ × List ℕ)) → Type 0
+abbrev pub IsClosedAs : Option Files → Bool → List ℕ × List ℕ → Option (Option (List ℕ × List ℕ))
+    → Type 0
 IsClosedAs made false file closed = closed ≡ None
 IsClosedAs made true file None = ⊥
 IsClosedAs made true file (Some closed) = IsWhole made closed file

@@ -1,5 +1,5 @@
 -- The word `script`: the steps of a script.
-use Rattle.std.specs.Prelude.{◌≡◌, ℕ, List, Option, Ok, Err}
+use Rattle.std.specs.Prelude.{◌≡◌, ◌⊎◌, ℕ, List, Ok}
 use Rattle.nm_topology.specs.Topology.{topology_of}
 use Rattle.nm_topology.specs.TopologyValue.{TopologyValue}
 use Rattle.nm_book.specs.Book.{BookValue}
@@ -11,10 +11,12 @@ use Rattle.nm_rounds.specs.declared.step.WorldStep.{WorldStep}
 use Rattle.nm_script.specs.Printed.{report_text}
 use Rattle.nm_script.specs.Script.{IsFirstFault, IsScript}
 use Rattle.nm_command.specs.declared.status.Status.{Status}
-use Rattle.nm_command.specs.declared.status.Status.TheVariants.{Done, Usage, NoInterface, ScriptLine, Step, Rows, Topology, File, Memory, NotCertified, Stalled}
-use Rattle.nm_words.specs.Output.{EndsWord, FailsOfInputs, SaysOfInputs}
+use Rattle.nm_command.specs.declared.status.Status.TheVariants.{Done, ScriptLine, Step}
+use Rattle.nm_words.specs.Input.{IsRefused}
+use Rattle.nm_words.specs.Output.{EndsWord, Exchange, FailsOfInputs, SaysOfInputs}
 
--- What is said are the answers to all steps of the script, and the books that they left, as the model's world has them. So the headline holds of them.
+-- What is said are the answers to all steps of the script, and the books that they left, as the
+-- model's world has them. So the headline holds of them.
 pub record SaysReport (text script octets : List ℕ) : Type 0 where
   pub network : TopologyValue
   pub read : topology_of text ≡ Ok network
@@ -46,22 +48,15 @@ pub record HasBadLine (text script : List ℕ) (line : ℕ) : Type 0 where
 abbrev pub SaysScript : List ℕ → List ℕ → Status → List ℕ → Type 0
 SaysScript text script status octets = (status ≡ Done) × SaysReport text script octets
 
--- why nothing is said
+-- why nothing is said: the topology is refused, or a line or a step of the script is at fault
 abbrev pub FailsScript : List ℕ → List ℕ → Status → Type 0
-FailsScript text script Done = ⊥
-FailsScript text script Usage = ⊥
-FailsScript text script NoInterface = ⊥
-FailsScript text script (ScriptLine line) = HasBadLine text script line
-FailsScript text script (Step step) = StopsAt text script step
-FailsScript text script (Rows n) = ⊥
-FailsScript text script (Topology refusal) = topology_of text ≡ Err refusal
-FailsScript text script File = ⊥
-FailsScript text script Memory = Unit {0}
-FailsScript text script (NotCertified n) = ⊥
-FailsScript text script Stalled = ⊥
+FailsScript text script status = IsRefused text status
+    ⊎ ((line : ℕ) × (status ≡ ScriptLine line) × HasBadLine text script line)
+    ⊎ ((step : ℕ) × (status ≡ Step step) × StopsAt text script step)
 
--- What each status says.
-module _ {S : Type 0} (taken : S → Option (List ℕ)) (failures : S → ℕ) (told : List ℕ → Option (List ℕ)) (failed_before failed : ℕ) (old new : S) where
+-- what each status says
+module _ {S : Type 0} (before after : Exchange S) where
   abbrev pub EndsScript : List ℕ → List ℕ → Status → Type 0
   EndsScript topology steps status =
-      EndsWord taken failures old new (SaysOfInputs (told topology) (told steps) SaysScript) (FailsOfInputs (told topology) (told steps) failed_before failed FailsScript) status
+      EndsWord before after (SaysOfInputs before.inputs topology steps SaysScript)
+      (FailsOfInputs before.inputs after.inputs topology steps FailsScript) status

@@ -3,7 +3,7 @@ use Rattle.std.specs.Prelude.{◌≡◌, ◌⊎◌, ℕ, ◌*◌, ◌<◌, ◌�
 use Rattle.nm_topology.specs.Topology.{topology_of}
 use Rattle.nm_topology.specs.TopologyValue.{TopologyValue}
 use Rattle.nm_command.specs.declared.status.Status.{Status}
-use Rattle.nm_command.specs.declared.status.Status.TheVariants.{Done, Usage, NoInterface, ScriptLine, Step, Rows, Topology, File, Memory, NotCertified, Stalled}
+use Rattle.nm_command.specs.declared.status.Status.TheVariants.{Done, Rows, File, Memory}
 use Rattle.nm_command.specs.declared.view.Subject.{Subject}
 use Rattle.nm_command.specs.declared.view.Subject.TheVariants.{Interfaces, Sources}
 use Rattle.nm_files.specs.Writing.{WroteAll, WrotePrefix}
@@ -12,13 +12,14 @@ use Rattle.nm_series.specs.Rows.{IsIfaceStep}
 use Rattle.nm_series.specs.Steps.{AreAllSteps, AreSteps, steps_in}
 use Rattle.nm_series.specs.declared.steps.TheConstants.{MAX_ROWS}
 use Rattle.nm_words.specs.Input.{HasTopology, IsRefused}
-use Rattle.nm_words.specs.Output.{FailsOfInput}
+use Rattle.nm_words.specs.Output.{Exchange, FailsOfInput, OutputSeen}
 
 -- the names of the columns
 abbrev pub columns_of : Subject → List ℕ
 columns_of Interfaces =
     codes "from_nanoseconds,interface,packets_in,octets_in,packets_out,octets_out,dropped,longest_queue,mean_queue_thousandths,longest_queue_octets,mean_queue_octets,busy_thousandths\n"
-columns_of Sources = codes "from_nanoseconds,source,sent,delivered,lost,octets,mean_delay_nanoseconds,greatest_delay_nanoseconds\n"
+columns_of Sources =
+    codes "from_nanoseconds,source,sent,delivered,lost,octets,mean_delay_nanoseconds,greatest_delay_nanoseconds\n"
 
 -- the text of a step: the rows of interfaces, or whole lines of sources
 abbrev pub IsStepOf : Subject → TopologyValue → (from until : ℕ) → List ℕ → Type 0
@@ -50,27 +51,29 @@ HasFewRows subject step t = steps_in step t.stop * rows_in subject t ≤ MAX_ROW
 abbrev pub HasManyRows : Subject → (step : ℕ) → List ℕ → Status → Type 0
 HasManyRows subject step text status = IsRefused text status
     ⊎ ((rows : ℕ) × (status ≡ Rows rows) × (MAX_ROWS < rows)
-    × ((network : TopologyValue) × (topology_of text ≡ Ok network) × (rows ≡ steps_in step network.stop * rows_in subject network)))
+    × ((network : TopologyValue) × (topology_of text ≡ Ok network)
+    × (rows ≡ steps_in step network.stop * rows_in subject network)))
 
-module _ {S : Type 0} (taken : S → Option (List ℕ)) (failures : S → ℕ) (old new : S) (subject : Subject) (step : ℕ) (t : TopologyValue) where
-  -- what the sink took: all; or a part of the first so many steps, where it failed; or nothing, or those, where memory was refused
+-- What the sink took: all; or a part of the first so many steps, where it failed; or nothing, or
+-- those, where memory was refused.
+module _ {S : Type 0} (taken : S → Option (List ℕ)) (failures : S → ℕ) (old new : S)
+    (subject : Subject) (step : ℕ) (t : TopologyValue) where
   abbrev pub WritesSteps : Status → Type 0
-  WritesSteps Done = (octets : List ℕ) × TellsAll subject step t octets × WroteAll taken failures old new octets
-  WritesSteps Usage = ⊥
-  WritesSteps NoInterface = ⊥
-  WritesSteps (ScriptLine n) = ⊥
-  WritesSteps (Step n) = ⊥
-  WritesSteps (Rows n) = ⊥
-  WritesSteps (Topology refusal) = ⊥
-  WritesSteps File = (steps : ℕ) × (octets : List ℕ) × TellsSteps subject step t steps octets × WrotePrefix taken failures old new octets
-  WritesSteps Memory = (new ≡ old) ⊎ ((steps : ℕ) × (octets : List ℕ) × TellsSteps subject step t steps octets × WroteAll taken failures old new octets)
-  WritesSteps (NotCertified n) = ⊥
-  WritesSteps Stalled = ⊥
+  WritesSteps status =
+      ((status ≡ Done) × ((octets : List ℕ) × TellsAll subject step t octets
+      × WroteAll taken failures old new octets))
+      ⊎ ((status ≡ File) × ((steps : ℕ) × (octets : List ℕ)
+      × TellsSteps subject step t steps octets × WrotePrefix taken failures old new octets))
+      ⊎ ((status ≡ Memory) × ((new ≡ old) ⊎ ((steps : ℕ) × (octets : List ℕ)
+      × TellsSteps subject step t steps octets × WroteAll taken failures old new octets)))
 
--- What each status says.
-module _ {S : Type 0} (taken : S → Option (List ℕ)) (failures : S → ℕ) (told : List ℕ → Option (List ℕ)) (failed_before failed : ℕ) (old new : S) where
+-- what each status says
+module _ {S : Type 0} (before after : Exchange S) where
   abbrev pub EndsSeries : List ℕ → ℕ → Subject → Status → Type 0
   EndsSeries topology step subject status =
-      ((network : TopologyValue) × HasTopology (told topology) network × HasFewRows subject step network
-      × WritesSteps taken failures old new subject step network status)
-      ⊎ (FailsOfInput (told topology) failed_before failed (HasManyRows subject step) status × (new ≡ old))
+      ((network : TopologyValue) × HasTopology before.inputs topology network
+      × HasFewRows subject step network
+      × WritesSteps (λ (o : OutputSeen S). o.taken) (λ o. o.failures) before.output after.output
+      subject step network status)
+      ⊎ (FailsOfInput before.inputs after.inputs topology (HasManyRows subject step) status
+      × (after.output ≡ before.output))

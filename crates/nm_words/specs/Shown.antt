@@ -1,12 +1,12 @@
 -- The words `report`, `dot` and `text`: a run or a network in words and pictures.
-use Rattle.std.specs.Prelude.{◌≡◌, ◌⊎◌, ℕ, List, [], Option, Some, Ok}
+use Rattle.std.specs.Prelude.{◌≡◌, ◌⊎◌, ℕ, List, [], Some, Ok}
 use Rattle.nm_topology.specs.Topology.{topology_of}
 use Rattle.nm_topology.specs.TopologyValue.{TopologyValue}
 use Rattle.nm_command.specs.declared.status.Status.{Status}
 use Rattle.nm_command.specs.declared.status.Status.TheVariants.{Done}
 use Rattle.nm_measure.specs.Lines.{EndsLine}
 use Rattle.nm_words.specs.Input.{IsRefused}
-use Rattle.nm_words.specs.Output.{EndsWord, FailsOfInput, SaysOfInput}
+use Rattle.nm_words.specs.Output.{EndsWord, Exchange, FailsOfInput, SaysOfInput}
 use Rattle.nm_words.specs.Traces.{HasNoIface, iface_named}
 
 -- what is said of the network of a text is whole lines
@@ -35,10 +35,13 @@ abbrev pub SaysText : List ℕ → List ℕ → Status → List ℕ → Type 0
 SaysText name text status octets = (status ≡ Done) × IsShownAt name text octets
 
 -- What each status says.
-module _ {S : Type 0} (taken : S → Option (List ℕ)) (failures : S → ℕ) (told : List ℕ → Option (List ℕ)) (failed_before failed : ℕ) (old new : S) where
+module _ {S : Type 0} (before after : Exchange S) where
   abbrev pub EndsShown : List ℕ → Status → Type 0
-  EndsShown topology status = EndsWord taken failures old new (SaysOfInput (told topology) SaysShown) (FailsOfInput (told topology) failed_before failed IsRefused) status
+  EndsShown topology status =
+      EndsWord before after (SaysOfInput before.inputs topology SaysShown)
+      (FailsOfInput before.inputs after.inputs topology IsRefused) status
 
   abbrev pub EndsText : List ℕ → List ℕ → Status → Type 0
   EndsText topology name status =
-      EndsWord taken failures old new (SaysOfInput (told topology) (SaysText name)) (FailsOfInput (told topology) failed_before failed (HasNoIface (Some name))) status
+      EndsWord before after (SaysOfInput before.inputs topology (SaysText name))
+      (FailsOfInput before.inputs after.inputs topology (HasNoIface (Some name))) status

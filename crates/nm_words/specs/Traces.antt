@@ -16,8 +16,7 @@ use Rattle.nm_command.specs.declared.ways.Ways.TheVariants.{Both, Sent, Received
 use Rattle.nm_files.specs.declared.trace_file.TraceFault.{TraceFault}
 use Rattle.nm_files.specs.declared.trace_file.TraceFault.TheVariants.{Sink, Memory as NoMemory}
 use Rattle.nm_words.specs.Input.{IsRefused}
-use Rattle.nm_words.specs.Output.{EndsWord, FailsOfInput, SaysOfInput}
-use Rattle.nm_files.specs.Writing.{WrotePart}
+use Rattle.nm_words.specs.Output.{EndsWord, Exchange, FailsOfInput, IsPartWritten, SaysOfInput}
 use Rattle.nm_files.specs.TraceFile.{trace_file}
 
 -- the number of the interface that a command names, which is 0 where it names none
@@ -37,8 +36,10 @@ goes Received Out = false
 abbrev pub going : Ways → List (Record (List ℕ)) → List (Record (List ℕ))
 going ways records = filter (λ r. goes ways r.dir) records
 
--- the octets that are asked for, of the topology of this text: the trace file of the interface over the whole run, with the packets that go these ways
-pub record IsAnswer (form : Form) (ways : Ways) (name : Option (List ℕ)) (text octets : List ℕ) : Type 0 where
+-- the octets that are asked for, of the topology of this text: the trace file of the interface over
+-- the whole run, with the packets that go these ways
+pub record IsAnswer (form : Form) (ways : Ways) (name : Option (List ℕ)) (text octets : List ℕ) :
+    Type 0 where
   pub network : TopologyValue
   pub read : topology_of text ≡ Ok network
   pub iface : ℕ
@@ -54,14 +55,20 @@ SaysTrace form ways name text status octets = (status ≡ Done) × IsAnswer form
 -- why there is no such interface: the text is refused, or its topology has none
 abbrev pub HasNoIface : Option (List ℕ) → List ℕ → Status → Type 0
 HasNoIface name text status = IsRefused text status
-    ⊎ ((status ≡ NoInterface) × ((network : TopologyValue) × (topology_of text ≡ Ok network) × (iface_named network.ifaces name ≡ None)))
+    ⊎ ((status ≡ NoInterface)
+    × ((network : TopologyValue) × (topology_of text ≡ Ok network)
+    × (iface_named network.ifaces name ≡ None)))
 
--- What each status says. Where memory was refused, it was before the sink took anything, or the sink took a part of the answer.
-module _ {S : Type 0} (taken : S → Option (List ℕ)) (failures : S → ℕ) (told : List ℕ → Option (List ℕ)) (failed_before failed : ℕ) (old new : S) where
+-- What each status says. Where memory was refused, it was before the sink took anything, or the
+-- sink took a part of the answer.
+module _ {S : Type 0} (before after : Exchange S) where
   abbrev pub EndsTrace : Form → Ways → List ℕ → Option (List ℕ) → Status → Type 0
   EndsTrace form ways topology name status =
-      EndsWord taken failures old new (SaysOfInput (told topology) (SaysTrace form ways name)) (FailsOfInput (told topology) failed_before failed (HasNoIface name)) status
-      ⊎ ((status ≡ Memory) × ((octets : List ℕ) × SaysOfInput (told topology) (SaysTrace form ways name) Done octets × WrotePart taken failures old new octets))
+      EndsWord before after (SaysOfInput before.inputs topology (SaysTrace form ways name))
+      (FailsOfInput before.inputs after.inputs topology (HasNoIface name)) status
+      ⊎ ((status ≡ Memory) × ((octets : List ℕ)
+      × SaysOfInput before.inputs topology (SaysTrace form ways name) Done octets
+      × IsPartWritten before.output after.output octets))
 
 -- the status of a command whose trace file was written, or was not
 abbrev pub outcome_status : Result Unit TraceFault → Status

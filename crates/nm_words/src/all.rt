@@ -15,7 +15,7 @@ ghost use Rattle.nm_sim.specs.Trace.{IsTraceBefore, IsTracing};
 ghost use Rattle.nm_topology.specs.PartValues.{IfaceValue};
 ghost use Rattle.nm_words.specs.All.{MakesAll, is_wanted, wanted_files};
 ghost use Rattle.nm_words.specs.Held.{AreHeld, HasOpened, HoldsFile, IsClosedAs};
-ghost use Rattle.nm_words.specs.Input.{text_of};
+ghost use Rattle.nm_words.specs.Input.{inputs_seen};
 ghost use Rattle.nm_words.specs.Traces.{iface_named};
 
 use crate::closed::push_some;
@@ -265,8 +265,8 @@ fn make_all<I: Inputs, F: Outputs>(
     outputs: &mut F,
     progress: &Progress,
 ) -> Result<(), Status>
-    ensures { MakesAll (text_of I.standard_text I.file_text inputs.old.inputs)
-        inputs.old.failures inputs.new.failures (F.made outputs.old) (F.made outputs.new)
+    ensures { MakesAll (inputs_seen I.seen inputs.old) (inputs_seen I.seen inputs.new)
+        (F.made outputs.old) (F.made outputs.new)
         words.now.topology.now words.now.folder.now
         (map (λ n. string_bytes n) words.now.ifaces.now) (ended result) }
 {
@@ -291,8 +291,8 @@ pub fn write_all_traces<I: Inputs, F: Outputs>(
     outputs: &mut F,
     progress: &Progress,
 ) -> Status
-    ensures { MakesAll (text_of I.standard_text I.file_text inputs.old.inputs)
-        inputs.old.failures inputs.new.failures (F.made outputs.old) (F.made outputs.new)
+    ensures { MakesAll (inputs_seen I.seen inputs.old) (inputs_seen I.seen inputs.new)
+        (F.made outputs.old) (F.made outputs.new)
         words.now.topology.now words.now.folder.now
         (map (λ n. string_bytes n) words.now.ifaces.now) result }
 {

@@ -3,8 +3,8 @@
 ghost use Rattle.std.specs.Prelude.{◌≡◌, IfErr, IfOk};
 ghost use Rattle.nm_command.specs.declared.status.Status.TheVariants.{Memory};
 ghost use Rattle.nm_words.specs.Check.{EndsCheck, SaysOf};
-ghost use Rattle.nm_words.specs.Input.{IsUnread, text_of};
-ghost use Rattle.nm_words.specs.Output.{SaysOfInput};
+ghost use Rattle.nm_words.specs.Input.{IsUnread, inputs_seen};
+ghost use Rattle.nm_words.specs.Output.{SaysOfInput, exchange};
 
 use crate::input::NamedInputs;
 use crate::inputs::Inputs;
@@ -45,12 +45,11 @@ fn check_said<I: Inputs>(
     topology: &str,
     inputs: &mut NamedInputs<I>,
 ) -> Result<Output, Status>
-    ensures said { IfOk result (λ output. SaysOfInput
-        (text_of I.standard_text I.file_text inputs.old.inputs topology.now)
+    ensures said { IfOk result (λ output. SaysOfInput (inputs_seen I.seen inputs.old)
+        topology.now
         SaysOf output.status output.text.items) }
     ensures fault { IfErr result (λ status. IsUnread
-        (text_of I.standard_text I.file_text inputs.old.inputs topology.now)
-        inputs.old.failures inputs.new.failures status) }
+        (inputs_seen I.seen inputs.old) (inputs_seen I.seen inputs.new) topology.now status) }
 {
     let text = read_text(alloc, inputs, topology)?;
     check_output(alloc, text.as_slice())
@@ -63,10 +62,9 @@ pub fn say_check<I: Inputs, O: Sink + Drop>(
     inputs: &mut NamedInputs<I>,
     out: O,
 ) -> (Status, O)
-    ensures { EndsCheck O.taken O.failures
-        (text_of I.standard_text I.file_text inputs.old.inputs)
-        inputs.old.failures inputs.new.failures
-        out result.1 topology.entry.now result.0 }
+    ensures { EndsCheck (exchange I.seen O.taken O.failures inputs.old out)
+        (exchange I.seen O.taken O.failures inputs.new result.1)
+        topology.entry.now result.0 }
 {
     end(check_said(alloc, topology, inputs), out)
 }

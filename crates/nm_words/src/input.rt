@@ -2,7 +2,7 @@
 
 ghost use Rattle.std.specs.Prelude.{◌≡◌, ◌+◌, ◌<◌, ◌≤◌, Err, IfOk, IfSome, length};
 ghost use Rattle.std.specs.IoError.{error_kind};
-ghost use Rattle.nm_words.specs.Input.{IsFaultOf, text_of};
+ghost use Rattle.nm_words.specs.Input.{IsFaultOf, inputs_seen, text_of};
 ghost use Rattle.nm_words.specs.declared.input.InputFault.TheVariants.{Failed, TooLong};
 ghost use Rattle.nm_base.specs.declared.limits.TheConstants.{MAX_INPUT_OCTETS};
 
@@ -81,13 +81,13 @@ impl<I: Inputs> NamedInputs<I> {
     /// and else as it was. `TooLong` where it has more octets. `Memory` where memory was refused.
     pub fn read(&mut self, alloc: Global, name: &str) -> Result<Vec<u8>, InputFault>
         ensures text { IfOk result
-            (λ octets. IfSome (text_of I.standard_text I.file_text self.old.inputs name.now)
+            (λ octets. IfSome ((inputs_seen I.seen self.old).text name.now)
             (λ text. octets.items ≡ text)) }
         ensures most { IfOk result (λ octets. length octets.items ≤ MAX_INPUT_OCTETS) }
         ensures failed { result ≡ Err Failed → self.new.failures ≡ self.old.failures + 1 }
         ensures kept { (result ≡ Err Failed → ⊥) → self.new.failures ≡ self.old.failures }
         ensures too_long { result ≡ Err TooLong
-            → IfSome (text_of I.standard_text I.file_text self.old.inputs name.now)
+            → IfSome ((inputs_seen I.seen self.old).text name.now)
             (λ text. MAX_INPUT_OCTETS < length text) }
         ensures same { self.new.inputs ≡ self.old.inputs }
     {
@@ -102,11 +102,11 @@ impl<I: Inputs> NamedInputs<I> {
 /// Opens the input of a name, and reads all that it has, which may be as many as 67,108,864 octets.
 fn read_named<I: Inputs>(alloc: Global, inputs: &I, name: &str) -> Result<Vec<u8>, InputFault>
     ensures text { IfOk result
-        (λ octets. IfSome (text_of I.standard_text I.file_text inputs.now name.now)
+        (λ octets. IfSome (text_of (I.seen inputs.now) name.now)
         (λ text. octets.items ≡ text)) }
     ensures most { IfOk result (λ octets. length octets.items ≤ MAX_INPUT_OCTETS) }
     ensures too_long { result ≡ Err TooLong
-        → IfSome (text_of I.standard_text I.file_text inputs.now name.now)
+        → IfSome (text_of (I.seen inputs.now) name.now)
         (λ text. MAX_INPUT_OCTETS < length text) }
 {
     if name == "-" {

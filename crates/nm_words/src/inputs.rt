@@ -1,6 +1,7 @@
 //! Where inputs come from.
 
-ghost use Rattle.std.specs.Prelude.{◌≡◌, ℕ, List, Option, IfOk};
+ghost use Rattle.std.specs.Prelude.{◌≡◌, IfOk};
+ghost use Rattle.nm_words.specs.Input.{InputTexts};
 
 use std::io;
 use std::io::Read;
@@ -12,15 +13,12 @@ pub trait Inputs {
     /// A file, which is read to its end.
     type File: Read + Drop;
 
-    // What standard input has, where that is told.
-    ghost standard_text: { Self → Option (List ℕ) };
-
-    // What the file of a name has, where that is told.
-    ghost file_text: { Self → List ℕ → Option (List ℕ) };
+    // What standard input and the file of each name have, where that is told.
+    ghost seen: { Self → InputTexts };
 
     /// Standard input.
     fn standard(&self) -> Self::Standard
-        ensures { Self.Standard.remaining result ≡ standard_text self.now };
+        ensures { Self.Standard.remaining result ≡ (seen self.now).standard };
 
     /// Opens the file of a name.
     ///
@@ -28,5 +26,5 @@ pub trait Inputs {
     ///
     /// The file could not be opened, or memory was refused.
     fn open(&self, name: &str) -> io::Result<Self::File>
-        ensures { IfOk result (λ f. Self.File.remaining f ≡ file_text self.now name.now) };
+        ensures { IfOk result (λ f. Self.File.remaining f ≡ (seen self.now).file name.now) };
 }

@@ -19,10 +19,10 @@ impl<'a, S: Read + Drop + Copy> Inputs for MemInputs<'a, S> {
 
     type File = &'a [u8];
 
-    ghost standard_text = { λ m. S.remaining m.standard };
-
-    ghost file_text = { λ m name. option_map (λ f. f.1.now)
-        (find (λ f. bytes_eq f.0.now name) m.files.now) };
+    ghost seen = { λ m. record {
+      standard = S.remaining m.standard;
+      file = λ name. option_map (λ f. f.1.now) (find (λ f. bytes_eq f.0.now name) m.files.now);
+    } };
 
     fn standard(&self) -> S {
         self.standard

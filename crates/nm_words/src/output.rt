@@ -2,7 +2,7 @@
 
 ghost use Rattle.std.specs.Prelude.{◌≡◌, IfErr, IfOk, Ok};
 ghost use Rattle.nm_command.specs.declared.status.Status.TheVariants.{Memory};
-ghost use Rattle.nm_words.specs.Output.{IsPut};
+ghost use Rattle.nm_words.specs.Output.{IsPut, output_seen};
 
 use nm_base::Sink;
 use nm_base::sink::write_all;
@@ -33,7 +33,8 @@ impl Output {
 
 /// Writes a text, and gives the sink back.
 fn put<O: Sink>(output: Output, mut out: O) -> (Status, O)
-    ensures { IsPut O.taken O.failures out result.1 output.text.items output.status result.0 }
+    ensures { IsPut (output_seen O.taken O.failures out)
+        (output_seen O.taken O.failures result.1) output.text.items output.status result.0 }
 {
     match write_all(&mut out, output.text.as_slice()) {
         Ok(()) => (output.status, out),
@@ -44,8 +45,8 @@ fn put<O: Sink>(output: Output, mut out: O) -> (Status, O)
 /// Ends a word: writes what it says, or hands on the status with which it says nothing. Gives the
 /// sink back.
 pub fn end<O: Sink>(said: Result<Output, Status>, out: O) -> (Status, O)
-    ensures written { IfOk said (λ output. IsPut O.taken O.failures out result.1
-        output.text.items output.status result.0) }
+    ensures written { IfOk said (λ output. IsPut (output_seen O.taken O.failures out)
+        (output_seen O.taken O.failures result.1) output.text.items output.status result.0) }
     ensures unsaid { IfErr said (λ status. (result.0 ≡ status) × (result.1 ≡ out)) }
 {
     match said {

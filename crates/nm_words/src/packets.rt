@@ -1,8 +1,8 @@
 //! The word `packets`: the ways of the packets of a source.
 
 ghost use Rattle.std.specs.Prelude.{IfErr, IfOk};
-ghost use Rattle.nm_words.specs.Input.{text_of};
-ghost use Rattle.nm_words.specs.Output.{FailsOfInput, SaysOfInput};
+ghost use Rattle.nm_words.specs.Input.{inputs_seen};
+ghost use Rattle.nm_words.specs.Output.{FailsOfInput, SaysOfInput, exchange};
 ghost use Rattle.nm_words.specs.Packets.{EndsPackets, HasNoSource, SaysPackets};
 
 use crate::input::NamedInputs;
@@ -22,12 +22,11 @@ fn packets_said<I: Inputs>(
     inputs: &mut NamedInputs<I>,
     progress: &Progress,
 ) -> Result<Output, Status>
-    ensures said { IfOk result (λ output. SaysOfInput
-        (text_of I.standard_text I.file_text inputs.old.inputs words.now.topology.now)
+    ensures said { IfOk result (λ output. SaysOfInput (inputs_seen I.seen inputs.old)
+        words.now.topology.now
         (SaysPackets words.now.source) output.status output.text.items) }
     ensures fault { IfErr result (λ status. FailsOfInput
-        (text_of I.standard_text I.file_text inputs.old.inputs words.now.topology.now)
-        inputs.old.failures inputs.new.failures (HasNoSource words.now.source) status) }
+        (inputs_seen I.seen inputs.old) (inputs_seen I.seen inputs.new) words.now.topology.now (HasNoSource words.now.source) status) }
 {
     let network = read_topology(alloc, inputs, words.topology)?;
     if words.source.index() >= network.sources().len() {
@@ -48,10 +47,9 @@ pub fn say_packets<I: Inputs, O: Sink + Drop>(
     out: O,
     progress: &Progress,
 ) -> (Status, O)
-    ensures { EndsPackets O.taken O.failures
-        (text_of I.standard_text I.file_text inputs.old.inputs)
-        inputs.old.failures inputs.new.failures
-        out result.1 words.now.topology.now words.now.source result.0 }
+    ensures { EndsPackets (exchange I.seen O.taken O.failures inputs.old out)
+        (exchange I.seen O.taken O.failures inputs.new result.1)
+        words.now.topology.now words.now.source result.0 }
 {
     end(packets_said(alloc, words, inputs, progress), out)
 }

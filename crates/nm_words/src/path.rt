@@ -3,8 +3,8 @@
 ghost use Rattle.std.specs.Prelude.{◌≡◌, ◌<◌, IfErr, IfOk, IfSome, Some, length, position};
 ghost use Rattle.std.specs.Str.{bytes_eq};
 ghost use Rattle.nm_topology.specs.Parse.Forms.{usable_address_of};
-ghost use Rattle.nm_words.specs.Input.{HasTopology, text_of};
-ghost use Rattle.nm_words.specs.Output.{FailsOfInput, SaysOfInput};
+ghost use Rattle.nm_words.specs.Input.{HasTopology, inputs_seen};
+ghost use Rattle.nm_words.specs.Output.{FailsOfInput, SaysOfInput, exchange};
 ghost use Rattle.nm_words.specs.Path.{EndsPath, HasNoEnds, SaysPath, node_named};
 
 use crate::input::NamedInputs;
@@ -44,13 +44,12 @@ fn read_ends<I: Inputs>(
     words: &PathWords<'_>,
     inputs: &mut NamedInputs<I>,
 ) -> Result<(Topology, NodeNo, Address), Status>
-    ensures there { IfOk result (λ there. HasTopology
-        (text_of I.standard_text I.file_text inputs.old.inputs words.now.topology.now) there.0
+    ensures there { IfOk result (λ there. HasTopology (inputs_seen I.seen inputs.old)
+        words.now.topology.now there.0
         × (node_named there.0.nodes words.now.node.now ≡ Some there.1)
         × (usable_address_of words.now.address.now ≡ Some there.2)) }
     ensures fault { IfErr result (λ status. FailsOfInput
-        (text_of I.standard_text I.file_text inputs.old.inputs words.now.topology.now)
-        inputs.old.failures inputs.new.failures
+        (inputs_seen I.seen inputs.old) (inputs_seen I.seen inputs.new) words.now.topology.now
         (HasNoEnds words.now.node.now words.now.address.now) status) }
 {
     let network = read_topology(alloc, inputs, words.topology)?;
@@ -65,12 +64,11 @@ fn path_said<I: Inputs>(
     words: &PathWords<'_>,
     inputs: &mut NamedInputs<I>,
 ) -> Result<Output, Status>
-    ensures said { IfOk result (λ output. SaysOfInput
-        (text_of I.standard_text I.file_text inputs.old.inputs words.now.topology.now)
+    ensures said { IfOk result (λ output. SaysOfInput (inputs_seen I.seen inputs.old)
+        words.now.topology.now
         (SaysPath words.now.node.now words.now.address.now) output.status output.text.items) }
     ensures fault { IfErr result (λ status. FailsOfInput
-        (text_of I.standard_text I.file_text inputs.old.inputs words.now.topology.now)
-        inputs.old.failures inputs.new.failures
+        (inputs_seen I.seen inputs.old) (inputs_seen I.seen inputs.new) words.now.topology.now
         (HasNoEnds words.now.node.now words.now.address.now) status) }
 {
     let (network, from, to) = read_ends(alloc, words, inputs)?;
@@ -84,10 +82,9 @@ pub fn say_path<I: Inputs, O: Sink + Drop>(
     inputs: &mut NamedInputs<I>,
     out: O,
 ) -> (Status, O)
-    ensures { EndsPath O.taken O.failures
-        (text_of I.standard_text I.file_text inputs.old.inputs)
-        inputs.old.failures inputs.new.failures
-        out result.1 words.now.topology.now words.now.node.now words.now.address.now result.0 }
+    ensures { EndsPath (exchange I.seen O.taken O.failures inputs.old out)
+        (exchange I.seen O.taken O.failures inputs.new result.1)
+        words.now.topology.now words.now.node.now words.now.address.now result.0 }
 {
     end(path_said(alloc, words, inputs), out)
 }

@@ -4,7 +4,7 @@ ghost use Rattle.std.specs.Prelude.{◌≡◌, IfErr, IfOk, Ok};
 ghost use Rattle.std.specs.Arc.{arc_value};
 ghost use Rattle.nm_command.specs.declared.status.Status.TheVariants.{Memory};
 ghost use Rattle.nm_topology.specs.Topology.{topology_of};
-ghost use Rattle.nm_words.specs.Input.{HasTopology, IsInput, IsRefused, IsUnread, text_of};
+ghost use Rattle.nm_words.specs.Input.{HasTopology, IsInput, IsRefused, IsUnread, inputs_seen};
 ghost use Rattle.nm_words.specs.Output.{FailsOfInput};
 
 use crate::input::{InputFault, NamedInputs};
@@ -21,10 +21,9 @@ pub fn read_text<I: Inputs>(
     name: &str,
 ) -> Result<Vec<u8>, Status>
     ensures text { IfOk result (λ text. IsInput
-        (text_of I.standard_text I.file_text inputs.old.inputs name.now) text.items) }
+        ((inputs_seen I.seen inputs.old).text name.now) text.items) }
     ensures fault { IfErr result (λ status. IsUnread
-        (text_of I.standard_text I.file_text inputs.old.inputs name.now)
-        inputs.old.failures inputs.new.failures status) }
+        (inputs_seen I.seen inputs.old) (inputs_seen I.seen inputs.new) name.now status) }
     ensures kept { IfOk result (λ _. inputs.new.failures ≡ inputs.old.failures) }
     ensures same { inputs.new.inputs ≡ inputs.old.inputs }
 {
@@ -53,11 +52,10 @@ pub fn read_topology<I: Inputs>(
     inputs: &mut NamedInputs<I>,
     name: &str,
 ) -> Result<Topology, Status>
-    ensures network { IfOk result (λ network. HasTopology
-        (text_of I.standard_text I.file_text inputs.old.inputs name.now) network) }
+    ensures network { IfOk result (λ network. HasTopology (inputs_seen I.seen inputs.old)
+        name.now network) }
     ensures fault { IfErr result (λ status. FailsOfInput
-        (text_of I.standard_text I.file_text inputs.old.inputs name.now)
-        inputs.old.failures inputs.new.failures IsRefused status) }
+        (inputs_seen I.seen inputs.old) (inputs_seen I.seen inputs.new) name.now IsRefused status) }
 {
     let text = read_text(alloc, inputs, name)?;
     read_network(alloc, text.as_slice())
@@ -77,11 +75,10 @@ pub fn read_shared<I: Inputs>(
     inputs: &mut NamedInputs<I>,
     name: &str,
 ) -> Result<Arc<Topology>, Status>
-    ensures network { IfOk result (λ network. HasTopology
-        (text_of I.standard_text I.file_text inputs.old.inputs name.now) (arc_value network)) }
+    ensures network { IfOk result (λ network. HasTopology (inputs_seen I.seen inputs.old)
+        name.now (arc_value network)) }
     ensures fault { IfErr result (λ status. FailsOfInput
-        (text_of I.standard_text I.file_text inputs.old.inputs name.now)
-        inputs.old.failures inputs.new.failures IsRefused status) }
+        (inputs_seen I.seen inputs.old) (inputs_seen I.seen inputs.new) name.now IsRefused status) }
 {
     share(alloc, read_topology(alloc, inputs, name)?)
 }

@@ -5,9 +5,9 @@ ghost use Rattle.std.specs.Arc.{arc_value};
 ghost use Rattle.nm_base.specs.declared.limits.TheConstants.{MAX_ROUNDS};
 ghost use Rattle.nm_command.specs.declared.status.Status.TheVariants.{Memory};
 ghost use Rattle.nm_topology.specs.Topology.{topology_of};
-ghost use Rattle.nm_words.specs.Input.{IsRefused, text_of};
+ghost use Rattle.nm_words.specs.Input.{IsRefused, inputs_seen};
 ghost use Rattle.nm_words.specs.Lines.{AreOfPartitions, AreTotals, iface_lines};
-ghost use Rattle.nm_words.specs.Output.{FailsOfInput, SaysOfInput};
+ghost use Rattle.nm_words.specs.Output.{FailsOfInput, SaysOfInput, exchange};
 ghost use Rattle.nm_words.specs.Rounds.{EndsRounds, SaysRounds};
 
 use crate::input::NamedInputs;
@@ -90,12 +90,11 @@ fn rounds_said<I: Inputs>(
 ) -> Result<Output, Status>
     requires some { 1 ≤ max }
     requires few { max ≤ MAX_ROUNDS }
-    ensures said { IfOk result (λ output. SaysOfInput
-        (text_of I.standard_text I.file_text inputs.old.inputs topology.now)
+    ensures said { IfOk result (λ output. SaysOfInput (inputs_seen I.seen inputs.old)
+        topology.now
         (SaysRounds max) output.status output.text.items) }
     ensures fault { IfErr result (λ status. FailsOfInput
-        (text_of I.standard_text I.file_text inputs.old.inputs topology.now)
-        inputs.old.failures inputs.new.failures IsRefused status) }
+        (inputs_seen I.seen inputs.old) (inputs_seen I.seen inputs.new) topology.now IsRefused status) }
 {
     let network = read_shared(alloc, inputs, topology)?;
     progress.begin(network.stop());
@@ -114,10 +113,9 @@ pub fn say_rounds<I: Inputs, O: Sink + Drop>(
 ) -> (Status, O)
     requires some { 1 ≤ max }
     requires few { max ≤ MAX_ROUNDS }
-    ensures { EndsRounds O.taken O.failures
-        (text_of I.standard_text I.file_text inputs.old.inputs)
-        inputs.old.failures inputs.new.failures
-        out result.1 topology.entry.now max result.0 }
+    ensures { EndsRounds (exchange I.seen O.taken O.failures inputs.old out)
+        (exchange I.seen O.taken O.failures inputs.new result.1)
+        topology.entry.now max result.0 }
 {
     end(rounds_said(alloc, topology, max, inputs, progress), out)
 }

@@ -2,8 +2,8 @@
 
 ghost use Rattle.std.specs.Prelude.{IfErr, IfOk};
 ghost use Rattle.nm_script.specs.Script.{IsFirstFault, IsScript};
-ghost use Rattle.nm_words.specs.Input.{text_of};
-ghost use Rattle.nm_words.specs.Output.{FailsOfInputs, SaysOfInputs};
+ghost use Rattle.nm_words.specs.Input.{inputs_seen};
+ghost use Rattle.nm_words.specs.Output.{FailsOfInputs, SaysOfInputs, exchange};
 ghost use Rattle.nm_words.specs.Script.{EndsScript, FailsScript, SaysScript};
 
 use crate::input::NamedInputs;
@@ -87,13 +87,11 @@ fn script_said<I: Inputs>(
     inputs: &mut NamedInputs<I>,
 ) -> Result<Output, Status>
     ensures said { IfOk result (λ output. SaysOfInputs
-        (text_of I.standard_text I.file_text inputs.old.inputs topology.now)
-        (text_of I.standard_text I.file_text inputs.old.inputs steps.now)
+        (inputs_seen I.seen inputs.old) topology.now steps.now
         SaysScript output.status output.text.items) }
     ensures fault { IfErr result (λ status. FailsOfInputs
-        (text_of I.standard_text I.file_text inputs.old.inputs topology.now)
-        (text_of I.standard_text I.file_text inputs.old.inputs steps.now)
-        inputs.old.failures inputs.new.failures FailsScript status) }
+        (inputs_seen I.seen inputs.old) (inputs_seen I.seen inputs.new)
+        topology.now steps.now FailsScript status) }
 {
     let topology = read_text(alloc, inputs, topology)?;
     let script = read_text(alloc, inputs, steps)?;
@@ -108,10 +106,9 @@ pub fn say_script<I: Inputs, O: Sink + Drop>(
     inputs: &mut NamedInputs<I>,
     out: O,
 ) -> (Status, O)
-    ensures { EndsScript O.taken O.failures
-        (text_of I.standard_text I.file_text inputs.old.inputs)
-        inputs.old.failures inputs.new.failures
-        out result.1 topology.entry.now steps.entry.now result.0 }
+    ensures { EndsScript (exchange I.seen O.taken O.failures inputs.old out)
+        (exchange I.seen O.taken O.failures inputs.new result.1)
+        topology.entry.now steps.entry.now result.0 }
 {
     end(script_said(alloc, topology, steps, inputs), out)
 }

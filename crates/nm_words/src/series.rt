@@ -8,8 +8,8 @@ ghost use Rattle.nm_files.specs.Writing.{WroteAll, WrotePrefix};
 ghost use Rattle.nm_series.specs.Series.{IsSeries};
 ghost use Rattle.nm_series.specs.Steps.{steps_in};
 ghost use Rattle.nm_series.specs.declared.steps.TheConstants.{MAX_ROWS};
-ghost use Rattle.nm_words.specs.Input.{HasTopology, text_of};
-ghost use Rattle.nm_words.specs.Output.{FailsOfInput};
+ghost use Rattle.nm_words.specs.Input.{HasTopology, inputs_seen};
+ghost use Rattle.nm_words.specs.Output.{FailsOfInput, exchange};
 ghost use Rattle.nm_words.specs.Series.{EndsSeries, HasFewRows, HasManyRows, TellsOf, WritesSteps};
 ghost use Rattle.nm_words.specs.Series.{columns_of, rows_in};
 
@@ -147,12 +147,11 @@ fn read_series<I: Inputs>(
 ) -> Result<Topology, Status>
     requires some { 1 ≤ words.now.step }
     requires short { words.now.step ≤ MAX_TIME }
-    ensures network { IfOk result (λ network. HasTopology
-        (text_of I.standard_text I.file_text inputs.old.inputs words.now.topology.now) network) }
+    ensures network { IfOk result (λ network. HasTopology (inputs_seen I.seen inputs.old)
+        words.now.topology.now network) }
     ensures rows { IfOk result (HasFewRows words.now.subject words.now.step) }
     ensures fault { IfErr result (λ status. FailsOfInput
-        (text_of I.standard_text I.file_text inputs.old.inputs words.now.topology.now)
-        inputs.old.failures inputs.new.failures
+        (inputs_seen I.seen inputs.old) (inputs_seen I.seen inputs.new) words.now.topology.now
         (HasManyRows words.now.subject words.now.step) status) }
 {
     let network = read_topology(alloc, inputs, words.topology)?;
@@ -174,10 +173,9 @@ pub fn write_series<I: Inputs, O: Sink + Drop>(
 ) -> (Status, O)
     requires some { 1 ≤ words.now.step }
     requires short { words.now.step ≤ MAX_TIME }
-    ensures { EndsSeries O.taken O.failures
-        (text_of I.standard_text I.file_text inputs.old.inputs)
-        inputs.old.failures inputs.new.failures
-        out result.1 words.now.topology.now words.now.step words.now.subject result.0 }
+    ensures { EndsSeries (exchange I.seen O.taken O.failures inputs.old out)
+        (exchange I.seen O.taken O.failures inputs.new result.1)
+        words.now.topology.now words.now.step words.now.subject result.0 }
 {
     match read_series(alloc, words, inputs) {
         Ok(network) => {

@@ -1,8 +1,8 @@
 //! The words `report`, `dot` and `text`: a run or a network in words and pictures.
 
 ghost use Rattle.std.specs.Prelude.{IfErr, IfOk, OnOk};
-ghost use Rattle.nm_words.specs.Input.{IsRefused, text_of};
-ghost use Rattle.nm_words.specs.Output.{FailsOfInput, SaysOfInput};
+ghost use Rattle.nm_words.specs.Input.{IsRefused, inputs_seen};
+ghost use Rattle.nm_words.specs.Output.{FailsOfInput, SaysOfInput, exchange};
 ghost use Rattle.nm_words.specs.Shown.{ArePacketLines, EndsShown, EndsText, SaysShown, SaysText};
 ghost use Rattle.nm_words.specs.Traces.{HasNoIface};
 ghost use Rattle.nm_measure.specs.Lines.{EndsLine};
@@ -52,12 +52,11 @@ fn view_said<I: Inputs>(
     inputs: &mut NamedInputs<I>,
     progress: &Progress,
 ) -> Result<Output, Status>
-    ensures said { IfOk result (λ output. SaysOfInput
-        (text_of I.standard_text I.file_text inputs.old.inputs topology.now)
+    ensures said { IfOk result (λ output. SaysOfInput (inputs_seen I.seen inputs.old)
+        topology.now
         SaysShown output.status output.text.items) }
     ensures fault { IfErr result (λ status. FailsOfInput
-        (text_of I.standard_text I.file_text inputs.old.inputs topology.now)
-        inputs.old.failures inputs.new.failures IsRefused status) }
+        (inputs_seen I.seen inputs.old) (inputs_seen I.seen inputs.new) topology.now IsRefused status) }
 {
     let network = read_topology(alloc, inputs, topology)?;
     Output::of(view_text(alloc, &network, view, progress), Status::Done)
@@ -72,10 +71,9 @@ pub fn say_view<I: Inputs, O: Sink + Drop>(
     out: O,
     progress: &Progress,
 ) -> (Status, O)
-    ensures { EndsShown O.taken O.failures
-        (text_of I.standard_text I.file_text inputs.old.inputs)
-        inputs.old.failures inputs.new.failures
-        out result.1 topology.entry.now result.0 }
+    ensures { EndsShown (exchange I.seen O.taken O.failures inputs.old out)
+        (exchange I.seen O.taken O.failures inputs.new result.1)
+        topology.entry.now result.0 }
 {
     end(view_said(alloc, topology, view, inputs, progress), out)
 }
@@ -113,12 +111,11 @@ fn text_said<I: Inputs>(
     iface: &str,
     inputs: &mut NamedInputs<I>,
 ) -> Result<Output, Status>
-    ensures said { IfOk result (λ output. SaysOfInput
-        (text_of I.standard_text I.file_text inputs.old.inputs topology.now)
+    ensures said { IfOk result (λ output. SaysOfInput (inputs_seen I.seen inputs.old)
+        topology.now
         (SaysText iface.now) output.status output.text.items) }
     ensures fault { IfErr result (λ status. FailsOfInput
-        (text_of I.standard_text I.file_text inputs.old.inputs topology.now)
-        inputs.old.failures inputs.new.failures (HasNoIface (Some iface.now)) status) }
+        (inputs_seen I.seen inputs.old) (inputs_seen I.seen inputs.new) topology.now (HasNoIface (Some iface.now)) status) }
 {
     let (network, iface) = read_iface(alloc, inputs, topology, Some(iface))?;
     Output::of(packets_text(alloc, &network, iface), Status::Done)
@@ -132,10 +129,9 @@ pub fn say_text<I: Inputs, O: Sink + Drop>(
     inputs: &mut NamedInputs<I>,
     out: O,
 ) -> (Status, O)
-    ensures { EndsText O.taken O.failures
-        (text_of I.standard_text I.file_text inputs.old.inputs)
-        inputs.old.failures inputs.new.failures
-        out result.1 topology.entry.now iface.entry.now result.0 }
+    ensures { EndsText (exchange I.seen O.taken O.failures inputs.old out)
+        (exchange I.seen O.taken O.failures inputs.new result.1)
+        topology.entry.now iface.entry.now result.0 }
 {
     end(text_said(alloc, topology, iface, inputs), out)
 }

@@ -3,8 +3,8 @@
 ghost use Rattle.std.specs.Prelude.{◌≡◌, ◌<◌, IfErr, IfOk, IfSome, Some};
 ghost use Rattle.std.specs.Prelude.{length, option_map, position};
 ghost use Rattle.std.specs.Str.{bytes_eq};
-ghost use Rattle.nm_words.specs.Input.{HasTopology, text_of};
-ghost use Rattle.nm_words.specs.Output.{FailsOfInput};
+ghost use Rattle.nm_words.specs.Input.{HasTopology, inputs_seen};
+ghost use Rattle.nm_words.specs.Output.{FailsOfInput, exchange};
 ghost use Rattle.nm_words.specs.Traces.{EndsTrace, HasNoIface, iface_named, outcome_status};
 
 use crate::input::NamedInputs;
@@ -30,10 +30,9 @@ pub fn write_trace<I: Inputs, O: Sink + Drop>(
     out: O,
     progress: &Progress,
 ) -> (Status, O)
-    ensures { EndsTrace O.taken O.failures
-        (text_of I.standard_text I.file_text inputs.old.inputs)
-        inputs.old.failures inputs.new.failures
-        out result.1 words.now.form words.now.ways words.now.topology.now
+    ensures { EndsTrace (exchange I.seen O.taken O.failures inputs.old out)
+        (exchange I.seen O.taken O.failures inputs.new result.1)
+        words.now.form words.now.ways words.now.topology.now
         (option_map (λ n. n.now) words.now.iface) result.0 }
 {
     match read_iface(alloc, inputs, words.topology, words.iface) {
@@ -61,12 +60,11 @@ pub(crate) fn read_iface<I: Inputs>(
     topology: &str,
     name: Option<&str>,
 ) -> Result<(Topology, IfaceNo), Status>
-    ensures there { IfOk result (λ there. HasTopology
-        (text_of I.standard_text I.file_text inputs.old.inputs topology.now) there.0
+    ensures there { IfOk result (λ there. HasTopology (inputs_seen I.seen inputs.old)
+        topology.now there.0
         × (iface_named there.0.ifaces (option_map (λ n. n.now) name.entry) ≡ Some there.1)) }
     ensures fault { IfErr result (λ status. FailsOfInput
-        (text_of I.standard_text I.file_text inputs.old.inputs topology.now)
-        inputs.old.failures inputs.new.failures
+        (inputs_seen I.seen inputs.old) (inputs_seen I.seen inputs.new) topology.now
         (HasNoIface (option_map (λ n. n.now) name.entry)) status) }
 {
     let network = read_topology(alloc, inputs, topology)?;

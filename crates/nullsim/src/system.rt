@@ -23,9 +23,7 @@ impl<'a> Inputs for SystemInputs<'a> {
 
     type File = File;
 
-    ghost standard_text = { λ _. None };
-
-    ghost file_text = { λ _ _. None };
+    ghost seen = { λ _. record { standard = None; file = λ _. None } };
 
     fn standard(&self) -> StdinLock<'static> {
         self.runtime.reader()

@@ -1,6 +1,7 @@
-use Rattle.std.proofs.Common.{map, string_bytes, refl}
+use Rattle.std.proofs.Common.{map, string_bytes, inl, inr, refl}
+use Rattle.std.proofs.lemmas.Result.{err_from_is_err_and}
 use Rattle.nm_words.specs.All.{wanted_files}
-use Rattle.nm_words.specs.Input.{text_of}
+use Rattle.nm_words.specs.Input.{inputs_seen}
 use Rattle.nm_words.proofs.Held.{ends_all}
 use Rattle.nm_words.proofs.all.make_all.Goals as goal
 
@@ -11,7 +12,7 @@ returns g c =
     let read = c.in_ok-network.ensures.network in
     let names = map (λ n. string_bytes n) c.args.words.now.ifaces.now in
     let folder = c.args.words.now.folder.now in
-    ends_all (text_of g.I.Inputs.standard_text g.I.Inputs.file_text c.args.inputs.now.inputs) c.args.inputs.now.failures c.read_topology.new.inputs.failures
+    ends_all (inputs_seen g.I.Inputs.seen c.args.inputs.now) (inputs_seen g.I.Inputs.seen c.read_topology.new.inputs)
     (g.F.Outputs.made c.args.outputs.now) (g.F.Outputs.made c.make_files.new.outputs) c.args.words.now.topology.now folder names read.0 (wanted_files network names folder there.0) c.make_files.result
     read.1
     (record {
@@ -23,3 +24,11 @@ returns g c =
       all = refl;
     })
     (c.make_files.ensures.made there.0 there.1) (c.make_files.ensures.some there.0 there.1) c.make_files.ensures.fault
+
+-- a name is that of no interface
+pub returns-in_err-find_ifaces : goal.returns-in_err-find_ifaces
+returns-in_err-find_ifaces g c =
+    let p = err_from_is_err_and c.from_residual-in_err-find_ifaces.result c.from_residual-in_err-find_ifaces.ensures.1 in
+    let read = c.in_ok-network.ensures.network in
+    let none = c.in_err-find_ifaces.ensures.none in
+    rw (p.1, p.2, none.0) (inr (inl (inr (read.0, read.1, inr (refl, (c.in_ok-network.network, read.2, none.1))), refl)))

@@ -1,4 +1,4 @@
-use Rattle.std.proofs.Common.{◌-◌, ◌≡◌, List, ℕ, Ok, subst}
+use Rattle.std.proofs.Common.{◌-◌, ◌≡◌, List, ℕ, Ok, inl, inr, refl, subst}
 use Rattle.std.proofs.lemmas.Result.{IfOk-weaker}
 use Rattle.std.specs.Arc.{arc_value}
 use Rattle.nm_command.specs.declared.status.Status.TheVariants.{Done, Stalled}
@@ -33,10 +33,12 @@ returns-in-Done-clause-said c =
     let t = arc_value c.args.topology.now in
     let there = c.every_topology_has_a_trace.ensures.there t.stop in
     text_is_said (λ o. o.text) (λ o. o.status) (λ status said. (text : List ℕ) → topology_of text ≡ Ok t → SaysRounds c.args.max text status said.items) Done c.rounds_text.result c.of.result
-    (IfOk-weaker c.rounds_text.result _ _ (λ v said text read.
-    says_done t c.deref-in-Done.result.now c.args.max c.in-Done.rounds c.in-Done.books.items c.as_slice.result.now there.0 text v.items
-    c.deref-in-Done.ensures c.as_slice.ensures.value (c.interfaces_have_their_records.ensures (net_of t)) c.in-Done.ensures
-    (subst (λ z. IsTraceBefore z t.stop there.0) c.deref.ensures there.1) read said) c.rounds_text.ensures)
+    (IfOk-weaker c.rounds_text.result _ _ (λ v said text read. inl (
+      refl,
+      says_done t c.deref-in-Done.result.now c.args.max c.in-Done.rounds c.in-Done.books.items c.as_slice.result.now there.0 text v.items
+          c.deref-in-Done.ensures c.as_slice.ensures.value (c.interfaces_have_their_records.ensures (net_of t)) c.in-Done.ensures
+          (subst (λ z. IsTraceBefore z t.stop there.0) c.deref.ensures there.1) read said,
+    )) c.rounds_text.ensures)
     c.of.ensures.made
 
 pub returns-in-Unfinished-clause-said : goal.returns-in-Unfinished-clause-said
@@ -44,7 +46,9 @@ returns-in-Unfinished-clause-said c =
     let t = arc_value c.args.topology.now in
     text_is_said (λ o. o.text) (λ o. o.status) (λ status said. (text : List ℕ) → topology_of text ≡ Ok t → SaysRounds c.args.max text status said.items) Stalled
     c.rounds_text-in-Unfinished.result c.of-in-Unfinished.result
-    (IfOk-weaker c.rounds_text-in-Unfinished.result _ _ (λ v said text read.
-    says_unfinished t c.deref-in-Unfinished.result.now c.args.max c.in-Unfinished.rounds c.in-Unfinished.books.items c.as_slice-in-Unfinished.result.now text v.items
-    c.deref-in-Unfinished.ensures c.as_slice-in-Unfinished.ensures.value c.in-Unfinished.ensures read said) c.rounds_text-in-Unfinished.ensures)
+    (IfOk-weaker c.rounds_text-in-Unfinished.result _ _ (λ v said text read. inr (
+      refl,
+      says_unfinished t c.deref-in-Unfinished.result.now c.args.max c.in-Unfinished.rounds c.in-Unfinished.books.items c.as_slice-in-Unfinished.result.now text v.items
+          c.deref-in-Unfinished.ensures c.as_slice-in-Unfinished.ensures.value c.in-Unfinished.ensures read said,
+    )) c.rounds_text-in-Unfinished.ensures)
     c.of-in-Unfinished.ensures.made

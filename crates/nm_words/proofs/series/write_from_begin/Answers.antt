@@ -1,4 +1,4 @@
-use Rattle.std.proofs.Common.{◌+◌, min, inr, refl, ap, subst, ◌∙◌}
+use Rattle.std.proofs.Common.{◌+◌, min, inl, inr, refl, ap, subst, ◌∙◌}
 use Rattle.nm_files.specs.Writing.{WroteAll, WrotePrefix}
 use Rattle.std.proofs.lemmas.Result.{err_from_is_err_and}
 use Rattle.nm_words.specs.Series.{IsStepOf, columns_of}
@@ -32,18 +32,21 @@ pub returns-in_err-put : goal.returns-in_err-put
 returns-in_err-put g c =
     let p = err_from_is_err_and c.from_residual.result c.from_residual.ensures.1 in
     let cut = c.in_err-put.ensures.cut in
-    rw (p.1, p.2, cut.0) (
-      0,
-      columns_of c.args.subject,
+    rw (p.1, p.2, cut.0) (inr (inl (
       refl,
-      subst (λ l. WrotePrefix g.S.Sink.taken g.S.Sink.failures c.args.sink.now c.put.new.sink l) c.columns_of.ensures cut.1,
-    )
+      (
+        0,
+        columns_of c.args.subject,
+        refl,
+        subst (λ l. WrotePrefix g.S.Sink.taken g.S.Sink.failures c.args.sink.now c.put.new.sink l) c.columns_of.ensures cut.1,
+      ),
+    )))
 
 pub returns-in_err-text : goal.returns-in_err-text
 returns-in_err-text g c =
     let p = err_from_is_err_and c.from_residual-in_err-text.result c.from_residual-in_err-text.ensures.1 in
     let so_far = c.loop.invariant.going in
-    rw (p.1, p.2) (inr (so_far.steps, so_far.octets, so_far.told, so_far.wrote))
+    rw (p.1, p.2) (inr (inr (refl, inr (so_far.steps, so_far.octets, so_far.told, so_far.wrote))))
 
 pub returns-in_err-put-2 : goal.returns-in_err-put-2
 returns-in_err-put-2 g c =
@@ -51,7 +54,10 @@ returns-in_err-put-2 g c =
     let p = err_from_is_err_and c.from_residual-in_err-put-2.result c.from_residual-in_err-put-2.ensures.1 in
     let next = rw c.in-Some.is at c.in_ok-text.ensures in
     let cut = c.in_err-put-2.ensures.cut in
-    rw (p.1, p.2, cut.0) (is_cut g.S.Sink.taken g.S.Sink.failures (IsStepOf c.args.subject t) (columns_of c.args.subject) c.args.series.now.step t.stop c.args.sink.now c.loop.sink
-    c.put-in-loop.new.sink c.loop.series.time c.next.new.self.time c.in-Some.text.items c.loop.invariant.going
-    (next.2 ∙ ap (λ s. min (c.loop.series.time + s) t.stop) c.loop.invariant.step) (c.requires.tells _ _ _ next.4)
-    (subst (λ l. WrotePrefix g.S.Sink.taken g.S.Sink.failures c.loop.sink c.put-in-loop.new.sink l) c.as_slice.ensures.value cut.1))
+    rw (p.1, p.2, cut.0) (inr (inl (
+      refl,
+      is_cut g.S.Sink.taken g.S.Sink.failures (IsStepOf c.args.subject t) (columns_of c.args.subject) c.args.series.now.step t.stop c.args.sink.now c.loop.sink
+          c.put-in-loop.new.sink c.loop.series.time c.next.new.self.time c.in-Some.text.items c.loop.invariant.going
+          (next.2 ∙ ap (λ s. min (c.loop.series.time + s) t.stop) c.loop.invariant.step) (c.requires.tells _ _ _ next.4)
+          (subst (λ l. WrotePrefix g.S.Sink.taken g.S.Sink.failures c.loop.sink c.put-in-loop.new.sink l) c.as_slice.ensures.value cut.1),
+    )))
