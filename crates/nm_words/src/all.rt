@@ -84,14 +84,19 @@ fn open_wanted<F: Outputs>(
     outputs: &mut F,
     files: &mut TraceFiles<F::File>,
 ) -> Result<(), Status>
+    // The interface is there, and the files that are open are sound.
     requires there { number < length wanted.now.network.now.ifaces }
     requires sound { All IsSound files.old.files.items }
+
+    // Where its file is asked for, it stands behind the others, and was begun.
     ensures opened { (iface : IfaceValue)
         → slice_get wanted.now.network.now.ifaces number ≡ Some iface
         → OnOk result (HasOpened F.File.taken (F.made outputs.old)
         (is_wanted (map (λ n. string_bytes n) wanted.now.names.now) iface)
         files.old.files.items files.new.files.items) }
     ensures sound { All IsSound files.new.files.items }
+
+    // No file was placed, and the faults are these.
     ensures same { F.made outputs.new ≡ F.made outputs.old }
     ensures fault { IfErr result (λ s. (s ≡ File) ⊎ (s ≡ Memory)) }
 {

@@ -80,12 +80,17 @@ impl<I: Inputs> NamedInputs<I> {
     /// `Failed` where it could not be opened or a read failed: the count of failures is one more,
     /// and else as it was. `TooLong` where it has more octets. `Memory` where memory was refused.
     pub fn read(&mut self, alloc: Global, name: &str) -> Result<Vec<u8>, InputFault>
+        // The text that the input tells is read whole, and is not longer than it may be.
         ensures text { IfOk result
             (λ octets. IfSome ((inputs_seen I.seen self.old).text name.now)
             (λ text. octets.items ≡ text)) }
         ensures most { IfOk result (λ octets. length octets.items ≤ MAX_INPUT_OCTETS) }
+
+        // A failure is counted, and nothing else is.
         ensures failed { result ≡ Err Failed → self.new.failures ≡ self.old.failures + 1 }
         ensures kept { (result ≡ Err Failed → ⊥) → self.new.failures ≡ self.old.failures }
+
+        // What is too long was told to be so. The inputs stay.
         ensures too_long { result ≡ Err TooLong
             → IfSome ((inputs_seen I.seen self.old).text name.now)
             (λ text. MAX_INPUT_OCTETS < length text) }
