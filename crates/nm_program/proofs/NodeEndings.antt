@@ -1,6 +1,7 @@
 -- What is said of a replica that is served.
-use Rattle.std.proofs.Common.{◌≡◌, ℕ, List, Option, Result, Ok, Err, IfOk, refl, subst}
+use Rattle.std.proofs.Common.{◌≡◌, ◌⊎◌, ℕ, List, Option, Result, Ok, Err, IfOk, inl, inr, refl, subst}
 use Rattle.nm_command.specs.declared.status.Status.{Status}
+use Rattle.nm_command.specs.declared.status.Status.TheVariants.{File, Memory}
 use Rattle.nm_topology.specs.Topology.{topology_of}
 use Rattle.nm_topology.specs.TopologyValue.{TopologyValue}
 use Rattle.nm_book.specs.Book.{BookValue, state_of}
@@ -8,7 +9,7 @@ use Rattle.nm_peers.specs.Listeners.{AreListeners}
 use Rattle.nm_peers.specs.declared.listener.Listener.{Listener}
 use Rattle.nm_process.specs.Process.{IsDoneReplica}
 use Rattle.nm_files.specs.Outputs.{Files, HasMade}
-use Rattle.nm_program.specs.Node.{HasListeners, SaysLines, SaysServed, own_files, own_lines}
+use Rattle.nm_program.specs.Node.{HasListeners, SaysLines, SaysServed, StopsNode, own_files, own_lines}
 use Rattle.nm_words.specs.Input.{InputsSeen}
 use Rattle.nm_words.specs.Output.{SaysOfInputs}
 
@@ -46,3 +47,8 @@ module _ {V E : Type 0} (items : V → List ℕ) (asked : V → Status) (t : Top
       → IfOk served (λ v. SaysOfInputs inputs one two (SaysServed p r before after folder) (asked v) (items v))
   says_of_inputs inputs one two (Ok v) (text, addresses, had, read, mean) says = (text, addresses, had, says text addresses read mean)
   says_of_inputs inputs one two (Err e) there says = tt
+
+-- a book whose files were not all made, since one failed or memory was refused
+pub stops_writing : (before after : Option Files) (status : Status) → (status ≡ File) ⊎ (status ≡ Memory) → StopsNode before after status
+stops_writing before after status (inl file) = inl file
+stops_writing before after status (inr memory) = inr (inl memory)

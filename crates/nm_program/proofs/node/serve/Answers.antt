@@ -1,7 +1,8 @@
 use Rattle.std.proofs.Common.{refl, inl, inr}
+use Rattle.std.proofs.lemmas.Result.{err_from_is_err_and}
 use Rattle.std.specs.Arc.{arc_value}
 use Rattle.nm_command.specs.declared.status.Status.TheVariants.{Stalled}
-use Rattle.nm_program.proofs.NodeEndings.{says_served}
+use Rattle.nm_program.proofs.NodeEndings.{says_served, stops_writing}
 use Rattle.nm_program.proofs.node.serve.Goals as goal
 
 pub returns-clause-said : goal.returns-clause-said
@@ -17,3 +18,8 @@ returns-then-end-clause-said g c =
     (g.F.Outputs.made c.args.outputs.now) (g.F.Outputs.made c.write_book.new.outputs) c.deref.result.now c.in_ok-end.end.book c.in_ok-output.output.text.items
     Stalled _ c.deref.ensures c.in_ok-end.ensures.done c.in_ok-output.ensures.made
     c.in_ok-output.ensures.said.1 (inr (refl, c.new.ensures.items))
+
+pub returns-in_err-output-clause-fault : goal.returns-in_err-output-clause-fault
+returns-in_err-output-clause-fault g c =
+    let p = err_from_is_err_and c.from_residual-in_err-output.result c.from_residual-in_err-output.ensures.1 in
+    rw (p.1, p.2) (stops_writing (g.F.Outputs.made c.args.outputs.now) (g.F.Outputs.made c.write_book.new.outputs) _ c.in_err-output.ensures.fault)
