@@ -44,8 +44,8 @@ impl ChannelIn {
             return self;
         }
         ChannelIn {
-            channel: self.channel,
             have_given: true,
+            ..self
         }
     }
 }
@@ -70,9 +70,8 @@ impl ChannelOut {
             return self;
         }
         ChannelOut {
-            channel: self.channel,
             cursor: Some(number),
-            last_null: self.last_null,
+            ..self
         }
     }
 
@@ -84,9 +83,8 @@ impl ChannelOut {
             return self;
         }
         ChannelOut {
-            channel: self.channel,
-            cursor: self.cursor,
             last_null: Some(*null),
+            ..self
         }
     }
 
@@ -98,9 +96,9 @@ impl ChannelOut {
             return self;
         }
         ChannelOut {
-            channel: self.channel,
             cursor: Some(count),
             last_null: None,
+            ..self
         }
     }
 }
