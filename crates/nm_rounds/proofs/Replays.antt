@@ -1,5 +1,5 @@
 -- Steps done one after another, and what is reported of them.
-use Rattle.std.proofs.Common.{◌≡◌, ◌⊎◌, inl, inr, ℕ, zero, suc, ◌+◌, ◌*◌, ◌<◌, List, [], ◌∷◌, ◌++◌, length, map, take, slice_get, replicate, get_or, Some, None, Ok, Err, refl, sym, ◌∙◌, ap, ap₂, subst, arith, ⊎_elim, length-append}
+use Rattle.std.proofs.Common.{◌≡◌, ◌⊎◌, inl, inr, ℕ, zero, suc, ◌+◌, ◌*◌, ◌<◌, List, [], ◌∷◌, ◌++◌, length, map, take, slice_get, replicate, get_or, Some, None, Ok, Err, refl, sym, ◌∙◌, ap, ap₂, subst, arith, length-append}
 use Rattle.std.proofs.lemmas.List.{map-append}
 use Rattle.std.proofs.lemmas.Option.{slice_get_read}
 use Rattle.nm_topology.specs.TopologyValue.{TopologyValue}
@@ -19,7 +19,7 @@ use Rattle.nm_rounds.specs.declared.step.WorldStep.TheVariants as step
 use Rattle.nm_rounds.specs.declared.world.Stop.{Stop}
 use Rattle.nm_rounds.specs.declared.world.Stop.TheVariants as stop
 use Rattle.nm_rounds.proofs.Mergings.{fresh_book}
-use Rattle.nm_rounds.proofs.Standing.{places_apart}
+use Rattle.nm_rounds.proofs.Standing.{last_is, places_apart}
 
 take_next : {X : Type 0} (l : List X) (n : ℕ) (x : X) → slice_get l n ≡ Some x → take (suc n) l ≡ take n l ++ x ∷ []
 take_next [] n x e = absurd (let g : None ≡ Some x = e in cc)
@@ -129,15 +129,9 @@ module _ (t : TopologyValue) where
       → b ≡ record { topology = t; partition = p; replica = r; knows = replicate (length t.receivers) nothing_known; events = 0; handed = 0 } → AreFirst t (2 * p + r + 1) (books ++ b ∷ [])
   first_more p r books b two h e = record {
     count = let l = length-append books (b ∷ []) in let c = h.count in omega (arith, l, c);
-    each = λ q s d low f. at q s d low f (get_last books b (2 * q + s) d f);
+    each = λ q s d low f. at q s d low f (last_is books b (2 * q + s) d f);
   }
     where
-      get_last : (l : List BookValue) (x : BookValue) (i : ℕ) (y : BookValue) → slice_get (l ++ x ∷ []) i ≡ Some y → (slice_get l i ≡ Some y) ⊎ ((i ≡ length l) × (x ≡ y))
-      get_last [] x zero y e = inr (refl, let g : x ≡ y = cc in g)
-      get_last [] x (suc i) y e = absurd (let g : None ≡ Some y = e in cc)
-      get_last (z ∷ l) x zero y e = inl e
-      get_last (z ∷ l) x (suc i) y e = ⊎_elim (λ f. inl f) (λ f. inr (ap suc f.0, f.1)) (get_last l x i y e)
-
       at : (q s : ℕ) (d : BookValue) → s < 2 → slice_get (books ++ b ∷ []) (2 * q + s) ≡ Some d → (slice_get books (2 * q + s) ≡ Some d) ⊎ ((2 * q + s ≡ length books) × (b ≡ d)) → IsReplicaOf t q s d model.fresh
       at q s d low f (inl g) = h.each q s d low g
       at q s d low f (inr g) =

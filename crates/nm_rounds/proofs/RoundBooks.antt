@@ -1,5 +1,5 @@
 -- The books of all partitions, of which one after another changes.
-use Rattle.std.proofs.Common.{◌≡◌, ◌≢◌, ◌⊎◌, inl, inr, ℕ, zero, suc, ◌+◌, ◌<◌, ◌≤◌, ◌==◌, ltb, Bool, true, false, cond, List, [], ◌∷◌, ◌++◌, length, map, slice_get, slice_set, slice_index_or, get_or, Some, None, replicate, refl, sym, ◌∙◌, ap, ap₂, subst, arith, ⊎_elim}
+use Rattle.std.proofs.Common.{◌≡◌, ◌≢◌, ◌⊎◌, ℕ, zero, suc, ◌+◌, ◌<◌, ◌≤◌, ◌==◌, ltb, Bool, true, false, cond, List, [], ◌∷◌, ◌++◌, length, map, slice_get, slice_set, slice_index_or, get_or, Some, None, replicate, refl, sym, ◌∙◌, ap, ap₂, subst, arith, ⊎_elim}
 use Rattle.std.proofs.lemmas.Bool.{cases_lt}
 use Rattle.std.proofs.lemmas.Bool.Decides.{nat_tests}
 use Rattle.std.proofs.lemmas.List.{length-set, length-append, map-append}
@@ -15,7 +15,6 @@ use Rattle.nm_model.specs.Promise.{Tight, promise}
 use Rattle.nm_model.specs.Replica.{from_scratch}
 use Rattle.nm_model.specs.Rounds.{given, hear, promised}
 use Rattle.nm_model.specs.World.{Replica, fresh}
-use Rattle.nm_model.proofs.ListLemmas.{same_number}
 use Rattle.nm_sim.specs.Network.{net_of}
 use Rattle.nm_book.specs.Book.{BookValue, is_incoming, is_outgoing, knowledge_of, promise_on, sent_over}
 use Rattle.nm_book.specs.declared.message.ChannelMessage.{ChannelMessage}
@@ -23,7 +22,7 @@ use Rattle.nm_book.proofs.Incoming.{goes_out_at, ifaces_are, peer_there}
 use Rattle.nm_book.proofs.Tellings.{known_here}
 use Rattle.nm_rounds.specs.World.{IsReplicaOf}
 use Rattle.nm_rounds.specs.Rounds.{AreAllNews, AreBooks, AreNews, AreNewsOf, RunsAll, told_all}
-use Rattle.nm_rounds.proofs.Standing.{get_set_here, get_set_there, parts_are}
+use Rattle.nm_rounds.proofs.Standing.{last_is, parts_are, set_read}
 use Rattle.nm_rounds.proofs.Acts.{moved}
 use Rattle.nm_rounds.proofs.Mergings.{fresh_book}
 
@@ -55,16 +54,13 @@ module _ (t : TopologyValue) (n : ℕ) (x : ℕ → Replica (List ℕ)) (books :
   }
 
   -- one changes
-  pub with_book : (p : ℕ) (c : BookValue) (y : ℕ → Replica (List ℕ)) → p < n → IsReplicaOf t p 0 c (y p) → ((q : ℕ) → q ≢ p → x q ≡ y q) → AreBooks t n y (slice_set books p c)
-  with_book p c y h is others = record { count = length-set books p c ∙ are.count; each = λ q b e. at q b e (same_number q p) }
-    where
-      at : (q : ℕ) (b : BookValue) → slice_get (slice_set books p c) q ≡ Some b → (q ≡ p) ⊎ (q ≢ p) → IsReplicaOf t q 0 b (y q)
-      at q b e (inl same) =
-          let within : p < length books = let m = are.count in omega (arith, m, h) in
-          let g : Some c ≡ Some b = sym (get_set_here books p c within) ∙ ap (slice_get (slice_set books p c)) (sym same) ∙ e in
-          let f : c ≡ b = cc in
-          subst (λ z. IsReplicaOf t z 0 b (y z)) (sym same) (subst (λ z. IsReplicaOf t p 0 z (y p)) f is)
-      at q b e (inr far) = subst (IsReplicaOf t q 0 b) (others q far) (are.each q b (sym (get_set_there books p q c far) ∙ e))
+  pub with_book : (p : ℕ) (c : BookValue) (y : ℕ → Replica (List ℕ)) → IsReplicaOf t p 0 c (y p) → ((q : ℕ) → q ≢ p → x q ≡ y q) → AreBooks t n y (slice_set books p c)
+  with_book p c y is others = record {
+    count = length-set books p c ∙ are.count;
+    each = λ q b e. ⊎_elim
+        (λ same. subst (λ z. IsReplicaOf t z 0 b (y z)) (sym same.0) (subst (λ z. IsReplicaOf t p 0 z (y p)) same.1 is))
+        (λ far. subst (IsReplicaOf t q 0 b) (others q far.0) (are.each q b far.1)) (set_read books p c q b e);
+  }
 
 -- All run.
 module _ (t : TopologyValue) (n : ℕ) (x y : ℕ → Replica (List ℕ)) where
@@ -87,20 +83,13 @@ module _ (t : TopologyValue) (n : ℕ) (x y : ℕ → Replica (List ℕ)) where
         count = is.count;
         quiet = is.quiet;
       } in
-      with_book t n (up_to k y x) books are k c (up_to (suc k) y x) h
+      with_book t n (up_to k y x) books are k c (up_to (suc k) y x)
       (subst (IsReplicaOf t k 0 c) (sym (up_to_below (suc k) y x k (omega arith))) (subst (λ z. IsReplicaOf t k 0 z (y k)) (sym ran.same) now))
       (λ q far. ⊎_elim (λ low. up_to_below k y x q low ∙ sym (up_to_below (suc k) y x q (omega (arith, low))))
       (λ high. up_to_past k y x q high ∙ sym (up_to_past (suc k) y x q (⊎_elim (λ lt. absurd (far (omega (arith, lt, high)))) (λ ge. ge) (cases_lt q (suc k))))) (cases_lt q k))
 
   pub run_every : (books : List BookValue) (k : ℕ) → AreBooks t n (up_to k y x) books → n ≤ k → AreBooks t n y books
   run_every books k are h = as_others t n (up_to k y x) books are y (λ p lt. up_to_below k y x p (omega (arith, h, lt)))
-
--- what stands behind others
-last_is : {X : Type 0} (l : List X) (b : X) (p : ℕ) (c : X) → slice_get (l ++ b ∷ []) p ≡ Some c → (slice_get l p ≡ Some c) ⊎ ((p ≡ length l) × (b ≡ c))
-last_is [] b zero c f = inr (refl, let g : Some b ≡ Some c = f in cc)
-last_is [] b (suc p) c f = absurd (let g : None ≡ Some c = f in cc)
-last_is (y ∷ l) b zero c f = inl f
-last_is (y ∷ l) b (suc p) c f = ⊎_elim (λ g. inl g) (λ g. inr (ap suc g.0, g.1)) (last_is l b p c f)
 
 -- one more, which knows nothing
 pub one_more : (t : TopologyValue) (n : ℕ) (books : List BookValue) (b : BookValue) → AreBooks t n (λ p. fresh) books

@@ -1,5 +1,5 @@
 -- Each book hears what is told of its channels, one channel after another.
-use Rattle.std.proofs.Common.{◌≡◌, ◌≢◌, ◌⊎◌, inl, inr, ℕ, zero, suc, ◌<◌, ◌≤◌, Bool, true, false, cond, List, [], ◌∷◌, length, slice_get, slice_set, slice_index_or, get_or, Option, Some, None, refl, sym, ◌∙◌, ap, ap₂, subst, arith, ⊎_elim}
+use Rattle.std.proofs.Common.{◌≡◌, ◌≢◌, ◌⊎◌, ℕ, zero, suc, ◌<◌, ◌≤◌, Bool, true, false, cond, List, [], ◌∷◌, length, slice_get, slice_set, slice_index_or, get_or, Option, Some, None, refl, sym, ◌∙◌, ap, ap₂, subst, arith, ⊎_elim}
 use Rattle.std.proofs.Math.Path.{fun_ext}
 use Rattle.std.proofs.lemmas.Bool.{cases_lt}
 use Rattle.std.proofs.lemmas.List.{length-set}
@@ -12,7 +12,7 @@ use Rattle.nm_model.specs.Partition.{comes_in, receiver_of}
 use Rattle.nm_model.specs.Promise.{Tight}
 use Rattle.nm_model.specs.Rounds.{given, hear, promised}
 use Rattle.nm_model.specs.World.{Replica}
-use Rattle.nm_model.proofs.ListLemmas.{number_is, same_number}
+use Rattle.nm_model.proofs.ListLemmas.{number_is}
 use Rattle.nm_sim.specs.Network.{net_of}
 use Rattle.nm_book.specs.Book.{BookValue, is_incoming, knowledge_of, known_at}
 use Rattle.nm_book.specs.declared.message.ChannelMessage.{ChannelMessage}
@@ -20,7 +20,7 @@ use Rattle.nm_book.proofs.Incoming.{comes_in_at}
 use Rattle.nm_book.proofs.Tellings.{comes_at, known_here, set_elsewhere, set_here}
 use Rattle.nm_rounds.specs.World.{IsReplicaOf}
 use Rattle.nm_rounds.specs.Rounds.{AreBooks, AreNewsOf, AreOfChannel, after_hearing, told_all}
-use Rattle.nm_rounds.proofs.Standing.{get_set_here, get_set_there}
+use Rattle.nm_rounds.proofs.Standing.{set_read}
 
 module _ (t : TopologyValue) (x : ℕ → Replica (List ℕ)) where
   abbrev iface : ℕ → ℕ
@@ -112,17 +112,14 @@ module _ (t : TopologyValue) (x : ℕ → Replica (List ℕ)) where
           slice_index_or_of : List (Know (List ℕ)) → ℕ → Know (List ℕ)
           slice_index_or_of l c = slice_index_or l c nothing_known
 
-      heard_next : (books : List BookValue) → HaveHeard k books → q < t.partitions → (b d : BookValue) → b ≡ get_or books q b → slice_get books q ≡ Some b → (messages : List ChannelMessage) → AreNewsOf t x k messages
+      heard_next : (books : List BookValue) → HaveHeard k books → (b d : BookValue) → b ≡ get_or books q b → slice_get books q ≡ Some b → (messages : List ChannelMessage) → AreNewsOf t x k messages
           → d ≡ record b { knows = slice_set b.knows k (told_all (known b k) messages) } → HaveHeard (suc k) (slice_set books q d)
-      heard_next books have there b d read at messages news e = record { count = length-set books q d ∙ have.count; each = λ p c f. go p c f (same_number p q) }
-        where
-          go : (p : ℕ) (c : BookValue) → slice_get (slice_set books q d) p ≡ Some c → (p ≡ q) ⊎ (p ≢ q) → HasHeard (suc k) p c
-          go p c f (inl same) =
-              let within : q < length books = let m = have.count in omega (arith, m, there) in
-              let g : Some d ≡ Some c = sym (get_set_here books q d within) ∙ ap (slice_get (slice_set books q d)) (sym same) ∙ f in
-              let h : d ≡ c = cc in
-              subst (λ z. HasHeard (suc k) z c) (sym same) (subst (HasHeard (suc k) q) h (one b d messages (have.each q b at) news e))
-          go p c f (inr far) = other p c far (have.each p c (sym (get_set_there books q p d far) ∙ f))
+      heard_next books have b d read at messages news e = record {
+        count = length-set books q d ∙ have.count;
+        each = λ p c f. ⊎_elim
+            (λ same. subst (λ z. HasHeard (suc k) z c) (sym same.0) (subst (HasHeard (suc k) q) same.1 (one b d messages (have.each q b at) news e)))
+            (λ far. other p c far.0 (have.each p c far.1)) (set_read books q d p c f);
+      }
 
       -- its book is told the news
       pub heard_step : (books : List BookValue) → HaveHeard k books → q < t.partitions → (place : ℕ) → place ≡ q → (b d : BookValue) → b ≡ get_or books place b → (messages : List ChannelMessage) → AreNewsOf t x k messages
@@ -136,7 +133,7 @@ module _ (t : TopologyValue) (x : ℕ → Replica (List ℕ)) where
           let incoming : is_incoming b k ≡ true =
           subst (λ z. comes_in (net_of z) b.partition (receiving_iface z k) ≡ true) (sym is.topology) (subst (λ z. comes_in (net_of t) z (iface k) ≡ true) (sym is.partition) comes) in
           subst (λ z. HaveHeard (suc k) (slice_set books z d)) (sym at)
-          (heard_next books have there b d read_here here_is messages news (tells k incoming (let m = is.count in omega (arith, m, low)) news.named))
+          (heard_next books have b d read_here here_is messages news (tells k incoming (let m = is.count in omega (arith, m, low)) news.named))
 
   -- All channels.
   module _ (numbered : (p i : ℕ) → comes_in (net_of t) p i ≡ true → (c : ℕ) × (c < length t.receivers) × (receiving_iface t c ≡ i)) where

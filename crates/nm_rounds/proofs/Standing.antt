@@ -11,18 +11,20 @@ use Rattle.nm_book.specs.Book.{BookValue, is_replica, message_channel, only_if}
 use Rattle.nm_book.specs.declared.message.ChannelMessage.{ChannelMessage}
 use Rattle.nm_rounds.specs.World.{AreReplicas, IsReplicaOf, IsWorld, frame_of}
 
--- what is read where something was set, and elsewhere
-pub get_set_here : {X : Type 0} (l : List X) (i : ℕ) (x : X) → i < length l → slice_get (slice_set l i x) i ≡ Some x
-get_set_here [] i x h = absurd (omega (arith, h))
-get_set_here (y ∷ l) zero x h = refl
-get_set_here (y ∷ l) (suc i) x h = get_set_here l i x (omega (arith, h))
+-- what is read where something was set: that, or what stood elsewhere
+pub set_read : {X : Type 0} (l : List X) (i : ℕ) (x : X) (j : ℕ) (y : X) → slice_get (slice_set l i x) j ≡ Some y → ((j ≡ i) × (x ≡ y)) ⊎ ((j ≢ i) × (slice_get l j ≡ Some y))
+set_read [] i x j y e = absurd (let f : None ≡ Some y = e in cc)
+set_read (z ∷ l) zero x zero y e = inl (refl, let f : x ≡ y = cc in f)
+set_read (z ∷ l) zero x (suc j) y e = inr ((λ s. omega (arith, s)), e)
+set_read (z ∷ l) (suc i) x zero y e = inr ((λ s. omega (arith, s)), e)
+set_read (z ∷ l) (suc i) x (suc j) y e = ⊎_elim (λ f. inl (ap suc f.0, f.1)) (λ f. inr ((λ s. f.0 (omega (arith, s))), f.1)) (set_read l i x j y e)
 
-pub get_set_there : {X : Type 0} (l : List X) (i j : ℕ) (x : X) → j ≢ i → slice_get (slice_set l i x) j ≡ slice_get l j
-get_set_there [] i j x h = refl
-get_set_there (y ∷ l) zero zero x h = absurd (h refl)
-get_set_there (y ∷ l) zero (suc j) x h = refl
-get_set_there (y ∷ l) (suc i) zero x h = refl
-get_set_there (y ∷ l) (suc i) (suc j) x h = get_set_there l i j x (λ e. h (omega (arith, e)))
+-- where something was put behind others, and where others were
+pub last_is : {X : Type 0} (l : List X) (b : X) (p : ℕ) (c : X) → slice_get (l ++ b ∷ []) p ≡ Some c → (slice_get l p ≡ Some c) ⊎ ((p ≡ length l) × (b ≡ c))
+last_is [] b zero c f = inr (refl, let g : Some b ≡ Some c = f in cc)
+last_is [] b (suc p) c f = absurd (let g : None ≡ Some c = f in cc)
+last_is (y ∷ l) b zero c f = inl f
+last_is (y ∷ l) b (suc p) c f = ⊎_elim (λ g. inl g) (λ g. inr (ap suc g.0, g.1)) (last_is l b p c f)
 
 pub get_append : {X : Type 0} (l m : List X) (i : ℕ) (x : X) → slice_get (l ++ m) i ≡ Some x → (slice_get l i ≡ Some x) ⊎ ((j : ℕ) × (slice_get m j ≡ Some x))
 get_append [] m i x e = inr (i, e)
@@ -90,19 +92,18 @@ module _ (t : TopologyValue) (books : List BookValue) (w : model.World (List ℕ
       other (inr far) = ap (λ f. f s) (set_there w.replica p (set_at (w.replica p) r x) q far)
 
   -- one replica changes
-  pub put : (b : BookValue) → 2 * p + r < length books → IsReplicaOf t p r b x → AreReplicas t (slice_set books (2 * p + r) b) (model.put_replica w p r x)
-  put b within is = record {
+  pub put : (b : BookValue) → IsReplicaOf t p r b x → AreReplicas t (slice_set books (2 * p + r) b) (model.put_replica w p r x)
+  put b is = record {
     count = length-set books (2 * p + r) b ∙ stands.count;
-    each = λ q s c h e. ⊎_elim (λ same. at q s c h same e) (λ apart. elsewhere q s c h apart (sym (get_set_there books (2 * p + r) (2 * q + s) b apart) ∙ e)) (same_number (2 * q + s) (2 * p + r));
+    each = λ q s c h e. ⊎_elim (λ same. at q s c h same.0 same.1) (λ far. elsewhere q s c h far.0 far.1) (set_read books (2 * p + r) b (2 * q + s) c e);
   }
     where
       here : (model.put_replica w p r x).replica p r ≡ x
       here = ap (λ f. f r) (set_here w.replica p (set_at (w.replica p) r x)) ∙ set_here (w.replica p) r x
 
-      at : (q s : ℕ) (c : BookValue) → s < 2 → 2 * q + s ≡ 2 * p + r → slice_get (slice_set books (2 * p + r) b) (2 * q + s) ≡ Some c → IsReplicaOf t q s c ((model.put_replica w p r x).replica q s)
-      at q s c h same e =
+      at : (q s : ℕ) (c : BookValue) → s < 2 → 2 * q + s ≡ 2 * p + r → b ≡ c → IsReplicaOf t q s c ((model.put_replica w p r x).replica q s)
+      at q s c h same is_b =
           let one = places_apart p r q s two h same in
-          let is_b : b ≡ c = let f : Some b ≡ Some c = sym (get_set_here books (2 * p + r) b within) ∙ ap (slice_get (slice_set books (2 * p + r) b)) (sym same) ∙ e in cc in
           subst (λ z. IsReplicaOf t z s c ((model.put_replica w p r x).replica z s)) (sym one.0)
           (subst (λ z. IsReplicaOf t p z c ((model.put_replica w p r x).replica p z)) (sym one.1)
           (subst (IsReplicaOf t p r c) (sym here) (subst (λ z. IsReplicaOf t p r z x) is_b is)))
@@ -112,11 +113,7 @@ pub put_book : (t : TopologyValue) (books : List BookValue) (bag : List ChannelM
     → (p r : ℕ) → is_replica t p r ≡ true → (b : BookValue) (x : model.Replica (List ℕ)) → IsReplicaOf t p r b x
     → IsWorld t (slice_set books (2 * p + r) b) bag (model.put_replica w p r x)
 put_book t books bag w stands p r there b x is =
-    let at = there_is t p r there in
-    record {
-      replicas = put t books w stands.replicas p r at.1 x b (let n = stands.replicas.count in let h = at.2 in omega (arith, n, h)) is;
-      sent = record { frames = stands.sent.frames; named = stands.sent.named };
-    }
+    record { replicas = put t books w stands.replicas p r (there_is t p r there).1 x b is; sent = record { frames = stands.sent.frames; named = stands.sent.named } }
 
 -- frames are sent, and the books stay
 pub put_frames : (t : TopologyValue) (books : List BookValue) (bag more : List ChannelMessage) (w : model.World (List ℕ)) (frames : List (model.Frame (List ℕ))) → IsWorld t books bag w
