@@ -1,5 +1,5 @@
 -- Channels of a topology, one after another by their numbers.
-use Rattle.std.proofs.Common.{◌≡◌, ◌↔◌, ℕ, ◌<◌, ◌≤◌, ◌==◌, ◌&&◌, not, true, false, List, length, slice_index_or, Option, Some, None, refl, sym, ap, ◌∙◌, subst, arith, ⊎_elim, true≢false}
+use Rattle.std.proofs.Common.{◌≡◌, ℕ, ◌<◌, ◌≤◌, ◌==◌, ◌&&◌, not, true, false, List, length, slice_index_or, Option, Some, None, sym, ap, ◌∙◌, subst, arith, ⊎_elim, true≢false}
 use Rattle.std.specs.List.Sorted.{IsStrictlyIncreasing}
 use Rattle.std.proofs.lemmas.Bool.{cases_lt}
 use Rattle.std.proofs.lemmas.Bool.Decides.{nat_tests}
@@ -32,15 +32,13 @@ comes_here t b d law same h =
 
 -- what a book of this topology knows of a channel that comes in
 pub knows_of : (t : TopologyValue) (b : BookValue) (d : ℕ) (k : Know (List ℕ)) → SaysSame b.topology t
-    → ((i c : ℕ) → i < length t.ifaces → (channel_from 0 t.receivers i ≡ Some c) ↔ (receiving_iface t c ≡ i))
-    → ((c : ℕ) → c < length t.receivers → receiving_iface t c < length t.ifaces)
+    → ((c : ℕ) → c < length t.receivers → channel_from 0 t.receivers (receiving_iface t c) ≡ Some c)
     → ((p c : ℕ) → length t.receivers ≤ c → comes_in (net_of t) p (receiving_iface t c) ≡ false)
     → comes_in (net_of t) b.partition (receiving_iface t d) ≡ true → k ≡ slice_index_or b.knows d nothing_known → knowledge b (receiving_iface t d) ≡ k
-knows_of t b d k same inverse there none comes is =
+knows_of t b d k same numbered none comes is =
     let receivers : b.topology.receivers ≡ t.receivers = ap (λ z. z.receivers) same in
     let below : d < length t.receivers = ⊎_elim (λ h. h) (λ past. absurd (true≢false (sym comes ∙ none b.partition d past))) (cases_lt d (length t.receivers)) in
-    let at : channel_from 0 t.receivers (receiving_iface t d) ≡ Some d = (inverse (receiving_iface t d) d (there d below)).1 refl in
-    ap (λ l. known_at b.knows (channel_from 0 l (receiving_iface t d))) receivers ∙ ap (known_at b.knows) at ∙ sym is
+    ap (λ l. known_at b.knows (channel_from 0 l (receiving_iface t d))) receivers ∙ ap (known_at b.knows) (numbered d below) ∙ sym is
 
 -- receivers rise
 pub receivers_rise : (t : TopologyValue) → IsStrictlyIncreasing t.receivers → (c d : ℕ) → c < d → d < length t.receivers → receiving_iface t c < receiving_iface t d

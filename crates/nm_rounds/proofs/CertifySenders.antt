@@ -1,5 +1,5 @@
 -- A channel that comes into a book, beside each book that sends on it.
-use Rattle.std.proofs.Common.{◌≡◌, ◌↔◌, ℕ, ◌+◌, ◌<◌, ◌≤◌, true, false, cond, List, length, map, drop, get_or, slice_index_or, Some, None, Result, Ok, Err, ap, ◌∙◌}
+use Rattle.std.proofs.Common.{◌≡◌, ℕ, ◌+◌, ◌<◌, ◌≤◌, true, false, cond, List, length, map, drop, get_or, slice_index_or, Some, None, Result, Ok, Err, ap, ◌∙◌}
 use Rattle.nm_topology.specs.Topology.{channel_from, receiving_iface}
 use Rattle.nm_topology.specs.TopologyValue.{TopologyValue}
 use Rattle.nm_model.specs.Certificate.{Book, first_of}
@@ -16,7 +16,7 @@ use Rattle.nm_rounds.proofs.CertifySteps.{found}
 
 -- book b of this topology knows k of channel d
 module _ (t : TopologyValue) (b : BookValue) (d : ℕ) (k : Know (List ℕ)) (law : (s : TopologyValue) (digest : List ℕ) → net_of (record s { digest = digest }) ≡ net_of s) (same : SaysSame b.topology t)
-    (inverse : (i c : ℕ) → i < length t.ifaces → (channel_from 0 t.receivers i ≡ Some c) ↔ (receiving_iface t c ≡ i)) (there : (c : ℕ) → c < length t.receivers → receiving_iface t c < length t.ifaces)
+    (numbered : (c : ℕ) → c < length t.receivers → channel_from 0 t.receivers (receiving_iface t c) ≡ Some c)
     (none : (p c : ℕ) → length t.receivers ≤ c → comes_in (net_of t) p (receiving_iface t c) ≡ false) (incoming : is_incoming b d ≡ true) (is : k ≡ slice_index_or b.knows d nothing_known) where
   abbrev i : ℕ
   i = receiving_iface t d
@@ -25,7 +25,7 @@ module _ (t : TopologyValue) (b : BookValue) (d : ℕ) (k : Know (List ℕ)) (la
   comes = comes_here t b d law same incoming
 
   knows : knowledge b i ≡ k
-  knows = knows_of t b d k same inverse there none comes is
+  knows = knows_of t b d k same numbered none comes is
 
   -- of these books those from number n on have the first fault of all
   module _ {A : Type 0} (value : A → BookValue) (l : List A) (n : ℕ) (rest : first_of (sender_fault t i (book_of b)) (books_of (map value (drop n l))) ≡ first_of (sender_fault t i (book_of b)) (books_of (map value l))) where

@@ -1,5 +1,5 @@
 -- A frame reaches a replica of its receiver.
-use Rattle.std.proofs.Common.{◌≡◌, ◌↔◌, ℕ, zero, suc, ◌+◌, ◌*◌, ◌<◌, ltb, Bool, true, false, cond, List, [], ◌∷◌, length, map, slice_get, slice_set, slice_index_or, get_or, Some, None, Ok, Err, refl, sym, ◌∙◌, ap, ap₂, subst, arith}
+use Rattle.std.proofs.Common.{◌≡◌, ℕ, zero, suc, ◌+◌, ◌*◌, ◌<◌, ltb, Bool, true, false, cond, List, [], ◌∷◌, length, map, slice_get, slice_set, slice_index_or, get_or, Some, None, Ok, Err, refl, sym, ◌∙◌, ap, ap₂, subst, arith}
 use Rattle.std.proofs.lemmas.List.{length-set, set-get_or}
 use Rattle.std.proofs.lemmas.Option.{slice_get_past, slice_get_read}
 use Rattle.std.proofs.lemmas.Bool.Decides.{nat_tests}
@@ -82,7 +82,7 @@ module _ (t : TopologyValue) (books : List BookValue) (bag : List ChannelMessage
     -- it has one, who stands at this place and is told the message
     module _ (place : ℕ) (found : only_if (is_replica t partition r) (2 * partition + r) ≡ Some place) (b c : BookValue) (read : b ≡ get_or books place b)
         (comes_there : (d : ℕ) → d < length t.receivers → comes_in (net_of t) (receiver_of (net_of t) (receiving_iface t d)) (receiving_iface t d) ≡ true)
-        (inverse : (j d : ℕ) → j < length t.ifaces → (channel_from 0 t.receivers j ≡ Some d) ↔ (receiving_iface t d ≡ j)) (iface_there : (d : ℕ) → d < length t.receivers → receiving_iface t d < length t.ifaces) where
+        (numbered : (d : ℕ) → d < length t.receivers → channel_from 0 t.receivers (receiving_iface t d) ≡ Some d) where
       there : is_replica t p r ≡ true
       there = ap (λ z. is_replica t z r) (sym to_there) ∙ (is_there _ _ _ found).0
 
@@ -105,7 +105,7 @@ module _ (t : TopologyValue) (books : List BookValue) (bag : List ChannelMessage
       is_channel = stands.sent.named i m here
 
       number : channel_from 0 t.receivers iface ≡ Some ch
-      number = (inverse iface ch (iface_there ch is_channel)).1 refl
+      number = numbered ch is_channel
 
       incoming : is_incoming b ch ≡ true
       incoming = subst (λ z. comes_in (net_of z) b.partition (receiving_iface z ch) ≡ true) (sym is.topology) (subst (λ z. comes_in (net_of t) z iface ≡ true) (sym is.partition) (comes_there ch is_channel))

@@ -1,7 +1,8 @@
 -- Where the world's replicas stand, and what changes where one does, or where frames are sent.
-use Rattle.std.proofs.Common.{◌≡◌, ◌≢◌, ◌⊎◌, inl, inr, ℕ, zero, suc, ◌+◌, ◌*◌, ◌<◌, ◌&&◌, ltb, Bool, true, false, List, [], ◌∷◌, ◌++◌, length, map, slice_get, slice_set, Some, None, refl, sym, ◌∙◌, ap, ap₂, subst, arith, ⊎_elim}
+use Rattle.std.proofs.Common.{◌≡◌, ◌↔◌, ◌≢◌, ◌⊎◌, inl, inr, ℕ, zero, suc, ◌+◌, ◌*◌, ◌<◌, ◌&&◌, ltb, Bool, true, false, List, [], ◌∷◌, ◌++◌, length, map, slice_get, slice_set, Some, None, refl, sym, ◌∙◌, ap, ap₂, subst, arith, ⊎_elim}
 use Rattle.std.proofs.lemmas.Bool.Decides.{nat_tests}
 use Rattle.std.proofs.lemmas.List.{length-set, map-append}
+use Rattle.nm_topology.specs.Topology.{channel_from, receiving_iface}
 use Rattle.nm_topology.specs.TopologyValue.{TopologyValue}
 use Rattle.nm_model.specs.Lists.{set_at}
 use Rattle.nm_model.specs.World as model
@@ -67,6 +68,11 @@ parts_are t = refl
 pub is_replica_is : (t : TopologyValue) (p r : ℕ) → is_replica t p r ≡ model.is_replica (net_of t) p r
 unfolding net_of
 is_replica_is t p r = refl
+
+-- each channel is the one that its interface receives
+pub channel_here : (t : TopologyValue) → ((i c : ℕ) → i < length t.ifaces → (channel_from 0 t.receivers i ≡ Some c) ↔ (receiving_iface t c ≡ i)) → ((c : ℕ) → c < length t.receivers → receiving_iface t c < length t.ifaces)
+    → (c : ℕ) → c < length t.receivers → channel_from 0 t.receivers (receiving_iface t c) ≡ Some c
+channel_here t inverse there c low = (inverse (receiving_iface t c) c (there c low)).1 refl
 
 -- a replica that is there has its place among all
 pub there_is : (t : TopologyValue) (p r : ℕ) → is_replica t p r ≡ true → (p < t.partitions) × (r < 2) × (2 * p + r < 2 * t.partitions)

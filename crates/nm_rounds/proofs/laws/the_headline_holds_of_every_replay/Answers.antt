@@ -14,6 +14,7 @@ use Rattle.nm_rounds.specs.Replay.{first_steps}
 use Rattle.nm_book.proofs.Sisters.{over}
 use Rattle.nm_rounds.specs.Headline.{IsHistory, IsTrue}
 use Rattle.nm_rounds.proofs.Headlines.{are_equal, fine_at, have_join, is_true, place_of}
+use Rattle.nm_rounds.proofs.Standing.{channel_here}
 use Rattle.nm_rounds.proofs.laws.the_headline_holds_of_every_replay.Goals as goal
 
 pub returns : goal.returns
@@ -25,7 +26,7 @@ returns c = λ steps answers books ending h.
     let did = h.did in
     let law = c.prefix_theorem.ensures in
     let here : (d : ℕ) → d < length t.receivers → channel_from 0 t.receivers (receiving_iface t d) ≡ Some d =
-    λ d low. (c.channels_are_numbered_by_their_receivers.ensures.inverse (receiving_iface t d) d (c.channels_are_numbered_by_their_receivers.ensures.there d low)).1 refl in
+    channel_here t c.channels_are_numbered_by_their_receivers.ensures.inverse c.channels_are_numbered_by_their_receivers.ensures.there in
     let at : (i : ℕ) (b : BookValue) → slice_get books i ≡ Some b → IsReplicaOf t (place_of i).0 (place_of i).1 b (replica_after net same_octets did (place_of i).0 (place_of i).1) =
     λ i b e. let q = place_of i in h.replicas.each q.0 q.1 b q.2 (ap (slice_get books) (sym q.3) ∙ e) in
     let within : (i : ℕ) (b : BookValue) → slice_get books i ≡ Some b → IsWithin (net_of b.topology) b.partition (knowledge b) b.events =

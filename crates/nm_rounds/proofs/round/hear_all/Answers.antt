@@ -8,12 +8,13 @@ use Rattle.nm_sim.specs.Network.{net_of}
 use Rattle.nm_rounds.specs.Rounds.{AreNewsOf}
 use Rattle.nm_rounds.proofs.RoundBooks.{receiver_there}
 use Rattle.nm_rounds.proofs.RoundHears.{HaveHeard, heard_all, heard_none, heard_step}
+use Rattle.nm_rounds.proofs.Standing.{channel_here}
 use Rattle.nm_rounds.proofs.round.hear_all.Goals as goal
 
 pub loop-number-init : goal.loop-number-init
 loop-number-init c x are news =
     let t = c.args.topology.now in
-    heard_none t x (λ d low. (c.channels_are_numbered_by_their_receivers.ensures.inverse (receiving_iface t d) d (c.channels_are_numbered_by_their_receivers.ensures.there d low)).1 refl) c.args.books.now.items are
+    heard_none t x (channel_here t c.channels_are_numbered_by_their_receivers.ensures.inverse c.channels_are_numbered_by_their_receivers.ensures.there) c.args.books.now.items are
 
 pub index_mut-requires : goal.index_mut-requires
 index_mut-requires c =
@@ -44,7 +45,7 @@ loop-number-preserved c x are news =
     ∙ ap (option_map (λ messages. messages.items)) (slice_get_read c.args.news.now (length c.args.news.now) k c.index-news-number.result refl below c.index-news-number.is) in
     let next : suc k ≡ k + 1 = omega arith in
     subst (λ n. HaveHeard t x n (slice_set c.loop-number.books.items c.index.result c.tell_all.new.book)) next
-    (heard_step t x (λ d lt. (c.channels_are_numbered_by_their_receivers.ensures.inverse (receiving_iface t d) d (c.channels_are_numbered_by_their_receivers.ensures.there d lt)).1 refl)
+    (heard_step t x (channel_here t c.channels_are_numbered_by_their_receivers.ensures.inverse c.channels_are_numbered_by_their_receivers.ensures.there)
     k low (c.channels_are_those_of_the_network.ensures.comes k low) c.loop-number.books.items have there c.index.result at c.index_mut.result.now c.tell_all.new.book c.index_mut.ensures.value
     c.deref.result.now (subst (AreNewsOf t x k) (sym c.deref.ensures.value) (news.each k c.index-news-number.result.items told)) c.in_ok-tell_all.ensures)
 
@@ -55,4 +56,4 @@ returns c x are news =
     let all : length t.receivers ≤ c.loop-number.number = let m = news.count in let n = length-map c.args.news.now (λ messages. messages.items) in omega (arith, past, m, n) in
     heard_all t x (λ p i comes. let f = c.channels_are_those_of_the_network.ensures.numbered p i comes in (f.0, f.1, f.2)) c.args.books.now.items c.loop-number.books.items are c.loop-number.number all
     (c.loop-number.invariant x are news)
-    (λ d low. (c.channels_are_numbered_by_their_receivers.ensures.inverse (receiving_iface t d) d (c.channels_are_numbered_by_their_receivers.ensures.there d low)).1 refl)
+    (channel_here t c.channels_are_numbered_by_their_receivers.ensures.inverse c.channels_are_numbered_by_their_receivers.ensures.there)
