@@ -1,5 +1,6 @@
 -- What a session has told its peer when it owes nothing, and before it says Bye.
 use Rattle.std.proofs.Common.{◌≡◌, inl, inr, ℕ, ◌<◌, Bool, true, false, not, ◌==◌, ◌&&◌, ◌||◌, cond, nat_lt, List, [], ◌∷◌, length, map, Option, Some, None, Ok, Err, refl, sym, subst, ap, ap₂, ◌∙◌, arith, true≢false}
+use Rattle.std.proofs.lemmas.Bool.{and_parts}
 use Rattle.std.proofs.lemmas.Bool.Decides.{nat_tests}
 use Rattle.std.specs.List.{AllByRecursion, list_all}
 use Rattle.std.specs.Option.{option_map}
@@ -30,15 +31,11 @@ none_right : {A : Type 0} (o p : Option A) → or_else o p ≡ None → p ≡ No
 none_right None p e = e
 none_right (Some x) p e = absurd (cc)
 
-both : (a b : Bool) → (a && b) ≡ true → (a ≡ true) × (b ≡ true)
-both true b h = (refl, h)
-both false b h = absurd (cc)
-
 -- a null message that is not owed was the last
 last_said : (last : Option NullMessage) (null : NullMessage) → is_last last null ≡ true → HasSaid last null
 last_said None null e = absurd (cc)
 last_said (Some said) null e =
-    let h = both (said.count == null.count) (said.clock == null.clock) e in
+    let h = and_parts (said.count == null.count) (said.clock == null.clock) e in
     (said, refl, number_is said.count null.count h.0, number_is said.clock null.clock h.1)
 
 said_last : (last : Option NullMessage) (null : NullMessage) → HasSaid last null → is_last last null ≡ true
@@ -137,8 +134,8 @@ module _ (b : BookValue) where
     -- the two ways of saying that a channel was told
     told_is : (o : ChannelOut) → is_told b kind o ≡ true → IsAllTold b kind o
     told_is o e =
-        let one = both (is_outgoing b o.channel && is_cursor o.cursor (length (sent_over b o.channel))) (is_last o.last_null (null_on kind b o.channel)) e in
-        let two = both (is_outgoing b o.channel) (is_cursor o.cursor (length (sent_over b o.channel))) one.0 in
+        let one = and_parts (is_outgoing b o.channel && is_cursor o.cursor (length (sent_over b o.channel))) (is_last o.last_null (null_on kind b o.channel)) e in
+        let two = and_parts (is_outgoing b o.channel) (is_cursor o.cursor (length (sent_over b o.channel))) one.0 in
         record { goes_out = two.0; all = at o.cursor two.1; promise = last_said o.last_null (null_on kind b o.channel) one.1 }
       where
         at : (c : Option ℕ) → is_cursor c (length (sent_over b o.channel)) ≡ true → c ≡ Some (length (sent_over b o.channel))
@@ -154,7 +151,7 @@ module _ (b : BookValue) where
 
     all_told : (os : List ChannelOut) → list_all (λ o. is_told b kind o) os ≡ true → AllByRecursion (IsAllTold b kind) os
     all_told [] e = tt
-    all_told (o ∷ os) e = let h = both _ _ e in (told_is o h.0, all_told os h.1)
+    all_told (o ∷ os) e = let h = and_parts _ _ e in (told_is o h.0, all_told os h.1)
 
     all_told_so : (os : List ChannelOut) → AllByRecursion (IsAllTold b kind) os → list_all (λ o. is_told b kind o) os ≡ true
     all_told_so [] h = refl
@@ -172,7 +169,7 @@ module _ (b : BookValue) where
       where
         go : (z : Bool) → (is_done (net_of b.topology) b.partition (replica_of b) && list_all (λ o. is_told b kind o) os) ≡ z → cond z (Some Bye) None ≡ Some Bye
             → (is_done (net_of b.topology) b.partition (replica_of b) ≡ true) × AllByRecursion (IsAllTold b kind) os
-        go true h g = let t = both _ _ h in (t.0, all_told os t.1)
+        go true h g = let t = and_parts _ _ h in (t.0, all_told os t.1)
         go false h g = absurd (cc)
 
 -- what was said where nothing is owed

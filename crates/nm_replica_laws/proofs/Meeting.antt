@@ -1,5 +1,6 @@
 -- Two sessions, from their greeting to their end.
 use Rattle.std.proofs.Common.{◌≡◌, ◌≢◌, inl, inr, ℕ, zero, suc, ◌≤◌, Bool, true, false, not, ◌==◌, ◌&&◌, cond, List, [], ◌∷◌, ◌++◌, length, map, Some, None, refl, sym, subst, ap, ap₂, ◌∙◌, arith, true≢false}
+use Rattle.std.proofs.lemmas.Bool.{and_parts}
 use Rattle.std.specs.List.{AllByRecursion}
 use Rattle.nm_model.specs.Certificate.{is_done}
 use Rattle.nm_model.specs.Partition.{comes_in, goes_out, receiver_of, sender_of}
@@ -21,10 +22,6 @@ use Rattle.nm_replica_laws.proofs.Sides.{Pair, Pairs, Way, both_go_on}
 
 -- ---- at first
 
-both : (a b : Bool) → (a && b) ≡ true → (a ≡ true) × (b ≡ true)
-both true b h = (refl, h)
-both false b h = absurd (cc)
-
 other : (p q : ℕ) → p ≢ q → (q == p) ≡ false
 other p q apart = go (q == p) refl
   where
@@ -38,7 +35,7 @@ Runs t p q c = (goes_out (net_of t) p (receiving_iface t c) ≡ true) × (comes_
 runs : (t : TopologyValue) (p q c : ℕ) → p ≢ q → runs_between t p q c ≡ true → Runs t p q c
 unfolding Runs
 runs t p q c apart h =
-    let e = both (sender_of (net_of t) (receiving_iface t c) == p) (receiver_of (net_of t) (receiving_iface t c) == q) h in
+    let e = and_parts (sender_of (net_of t) (receiving_iface t c) == p) (receiver_of (net_of t) (receiving_iface t c) == q) h in
     let from : sender_of (net_of t) (receiving_iface t c) ≡ p = number_is _ p e.0 in
     let to : receiver_of (net_of t) (receiving_iface t c) ≡ q = number_is _ q e.1 in
     let no_from : (receiver_of (net_of t) (receiving_iface t c) == p) ≡ false = ap (λ z. z == p) to ∙ other p q apart in

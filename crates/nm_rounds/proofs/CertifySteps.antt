@@ -1,5 +1,5 @@
 -- What steps of a certificate find, put together.
-use Rattle.std.proofs.Common.{◌≡◌, ◌↔◌, IsOk, ℕ, zero, suc, ◌<◌, ◌&&◌, not, ltb, All, Bool, true, false, cond, List, [], ◌∷◌, length, get_or, Option, Some, None, Result, Ok, Err, refl, sym, ap, ap₂, ◌∙◌, subst, arith, ⊎_elim}
+use Rattle.std.proofs.Common.{◌≡◌, ◌↔◌, IsOk, ℕ, zero, suc, ◌<◌, ◌&&◌, not, ltb, All, Bool, cond, List, [], ◌∷◌, length, get_or, Option, Some, None, Result, Ok, Err, refl, sym, ap, ap₂, ◌∙◌, subst, arith, ⊎_elim}
 use Rattle.std.proofs.lemmas.Bool.{cases_lt}
 use Rattle.nm_topology.specs.Topology.{receiving_iface}
 use Rattle.nm_topology.specs.TopologyValue.{TopologyValue}
@@ -63,10 +63,6 @@ module _ (i : ℕ) (a : Know (List ℕ)) (sent : List (ℕ × List ℕ)) (promis
   promise_tested b clock test =
       ap₂ (λ o p. or_else o (or_else p (cond (ltb promised a.clock && not (last_from a.clock a.list)) (Some (PromiseFault i)) None))) prefix clock
       ∙ ap (λ z. cond z (Some (PromiseFault i)) None) test
-
-pub and_no : (b : Bool) → (b && false) ≡ false
-and_no true = refl
-and_no false = refl
 
 -- books of one topology have one network
 pub same_net : ((t : TopologyValue) (digest : List ℕ) → net_of (record t { digest = digest }) ≡ net_of t)

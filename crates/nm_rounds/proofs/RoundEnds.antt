@@ -1,5 +1,6 @@
 -- What holds after so many rounds, and at their end.
 use Rattle.std.proofs.Common.{◌≡◌, ◌⊎◌, inl, inr, ⊎_elim, ltb, ℕ, zero, suc, ◌+◌, ◌*◌, ◌-◌, ◌<◌, ◌≤◌, ◌==◌, ◌&&◌, not, Bool, true, false, List, length, slice_get, Some, refl, sym, ◌∙◌, ap, ap₂, subst, arith}
+use Rattle.std.proofs.lemmas.Bool.{and_parts}
 use Rattle.std.proofs.lemmas.Bool.Decides.{nat_tests}
 use Rattle.nm_topology.specs.Topology.{receiving_iface}
 use Rattle.nm_topology.specs.TopologyValue.{TopologyValue}
@@ -18,7 +19,6 @@ use Rattle.nm_book.specs.Book.{BookValue, state_of}
 use Rattle.nm_rounds.specs.World.{IsReplicaOf}
 use Rattle.nm_rounds.specs.Rounds.{AreBooks, AreDoneWithin, AllAreFinished, AreRounds, AreUnfinished, EndsRound, IsFinished, IsLeft, IsWhole, after_hearing, after_runs}
 use Rattle.nm_rounds.proofs.Acts.{moved}
-use Rattle.nm_rounds.proofs.Standing.{both}
 use Rattle.nm_rounds.proofs.RoundBooks.{as_others, is_there}
 
 -- what is below the number after n is below n, or n
@@ -36,7 +36,7 @@ more_times (suc a) (suc b) n h = let i = more_times a b n (omega (arith, h)) in 
 
 module _ (t : TopologyValue) where
   done_safe : (p : ℕ) (x : Replica (List ℕ)) → is_done (net_of t) p x ≡ true → safe_time (net_of t) p x.knowledge ≡ (net_of t).stop
-  done_safe p x h = number_is _ _ (both _ _ h).0
+  done_safe p x h = number_is _ _ (and_parts _ _ h).0
 
   done_is : (p : ℕ) (x : Replica (List ℕ)) → safe_time (net_of t) p x.knowledge ≡ (net_of t).stop → pends_before (net_of t).stop (model_state (net_of t) p x) ≡ false → is_done (net_of t) p x ≡ true
   done_is p x safe over = ap₂ (λ a b. a && not b) (same _ _ safe) over

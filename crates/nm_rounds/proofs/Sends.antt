@@ -1,5 +1,6 @@
 -- What a replica sends is put behind the frames that were sent before.
 use Rattle.std.proofs.Common.{◌≡◌, ℕ, zero, suc, ◌+◌, ◌*◌, ◌-◌, ◌<◌, ◌≤◌, ◌&&◌, leb, Bool, true, false, cond, List, [], ◌∷◌, ◌++◌, length, drop, map, slice_get, get_or, Option, Some, None, Ok, Err, refl, sym, ◌∙◌, ap, ap₂, subst, arith, ⊎_elim, append_assoc, append-nil}
+use Rattle.std.proofs.lemmas.Bool.{and_from, and_left, and_parts, and_right}
 use Rattle.std.proofs.lemmas.Bool.Decides.{nat_tests}
 use Rattle.std.proofs.lemmas.List.{map-append}
 use Rattle.std.specs.Option.{option_and_then}
@@ -22,15 +23,12 @@ use Rattle.nm_rounds.specs.declared.acting.Promise.TheVariants as made
 use Rattle.nm_rounds.specs.declared.step.StepAnswer.TheVariants as answer
 use Rattle.nm_rounds.specs.declared.step.WorldStep.TheVariants as step
 use Rattle.nm_rounds.specs.declared.world.Stop.TheVariants as stop
-use Rattle.nm_rounds.proofs.Standing.{both, get_append, is_absent, is_replica_is, is_there, not_and_right, only_one, put_frames}
+use Rattle.nm_rounds.proofs.Standing.{get_append, is_absent, is_replica_is, is_there, only_one, put_frames}
 use Rattle.nm_rounds.proofs.Acts.{book_read, moved, step_done, step_names_nothing}
 
 -- the end of a channel at which a replica sends
 abbrev pub sends_on : TopologyValue → ℕ → ℕ → ℕ → Bool
 sends_on t p r c = is_replica t p r && goes_out (net_of t) p (receiving_iface t c)
-
-and_false : (a b : Bool) → a ≡ false → (a && b) ≡ false
-and_false a b e = ap (λ z. z && b) e
 
 -- the same for the model
 model_sends : (t : TopologyValue) (p r c : ℕ) (v : Bool) → sends_on t p r c ≡ v → (model.is_replica (net_of t) p r && goes_out (net_of t) p (receiving_iface t c)) ≡ v
@@ -86,7 +84,7 @@ module _ (t : TopologyValue) (books : List BookValue) (bag : List ChannelMessage
     nothing_to_send n = step_names_nothing t w (step.Data p r c n) books bag (ap (λ z. cond z (model.sends w i n (nth lines n)) (w, model.NoSuch)) (model_sends t p r c false no)) stands
 
     pub nothing_to_resend : (n : ℕ) → Steps t w (step.Resend p r c n) (Err stop.NoSuch) books bag
-    nothing_to_resend n = step_names_nothing t w (step.Resend p r c n) books bag (ap (λ z. cond z (resent n) (w, model.NoSuch)) (and_false _ _ (model_sends t p r c false no))) stands
+    nothing_to_resend n = step_names_nothing t w (step.Resend p r c n) books bag (ap (λ z. cond z (resent n) (w, model.NoSuch)) (and_left _ _ (model_sends t p r c false no))) stands
 
     pub no_null : (promise : Promise) → Steps t w (null_step promise p r c) (Err stop.NoSuch) books bag
     no_null promise = step_names_nothing t w (null_step promise p r c) books bag (null_happens promise false no) stands
@@ -97,11 +95,11 @@ module _ (t : TopologyValue) (books : List BookValue) (bag : List ChannelMessage
     yes = (is_there _ _ _ found).0
 
     abbrev is : IsReplicaOf t p r b x
-    is = book_read t books bag w stands p r (both _ _ yes).0 place (is_there _ _ _ found).1 b read
+    is = book_read t books bag w stands p r (and_parts _ _ yes).0 place (is_there _ _ _ found).1 b read
 
     goes : is_outgoing b c ≡ true
     goes = let q = sym is.partition in let s = sym is.topology in
-        subst (λ z. goes_out (net_of z) b.partition (receiving_iface z c) ≡ true) s (subst (λ z. goes_out (net_of t) z (receiving_iface t c) ≡ true) q (both _ _ yes).1)
+        subst (λ z. goes_out (net_of z) b.partition (receiving_iface z c) ≡ true) s (subst (λ z. goes_out (net_of t) z (receiving_iface t c) ≡ true) q (and_parts _ _ yes).1)
 
     lines_are : sent_over b c ≡ lines
     lines_are = sym (moved (λ t p x. model.outgoing (net_of t) p x (receiving_iface t c) ≡ sent_over b c) t p r b x is refl)
@@ -144,9 +142,6 @@ module _ (t : TopologyValue) (books : List BookValue) (bag : List ChannelMessage
     no_answer v e = let f : None ≡ only_if true v = e ∙ ap (λ z. only_if z v) goes in absurd (let g : None ≡ Some v = f in cc)
 
     -- all messages from number n on
-    both_hold : (a d : Bool) → a ≡ true → d ≡ true → (a && d) ≡ true
-    both_hold a d e f = ap₂ (λ y z. y && z) e f
-
     pub again_sent : (n : ℕ) (more : List ChannelMessage) → n ≤ length (sent_over b c) → AreMessages b c n more
         → Steps t w (step.Resend p r c n) (Ok (answer.Frames (length (sent_over b c) - n))) books (bag ++ more)
     again_sent n more le are =
@@ -154,13 +149,13 @@ module _ (t : TopologyValue) (books : List BookValue) (bag : List ChannelMessage
         let frames : map (frame_of t) more ≡ model.data_frames i n (drop n lines) =
         ap (λ z. map (frame_of z) more) (sym is.topology) ∙ are.frames ∙ ap (λ z. model.data_frames (receiving_iface z c) n (drop n (sent_over b c))) is.topology ∙ ap (λ z. model.data_frames i n (drop n z)) lines_are in
         step_done t w (step.Resend p r c n) books (bag ++ more) (resent n).0 (model.Frames (length lines - n)) (answer.Frames (length (sent_over b c) - n))
-        (ap (λ z. cond z (resent n) (w, model.NoSuch)) (both_hold _ _ (model_sends t p r c true yes) few)) (ap (λ z. Some (model.Frames (length z - n))) lines_are)
+        (ap (λ z. cond z (resent n) (w, model.NoSuch)) (and_from _ _ (model_sends t p r c true yes) few)) (ap (λ z. Some (model.Frames (length z - n))) lines_are)
         (put_frames t books bag more w (model.data_frames i n (drop n lines)) stands frames (λ j m e. let s = are.named j m e in omega (arith, s, within)))
 
     pub none_so_far : (n : ℕ) → length (sent_over b c) < n → Steps t w (step.Resend p r c n) (Err stop.NoSuch) books bag
     none_so_far n lt =
         let past : leb n (length lines) ≡ false = let e = ap length lines_are in grind (arith, nat_tests, lt, e) in
-        step_names_nothing t w (step.Resend p r c n) books bag (ap (λ z. cond z (resent n) (w, model.NoSuch)) (not_and_right _ _ past)) stands
+        step_names_nothing t w (step.Resend p r c n) books bag (ap (λ z. cond z (resent n) (w, model.NoSuch)) (and_right _ _ past)) stands
 
 -- What is gathered of a channel's messages.
 module _ (b : BookValue) (c : ℕ) where

@@ -1,5 +1,6 @@
 -- Where the world's replicas stand, and what changes where one does, or where frames are sent.
-use Rattle.std.proofs.Common.{◌≡◌, ◌↔◌, ◌≢◌, ◌⊎◌, inl, inr, ℕ, zero, suc, ◌+◌, ◌*◌, ◌<◌, ◌&&◌, ltb, Bool, true, false, List, [], ◌∷◌, ◌++◌, length, map, slice_get, slice_set, Some, None, refl, sym, ◌∙◌, ap, ap₂, subst, arith, ⊎_elim}
+use Rattle.std.proofs.Common.{◌≡◌, ◌↔◌, ◌≢◌, ◌⊎◌, inl, inr, ℕ, zero, suc, ◌+◌, ◌*◌, ◌<◌, ltb, Bool, true, false, List, [], ◌∷◌, ◌++◌, length, map, slice_get, slice_set, Some, None, refl, sym, ◌∙◌, ap, ap₂, subst, arith, ⊎_elim}
+use Rattle.std.proofs.lemmas.Bool.{and_parts}
 use Rattle.std.proofs.lemmas.Bool.Decides.{nat_tests}
 use Rattle.std.proofs.lemmas.List.{length-set, map-append}
 use Rattle.nm_topology.specs.Topology.{channel_from, receiving_iface}
@@ -51,14 +52,6 @@ pub is_absent : {X : Type 0} (b : Bool) (x : X) → only_if b x ≡ None → b �
 is_absent true x e = absurd cc
 is_absent false x e = refl
 
-pub not_and_right : (a b : Bool) → b ≡ false → (a && b) ≡ false
-not_and_right true b e = e
-not_and_right false b e = refl
-
-pub both : (a b : Bool) → (a && b) ≡ true → (a ≡ true) × (b ≡ true)
-both true b h = (refl, h)
-both false b h = absurd (let e : false ≡ true = h in cc)
-
 -- the network has the topology's partitions
 pub parts_are : (t : TopologyValue) → (net_of t).parts ≡ t.partitions
 unfolding net_of
@@ -77,7 +70,7 @@ channel_here t inverse there c low = (inverse (receiving_iface t c) c (there c l
 -- a replica that is there has its place among all
 pub there_is : (t : TopologyValue) (p r : ℕ) → is_replica t p r ≡ true → (p < t.partitions) × (r < 2) × (2 * p + r < 2 * t.partitions)
 there_is t p r h =
-    let tests = both (ltb p t.partitions) (ltb r 2) h in
+    let tests = and_parts (ltb p t.partitions) (ltb r 2) h in
     let a : p < t.partitions = let e = tests.0 in grind (arith, nat_tests, e) in
     let b : r < 2 = let e = tests.1 in grind (arith, nat_tests, e) in
     (a, b, omega (arith, a, b))

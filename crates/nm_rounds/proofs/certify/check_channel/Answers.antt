@@ -1,7 +1,8 @@
-use Rattle.std.proofs.Common.{◌≡◌, ◌&&◌, not, ltb, true, false, ap, ap₂, ◌∙◌, rules}
+use Rattle.std.proofs.Common.{◌≡◌, ◌&&◌, not, ltb, true, false, ap, ap₂, rules}
+use Rattle.std.proofs.lemmas.Bool.{and_left, and_right}
 use Rattle.nm_topology.specs.Topology.{receiving_iface}
 use Rattle.nm_model.specs.Accept.{last_from}
-use Rattle.nm_rounds.proofs.CertifySteps.{and_no, clock_shown, promise_tested}
+use Rattle.nm_rounds.proofs.CertifySteps.{clock_shown, promise_tested}
 use Rattle.nm_rounds.proofs.certify.check_channel.Goals.{else-lt-via-then-lt+else-not-is_clock_of_last, else-lt-via-else-lt}
 use Rattle.nm_rounds.proofs.certify.check_channel.Goals as goal
 
@@ -23,7 +24,7 @@ returns c = λ t.
     let i = receiving_iface t c.args.channel in
     let k = c.args.know.now in
     let test : (ltb c.args.promise k.clock && not (last_from k.clock k.list)) ≡ false = elim c.else-lt.branch [
-      | else-lt-via-then-lt+else-not-is_clock_of_last w ↦ let last : last_from k.clock k.list ≡ true = search rules in ap (λ b. ltb c.args.promise k.clock && not b) last ∙ and_no (ltb c.args.promise k.clock)
-      | else-lt-via-else-lt w ↦ let clock = c.clock.ensures.value in let past : ltb c.args.promise k.clock ≡ false = search rules in ap (λ b. b && not (last_from k.clock k.list)) past
+      | else-lt-via-then-lt+else-not-is_clock_of_last w ↦ let last : last_from k.clock k.list ≡ true = search rules in and_right (ltb c.args.promise k.clock) (not (last_from k.clock k.list)) (ap not last)
+      | else-lt-via-else-lt w ↦ let clock = c.clock.ensures.value in let past : ltb c.args.promise k.clock ≡ false = search rules in and_left (ltb c.args.promise k.clock) (not (last_from k.clock k.list)) past
     ] in
     promise_tested i k c.args.sent.now c.args.promise (c.in_default.ensures i) false (c.if-is_before_clock.ensures i) test
