@@ -1,6 +1,7 @@
 -- One turn after another.
-use Rattle.std.proofs.Common.{◌≡◌, ℕ, ◌+◌, ◌&&◌, nat_lt, Bool, true, false, List, [], ◌∷◌, ◌++◌, length, map, Option, Some, None, Ok, Err, if◌then◌else◌, refl, sym, ◌∙◌, ap, ◌⊎◌, inl, inr, subst, append_assoc, append-nil}
+use Rattle.std.proofs.Common.{◌≡◌, ℕ, ◌+◌, ◌&&◌, nat_lt, Bool, true, false, List, [], ◌∷◌, ◌++◌, length, map, Option, Some, None, Ok, Err, if◌then◌else◌, refl, sym, ◌∙◌, ap, ◌⊎◌, inl, inr, subst, append_assoc, append-nil, true≢false}
 use Rattle.std.proofs.lemmas.Grind.{flat_map-append}
+use Rattle.nm_model.proofs.ListLemmas.{not_some}
 use Rattle.nm_frames.specs.declared.frame.Frame.{Frame}
 use Rattle.nm_frames.specs.declared.frame.Frame.TheVariants.{Hello, Have, Data, Null, Bye}
 use Rattle.nm_frames.specs.declared.session_fault.SessionFault.TheVariants.{Peer}
@@ -59,14 +60,8 @@ out-gave : (fs : List Frame) → frames_out (map Gave fs) ≡ fs
 out-gave [] = refl
 out-gave (f ∷ fs) = ap (λ l. f ∷ l) (out-gave fs)
 
-never : true ≡ false → ⊥
-never e = cc
-
 some_same : (s m : SessionValue) → Some s ≡ Some m → s ≡ m
 some_same s m e = cc
-
-none_some : (m : SessionValue) → None ≡ Some m → ⊥
-none_some m e = cc
 
 -- the steps of a turn
 abbrev turn_steps : List Frame → List Frame → List SessionStep
@@ -141,10 +136,10 @@ module _ {W : Type 0} (given taken : W → List ℕ) (ends failures : W → ℕ)
   module _ (old new : LinkValue W) (Well : Type 0) (moved : Well → ℕ) (moves : Well → Moves given taken ends failures old new new.rest new.out) (whole : Well → new.failed ≡ false) where
     -- a link that has failed stays as it is
     stays_by : (turn : Turn) → old.failed ≡ true → Says given taken ends failures old new Well moved turn → new ≡ old
-    stays_by Progress over t = absurd (never (sym over ∙ (moves t.0).was_whole))
-    stays_by Idle over t = absurd (never (sym over ∙ (moves t.0).was_whole))
-    stays_by Ended over t = absurd (never (sym over ∙ (moves t.0).was_whole))
-    stays_by (Broken cause) over t = absurd (never (sym over ∙ t.moves.was_whole))
+    stays_by Progress over t = absurd (true≢false (sym over ∙ (moves t.0).was_whole))
+    stays_by Idle over t = absurd (true≢false (sym over ∙ (moves t.0).was_whole))
+    stays_by Ended over t = absurd (true≢false (sym over ∙ (moves t.0).was_whole))
+    stays_by (Broken cause) over t = absurd (true≢false (sym over ∙ t.moves.was_whole))
     stays_by Failed over t = t.1
 
     of_well : Well → Accounts given taken old new × ((new.failed ≡ false) ⊎ (new.failed ≡ true))
@@ -154,7 +149,7 @@ module _ {W : Type 0} (given taken : W → List ℕ) (ends failures : W → ℕ)
     of_answer Progress t = of_well t.0
     of_answer Idle t = of_well t.0
     of_answer Ended t = of_well t.0
-    of_answer (Broken cause) t = (of_moves old new t.rest t.left t.moves (λ e. absurd (never (sym t.over ∙ e))), inr t.over)
+    of_answer (Broken cause) t = (of_moves old new t.rest t.left t.moves (λ e. absurd (true≢false (sym t.over ∙ e))), inr t.over)
     of_answer Failed t = (subst (λ (x : LinkValue W). Accounts given taken old x) (sym t.1) (of_none old), inr (ap (λ (l : LinkValue W). l.failed) t.1 ∙ t.0))
 
   stays : (turn : Turn) (old new : LinkValue W) → old.failed ≡ true → Turns given taken ends failures old new turn ⊎ Hears given taken ends failures old new turn → new ≡ old
@@ -224,5 +219,5 @@ numbers h None t (Took f ∷ r) c due none lives =
     let n = from_cursor (session_with made.0 made.1) more.0 (Took f ∷ r) c None (none_yet c (channels_between made.0.topology made.0.me made.1)) (lives.0, made.2, more.2) in
     subst (λ (x : Option ℕ). AreConsecutive c x (Took f ∷ r) × HasDue c (due_after c x (Took f ∷ r)) t) (sym none)
     (n.0, subst (λ (x : Option SessionValue). HasDue c (due_after c None (Took f ∷ r)) x) (sym more.1) n.1)
-numbers h None t (Gave f ∷ r) c due none lives = absurd (none_some lives.0 lives.2)
+numbers h None t (Gave f ∷ r) c due none lives = absurd (not_some lives.0 lives.2)
 numbers h None t (Broke ∷ r) c due none lives = absurd lives

@@ -1,5 +1,6 @@
 -- A turn from its parts.
 use Rattle.std.proofs.Common.{◌≡◌, ℕ, ◌+◌, ◌≤◌, Bool, true, false, nat_lt, if◌then◌else◌, List, [], ◌∷◌, ◌++◌, length, map, Option, Result, Ok, Err, ◌⊎◌, inl, inr, refl, sym, ◌∙◌, ap, subst, append_assoc, append-nil, arith}
+use Rattle.std.proofs.lemmas.Bool.{false≢true}
 use Rattle.std.specs.List.{AllByRecursion}
 use Rattle.std.proofs.lemmas.Bool.Decides.{nat_tests}
 use Rattle.std.proofs.lemmas.Grind.{flat_map-append}
@@ -25,9 +26,6 @@ from_frame : (octets rest : List ℕ) (frames front back : List Frame) (f : Fram
 from_frame octets rest frames front back f e split =
     e ∙ ap (λ fs. stream_octets fs ++ rest) split ∙ ap (λ l. l ++ rest) (flat_map-append frame_octets front (f ∷ back))
     ∙ append_assoc (stream_octets front) (frame_octets f ++ stream_octets back) rest ∙ ap (λ l. stream_octets front ++ l) (append_assoc (frame_octets f) (stream_octets back) rest)
-
-never : false ≡ true → ⊥
-never e = cc
 
 not_none : (front back : List Frame) (f : Frame) → front ++ f ∷ back ≡ [] → ⊥
 not_none [] back f e = cc
@@ -145,7 +143,7 @@ module _ {W : Type 0} (given taken : W → List ℕ) (ends failures : W → ℕ)
 
   pub says_well : (ended : Bool) → (ended ≡ true → HasEnded new.session new.out) → (HasEnded new.session new.out → ended ≡ true) → Says given taken ends failures old new Well moved (answer_of ended n)
   says_well true over only = (well, over refl)
-  says_well false over only = by_count (λ is. never (only is)) (nat_lt 0 n) refl
+  says_well false over only = by_count (λ is. false≢true (only is)) (nat_lt 0 n) refl
 
 -- What was given, once the link had heard.
 module _ {W : Type 0} (given taken : W → List ℕ) (ends failures : W → ℕ) (old mid : LinkValue W) (h : Heard given taken ends failures old mid) (z : Option SessionValue) (x : W) (p : List ℕ) where

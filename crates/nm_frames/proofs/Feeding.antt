@@ -1,5 +1,6 @@
 -- A stream that comes in pieces is frames and a rest.
-use Rattle.std.proofs.Common.{true≢false, if◌then◌else◌, arith, ◌≡◌, ℕ, ◌⊎◌, inl, inr, Bool, true, false, List, [], ◌∷◌, ◌++◌, Some, None, Result, Ok, Err, refl, sym, ap, subst, ◌∙◌, append_assoc, append-nil}
+use Rattle.std.proofs.Common.{if◌then◌else◌, arith, ◌≡◌, ℕ, ◌⊎◌, inl, inr, Bool, true, false, List, [], ◌∷◌, ◌++◌, Some, None, Result, Ok, Err, refl, sym, ap, subst, ◌∙◌, append_assoc, append-nil}
+use Rattle.std.proofs.lemmas.Bool.{both_ways}
 use Rattle.std.specs.List.{AllByRecursion}
 use Rattle.nm_model.proofs.ListLemmas.{not_some}
 use Rattle.nm_frames.specs.declared.frame.Frame.{Frame}
@@ -18,9 +19,6 @@ abbrev SoFar : List ℕ → ReaderValue → List Frame → Type 0
 SoFar stream h fs = ((h.failed ≡ false) × Cuts stream h.rest [] fs × (fault_shown h.rest ≡ None) × IsShort h.rest)
     ⊎ ((h ≡ record { rest = []; failed = true }) × (r : List ℕ) × (e : FrameFault) × Cuts stream r [] fs × (fault_shown r ≡ Some e))
 
-not_both : (b : Bool) → b ≡ false → b ≡ true → ⊥
-not_both b e f = true≢false (sym f ∙ e)
-
 abbrev failed_of : ReaderValue → Bool
 failed_of h = h.failed
 
@@ -35,16 +33,16 @@ wider s r p fs cut = record {
 
 with_fault : (s p : List ℕ) (h k : ReaderValue) (fs gs : List Frame) (e : FrameFault) → SoFar s h fs → FedFault h k p fs gs e → SoFar (s ++ p) k gs
 with_fault s p h k fs gs e (inl so) fed = inr (fed.over, fed.rest, e, cuts_more (s ++ p) (h.rest ++ p) fed.rest [] fs gs (wider s h.rest p fs so.1) fed.cut, fed.shown)
-with_fault s p h k fs gs e (inr so) fed = absurd (not_both h.failed fed.sound (ap failed_of so.0))
+with_fault s p h k fs gs e (inr so) fed = absurd (both_ways h.failed fed.sound (ap failed_of so.0))
 
 -- a reader that has failed stays so, and so does the fault
 still_failed : (s p : List ℕ) (h k : ReaderValue) (fs gs : List Frame) → SoFar s h fs → h.failed ≡ true → k ≡ h → gs ≡ fs → SoFar (s ++ p) k gs
-still_failed s p h k fs gs (inl so) failed same none = absurd (not_both h.failed so.0 failed)
+still_failed s p h k fs gs (inl so) failed same none = absurd (both_ways h.failed so.0 failed)
 still_failed s p h k fs gs (inr so) failed same none = inr (same ∙ so.0, so.1 ++ p, so.2, subst (λ (x : List Frame). Cuts (s ++ p) (so.1 ++ p) [] x) (sym none) (wider s so.1 p fs so.3), stays so.1 p so.2 so.4)
 
 step : (s p : List ℕ) (h k : ReaderValue) (fs gs : List Frame) (a : Result Unit FrameFault) → SoFar s h fs → Feeds h k p fs gs a → SoFar (if has_come a then s ++ p else s) k gs
 step s p h k fs gs (Ok u) (inl so) fed = inl (fed.still_sound, cuts_more (s ++ p) (h.rest ++ p) k.rest [] fs gs (wider s h.rest p fs so.1) fed.cut, fed.none, fed.short)
-step s p h k fs gs (Ok u) (inr so) fed = absurd (not_both h.failed fed.sound (ap failed_of so.0))
+step s p h k fs gs (Ok u) (inr so) fed = absurd (both_ways h.failed fed.sound (ap failed_of so.0))
 step s p h k fs gs (Err BadLength) so fed = with_fault s p h k fs gs BadLength so fed
 step s p h k fs gs (Err BadKind) so fed = with_fault s p h k fs gs BadKind so fed
 step s p h k fs gs (Err BadBody) so fed = with_fault s p h k fs gs BadBody so fed
@@ -74,12 +72,12 @@ has_read s h fs (inl so) = record {
   rest = h.rest;
   splits = splits_at s h.rest fs so.1 (inr (so.2, so.3));
   sound = λ e. (refl, so.2, so.3);
-  over = λ e. absurd (not_both h.failed so.0 e);
+  over = λ e. absurd (both_ways h.failed so.0 e);
 }
 has_read s h fs (inr so) = record {
   rest = so.1;
   splits = splits_at s so.1 fs so.3 (inl (so.2, so.4));
-  sound = λ e. absurd (not_both h.failed e (ap failed_of so.0));
+  sound = λ e. absurd (both_ways h.failed e (ap failed_of so.0));
   over = λ e. (ap (λ x. x.rest) so.0, so.2, so.4);
 }
 

@@ -1,10 +1,7 @@
-use Rattle.std.proofs.Common.{◌≡◌, length, arith, true, false, sym, ◌∙◌}
+use Rattle.std.proofs.Common.{◌≡◌, length, arith, true, false, sym, ◌∙◌, true≢false}
 use Rattle.nm_base.specs.declared.limits.TheConstants.{MAX_READ_OCTETS}
 use Rattle.nm_engine.proofs.Readings.{came_none, read_none, read_some}
 use Rattle.nm_engine.proofs.reading.read_in.Goals as goal
-
-never : true ≡ false → ⊥
-never e = cc
 
 pub returns-in-Got-clause-reads : goal.returns-in-Got-clause-reads
 returns-in-Got-clause-reads g c =
@@ -13,7 +10,7 @@ returns-in-Got-clause-reads g c =
 
 pub returns-then-may_end-clause-reads : goal.returns-then-may_end-clause-reads
 returns-then-may_end-clause-reads g c =
-    read_none g.W.Wire.given g.W.Wire.ends g.W.Wire.failures c.args.wire.now c.read_some.new.self c.args.may_end c.args.reader.now c.args.frames.now.items c.requires.none c.in-End.ensures.reads.0.0 c.in-End.ensures.reads.0.1 c.requires.sound (λ is. absurd (never (sym c.if-may_end.true ∙ is)))
+    read_none g.W.Wire.given g.W.Wire.ends g.W.Wire.failures c.args.wire.now c.read_some.new.self c.args.may_end c.args.reader.now c.args.frames.now.items c.requires.none c.in-End.ensures.reads.0.0 c.in-End.ensures.reads.0.1 c.requires.sound (λ is. absurd (true≢false (sym c.if-may_end.true ∙ is)))
 
 pub returns-else-may_end-clause-reads : goal.returns-else-may_end-clause-reads
 returns-else-may_end-clause-reads g c =
