@@ -18,11 +18,8 @@ got xs i None item = sym (slice_get_past xs i item.3)
 
 module _ {X : Type 0} (xs ys : List X) (i k : ℕ) (r : Option (Bor X)) (same : xs ≡ ys) (at : i ≡ k)
     (item : ItemBy (λ (b : Bor X). b.now) xs i i r) where
-  pub got-some : (b : Bor X) → r ≡ Some b → slice_get ys k ≡ Some b.now
-  got-some b is = sym (ap₂ slice_get same at) ∙ sym (got xs i r item) ∙ ap (option_map (λ c. c.now)) is
-
-  pub got-none : r ≡ None → slice_get ys k ≡ None
-  got-none is = sym (ap₂ slice_get same at) ∙ sym (got xs i r item) ∙ ap (option_map (λ c. c.now)) is
+  pub got-there : option_map (λ b. b.now) r ≡ slice_get ys k
+  got-there = got xs i r item ∙ ap₂ slice_get same at
 
 -- one interface more, at this node or not, and with this address or not
 more : (v a : ℕ) (x : IfaceValue) (xs : List IfaceValue) (at has : Bool)

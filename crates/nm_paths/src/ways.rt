@@ -1,6 +1,6 @@
 //! The way of a packet from node to node.
 
-ghost use Rattle.std.specs.Prelude.{◌≡◌, ℕ, ◌+◌, IfOk, nat_eq};
+ghost use Rattle.std.specs.Prelude.{◌≡◌, ◌+◌, IfOk, nat_eq, option_map, slice_get};
 ghost use Rattle.std.specs.List.{list_any};
 ghost use Rattle.nm_forward.specs.Routes.{route_of};
 ghost use Rattle.nm_forward.specs.State.{is_own, table_of};
@@ -12,7 +12,7 @@ use crate::tables::Tables;
 use crate::turn::{Turn, WalkEnd, route_turn, transit_turn};
 use nm_base::{IfaceNo, NodeNo};
 use nm_packet::Address;
-use nm_topology::parts::Iface;
+use nm_topology::parts::{Iface, Node};
 use nm_topology::{NodeKind, Topology};
 use std::alloc::{AllocError, Global};
 
@@ -81,11 +81,18 @@ struct Routing<'a> {
     ghost held: { holders.now ≡ nodes_with topology.now.ifaces to },
 }
 
+/// The node of a number, if it is there.
+fn node_at(topology: &Topology, node: NodeNo) -> Option<&Node>
+    ensures { option_map (λ n. n.now) result ≡ slice_get topology.now.nodes node }
+{
+    topology.nodes().get(node.index())
+}
+
 /// Whether the address is a node's own.
 fn is_own(routing: &Routing<'_>, node: NodeNo) -> bool
     ensures { result ≡ is_own (table_of routing.now.topology.now node) routing.now.to }
 {
-    match routing.topology.nodes().get(node.index()) {
+    match node_at(routing.topology, node) {
         Some(_) => is_holder(routing.holders, node),
         None => false,
     }
@@ -96,7 +103,7 @@ fn is_own(routing: &Routing<'_>, node: NodeNo) -> bool
 fn kind_of(topology: &Topology, node: NodeNo) -> NodeKind
     ensures { result ≡ (table_of topology.now node).kind }
 {
-    match topology.nodes().get(node.index()) {
+    match node_at(topology, node) {
         Some(there) => there.kind(),
         None => NodeKind::Host,
     }
@@ -106,7 +113,7 @@ fn kind_of(topology: &Topology, node: NodeNo) -> NodeKind
 fn route_at(routing: &Routing<'_>, node: NodeNo) -> Option<IfaceNo>
     ensures { result ≡ route_of (table_of routing.now.topology.now node).routes routing.now.to }
 {
-    match routing.topology.nodes().get(node.index()) {
+    match node_at(routing.topology, node) {
         Some(_) => routing.tables.look(node, routing.to),
         None => None,
     }
