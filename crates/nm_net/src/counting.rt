@@ -3,20 +3,13 @@
 ghost use Rattle.std.specs.Prelude.{◌≤◌};
 
 use crate::written::WrittenMessages;
+use nm_frames::format::{HEAD_OCTETS, LENGTH_OCTETS, field, kind};
 
-/// The octets of a frame before its body: its length, which counts what follows it, and its kind.
-const HEAD_OCTETS: u32 = 5;
+/// The octets of a frame before the fields behind its channel.
+const CHANNEL_END: usize = LENGTH_OCTETS + field::COUNT;
 
-/// Those of its length, which does not count them.
-const LENGTH_OCTETS: u64 = 4;
-
-/// Those of a Data frame before the message's time: its channel and its number, too.
-const DATA_OCTETS: u32 = 17;
-
-/// The kinds of frames that are counted.
-const DATA: u8 = 3;
-
-const NULL: u8 = 4;
+/// The octets of a Data frame before the message's time: its channel and its number, too.
+const DATA_OCTETS: usize = LENGTH_OCTETS + field::TIME;
 
 /// How many frames passed.
 #[derive(Clone, Copy, Drop)]
@@ -53,7 +46,7 @@ impl Frames {
 #[derive(Drop)]
 pub struct FrameCounter {
     /// How many octets of a frame passed that are looked at, and what they said so far.
-    count: u32,
+    count: usize,
     length: u64,
     kind: u8,
     channel: u64,
@@ -102,18 +95,21 @@ impl FrameCounter {
 
     /// One more octet of a frame is looked at.
     fn look(&mut self, octet: u8) {
-        match self.count {
-            0..=3 => self.length = with_octet(self.length, octet),
-            4 => self.kind = octet,
-            5..=8 => self.channel = with_octet(self.channel, octet),
-            _ => self.number = with_octet(self.number, octet),
+        if self.count < LENGTH_OCTETS {
+            self.length = with_octet(self.length, octet);
+        } else if self.count < HEAD_OCTETS {
+            self.kind = octet;
+        } else if self.count < CHANNEL_END {
+            self.channel = with_octet(self.channel, octet);
+        } else {
+            self.number = with_octet(self.number, octet);
         }
         self.count = self.count.saturating_add(1);
     }
 
     /// How many octets of a frame are looked at, by those that passed.
-    fn looked_at(&self) -> u32 {
-        if self.count >= HEAD_OCTETS && self.kind == DATA && self.written.is_some() {
+    fn looked_at(&self) -> usize {
+        if self.count >= HEAD_OCTETS && self.kind == kind::DATA && self.written.is_some() {
             DATA_OCTETS
         } else {
             HEAD_OCTETS
@@ -123,12 +119,12 @@ impl FrameCounter {
     /// The frame counts, of which all that is looked at passed.
     fn count_frame(&mut self) {
         match self.kind {
-            DATA => self.frames.messages = self.frames.messages.saturating_add(1),
-            NULL => self.frames.nulls = self.frames.nulls.saturating_add(1),
+            kind::DATA => self.frames.messages = self.frames.messages.saturating_add(1),
+            kind::NULL => self.frames.nulls = self.frames.nulls.saturating_add(1),
             _ => {}
         }
         if let Some(written) = &mut self.written {
-            if self.kind == DATA {
+            if self.kind == kind::DATA {
                 written.note(self.channel, self.number);
             }
         }
@@ -141,7 +137,7 @@ impl FrameCounter {
             return;
         }
         self.count_frame();
-        let passed = u64::from(self.count).saturating_sub(LENGTH_OCTETS);
+        let passed = self.count.saturating_sub(LENGTH_OCTETS) as u64;
         self.rest = self.length.saturating_sub(passed);
         self.count = 0;
         self.length = 0;

@@ -1,5 +1,5 @@
 -- Why a run has no report.
-use Rattle.std.specs.Prelude.{ℕ}
+use Rattle.std.specs.Prelude.{◌≡◌, ◌⊎◌, ℕ}
 use Rattle.nm_topology.specs.TopologyValue.{TopologyValue}
 use Rattle.nm_run.specs.Report.{IsNotCertified}
 use Rattle.nm_run.specs.declared.fault.RunFault.{RunFault}
@@ -24,8 +24,4 @@ HasReason t replicas (Stalled polls) = Unit {0}
 
 -- it may be that a trace file did not get its name: those before it have theirs then
 abbrev pub IsOfFiles : RunFault → Type 0
-IsOfFiles (File iface written) = Unit {0}
-IsOfFiles Net = ⊥
-IsOfFiles Memory = Unit {0}
-IsOfFiles (NotCertified fault) = ⊥
-IsOfFiles (Stalled polls) = ⊥
+IsOfFiles fault = ((iface written : ℕ) × (fault ≡ File iface written)) ⊎ (fault ≡ Memory)

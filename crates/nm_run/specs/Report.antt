@@ -1,5 +1,5 @@
 -- What a run comes to.
-use Rattle.std.specs.Prelude.{◌≡◌, ℕ, ◌+◌, ◌*◌, ◌<◌, List, length, slice_get, Some, Result, Ok, Err}
+use Rattle.std.specs.Prelude.{◌≡◌, ◌⊎◌, ℕ, ◌+◌, ◌*◌, ◌<◌, List, length, slice_get, Some, Result, Ok, Err}
 use Rattle.nm_base.specs.declared.record.Record.{Record}
 use Rattle.nm_topology.specs.TopologyValue.{TopologyValue}
 use Rattle.nm_sim.specs.Records.{totals_of}
@@ -8,7 +8,7 @@ use Rattle.nm_book.specs.Book.{BookValue}
 use Rattle.nm_rounds.specs.Certify.{AreCertified, Certifies}
 use Rattle.nm_rounds.specs.declared.certify.CertFault.{CertFault}
 use Rattle.nm_run.specs.declared.fault.RunFault.{RunFault}
-use Rattle.nm_run.specs.declared.fault.RunFault.TheVariants.{File, Net, Memory, NotCertified, Stalled}
+use Rattle.nm_run.specs.declared.fault.RunFault.TheVariants.{Memory, NotCertified}
 use Rattle.nm_run.specs.declared.report.IfaceTotals.{IfaceTotals}
 
 -- the totals of an interface are those of its records in the trace of the one event list, over the
@@ -52,8 +52,5 @@ IsNotCertified t replicas fault =
 -- what the certificate says of books, as the fault of a run; or memory was refused
 abbrev pub CertifiesRun : TopologyValue → List BookValue → Result Unit RunFault → Type 0
 CertifiesRun t books (Ok u) = AreCertified t books
-CertifiesRun t books (Err (File iface written)) = ⊥
-CertifiesRun t books (Err Net) = ⊥
-CertifiesRun t books (Err Memory) = Unit {0}
-CertifiesRun t books (Err (NotCertified fault)) = Certifies t books (Err fault)
-CertifiesRun t books (Err (Stalled polls)) = ⊥
+CertifiesRun t books (Err fault) = (fault ≡ Memory)
+    ⊎ ((found : CertFault) × (fault ≡ NotCertified found) × Certifies t books (Err found))
