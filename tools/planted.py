@@ -6,7 +6,7 @@ usage: tools/planted.py CRATE [WORD]      prints a row of a table for each bug
 
 The bugs are tools/planted/CRATE.bugs: blocks, each with a line 'bug:' (what is wrong), 'file:' (in the crate), 'check:' (the
 function whose proof is tried first; none: the whole crate), and pairs of lines 'old:' and 'new:'; each old text stands once in the
-file. With WORD only the bugs whose text holds it are tried. The crate must be proved, and is not changed: a copy of it is, beside
+file, or once in that function. With WORD only the bugs whose text holds it are tried. The crate must be proved, and is not changed: a copy of it is, beside
 copies of the crates below it. A bug whose function is still proved is tried in the whole crate. The last line counts; the status is 1 where a bug was not
 refused, or could not be tried.
 """
@@ -81,14 +81,24 @@ def check(folder, only):
     return run.returncode == 0, goals, run.stdout
 
 
+def replaced(text, old, new, name):
+    """The text with `new` in the place of `old`, which stands in it once, or once in the function of this name; or None."""
+    if text.count(old) == 1:
+        return text.replace(old, new)
+    function = re.search(rf"\bfn {name}\b.*?(?=\n *(?:pub(?:\(crate\))? )?fn |\Z)", text, re.DOTALL) if name else None
+    if not function or function.group().count(old) != 1:
+        return None
+    return text[: function.start()] + function.group().replace(old, new) + text[function.end() :]
+
+
 def try_bug(folder, bug):
     path = os.path.join(folder, bug["file"])
     before = open(path, encoding="utf-8").read()
     after = before
     for old, new in bug["edits"]:
-        if after.count(old) != 1:
-            return f"NOT TRIED: the text stands {after.count(old)} times: {old}"
-        after = after.replace(old, new)
+        after = replaced(after, old, new, bug["check"].split("::")[-1])
+        if after is None:
+            return f"NOT TRIED: the text does not stand once in the file or in the function: {old}"
     open(path, "w", encoding="utf-8").write(after)
     try:
         proved, goals, _ = check(folder, bug["check"])
