@@ -119,8 +119,7 @@ abbrev pub taken_later : SessionValue → Frame → Result SessionValue SessionF
 taken_later s (Hello h) = Err Order
 taken_later s (Have h) =
     if goes_to_peer s h.channel
-    then Ok (record s
-    { outgoing = map (with_channel h.channel (restarted h.count)) s.outgoing })
+    then Ok (record s { outgoing = map (with_channel h.channel (restarted h.count)) s.outgoing })
     else Err Channel
 taken_later s (Data d) = if comes_from_peer s d.channel then Ok s else Err Channel
 taken_later s (Null n) = if comes_from_peer s n.channel then Ok s else Err Channel

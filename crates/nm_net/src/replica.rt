@@ -121,11 +121,11 @@ pub fn run_replica<C: Counts, S: Sink, T: Transport, G: Gate, R: Wait>(
     requires owners { All (IsOwnerOf service.now.board.now) holdings.old.seats.items }
     requires files { All IsSound holdings.old.files.files.items }
 
-    // Where all is done, each file has the records of its interface.
+    // Where serving ended, each file took those at its interface of the records handed out.
     ensures streams { result ≡ Ended → Streams S.taken S.failures C.exact C.home
         holdings.old.files.files.items holdings.new.files.files.items }
 
-    // Else the ending says the truth about the replica and the time that passed.
+    // The ending says the truth about the replica and about the time that passed.
     ensures ends { EndsWith C.exact C.home service.now.keeps_records service.now.idle_limit
         (T.elapsed_periods transport.old) (T.elapsed_periods transport.new) result }
 

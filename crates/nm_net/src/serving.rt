@@ -457,7 +457,7 @@ pub(crate) fn poll<C: Counts, S: Sink, T: Transport, R: Wait>(
     ensures seats { length holdings.new.seats.items ≡ length holdings.old.seats.items }
     ensures passes { length holdings.new.passes.items ≡ length holdings.old.passes.items }
 
-    // Records that are ready go to their files.
+    // Each file took those at its interface of the records that were handed out.
     ensures streams { OnOk result (Streams S.taken S.failures C.exact C.home
         holdings.old.files.files.items holdings.new.files.files.items) }
 

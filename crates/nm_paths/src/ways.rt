@@ -121,7 +121,8 @@ fn route_at(routing: &Routing<'_>, node: NodeNo) -> Option<IfaceNo>
 
 /// What a node does with a packet that comes to it with this time to live.
 fn turn_at(routing: &Routing<'_>, node: NodeNo, time_to_live: u8) -> Turn
-    ensures { result ≡ turn_at (table_of routing.now.topology.now node) routing.now.to time_to_live }
+    ensures { result
+        ≡ turn_at (table_of routing.now.topology.now node) routing.now.to time_to_live }
 {
     if is_own(routing, node) {
         return Turn::Stops(WalkEnd::Arrived);

@@ -13,8 +13,8 @@ use nm_topology::Topology;
 use nm_topology::traffic::{Source, Traffic};
 use std::alloc::{AllocError, Global};
 
-/// What has a value. The names of nodes and of interfaces need no quotes, and a source's name is its
-/// number.
+/// What has a value. The names of nodes and of interfaces need no quotes, and that of a source is
+/// its number.
 #[derive(Clone, Copy)]
 enum Owner<'a> {
     Node(&'a str),

@@ -26,7 +26,8 @@ fn packets_said<I: Inputs>(
         words.now.topology.now
         (SaysPackets words.now.source) output.status output.text.items) }
     ensures fault { IfErr result (λ status. FailsOfInput
-        (inputs_seen I.seen inputs.old) (inputs_seen I.seen inputs.new) words.now.topology.now (HasNoSource words.now.source) status) }
+        (inputs_seen I.seen inputs.old) (inputs_seen I.seen inputs.new)
+        words.now.topology.now (HasNoSource words.now.source) status) }
 {
     let network = read_topology(alloc, inputs, words.topology)?;
     if words.source.index() >= network.sources().len() {

@@ -94,7 +94,8 @@ fn rounds_said<I: Inputs>(
         topology.now
         (SaysRounds max) output.status output.text.items) }
     ensures fault { IfErr result (λ status. FailsOfInput
-        (inputs_seen I.seen inputs.old) (inputs_seen I.seen inputs.new) topology.now IsRefused status) }
+        (inputs_seen I.seen inputs.old) (inputs_seen I.seen inputs.new)
+        topology.now IsRefused status) }
 {
     let network = read_shared(alloc, inputs, topology)?;
     progress.begin(network.stop());

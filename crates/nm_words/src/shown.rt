@@ -56,7 +56,8 @@ fn view_said<I: Inputs>(
         topology.now
         SaysShown output.status output.text.items) }
     ensures fault { IfErr result (λ status. FailsOfInput
-        (inputs_seen I.seen inputs.old) (inputs_seen I.seen inputs.new) topology.now IsRefused status) }
+        (inputs_seen I.seen inputs.old) (inputs_seen I.seen inputs.new)
+        topology.now IsRefused status) }
 {
     let network = read_topology(alloc, inputs, topology)?;
     Output::of(view_text(alloc, &network, view, progress), Status::Done)
@@ -115,7 +116,8 @@ fn text_said<I: Inputs>(
         topology.now
         (SaysText iface.now) output.status output.text.items) }
     ensures fault { IfErr result (λ status. FailsOfInput
-        (inputs_seen I.seen inputs.old) (inputs_seen I.seen inputs.new) topology.now (HasNoIface (Some iface.now)) status) }
+        (inputs_seen I.seen inputs.old) (inputs_seen I.seen inputs.new)
+        topology.now (HasNoIface (Some iface.now)) status) }
 {
     let (network, iface) = read_iface(alloc, inputs, topology, Some(iface))?;
     Output::of(packets_text(alloc, &network, iface), Status::Done)
