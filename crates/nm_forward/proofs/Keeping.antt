@@ -3,6 +3,7 @@ use Rattle.std.proofs.Common.{◌≡◌, ℕ, Bool, true, false, cond, List, Opt
 use Rattle.std.specs.Prelude.{◌==◌, slice_get, IfOk, OnErr}
 use Rattle.nm_base.specs.declared.event.Origin.{Origin}
 use Rattle.nm_base.specs.declared.event.Origin.TheVariants.{Arrival, Source as FromSource}
+use Rattle.nm_iface.specs.PortValue.{PortValue}
 use Rattle.nm_packet.specs.Ipv4.{cut_of}
 use Rattle.nm_topology.specs.declared.traffic.Source.{Source}
 use Rattle.nm_topology.specs.declared.traffic.Traffic.{Traffic}
@@ -13,7 +14,7 @@ use Rattle.nm_topology.specs.TopologyValue.{TopologyValue}
 use Rattle.nm_forward.specs.State.{NodeConfiguration, NodeStateValue, table_of, state_counted}
 use Rattle.nm_forward.specs.Row.{arrival_row, row_counter}
 use Rattle.nm_forward.specs.Originate.{consequence_of, Consequence, Nothing, Counts, Sends, Originates, originate, concluded}
-use Rattle.nm_forward.specs.Reaction.{handed, handed_by, reaction, arrived, sent_of}
+use Rattle.nm_forward.specs.Reaction.{IsReaction, handed, handed_by, reaction, arrived}
 
 concluded-table : (c : Consequence) (n : NodeStateValue) → (concluded c n).0.table ≡ n.table
 concluded-table Nothing n = refl
@@ -49,8 +50,9 @@ module _ (t : TopologyValue) (v : ℕ) (n : NodeStateValue) (x : List ℕ) where
   reaction-table (FromSource j) = by-table (slice_get t.sources j)
 
 -- where a call leaves what the definition says, or what was there
-pub kept : {E : Type 0} (r : Result Reaction E) (new old : NodeStateValue)
-    (after : NodeStateValue × Option (ℕ × List ℕ)) → after.0.table ≡ old.table
-    → IfOk r (λ x. (new, sent_of x) ≡ after) → OnErr r (new ≡ old) → new.table ≡ old.table
-kept (Ok x) new old after same ok err = ap (λ p. p.0.table) ok ∙ same
-kept (Err e) new old after same ok err = ap (λ s. s.table) err
+pub kept : {E : Type 0} (ports : List (Option PortValue)) (r : Result Reaction E)
+    (new old : NodeStateValue) (after : NodeStateValue × Option (ℕ × List ℕ))
+    → after.0.table ≡ old.table
+    → IfOk r (λ x. IsReaction ports x new after) → OnErr r (new ≡ old) → new.table ≡ old.table
+kept ports (Ok x) new old after same ok err = ap (λ s. s.table) ok.0 ∙ same
+kept ports (Err e) new old after same ok err = ap (λ s. s.table) err

@@ -1,14 +1,19 @@
 //! What a node does with a packet.
 
-ghost use Rattle.std.specs.Prelude.{◌≡◌, ◌≤◌, IfOk, OnErr, length, slice_get};
+ghost use Rattle.std.specs.Prelude.{◌≡◌, ◌≤◌, ℕ, IfOk, IfSome, List, OnErr, Option, length};
+ghost use Rattle.std.specs.Prelude.{slice_get};
+ghost use Rattle.nm_base.specs.declared.limits.TheConstants.{MAX_PACKET_OCTETS};
+ghost use Rattle.nm_iface.specs.PortValue.{IsRefusedAt, PortValue};
 ghost use Rattle.nm_packet.specs.declared.limits.TheConstants.{MAX_PACKET_DATA};
 ghost use Rattle.nm_packet.specs.Ipv4.{fields_of};
 ghost use Rattle.nm_forward.specs.State.{Knows};
 ghost use Rattle.nm_forward.specs.Row.{IsPossible};
 ghost use Rattle.nm_forward.specs.Originate.{FitsPacket, concluded, consequence_of, originate};
 ghost use Rattle.nm_forward.specs.Prepared.{body_of, consequence, draft_of};
-ghost use Rattle.nm_forward.specs.Reaction.{FitsOrigin, FitsSource, FitsHeaders, arrived};
-ghost use Rattle.nm_forward.specs.Reaction.{datagram_of, handed, handed_by, reaction, sent_of};
+ghost use Rattle.nm_forward.specs.Reaction.{FitsOrigin, FitsSource, FitsHeaders, IsReaction};
+ghost use Rattle.nm_forward.specs.Reaction.{IsSent, arrived, datagram_of, handed, handed_by};
+ghost use Rattle.nm_forward.specs.Reaction.{reaction, sent_of};
+ghost use Rattle.nm_forward.specs.declared.row.Row.TheVariants.{Forward};
 
 use crate::counter::Counter;
 use crate::originate::{error, originate, reply};
@@ -16,6 +21,7 @@ use crate::prepared::{Body, Draft, Prepared};
 use crate::row::{Row, packet_row};
 use crate::state::NodeState;
 use nm_base::{IfaceNo, Origin, Packet, SourceNo, Twin};
+use nm_iface::Port;
 use nm_packet::icmp::{
     DESTINATION_UNREACHABLE, IN_TRANSIT, NETWORK_UNREACHABLE, PORT_UNREACHABLE,
     PROTOCOL_UNREACHABLE, TIME_EXCEEDED,
@@ -54,11 +60,16 @@ const EXPIRED: MessageKind = MessageKind {
 pub enum Reaction {
     Nothing,
     Send(IfaceNo, Twin),
+    /// The port of this interface drops the packet that would be sent on, so that its octets were
+    /// not copied.
+    Refused(IfaceNo),
 }
 
 /// What the node does with a packet from this origin, as docs/RULES.md says. A packet that arrives
 /// is looked at row by row; what a source hands over is originated, or goes by the source's
-/// interface as it is. The octets of a packet that is sent on are copied once, into the buffer.
+/// interface as it is. The octets of a packet that is sent on are copied once, into the buffer, and
+/// not at all where its port would drop it now. `ports` are those of the interfaces by their
+/// numbers, as far as they are here: they decide nothing else.
 ///
 /// The state is that of a node of this topology. A `cbr` source hands over its data, or one octet,
 /// which is not sent, where it has none; an `echo` source its whole ICMP message; a `raw` source a
@@ -73,20 +84,35 @@ pub fn react(
     alloc: Global,
     buffer: &mut PacketBuffer,
     topology: &Topology,
+    ports: &[Option<Port>],
     state: &mut NodeState,
     origin: Origin,
     packet: &Packet,
 ) -> Result<Reaction, AllocError>
     requires table { Knows topology.now state.old }
     requires fits { FitsOrigin topology.now origin packet.now }
-    ensures ok { IfOk result (λ r. (state.new, sent_of r)
-        ≡ reaction topology.now state.old.table.node state.old origin packet.now) }
+    ensures ok { IfOk result (λ r. IsReaction ports.now r state.new
+        (reaction topology.now state.old.table.node state.old origin packet.now)) }
     ensures kept { state.new.table ≡ state.old.table }
     ensures err { OnErr result (state.new ≡ state.old) }
 {
     match origin {
-        Origin::Arrival(_) => receive(alloc, buffer, topology, state, packet),
-        Origin::Source(source) => hand_over(alloc, topology, state, source, packet),
+        Origin::Arrival(_) => receive(alloc, buffer, topology, ports, state, packet),
+        Origin::Source(source) => {
+            let sent = hand_over(alloc, topology, state, source, packet)?;
+            Ok(reaction_of(sent))
+        }
+    }
+}
+
+/// A packet that is sent, and by which interface, or nothing.
+#[inline(always)]
+fn reaction_of(sent: Option<(IfaceNo, Twin)>) -> Reaction
+    ensures { (ports : List (Option PortValue)) → IsSent ports result (sent_of sent) }
+{
+    match sent {
+        Some((via, twin)) => Reaction::Send(via, twin),
+        None => Reaction::Nothing,
     }
 }
 
@@ -97,12 +123,13 @@ fn receive(
     alloc: Global,
     buffer: &mut PacketBuffer,
     topology: &Topology,
+    ports: &[Option<Port>],
     state: &mut NodeState,
     packet: &Packet,
 ) -> Result<Reaction, AllocError>
     requires { Knows topology.now state.old }
-    ensures ok { IfOk result (λ r. (state.new, sent_of r)
-        ≡ arrived topology.now.ifaces state.old.table state.old packet.now) }
+    ensures ok { IfOk result (λ r. IsReaction ports.now r state.new
+        (arrived topology.now.ifaces state.old.table state.old packet.now)) }
     ensures err { OnErr result (state.new ≡ state.old) }
 {
     let Ok(view) = Ipv4::read(packet.octets()) else {
@@ -110,9 +137,31 @@ fn receive(
         return Ok(Reaction::Nothing);
     };
     let row = packet_row(state, &view);
+    if let Some(via) = refused_at(ports, &row, view.octets().len()) {
+        state.count(row.counter());
+        return Ok(Reaction::Refused(via));
+    }
     let prepared = prepare_consequence(alloc, buffer, topology, state, &view, &row)?;
     state.count(row.counter());
-    Ok(carry_out(state, prepared))
+    let sent = carry_out(state, prepared);
+    Ok(reaction_of(sent))
+}
+
+/// The interface by which a packet of so many octets would be sent on, where its port would drop
+/// it now.
+#[inline(always)]
+fn refused_at(ports: &[Option<Port>], row: &Row<'_>, octets: usize) -> Option<IfaceNo>
+    requires { octets ≤ MAX_PACKET_OCTETS }
+    ensures { IfSome result (λ via. (row.now ≡ Forward via)
+        × ((x : List ℕ) → length x ≡ octets → IsRefusedAt ports.now via x)) }
+{
+    let Row::Forward(via) = row else {
+        return None;
+    };
+    match ports.get(via.index()) {
+        Some(Some(port)) if port.refuses(octets) => Some(*via),
+        _ => None,
+    }
 }
 
 /// Prepares what follows a row.
@@ -153,19 +202,19 @@ fn prepare_consequence(
 
 /// Counts what was prepared, and hands over what is sent.
 #[inline(always)]
-fn carry_out(state: &mut NodeState, prepared: Prepared) -> Reaction
+fn carry_out(state: &mut NodeState, prepared: Prepared) -> Option<(IfaceNo, Twin)>
     ensures { (state.new, sent_of result) ≡ concluded (consequence prepared) state.old }
 {
     match prepared {
-        Prepared::Nothing => Reaction::Nothing,
+        Prepared::Nothing => None,
         Prepared::Counts(counter) => {
             state.count(counter);
-            Reaction::Nothing
+            None
         }
-        Prepared::Sends(via, twin) => Reaction::Send(via, twin),
+        Prepared::Sends(via, twin) => Some((via, twin)),
         Prepared::Originates(via, twin) => {
             state.count_originated();
-            Reaction::Send(via, twin)
+            Some((via, twin))
         }
     }
 }
@@ -179,7 +228,7 @@ fn hand_over(
     state: &mut NodeState,
     source: SourceNo,
     packet: &Packet,
-) -> Result<Reaction, AllocError>
+) -> Result<Option<(IfaceNo, Twin)>, AllocError>
     requires table { Knows topology.now state.old }
     requires fits { FitsSource (slice_get topology.now.sources source) packet.now }
     ensures ok { IfOk result (λ r. (state.new, sent_of r) ≡ handed_by topology.now
@@ -190,7 +239,7 @@ fn hand_over(
         Some(source) if source.node == state.node() => {
             accept_from_source(alloc, topology, state, &source.traffic, packet)
         }
-        _ => Ok(Reaction::Nothing),
+        _ => Ok(None),
     }
 }
 
@@ -201,7 +250,7 @@ fn accept_from_source(
     state: &mut NodeState,
     traffic: &Traffic,
     packet: &Packet,
-) -> Result<Reaction, AllocError>
+) -> Result<Option<(IfaceNo, Twin)>, AllocError>
     requires table { Knows topology.now state.old }
     requires fits { FitsHeaders traffic.now packet.now }
     ensures ok { IfOk result (λ r. (state.new, sent_of r)
@@ -212,7 +261,7 @@ fn accept_from_source(
         Traffic::Raw(raw) => {
             let twin = Twin::new(packet.clone()?)?;
             state.count(Counter::Raw);
-            Ok(Reaction::Send(raw.via(), twin))
+            Ok(Some((raw.via(), twin)))
         }
         Traffic::Cbr(cbr) => {
             let datagram = Draft {
@@ -261,7 +310,7 @@ fn send_originated(
     topology: &Topology,
     state: &mut NodeState,
     draft: &Draft<'_>,
-) -> Result<Reaction, AllocError>
+) -> Result<Option<(IfaceNo, Twin)>, AllocError>
     requires table { Knows topology.now state.old }
     requires fits { FitsPacket (body_of draft.now.body) }
     ensures ok { IfOk result (λ r. (state.new, sent_of r) ≡ concluded (originate topology.now.ifaces

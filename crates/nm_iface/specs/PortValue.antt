@@ -1,8 +1,8 @@
 -- What contracts see of a port.
-use Rattle.std.specs.Prelude.{ℕ, ◌+◌, ltb, nat_le, max, Bool, true, ◌&&◌, List}
+use Rattle.std.specs.Prelude.{◌≡◌, ℕ, ◌+◌, ltb, nat_le, max, Bool, true, ◌&&◌, List, slice_get}
 use Rattle.std.specs.Prelude.{length, sum_by, Option, Some, None}
 use Rattle.nm_base.specs.Count.{saturated}
-use Rattle.nm_model.specs.Port.{Busy, Port}
+use Rattle.nm_model.specs.Port.{Busy, Port, is_refused}
 use Rattle.nm_iface.specs.Transmission.{transmission_time}
 
 -- how much may wait: packets, and octets if these are limited too
@@ -39,3 +39,8 @@ takes rate packet = transmission_time rate (max 1 (length packet))
 -- the port after, with memory for so many packets
 abbrev pub with_port : PortValue → Port (List ℕ) → ℕ → PortValue
 with_port p after room = record p { busy = after.busy; dropped = saturated after.dropped; room = room }
+
+-- port i of these drops the packet where it is offered: it is busy, and there is no room behind it
+abbrev pub IsRefusedAt : List (Option PortValue) → ℕ → List ℕ → Type 0
+IsRefusedAt ports i packet = (p : PortValue) × (slice_get ports i ≡ Some (Some p))
+    × (is_refused (has_room p.limit) packet p.busy ≡ true)

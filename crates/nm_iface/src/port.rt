@@ -3,7 +3,9 @@
 ghost use Rattle.std.specs.Prelude.{◌≡◌, ℕ, ◌+◌, ◌<◌, ◌≤◌, ◌^◌, if◌then◌else◌, List, Option, Some};
 ghost use Rattle.std.specs.Prelude.{None, OnOk, IfSome, IsSome, length};
 ghost use Rattle.std.specs.Option.{option_map};
-ghost use Rattle.nm_base.specs.declared.limits.TheConstants.{MAX_DELAY, MAX_RATE, MAX_TIME};
+ghost use Rattle.nm_base.specs.Count.{saturated};
+ghost use Rattle.nm_base.specs.declared.limits.TheConstants.{MAX_DELAY, MAX_PACKET_OCTETS};
+ghost use Rattle.nm_base.specs.declared.limits.TheConstants.{MAX_RATE, MAX_TIME};
 ghost use Rattle.nm_model.specs.Port.{offered, completed, is_refused, waiting_of};
 ghost use Rattle.nm_iface.specs.PortValue.{has_room, takes, with_port};
 ghost use Rattle.nm_iface.specs.Offers.{IsTransmission, handed_back, transmitted_packet};
@@ -162,13 +164,42 @@ impl Port {
             return Offered::Started(start);
         }
         let octets = twin.packet.octet_count();
-        if self.waiting.len() < usize::from(self.limit) && may_wait(self.octets, octets) {
+        if self.has_room(octets) {
             self.octets = with_more(self.octets, octets);
             self.waiting.push_back(twin).unwrap();
             return Offered::Queued;
         }
-        self.dropped = self.dropped.saturating_add(1);
+        self.count_drop();
         Offered::Dropped(twin)
+    }
+
+    /// Whether a packet of so many octets may wait behind those that wait.
+    #[inline(always)]
+    fn has_room(&self, octets: usize) -> bool
+        requires { octets ≤ MAX_PACKET_OCTETS }
+        ensures { (packet : List ℕ) → length packet ≡ octets
+            → result ≡ has_room self.now.limit (waiting_of self.now.busy) packet }
+    {
+        self.waiting.len() < usize::from(self.limit) && may_wait(self.octets, octets)
+    }
+
+    /// Whether a packet of so many octets would be dropped, if it were offered now: the port is
+    /// busy, and there is no room behind it.
+    #[inline(always)]
+    pub fn refuses(&self, octets: usize) -> bool
+        requires { octets ≤ MAX_PACKET_OCTETS }
+        ensures { (packet : List ℕ) → length packet ≡ octets
+            → result ≡ is_refused (has_room self.now.limit) packet self.now.busy }
+    {
+        self.busy_until.is_some() && !self.has_room(octets)
+    }
+
+    /// A packet was dropped.
+    #[inline(always)]
+    pub fn count_drop(&mut self)
+        ensures { self.new ≡ record self.old { dropped = saturated (self.old.dropped + 1) } }
+    {
+        self.dropped = self.dropped.saturating_add(1);
     }
 
     /// The transmission under way is complete, and that of the packet at the front of the queue

@@ -12,12 +12,14 @@ use Rattle.nm_model.specs.Lists.{set_at}
 use Rattle.nm_model.specs.Port.{Port}
 use Rattle.nm_forward.specs.State.{IsIfaceOf, NodeStateValue, table_of, table_from}
 use Rattle.nm_forward.specs.Originate.{Consequence, Nothing, Counts, Sends, Originates, concluded}
-use Rattle.nm_forward.specs.Reaction.{reaction, arrived, handed, handed_by}
+use Rattle.nm_forward.specs.declared.reaction.Reaction.{Reaction}
+use Rattle.nm_forward.specs.declared.reaction.Reaction.TheVariants as sent
+use Rattle.nm_forward.specs.Reaction.{IsReaction, IsSent, arrived, handed, handed_by, iface_of, reaction}
 use Rattle.nm_sim.specs.Devices.{DevicesValue, DevicesRepresent, IsNodeOf, IsPortOf}
 use Rattle.nm_sim.specs.Network.{is_iface_here, is_node_here, net_of}
 use Rattle.nm_sim.specs.Tables.{IsMember}
 use Rattle.nm_sim.proofs.Tables.{at_there, each_there}
-use Rattle.nm_sim.specs.Effects.{Reacts}
+use Rattle.nm_sim.specs.Effects.{Reacts, ReactsWith}
 use Rattle.nm_sim.proofs.Represents.{node_changed}
 
 concluded_keeps : (c : Consequence) (n : NodeStateValue) → (concluded c n).0.table ≡ n.table
@@ -74,17 +76,34 @@ module _ (t : TopologyValue) (part : Option ℕ) (d e : DevicesValue) (node : �
         sends = ap (λ z. z.1) r;
       }
 
+  -- with what it sends, or what the port there drops
+  pub reacts_with : (m : NodeStateValue) (o : Origin) (x : List ℕ) (r : Reaction)
+      → IsReaction d.ports r m (reaction t n.table.node n o x)
+      → e.nodes ≡ slice_set d.nodes v (Some m) → e.ports ≡ d.ports → e.sources ≡ d.sources
+      → ReactsWith t part node port v o x e r
+  reacts_with m o x r q nodes ports sources =
+      let sent = (reaction t n.table.node n o x).1 in (
+        sent,
+        subst (λ z. IsSent z r sent) (sym ports) q.1,
+        reacts_by m o x sent (λ k. (q.0 k, sent)) nodes ports sources,
+      )
+
   -- the interfaces of a node that is here have ports
   own_port : (i : ℕ) → IsIfaceOf t.ifaces v i → IsMember (slice_get d.ports i)
   unfolding net_of
   own_port i own = each_there (is_iface_here t part) (λ j w. IsPortOf t j w (port j)) d.ports s.ports i (omega (arith, own.0, s.port_count))
       (ap (is_node_here t part) own.1 ∙ node_is.0)
 
-  pub sends_by_own : (o : Origin) (x : List ℕ) (m : NodeStateValue) (sent : Option (ℕ × List ℕ))
+  -- so it sends by an interface that is here
+  pub sends_by_own : (o : Origin) (x : List ℕ) (r : Reaction)
       → ((v : ℕ) (n : NodeStateValue) (o : Origin) (x : List ℕ) (s : ℕ × List ℕ) → (reaction t v n o x).1 ≡ Some s → IsIfaceOf t.ifaces v s.0)
-      → (m, sent) ≡ reaction t n.table.node n o x → IfSome sent (λ s. IsMember (slice_get d.ports s.0))
-  sends_by_own o x m sent own q = go sent (ap (λ z. z.1) q)
+      → IsSent d.ports r (reaction t n.table.node n o x).1 → IfSome (iface_of r) (λ i. IsMember (slice_get d.ports i))
+  sends_by_own o x r own q = go r q
     where
-      go : (a : Option (ℕ × List ℕ)) → a ≡ (reaction t n.table.node n o x).1 → IfSome a (λ s. IsMember (slice_get d.ports s.0))
-      go None e = tt
-      go (Some a) e = own_port a.0 (subst (λ u. IsIfaceOf t.ifaces u a.0) number_is (own n.table.node n o x a (sym e)))
+      leaves : (via : ℕ) (y : List ℕ) → (reaction t n.table.node n o x).1 ≡ Some (via, y) → IsMember (slice_get d.ports via)
+      leaves via y e = own_port via (subst (λ u. IsIfaceOf t.ifaces u via) number_is (own n.table.node n o x (via, y) e))
+
+      go : (a : Reaction) → IsSent d.ports a (reaction t n.table.node n o x).1 → IfSome (iface_of a) (λ i. IsMember (slice_get d.ports i))
+      go sent.Nothing p = tt
+      go (sent.Send via twin) p = leaves via twin.packet p
+      go (sent.Refused via) p = leaves via p.0 p.1

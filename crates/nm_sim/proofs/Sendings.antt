@@ -1,9 +1,10 @@
 -- What a node sends is offered to a port.
-use Rattle.std.proofs.Common.{◌≡◌, ℕ, ◌<◌, List, length, Option, Some, None, slice_get, slice_set, refl, sym, ap, ◌∙◌, subst, arith}
+use Rattle.std.proofs.Common.{◌≡◌, ℕ, ◌+◌, ◌<◌, Bool, true, false, cond, not, List, [], ◌∷◌, ◌++◌, length, Option, Some, None, slice_get, slice_set, refl, sym, ap, ◌∙◌, subst, arith}
 use Rattle.std.specs.Option.{IfSome}
 use Rattle.std.proofs.lemmas.Option.{slice_get_within}
 use Rattle.nm_topology.specs.TopologyValue.{TopologyValue}
-use Rattle.nm_model.specs.Port.{Port, offered}
+use Rattle.nm_base.specs.Count.{saturated}
+use Rattle.nm_model.specs.Port.{Busy, Port, is_refused, offered}
 use Rattle.nm_model.specs.Run.{at_iface}
 use Rattle.nm_forward.specs.State.{NodeStateValue}
 use Rattle.nm_iface.specs.PortValue.{PortValue, has_room, takes, with_port}
@@ -28,6 +29,26 @@ transmits_here t part d node port s time i w here (Some z) h =
     let p = at_there (is_iface_here t part) (λ j v. IsPortOf t j v (port j)) d.ports s.ports i w here in
     let within : i < length t.ifaces = omega (arith, s.port_count, slice_get_within d.ports i (Some w) here) in
     ((within, p.0), subst (λ (y : ℕ × ℕ). IsTransmission y.0 y.1 time z.twin.packet z) (λ k. (p.1.rate k, p.1.delay k)) h)
+
+-- a busy port without room for a packet drops it
+refused_is : (w : PortValue) (x : List ℕ) (time : ℕ) → is_refused (has_room w.limit) x w.busy ≡ true
+    → (with_port w (offered (has_room w.limit) (takes w.rate) time x w.dropped w.busy).0 w.room ≡ record w { dropped = saturated (w.dropped + 1) })
+    × (None ≡ (offered (has_room w.limit) (takes w.rate) time x w.dropped w.busy).1)
+refused_is w x time refused = go w.busy refl refused
+  where
+    go : (o : Option (Busy (List ℕ))) → w.busy ≡ o → is_refused (has_room w.limit) x o ≡ true
+        → (with_port w (offered (has_room w.limit) (takes w.rate) time x w.dropped o).0 w.room ≡ record w { dropped = saturated (w.dropped + 1) })
+        × (None ≡ (offered (has_room w.limit) (takes w.rate) time x w.dropped o).1)
+    go None e r = cc
+    go (Some b) e r = full (has_room w.limit b.waiting x) r
+      where
+        full : (q : Bool) → not q ≡ true
+            → (with_port w (cond {A = Port (List ℕ) × Option (List ℕ)} q (record { busy = Some (record { completes = b.completes; waiting = b.waiting ++ x ∷ [] }); dropped = w.dropped }, None)
+            (record { busy = Some b; dropped = w.dropped + 1 }, None)).0 w.room ≡ record w { dropped = saturated (w.dropped + 1) })
+            × (None ≡ (cond {A = Port (List ℕ) × Option (List ℕ)} q (record { busy = Some (record { completes = b.completes; waiting = b.waiting ++ x ∷ [] }); dropped = w.dropped }, None)
+            (record { busy = Some b; dropped = w.dropped + 1 }, None)).1)
+        full true r = cc
+        full false r = (λ k. record w { busy = sym e k; dropped = saturated (w.dropped + 1) }, refl)
 
 module _ (t : TopologyValue) (part : Option ℕ) (d e : DevicesValue) (node : ℕ → NodeStateValue) (port : ℕ → Port (List ℕ)) (s : DevicesRepresent t part d node port) (time : ℕ) where
   -- nothing is sent
@@ -59,3 +80,12 @@ module _ (t : TopologyValue) (part : Option ℕ) (d e : DevicesValue) (node : �
           transmission = λ n came follows. transmission_of_at i start ∙ ap (at_iface i) (packet ∙ same.2);
           transmits = transmits_here t part d node port s time i w here start (own_packet start transmits);
         }
+
+  -- it is dropped
+  pub drops_by : (i : ℕ) (x : List ℕ) (w : PortValue) → slice_get d.ports i ≡ Some (Some w)
+      → is_refused (has_room w.limit) x w.busy ≡ true → e.nodes ≡ d.nodes
+      → e.ports ≡ slice_set d.ports i (Some (record w { dropped = saturated (w.dropped + 1) }))
+      → e.sources ≡ d.sources → Sends t part node port time (Some (i, x)) e None
+  drops_by i x w here refused nodes ports sources =
+      let is = refused_is w x time refused in
+      sends_by i x w w.room None here nodes (ports ∙ ap (λ v. slice_set d.ports i (Some v)) (sym is.0)) sources is.1 tt

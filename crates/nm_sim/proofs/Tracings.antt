@@ -1,7 +1,6 @@
 -- A run whose records are handed on: what it has recorded stays, at its place, in the whole trace.
-use Rattle.std.proofs.Common.{◌≡◌, ℕ, zero, suc, ◌+◌, ◌<◌, ◌≤◌, min, true, false, List, [], ◌∷◌, ◌++◌, length, slice_get, is_some, cond, Option, Some, None, Ok, refl, sym, ◌∙◌, ap, subst, arith, ⊎_elim, append_assoc}
+use Rattle.std.proofs.Common.{◌≡◌, ℕ, zero, suc, ◌<◌, ◌≤◌, true, false, List, [], ◌∷◌, ◌++◌, length, slice_get, Option, Some, None, Ok, sym, ◌∙◌, ap, subst, arith, ⊎_elim}
 use Rattle.std.proofs.lemmas.Bool.{cases_lt}
-use Rattle.std.proofs.lemmas.Option.{slice_get_within}
 use Rattle.std.specs.FinMap.{FinMap}
 use Rattle.nm_base.specs.declared.event.Event.{Event}
 use Rattle.nm_base.specs.declared.key.Key.{Key}
@@ -13,7 +12,7 @@ use Rattle.nm_model.specs.EventList.{least}
 use Rattle.nm_model.specs.Network.{Net}
 use Rattle.nm_model.specs.Run.{State, one_list, pends_before, step_at}
 use Rattle.nm_sim.specs.Network.{net_of}
-use Rattle.nm_sim.specs.Part.{Advanced, PartValue, Represents}
+use Rattle.nm_sim.specs.Part.{Advanced, PartValue}
 use Rattle.nm_sim.specs.Trace.{IsTraceBefore, IsTracing}
 
 -- what stands in a list stands in a longer one

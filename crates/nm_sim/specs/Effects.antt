@@ -14,7 +14,8 @@ use Rattle.nm_model.specs.Network.{node_of}
 use Rattle.nm_model.specs.Port.{Port}
 use Rattle.nm_model.specs.Run.{Effect, effect, sent_on, turned}
 use Rattle.nm_forward.specs.State.{NodeStateValue}
-use Rattle.nm_forward.specs.Reaction.{FitsOrigin, reaction}
+use Rattle.nm_forward.specs.declared.reaction.Reaction.{Reaction}
+use Rattle.nm_forward.specs.Reaction.{FitsOrigin, IsSent, reaction}
 use Rattle.nm_iface.specs.PortValue.{PortValue}
 use Rattle.nm_iface.specs.declared.port.Start.{Start}
 use Rattle.nm_iface.specs.Offers.{IsTransmission}
@@ -83,3 +84,9 @@ pub record Sends (t : TopologyValue) (part : Option ℕ) (node : ℕ → NodeSta
 pub record Reacts (t : TopologyValue) (part : Option ℕ) (node : ℕ → NodeStateValue) (port : ℕ → Port (List ℕ)) (v : ℕ) (o : Origin) (x : List ℕ) (d : DevicesValue) (sent : Option (ℕ × List ℕ)) : Type 0 where
   pub represented : DevicesRepresent t part d (set_at node v (reaction t v (node v) o x).0) port
   pub sends : sent ≡ (reaction t v (node v) o x).1
+
+-- node v has reacted to a packet, and this is its reaction
+abbrev pub ReactsWith : TopologyValue → Option ℕ → (ℕ → NodeStateValue) → (ℕ → Port (List ℕ)) → ℕ
+    → Origin → List ℕ → DevicesValue → Reaction → Type 0
+ReactsWith t part node port v o x d r = (sent : Option (ℕ × List ℕ)) × IsSent d.ports r sent
+    × Reacts t part node port v o x d sent

@@ -8,7 +8,8 @@ ghost use Rattle.nm_base.specs.declared.event.Event.TheVariants.{Completion};
 ghost use Rattle.nm_model.specs.Network.{node_of};
 ghost use Rattle.nm_model.specs.Port.{Port as PortState, idle_port, waiting_of};
 ghost use Rattle.nm_forward.specs.State.{NodeStateValue, first_state};
-ghost use Rattle.nm_forward.specs.Reaction.{FitsOrigin, sent_of};
+ghost use Rattle.nm_forward.specs.Reaction.{FitsOrigin, IsSent, iface_of};
+ghost use Rattle.nm_iface.specs.PortValue.{IsRefusedAt};
 ghost use Rattle.nm_sim.specs.Network.{first_here, is_iface_here as iface_here};
 ghost use Rattle.nm_sim.specs.Network.{is_node_here as node_here, is_source_here as source_here};
 ghost use Rattle.nm_sim.specs.Network.{net_of};
@@ -19,12 +20,12 @@ ghost use Rattle.nm_traffic.specs.Source.{source_at, source_of};
 ghost use Rattle.nm_forward.specs.Counter.{counter_number};
 ghost use Rattle.std.specs.Option.{option_and_then, option_map};
 ghost use Rattle.nm_sim.specs.Part.{completes_at};
-ghost use Rattle.nm_sim.specs.Effects.{Does, IsBusy, Reacts, Sends};
+ghost use Rattle.nm_sim.specs.Effects.{Does, IsBusy, ReactsWith, Sends};
 ghost use Rattle.nm_sim.specs.Effects.{transmission_at as transmission_at_iface};
 
 use crate::fired::Fired;
 use crate::here::{is_iface_here, is_node_here, is_source_here, node_of_source};
-use nm_base::{IfaceNo, NodeNo, Origin, Packet, PartNo, SourceNo, Time};
+use nm_base::{IfaceNo, NodeNo, Origin, Packet, PartNo, SourceNo, Time, Twin};
 use nm_forward::laws::a_node_sends_by_its_own_interfaces;
 use nm_forward::{Counter, NodeState, Reaction, react};
 use nm_iface::port::Offered;
@@ -334,16 +335,41 @@ impl Devices {
         reaction: Reaction,
     ) -> Option<(IfaceNo, Start)>
         requires time { time ≤ MAX_TIME }
-        requires own { IfSome (sent_of reaction) (λ s. IsMember (slice_get self.old.ports s.0)) }
+        requires own { IfSome (iface_of reaction) (λ i. IsMember (slice_get self.old.ports i)) }
+        requires room { AllSome (λ i w. 1 ≤ w.room) self.old.ports }
+        ensures sends { (part : Option ℕ) (node : ℕ → NodeStateValue)
+            (port : ℕ → PortState (List ℕ)) (sent : Option (ℕ × List ℕ))
+            → DevicesRepresent topology.now part self.old node port
+            → IsSent self.old.ports reaction sent
+            → Sends topology.now part node port time sent self.new result }
+    {
+        match reaction {
+            Reaction::Nothing => None,
+            Reaction::Send(iface, twin) => self.offer_packet(topology, time, iface, twin),
+            Reaction::Refused(iface) => {
+                self.drop_at(topology, iface);
+                None
+            }
+        }
+    }
+
+    /// A packet is offered to an interface: the transmission that starts, and where, if one does.
+    #[inline(always)]
+    fn offer_packet(
+        &mut self,
+        topology: &Topology,
+        time: Time,
+        iface: IfaceNo,
+        twin: Twin,
+    ) -> Option<(IfaceNo, Start)>
+        requires time { time ≤ MAX_TIME }
+        requires own { IsMember (slice_get self.old.ports iface) }
         requires room { AllSome (λ i w. 1 ≤ w.room) self.old.ports }
         ensures sends { (part : Option ℕ) (node : ℕ → NodeStateValue)
             (port : ℕ → PortState (List ℕ))
             → DevicesRepresent topology.now part self.old node port
-            → Sends topology.now part node port time (sent_of reaction) self.new result }
+            → Sends topology.now part node port time (Some (iface, twin.packet)) self.new result }
     {
-        let Reaction::Send(iface, twin) = reaction else {
-            return None;
-        };
         self.used = Some(iface);
         let Some(port) = &mut self.ports[iface.index()] else {
             return None;
@@ -352,6 +378,22 @@ impl Devices {
             Offered::Started(start) => Some((iface, start)),
             Offered::Queued | Offered::Dropped(_) => None,
         }
+    }
+
+    /// A packet that the port of this interface drops where it is offered now is dropped.
+    #[inline(always)]
+    fn drop_at(&mut self, topology: &Topology, iface: IfaceNo)
+        requires { IsMember (slice_get self.old.ports iface) }
+        ensures { (part : Option ℕ) (node : ℕ → NodeStateValue) (port : ℕ → PortState (List ℕ))
+            (time : ℕ) (packet : List ℕ)
+            → DevicesRepresent topology.now part self.old node port
+            → IsRefusedAt self.old.ports iface packet
+            → Sends topology.now part node port time (Some (iface, packet)) self.new None }
+    {
+        let Some(port) = &mut self.ports[iface.index()] else {
+            return;
+        };
+        port.count_drop();
     }
 
     /// What a node does with a packet. An `Err` changes nothing.
@@ -375,19 +417,27 @@ impl Devices {
 
         // It reacts as its rules say, and sends by an interface that is here.
         ensures own { IfOk result
-            (λ r. IfSome (sent_of r) (λ s. IsMember (slice_get self.new.ports s.0))) }
+            (λ r. IfSome (iface_of r) (λ i. IsMember (slice_get self.new.ports i))) }
         ensures reacts { (part : Option ℕ) (states : ℕ → NodeStateValue)
             (ports : ℕ → PortState (List ℕ))
             → DevicesRepresent topology.now part self.old states ports
             → IfOk result
-            (λ r. Reacts topology.now part states ports node origin packet.now self.new
-            (sent_of r)) }
+            (ReactsWith topology.now part states ports node origin packet.now self.new) }
     {
         a_node_sends_by_its_own_interfaces(topology); // law: what is sent leaves by an interface
         let Some(state) = &mut self.nodes[node.index()] else {
             return Ok(Reaction::Nothing);
         };
-        react(alloc, &mut self.buffer, topology, state, origin, packet)
+        let ports = &self.ports[..];
+        react(
+            alloc,
+            &mut self.buffer,
+            topology,
+            ports,
+            state,
+            origin,
+            packet,
+        )
     }
 
     /// What the node of an interface does with a packet that arrives there. An `Err` changes
@@ -410,14 +460,13 @@ impl Devices {
 
         // Its node reacts as its rules say, and sends by an interface that is here.
         ensures own { IfOk result
-            (λ r. IfSome (sent_of r) (λ s. IsMember (slice_get self.new.ports s.0))) }
+            (λ r. IfSome (iface_of r) (λ i. IsMember (slice_get self.new.ports i))) }
         ensures reacts { (part : Option ℕ) (states : ℕ → NodeStateValue)
             (ports : ℕ → PortState (List ℕ))
             → DevicesRepresent topology.now part self.old states ports
             → IfOk result
-            (λ r. Reacts topology.now part states ports ((net_of topology.now).owner iface)
-            (Arrival iface) packet.now
-            self.new (sent_of r)) }
+            (ReactsWith topology.now part states ports ((net_of topology.now).owner iface)
+            (Arrival iface) packet.now self.new) }
     {
         accepted_topologies_are_in_order(topology); // law: an interface's node is there
         let node = topology.iface(iface).node();
@@ -471,16 +520,16 @@ impl Devices {
 
         // Its node reacts as its rules say, and sends by an interface that is here.
         ensures own { IfOk result
-            (λ f. IfSome (sent_of f.reaction) (λ s. IsMember (slice_get self.new.ports s.0))) }
+            (λ f. IfSome (iface_of f.reaction) (λ i. IsMember (slice_get self.new.ports i))) }
         ensures follows { IfOk result
             (λ f. f.follows ≡ source_at topology.now source (number + 1)) }
         ensures reacts { (part : Option ℕ) (states : ℕ → NodeStateValue)
             (ports : ℕ → PortState (List ℕ))
             → DevicesRepresent topology.now part self.old states ports
             → IfOk result
-            (λ f. Reacts topology.now part states ports ((net_of topology.now).source_node source)
-            (FromSource source)
-            packet.now self.new (sent_of f.reaction)) }
+            (λ f. ReactsWith topology.now part states ports
+            ((net_of topology.now).source_node source) (FromSource source) packet.now self.new
+            f.reaction) }
     {
         let Some(state) = &self.sources[source.index()] else {
             return Ok(Fired {

@@ -15,7 +15,7 @@ ghost use Rattle.nm_model.specs.Partition.{comes_in};
 ghost use Rattle.nm_model.specs.Port.{Port as PortState};
 ghost use Rattle.nm_model.specs.Run.{State, start, step, source_events};
 ghost use Rattle.nm_forward.specs.State.{NodeStateValue};
-ghost use Rattle.nm_forward.specs.Reaction.{FitsOrigin, sent_of};
+ghost use Rattle.nm_forward.specs.Reaction.{FitsOrigin, IsSent, iface_of};
 ghost use Rattle.nm_sim.specs.Network.{here_of, net_of};
 ghost use Rattle.nm_sim.specs.Outgoing.{HaveSpare};
 ghost use Rattle.nm_sim.specs.Part.{Advanced, HasMemory, HasReacted, IsReady, IsUnderWay};
@@ -535,8 +535,8 @@ impl<L: EventList> Part<L> {
     fn send(&mut self, topology: &Topology, time: Time, reaction: Reaction)
         // What the node sends leaves by an interface that is here, in time.
         requires time { time ≤ MAX_TIME }
-        requires own { IfSome (sent_of reaction)
-            (λ z. IsMember (slice_get self.old.devices.ports z.0)) }
+        requires own { IfSome (iface_of reaction)
+            (λ i. IsMember (slice_get self.old.devices.ports i)) }
         requires steps { self.old.steps < 2 ^ 62 }
 
         // There is memory for what may follow.
@@ -548,14 +548,16 @@ impl<L: EventList> Part<L> {
         // The node has reacted, and the step is done.
         requires reacted { (part : Option ℕ) × (n : ℕ) × (e : PendingEvent (List ℕ))
             × (came : Option (ℕ × List ℕ)) × (follows : Option (ℕ × ℕ × List ℕ))
-            × (node : ℕ → NodeStateValue) × (s : State (List ℕ) NodeStateValue)
-            × HasReacted L.pending topology.now part time n e came follows
-            (sent_of reaction) node self.old s }
+            × (sent : Option (ℕ × List ℕ)) × (node : ℕ → NodeStateValue)
+            × (s : State (List ℕ) NodeStateValue)
+            × IsSent self.old.devices.ports reaction sent
+            × HasReacted L.pending topology.now part time n e came follows sent node self.old s }
         ensures represents { (part : Option ℕ) (n : ℕ) (e : PendingEvent (List ℕ))
             (came : Option (ℕ × List ℕ)) (follows : Option (ℕ × ℕ × List ℕ))
-            (node : ℕ → NodeStateValue) (s : State (List ℕ) NodeStateValue)
-            → HasReacted L.pending topology.now part time n e came follows
-            (sent_of reaction) node self.old s
+            (sent : Option (ℕ × List ℕ)) (node : ℕ → NodeStateValue)
+            (s : State (List ℕ) NodeStateValue)
+            → IsSent self.old.devices.ports reaction sent
+            → HasReacted L.pending topology.now part time n e came follows sent node self.old s
             → Represents L.pending topology.now part self.new
             (step (net_of topology.now) (here_of topology.now part) s) }
 

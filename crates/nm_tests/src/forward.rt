@@ -1,5 +1,5 @@
-//! `nm_forward`: the names of counters, look-ups of routes beside a plain scan, and whose sources a
-//! node takes from.
+//! `nm_forward`: the names of counters, look-ups of routes beside a plain scan, whose sources a node
+//! takes from, and what it sends on to a port that would drop it.
 
 ghost use Rattle.std.specs.Prelude.{◌≡◌};
 ghost use Rattle.nm_forward.specs.State.{table_of};
@@ -7,8 +7,9 @@ ghost use Rattle.nm_forward.specs.State.{table_of};
 use crate::same::{eq_number, eq_text, holds};
 use crate::texts::TRIO;
 use bytes::Bytes;
-use nm_base::{IfaceNo, NodeNo, Packet, SourceNo};
+use nm_base::{IfaceNo, NodeNo, Packet, SourceNo, Time, Twin};
 use nm_forward::{Counter, NodeState, Origin, Reaction, Routes, react};
+use nm_iface::Port;
 use nm_packet::{Address, PacketBuffer};
 use nm_topology::parts::Route;
 use nm_topology::{Prefix, Topology};
@@ -226,10 +227,21 @@ impl Bench {
         })
     }
 
-    /// What the node does with a packet, which has at most 65,507 octets.
+    /// What the node does with a packet, which has at most 65,507 octets, where no port is known.
     pub fn react(
         &mut self,
         rt: &(impl Abort + AllocGlobal),
+        origin: Origin,
+        packet: &Packet,
+    ) -> Result<Reaction, AllocError> {
+        self.react_before(rt, &[], origin, packet)
+    }
+
+    /// The same where these are the ports of the interfaces.
+    pub fn react_before(
+        &mut self,
+        rt: &(impl Abort + AllocGlobal),
+        ports: &[Option<Port>],
         origin: Origin,
         packet: &Packet,
     ) -> Result<Reaction, AllocError> {
@@ -238,6 +250,7 @@ impl Bench {
             rt.alloc(),
             &mut self.buffer,
             &self.topology,
+            ports,
             &mut self.state,
             origin,
             packet,
@@ -287,5 +300,62 @@ fn sources_are_of_one_node(rt: HostRuntime) {
     let packet = one_octet(&rt);
     for (node, source) in [(1, 0), (2, 0), (0, 3), (0, 6), (0, u32::MAX)] {
         takes_nothing(&rt, node, source, &packet);
+    }
+}
+
+/// A datagram of host a to host b.
+const DATAGRAM: &[u8] =
+    b"\x45\x00\x00\x1e\x00\x00\x00\x00\x40\x11\x65\xcd\x0a\x00\x00\x01\x0a\x00\x01\x02\
+\x03\xe8\x00\x09\x00\x0a\xfe\xff\xe7\xe6";
+
+fn packet_of(rt: &(impl Abort + AllocGlobal), octets: &[u8]) -> Packet {
+    let octets = Bytes::copy_from_slice(rt.alloc(), octets).expect(rt, "there is memory");
+    Packet::new(octets).expect(rt, "it fits")
+}
+
+/// A port behind which so many packets may wait, to which so many datagrams were offered.
+fn port_with(rt: &(impl Abort + AllocGlobal), queue: u16, offers: usize) -> Port {
+    let mut port = Port::new(rt.alloc(), queue, None, 8_000_000, 0);
+    for _ in 0..offers {
+        port.reserve_one().expect(rt, "there is memory");
+        let twin = Twin::new(packet_of(rt, DATAGRAM)).expect(rt, "there is memory");
+        port.offer(Time::from_nanoseconds(0), twin);
+    }
+    port
+}
+
+/// The router of the trio sends the datagram on by interface 2. It says whether its octets were
+/// not copied since this port there drops it; the packet is counted all the same.
+fn is_refused(rt: &(impl Abort + AllocGlobal), port: Option<Port>) -> bool {
+    let mut bench = node_of_trio(rt, 1);
+    let origin = Origin::Arrival(IfaceNo::new(1));
+    let packet = packet_of(rt, DATAGRAM);
+    let ports = [None, None, port];
+    let reaction = bench
+        .react_before(rt, &ports, origin, &packet)
+        .expect(rt, "there is memory");
+    eq_number(rt, "forwarded", bench.count(Counter::Forwarded), 1);
+    match reaction {
+        Reaction::Nothing => panic!(rt; "it is sent"),
+        Reaction::Send(via, twin) => {
+            eq_number(rt, "via", u64::from(via.number()), 2);
+            eq_number(rt, "time to live", u64::from(twin.packet.octets()[8]), 63);
+            false
+        }
+        Reaction::Refused(via) => {
+            eq_number(rt, "via", u64::from(via.number()), 2);
+            true
+        }
+    }
+}
+
+/// Rows of how many packets may wait at the port, how many were offered to it, and whether it
+/// drops one more.
+#[test]
+fn full_ports_take_no_copy(rt: HostRuntime) {
+    holds(&rt, "no port", !is_refused(&rt, None));
+    for (queue, offers, want) in [(0, 0, false), (0, 1, true), (2, 2, false), (2, 3, true)] {
+        let port = port_with(&rt, queue, offers);
+        assert!(rt; is_refused(&rt, Some(port)) == want, "{queue} and {offers}");
     }
 }

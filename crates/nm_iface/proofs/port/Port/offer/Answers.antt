@@ -8,8 +8,8 @@ use Rattle.nm_iface.proofs.port.Port.offer.Goals as goal
 abbrev octets : List Twin → ℕ
 octets ws = octets_of (λ w. w.packet) ws
 
-pub invariant_of-self-then-may_wait : goal.invariant_of-self-then-may_wait
-invariant_of-self-then-may_wait c =
+pub invariant_of-self-then-has_room : goal.invariant_of-self-then-has_room
+invariant_of-self-then-has_room c =
     let I = c.self.invariant in
     let ws = c.self.inside.waiting.items in
     let put : is_ok c.push_back.result ≡ true = ap is_ok c.unwrap.ensures in

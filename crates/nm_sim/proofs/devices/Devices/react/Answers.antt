@@ -1,12 +1,12 @@
 use Rattle.std.proofs.Common.{◌≡◌, ◌<◌, length, Some, slice_get, slice_set, refl, sym, ap, ◌∙◌, subst, rules}
-use Rattle.nm_forward.specs.Reaction.{sent_of}
 use Rattle.std.proofs.lemmas.Option.{slice_get_read}
 use Rattle.std.proofs.lemmas.Result.{IfOk-weaker}
+use Rattle.nm_forward.specs.Reaction.{IsReaction, IsSent, reaction}
 use Rattle.nm_sim.specs.contracts.devices.Devices.{the_view}
 use Rattle.nm_sim.specs.Devices.{DevicesValue, DevicesRepresentSome}
 use Rattle.nm_sim.specs.Tables.{IsMember}
 use Rattle.nm_sim.proofs.Tables.{member_within}
-use Rattle.nm_sim.proofs.Reactings.{reacts_by, sends_by_own, table_is}
+use Rattle.nm_sim.proofs.Reactings.{reacts_with, sends_by_own, table_is}
 use Rattle.nm_sim.proofs.devices.Devices.react.Goals as goal
 
 pub react-requires-clause-table : goal.react-requires-clause-table
@@ -24,7 +24,8 @@ returns-clause-own c =
     let within : c.args.node < length c.self.inside.nodes.items = member_within c.self.inside.nodes.items c.args.node member in
     let here : slice_get c.self.inside.nodes.items c.args.node ≡ Some c.index_mut.result.now = search (rules, slice_get_read) in
     IfOk-weaker c.react.result _ _ (λ r q. sends_by_own c.args.topology.now z.0 (the_view c.self.inside) (the_view c.self.inside) z.1 z.2 z.3 c.args.node c.in-Some.state (here ∙ ap Some c.in-Some.is)
-    c.args.origin c.args.packet.now c.react.new.state (sent_of r) c.a_node_sends_by_its_own_interfaces.ensures q) c.react.ensures.ok
+    c.args.origin c.args.packet.now r c.a_node_sends_by_its_own_interfaces.ensures
+    (subst (λ z. IsSent z r (reaction c.args.topology.now c.in-Some.state.table.node c.in-Some.state c.args.origin c.args.packet.now).1) c.deref.ensures.value q.1)) c.react.ensures.ok
 
 pub returns-clause-reacts : goal.returns-clause-reacts
 returns-clause-reacts c = rw (← c.self.view_is) (λ part states ports s.
@@ -32,5 +33,6 @@ returns-clause-reacts c = rw (← c.self.view_is) (λ part states ports s.
     let within : c.args.node < length c.self.inside.nodes.items = member_within c.self.inside.nodes.items c.args.node member in
     let here : slice_get c.self.inside.nodes.items c.args.node ≡ Some c.index_mut.result.now = search (rules, slice_get_read) in
     let after : DevicesValue = record { nodes = slice_set c.self.inside.nodes.items c.index.result (Some c.react.new.state); ports = c.self.inside.ports.items; sources = c.self.inside.sources.items; used = c.self.inside.used } in
-    IfOk-weaker c.react.result _ _ (λ r q. reacts_by c.args.topology.now part (the_view c.self.inside) after states ports s c.args.node c.in-Some.state (here ∙ ap Some c.in-Some.is)
-    c.react.new.state c.args.origin c.args.packet.now (sent_of r) q (ap (λ k. slice_set c.self.inside.nodes.items k (Some c.react.new.state)) c.index.ensures) refl refl) c.react.ensures.ok)
+    IfOk-weaker c.react.result _ _ (λ r q. reacts_with c.args.topology.now part (the_view c.self.inside) after states ports s c.args.node c.in-Some.state (here ∙ ap Some c.in-Some.is)
+    c.react.new.state c.args.origin c.args.packet.now r
+    (subst (λ z. IsReaction z r c.react.new.state (reaction c.args.topology.now c.in-Some.state.table.node c.in-Some.state c.args.origin c.args.packet.now)) c.deref.ensures.value q) (ap (λ k. slice_set c.self.inside.nodes.items k (Some c.react.new.state)) c.index.ensures) refl refl) c.react.ensures.ok)

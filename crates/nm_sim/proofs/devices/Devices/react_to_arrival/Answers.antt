@@ -1,8 +1,7 @@
 use Rattle.std.proofs.Common.{length, ◌<◌, sym, ◌∙◌, subst}
 use Rattle.std.specs.Result.{IfOk}
 use Rattle.nm_base.specs.declared.event.Origin.TheVariants.{Arrival}
-use Rattle.nm_forward.specs.Reaction.{sent_of}
-use Rattle.nm_sim.specs.Effects.{Reacts}
+use Rattle.nm_sim.specs.Effects.{ReactsWith}
 use Rattle.nm_sim.proofs.Networks.{all_at, owner_is}
 use Rattle.nm_sim.proofs.Represents.{iface_node}
 use Rattle.nm_sim.proofs.devices.Devices.react_to_arrival.Goals as goal
@@ -18,5 +17,5 @@ react-requires-clause-node c =
 pub returns-clause-reacts : goal.returns-clause-reacts
 returns-clause-reacts c = λ part states ports s.
     let owner = owner_is c.args.topology.now c.args.iface c.iface.result.now c.iface.ensures ∙ sym c.node-node.ensures in
-    subst (λ v. IfOk c.react.result (λ r. Reacts c.args.topology.now part states ports v (Arrival c.args.iface) c.args.packet.now c.react.new.self (sent_of r)))
+    subst (λ v. IfOk c.react.result (ReactsWith c.args.topology.now part states ports v (Arrival c.args.iface) c.args.packet.now c.react.new.self))
     (sym owner) (c.react.ensures.reacts part states ports s)

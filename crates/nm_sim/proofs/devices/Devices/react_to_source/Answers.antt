@@ -1,13 +1,12 @@
 use Rattle.std.proofs.Common.{◌≡◌, ◌<◌, length, Some, slice_get, sym, ap, ◌∙◌, subst, rules}
 use Rattle.std.proofs.lemmas.Option.{slice_get_read}
 use Rattle.nm_base.specs.declared.event.Origin.TheVariants.{Source}
-use Rattle.nm_forward.specs.Reaction.{sent_of}
 use Rattle.nm_traffic.specs.Source.{source_of}
 use Rattle.nm_sim.specs.Devices.{DevicesValue, DevicesRepresentSome}
 use Rattle.nm_sim.specs.Network.{is_source_here}
 use Rattle.nm_sim.specs.Tables.{IsMember}
 use Rattle.nm_sim.specs.contracts.devices.Devices.{the_view}
-use Rattle.nm_sim.specs.Effects.{Reacts}
+use Rattle.nm_sim.specs.Effects.{ReactsWith}
 use Rattle.nm_sim.proofs.Networks.{source_is}
 use Rattle.nm_sim.proofs.Represents.{source_node}
 use Rattle.nm_sim.proofs.Tables.{at_there, member_within}
@@ -29,5 +28,5 @@ returns-clause-follows c =
 
 pub returns-clause-reacts : goal.returns-clause-reacts
 returns-clause-reacts c = λ part states ports s.
-    subst (λ v. Reacts c.args.topology.now part states ports v (Source c.args.source) c.args.packet.now c.react.new.self (sent_of c.in_ok-reaction.reaction))
+    subst (λ v. ReactsWith c.args.topology.now part states ports v (Source c.args.source) c.args.packet.now c.react.new.self c.in_ok-reaction.reaction)
     (sym c.node_of_source-node.ensures.node) (c.in_ok-reaction.ensures.reacts part states ports s)

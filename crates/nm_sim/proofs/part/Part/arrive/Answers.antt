@@ -2,7 +2,6 @@ use Rattle.std.proofs.Common.{Some, None, refl, sym, ap, ◌∙◌, subst}
 use Rattle.nm_base.specs.declared.event.Event.TheVariants.{Delivery}
 use Rattle.nm_base.specs.declared.event.Origin.TheVariants.{Arrival}
 use Rattle.nm_model.specs.Run.{keyed}
-use Rattle.nm_forward.specs.Reaction.{sent_of}
 use Rattle.nm_sim.specs.Part.{IsReady, PartValue}
 use Rattle.nm_sim.proofs.Parts.{represents_again}
 use Rattle.nm_sim.proofs.Steps.{least_has, port_is_kept}
@@ -41,16 +40,19 @@ send-requires-clause-reacted g c =
     let s = c.requires.1 in
     let p : PartValue g.row.L.Denot = record { part = c.self.inside.part; devices = c.self.inside.devices; timeline = c.self.inside.timeline; outgoing = c.self.inside.outgoing; records = c.self.inside.records; steps = c.self.inside.steps } in
     let q : PartValue g.row.L.Denot = record { part = c.self.inside.part; devices = c.react_to_arrival.new.self; timeline = c.self.inside.timeline; outgoing = c.self.inside.outgoing; records = c.record_arrival.new.self; steps = c.self.inside.steps } in
-    let ready = subst (λ (p : PartValue g.row.L.Denot). IsReady g.L.EventList.pending g.L.EventList.room c.args.topology.now part c.args.time c.args.number (Delivery (Arrival c.args.iface) c.args.packet) p s) (sym c.self.view_is) c.requires.2 in (
+    let ready = subst (λ (p : PartValue g.row.L.Denot). IsReady g.L.EventList.pending g.L.EventList.room c.args.topology.now part c.args.time c.args.number (Delivery (Arrival c.args.iface) c.args.packet) p s) (sym c.self.view_is) c.requires.2 in
+    let r = c.in-Ok.ensures.reacts part s.node s.port ready.devices in (
       part,
       c.args.number,
       Delivery (Arrival c.args.iface) c.args.packet,
       Some (c.args.iface, c.args.packet),
       None,
+      r.0,
       _,
       s,
-      arrives_on g.L.EventList.pending g.L.EventList.room c.args.topology.now part c.args.time c.args.number p q (record { is_part = refl; sent = refl; outgoing = refl; steps = refl }) s c.args.packet (sent_of c.in-Ok.reaction) c.args.iface
-          ready (c.in-Ok.ensures.reacts part s.node s.port ready.devices) refl (c.record_arrival.ensures.represents c.args.topology.now),
+      r.1,
+      arrives_on g.L.EventList.pending g.L.EventList.room c.args.topology.now part c.args.time c.args.number p q (record { is_part = refl; sent = refl; outgoing = refl; steps = refl }) s c.args.packet r.0 c.args.iface
+          ready r.2 refl (c.record_arrival.ensures.represents c.args.topology.now),
     )
 
 pub returns : goal.returns
@@ -58,9 +60,10 @@ returns g c = rw (← c.self.view_is) (
   λ part s ready.
       let p : PartValue g.row.L.Denot = record { part = c.self.inside.part; devices = c.self.inside.devices; timeline = c.self.inside.timeline; outgoing = c.self.inside.outgoing; records = c.self.inside.records; steps = c.self.inside.steps } in
       let q : PartValue g.row.L.Denot = record { part = c.self.inside.part; devices = c.react_to_arrival.new.self; timeline = c.self.inside.timeline; outgoing = c.self.inside.outgoing; records = c.record_arrival.new.self; steps = c.self.inside.steps } in
-      c.send.ensures.represents part c.args.number (Delivery (Arrival c.args.iface) c.args.packet) (Some (c.args.iface, c.args.packet)) None _ s
-      (arrives_on g.L.EventList.pending g.L.EventList.room c.args.topology.now part c.args.time c.args.number p q (record { is_part = refl; sent = refl; outgoing = refl; steps = refl }) s c.args.packet (sent_of c.in-Ok.reaction) c.args.iface
-      ready (c.in-Ok.ensures.reacts part s.node s.port ready.devices) refl (c.record_arrival.ensures.represents c.args.topology.now)),
+      let r = c.in-Ok.ensures.reacts part s.node s.port ready.devices in
+      c.send.ensures.represents part c.args.number (Delivery (Arrival c.args.iface) c.args.packet) (Some (c.args.iface, c.args.packet)) None r.0 _ s r.1
+      (arrives_on g.L.EventList.pending g.L.EventList.room c.args.topology.now part c.args.time c.args.number p q (record { is_part = refl; sent = refl; outgoing = refl; steps = refl }) s c.args.packet r.0 c.args.iface
+      ready r.2 refl (c.record_arrival.ensures.represents c.args.topology.now)),
   c.send.ensures.steps,
   c.send.ensures.handed ∙ c.record_arrival.ensures.handed,
 )

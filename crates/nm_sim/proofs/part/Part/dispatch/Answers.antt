@@ -1,4 +1,4 @@
-use Rattle.std.proofs.Common.{◌≡◌, Ok, ap, ◌∙◌, ℕ, List, sym, subst}
+use Rattle.std.proofs.Common.{Ok, ap, ◌∙◌, ℕ, List, sym, subst}
 use Rattle.nm_base.specs.declared.event.Event.{Event}
 use Rattle.nm_base.specs.declared.event.Event.TheVariants.{Delivery}
 use Rattle.nm_model.specs.Run.{keyed}

@@ -2,7 +2,6 @@ use Rattle.std.proofs.Common.{◌≡◌, ◌+◌, suc, None, refl, sym, ap, ◌�
 use Rattle.nm_base.specs.declared.event.Event.TheVariants.{Delivery}
 use Rattle.nm_base.specs.declared.event.Origin.TheVariants.{Source}
 use Rattle.nm_model.specs.Run.{by_source, keyed}
-use Rattle.nm_forward.specs.Reaction.{sent_of}
 use Rattle.nm_traffic.specs.Source.{source_at}
 use Rattle.nm_sim.specs.Network.{here_of, net_of}
 use Rattle.nm_sim.specs.Part.{IsReady, PartValue}
@@ -64,16 +63,19 @@ send-requires-clause-reacted g c =
     let p : PartValue g.row.L.Denot = record { part = c.self.inside.part; devices = c.self.inside.devices; timeline = c.self.inside.timeline; outgoing = c.self.inside.outgoing; records = c.self.inside.records; steps = c.self.inside.steps } in
     let q : PartValue g.row.L.Denot = record { part = c.self.inside.part; devices = c.react_to_source.new.self; timeline = c.schedule_next.new.self; outgoing = c.self.inside.outgoing; records = c.self.inside.records; steps = c.self.inside.steps } in
     let ready = subst (λ (p : PartValue g.row.L.Denot). IsReady g.L.EventList.pending g.L.EventList.room t part c.args.time c.args.number (Delivery (Source c.args.source) c.args.packet) p s) (sym c.self.view_is) c.requires.ready.2 in
-    let n : c.args.number + 1 ≡ suc c.args.number = omega arith in (
+    let n : c.args.number + 1 ≡ suc c.args.number = omega arith in
+    let r = c.in-Ok.ensures.reacts part s.node s.port ready.devices in (
       part,
       c.args.number,
       Delivery (Source c.args.source) c.args.packet,
       None,
       by_source c.args.source c.in-Ok.fired.follows,
+      r.0,
       _,
       s,
-      fires_on g.L.EventList.pending g.L.EventList.room t part c.args.time c.args.number p q (record { is_part = refl; sent = ap (λ l. l.sent) c.schedule_next.ensures.others; outgoing = refl; steps = refl }) s c.args.packet (sent_of c.in-Ok.fired.reaction) c.args.source c.in-Ok.fired.follows
-          ready (c.in-Ok.ensures.reacts part s.node s.port ready.devices) (c.in-Ok.ensures.follows ∙ ap (source_at t c.args.source) n) c.schedule_next.ensures.events refl,
+      r.1,
+      fires_on g.L.EventList.pending g.L.EventList.room t part c.args.time c.args.number p q (record { is_part = refl; sent = ap (λ l. l.sent) c.schedule_next.ensures.others; outgoing = refl; steps = refl }) s c.args.packet r.0 c.args.source c.in-Ok.fired.follows
+          ready r.2 (c.in-Ok.ensures.follows ∙ ap (source_at t c.args.source) n) c.schedule_next.ensures.events refl,
     )
 
 pub returns : goal.returns
@@ -83,9 +85,10 @@ returns g c = rw (← c.self.view_is) (
       let p : PartValue g.row.L.Denot = record { part = c.self.inside.part; devices = c.self.inside.devices; timeline = c.self.inside.timeline; outgoing = c.self.inside.outgoing; records = c.self.inside.records; steps = c.self.inside.steps } in
       let q : PartValue g.row.L.Denot = record { part = c.self.inside.part; devices = c.react_to_source.new.self; timeline = c.schedule_next.new.self; outgoing = c.self.inside.outgoing; records = c.self.inside.records; steps = c.self.inside.steps } in
       let n : c.args.number + 1 ≡ suc c.args.number = omega arith in
-      c.send.ensures.represents part c.args.number (Delivery (Source c.args.source) c.args.packet) None (by_source c.args.source c.in-Ok.fired.follows) _ s
-      (fires_on g.L.EventList.pending g.L.EventList.room t part c.args.time c.args.number p q (record { is_part = refl; sent = ap (λ l. l.sent) c.schedule_next.ensures.others; outgoing = refl; steps = refl }) s c.args.packet (sent_of c.in-Ok.fired.reaction) c.args.source c.in-Ok.fired.follows
-      ready (c.in-Ok.ensures.reacts part s.node s.port ready.devices) (c.in-Ok.ensures.follows ∙ ap (source_at t c.args.source) n) c.schedule_next.ensures.events refl),
+      let r = c.in-Ok.ensures.reacts part s.node s.port ready.devices in
+      c.send.ensures.represents part c.args.number (Delivery (Source c.args.source) c.args.packet) None (by_source c.args.source c.in-Ok.fired.follows) r.0 _ s r.1
+      (fires_on g.L.EventList.pending g.L.EventList.room t part c.args.time c.args.number p q (record { is_part = refl; sent = ap (λ l. l.sent) c.schedule_next.ensures.others; outgoing = refl; steps = refl }) s c.args.packet r.0 c.args.source c.in-Ok.fired.follows
+      ready r.2 (c.in-Ok.ensures.follows ∙ ap (source_at t c.args.source) n) c.schedule_next.ensures.events refl),
   c.send.ensures.steps,
   c.send.ensures.handed,
 )

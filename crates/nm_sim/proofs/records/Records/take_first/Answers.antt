@@ -1,4 +1,4 @@
-use Rattle.std.proofs.Common.{◌≡◌, ℕ, ◌≤◌, drop, length, arith, ap, sym, ◌∙◌}
+use Rattle.std.proofs.Common.{◌≡◌, ◌≤◌, drop, length, arith, ap, sym, ◌∙◌}
 use Rattle.nm_sim.proofs.Recordings.{few_left}
 use Rattle.nm_sim.proofs.records.Records.take_first.Goals as goal
 
