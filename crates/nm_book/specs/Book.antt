@@ -27,8 +27,8 @@ use Rattle.nm_book.specs.declared.message.Null.{Null}
 use Rattle.nm_book.specs.declared.fault.AcceptFault.{AcceptFault}
 use Rattle.nm_book.specs.declared.fault.AcceptFault.TheVariants.{Known, Stranger}
 
--- a replica: its topology, partition and number, what it knows of each channel by the channel's number, how many events it did, and how
--- many of its records were handed out
+-- a replica: its topology, partition and number, what it knows of each channel by the channel's
+-- number, how many events it did, and how many of its records were handed out
 pub record BookValue : Type 0 where
   pub topology : TopologyValue
   pub partition : ℕ
@@ -65,7 +65,8 @@ sent_over b c = (state_of b).sent (receiving_iface b.topology c)
 
 -- its promise of channel c
 abbrev pub promise_on : Promising → BookValue → ℕ → ℕ
-promise_on kind b c = promise (net_of b.topology) kind b.partition (knowledge b) b.events (receiving_iface b.topology c)
+promise_on kind b c = promise (net_of b.topology) kind b.partition (knowledge b) b.events
+    (receiving_iface b.topology c)
 
 -- its safe time
 abbrev pub safe_of : BookValue → ℕ
@@ -73,7 +74,11 @@ safe_of b = safe_time (net_of b.topology) b.partition (knowledge b)
 
 -- the null message of channel c with this promise
 abbrev pub null_on : Promising → BookValue → ℕ → Null
-null_on kind b c = record { channel = c; count = length (sent_over b c); clock = promise_on kind b c }
+null_on kind b c = record {
+  channel = c;
+  count = length (sent_over b c);
+  clock = promise_on kind b c;
+}
 
 -- message n of channel c, if it was sent
 abbrev pub data_from : ℕ → ℕ → Option (ℕ × List ℕ) → Option Data
@@ -97,35 +102,47 @@ pending_in s = pending_of s
 abbrev pub room_in : Held → ℕ
 room_in s = s.room
 
--- the part is that of a replica from scratch that knows this much, and did events before its safe time alone
-pub record IsBook (t : TopologyValue) (p : ℕ) (knows : List (Know (List ℕ))) (part : PartValue Held) : Type 0 where
+-- the part is that of a replica from scratch that knows this much, and did events before its
+-- safe time alone
+pub record IsBook (t : TopologyValue) (p : ℕ) (knows : List (Know (List ℕ)))
+    (part : PartValue Held) : Type 0 where
   pub count : length knows ≡ length t.receivers
-  pub represents : Represents pending_in t (Some p) part (from_scratch (net_of t) p (knowledge_of t knows) part.steps)
+  pub represents : Represents pending_in t (Some p) part
+      (from_scratch (net_of t) p (knowledge_of t knows) part.steps)
   pub within : IsWithin (net_of t) p (knowledge_of t knows) part.steps
 
--- of channel c is learned what the model's function says of what was told; or a message that is new found no memory
-abbrev pub Learns : List (Know (List ℕ)) → List (Know (List ℕ)) → ℕ → model.Accepted (List ℕ) → Result Accepted AcceptFault → Type 0
-Learns old new c taken (Ok a) = (Some taken.answer ≡ answer (Ok a)) × (new ≡ slice_set old c taken.after)
+-- of channel c is learned what the model's function says of what was told; or a message that is
+-- new found no memory
+abbrev pub Learns : List (Know (List ℕ)) → List (Know (List ℕ)) → ℕ → model.Accepted (List ℕ)
+    → Result Accepted AcceptFault → Type 0
+Learns old new c taken (Ok a) =
+    (Some taken.answer ≡ answer (Ok a)) × (new ≡ slice_set old c taken.after)
 Learns old new c taken (Err Stranger) = ⊥
 Learns old new c taken (Err (Known Memory)) = (taken.answer ≡ model.New) × (new ≡ old)
 Learns old new c taken (Err (Known f)) = (Some taken.answer ≡ reason f) × (new ≡ old)
 
 -- the same where the channel may not come in here: then nothing is
-abbrev pub LearnsIf : Bool → List (Know (List ℕ)) → List (Know (List ℕ)) → ℕ → model.Accepted (List ℕ) → Result Accepted AcceptFault → Type 0
+abbrev pub LearnsIf : Bool → List (Know (List ℕ)) → List (Know (List ℕ)) → ℕ
+    → model.Accepted (List ℕ) → Result Accepted AcceptFault → Type 0
 LearnsIf true old new c taken result = Learns old new c taken result
 LearnsIf false old new c taken result = (result ≡ Err Stranger) × (new ≡ old)
 
 -- what the model's function says of message n of channel c
 abbrev pub data_taken : List (Know (List ℕ)) → ℕ → ℕ → ℕ → List ℕ → model.Accepted (List ℕ)
-data_taken knows c n time packet = model.accept_data same_octets (slice_index_or knows c nothing_known) n (time, packet)
+data_taken knows c n time packet =
+    model.accept_data same_octets (slice_index_or knows c nothing_known) n (time, packet)
 
 -- and of a null message
 abbrev pub null_taken : List (Know (List ℕ)) → ℕ → ℕ → ℕ → model.Accepted (List ℕ)
 null_taken knows c n time = model.accept_null (slice_index_or knows c nothing_known) n time
 
--- A book takes in what was told of channel c, if that comes in here: nothing but what it knows of it changes.
-pub record Takes (old new : BookValue) (c : ℕ) (taken : model.Accepted (List ℕ)) (result : Result Accepted AcceptFault) : Type 0 where
-  pub learns : LearnsIf (comes_in (net_of old.topology) old.partition (receiving_iface old.topology c)) old.knows new.knows c taken result
+-- A book takes in what was told of channel c, if that comes in here: nothing but what it knows
+-- of it changes.
+pub record Takes (old new : BookValue) (c : ℕ) (taken : model.Accepted (List ℕ))
+    (result : Result Accepted AcceptFault) : Type 0 where
+  pub learns : LearnsIf
+      (comes_in (net_of old.topology) old.partition
+      (receiving_iface old.topology c)) old.knows new.knows c taken result
   pub same : new ≡ record old { knows = new.knows }
 
 -- what the model's function says of a message or a null message

@@ -11,9 +11,11 @@ pub record AreSisters (a b : BookValue) : Type 0 where
 -- and know the same of each channel that comes in
 pub record KnowTheSame (a b : BookValue) : Type 0 where
   pub sisters : AreSisters a b
-  pub same : (c : ℕ) → is_incoming a c ≡ true → slice_index_or a.knows c nothing_known ≡ slice_index_or b.knows c nothing_known
+  pub same : (c : ℕ) → is_incoming a c ≡ true
+      → slice_index_or a.knows c nothing_known ≡ slice_index_or b.knows c nothing_known
 
 -- and what the first knows of each is under what the second knows
 pub record IsUnderOf (a b : BookValue) : Type 0 where
   pub sisters : AreSisters a b
-  pub under : (c : ℕ) → is_incoming a c ≡ true → IsUnder (slice_index_or a.knows c nothing_known) (slice_index_or b.knows c nothing_known)
+  pub under : (c : ℕ) → is_incoming a c ≡ true
+      → IsUnder (slice_index_or a.knows c nothing_known) (slice_index_or b.knows c nothing_known)

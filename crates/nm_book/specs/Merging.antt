@@ -23,9 +23,11 @@ pub record KnowledgeValue : Type 0 where
   pub partition : ℕ
   pub knows : List (Know (List ℕ))
 
--- whether it is that of a replica of this partition: of a topology with this digest and as many channels
+-- whether it is that of a replica of this partition: of a topology with this digest and as many
+-- channels
 abbrev pub is_of : TopologyValue → ℕ → KnowledgeValue → Bool
-is_of t p other = same_octets other.digest t.digest && (other.partition == p) && (length other.knows == length t.receivers)
+is_of t p other = same_octets other.digest t.digest && (other.partition == p)
+    && (length other.knows == length t.receivers)
 
 module _ (t : TopologyValue) (p : ℕ) (knows others : List (Know (List ℕ))) where
   -- what both know of channel c
@@ -40,7 +42,8 @@ module _ (t : TopologyValue) (p : ℕ) (knows others : List (Know (List ℕ))) w
 
   -- below number n all channels that come in can be joined
   abbrev pub AreJoinable : ℕ → Type 0
-  AreJoinable n = (c : ℕ) → c < n → is_incoming c ≡ true → join_fault same_octets (known c) (other c) ≡ None
+  AreJoinable n =
+      (c : ℕ) → c < n → is_incoming c ≡ true → join_fault same_octets (known c) (other c) ≡ None
 
   -- what is known of channel c after a merge: the join, where it comes in
   abbrev pub joined_at : ℕ → Know (List ℕ)
@@ -59,13 +62,16 @@ module _ (t : TopologyValue) (p : ℕ) (knows others : List (Know (List ℕ))) w
     pub refused : join_fault same_octets (known c) (other c) ≢ None
     pub before : AreJoinable c
 
-  -- The answer of a merge. A refusal changes nothing: the knowledge of another partition or topology; else the first channel by number that can't be
-  -- joined; else memory.
+  -- The answer of a merge. A refusal changes nothing: the knowledge of another partition or
+  -- topology; else the first channel by number that can't be joined; else memory.
   abbrev pub MergesChannels : Bool → List (Know (List ℕ)) → Result Unit MergeFault → Type 0
-  MergesChannels is_ours after (Ok u) = (is_ours ≡ true) × AreJoinable (length knows) × AreJoined after
+  MergesChannels is_ours after (Ok u) =
+      (is_ours ≡ true) × AreJoinable (length knows) × AreJoined after
   MergesChannels is_ours after (Err Stranger) = (is_ours ≡ false) × (after ≡ knows)
-  MergesChannels is_ours after (Err (Channel c fault)) = (is_ours ≡ true) × IsFirstMergeFault c fault × (after ≡ knows)
-  MergesChannels is_ours after (Err Memory) = (is_ours ≡ true) × AreJoinable (length knows) × (after ≡ knows)
+  MergesChannels is_ours after (Err (Channel c fault)) =
+      (is_ours ≡ true) × IsFirstMergeFault c fault × (after ≡ knows)
+  MergesChannels is_ours after (Err Memory) =
+      (is_ours ≡ true) × AreJoinable (length knows) × (after ≡ knows)
 
 -- what a channel gains, if it comes in: with it the join is known
 abbrev pub IsGainOf : Bool → Know (List ℕ) → Know (List ℕ) → Option Gain → Type 0
@@ -88,22 +94,28 @@ module _ (t : TopologyValue) (p : ℕ) (knows others : List (Know (List ℕ))) w
   pub record AreGains (gains : List (Option Gain)) : Type 0 where
     pub count : length gains ≡ length knows
     pub each : (c : ℕ) (g : Option Gain) → slice_get gains c ≡ Some g
-        → IsGainOf (is_incoming t p knows others c) (known t p knows others c) (other t p knows others c) g
+        → IsGainOf (is_incoming t p knows others c) (known t p knows others c)
+        (other t p knows others c) g
 
-  -- of the channels below number n that come in all messages of both are known, and the clocks are not past those of the joins; nothing else changed
+  -- of the channels below number n that come in all messages of both are known, and the clocks
+  -- are not past those of the joins; nothing else changed
   pub record AreTold (n : ℕ) (after : List (Know (List ℕ))) : Type 0 where
     pub count : length after ≡ length knows
     pub list : (c : ℕ) → c < n → is_incoming t p knows others c ≡ true
-        → (slice_index_or after c nothing_known).list ≡ (join (known t p knows others c) (other t p knows others c)).list
+        → (slice_index_or after c nothing_known).list
+        ≡ (join (known t p knows others c) (other t p knows others c)).list
     pub clock : (c : ℕ) → c < n → is_incoming t p knows others c ≡ true
-        → (slice_index_or after c nothing_known).clock ≤ (join (known t p knows others c) (other t p knows others c)).clock
+        → (slice_index_or after c nothing_known).clock
+        ≤ (join (known t p knows others c) (other t p knows others c)).clock
     pub under : (c : ℕ) → c < n → is_incoming t p knows others c ≡ true
         → (known t p knows others c).clock ≤ (slice_index_or after c nothing_known).clock
-    pub outside : (c : ℕ) → is_incoming t p knows others c ≡ false → slice_index_or after c nothing_known ≡ known t p knows others c
+    pub outside : (c : ℕ) → is_incoming t p knows others c ≡ false
+        → slice_index_or after c nothing_known ≡ known t p knows others c
     pub above : (c : ℕ) → n ≤ c → slice_index_or after c nothing_known ≡ known t p knows others c
 
 -- it is the turn of channel c: both know this of it, and the messages of those below it are told
-pub record IsTurnOf (t : TopologyValue) (p : ℕ) (knows others : List (Know (List ℕ))) (c : ℕ) (a b : Know (List ℕ)) (messages : List Data) : Type 0 where
+pub record IsTurnOf (t : TopologyValue) (p : ℕ) (knows others : List (Know (List ℕ))) (c : ℕ)
+    (a b : Know (List ℕ)) (messages : List Data) : Type 0 where
   pub there : c < length knows
   pub ours : slice_index_or knows c nothing_known ≡ a
   pub theirs : slice_index_or others c nothing_known ≡ b
@@ -111,7 +123,8 @@ pub record IsTurnOf (t : TopologyValue) (p : ℕ) (knows others : List (Know (Li
   pub below : AreTold t p knows others c (told_each knows messages)
 
 -- of channel c, of which a was known, the first n messages of b are told
-pub record IsGrown (t : TopologyValue) (p : ℕ) (knows before : List (Know (List ℕ))) (c : ℕ) (a b : Know (List ℕ)) (n : ℕ) (messages : List Data) : Type 0 where
+pub record IsGrown (t : TopologyValue) (p : ℕ) (knows before : List (Know (List ℕ))) (c : ℕ)
+    (a b : Know (List ℕ)) (n : ℕ) (messages : List Data) : Type 0 where
   pub follow : Follow t p knows messages
   pub now_known : Know (List ℕ)
   pub set : told_each knows messages ≡ slice_set before c now_known
@@ -121,6 +134,8 @@ pub record IsGrown (t : TopologyValue) (p : ℕ) (knows before : List (Know (Lis
   pub later : (m : ℕ) (x : ℕ × List ℕ) → n ≤ m → nth b.list m ≡ Some x → now_known.clock ≤ x.0
 
 -- a book merges another's knowledge: nothing but what it knows changes
-pub record BookMerges (old new : BookValue) (other : KnowledgeValue) (result : Result Unit MergeFault) : Type 0 where
-  pub merges : MergesChannels old.topology old.partition old.knows other.knows (is_of old.topology old.partition other) new.knows result
+pub record BookMerges (old new : BookValue) (other : KnowledgeValue)
+    (result : Result Unit MergeFault) : Type 0 where
+  pub merges : MergesChannels old.topology old.partition old.knows other.knows
+      (is_of old.topology old.partition other) new.knows result
   pub same : new ≡ record old { knows = new.knows }

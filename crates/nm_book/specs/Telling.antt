@@ -16,7 +16,8 @@ abbrev pub known_of : List (Know (List ℕ)) → ℕ → Know (List ℕ)
 known_of knows c = slice_index_or knows c nothing_known
 
 abbrev pub told_one : List (Know (List ℕ)) → Data → List (Know (List ℕ))
-told_one knows m = slice_set knows m.channel (with_message (known_of knows m.channel) m.time m.packet)
+told_one knows m =
+    slice_set knows m.channel (with_message (known_of knows m.channel) m.time m.packet)
 
 -- what is known once these messages are
 abbrev pub told_each : List (Know (List ℕ)) → List Data → List (Know (List ℕ))
@@ -24,7 +25,8 @@ told_each knows [] = knows
 told_each knows (m ∷ ms) = told_each (told_one knows m) ms
 
 -- it is the next message of a channel that comes in, and is not before its clock
-pub record IsNext (t : TopologyValue) (p : ℕ) (knows : List (Know (List ℕ))) (m : Data) : Type 0 where
+pub record IsNext (t : TopologyValue) (p : ℕ) (knows : List (Know (List ℕ)))
+    (m : Data) : Type 0 where
   pub there : m.channel < length knows
   pub incoming : comes_in (net_of t) p (receiving_iface t m.channel) ≡ true
   pub number : m.number ≡ length (known_of knows m.channel).list

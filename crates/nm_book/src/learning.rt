@@ -62,7 +62,7 @@ pub(crate) fn take_data(
         (data_taken knows.old.items message.now.channel message.now.number message.now.time
         message.now.packet) result }
 
-    // Nothing happened.
+    // No event was done, and no record handed out.
     ensures steps { part.new.steps ≡ part.old.steps }
     ensures handed { part.new.records.handed ≡ part.old.records.handed }
 {
@@ -96,7 +96,7 @@ fn put_message(topology: &Topology, partition: PartNo, part: &mut Part<SortedLis
         → IsBook topology.now partition (told_one knows message) part.new }
     ensures room { room_in part.old.timeline.events ≤ room_in part.new.timeline.events + 1 }
 
-    // Nothing happened.
+    // No event was done, and no record handed out.
     ensures steps { part.new.steps ≡ part.old.steps }
     ensures handed { part.new.records.handed ≡ part.old.records.handed }
 {
@@ -167,7 +167,7 @@ fn put_data(
     // The one fault.
     ensures memory { IfErr result (λ e. e ≡ Known Memory) }
 
-    // Nothing happened.
+    // No event was done, and no record handed out.
     ensures steps { part.new.steps ≡ part.old.steps }
     ensures handed { part.new.records.handed ≡ part.old.records.handed }
 {

@@ -244,7 +244,7 @@ pub(crate) fn merge_all(
     ensures merges { MergesChannels topology.now partition knows.old.items others.now true
         knows.new.items result }
 
-    // Nothing happened.
+    // No event was done, and no record handed out.
     ensures steps { part.new.steps ≡ part.old.steps }
     ensures handed { part.new.records.handed ≡ part.old.records.handed }
 {

@@ -17,7 +17,7 @@ use nm_events::SortedList;
 use nm_forward::NodeState;
 use nm_model::replica::safe_time_is_the_least;
 use nm_model::run::times_pass;
-use nm_model::world::prefix_theorem;
+use nm_model::world::a_run_goes_to_what_is_safe;
 use nm_sim::Part;
 use nm_sim::network::every_topology_is_a_network;
 use nm_topology::Topology;
@@ -57,7 +57,7 @@ pub(crate) fn run_part(
     every_topology_is_a_network(topology); // law: `net_of` is a network of the model
     safe_time_is_the_least::<Packet, NodeState>(); // law: the safe time is at most `stop`
     times_pass::<Packet, NodeState>(); // law: some number of events is all
-    prefix_theorem::<Packet, NodeState>(); // law: where a run ends
+    a_run_goes_to_what_is_safe::<Packet, NodeState>(); // law: where a run ends
     let mut done = 0;
     while done < limit {
         match part.advance(alloc, topology, safe) {

@@ -10,8 +10,8 @@ use Rattle.nm_base.specs.Key.{index_of, key_cmp}
 use Rattle.nm_events.specs.declared.sorted_list.Kind.{Kind}
 use Rattle.nm_events.specs.declared.sorted_list.Kind.TheVariants as kind
 
--- the completions, the arrivals and the packets of sources that are still to come, each in the order of their keys, and
--- for how many more events of any kind there is room
+-- the completions, the arrivals and the packets of sources that are still to come, each in the
+-- order of their keys, and for how many more events of any kind there is room
 pub record Held : Type 0 where
   pub completions : List (Key × ⊤)
   pub arrivals : List (Key × List ℕ)
@@ -29,14 +29,18 @@ abbrev pub source_of : Key × List ℕ → Event (List ℕ)
 source_of e = Delivery (Source (index_of e.0.place)) e.1
 
 -- the events by their keys
-abbrev pub events_of : List (Key × ⊤) → List (Key × List ℕ) → List (Key × List ℕ) → List (Key × Event (List ℕ))
-events_of cs xs ys = map (λ e. (e.0, completion_of e)) cs ++ (map (λ e. (e.0, arrival_of e)) xs ++ map (λ e. (e.0, source_of e)) ys)
+abbrev pub events_of : List (Key × ⊤) → List (Key × List ℕ) → List (Key × List ℕ)
+    → List (Key × Event (List ℕ))
+events_of cs xs ys = map (λ e. (e.0, completion_of e)) cs
+    ++ (map (λ e. (e.0, arrival_of e)) xs ++ map (λ e. (e.0, source_of e)) ys)
 
 abbrev pub pending_of : Held → FinMap key_cmp (Event (List ℕ))
 pending_of h = from_entries (events_of h.completions h.arrivals h.sources)
 
--- each in the order of their keys, which have the places of the events and are not shared, and with room for so many more
-pub record IsHeld (cs : List (Key × ⊤)) (xs ys : List (Key × List ℕ)) (room capacity : ℕ) : Type 0 where
+-- each in the order of their keys, which have the places of the events and are not shared, and
+-- with room for so many more
+pub record IsHeld (cs : List (Key × ⊤)) (xs ys : List (Key × List ℕ))
+    (room capacity : ℕ) : Type 0 where
   pub completions : is_sorted key_cmp cs ≡ true
   pub arrivals : is_sorted key_cmp xs ≡ true
   pub sources : is_sorted key_cmp ys ≡ true
@@ -50,7 +54,8 @@ pub record IsHeld (cs : List (Key × ⊤)) (xs ys : List (Key × List ℕ)) (roo
 
 -- of which kind the least of the first completion, arrival and packet of a source is
 abbrev pub kind_of : Option Key → Option Key → Option Key → Kind
-kind_of c x y = cond (comes_before c (cond (comes_before x y) x y)) kind.Completion (cond (comes_before x y) kind.Arrival kind.Source)
+kind_of c x y = cond (comes_before c (cond (comes_before x y) x y)) kind.Completion
+    (cond (comes_before x y) kind.Arrival kind.Source)
 
 abbrev pub least_kind : Held → Kind
 least_kind h = kind_of (first_key h.completions) (first_key h.arrivals) (first_key h.sources)

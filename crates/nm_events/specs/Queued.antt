@@ -48,8 +48,10 @@ time_of (Some k) = k.time
 abbrev pub lesser : Option Key → Option Key → Option Key
 lesser a b = cond (comes_before b a) b a
 
--- a ring and a heap with keys of their own, each in order, the least key, and for how many both have room
-pub record IsKept {X : Type 0} (ring heap : List (Key × X)) (first : Option Key) (capacity : ℕ) : Type 0 where
+-- a ring and a heap with keys of their own, each in order, the least key, and for how many both
+-- have room
+pub record IsKept {X : Type 0} (ring heap : List (Key × X)) (first : Option Key)
+    (capacity : ℕ) : Type 0 where
   pub ring_sorted : is_sorted key_cmp ring ≡ true
   pub heap_sorted : is_sorted key_cmp heap ≡ true
   pub apart : AreApart ring heap

@@ -75,8 +75,11 @@ impl<X> KeyHeap<X> {
     /// Adds a value under a key that has none.
     #[inline(never)]
     pub(crate) fn put(&mut self, key: Key, value: X)
+        // The key is new, and there is room.
         requires fresh { find key_cmp key self.old.entries ≡ None }
         requires room { length self.old.entries < self.old.capacity }
+
+        // The entry stands among the others in the order of the keys, and no room is lost.
         ensures entries { self.new.entries ≡ put_in_order key_cmp key value self.old.entries }
         ensures count { length self.new.entries ≡ length self.old.entries + 1 }
         ensures sorted { is_sorted key_cmp self.new.entries ≡ true }

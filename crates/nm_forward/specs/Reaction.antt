@@ -48,7 +48,8 @@ request_of e x = record {
 
 -- A source of the node hands over a packet. The octets of a `raw` source go by its interface as
 -- they are.
-abbrev pub handed : List IfaceValue → NodeConfiguration → NodeStateValue → Traffic → List ℕ → Reacted
+abbrev pub handed : List IfaceValue → NodeConfiguration → NodeStateValue → Traffic → List ℕ
+    → Reacted
 handed ifaces table n (Cbr c) x =
     concluded (originate ifaces table n.identification (datagram_of c x)) n
 handed ifaces table n (Echo e) x =

@@ -38,7 +38,11 @@ takes rate packet = transmission_time rate (max 1 (length packet))
 
 -- the port after, with memory for so many packets
 abbrev pub with_port : PortValue → Port (List ℕ) → ℕ → PortValue
-with_port p after room = record p { busy = after.busy; dropped = saturated after.dropped; room = room }
+with_port p after room = record p {
+  busy = after.busy;
+  dropped = saturated after.dropped;
+  room = room;
+}
 
 -- port i of these drops the packet where it is offered: it is busy, and there is no room behind it
 abbrev pub IsRefusedAt : List (Option PortValue) → ℕ → List ℕ → Type 0

@@ -101,12 +101,17 @@ impl Port {
     /// limited too, over a link with this rate in bits per second and this delay in nanoseconds. It
     /// takes no memory.
     pub fn new(alloc: Global, limit: u16, octet_limit: Option<u32>, rate: u64, delay: u64) -> Self
+        // The rate and the delay are within their limits.
         requires least { 1 ≤ rate }
         requires greatest { rate ≤ MAX_RATE }
         requires delay { delay ≤ MAX_DELAY }
+
+        // The port has these limits, this rate and this delay.
         ensures limit { result.limit ≡ record { packets = limit; octets = octet_limit } }
         ensures rate { result.rate ≡ rate }
         ensures delay { result.delay ≡ delay }
+
+        // It is idle, and dropped nothing.
         ensures idle { result.busy ≡ None }
         ensures dropped { result.dropped ≡ 0 }
     {
@@ -143,8 +148,11 @@ impl Port {
     /// dropped. It takes no memory.
     #[inline(always)]
     pub fn offer(&mut self, now: Time, twin: Twin) -> Offered
+        // The time is within its limit, and there is memory for one more packet.
         requires now { now ≤ MAX_TIME }
         requires room { 1 ≤ self.old.room }
+
+        // The port, and the packet that starts, are those of the model.
         ensures port { self.new ≡ with_port self.old
             (offered (has_room self.old.limit) (takes self.old.rate) now twin.packet
             self.old.dropped self.old.busy).0 self.new.room }
@@ -153,6 +161,8 @@ impl Port {
             twin.packet self.old.dropped self.old.busy).1 }
         ensures start { IfSome (transmission_in result)
             (IsTransmission self.old.rate self.old.delay now twin.packet) }
+
+        // A packet that is dropped is handed back. At most one place is taken.
         ensures back { handed_back result
             ≡ if is_refused (has_room self.old.limit) twin.packet self.old.busy
             then Some twin else None }
@@ -206,8 +216,11 @@ impl Port {
     /// starts, if one waits. It takes no memory.
     #[inline(always)]
     pub fn done(&mut self, now: Time) -> Option<Start>
+        // A transmission is under way.
         requires now { now ≤ MAX_TIME }
         requires busy { IsSome self.old.busy }
+
+        // The port, and the packet that starts, are those of the model. No place is taken.
         ensures port { self.new ≡ with_port self.old
             (completed (takes self.old.rate) now self.old.dropped self.old.busy).0 self.new.room }
         ensures packet { transmitted_packet result
@@ -257,10 +270,13 @@ impl Port {
 /// The transmission that starts now, over a link with this rate and delay.
 #[inline(always)]
 fn transmission(rate: u64, delay: u64, now: Time, twin: Twin) -> Start
+    // The rate, the delay and the time are within their limits.
     requires least { 1 ≤ rate }
     requires greatest { rate ≤ MAX_RATE }
     requires delay { delay ≤ MAX_DELAY }
     requires now { now ≤ MAX_TIME }
+
+    // It completes and arrives when the definition says.
     ensures transmission { IsTransmission rate delay now twin.packet result }
     ensures completes { result.completes < 2 ^ 51 }
 {

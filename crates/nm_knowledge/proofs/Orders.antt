@@ -5,6 +5,7 @@ use Rattle.nm_model.specs.Lists.{nth}
 use Rattle.nm_model.specs.Knowledge.{Know, IsKnow, IsUnder}
 use Rattle.nm_model.specs.Accept.{TellsApart, accept_data, accept_null}
 use Rattle.nm_knowledge.specs.Order.{Tidings, Data, Null, accept, IsAccepted, AreAccepted, accept_all}
+use Rattle.nm_model.proofs.Accepting as accepting
 use Rattle.nm_model.proofs.ListLemmas.{below_nth, nth_last, prefix_self, prefix_trans, prefix_nth, nth_prefix, prefix_length, prefix_both, prefix_push}
 use Rattle.nm_knowledge.proofs.Turns.{known_data, new_data, known_null, next_null}
 
@@ -12,16 +13,6 @@ sides : (m n : ℕ) → (m < n) ⊎ (n ≤ m)
 sides m n = grind arith
 
 module _ {P : Type 0} where
-  under_trans : (a b d : Know P) → IsUnder a b → IsUnder b d → IsUnder a d
-  under_trans a b d u v = record {
-    begins = prefix_trans a.list b.list d.list u.begins v.begins;
-    later = λ n x le e. ⊎_elim
-        (λ lt. u.later n x le (nth_prefix b.list d.list n x v.begins lt e))
-        (λ ge. let f = v.later n x ge e in let g = u.clock in omega arith)
-        (sides n (length b.list));
-    clock = let f = u.clock in let g = v.clock in omega arith;
-  }
-
   under_both : (a b : Know P) → IsUnder a b → IsUnder b a → a ≡ b
   under_both a b u v =
       let l = prefix_both a.list b.list u.begins v.begins in
@@ -131,7 +122,7 @@ module _ {P : Type 0} where
 
       all_add : (k : List (Tidings P)) (a : Know P) → IsUnder a (accept_all same a k)
       all_add [] a = record { begins = prefix_self a.list; later = λ i y le e. absurd (let lt = below_nth a.list i y e in omega arith); clock = omega arith }
-      all_add (x ∷ k) a = under_trans a (accept same a x).after (accept_all same (accept same a x).after k) (adds a x) (all_add k (accept same a x).after)
+      all_add (x ∷ k) a = accepting.under_both a (accept same a x).after (accept_all same (accept same a x).after k) (adds a x) (all_add k (accept same a x).after)
 
       each_told : (k : List (Tidings P)) (a : Know P) → IsKnow a → AreAccepted same a k → (x : Tidings P) → Contains k x → IsTold (accept_all same a k) x
       each_told [] a h f x c = absurd (let lt = c.1 in omega arith)

@@ -27,7 +27,8 @@ IsAccepted (Contrary n) = ⊥
 -- each is accepted in its turn
 abbrev pub AreAccepted : {P : Type 0} → (P → P → Bool) → Know P → List (Tidings P) → Type 0
 AreAccepted same a [] = Unit {0}
-AreAccepted same a (x ∷ l) = IsAccepted (accept same a x).answer × AreAccepted same (accept same a x).after l
+AreAccepted same a (x ∷ l) =
+    IsAccepted (accept same a x).answer × AreAccepted same (accept same a x).after l
 
 abbrev pub accept_all : {P : Type 0} → (P → P → Bool) → Know P → List (Tidings P) → Know P
 accept_all same a [] = a

@@ -23,7 +23,8 @@ use Rattle.nm_model.proofs.ListLemmas.{nth_last, not_some, number_tied, same_num
 use Rattle.nm_laws.specs.Offered.{answer_to}
 use Rattle.nm_laws.proofs.Counting.{sent_came}
 use Rattle.nm_laws.proofs.Passings.{all_nth, position}
-use Rattle.nm_laws.proofs.Ports.{in_none, passed-append}
+use Rattle.nm_model.proofs.Traces.{passed-append}
+use Rattle.nm_laws.proofs.Ports.{in_none}
 
 module _ {A : Type 0} where
   nth_either : (xs ys : List A) (n : ℕ) (a : A) → nth (xs ++ ys) n ≡ Some a → (nth xs n ≡ Some a) ⊎ ((k : ℕ) × (nth ys k ≡ Some a))

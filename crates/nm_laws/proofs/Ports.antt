@@ -14,19 +14,12 @@ use Rattle.nm_model.specs.Network.{Net}
 use Rattle.nm_model.specs.Port.{Busy, Port, offered, completed, next_transmitting, waiting_of, option_list}
 use Rattle.nm_model.specs.Run.{State, Effect, effect, at_iface, by_source, turned, turned_by, sent_on, in_record, out_record, step_at, one_list}
 use Rattle.nm_model.specs.Trace.{passed}
+use Rattle.nm_model.proofs.Traces.{passed-append}
 use Rattle.nm_model.proofs.ListLemmas.{same_number, number_apart, number_tied, set_here, set_there, kept-append}
 use Rattle.nm_laws.specs.Offered.{answer_to, next_offer, offers, offered_to}
 
 -- the records of one event in one direction at an interface
 module _ {P : Type 0} where
-  pub passed-append : (d : Dir) (i : ℕ) (k l : List (Record P)) → passed d i (k ++ l) ≡ passed d i k ++ passed d i l
-  passed-append d i [] l = refl
-  passed-append d i (r ∷ k) l = go _ (passed-append d i k l)
-    where
-      go : (z : Bool) → passed d i (k ++ l) ≡ passed d i k ++ passed d i l → cond z ((r.time, r.packet) ∷ passed d i (k ++ l)) (passed d i (k ++ l)) ≡ cond z ((r.time, r.packet) ∷ passed d i k) (passed d i k) ++ passed d i l
-      go true e = ap (λ z. (r.time, r.packet) ∷ z) e
-      go false e = e
-
   pub in_none : (time i : ℕ) (o : Option (ℕ × P)) → passed Out i (in_record time o) ≡ []
   in_none time i None = refl
   in_none time i (Some a) = refl

@@ -14,7 +14,8 @@ use Rattle.nm_model.specs.Run.{State, Effect, effect, at_iface, by_source, turne
 use Rattle.nm_model.specs.Trace.{passed}
 use Rattle.nm_model.proofs.ListLemmas.{same_number, number_apart, number_tied, set_here, set_there, kept-append}
 use Rattle.nm_laws.specs.Offered.{IsSubsequence, answer_to, next_offer, offers, offered_to, packets_in}
-use Rattle.nm_laws.proofs.Ports.{in_none, passed-append}
+use Rattle.nm_model.proofs.Traces.{passed-append}
+use Rattle.nm_laws.proofs.Ports.{in_none}
 
 module _ {A : Type 0} where
   -- more may follow

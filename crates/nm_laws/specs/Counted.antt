@@ -18,9 +18,12 @@ use Rattle.nm_laws.specs.Offered.{offered_by, offers}
 
 -- the counters that say what became of a packet that arrived: one for each row of the table
 abbrev pub arrival_counters : List Counter
-arrival_counters = Header ∷ BadDest ∷ NotMine ∷ NoNet ∷ Ttl ∷ Forwarded ∷ Fragment ∷ IcmpBad ∷ Echo ∷ Icmp ∷ UdpBad ∷ Udp ∷ Port ∷ Proto ∷ []
+arrival_counters =
+    Header ∷ BadDest ∷ NotMine ∷ NoNet ∷ Ttl ∷ Forwarded ∷ Fragment ∷ IcmpBad ∷ Echo ∷ Icmp
+    ∷ UdpBad ∷ Udp ∷ Port ∷ Proto ∷ []
 
--- the counters of what a node sends: what it sends on, what it makes and has a route for, and what its raw sources hand to it
+-- the counters of what a node sends: what it sends on, what it makes and has a route for, and
+-- what its raw sources hand to it
 abbrev pub sending_counters : List Counter
 sending_counters = Forwarded ∷ Originated ∷ Raw ∷ []
 
@@ -33,25 +36,34 @@ abbrev pub arrivals_at : {P N : Type 0} → Net P N → ℕ → List (Record P) 
 arrivals_at net v records = keep_where (λ r. same_dir r.dir In && (v == net.owner r.iface)) records
 
 -- those that raise this counter, by the row of the table that fits the packet
-abbrev pub arrivals_raising : TopologyValue → ℕ → Counter → List (Record (List ℕ)) → List (Record (List ℕ))
+abbrev pub arrivals_raising : TopologyValue → ℕ → Counter → List (Record (List ℕ))
+    → List (Record (List ℕ))
 arrivals_raising t v c records =
-    keep_where (λ r. counter_number c == counter_number (row_counter (arrival_row (table_of t v) r.packet))) (arrivals_at (net_of t) v records)
+    keep_where
+    (λ r. counter_number c == counter_number
+    (row_counter (arrival_row (table_of t v) r.packet))) (arrivals_at (net_of t) v records)
 
--- What node v counted in the first n events. A counter stops at 2^64 - 1, so this is said where there are fewer packets to count; and
--- there are no more of them than events.
+-- What node v counted in the first n events. A counter stops at 2^64 - 1, so this is said where
+-- there are fewer packets to count; and there are no more of them than events.
 module _ (t : TopologyValue) (n v : ℕ) where
   -- the sum of the counters of arrivals is the number of arrivals
   pub record ArrivalsAreCounted : Type 0 where
     pub few : length (arrivals_at (net_of t) v (one_list (net_of t) n).records) ≤ n
-    pub counted : let packets : ℕ = length (arrivals_at (net_of t) v (one_list (net_of t) n).records) in
+    pub counted : let packets : ℕ = length
+        (arrivals_at (net_of t) v (one_list (net_of t) n).records) in
         packets < 2 ^ 64 → total_of arrival_counters ((one_list (net_of t) n).node v) ≡ packets
 
   -- and the counter of each row is the number of arrivals that the row fits
   pub record RowsAreCounted : Type 0 where
-    pub counted : (row : Row) → let packets : ℕ = length (arrivals_raising t v (row_counter row) (one_list (net_of t) n).records) in
-        packets < 2 ^ 64 → slice_index ((one_list (net_of t) n).node v).counters (counter_number (row_counter row)) ≡ packets
+    pub counted : (row : Row)
+        → let packets : ℕ = length
+        (arrivals_raising t v (row_counter row) (one_list (net_of t) n).records) in
+        packets < 2 ^ 64
+        → slice_index ((one_list (net_of t) n).node v).counters
+        (counter_number (row_counter row)) ≡ packets
 
-  -- the sum of the counters of sendings is the number of packets that the node offered to its interfaces
+  -- the sum of the counters of sendings is the number of packets that the node offered to its
+  -- interfaces
   pub record SendingsAreCounted : Type 0 where
     pub few : length (offered_by (net_of t) v (offers (net_of t) n)) ≤ n
     pub counted : let packets : ℕ = length (offered_by (net_of t) v (offers (net_of t) n)) in

@@ -13,11 +13,13 @@ use Rattle.nm_model.specs.Run.{State, one_list}
 use Rattle.nm_model.specs.Trace.{passed}
 
 module _ {P N : Type 0} (net : Net P N) where
-  -- What a node sends in answer to an event: by which of its interfaces, and the packet. Nodes answer to packets that arrive and to those
-  -- of their sources, and to nothing else.
+  -- What a node sends in answer to an event: by which of its interfaces, and the packet. Nodes
+  -- answer to packets that arrive and to those of their sources, and to nothing else.
   abbrev pub answer_to : (ℕ → N) → Event P → Option (ℕ × P)
-  answer_to nodes (Delivery (Arrival i) x) = (net.react (net.owner i) (nodes (net.owner i)) (Arrival i) x).1
-  answer_to nodes (Delivery (Source j) x) = (net.react (net.source_node j) (nodes (net.source_node j)) (Source j) x).1
+  answer_to nodes (Delivery (Arrival i) x) =
+      (net.react (net.owner i) (nodes (net.owner i)) (Arrival i) x).1
+  answer_to nodes (Delivery (Source j) x) =
+      (net.react (net.source_node j) (nodes (net.source_node j)) (Source j) x).1
   answer_to nodes (Completion i) = None
 
   -- in answer to the next event, if one is pending
@@ -25,7 +27,8 @@ module _ {P N : Type 0} (net : Net P N) where
   next_offer s None = []
   next_offer s (Some e) = option_list (answer_to s.node e.1)
 
-  -- all packets that were offered in the first n events of the network, in that order, each with its interface
+  -- all packets that were offered in the first n events of the network, in that order, each
+  -- with its interface
   abbrev pub offers : ℕ → List (ℕ × P)
   offers zero = []
   offers (suc n) = offers n ++ next_offer (one_list net n) (least (one_list net n).pending)
@@ -54,7 +57,11 @@ pub record AreAccountedFor {P N : Type 0} (net : Net P N) (n i : ℕ) : Type 0 w
   pub few : length (offers net n) ≤ n
   -- each has started, or waits, or was dropped
   pub all : let s : State P N = one_list net n in
-      length (offered_to i (offers net n)) ≡ length (passed Out i s.records) + length (waiting_of (s.port i).busy) + (s.port i).dropped
-  -- those that started, and then those that wait, are the offered ones in their order, without the dropped
+      length (offered_to i (offers net n))
+      ≡ length (passed Out i s.records) + length (waiting_of (s.port i).busy)
+      + (s.port i).dropped
+  -- those that started, and then those that wait, are the offered ones in their order, without
+  -- the dropped
   pub in_turn : let s : State P N = one_list net n in
-      IsSubsequence (packets_in (passed Out i s.records) ++ waiting_of (s.port i).busy) (packets_in (offered_to i (offers net n)))
+      IsSubsequence (packets_in (passed Out i s.records) ++ waiting_of (s.port i).busy)
+      (packets_in (offered_to i (offers net n)))

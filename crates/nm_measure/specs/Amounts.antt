@@ -20,7 +20,8 @@ came_to i r = (r.iface == i) && is_in r.dir
 abbrev pub went_from : ℕ → Record (List ℕ) → Bool
 went_from i r = (r.iface == i) && not (is_in r.dir)
 
--- how many records are such, and the octets of their packets; both stop at the greatest of their type
+-- how many records are such, and the octets of their packets; both stop at the greatest of their
+-- type
 abbrev pub amount_of : (Record (List ℕ) → Bool) → List (Record (List ℕ)) → Amount
 amount_of f records = record {
   packets = saturated (length (keep_where f records));
@@ -28,11 +29,17 @@ amount_of f records = record {
 }
 
 abbrev pub traffic_of : ℕ → List (Record (List ℕ)) → IfaceTraffic
-traffic_of i records = record { came = amount_of (came_to i) records; went = amount_of (went_from i) records }
+traffic_of i records = record {
+  came = amount_of (came_to i) records;
+  went = amount_of (went_from i) records;
+}
 
 -- with one packet more, and with one record more at the interface
 abbrev pub amount_after : Amount → ℕ → Amount
-amount_after a octets = record { packets = saturated (a.packets + 1); octets = saturated (a.octets + octets) }
+amount_after a octets = record {
+  packets = saturated (a.packets + 1);
+  octets = saturated (a.octets + octets);
+}
 
 abbrev pub traffic_after : IfaceTraffic → Record (List ℕ) → IfaceTraffic
 traffic_after x r = cond (is_in r.dir)
@@ -40,6 +47,7 @@ traffic_after x r = cond (is_in r.dir)
     (record { came = x.came; went = amount_after x.went (length r.packet) })
 
 -- each interface's, by number
-pub record AreTraffic (t : TopologyValue) (found : List IfaceTraffic) (records : List (Record (List ℕ))) : Type 0 where
+pub record AreTraffic (t : TopologyValue) (found : List IfaceTraffic)
+    (records : List (Record (List ℕ))) : Type 0 where
   pub count : length found ≡ length t.ifaces
   pub each : (i : ℕ) (x : IfaceTraffic) → slice_get found i ≡ Some x → x ≡ traffic_of i records

@@ -4,7 +4,8 @@ use Rattle.nm_measure.specs.declared.flow_counts.FlowCounts.{FlowCounts}
 use Rattle.nm_measure.specs.declared.flow_counts.PacketOutcome.{PacketOutcome}
 use Rattle.nm_measure.specs.declared.flow_counts.PacketOutcome.TheVariants.{Delivered, Refused, Dropped, Discarded}
 
--- each packet that a source handed over was delivered, refused, dropped or discarded, or is under way
+-- each packet that a source handed over was delivered, refused, dropped or discarded, or is
+-- under way
 abbrev pub Balances : FlowCounts → Type 0
 Balances f = f.sent ≡ f.delivered + f.refused + f.dropped + f.discarded + f.under_way
 
@@ -14,7 +15,11 @@ counts_of f = f.sent ∷ f.delivered ∷ f.refused ∷ f.dropped ∷ f.discarded
 
 -- one that was under way ended so, and all others are as they were
 abbrev pub Ends : PacketOutcome → FlowCounts → FlowCounts → Type 0
-Ends Delivered f g = counts_of g ≡ f.sent ∷ (f.delivered + 1) ∷ f.refused ∷ f.dropped ∷ f.discarded ∷ (f.under_way - 1) ∷ []
-Ends Refused f g = counts_of g ≡ f.sent ∷ f.delivered ∷ (f.refused + 1) ∷ f.dropped ∷ f.discarded ∷ (f.under_way - 1) ∷ []
-Ends Dropped f g = counts_of g ≡ f.sent ∷ f.delivered ∷ f.refused ∷ (f.dropped + 1) ∷ f.discarded ∷ (f.under_way - 1) ∷ []
-Ends Discarded f g = counts_of g ≡ f.sent ∷ f.delivered ∷ f.refused ∷ f.dropped ∷ (f.discarded + 1) ∷ (f.under_way - 1) ∷ []
+Ends Delivered f g = counts_of g
+    ≡ f.sent ∷ (f.delivered + 1) ∷ f.refused ∷ f.dropped ∷ f.discarded ∷ (f.under_way - 1) ∷ []
+Ends Refused f g = counts_of g
+    ≡ f.sent ∷ f.delivered ∷ (f.refused + 1) ∷ f.dropped ∷ f.discarded ∷ (f.under_way - 1) ∷ []
+Ends Dropped f g = counts_of g
+    ≡ f.sent ∷ f.delivered ∷ f.refused ∷ (f.dropped + 1) ∷ f.discarded ∷ (f.under_way - 1) ∷ []
+Ends Discarded f g = counts_of g
+    ≡ f.sent ∷ f.delivered ∷ f.refused ∷ f.dropped ∷ (f.discarded + 1) ∷ (f.under_way - 1) ∷ []

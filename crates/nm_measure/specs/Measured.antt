@@ -16,18 +16,21 @@ pub record MeasuredValue : Type 0 where
   pub traffic : List IfaceTraffic
 
 -- the whole network in this state of its run, and the traffic of the records that it handed out
-pub record IsCounted (t : TopologyValue) (s : State (List ℕ) NodeStateValue) (p : PartValue Held) (traffic : List IfaceTraffic) : Type 0 where
+pub record IsCounted (t : TopologyValue) (s : State (List ℕ) NodeStateValue) (p : PartValue Held)
+    (traffic : List IfaceTraffic) : Type 0 where
   pub represents : Represents pending_of t None p s
   pub counted : AreTraffic t traffic (take p.records.handed s.records)
 
--- the whole network after some events of its one event list, all of them before this time, and the traffic of all their records
+-- the whole network after some events of its one event list, all of them before this time, and
+-- the traffic of all their records
 pub record IsMeasuring (t : TopologyValue) (until : ℕ) (m : MeasuredValue) : Type 0 where
   pub events : ℕ
   pub early : (n : ℕ) → n < events → pends_before until (one_list (net_of t) n) ≡ true
   pub counted : IsCounted t (one_list (net_of t) events) m.part m.traffic
   pub all : m.part.records.handed ≡ length (one_list (net_of t) events).records
 
--- the whole network after all events of its one event list that are before this time, and the traffic of all their records
+-- the whole network after all events of its one event list that are before this time, and the
+-- traffic of all their records
 pub record IsMeasuredBefore (t : TopologyValue) (until : ℕ) (m : MeasuredValue) : Type 0 where
   pub events : ℕ
   pub over : IsBefore (net_of t) until events

@@ -6,11 +6,11 @@ mod Effects
 mod NewEvents
 mod Invariants
 mod Runs
-mod Cut
+pub mod Cut
 mod Begin
 mod CutLaw
 mod Ends
-mod Accepting
+pub mod Accepting
 mod Joins
 mod Books
 mod ToldMore
@@ -19,7 +19,7 @@ mod Promises
 mod Stated
 mod RoundLemmas
 mod Worlds
-mod Traces
+pub mod Traces
 mod Numbers
 mod Faults
 mod Certifying

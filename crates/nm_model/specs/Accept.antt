@@ -1,4 +1,5 @@
--- How knowledge of a channel takes a message or a null message (Misra, section 3). A refusal changes nothing.
+-- How knowledge of a channel takes a message or a null message (Misra, section 3). A refusal
+-- changes nothing.
 use Rattle.std.specs.Prelude.{◌≡◌, ℕ, Bool, true, false, cond, ◌&&◌, ◌==◌, ltb, leb, length, List, [], ◌∷◌, ◌++◌, Option, Some, None}
 use Rattle.nm_model.specs.Lists.{nth}
 use Rattle.nm_model.specs.Knowledge.{Know}
@@ -40,8 +41,12 @@ TellsApart {P} same = (x y : P) → same x y ≡ true → x ≡ y
 abbrev pub same_message : {P : Type 0} → (P → P → Bool) → ℕ × P → ℕ × P → Bool
 same_message same a b = (a.0 == b.0) && same a.1 b.1
 
-abbrev pub data_at : {P : Type 0} → (P → P → Bool) → Option (ℕ × P) → Know P → ℕ → ℕ × P → Accepted P
-data_at same (Some m) a n b = record { answer = cond (same_message same m b) Known (Differs n); after = a }
+abbrev pub data_at : {P : Type 0} → (P → P → Bool) → Option (ℕ × P) → Know P → ℕ → ℕ × P
+    → Accepted P
+data_at same (Some m) a n b = record {
+  answer = cond (same_message same m b) Known (Differs n);
+  after = a;
+}
 data_at same None a n b =
     cond (n == length a.list)
     (cond (ltb b.0 a.clock)

@@ -14,7 +14,8 @@ use Rattle.nm_model.specs.Partition.{in_part, comes_in, is_own_record}
 use Rattle.nm_model.specs.Replica.{inbox_events, safe_time}
 
 -- from state s, n events leave nothing before t pending, and fewer leave something
-pub record Drains {P N : Type 0} (net : Net P N) (here : Place → Bool) (s : State P N) (t n : ℕ) : Type 0 where
+pub record Drains {P N : Type 0} (net : Net P N) (here : Place → Bool) (s : State P N)
+    (t n : ℕ) : Type 0 where
   pub over : pends_before t (run net here n s) ≡ false
   pub first : (m : ℕ) → m < n → pends_before t (run net here m s) ≡ true
 
@@ -38,23 +39,27 @@ module _ {P N : Type 0} (net : Net P N) where
   abbrev pub IsBefore : ℕ → ℕ → Type 0
   IsBefore t n = Drains net (λ q. true) (start net (λ q. true) []) t n
 
-  -- the history of a channel: all that is put on it before stop, which the network reaches after last events
+  -- the history of a channel: all that is put on it before stop, which the network reaches
+  -- after last events
   abbrev pub history : ℕ → ℕ → List (ℕ × P)
   history last c = (one_list net last).sent c
 
   -- how many of the network's first n events are here
   abbrev pub events_at : (Place → Bool) → ℕ → ℕ
   events_at here zero = 0
-  events_at here (suc n) = cond (is_at here (least (one_list net n).pending)) (suc (events_at here n)) (events_at here n)
+  events_at here (suc n) =
+      cond (is_at here (least (one_list net n).pending)) (suc (events_at here n)) (events_at here n)
 
   module _ (p : ℕ) where
     -- K is valid for the histories of the partition's channels
     abbrev pub IsKnowledge : Knowledge P → Type 0
-    IsKnowledge K = (last : ℕ) → IsBefore net.stop last → (c : ℕ) → comes_in net p c ≡ true → IsValid (K c) (history last c)
+    IsKnowledge K = (last : ℕ) → IsBefore net.stop last → (c : ℕ) → comes_in net p c ≡ true
+        → IsValid (K c) (history last c)
 
     -- over K, k events of the partition are before its safe time
     abbrev pub IsCount : Knowledge P → ℕ → Type 0
-    IsCount K k = Drains net (in_part net p) (start net (in_part net p) (inbox_events net p K)) (safe_time net p K) k
+    IsCount K k = Drains net (in_part net p) (start net (in_part net p) (inbox_events net p K))
+        (safe_time net p K) k
 
     -- the trace of the partition: the records at its interfaces among the network's first n events
     abbrev pub trace : ℕ → List (Record P)

@@ -1,4 +1,5 @@
--- The event list (Misra, section 1): a finite map from keys to pending events, from which the least key is taken.
+-- The event list (Misra, section 1): a finite map from keys to pending events, from which the
+-- least key is taken.
 use Rattle.std.specs.Prelude.{◌≡◌, ℕ, Bool, false, cond, ltb, min, List, [], ◌∷◌, Option, Some, None}
 use Rattle.std.specs.Ordering.{is_gt}
 use Rattle.std.specs.FinMap.{FinMap, entries, insert}
@@ -19,9 +20,11 @@ unfoldable pub least : {X : Type 0} → FinMap key_cmp X → Option (Key × X)
 least m = first_of_list (entries m)
 
 -- those entries whose place is here are put into the list
-abbrev pub schedule : {X : Type 0} → (Place → Bool) → List (Key × X) → FinMap key_cmp X → FinMap key_cmp X
+abbrev pub schedule : {X : Type 0} → (Place → Bool) → List (Key × X) → FinMap key_cmp X
+    → FinMap key_cmp X
 schedule here [] m = m
-schedule here (e ∷ es) m = cond (here e.0.place) (insert (schedule here es m) e.0 e.1) (schedule here es m)
+schedule here (e ∷ es) m =
+    cond (here e.0.place) (insert (schedule here es m) e.0 e.1) (schedule here es m)
 
 abbrev pub is_before : {X : Type 0} → ℕ → Option (Key × X) → Bool
 is_before t None = false

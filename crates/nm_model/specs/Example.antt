@@ -1,4 +1,5 @@
--- A network of two hosts in two partitions, whose first host sends one packet; and knowledge of a channel with two messages.
+-- A network of two hosts in two partitions, whose first host sends one packet; and knowledge of
+-- a channel with two messages.
 use Rattle.std.specs.Prelude.{ℕ, zero, suc, Bool, ◌==◌, ltb, length, List, [], ◌∷◌, Option, Some, None}
 use Rattle.nm_base.specs.declared.event.Origin.{Origin}
 use Rattle.nm_base.specs.declared.event.Origin.TheVariants.{Arrival, Source}
@@ -48,7 +49,12 @@ two_hosts = record {
 }
 
 abbrev pub its_records : List (Record ℕ)
-its_records = record { time = 0; iface = 0; dir = Out; packet = 7 } ∷ record { time = 15; iface = 1; dir = In; packet = 7 } ∷ []
+its_records = record {
+  time = 0;
+  iface = 0;
+  dir = Out;
+  packet = 7;
+} ∷ record { time = 15; iface = 1; dir = In; packet = 7 } ∷ []
 
 -- packets are numbers
 abbrev pub same_number : ℕ → ℕ → Bool

@@ -6,16 +6,21 @@ use Rattle.nm_model.specs.Accept.{Answer, New, Raised, Known, Gap, Differs, Late
 
 -- the longer list and the greater clock
 abbrev pub join : {P : Type 0} → Know P → Know P → Know P
-join a b = record { list = cond (leb (length a.list) (length b.list)) b.list a.list; clock = max a.clock b.clock }
+join a b = record {
+  list = cond (leb (length a.list) (length b.list)) b.list a.list;
+  clock = max a.clock b.clock;
+}
 
 abbrev pub join_all : {P : Type 0} → Knowledge P → Knowledge P → Knowledge P
 join_all K J c = join (K c) (J c)
 
 -- the first number at which both have a message and these differ, counted from n
-abbrev pub first_differs : {P : Type 0} → (P → P → Bool) → ℕ → List (ℕ × P) → List (ℕ × P) → Option ℕ
+abbrev pub first_differs : {P : Type 0} → (P → P → Bool) → ℕ → List (ℕ × P) → List (ℕ × P)
+    → Option ℕ
 first_differs same n [] l = None
 first_differs same n (x ∷ k) [] = None
-first_differs same n (x ∷ k) (y ∷ l) = cond (same_message same x y) (first_differs same (suc n) k l) (Some n)
+first_differs same n (x ∷ k) (y ∷ l) =
+    cond (same_message same x y) (first_differs same (suc n) k l) (Some n)
 
 abbrev pub or_else : {A : Type 0} → Option A → Option A → Option A
 or_else None p = p
@@ -29,16 +34,20 @@ abbrev pub late_past : {P : Type 0} → ℕ → Option (ℕ × P) → Option Ans
 late_past t None = None
 late_past t (Some m) = cond (ltb m.0 t) (Some (Late t)) None
 
--- why two can't be joined: messages of one number differ, or the first that one has past the other's end is before the other's clock
+-- why two can't be joined: messages of one number differ, or the first that one has past the
+-- other's end is before the other's clock
 abbrev pub join_fault : {P : Type 0} → (P → P → Bool) → Know P → Know P → Option Answer
 join_fault same a b =
     or_else (differs_at (first_differs same 0 a.list b.list))
-    (or_else (late_past a.clock (nth b.list (length a.list))) (late_past b.clock (nth a.list (length b.list))))
+    (or_else (late_past a.clock (nth b.list (length a.list)))
+    (late_past b.clock (nth a.list (length b.list))))
 
--- what a fault of a and b shows: other messages of this number, the first such; or one of the two clocks and the message before it
+-- what a fault of a and b shows: other messages of this number, the first such; or one of the
+-- two clocks and the message before it
 abbrev pub Shows : {P : Type 0} → Know P → Know P → Answer → Type 0
 Shows {P} a b (Differs n) =
-    (x : ℕ × P) × (y : ℕ × P) × (nth a.list n ≡ Some x) × (nth b.list n ≡ Some y) × (x ≢ y) × ((m : ℕ) → m < n → nth a.list m ≡ nth b.list m)
+    (x : ℕ × P) × (y : ℕ × P) × (nth a.list n ≡ Some x) × (nth b.list n ≡ Some y) × (x ≢ y)
+    × ((m : ℕ) → m < n → nth a.list m ≡ nth b.list m)
 Shows {P} a b (Late t) =
     ((x : ℕ × P) × (t ≡ a.clock) × (nth b.list (length a.list) ≡ Some x) × (x.0 < t))
     ⊎ ((x : ℕ × P) × (t ≡ b.clock) × (nth a.list (length b.list) ≡ Some x) × (x.0 < t))
@@ -54,6 +63,8 @@ at_channel c None = None
 at_channel c (Some f) = Some (c, f)
 
 -- the first fault of the channels below a number, with its channel
-abbrev pub join_faults : {P : Type 0} → (P → P → Bool) → Knowledge P → Knowledge P → ℕ → Option (ℕ × Answer)
+abbrev pub join_faults : {P : Type 0} → (P → P → Bool) → Knowledge P → Knowledge P → ℕ
+    → Option (ℕ × Answer)
 join_faults same K J zero = None
-join_faults same K J (suc c) = or_else (join_faults same K J c) (at_channel c (join_fault same (K c) (J c)))
+join_faults same K J (suc c) =
+    or_else (join_faults same K J c) (at_channel c (join_fault same (K c) (J c)))

@@ -2,7 +2,8 @@
 use Rattle.std.specs.Prelude.{◌≡◌, ℕ, ◌≤◌, length, List, [], Some}
 use Rattle.nm_model.specs.Lists.{nth, IsPrefix, IsRising}
 
--- the first messages of a channel, each with its time of arrival, and that all later ones have times from the clock on
+-- the first messages of a channel, each with its time of arrival, and that all later ones have
+-- times from the clock on
 pub record Know (P : Type 0) : Type 0 where
   pub list : List (ℕ × P)
   pub clock : ℕ

@@ -13,6 +13,17 @@ pub mod Promise
 pub mod Before
 pub mod Trace
 pub mod World
+pub mod WorldLaws
+pub mod StepLaws
 pub mod Rounds
+pub mod RoundLaws
 pub mod Certificate
 pub mod Example
+pub mod OrderlyLaws
+pub mod PromiseLaws
+pub mod ReplicaLaws
+pub mod RunLaws
+pub mod TraceLaws
+pub mod KnowledgeLaws
+pub mod PortLaws
+pub mod CertificateLaws

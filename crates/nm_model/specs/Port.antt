@@ -1,4 +1,5 @@
--- Ports: an interface transmits one packet at a time, and further ones wait behind it or are dropped (drop-tail).
+-- Ports: an interface transmits one packet at a time, and further ones wait behind it or are
+-- dropped (drop-tail).
 use Rattle.std.specs.Prelude.{ℕ, ◌+◌, Bool, false, cond, not, List, [], ◌∷◌, ◌++◌, Option, Some, None}
 
 -- when the transmission under way completes, and the packets that wait behind it, front first
@@ -18,14 +19,27 @@ idle_port = record { busy = None; dropped = 0 }
 
 -- at this time a transmission starts
 abbrev pub transmitting : {P : Type 0} → (P → ℕ) → ℕ → ℕ → P → List P → Port P × Option P
-transmitting tx now dropped x waiting = (record { busy = Some (record { completes = now + tx x; waiting = waiting }); dropped = dropped }, Some x)
+transmitting tx now dropped x waiting = (
+  record {
+    busy = Some (record { completes = now + tx x; waiting = waiting });
+    dropped = dropped;
+  },
+  Some x,
+)
 
--- a packet is offered: to an idle port it starts; at a busy one it waits where there is room, and else it is dropped
-abbrev pub offered : {P : Type 0} → (List P → P → Bool) → (P → ℕ) → ℕ → P → ℕ → Option (Busy P) → Port P × Option P
+-- a packet is offered: to an idle port it starts; at a busy one it waits where there is room,
+-- and else it is dropped
+abbrev pub offered : {P : Type 0} → (List P → P → Bool) → (P → ℕ) → ℕ → P → ℕ → Option (Busy P)
+    → Port P × Option P
 offered room tx now x dropped None = transmitting tx now dropped x []
 offered room tx now x dropped (Some b) =
-    cond (room b.waiting x)
-    (record { busy = Some (record { completes = b.completes; waiting = b.waiting ++ x ∷ [] }); dropped = dropped }, None)
+    cond (room b.waiting x) (
+      record {
+        busy = Some (record { completes = b.completes; waiting = b.waiting ++ x ∷ [] });
+        dropped = dropped;
+      },
+      None,
+    )
     (record { busy = Some b; dropped = dropped + 1 }, None)
 
 -- the front of those that wait is next
@@ -78,11 +92,13 @@ module _ {P : Type 0} (room : List P → P → Bool) (tx : P → ℕ) where
   -- the packets that were offered and not dropped, in the order of their offers
   abbrev pub taken_by : List (PortEvent P) → Port P → List P
   taken_by [] w = []
-  taken_by (Offer now x ∷ es) w = cond (is_refused room x w.busy) [] (x ∷ []) ++ taken_by es (port_turn (Offer now x) w).0
+  taken_by (Offer now x ∷ es) w =
+      cond (is_refused room x w.busy) [] (x ∷ []) ++ taken_by es (port_turn (Offer now x) w).0
   taken_by (Done now ∷ es) w = taken_by es (port_turn (Done now) w).0
 
   -- how many were dropped
   abbrev pub dropped_by : List (PortEvent P) → Port P → ℕ
   dropped_by [] w = 0
-  dropped_by (Offer now x ∷ es) w = cond (is_refused room x w.busy) 1 0 + dropped_by es (port_turn (Offer now x) w).0
+  dropped_by (Offer now x ∷ es) w =
+      cond (is_refused room x w.busy) 1 0 + dropped_by es (port_turn (Offer now x) w).0
   dropped_by (Done now ∷ es) w = dropped_by es (port_turn (Done now) w).0

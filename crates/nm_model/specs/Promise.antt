@@ -6,7 +6,8 @@ use Rattle.nm_model.specs.Port.{busy_until}
 use Rattle.nm_model.specs.Knowledge.{Knowledge}
 use Rattle.nm_model.specs.Replica.{from_scratch, safe_time}
 
--- The plain promise counts the link's delay. The tight one also counts the transmission under way, and the least time that one takes.
+-- The plain promise counts the link's delay. The tight one also counts the transmission under
+-- way, and the least time that one takes.
 pub data Promising : Type 0 where
   Plain : Promising
   Tight : Promising
@@ -19,12 +20,14 @@ module _ {P N : Type 0} (net : Net P N) where
 
   -- no further event of the part is before it
   abbrev pub next_cause : ℕ → Knowledge P → ℕ → ℕ
-  next_cause p K k = next_time (min net.stop (safe_time net p K)) (least (from_scratch net p K k).pending)
+  next_cause p K k =
+      next_time (min net.stop (safe_time net p K)) (least (from_scratch net p K k).pending)
 
   -- no further transmission to channel c starts before it
   abbrev pub next_start : Promising → ℕ → Knowledge P → ℕ → ℕ → ℕ
   next_start Plain p K k c = next_cause p K k
-  next_start Tight p K k c = max (next_cause p K k) (busy_until ((from_scratch net p K k).port (net.peer c)).busy)
+  next_start Tight p K k c =
+      max (next_cause p K k) (busy_until ((from_scratch net p K k).port (net.peer c)).busy)
 
   -- no further message comes by channel c before it
   abbrev pub promise : Promising → ℕ → Knowledge P → ℕ → ℕ → ℕ

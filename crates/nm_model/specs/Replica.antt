@@ -29,12 +29,14 @@ module _ {P N : Type 0} (net : Net P N) (p : ℕ) where
   -- the messages of all channels below a number
   abbrev pub inbox_below : Knowledge P → ℕ → List (Key × Event P)
   inbox_below K zero = []
-  inbox_below K (suc c) = cond (comes_in net p c) (message_events c 0 (K c).list) [] ++ inbox_below K c
+  inbox_below K (suc c) =
+      cond (comes_in net p c) (message_events c 0 (K c).list) [] ++ inbox_below K c
 
   abbrev pub inbox_events : Knowledge P → List (Key × Event P)
   inbox_events K = inbox_below K net.ifaces
 
-  -- The replica from scratch: the partition alone, after k events, with all messages of K pending from the start.
+  -- The replica from scratch: the partition alone, after k events, with all messages of K
+  -- pending from the start.
   abbrev pub from_scratch : Knowledge P → ℕ → State P N
   from_scratch K k = run net (in_part net p) k (start net (in_part net p) (inbox_events K))
 
@@ -61,12 +63,14 @@ module _ {P N : Type 0} (net : Net P N) (p : ℕ) where
   abbrev pub IsUnderAll : Knowledge P → Knowledge P → Type 0
   IsUnderAll K J = (c : ℕ) → comes_in net p c ≡ true → IsUnder (K c) (J c)
 
-  -- what the part's state s says of its nodes, ports, pending events, outgoing lists and records is what the whole's state g says of them
+  -- what the part's state s says of its nodes, ports, pending events, outgoing lists and
+  -- records is what the whole's state g says of them
   pub record Agrees (g s : State P N) : Type 0 where
     pub node : (v : ℕ) → (net.part v == p) ≡ true → g.node v ≡ s.node v
     pub port : (i : ℕ) → in_part net p (Arrive i) ≡ true → g.port i ≡ s.port i
     pub sent : (c : ℕ) → in_part net p (Arrive (net.peer c)) ≡ true → g.sent c ≡ s.sent c
     pub arrived : (c : ℕ) → in_part net p (Arrive c) ≡ true → g.arrived c ≡ s.arrived c
     -- pending arrivals by channels are left aside
-    pub own : (q : Key) → in_part net p q.place ≡ true → is_inbox net p q.place ≡ false → get g.pending q ≡ get s.pending q
+    pub own : (q : Key) → in_part net p q.place ≡ true → is_inbox net p q.place ≡ false
+        → get g.pending q ≡ get s.pending q
     pub records : keep_where (is_own_record net p) g.records ≡ s.records

@@ -16,7 +16,8 @@ hear_list same a n (b ∷ l) = hear_list same (accept_data same a n b).after (su
 
 -- all new messages, and then the null message
 abbrev pub hear : {P : Type 0} → (P → P → Bool) → Know P → List (ℕ × P) → ℕ → Know P
-hear same a out t = (accept_null (hear_list same a (length a.list) (drop (length a.list) out)) (length out) t).after
+hear same a out t =
+    (accept_null (hear_list same a (length a.list) (drop (length a.list) out)) (length out) t).after
 
 -- stop divided by the least lookahead, rounded up
 abbrev pub round_count : ℕ → ℕ → ℕ
@@ -46,4 +47,7 @@ module _ {P N : Type 0} (net : Net P N) (same : P → P → Bool) (kind : Promis
   pub record IsRounds (b : ℕ → ℕ → Replica P) : Type 0 where
     pub opens : (p : ℕ) → b 0 p ≡ fresh
     pub runs : (j p : ℕ) → IsCount net p (b j p).knowledge (b (suc j) p).ran
-    pub hears : (j p : ℕ) → (b (suc j) p).knowledge ≡ heard_on (λ q. record { knowledge = (b j q).knowledge; ran = (b (suc j) q).ran }) p
+    pub hears : (j p : ℕ) → (b (suc j) p).knowledge ≡ heard_on (λ q. record {
+      knowledge = (b j q).knowledge;
+      ran = (b (suc j) q).ran;
+    }) p

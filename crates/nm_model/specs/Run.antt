@@ -1,5 +1,6 @@
--- The run: the event of the least key is done, again and again. What is here, which places belong to the run, is a parameter, so that one
--- definition serves the whole network with its one event list (Misra, section 1) and a part of it, a logical process (section 2).
+-- The run: the event of the least key is done, again and again. What is here, which places
+-- belong to the run, is a parameter, so that one definition serves the whole network with its
+-- one event list (Misra, section 1) and a part of it, a logical process (section 2).
 use Rattle.std.specs.Prelude.{ℕ, zero, suc, ◌+◌, Bool, true, length, List, [], ◌∷◌, ◌++◌, Option, Some, None}
 use Rattle.std.specs.FinMap.{FinMap, remove, empty}
 use Rattle.nm_base.specs.declared.key.Place.{Place}
@@ -22,7 +23,8 @@ pub record State (P N : Type 0) : Type 0 where
   pub port : ℕ → Port P
   -- the event list
   pub pending : FinMap key_cmp (Event P)
-  -- by the receiving interface: what was put on it so far, each with its time of arrival; its length is the next arrival's number
+  -- by the receiving interface: what was put on it so far, each with its time of arrival; its
+  -- length is the next arrival's number
   pub sent : ℕ → List (ℕ × P)
   -- how many arrivals were done
   pub arrived : ℕ → ℕ
@@ -84,32 +86,54 @@ pends_before t s = is_before t (least s.pending)
 
 module _ {P N : Type 0} (net : Net P N) where
   -- interface i goes on as its port says
-  abbrev pub turned_by : Option (ℕ × P) → N → ℕ → Port P × Option P → Option (ℕ × ℕ × P) → Effect P N
-  turned_by came n i r follows = record { after = n; came = came; turn = Some (i, r.0); transmission = at_iface i r.1; follows = follows }
+  abbrev pub turned_by : Option (ℕ × P) → N → ℕ → Port P × Option P → Option (ℕ × ℕ × P)
+      → Effect P N
+  turned_by came n i r follows = record {
+    after = n;
+    came = came;
+    turn = Some (i, r.0);
+    transmission = at_iface i r.1;
+    follows = follows;
+  }
 
   -- what a reaction sends is offered to its interface
-  abbrev pub sent_on : (ℕ → Port P) → ℕ → Option (ℕ × P) → N → Option (ℕ × P) → Option (ℕ × ℕ × P) → Effect P N
-  sent_on ports time came n None follows = record { after = n; came = came; turn = None; transmission = None; follows = follows }
+  abbrev pub sent_on : (ℕ → Port P) → ℕ → Option (ℕ × P) → N → Option (ℕ × P) → Option (ℕ × ℕ × P)
+      → Effect P N
+  sent_on ports time came n None follows = record {
+    after = n;
+    came = came;
+    turn = None;
+    transmission = None;
+    follows = follows;
+  }
   sent_on ports time came n (Some s) follows =
-      turned_by came n s.0 (offered (net.room s.0) (net.tx s.0) time s.1 (ports s.0).dropped (ports s.0).busy) follows
+      turned_by came n s.0
+      (offered (net.room s.0) (net.tx s.0) time s.1 (ports s.0).dropped
+      (ports s.0).busy) follows
 
-  abbrev pub reacted : (ℕ → Port P) → ℕ → Option (ℕ × P) → N × Option (ℕ × P) → Option (ℕ × ℕ × P) → Effect P N
+  abbrev pub reacted : (ℕ → Port P) → ℕ → Option (ℕ × P) → N × Option (ℕ × P) → Option (ℕ × ℕ × P)
+      → Effect P N
   reacted ports time came r follows = sent_on ports time came r.0 r.1 follows
 
   -- The effect of an event. It reads the state of its node and that node's ports alone.
   abbrev pub effect : (ℕ → N) → (ℕ → Port P) → ℕ → ℕ → Event P → Effect P N
   effect nodes ports time number (Delivery (Arrival i) x) =
-      reacted ports time (Some (i, x)) (net.react (net.owner i) (nodes (net.owner i)) (Arrival i) x) None
+      reacted ports time (Some (i, x))
+      (net.react (net.owner i) (nodes (net.owner i)) (Arrival i) x) None
   effect nodes ports time number (Delivery (Source j) x) =
-      reacted ports time None (net.react (net.source_node j) (nodes (net.source_node j)) (Source j) x) (by_source j (net.source j (suc number)))
+      reacted ports time None
+      (net.react (net.source_node j) (nodes (net.source_node j)) (Source j) x)
+      (by_source j (net.source j (suc number)))
   effect nodes ports time number (Completion i) =
-      turned_by None (nodes (net.owner i)) i (completed (net.tx i) time (ports i).dropped (ports i).busy) None
+      turned_by None (nodes (net.owner i)) i
+      (completed (net.tx i) time (ports i).dropped (ports i).busy) None
 
   -- a transmission that starts at this time arrives at the far interface
   abbrev pub sent_after : ℕ → (ℕ → List (ℕ × P)) → Option (ℕ × P) → ℕ → List (ℕ × P)
   sent_after time sent None = sent
   sent_after time sent (Some s) =
-      set_at sent (net.peer s.0) (sent (net.peer s.0) ++ (time + net.tx s.0 s.1 + net.delay s.0, s.1) ∷ [])
+      set_at sent (net.peer s.0)
+      (sent (net.peer s.0) ++ (time + net.tx s.0 s.1 + net.delay s.0, s.1) ∷ [])
 
   -- its completion and its arrival
   abbrev pub transmission_events : ℕ → (ℕ → List (ℕ × P)) → Option (ℕ × P) → List (Key × Event P)
@@ -122,7 +146,8 @@ module _ {P N : Type 0} (net : Net P N) where
 
   -- the events that an event makes
   abbrev pub new_events : Key → (ℕ → List (ℕ × P)) → Effect P N → List (Key × Event P)
-  new_events k sent e = transmission_events k.time sent e.transmission ++ next_events k.number e.follows
+  new_events k sent e =
+      transmission_events k.time sent e.transmission ++ next_events k.number e.follows
 
   -- the events that this event makes in this state
   abbrev pub made : State P N → Key × Event P → List (Key × Event P)

@@ -10,7 +10,9 @@ same_dir In Out = false
 same_dir Out In = false
 same_dir Out Out = true
 
--- the packets that passed interface i in this direction, each with the time of its record: arrivals, or starts of transmissions
+-- the packets that passed interface i in this direction, each with the time of its record:
+-- arrivals, or starts of transmissions
 abbrev pub passed : {P : Type 0} → Dir → ℕ → List (Record P) → List (ℕ × P)
 passed d i [] = []
-passed d i (r ∷ l) = cond (same_dir r.dir d && (i == r.iface)) ((r.time, r.packet) ∷ passed d i l) (passed d i l)
+passed d i (r ∷ l) =
+    cond (same_dir r.dir d && (i == r.iface)) ((r.time, r.packet) ∷ passed d i l) (passed d i l)

@@ -29,7 +29,8 @@ pub record World (P : Type 0) : Type 0 where
   pub replica : ℕ → ℕ → Replica P
   pub bag : List (Frame P)
 
--- Steps of replica r, 0 or 1, of partition p. Frames of the bag may be delivered late, out of order, again or never.
+-- Steps of replica r, 0 or 1, of partition p. Frames of the bag may be delivered late, out of
+-- order, again or never.
 pub data Step : Type 0 where
   -- p, r: at most so many events before the safe time
   Run : ℕ → ℕ → ℕ → Step
@@ -60,14 +61,18 @@ pub data Outcome : Type 0 where
   -- the first channel that can't be joined, and why; nothing changed
   MergeRefused : ℕ → Answer → Outcome
   Emptied : Outcome
-  -- the step names a partition, replica, channel, frame or message that isn't there; nothing changed
+  -- the step names a partition, replica, channel, frame or message that isn't there; nothing
+  -- changed
   NoSuch : Outcome
 
 abbrev pub opening : {P : Type 0} → World P
 opening = record { replica = λ p r. fresh; bag = [] }
 
 abbrev pub put_replica : {P : Type 0} → World P → ℕ → ℕ → Replica P → World P
-put_replica w p r x = record { replica = set_at w.replica p (set_at (w.replica p) r x); bag = w.bag }
+put_replica w p r x = record {
+  replica = set_at w.replica p (set_at (w.replica p) r x);
+  bag = w.bag;
+}
 
 abbrev pub put_frames : {P : Type 0} → World P → List (Frame P) → World P
 put_frames w l = record { replica = w.replica; bag = w.bag ++ l }
@@ -87,19 +92,31 @@ sends w c n (Some b) = (put_frames w (DataFrame c n b ∷ []), Frames 1)
 
 -- a replica that was told of one channel
 abbrev pub told : {P : Type 0} → World P → ℕ → ℕ → ℕ → Accepted P → World P × Outcome
-told w p r c a =
-    (put_replica w p r (record { knowledge = set_at (w.replica p r).knowledge c a.after; ran = (w.replica p r).ran }), Answered a.answer)
+told w p r c a = (
+  put_replica w p r (record {
+    knowledge = set_at (w.replica p r).knowledge c a.after;
+    ran = (w.replica p r).ran;
+  }),
+  Answered a.answer,
+)
 
-abbrev pub merges : {P : Type 0} → World P → ℕ → ℕ → Knowledge P → Option (ℕ × Answer) → World P × Outcome
-merges w p r J None =
-    (put_replica w p r (record { knowledge = join_all (w.replica p r).knowledge J; ran = (w.replica p r).ran }), Merged)
+abbrev pub merges : {P : Type 0} → World P → ℕ → ℕ → Knowledge P → Option (ℕ × Answer)
+    → World P × Outcome
+merges w p r J None = (
+  put_replica w p r (record {
+    knowledge = join_all (w.replica p r).knowledge J;
+    ran = (w.replica p r).ran;
+  }),
+  Merged,
+)
 merges w p r J (Some f) = (w, MergeRefused f.0 f.1)
 
 module _ {P N : Type 0} (net : Net P N) where
   -- the number of events after at most n further ones before the safe time
   abbrev pub advance : ℕ → Knowledge P → ℕ → ℕ → ℕ
   advance p K zero k = k
-  advance p K (suc n) k = cond (pends_before (safe_time net p K) (from_scratch net p K k)) (advance p K n (suc k)) k
+  advance p K (suc n) k =
+      cond (pends_before (safe_time net p K) (from_scratch net p K k)) (advance p K n (suc k)) k
 
   abbrev pub is_replica : ℕ → ℕ → Bool
   is_replica p r = ltb p net.parts && ltb r 2
@@ -114,7 +131,8 @@ module _ {P N : Type 0} (net : Net P N) where
   abbrev pub runs : World P → ℕ → ℕ → Replica P → ℕ → World P × Outcome
   runs w p r x k = (
     put_replica w p r (record { knowledge = x.knowledge; ran = k }),
-    cond (pends_before (safe_time net p x.knowledge) (from_scratch net p x.knowledge k)) (Limit (k - x.ran)) (All (k - x.ran)),
+    cond (pends_before (safe_time net p x.knowledge) (from_scratch net p x.knowledge k))
+        (Limit (k - x.ran)) (All (k - x.ran)),
   )
 
   module _ (same : P → P → Bool) where
@@ -122,17 +140,20 @@ module _ {P N : Type 0} (net : Net P N) where
     delivers w r None = (w, NoSuch)
     delivers w r (Some (DataFrame c n b)) =
         let p = receiver_of net c in
-        cond (is_replica p r) (told w p r c (accept_data same ((w.replica p r).knowledge c) n b)) (w, NoSuch)
+        cond (is_replica p r) (told w p r c (accept_data same ((w.replica p r).knowledge c) n b))
+        (w, NoSuch)
     delivers w r (Some (NullFrame c count t)) =
         let p = receiver_of net c in
-        cond (is_replica p r) (told w p r c (accept_null ((w.replica p r).knowledge c) count t)) (w, NoSuch)
+        cond (is_replica p r) (told w p r c (accept_null ((w.replica p r).knowledge c) count t))
+        (w, NoSuch)
 
     abbrev pub happens : World P → Step → World P × Outcome
     happens w (Run p r n) =
         let x = w.replica p r in
         cond (is_replica p r) (runs w p r x (advance p x.knowledge n x.ran)) (w, NoSuch)
     happens w (Data p r c n) =
-        cond (is_replica p r && goes_out net p c) (sends w c n (nth (outgoing p (w.replica p r) c) n)) (w, NoSuch)
+        cond (is_replica p r && goes_out net p c)
+        (sends w c n (nth (outgoing p (w.replica p r) c) n)) (w, NoSuch)
     happens w (Resend p r c n) =
         let l = outgoing p (w.replica p r) c in
         cond (is_replica p r && goes_out net p c && leb n (length l))
@@ -140,13 +161,18 @@ module _ {P N : Type 0} (net : Net P N) where
         (w, NoSuch)
     happens w (Null kind p r c) =
         let x = w.replica p r in
-        cond (is_replica p r && goes_out net p c)
-        (put_frames w (NullFrame c (length (outgoing p x c)) (promise net kind p x.knowledge x.ran c) ∷ []), Frames 1)
+        cond (is_replica p r && goes_out net p c) (
+          put_frames w
+              (NullFrame c (length (outgoing p x c))
+              (promise net kind p x.knowledge x.ran c) ∷ []),
+          Frames 1,
+        )
         (w, NoSuch)
     happens w (Deliver i r) = delivers w r (nth w.bag i)
     happens w (Merge p r) =
         let J = (w.replica p (sister r)).knowledge in
-        cond (is_replica p r) (merges w p r J (join_faults same (w.replica p r).knowledge J net.ifaces)) (w, NoSuch)
+        cond (is_replica p r)
+        (merges w p r J (join_faults same (w.replica p r).knowledge J net.ifaces)) (w, NoSuch)
     happens w (Restart p r) = cond (is_replica p r) (put_replica w p r fresh, Emptied) (w, NoSuch)
 
     -- the world after a list of steps, and the answers

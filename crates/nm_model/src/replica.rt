@@ -1,71 +1,35 @@
 //! Laws of the replica from scratch: what a partition computes from its knowledge alone.
 
-ghost use Rattle.std.specs.Prelude.{◌≡◌, ℕ, ◌<◌, ◌≤◌, true, length, List, [], ◌∷◌, ◌++◌, None};
-ghost use Rattle.std.specs.FinMap.{get, insert};
-ghost use Rattle.nm_base.specs.declared.key.Place.TheVariants.{Arrive};
-ghost use Rattle.nm_base.specs.declared.event.Event.TheVariants.{Delivery};
-ghost use Rattle.nm_base.specs.declared.event.Origin.TheVariants.{Arrival};
-ghost use Rattle.nm_base.specs.Key.{key_of};
-ghost use Rattle.nm_model.specs.Lists.{IsPrefix, set_at};
+ghost use Rattle.std.specs.Prelude.{◌≡◌, ℕ, ◌<◌, ◌≤◌, true, []};
+ghost use Rattle.nm_model.specs.Lists.{set_at};
 ghost use Rattle.nm_model.specs.Network.{Net, IsNet};
-ghost use Rattle.nm_model.specs.Run.{one_list};
 ghost use Rattle.nm_model.specs.Knowledge.{Knowledge, Know, IsUnder, no_knowledge};
-ghost use Rattle.nm_model.specs.Partition.{in_part, comes_in};
+ghost use Rattle.nm_model.specs.Partition.{comes_in};
 ghost use Rattle.nm_model.specs.Replica.{from_scratch, inbox_events, safe_time, IsWithin};
-ghost use Rattle.nm_model.specs.Replica.{IsUnderAll, with_new, Agrees};
-ghost use Rattle.nm_model.specs.Promise.{Promising, promise};
-ghost use Rattle.nm_model.specs.Before.{IsBefore, IsCount, IsKnowledge, events_at, trace};
+ghost use Rattle.nm_model.specs.Replica.{IsUnderAll};
+ghost use Rattle.nm_model.specs.Before.{IsKnowledge};
+ghost use Rattle.nm_model.specs.ReplicaLaws.{AreEqualStates, HasGrown, IsCutOf, StaysOver};
+ghost use Rattle.nm_model.specs.ReplicaLaws.{TakesOneMore};
 
 /// The cut law: a partition over valid knowledge computes its part of the whole network. `agrees`:
 /// each of its states is the cut to the partition of every state of the network that has done as
 /// many events there; `reached`: there is such a one. `prefix`, `exact`: so its trace begins the
 /// partition's trace, and is all of it before the safe time once all that is safe has run.
 pub fn cut_law<P, N>()
-    ensures agrees { (net : Net P N) → IsNet net → (p : ℕ) (K : Knowledge P) → IsKnowledge net p K
-        → (k n : ℕ) → IsWithin net p K k → events_at net (in_part net p) n ≡ k
-        → Agrees net p (one_list net n) (from_scratch net p K k) }
-    ensures reached { (net : Net P N) → IsNet net → (p : ℕ) (K : Knowledge P)
-        → IsKnowledge net p K
-        → (k last : ℕ) → IsWithin net p K k → IsBefore net net.stop last
-        → (n : ℕ) × (n ≤ last) × (events_at net (in_part net p) n ≡ k) }
-    ensures prefix { (net : Net P N) → IsNet net → (p : ℕ) (K : Knowledge P) → IsKnowledge net p K
-        → (k last : ℕ) → IsWithin net p K k → IsBefore net net.stop last
-        → IsPrefix (from_scratch net p K k).records (trace net p last) }
-    ensures exact { (net : Net P N) → IsNet net → (p : ℕ) (K : Knowledge P) → IsKnowledge net p K
-        → (k n : ℕ) → IsCount net p K k → IsBefore net (safe_time net p K) n
-        → (from_scratch net p K k).records ≡ trace net p n }
+    ensures { (net : Net P N) → IsNet net → (p : ℕ) (K : Knowledge P) → IsKnowledge net p K
+        → IsCutOf net p K }
 {}
 
 /// Over more knowledge a partition is as before, with the new messages pending.
 pub fn law_of_books<P, N>()
-    ensures same { (net : Net P N) → IsNet net → (p : ℕ) (K J : Knowledge P)
-        → IsUnderAll net p K J
-        → (k : ℕ) → IsWithin net p K k
-        → from_scratch net p J k ≡ with_new net p K J (from_scratch net p K k) }
-    ensures within { (net : Net P N) → IsNet net → (p : ℕ) (K J : Knowledge P)
-        → IsUnderAll net p K J → (k : ℕ) → IsWithin net p K k → IsWithin net p J k }
+    ensures { (net : Net P N) → IsNet net → (p : ℕ) (K J : Knowledge P) → IsUnderAll net p K J
+        → (k : ℕ) → IsWithin net p K k → StaysOver net p K J k }
 {}
 
 /// To take one new message is to put one new event, and to raise a clock changes nothing.
 pub fn told_one_more<P, N>()
-    ensures new_key { (net : Net P N) → IsNet net → (p : ℕ) (K : Knowledge P) (k : ℕ)
-        → IsWithin net p K k → (c : ℕ) → comes_in net p c ≡ true
-        → (b : ℕ × P) → (K c).clock ≤ b.0
-        → get (from_scratch net p K k).pending (key_of b.0 (Arrive c) (length (K c).list))
-        ≡ None }
-    ensures message { (net : Net P N) → IsNet net → (p : ℕ) (K : Knowledge P) (k : ℕ)
-        → IsWithin net p K k → (c : ℕ) → comes_in net p c ≡ true
-        → (b : ℕ × P) → (K c).clock ≤ b.0
-        → from_scratch net p
-        (set_at K c (record { list = (K c).list ++ b ∷ []; clock = b.0 })) k
-        ≡ record (from_scratch net p K k) {
-          pending = insert (from_scratch net p K k).pending
-              (key_of b.0 (Arrive c) (length (K c).list)) (Delivery (Arrival c) b.1);
-        } }
-    ensures clock { (net : Net P N) → IsNet net → (p : ℕ) (K : Knowledge P) (k : ℕ)
-        → IsWithin net p K k → (c : ℕ) → comes_in net p c ≡ true → (t : ℕ) → (K c).clock ≤ t
-        → from_scratch net p (set_at K c (record { list = (K c).list; clock = t })) k
-        ≡ from_scratch net p K k }
+    ensures { (net : Net P N) → IsNet net → (p : ℕ) (K : Knowledge P) (k : ℕ) → IsWithin net p K k
+        → (c : ℕ) → comes_in net p c ≡ true → TakesOneMore net p K k c }
 {}
 
 /// More of one channel is more knowledge.
@@ -77,13 +41,8 @@ pub fn more_of_one_channel_is_more<P, N>()
 /// What was put on a channel and what was recorded stays, whatever is done and whatever more is
 /// known.
 pub fn what_was_done_stays<P, N>()
-    ensures sent { (net : Net P N) → IsNet net → (p : ℕ) (K J : Knowledge P) → IsUnderAll net p K J
-        → (k m : ℕ) → k ≤ m → IsWithin net p K k → (c : ℕ)
-        → IsPrefix ((from_scratch net p K k).sent c) ((from_scratch net p J m).sent c) }
-    ensures records { (net : Net P N) → IsNet net → (p : ℕ) (K J : Knowledge P)
-        → IsUnderAll net p K J
-        → (k m : ℕ) → k ≤ m → IsWithin net p K k
-        → IsPrefix (from_scratch net p K k).records (from_scratch net p J m).records }
+    ensures { (net : Net P N) → IsNet net → (p : ℕ) (K J : Knowledge P) → IsUnderAll net p K J
+        → (k m : ℕ) → k ≤ m → IsWithin net p K k → HasGrown net p K J k m }
 {}
 
 /// Over no knowledge a partition begins with its sources' events alone.
@@ -94,16 +53,8 @@ pub fn nothing_known_puts_nothing<P, N>()
 /// Who knows the same of each incoming channel has the same states and makes the same promises,
 /// whoever it is.
 pub fn equal_knowledge_gives_equal_states<P, N>()
-    ensures states { (net : Net P N) → IsNet net → (p : ℕ) (K J : Knowledge P)
-        → ((c : ℕ) → comes_in net p c ≡ true → K c ≡ J c)
-        → (k : ℕ) → IsWithin net p K k → from_scratch net p J k ≡ from_scratch net p K k }
-    ensures within { (net : Net P N) → IsNet net → (p : ℕ) (K J : Knowledge P)
-        → ((c : ℕ) → comes_in net p c ≡ true → K c ≡ J c)
-        → (k : ℕ) → IsWithin net p K k → IsWithin net p J k }
-    ensures promises { (net : Net P N) → IsNet net → (p : ℕ) (K J : Knowledge P)
-        → ((c : ℕ) → comes_in net p c ≡ true → K c ≡ J c)
-        → (kind : Promising) (k c : ℕ) → IsWithin net p K k
-        → promise net kind p J k c ≡ promise net kind p K k c }
+    ensures { (net : Net P N) → IsNet net → (p : ℕ) (K J : Knowledge P)
+        → ((c : ℕ) → comes_in net p c ≡ true → K c ≡ J c) → AreEqualStates net p K J }
 {}
 
 /// The safe time is at most `stop` and the clock of each channel that comes in, and it is the

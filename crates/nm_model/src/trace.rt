@@ -1,16 +1,16 @@
 //! Laws of traces.
 
-ghost use Rattle.std.specs.Prelude.{◌≡◌, ℕ, ◌+◌, ◌<◌, ◌≤◌, ◌==◌, false, length, List, Some};
-ghost use Rattle.nm_base.specs.declared.record.Dir.TheVariants.{In, Out};
-ghost use Rattle.nm_base.specs.declared.record.Record.{Record};
-ghost use Rattle.nm_model.specs.Lists.{nth, keep_where};
+ghost use Rattle.std.specs.Prelude.{◌≡◌, ℕ, ◌<◌, ◌==◌, length};
+ghost use Rattle.nm_base.specs.declared.record.Dir.TheVariants.{In};
+ghost use Rattle.nm_model.specs.Lists.{keep_where};
 ghost use Rattle.nm_model.specs.Network.{Net, IsNet};
-ghost use Rattle.nm_model.specs.Run.{one_list, pends_before};
+ghost use Rattle.nm_model.specs.Run.{one_list};
 ghost use Rattle.nm_model.specs.Knowledge.{Knowledge, Know};
 ghost use Rattle.nm_model.specs.Replica.{from_scratch};
 ghost use Rattle.nm_model.specs.Trace.{passed};
 ghost use Rattle.nm_model.specs.Partition.{receiver_of};
 ghost use Rattle.nm_model.specs.Before.{trace};
+ghost use Rattle.nm_model.specs.TraceLaws.{RecordsInOrder, StartsArrive};
 
 /// The count of arrivals in a state is that of its records, so it says nothing of its own.
 pub fn arrivals_are_recorded<P, N>()
@@ -25,30 +25,13 @@ pub fn arrivals_are_recorded<P, N>()
 /// end, after its transmission and the link's delay, once that time is passed; and no other
 /// arrives. Transmissions of an interface do not overlap.
 pub fn what_starts_arrives<P, N>()
-    ensures arrives { (net : Net P N) → IsNet net → (t n : ℕ)
-        → pends_before t (one_list net n) ≡ false → (i m s : ℕ) (x : P)
-        → nth (passed Out i (one_list net n).records) m ≡ Some (s, x)
-        → s + net.tx i x + net.delay i < t
-        → nth (passed In (net.peer i) (one_list net n).records) m
-        ≡ Some (s + net.tx i x + net.delay i, x) }
-    ensures transmitting { (net : Net P N) → IsNet net → (n i m t : ℕ) (x : P)
-        → nth (passed In i (one_list net n).records) m ≡ Some (t, x)
-        → (s : ℕ) × (nth (passed Out (net.peer i) (one_list net n).records) m ≡ Some (s, x))
-        × (t ≡ s + net.tx (net.peer i) x + net.delay (net.peer i)) }
-    ensures apart { (net : Net P N) → IsNet net → (n i m k s t : ℕ) (x y : P) → m < k
-        → nth (passed Out i (one_list net n).records) m ≡ Some (s, x)
-        → nth (passed Out i (one_list net n).records) k ≡ Some (t, y) → s + net.tx i x ≤ t }
+    ensures { (net : Net P N) → IsNet net → StartsArrive net }
 {}
 
 /// Records stand in the order of time: in the whole network and in a partition over anything that
 /// it was told.
 pub fn records_in_order<P, N>()
-    ensures whole { (net : Net P N) → IsNet net → (n j k : ℕ) (a b : Record P) → j ≤ k
-        → nth (one_list net n).records j ≡ Some a → nth (one_list net n).records k ≡ Some b
-        → a.time ≤ b.time }
-    ensures part { (net : Net P N) → IsNet net → (p : ℕ) (K : Knowledge P) (n j k : ℕ)
-        (a b : Record P) → j ≤ k → nth (from_scratch net p K n).records j ≡ Some a
-        → nth (from_scratch net p K n).records k ≡ Some b → a.time ≤ b.time }
+    ensures { (net : Net P N) → IsNet net → RecordsInOrder net }
 {}
 
 /// The records of an interface in the trace of its partition are those in the trace of the whole

@@ -90,8 +90,9 @@ header_fault octets = if nat_lt (length octets) 20 then Some Short
     || nat_lt (length octets) (word_at octets 2) then Some Total
     else None))))
 
--- The octets pass the tests, and nothing follows the packet. This is the grammar as the tests have it: octets are such a
--- packet where `IsIpv4` holds of the fields and the payload that are read of them.
+-- The octets pass the tests, and nothing follows the packet. This is the grammar as the tests
+-- have it: octets are such a packet where `IsIpv4` holds of the fields and the payload that are
+-- read of them.
 pub record IsPacket (octets : List ℕ) : Type 0 where
   pub least : 20 ≤ length octets
   pub greatest : length octets < 65536
@@ -131,7 +132,7 @@ plain_header h size = record {
 abbrev pub lowered : Header → Header
 lowered h = record h { time_to_live = h.time_to_live - 1 }
 
--- what an error message quotes of a packet: its header as it came, and the first eight octets of its payload, or all
--- of them where there are fewer (RFC 792)
+-- what an error message quotes of a packet: its header as it came, and the first eight octets of
+-- its payload, or all of them where there are fewer (RFC 792)
 abbrev pub quote_of : List ℕ → List ℕ
 quote_of octets = header_of octets ++ take 8 (payload_of octets)

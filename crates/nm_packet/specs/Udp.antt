@@ -18,7 +18,8 @@ abbrev pub udp_octets : UdpHeader → List ℕ → List ℕ
 udp_octets h payload = word h.source_port ++ word h.destination_port ++ word h.length
     ++ word h.checksum ++ payload
 
--- the pseudo header before a datagram of so many octets: source, destination, a zero, the protocol 17 and the length
+-- the pseudo header before a datagram of so many octets: source, destination, a zero, the
+-- protocol 17 and the length
 abbrev pub pseudo_header : ℕ → ℕ → ℕ → List ℕ
 pseudo_header source destination size =
     long_word source ++ long_word destination ++ 0 ∷ 17 ∷ word size
@@ -35,8 +36,8 @@ pub record UdpFits (h : UdpHeader) : Type 0 where
   pub length : h.length < 65536
   pub checksum : h.checksum < 65536
 
--- The octets are a datagram with these fields and these data between these addresses, and nothing after it. A checksum
--- of 0 says that the sender made none.
+-- The octets are a datagram with these fields and these data between these addresses, and
+-- nothing after it. A checksum of 0 says that the sender made none.
 pub record IsUdp (source destination : ℕ) (h : UdpHeader) (payload octets : List ℕ) : Type 0 where
   pub fits : UdpFits h
   pub spelled : octets ≡ udp_octets h payload
@@ -82,7 +83,8 @@ udp_header ports size = record {
   checksum = 0;
 }
 
--- the checksum that is written where all other words have this sum: a 0 would say that there is none
+-- the checksum that is written where all other words have this sum: a 0 would say that there is
+-- none
 abbrev pub udp_checksum_of : ℕ → ℕ
 udp_checksum_of sum = if checksum_of sum == 0 then 65535 else checksum_of sum
 

@@ -12,13 +12,17 @@ pub data Turn : Type 0 where
   First : Turn
   Second : Turn
 
--- Turn by turn one session gives the frame that it owes of its book, and the other one takes it. Nobody changes the books meanwhile.
-abbrev pub Talks : BookValue → BookValue → List Turn → SessionValue → SessionValue → SessionValue → SessionValue → Type 0
+-- Turn by turn one session gives the frame that it owes of its book, and the other one takes it.
+-- Nobody changes the books meanwhile.
+abbrev pub Talks : BookValue → BookValue → List Turn → SessionValue → SessionValue → SessionValue
+    → SessionValue → Type 0
 Talks a b [] s t last other = (last ≡ s) × (other ≡ t)
 Talks a b (First ∷ turns) s t last other =
-    (f : Frame) × (u : SessionValue) × (owed s a ≡ Some f) × (taken t f ≡ Ok u) × Talks a b turns (after_giving s f) u last other
+    (f : Frame) × (u : SessionValue) × (owed s a ≡ Some f) × (taken t f ≡ Ok u)
+    × Talks a b turns (after_giving s f) u last other
 Talks a b (Second ∷ turns) s t last other =
-    (f : Frame) × (u : SessionValue) × (owed t b ≡ Some f) × (taken s f ≡ Ok u) × Talks a b turns u (after_giving t f) last other
+    (f : Frame) × (u : SessionValue) × (owed t b ≡ Some f) × (taken s f ≡ Ok u)
+    × Talks a b turns u (after_giving t f) last other
 
 -- replicas of two partitions of one network, for which nothing is left to do
 pub record AreNeighbours (a b : BookValue) : Type 0 where
@@ -29,7 +33,8 @@ pub record AreNeighbours (a b : BookValue) : Type 0 where
 
 -- of each channel that runs from a to b, b holds no more messages than a has sent
 abbrev pub HoldsSent : BookValue → BookValue → Type 0
-HoldsSent a b = (c : ℕ) → is_outgoing a c ≡ true → is_incoming b c ≡ true → held_on b c ≤ length (sent_over a c)
+HoldsSent a b =
+    (c : ℕ) → is_outgoing a c ≡ true → is_incoming b c ≡ true → held_on b c ≤ length (sent_over a c)
 
 -- the session of replica a with partition b's, of which nothing was said yet
 abbrev pub session_of : BookValue → BookValue → SessionValue

@@ -11,7 +11,9 @@ use nm_base::{Packet, PartNo, Time};
 use nm_book::Book;
 use nm_forward::NodeState;
 use nm_knowledge::laws::packets_are_told_apart;
-use nm_model::rounds::rounds_bound;
+use nm_model::rounds::{
+    a_lone_partition_is_safe, rounds_bound, so_many_rounds_are_enough, there_are_rounds,
+};
 use nm_model::run::times_pass;
 use nm_progress::Progress;
 use nm_sim::network::{channels_are_those_of_the_network, every_topology_is_a_network};
@@ -93,7 +95,10 @@ fn do_rounds(
     channels_are_those_of_the_network(topology); // law: what comes in is a channel
     packets_are_told_apart(); // law: equal octets are found equal
     times_pass::<Packet, NodeState>(); // law: the network reaches `stop`
+    there_are_rounds::<Packet, NodeState>(); // law: these are some
     rounds_bound::<Packet, NodeState>(); // law: in which round all is done
+    so_many_rounds_are_enough(); // law: for the least lookahead
+    a_lone_partition_is_safe::<Packet, NodeState>(); // law: where there is no channel
     for round in 0..max {
         if do_round(alloc, topology, books)? {
             return Ok(Some(round + 1));

@@ -30,8 +30,9 @@ use std::thread::{self, Promise};
 use std::time::Clock;
 
 /// How many events a replica does itself after a poll. Where more are left they take longer than to
-/// wake another thread, and the pool does them.
-const OWN_EVENTS: u64 = 512;
+/// wake another thread, and the pool does them. The packets of so few are still near the processor
+/// when their records are written.
+const OWN_EVENTS: u64 = 128;
 
 /// Which replica of a run it is.
 #[derive(Clone, Copy)]

@@ -33,9 +33,11 @@ module _ (t : TopologyValue) (events : ℕ → ℕ) where
   abbrev pub had_at : (Had → ℕ) → (i k : ℕ) → ℕ
   had_at amount i k = amount (had i (one_list (net_of t) (events k)))
 
-  -- what it has more in each of the steps 0 to `last` is all together what it has at the end of the last
+  -- what it has more in each of the steps 0 to `last` is all together what it has at the end
+  -- of the last
   abbrev pub AddUp : (Had → ℕ) → (i last : ℕ) → Type 0
-  AddUp amount i last = sum_through (λ k. had_at amount i (suc k) - had_at amount i k) last ≡ had_at amount i (suc last)
+  AddUp amount i last = sum_through (λ k. had_at amount i (suc k) - had_at amount i k) last
+      ≡ had_at amount i (suc last)
 
   -- for each interface and each last step
   abbrev pub AllAddUp : (Had → ℕ) → Type 0

@@ -71,7 +71,8 @@ FitsAt ns k p = Fits (slice_index ns k) (view_of p)
 abbrev pub FitAll : List ℕ → List WordSeat → Type 0
 FitAll ns ps = Each (FitsAt ns) ps
 
--- the seat found n at the word k, which is no less than it had found there, and looked once more; it is as it was but for that
+-- the seat found n at the word k, which is no less than it had found there, and looked once
+-- more; it is as it was but for that
 abbrev pub FindsAt : List WordSeat → ℕ → ℕ → List WordSeat → Type 0
 FindsAt ps k n qs =
     (v : View) × (get_elem? (map view_of ps) k ≡ some v)

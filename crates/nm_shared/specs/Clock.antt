@@ -23,7 +23,11 @@ abbrev pub looked : ℕ → View → View
 looked n v = record v { found = n; looks = v.looks + 1 }
 
 abbrev pub joined_view : View → View → View
-joined_view v w = record { owned = v.owned ++ w.owned; found = max v.found w.found; looks = v.looks + w.looks }
+joined_view v w = record {
+  owned = v.owned ++ w.owned;
+  found = max v.found w.found;
+  looks = v.looks + w.looks;
+}
 
 abbrev pub AllAre : ℕ → List ℕ → Type 0
 AllAre n [] = Unit {0}
@@ -33,12 +37,14 @@ AllAre n (x ∷ xs) = (x ≡ n) × AllAre n xs
 abbrev pub Fits : ℕ → View → Type 0
 Fits n v = AllAre n v.owned × (v.found ≤ n)
 
--- The rule. A word is what the view that owns it has, at most one view owns it, and no view found more
+-- The rule. A word is what the view that owns it has, at most one view owns it, and no view
+-- found more
 abbrev pub EachFits : ℕ → List View → Type 0
 EachFits n views = (j : ℕ) (v : View) → get_elem? views j ≡ some v → Fits n v
 
 abbrev pub OneOwns : List View → Type 0
-OneOwns views = (i j : ℕ) (v w : View) → get_elem? views i ≡ some v → get_elem? views j ≡ some w → v.owned ≢ [] → w.owned ≢ [] → i ≡ j
+OneOwns views = (i j : ℕ) (v w : View) → get_elem? views i ≡ some v → get_elem? views j ≡ some w
+    → v.owned ≢ [] → w.owned ≢ [] → i ≡ j
 
 pub record IsKept (words : List ℕ) (views : List View) : Type 0 where
   pub word : ℕ

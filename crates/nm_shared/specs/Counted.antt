@@ -13,8 +13,9 @@ Rises exact a n b = (exact ≡ false → a + n < 2 ^ 64) → b ≡ a + n
 abbrev pub RanWithin : BookValue → Type 0
 RanWithin b = IsWithin (net_of b.topology) b.partition (knowledge b) b.events
 
--- An act took the book b to c in one go, by a pass that had counted m messages and e events, and then m' and e'. The book had at least what the
--- pass had counted, and the pass then counts what was added.
+-- An act took the book b to c in one go, by a pass that had counted m messages and e events, and
+-- then m' and e'. The book had at least what the pass had counted, and the pass then counts what
+-- was added.
 pub record Meets (exact : Bool) (own : Home) (m e m' e' : ℕ) (b c : BookValue) : Type 0 where
   pub home : exact ≡ true → home_of b ≡ own
   pub channels : HasAllChannels b

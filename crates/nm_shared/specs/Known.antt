@@ -49,7 +49,8 @@ pub record Grows (b c : BookValue) : Type 0 where
   pub messages : messages_known b ≤ messages_known c
   pub events : b.events ≤ c.events
 
--- a book that had a place for each channel learned as many messages as its answer tells, where it tells
+-- a book that had a place for each channel learned as many messages as its answer tells, where
+-- it tells
 abbrev pub TellsNews : BookValue → Option ℕ → BookValue → Type 0
 TellsNews b None c = Unit {0}
 TellsNews b (Some n) c = HasAllChannels b → messages_known c ≡ messages_known b + n

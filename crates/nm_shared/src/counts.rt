@@ -32,11 +32,16 @@ pub trait Counts: Drop + Send {
 
     /// Raises both the totals and the share's amounts.
     fn add(&mut self, share: &mut Self::Share, new_messages: u64, new_events: u64)
+        // The share has a part, and the totals stay below 2^64.
         requires part { 0 < parts share.old }
         requires messages_fit { messages self.old + new_messages < 2 ^ 64 }
         requires events_fit { events self.old + new_events < 2 ^ 64 }
+
+        // The totals rise by these amounts.
         ensures messages { messages self.new ≡ messages self.old + new_messages }
         ensures events { events self.new ≡ events self.old + new_events }
+
+        // So do the share's, and it has as many parts as before.
         ensures messages_of { Rises exact (messages_of share.old) new_messages
             (messages_of share.new) }
         ensures events_of { Rises exact (events_of share.old) new_events (events_of share.new) }

@@ -19,7 +19,8 @@ pub record DevicesValue : Type 0 where
   pub used : Option ℕ
 
 -- a port of the interface i; its count of drops stops at the greatest of its type
-pub record IsPortOf (t : TopologyValue) (i : ℕ) (w : PortValue) (port : Port (List ℕ)) : Type 0 where
+pub record IsPortOf (t : TopologyValue) (i : ℕ) (w : PortValue)
+    (port : Port (List ℕ)) : Type 0 where
   pub limit : w.limit ≡ queue_of t i
   pub rate : w.rate ≡ (far_of t i).rate
   pub delay : w.delay ≡ (far_of t i).delay
@@ -31,7 +32,8 @@ abbrev pub IsNodeOf : TopologyValue → ℕ → NodeStateValue → NodeStateValu
 IsNodeOf t v n state = (n ≡ state) × (n.table ≡ table_of t v)
 
 -- the devices of a part of the network represent these states of its nodes and ports
-pub record DevicesRepresent (t : TopologyValue) (part : Option ℕ) (d : DevicesValue) (node : ℕ → NodeStateValue) (port : ℕ → Port (List ℕ)) : Type 0 where
+pub record DevicesRepresent (t : TopologyValue) (part : Option ℕ) (d : DevicesValue)
+    (node : ℕ → NodeStateValue) (port : ℕ → Port (List ℕ)) : Type 0 where
   pub node_count : length d.nodes ≡ length t.nodes
   pub nodes : AllHere (is_node_here t part) (λ v n. IsNodeOf t v n (node v)) d.nodes
   pub port_count : length d.ports ≡ length t.ifaces
@@ -53,9 +55,11 @@ IsSamePort (Some v) (Some w) = w ≡ record v { room = w.room }
 pub record IsSame (d e : DevicesValue) : Type 0 where
   pub nodes : e.nodes ≡ d.nodes
   pub port_count : length e.ports ≡ length d.ports
-  pub ports : (i : ℕ) (w : Option PortValue) → slice_get e.ports i ≡ Some w → (v : Option PortValue) × (slice_get d.ports i ≡ Some v) × IsSamePort v w
+  pub ports : (i : ℕ) (w : Option PortValue) → slice_get e.ports i ≡ Some w
+      → (v : Option PortValue) × (slice_get d.ports i ≡ Some v) × IsSamePort v w
   pub sources : e.sources ≡ d.sources
 
 -- the devices represent some states
 abbrev pub DevicesRepresentSome : TopologyValue → DevicesValue → Type 0
-DevicesRepresentSome t d = (part : Option ℕ) × (node : ℕ → NodeStateValue) × (port : ℕ → Port (List ℕ)) × DevicesRepresent t part d node port
+DevicesRepresentSome t d = (part : Option ℕ) × (node : ℕ → NodeStateValue)
+    × (port : ℕ → Port (List ℕ)) × DevicesRepresent t part d node port

@@ -37,7 +37,8 @@ IsBusy (Some (Some w)) = IsSome w.busy
 -- an event that can happen now
 abbrev pub CanHappen : TopologyValue → DevicesValue → ℕ → Event (List ℕ) → Type 0
 CanHappen t d number (Delivery (Arrival i) x) = i < length t.ifaces
-CanHappen t d number (Delivery (Source j) x) = (j < length t.sources) × FitsOrigin t (Source j) x × (number < 2 ^ 63)
+CanHappen t d number (Delivery (Source j) x) =
+    (j < length t.sources) × FitsOrigin t (Source j) x × (number < 2 ^ 63)
 CanHappen t d number (Completion i) = (i < length t.ifaces) × IsBusy (slice_get d.ports i)
 
 -- the packet whose transmission starts, and where
@@ -52,36 +53,53 @@ transmission_at i (Some s) = Some (i, s)
 
 -- the transmission that starts at this time, by an interface that is here
 abbrev pub TransmitsAt : TopologyValue → Option ℕ → ℕ → ℕ × Start → Type 0
-TransmitsAt t part time s = IsIfaceHere t part s.0 × IsTransmission (far_of t s.0).rate (far_of t s.0).delay time s.1.twin.packet s.1
+TransmitsAt t part time s = IsIfaceHere t part s.0
+    × IsTransmission (far_of t s.0).rate (far_of t s.0).delay time s.1.twin.packet s.1
 
--- What was done beside the change of a node and of one port: the packet that arrived, and where, the transmission that starts, and where, and
--- the packet that a source hands over next: which source, when, and which packet.
+-- What was done beside the change of a node and of one port: the packet that arrived, and where,
+-- the transmission that starts, and where, and the packet that a source hands over next: which
+-- source, when, and which packet.
 pub record Done : Type 0 where
   pub came : Option (ℕ × List ℕ)
   pub transmission : Option (ℕ × Start)
   pub follows : Option (ℕ × ℕ × List ℕ)
 
 -- what was done is this effect
-pub record IsEffect (t : TopologyValue) (part : Option ℕ) (time : ℕ) (e : Done) (m : Effect (List ℕ) NodeStateValue) : Type 0 where
+pub record IsEffect (t : TopologyValue) (part : Option ℕ) (time : ℕ) (e : Done)
+    (m : Effect (List ℕ) NodeStateValue) : Type 0 where
   pub came : e.came ≡ m.came
   pub transmission : transmission_of e.transmission ≡ m.transmission
   pub transmits : IfSome e.transmission (TransmitsAt t part time)
   pub follows : e.follows ≡ m.follows
 
--- after this event, the one of this number of its place, done at this time, where nodes and ports had these states
-pub record Does (t : TopologyValue) (part : Option ℕ) (node : ℕ → NodeStateValue) (port : ℕ → Port (List ℕ)) (time number : ℕ) (event : Event (List ℕ)) (d : DevicesValue) (e : Done) : Type 0 where
-  pub represented : let m : Effect (List ℕ) NodeStateValue = effect (net_of t) node port time number event in
-      DevicesRepresent t part d (set_at node (node_of (net_of t) (event_place event)) m.after) (turned port m.turn)
+-- after this event, the one of this number of its place, done at this time, where nodes and
+-- ports had these states
+pub record Does (t : TopologyValue) (part : Option ℕ) (node : ℕ → NodeStateValue)
+    (port : ℕ → Port (List ℕ)) (time number : ℕ) (event : Event (List ℕ)) (d : DevicesValue)
+    (e : Done) : Type 0 where
+  pub represented : let m : Effect (List ℕ) NodeStateValue = effect
+      (net_of t) node port time number event in
+      DevicesRepresent t part d (set_at node (node_of (net_of t) (event_place event)) m.after)
+      (turned port m.turn)
   pub does : IsEffect t part time e (effect (net_of t) node port time number event)
 
 -- after a node has sent this, or nothing
-pub record Sends (t : TopologyValue) (part : Option ℕ) (node : ℕ → NodeStateValue) (port : ℕ → Port (List ℕ)) (time : ℕ) (sent : Option (ℕ × List ℕ)) (d : DevicesValue) (sending : Option (ℕ × Start)) : Type 0 where
-  pub represented : (n : NodeStateValue) (came : Option (ℕ × List ℕ)) (follows : Option (ℕ × ℕ × List ℕ)) → DevicesRepresent t part d node (turned port (sent_on (net_of t) port time came n sent follows).turn)
-  pub transmission : (n : NodeStateValue) (came : Option (ℕ × List ℕ)) (follows : Option (ℕ × ℕ × List ℕ)) → transmission_of sending ≡ (sent_on (net_of t) port time came n sent follows).transmission
+pub record Sends (t : TopologyValue) (part : Option ℕ) (node : ℕ → NodeStateValue)
+    (port : ℕ → Port (List ℕ)) (time : ℕ) (sent : Option (ℕ × List ℕ)) (d : DevicesValue)
+    (sending : Option (ℕ × Start)) : Type 0 where
+  pub represented : (n : NodeStateValue) (came : Option (ℕ × List ℕ))
+      (follows : Option (ℕ × ℕ × List ℕ))
+      → DevicesRepresent t part d node
+      (turned port (sent_on (net_of t) port time came n sent follows).turn)
+  pub transmission : (n : NodeStateValue) (came : Option (ℕ × List ℕ))
+      (follows : Option (ℕ × ℕ × List ℕ))
+      → transmission_of sending ≡ (sent_on (net_of t) port time came n sent follows).transmission
   pub transmits : IfSome sending (TransmitsAt t part time)
 
 -- after node v has reacted to a packet
-pub record Reacts (t : TopologyValue) (part : Option ℕ) (node : ℕ → NodeStateValue) (port : ℕ → Port (List ℕ)) (v : ℕ) (o : Origin) (x : List ℕ) (d : DevicesValue) (sent : Option (ℕ × List ℕ)) : Type 0 where
+pub record Reacts (t : TopologyValue) (part : Option ℕ) (node : ℕ → NodeStateValue)
+    (port : ℕ → Port (List ℕ)) (v : ℕ) (o : Origin) (x : List ℕ) (d : DevicesValue)
+    (sent : Option (ℕ × List ℕ)) : Type 0 where
   pub represented : DevicesRepresent t part d (set_at node v (reaction t v (node v) o x).0) port
   pub sends : sent ≡ (reaction t v (node v) o x).1
 

@@ -20,7 +20,8 @@ channel_count t None = zero
 channel_count t (Some p) = length t.receivers
 
 -- they have what was put on the channels' receiving interfaces
-pub record OutgoingRepresents (t : TopologyValue) (part : Option ℕ) (o : OutgoingValue) (sent : ℕ → List (ℕ × List ℕ)) : Type 0 where
+pub record OutgoingRepresents (t : TopologyValue) (part : Option ℕ) (o : OutgoingValue)
+    (sent : ℕ → List (ℕ × List ℕ)) : Type 0 where
   pub count : length o.channels ≡ channel_count t part
   pub messages : AllAt (λ c v. v.messages ≡ sent (receiving_iface t c)) o.channels
 

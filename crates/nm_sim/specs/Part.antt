@@ -38,8 +38,11 @@ pub record PartValue (L : Type 0) : Type 0 where
   pub records : RecordsValue
   pub steps : ℕ
 
--- the part, whose event list has these pending events, is the whole network (None) or one partition of it, and represents this state of its run
-pub record Represents {L : Type 0} (pending : L → FinMap key_cmp (Event (List ℕ))) (t : TopologyValue) (part : Option ℕ) (p : PartValue L) (s : State (List ℕ) NodeStateValue) : Type 0 where
+-- the part, whose event list has these pending events, is the whole network (None) or one
+-- partition of it, and represents this state of its run
+pub record Represents {L : Type 0} (pending : L → FinMap key_cmp (Event (List ℕ)))
+    (t : TopologyValue) (part : Option ℕ) (p : PartValue L)
+    (s : State (List ℕ) NodeStateValue) : Type 0 where
   pub is_part : p.part ≡ part
   pub orderly : IsOrderly (net_of t) (here_of t part) s
   pub devices : DevicesRepresent t part p.devices s.node s.port
@@ -51,34 +54,45 @@ pub record Represents {L : Type 0} (pending : L → FinMap key_cmp (Event (List 
   pub records : RecordsRepresent t p.records s.records
   pub few_records : length s.records ≤ 2 * p.steps
 
--- a fact of each run that the part may stand in, on this network: of the part of the network and the state of its run
-abbrev pub OfTheRunIn : {L : Type 0} → (L → FinMap key_cmp (Event (List ℕ))) → TopologyValue → PartValue L
+-- a fact of each run that the part may stand in, on this network: of the part of the network and
+-- the state of its run
+abbrev pub OfTheRunIn : {L : Type 0} → (L → FinMap key_cmp (Event (List ℕ))) → TopologyValue
+    → PartValue L
     → (Option ℕ → State (List ℕ) NodeStateValue → Type 0) → Type 0
-OfTheRunIn pending t p Fact = (part : Option ℕ) (s : State (List ℕ) NodeStateValue) → Represents pending t part p s → Fact part s
+OfTheRunIn pending t p Fact = (part : Option ℕ) (s : State (List ℕ) NodeStateValue)
+    → Represents pending t part p s → Fact part s
 
 -- the same, of the network too
 abbrev pub OfTheRun : {L : Type 0} → (L → FinMap key_cmp (Event (List ℕ))) → PartValue L
     → (TopologyValue → Option ℕ → State (List ℕ) NodeStateValue → Type 0) → Type 0
-OfTheRun pending p Fact = (t : TopologyValue) (part : Option ℕ) (s : State (List ℕ) NodeStateValue) → Represents pending t part p s → Fact t part s
+OfTheRun pending p Fact = (t : TopologyValue) (part : Option ℕ) (s : State (List ℕ) NodeStateValue)
+    → Represents pending t part p s → Fact t part s
 
 -- the part stands in some run, on this network or on any
-abbrev pub IsOfARunIn : {L : Type 0} → (L → FinMap key_cmp (Event (List ℕ))) → TopologyValue → PartValue L → Type 0
-IsOfARunIn pending t p = (part : Option ℕ) × (s : State (List ℕ) NodeStateValue) × Represents pending t part p s
+abbrev pub IsOfARunIn : {L : Type 0} → (L → FinMap key_cmp (Event (List ℕ))) → TopologyValue
+    → PartValue L → Type 0
+IsOfARunIn pending t p =
+    (part : Option ℕ) × (s : State (List ℕ) NodeStateValue) × Represents pending t part p s
 
 abbrev pub IsOfARun : {L : Type 0} → (L → FinMap key_cmp (Event (List ℕ))) → PartValue L → Type 0
-IsOfARun pending p = (t : TopologyValue) × (part : Option ℕ) × (s : State (List ℕ) NodeStateValue) × Represents pending t part p s
+IsOfARun pending p = (t : TopologyValue) × (part : Option ℕ) × (s : State (List ℕ) NodeStateValue)
+    × Represents pending t part p s
 
--- An event was taken out of a part that represented this state. If a packet came with it, the trace has it, and if another follows at its source,
--- that is pending.
-pub record IsTaken {L : Type 0} (pending : L → FinMap key_cmp (Event (List ℕ))) (t : TopologyValue) (part : Option ℕ) (time number : ℕ) (e : Event (List ℕ))
-    (came : Option (ℕ × List ℕ)) (follows : Option (ℕ × ℕ × List ℕ)) (p : PartValue L) (s : State (List ℕ) NodeStateValue) : Type 0 where
+-- An event was taken out of a part that represented this state. If a packet came with it, the
+-- trace has it, and if another follows at its source, that is pending.
+pub record IsTaken {L : Type 0} (pending : L → FinMap key_cmp (Event (List ℕ))) (t : TopologyValue)
+    (part : Option ℕ) (time number : ℕ) (e : Event (List ℕ))
+    (came : Option (ℕ × List ℕ)) (follows : Option (ℕ × ℕ × List ℕ)) (p : PartValue L)
+    (s : State (List ℕ) NodeStateValue) : Type 0 where
   pub first : least s.pending ≡ Some (keyed time number e)
   pub is_part : p.part ≡ part
   pub orderly : IsOrderly (net_of t) (here_of t part) s
   pub numbered : TimelineRepresents t p.timeline s.sent
   pub outgoing : OutgoingRepresents t part p.outgoing s.sent
   pub few : (c : ℕ) → length (s.sent c) ≤ p.steps
-  pub events : pending p.timeline.events ≡ schedule everywhere (next_events number follows) (remove s.pending (key_of time (event_place e) number))
+  pub events : pending p.timeline.events
+      ≡ schedule everywhere (next_events number follows)
+      (remove s.pending (key_of time (event_place e) number))
   pub placed : (q : Key) (y : Event (List ℕ)) → get s.pending q ≡ Some y → IsPlaceIn t q.place
   pub records : RecordsRepresent t p.records (s.records ++ in_record time came)
   pub few_records : length s.records ≤ 2 * p.steps
@@ -91,7 +105,8 @@ pub record HasMemory {L : Type 0} (room_of : L → ℕ) (p : PartValue L) : Type
   pub spare : 2 ≤ p.records.spare
 
 -- it was taken out and nothing of it is done, and there is memory for all that it may do
-pub record IsReady {L : Type 0} (pending : L → FinMap key_cmp (Event (List ℕ))) (room_of : L → ℕ) (t : TopologyValue) (part : Option ℕ) (time number : ℕ) (e : Event (List ℕ))
+pub record IsReady {L : Type 0} (pending : L → FinMap key_cmp (Event (List ℕ))) (room_of : L → ℕ)
+    (t : TopologyValue) (part : Option ℕ) (time number : ℕ) (e : Event (List ℕ))
     (p : PartValue L) (s : State (List ℕ) NodeStateValue) : Type 0 where
   pub taken : IsTaken pending t part time number e None None p s
   pub devices : DevicesRepresent t part p.devices s.node s.port
@@ -100,34 +115,54 @@ pub record IsReady {L : Type 0} (pending : L → FinMap key_cmp (Event (List ℕ
   pub memory : HasMemory room_of p
 
 -- its node has reacted, but nothing of what the node sends was offered to a port yet
-pub record HasReacted {L : Type 0} (pending : L → FinMap key_cmp (Event (List ℕ))) (t : TopologyValue) (part : Option ℕ) (time number : ℕ) (e : Event (List ℕ))
-    (came : Option (ℕ × List ℕ)) (follows : Option (ℕ × ℕ × List ℕ)) (sent : Option (ℕ × List ℕ)) (node : ℕ → NodeStateValue) (p : PartValue L) (s : State (List ℕ) NodeStateValue) : Type 0 where
+pub record HasReacted {L : Type 0} (pending : L → FinMap key_cmp (Event (List ℕ)))
+    (t : TopologyValue) (part : Option ℕ) (time number : ℕ) (e : Event (List ℕ))
+    (came : Option (ℕ × List ℕ)) (follows : Option (ℕ × ℕ × List ℕ)) (sent : Option (ℕ × List ℕ))
+    (node : ℕ → NodeStateValue) (p : PartValue L)
+    (s : State (List ℕ) NodeStateValue) : Type 0 where
   pub taken : IsTaken pending t part time number e came follows p s
   pub represented : DevicesRepresent t part p.devices node s.port
-  pub does : (d : DevicesValue) (start : Option (ℕ × Start)) → Sends t part node s.port time sent d start
-      → Does t part s.node s.port time number e d (record { came = came; transmission = start; follows = follows })
+  pub does : (d : DevicesValue) (start : Option (ℕ × Start))
+      → Sends t part node s.port time sent d start
+      → Does t part s.node s.port time number e d (record {
+        came = came;
+        transmission = start;
+        follows = follows;
+      })
 
 -- it was done, but that no transmission started yet
-pub record IsUnderWay {L : Type 0} (pending : L → FinMap key_cmp (Event (List ℕ))) (t : TopologyValue) (part : Option ℕ) (time number : ℕ) (e : Event (List ℕ))
+pub record IsUnderWay {L : Type 0} (pending : L → FinMap key_cmp (Event (List ℕ)))
+    (t : TopologyValue) (part : Option ℕ) (time number : ℕ) (e : Event (List ℕ))
     (done : Done) (p : PartValue L) (s : State (List ℕ) NodeStateValue) : Type 0 where
   pub taken : IsTaken pending t part time number e done.came done.follows p s
   pub does : Does t part s.node s.port time number e p.devices done
 
 -- what became of it: it was done, or is back where it was
-abbrev pub Performed : {L : Type 0} → (L → FinMap key_cmp (Event (List ℕ))) → (L → ℕ) → TopologyValue → ℕ → ℕ → Event (List ℕ)
+abbrev pub Performed : {L : Type 0} → (L → FinMap key_cmp (Event (List ℕ))) → (L → ℕ)
+    → TopologyValue → ℕ → ℕ → Event (List ℕ)
     → PartValue L → PartValue L → Result Unit AllocError → Type 0
-Performed pending room t time number e old new (Ok u) = ((part : Option ℕ) (s : State (List ℕ) NodeStateValue) → IsReady pending room t part time number e old s
-    → Represents pending t part new (step (net_of t) (here_of t part) s)) × (new.steps ≡ old.steps + 1) × (new.records.handed ≡ old.records.handed)
-Performed pending room t time number e old new (Err x) = ((part : Option ℕ) (s : State (List ℕ) NodeStateValue) → IsReady pending room t part time number e old s
-    → Represents pending t part new s) × (new.steps ≡ old.steps) × (new.records.handed ≡ old.records.handed)
+Performed pending room t time number e old new (Ok u) =
+    ((part : Option ℕ) (s : State (List ℕ) NodeStateValue)
+    → IsReady pending room t part time number e old s
+    → Represents pending t part new (step (net_of t) (here_of t part) s))
+    × (new.steps ≡ old.steps + 1) × (new.records.handed ≡ old.records.handed)
+Performed pending room t time number e old new (Err x) =
+    ((part : Option ℕ) (s : State (List ℕ) NodeStateValue)
+    → IsReady pending room t part time number e old s
+    → Represents pending t part new s) × (new.steps ≡ old.steps)
+    × (new.records.handed ≡ old.records.handed)
 
--- what a step answers, and what the part represents after it: that memory was refused only where an event was due
-abbrev pub Stepped : {L : Type 0} → (L → FinMap key_cmp (Event (List ℕ))) → TopologyValue → Option ℕ → ℕ → State (List ℕ) NodeStateValue
+-- what a step answers, and what the part represents after it: that memory was refused only where
+-- an event was due
+abbrev pub Stepped : {L : Type 0} → (L → FinMap key_cmp (Event (List ℕ))) → TopologyValue → Option ℕ
+    → ℕ → State (List ℕ) NodeStateValue
     → PartValue L → PartValue L → Result (Option Key) AllocError → Type 0
 Stepped pending t part before s old new (Ok None) = (new ≡ old) × (pends_before before s ≡ false)
-Stepped pending t part before s old new (Ok (Some k)) = Represents pending t part new (step (net_of t) (here_of t part) s)
+Stepped pending t part before s old new (Ok (Some k)) =
+    Represents pending t part new (step (net_of t) (here_of t part) s)
     × (pends_before before s ≡ true) × (option_map (λ e. e.0) (least s.pending) ≡ Some k)
-Stepped pending t part before s old new (Err e) = Represents pending t part new s × (pends_before before s ≡ true)
+Stepped pending t part before s old new (Err e) =
+    Represents pending t part new s × (pends_before before s ≡ true)
 
 -- how many events a step did
 abbrev pub events_done : Result (Option Key) AllocError → ℕ
@@ -142,34 +177,49 @@ events_counted (Ok true) = 1
 events_counted (Err e) = 0
 
 -- the same where only whether there was an event is answered
-abbrev pub Advanced : {L : Type 0} → (L → FinMap key_cmp (Event (List ℕ))) → TopologyValue → Option ℕ → ℕ → State (List ℕ) NodeStateValue
+abbrev pub Advanced : {L : Type 0} → (L → FinMap key_cmp (Event (List ℕ))) → TopologyValue
+    → Option ℕ → ℕ → State (List ℕ) NodeStateValue
     → PartValue L → PartValue L → Result Bool AllocError → Type 0
 Advanced pending t part before s old new (Ok false) = (new ≡ old) × (pends_before before s ≡ false)
-Advanced pending t part before s old new (Ok true) = Represents pending t part new (step (net_of t) (here_of t part) s) × (pends_before before s ≡ true)
-Advanced pending t part before s old new (Err e) = Represents pending t part new s × (pends_before before s ≡ true)
+Advanced pending t part before s old new (Ok true) = Represents pending t part new
+    (step (net_of t) (here_of t part) s) × (pends_before before s ≡ true)
+Advanced pending t part before s old new (Err e) =
+    Represents pending t part new s × (pends_before before s ≡ true)
 
 -- a packet's arrival at an interface, with its number, is pending too
-abbrev pub with_arrival : ℕ → ℕ → ℕ → List ℕ → State (List ℕ) NodeStateValue → State (List ℕ) NodeStateValue
-with_arrival i number time x s = record s { pending = insert s.pending (key_of time (Arrive i) number) (Delivery (Arrival i) x) }
+abbrev pub with_arrival : ℕ → ℕ → ℕ → List ℕ → State (List ℕ) NodeStateValue
+    → State (List ℕ) NodeStateValue
+with_arrival i number time x s = record s {
+  pending = insert s.pending (key_of time (Arrive i) number) (Delivery (Arrival i) x);
+}
 
 -- what node v counted, if it is here
-abbrev pub count_at : TopologyValue → Option ℕ → State (List ℕ) NodeStateValue → ℕ → Counter → Option ℕ
-count_at t part s v c = if ltb v (length t.nodes) && is_node_here t part v then Some (slice_index (s.node v).counters (counter_number c)) else None
+abbrev pub count_at : TopologyValue → Option ℕ → State (List ℕ) NodeStateValue → ℕ → Counter
+    → Option ℕ
+count_at t part s v c = if ltb v (length t.nodes)
+    && is_node_here t part v then Some
+    (slice_index (s.node v).counters (counter_number c)) else None
 
--- how many packets were dropped at interface i, if it is here; the count stops at the greatest of its type
+-- how many packets were dropped at interface i, if it is here; the count stops at the greatest
+-- of its type
 abbrev pub drops_at : TopologyValue → Option ℕ → State (List ℕ) NodeStateValue → ℕ → Option ℕ
-drops_at t part s i = if ltb i (length t.ifaces) && is_iface_here t part i then Some (saturated (s.port i).dropped) else None
+drops_at t part s i = if ltb i (length t.ifaces)
+    && is_iface_here t part i then Some (saturated (s.port i).dropped) else None
 
 -- how many packets wait at interface i behind the one that is transmitted, if it is here
 abbrev pub waiting_at : TopologyValue → Option ℕ → State (List ℕ) NodeStateValue → ℕ → Option ℕ
-waiting_at t part s i = if ltb i (length t.ifaces) && is_iface_here t part i then Some (length (waiting_of (s.port i).busy)) else None
+waiting_at t part s i = if ltb i (length t.ifaces)
+    && is_iface_here t part i then Some (length (waiting_of (s.port i).busy)) else None
 
 -- what was put on a channel that goes out from here: within the whole network there is none
-abbrev pub messages_out : TopologyValue → Option ℕ → State (List ℕ) NodeStateValue → ℕ → List (ℕ × List ℕ)
+abbrev pub messages_out : TopologyValue → Option ℕ → State (List ℕ) NodeStateValue → ℕ
+    → List (ℕ × List ℕ)
 messages_out t None s c = []
-messages_out t (Some p) s c = if ltb c (length t.receivers) then s.sent (receiving_iface t c) else []
+messages_out t (Some p) s c =
+    if ltb c (length t.receivers) then s.sent (receiving_iface t c) else []
 
--- when the interface that sends on a channel completes its transmission; 0 where it is idle, or not here
+-- when the interface that sends on a channel completes its transmission; 0 where it is idle, or
+-- not here
 abbrev pub completes_at : Option (Busy (List ℕ)) → ℕ
 completes_at None = 0
 completes_at (Some b) = b.completes

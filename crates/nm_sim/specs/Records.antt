@@ -8,14 +8,16 @@ use Rattle.nm_pcap.specs.Format.{pcap}
 use Rattle.nm_topology.specs.TopologyValue.{TopologyValue}
 use Rattle.nm_sim.specs.Tables.{AllAt}
 
--- the records that are kept, how many were handed out before them, the totals of each interface, and for how many more records there is memory
+-- the records that are kept, how many were handed out before them, the totals of each interface,
+-- and for how many more records there is memory
 pub record RecordsValue : Type 0 where
   pub kept : List (Record (List ℕ))
   pub handed : ℕ
   pub totals : List (ℕ × ℕ)
   pub spare : ℕ
 
--- how many records an interface has in a trace, and the length of their trace file; both stop at the greatest of their type
+-- how many records an interface has in a trace, and the length of their trace file; both stop at
+-- the greatest of their type
 abbrev pub totals_of : ℕ → List (Record (List ℕ)) → ℕ × ℕ
 totals_of i records =
     let own = keep_where (λ r. r.iface == i) records in
@@ -26,7 +28,8 @@ abbrev pub total_after : ℕ × ℕ → ℕ → ℕ × ℕ
 total_after a octets = (saturated (a.0 + 1), saturated (a.1 + (RECORD_HEADER_OCTETS + octets)))
 
 -- they are those of this trace
-pub record RecordsRepresent (t : TopologyValue) (r : RecordsValue) (trace : List (Record (List ℕ))) : Type 0 where
+pub record RecordsRepresent (t : TopologyValue) (r : RecordsValue)
+    (trace : List (Record (List ℕ))) : Type 0 where
   pub kept : r.kept ≡ drop r.handed trace
   pub few : r.handed ≤ length trace
   pub count : length r.totals ≡ length t.ifaces

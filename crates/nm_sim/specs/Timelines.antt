@@ -14,13 +14,15 @@ pub record TimelineValue (L : Type 0) : Type 0 where
   pub sent : List ℕ
 
 -- the counts of a timeline are those of what was put on the interfaces
-pub record TimelineRepresents {L : Type 0} (t : TopologyValue) (line : TimelineValue L) (sent : ℕ → List (ℕ × List ℕ)) : Type 0 where
+pub record TimelineRepresents {L : Type 0} (t : TopologyValue) (line : TimelineValue L)
+    (sent : ℕ → List (ℕ × List ℕ)) : Type 0 where
   pub count : length line.sent ≡ length t.ifaces
   pub numbers : (c : ℕ) → c < length t.ifaces → slice_index line.sent c ≡ length (sent c)
 
 -- none of these events has a key that is pending
 abbrev pub AreFresh : FinMap key_cmp (Event (List ℕ)) → List (Key × Event (List ℕ)) → Type 0
-AreFresh pending events = (m : ℕ) (f : Key × Event (List ℕ)) → nth events m ≡ Some f → get pending f.0 ≡ None
+AreFresh pending events =
+    (m : ℕ) (f : Key × Event (List ℕ)) → nth events m ≡ Some f → get pending f.0 ≡ None
 
 abbrev pub everywhere : Place → Bool
 everywhere q = true

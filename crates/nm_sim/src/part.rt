@@ -42,7 +42,7 @@ use nm_base::{
 use nm_events::EventList;
 use nm_forward::{Counter, NodeState, Reaction};
 use nm_iface::Start;
-use nm_model::orderly::{every_state_is_orderly, new_keys_are_new};
+use nm_model::orderly::{a_message_keeps_order, every_state_is_orderly, new_keys_are_new};
 use nm_topology::Topology;
 use nm_topology::topology::{
     accepted_topologies_are_in_order, channels_are_numbered_by_their_receivers,
@@ -158,7 +158,7 @@ impl<L: EventList> Part<L> {
         ensures room { OnOk result (count ≤ L.room self.new.timeline.events) }
         ensures keeps { L.room self.old.timeline.events ≤ L.room self.new.timeline.events }
 
-        // Nothing happened.
+        // No event was done, and no record handed out.
         ensures steps { self.new.steps ≡ self.old.steps }
         ensures handed { self.new.records.handed ≡ self.old.records.handed }
     {
@@ -187,12 +187,12 @@ impl<L: EventList> Part<L> {
             (λ part s. Represents L.pending topology.now part self.new
             (with_arrival (receiving_iface topology.now channel) number time packet s)) }
 
-        // It takes one place, and nothing happened.
+        // It takes one place; no event was done, and no record handed out.
         ensures room { L.room self.old.timeline.events ≤ L.room self.new.timeline.events + 1 }
         ensures steps { self.new.steps ≡ self.old.steps }
         ensures handed { self.new.records.handed ≡ self.old.records.handed }
     {
-        every_state_is_orderly::<Packet, NodeState>(); // law: a state that is told more is orderly
+        a_message_keeps_order::<Packet, NodeState>(); // law: a state that is told more is orderly
         channels_are_those_of_the_network(topology); // law: what comes in is a channel
         channels_are_numbered_by_their_receivers(topology); // law: its interface is there
         let origin = Origin::Arrival(topology.receiver(channel));

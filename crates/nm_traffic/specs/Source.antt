@@ -20,11 +20,15 @@ of_flow stop f n octets = if nat_lt n f.count then before stop (flow_time f n, o
 unfoldable pub packet_at : ℕ → Traffic → ℕ → Option (ℕ × List ℕ)
 packet_at stop (Cbr c) n = of_flow stop c.flow n (cbr_octets c.flow)
 packet_at stop (Echo e) n = of_flow stop e.flow n (echo_message e n)
-packet_at stop (Raw r) n = option_and_then (λ p. before stop (p.at, p.packet)) (slice_get r.packets n)
+packet_at stop (Raw r) n =
+    option_and_then (λ p. before stop (p.at, p.packet)) (slice_get r.packets n)
 
 -- the source with number j
 unfoldable pub source_of : TopologyValue → ℕ → Option SourceValue
-source_of t j = option_map (λ s. record { stop = t.stop; traffic = s.traffic }) (slice_get t.sources j)
+source_of t j = option_map (λ s. record {
+  stop = t.stop;
+  traffic = s.traffic;
+}) (slice_get t.sources j)
 
 -- packet n of source j, where there is such a source, and such a packet before stop
 unfoldable pub source_at : TopologyValue → ℕ → ℕ → Option (ℕ × List ℕ)

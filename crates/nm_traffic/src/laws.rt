@@ -14,9 +14,12 @@ use nm_topology::topology::accepted_topologies_are_in_order;
 /// stops, with no gap in their numbers; they fit the mtu with the headers that they get, and are no
 /// longer than a packet may be. Where no raw packet is empty, no packet is.
 pub fn times_rise_within_limits()
+    // When the packets come.
     ensures rise { (t : TopologyValue) → IsWithinLimits t → TimesRise t }
     ensures end { (t : TopologyValue) → IsWithinLimits t → EndForGood t }
     ensures before { (t : TopologyValue) → ComeBeforeStop t }
+
+    // How long they are.
     ensures fit { (t : TopologyValue) → IsWithinLimits t → FitTheMtu t }
     ensures greatest { (t : TopologyValue) → IsWithinLimits t → ArePackets t }
     ensures least { (t : TopologyValue) → All (λ s. HasOctets s.traffic) t.sources → HaveOctets t }
@@ -24,9 +27,12 @@ pub fn times_rise_within_limits()
 
 /// The same of an accepted topology.
 pub fn source_times_rise(topology: &Topology)
+    // When the packets come.
     ensures rise { TimesRise topology.now }
     ensures end { EndForGood topology.now }
     ensures before { ComeBeforeStop topology.now }
+
+    // How long they are.
     ensures fit { FitTheMtu topology.now }
     ensures greatest { ArePackets topology.now }
     ensures least { HaveOctets topology.now }

@@ -17,7 +17,7 @@ returns-clause-same c = λ h e.
     let K = knowledge a in
     let J = knowledge_of a.topology b.knows in
     let under : IsUnderAll net a.partition K J = under_at a b c.replica_of.ensures.here (c.replica_of.ensures.numbered a.partition) h in
-    let law = c.law_of_books.ensures.same net ok a.partition K J under a.events c.replica_of.ensures.within in
+    let law = (c.law_of_books.ensures net ok a.partition K J under a.events c.replica_of.ensures.within).same in
     over a b (λ t p. from_scratch (net_of t) p (knowledge_of t b.knows) b.events ≡ with_new net a.partition K (knowledge_of t b.knows) (state_of a)) h.sisters
     (subst (λ k. from_scratch net a.partition J k ≡ with_new net a.partition K J (state_of a)) e law)
 
@@ -30,7 +30,7 @@ returns-clause-sent c = λ h le d.
     let K = knowledge a in
     let J = knowledge_of a.topology b.knows in
     let under : IsUnderAll net a.partition K J = under_at a b c.replica_of.ensures.here (c.replica_of.ensures.numbered a.partition) h in
-    let law = c.what_was_done_stays.ensures.sent net ok a.partition K J under a.events b.events le c.replica_of.ensures.within (receiving_iface a.topology d) in
+    let law = (c.what_was_done_stays.ensures net ok a.partition K J under a.events b.events le c.replica_of.ensures.within).sent (receiving_iface a.topology d) in
     over a b (λ t p. IsPrefix (sent_over a d) ((from_scratch (net_of t) p (knowledge_of t b.knows) b.events).sent (receiving_iface t d))) h.sisters law
 
 pub returns-clause-records : goal.returns-clause-records
@@ -42,7 +42,7 @@ returns-clause-records c = λ h le.
     let K = knowledge a in
     let J = knowledge_of a.topology b.knows in
     let under : IsUnderAll net a.partition K J = under_at a b c.replica_of.ensures.here (c.replica_of.ensures.numbered a.partition) h in
-    let law = c.what_was_done_stays.ensures.records net ok a.partition K J under a.events b.events le c.replica_of.ensures.within in
+    let law = (c.what_was_done_stays.ensures net ok a.partition K J under a.events b.events le c.replica_of.ensures.within).records in
     over a b (λ t p. IsPrefix (state_of a).records (from_scratch (net_of t) p (knowledge_of t b.knows) b.events).records) h.sisters law
 
 pub returns-clause-safe : goal.returns-clause-safe
@@ -54,7 +54,7 @@ returns-clause-safe c = λ h.
     let K = knowledge a in
     let J = knowledge_of a.topology b.knows in
     let under : IsUnderAll net a.partition K J = under_at a b c.replica_of.ensures.here (c.replica_of.ensures.numbered a.partition) h in
-    over a b (λ t p. safe_of a ≤ safe_time (net_of t) p (knowledge_of t b.knows)) h.sisters (c.promises_never_fall.ensures.safe net ok a.partition K J under)
+    over a b (λ t p. safe_of a ≤ safe_time (net_of t) p (knowledge_of t b.knows)) h.sisters ((c.promises_never_fall.ensures net ok a.partition K J under).safe)
 
 pub returns-clause-promises : goal.returns-clause-promises
 returns-clause-promises c = λ h le kind d.
@@ -66,5 +66,5 @@ returns-clause-promises c = λ h le kind d.
     let J = knowledge_of a.topology b.knows in
     let under : IsUnderAll net a.partition K J = under_at a b c.replica_of.ensures.here (c.replica_of.ensures.numbered a.partition) h in
     let within : IsWithin net a.partition J b.events = back a b (λ t p. IsWithin (net_of t) p (knowledge_of t b.knows) b.events) h.sisters c.replica_of-2.ensures.within in
-    let law = c.promises_never_fall.ensures.promised net ok a.partition K J under a.events b.events le c.replica_of.ensures.within within kind (receiving_iface a.topology d) in
+    let law = (c.promises_never_fall.ensures net ok a.partition K J under).promised a.events b.events le c.replica_of.ensures.within within kind (receiving_iface a.topology d) in
     over a b (λ t p. promise_on kind a d ≤ promise (net_of t) kind p (knowledge_of t b.knows) b.events (receiving_iface t d)) h.sisters law

@@ -29,7 +29,7 @@ put_arrival-requires-clause-fresh c =
     ap (λ z. get z (key_of m.time (Arrive i) m.number)) book.represents.events
     ∙ subst (λ n. get (from_scratch (net_of t) c.args.partition (knowledge_of t knows) c.args.part.now.steps).pending (key_of m.time (Arrive i) n) ≡ None)
     (ap (λ (k : Know (List ℕ)). length k.list) at_here ∙ sym next.number)
-    (c.told_one_more.ensures.new_key (net_of t) c.every_topology_is_a_network.ensures.network c.args.partition (knowledge_of t knows) c.args.part.now.steps book.within i next.incoming
+    ((c.told_one_more.ensures (net_of t) c.every_topology_is_a_network.ensures.network c.args.partition (knowledge_of t knows) c.args.part.now.steps book.within i next.incoming).new_key
     (m.time, m.packet) (subst (λ (k : Know (List ℕ)). k.clock ≤ m.time) (sym at_here) next.later))
 
 pub returns-clause-book : goal.returns-clause-book
@@ -49,7 +49,7 @@ returns-clause-book c = λ knows book next.
     subst (λ n. Represents pending_in t (Some p) c.put_arrival.new.self (with_arrival i n m.time m.packet s)) next.number
     (c.put_arrival.ensures.arrival (Some p) s book.represents) in
     told_data t p knows c.args.part.now c.put_arrival.new.self m.channel m.time m.packet here book next.there next.incoming
-    (λ K k w j comes b h. c.told_one_more.ensures.message net ok p K k w j comes b h)
-    (λ K J u k w. c.law_of_books.ensures.within net ok p K J u k w)
+    (λ K k w j comes b h. (c.told_one_more.ensures net ok p K k w j comes).message b h)
+    (λ K J u k w. (c.law_of_books.ensures net ok p K J u k w).within)
     (λ K j a u. c.more_of_one_channel_is_more.ensures net p K j a u)
     next.later (more_is_over (known_of knows m.channel) m.time m.packet next.later) numbered c.put_arrival.ensures.steps

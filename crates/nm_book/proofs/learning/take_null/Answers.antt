@@ -31,8 +31,8 @@ returns-clause-book c =
     subst (λ l. IsBook t p l part) (sym items)
     (told_null t p knows part channel c.requires.book
     (λ time later under. told_clock t p knows part channel here c.requires.book within c.requires.comes
-    (λ K k w j comes u h. c.told_one_more.ensures.clock net ok p K k w j comes u h)
-    (λ K J u k w. c.law_of_books.ensures.within net ok p K J u k w)
+    (λ K k w j comes u h. (c.told_one_more.ensures net ok p K k w j comes).clock u h)
+    (λ K J u k w. (c.law_of_books.ensures net ok p K J u k w).within)
     (λ K j a u. c.more_of_one_channel_is_more.ensures net p K j a u)
     time later under)
     c.args.null.now.count c.args.null.now.clock (c.accept_laws.ensures.null_adds known c.args.null.now.count c.args.null.now.clock))

@@ -27,7 +27,7 @@ returns-clause-book c =
     (λ d there. (c.channels_are_numbered_by_their_receivers.ensures.inverse (receiving_iface t d) d (c.channels_are_numbered_by_their_receivers.ensures.there d there)).1 refl)
     (λ i comes. let found = c.channels_are_those_of_the_network.ensures.numbered p i comes in (found.0, found.1, found.2))
     (λ K J same k. c.clocks_change_no_state.ensures net p K J same k)
-    (λ K J under k h. c.law_of_books.ensures.within net ok p K J under k h)
+    (λ K J under k h. (c.law_of_books.ensures net ok p K J under k h).within)
 
 pub returns-clause-merges : goal.returns-clause-merges
 returns-clause-merges c =

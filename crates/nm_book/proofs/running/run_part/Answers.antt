@@ -44,7 +44,7 @@ returns-in-Err-clause-run c = λ p knows book safe.
     let due : pends_before c.args.safe (from_scratch net p K c.loop-done.part.steps) ≡ true
     = (c.in-Err.ensures.advance (Some p) (from_scratch net p K c.loop-done.part.steps) now.represents).1 in (
       total,
-      ran_whole t p K (c.times_pass.ensures.count net ok p K) (λ j k. c.times_pass.ensures.within_only net ok p K j k) (λ n m k. c.prefix_theorem.ensures.runs net ok p K n m k)
+      ran_whole t p K ((c.times_pass.ensures net ok).count p K) (λ j k. (c.times_pass.ensures net ok).within_only p K j k) (λ n m k. c.a_run_goes_to_what_is_safe.ensures net ok p K n m k)
           c.args.part.now.steps c.advance.new.self.steps c.loop-done.done total (subst (IsWithin net p K) same now.within),
       c.loop-done-test.true,
       subst (λ n. pends_before (safe_time net p K) (from_scratch net p K n) ≡ true) same
@@ -83,7 +83,7 @@ returns-then-is_left-clause-run c = λ p knows book safe.
     let s = from_scratch net p K c.loop-done.part.steps in
     let left : pends_before c.args.safe s ≡ true = sym (c.is_left.ensures t p s now.represents) ∙ c.if-is_left.true in (
       c.loop-done.invariant.steps,
-      ran_whole t p K (c.times_pass.ensures.count net ok p K) (λ j k. c.times_pass.ensures.within_only net ok p K j k) (λ n m k. c.prefix_theorem.ensures.runs net ok p K n m k)
+      ran_whole t p K ((c.times_pass.ensures net ok).count p K) (λ j k. (c.times_pass.ensures net ok).within_only p K j k) (λ n m k. c.a_run_goes_to_what_is_safe.ensures net ok p K n m k)
           c.args.part.now.steps c.loop-done.part.steps c.args.limit (c.loop-done.invariant.steps ∙ ap (λ n. c.args.part.now.steps + n) all) now.within,
       all,
       subst (λ b. pends_before b s ≡ true) safe left,

@@ -16,7 +16,7 @@ returns-clause-events c = λ n.
     let ok = c.every_topology_is_a_network.ensures.network in
     record {
       first = λ i. subst (IsPrefix (passed In i (one_list net n).records)) (due_is t (one_list net n).records (c.packets_have_octets.ensures.events n) i)
-          (arrivals_begin net ok n (c.what_starts_arrives.ensures.transmitting net ok n) i);
+          (arrivals_begin net ok n ((c.what_starts_arrives.ensures net ok).transmitting n) i);
     }
 
 pub returns-clause-trace : goal.returns-clause-trace
@@ -26,6 +26,6 @@ returns-clause-trace c = λ until records h.
     let ok = c.every_topology_is_a_network.ensures.network in
     subst (AllArrive t (min until t.stop)) (sym h.2)
     (record {
-      all = λ i. arrivals_are net ok h.0 (c.what_starts_arrives.ensures.transmitting net ok h.0) i (min until t.stop) h.1.first (c.what_starts_arrives.ensures.arrives net ok (min until t.stop) h.0 h.1.over)
+      all = λ i. arrivals_are net ok h.0 ((c.what_starts_arrives.ensures net ok).transmitting h.0) i (min until t.stop) h.1.first ((c.what_starts_arrives.ensures net ok).arrives (min until t.stop) h.0 h.1.over)
           ∙ ap (keep_where (λ a. ltb a.0 (min until t.stop))) (due_is t (one_list net h.0).records (c.packets_have_octets.ensures.events h.0) i);
     })

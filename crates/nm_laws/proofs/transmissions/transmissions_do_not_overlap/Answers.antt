@@ -13,7 +13,7 @@ returns-clause-events c = λ n.
     record {
       apart = λ j k a b lt e f da db same.
           subst (λ x. a.time + x ≤ b.time) (takes_its_octets t a.iface a.packet ((c.packets_have_octets.ensures.events n).least j a e))
-          (apart net ok n (c.what_starts_arrives.ensures.apart net ok n) j k a b lt e f da db same);
+          (apart net ok n ((c.what_starts_arrives.ensures net ok).apart n) j k a b lt e f da db same);
     }
 
 pub returns-clause-trace : goal.returns-clause-trace

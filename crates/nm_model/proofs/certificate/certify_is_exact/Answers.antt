@@ -6,7 +6,3 @@ returns-clause-sound g c = λ net ok same eq tells kind books e. certify_none ne
 
 pub returns-clause-complete : goal.returns-clause-complete
 returns-clause-complete g c = λ net same eq tells kind books cert. none_certify net same eq tells kind books cert
-
-pub returns-clause-promised : goal.returns-clause-promised
-returns-clause-promised g c = λ net ok same eq tells kind books e i j k r s at to comes from.
-    ((certify_none net same eq tells kind ok books e).matches i j k r s at to comes from).promised

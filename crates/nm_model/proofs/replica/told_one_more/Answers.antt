@@ -1,11 +1,9 @@
 use Rattle.nm_model.proofs.ToldMore.{key_new, told_one, told_clock}
 use Rattle.nm_model.proofs.replica.told_one_more.Goals as goal
 
-pub returns-clause-new_key : goal.returns-clause-new_key
-returns-clause-new_key g c = λ net ok p K k w d ch b le. key_new net ok p K k w d ch b le
-
-pub returns-clause-message : goal.returns-clause-message
-returns-clause-message g c = λ net ok p K k w d ch b le. told_one net ok p K k w d ch b le
-
-pub returns-clause-clock : goal.returns-clause-clock
-returns-clause-clock g c = λ net ok p K k w d ch t le. told_clock net ok p K k w d ch t le
+pub returns : goal.returns
+returns g c = λ net ok p K k w d ch. record {
+  new_key = λ b le. key_new net ok p K k w d ch b le;
+  message = λ b le. told_one net ok p K k w d ch b le;
+  clock = λ t le. told_clock net ok p K k w d ch t le;
+}

@@ -1,8 +1,6 @@
+use Rattle.std.proofs.Common.{refl}
 use Rattle.nm_model.proofs.StepLaws.{here, others}
 use Rattle.nm_model.proofs.steps.one_replica_changes.Goals as goal
 
-pub returns-clause-here : goal.returns-clause-here
-returns-clause-here g c = λ w p r x. here w p r x
-
-pub returns-clause-others : goal.returns-clause-others
-returns-clause-others g c = λ w p r x q s h. others w p r x q s h
+pub returns : goal.returns
+returns g c = λ w p r x. record { here = here w p r x; others = others w p r x; bag = refl }

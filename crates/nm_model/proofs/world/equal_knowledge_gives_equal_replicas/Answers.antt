@@ -6,17 +6,15 @@ use Rattle.nm_model.proofs.Worlds.{all_within}
 use Rattle.nm_model.proofs.SameKnowledge.{same_state, same_promise, same_count}
 use Rattle.nm_model.proofs.world.equal_knowledge_gives_equal_replicas.Goals as goal
 
-pub returns-clause-states : goal.returns-clause-states
-returns-clause-states g c = λ net ok same eq steps others p r s know_same ran_same.
+pub returns-clause-replicas : goal.returns-clause-replicas
+returns-clause-replicas g c = λ net ok same eq steps others p r s know.
     let x = replica_after net same steps p r in
     let y = replica_after net same others p s in
-    sym (same_state net p ok x.knowledge y.knowledge know_same x.ran (all_within net ok same eq steps p r)) ∙ ap (from_scratch net p y.knowledge) ran_same
-
-pub returns-clause-promises : goal.returns-clause-promises
-returns-clause-promises g c = λ net ok same eq steps others p r s know_same ran_same kind d.
-    let x = replica_after net same steps p r in
-    let y = replica_after net same others p s in
-    sym (same_promise net p ok x.knowledge y.knowledge know_same kind x.ran d (all_within net ok same eq steps p r)) ∙ ap (λ k. promise net kind p y.knowledge k d) ran_same
+    let within = all_within net ok same eq steps p r in
+    record {
+      states = sym (same_state net p ok x.knowledge y.knowledge know.0 x.ran within) ∙ ap (from_scratch net p y.knowledge) know.1;
+      promises = λ kind d. sym (same_promise net p ok x.knowledge y.knowledge know.0 kind x.ran d within) ∙ ap (λ k. promise net kind p y.knowledge k d) know.1;
+    }
 
 pub returns-clause-counts : goal.returns-clause-counts
 returns-clause-counts g c = λ net ok p K J e j k a b. same_count net p ok K J e j k a b

@@ -23,9 +23,9 @@ returns c = λ b last calls same order within path.
     let stays = c.what_was_done_stays.ensures in
     let more = under_all b last follow none within in (
       records_stay b last follow none within
-          (λ k m le inside. stays.records (net_of b.topology) network b.partition (knowledge b) (knowledge_of b.topology last.knows) more k m le inside),
+          (λ k m le inside. (stays (net_of b.topology) network b.partition (knowledge b) (knowledge_of b.topology last.knows) more k m le inside).records),
       (λ d. sent_stays b last follow none within d
-          (λ k m le inside. stays.sent (net_of b.topology) network b.partition (knowledge b) (knowledge_of b.topology last.knows) more k m le inside (receiving_iface b.topology d))),
+          (λ k m le inside. (stays (net_of b.topology) network b.partition (knowledge b) (knowledge_of b.topology last.knows) more k m le inside).sent (receiving_iface b.topology d))),
       follow.handed,
       follow.events,
       follow.adds.order,

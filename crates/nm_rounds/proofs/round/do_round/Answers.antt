@@ -7,7 +7,7 @@ use Rattle.nm_rounds.proofs.round.do_round.Goals as goal
 pub returns-then-all_done : goal.returns-then-all_done
 returns-then-all_done c j by_round are stand = (
   all_ran c.args.topology.now by_round are j c.args.books.now.items c.run_all.new.books.items
-      (λ p. c.times_pass.ensures.count_once (net_of c.args.topology.now) c.every_topology_is_a_network.ensures.network p (by_round j p).knowledge) c.in_ok-run_all.ensures stand,
+      (λ p. (c.times_pass.ensures (net_of c.args.topology.now) c.every_topology_is_a_network.ensures.network).count_once p (by_round j p).knowledge) c.in_ok-run_all.ensures stand,
   subst (λ z. AllAreFinished z true) c.deref.ensures.value c.if-all_done.ensures,
 )
 
@@ -17,7 +17,7 @@ all_news-requires c =
     let by_round = c.requires.1 in
     let x = after_runs by_round c.requires.0 in
     let run = all_ran t by_round c.requires.2 c.requires.0 c.args.books.now.items c.run_all.new.books.items
-    (λ p. c.times_pass.ensures.count_once (net_of t) c.every_topology_is_a_network.ensures.network p (by_round c.requires.0 p).knowledge) c.in_ok-run_all.ensures c.requires.3 in
+    (λ p. (c.times_pass.ensures (net_of t) c.every_topology_is_a_network.ensures.network).count_once p (by_round c.requires.0 p).knowledge) c.in_ok-run_all.ensures c.requires.3 in
     record { books = (x, subst (AreBooks t t.partitions x) (sym c.deref-2.ensures.value) run) }
 
 pub hear_all-requires : goal.hear_all-requires
@@ -26,7 +26,7 @@ hear_all-requires c =
     let by_round = c.requires.1 in
     let x = after_runs by_round c.requires.0 in
     let run = all_ran t by_round c.requires.2 c.requires.0 c.args.books.now.items c.run_all.new.books.items
-    (λ p. c.times_pass.ensures.count_once (net_of t) c.every_topology_is_a_network.ensures.network p (by_round c.requires.0 p).knowledge) c.in_ok-run_all.ensures c.requires.3 in (
+    (λ p. (c.times_pass.ensures (net_of t) c.every_topology_is_a_network.ensures.network).count_once p (by_round c.requires.0 p).knowledge) c.in_ok-run_all.ensures c.requires.3 in (
       x,
       run,
       subst (λ z. AreAllNews t x (length t.receivers) (map (λ messages. messages.items) z)) (sym c.deref-3.ensures.value)
@@ -38,7 +38,7 @@ returns c j by_round are stand =
     let t = c.args.topology.now in
     let x = after_runs by_round j in
     let run = all_ran t by_round are j c.args.books.now.items c.run_all.new.books.items
-    (λ p. c.times_pass.ensures.count_once (net_of t) c.every_topology_is_a_network.ensures.network p (by_round j p).knowledge) c.in_ok-run_all.ensures stand in
+    (λ p. (c.times_pass.ensures (net_of t) c.every_topology_is_a_network.ensures.network).count_once p (by_round j p).knowledge) c.in_ok-run_all.ensures stand in
     let news = subst (λ z. AreAllNews t x (length t.receivers) (map (λ messages. messages.items) z)) (sym c.deref-3.ensures.value)
     (c.in_ok-news.ensures x (subst (AreBooks t t.partitions x) (sym c.deref-2.ensures.value) run)) in (
       all_heard t by_round are j c.hear_all.new.books.items (c.in_ok-hear_all.ensures x run news),

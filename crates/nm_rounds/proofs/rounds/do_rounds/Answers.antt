@@ -12,7 +12,7 @@ loop-round-init c by_round are = run_none c.args.topology.now by_round are c.arg
 pub do_round-requires : goal.do_round-requires
 do_round-requires c =
     let t = c.args.topology.now in
-    let r = c.rounds_bound.ensures.there (net_of t) c.every_topology_is_a_network.ensures.network same_octets Tight in
+    let r = c.there_are_rounds.ensures (net_of t) c.every_topology_is_a_network.ensures.network same_octets Tight in
     (c.loop-round.round, r.0, r.1, (c.loop-round.invariant r.0 r.1).stand)
 
 pub returns-then-branch : goal.returns-then-branch
@@ -20,11 +20,11 @@ returns-then-branch c =
     let t = c.args.topology.now in
     let net = c.every_topology_is_a_network.ensures.network in
     let same = c.packets_are_told_apart.ensures.same in
-    let r = c.rounds_bound.ensures.there (net_of t) net same_octets Tight in
+    let r = c.there_are_rounds.ensures (net_of t) net same_octets Tight in
     let j = c.loop-round.round in
     let books = c.do_round.new.books.items in
     let low : j < c.args.max = search rules in
-    all_done t r.0 r.1 (c.rounds_bound.ensures.early (net_of t) net same_octets same Tight r.0 r.1) c.args.max j c.loop-round.books.items books low (c.loop-round.invariant r.0 r.1)
+    all_done t r.0 r.1 (λ i p last safe e. (c.rounds_bound.ensures (net_of t) net same_octets same Tight r.0 r.1).early i p safe last e) c.args.max j c.loop-round.books.items books low (c.loop-round.invariant r.0 r.1)
     (subst (λ v. EndsRound t r.0 j v books) c.if-branch.true (c.in_ok-do_round.ensures j r.0 r.1 (c.loop-round.invariant r.0 r.1).stand))
 
 pub loop-round-preserved : goal.loop-round-preserved
@@ -42,8 +42,8 @@ returns c =
     let t = c.args.topology.now in
     let net = c.every_topology_is_a_network.ensures.network in
     let same = c.packets_are_told_apart.ensures.same in
-    let r = c.rounds_bound.ensures.there (net_of t) net same_octets Tight in
+    let r = c.there_are_rounds.ensures (net_of t) net same_octets Tight in
     let all : c.loop-round.round ≡ c.args.max = search rules in
-    not_done t r.0 r.1 (c.rounds_bound.ensures.alone (net_of t)) c.channels_are_those_of_the_network.ensures.numbered
-    (c.rounds_bound.ensures.done (net_of t) net same_octets same Tight r.0 r.1) c.rounds_bound.ensures.enough (c.times_pass.ensures.before (net_of t) net (net_of t).stop)
+    not_done t r.0 r.1 (c.a_lone_partition_is_safe.ensures (net_of t)) c.channels_are_those_of_the_network.ensures.numbered
+    (λ lead leads i p last le e. (c.rounds_bound.ensures (net_of t) net same_octets same Tight r.0 r.1).done lead leads i p le) c.so_many_rounds_are_enough.ensures ((c.times_pass.ensures (net_of t) net).before (net_of t).stop)
     c.args.max c.loop-round.books.items c.requires.some c.loop-round.round all (c.loop-round.invariant r.0 r.1)

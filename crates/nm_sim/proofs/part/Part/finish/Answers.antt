@@ -28,8 +28,8 @@ schedule_transmission-transmitted-requires-clause-numbered g c =
     let s = z.5 in
     let p : PartValue g.row.L.Denot = record { part = c.self.inside.part; devices = c.self.inside.devices; timeline = c.self.inside.timeline; outgoing = c.self.inside.outgoing; records = c.self.inside.records; steps = c.self.inside.steps } in
     let way = subst (λ (p : PartValue g.row.L.Denot). IsUnderWay g.L.EventList.pending t z.0 c.args.time z.1 z.2 (record { came = z.3; transmission = c.args.start; follows = z.4 }) p s) (sym c.self.view_is) z.6 in
-    let fresh = c.new_keys_are_new.ensures.fresh net isnet (here_of t z.0) (here_by_node t z.0) s way.taken.orderly (keyed c.args.time z.1 z.2) way.taken.first in
-    let apart = c.new_keys_are_new.ensures.apart net isnet s (keyed c.args.time z.1 z.2) in (
+    let fresh = (c.new_keys_are_new.ensures net isnet).fresh (here_of t z.0) (here_by_node t z.0) s way.taken.orderly (keyed c.args.time z.1 z.2) way.taken.first in
+    let apart = (c.new_keys_are_new.ensures net isnet).apart s (keyed c.args.time z.1 z.2) in (
       s.sent,
       way.taken.numbered,
       (λ x. let f = way.taken.few x in omega (arith, f, c.self.invariant)),
@@ -50,7 +50,7 @@ returns-clause-represents g c = rw (← c.self.view_is) (λ part n e came follow
     let isnet = c.every_topology_is_a_network.ensures.network in
     let p : PartValue g.row.L.Denot = record { part = c.self.inside.part; devices = c.self.inside.devices; timeline = c.self.inside.timeline; outgoing = c.self.inside.outgoing; records = c.self.inside.records; steps = c.self.inside.steps } in
     let after : PartValue g.row.L.Denot = record { part = c.self.inside.part; devices = c.self.inside.devices; timeline = c.schedule_transmission-transmitted.new.self; outgoing = c.schedule_transmission-transmitted.new.outgoing; records = c.record_transmission.new.self; steps = c.self.inside.steps + 1 } in
-    let orderly = c.every_state_is_orderly.ensures.steps net isnet (here_of t part) (here_by_node t part) s way.taken.orderly in
+    let orderly = (c.every_state_is_orderly.ensures net isnet).steps (here_of t part) (here_by_node t part) s way.taken.orderly in
     let did = c.schedule_transmission-transmitted.ensures in
     represents_after g.L.EventList.pending t part c.args.time n e (record { came = came; transmission = c.args.start; follows = follows }) p after s
     c.accepted_topologies_are_in_order.ensures.order orderly way refl refl (did.numbered s.sent way.taken.numbered)

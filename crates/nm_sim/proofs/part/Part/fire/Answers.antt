@@ -49,8 +49,8 @@ schedule_next-requires-clause-fresh g c =
     let p : PartValue g.row.L.Denot = record { part = c.self.inside.part; devices = c.self.inside.devices; timeline = c.self.inside.timeline; outgoing = c.self.inside.outgoing; records = c.self.inside.records; steps = c.self.inside.steps } in
     let e = Delivery (Source c.args.source) c.args.packet in
     let ready = subst (λ (p : PartValue g.row.L.Denot). IsReady g.L.EventList.pending g.L.EventList.room t part c.args.time c.args.number (Delivery (Source c.args.source) c.args.packet) p s) (sym c.self.view_is) c.requires.ready.2 in
-    let fresh = c.new_keys_are_new.ensures.fresh net isnet (here_of t part) (here_by_node t part) s ready.taken.orderly (keyed c.args.time c.args.number e) ready.taken.first in
-    let apart = c.new_keys_are_new.ensures.apart net isnet s (keyed c.args.time c.args.number e) in
+    let fresh = (c.new_keys_are_new.ensures net isnet).fresh (here_of t part) (here_by_node t part) s ready.taken.orderly (keyed c.args.time c.args.number e) ready.taken.first in
+    let apart = (c.new_keys_are_new.ensures net isnet).apart s (keyed c.args.time c.args.number e) in
     let n : c.args.number + 1 ≡ suc c.args.number = omega arith in
     follows_fresh g.L.EventList.pending t part c.args.time c.args.number e p s (by_source c.args.source c.in-Ok.fired.follows)
     (ap (by_source c.args.source) (c.in-Ok.ensures.follows ∙ ap (source_at t c.args.source) n) ∙ fires_next t s c.args.time c.args.source c.args.number c.args.packet) fresh apart ready.taken

@@ -13,5 +13,5 @@ returns-clause-represents g c =
     let p : PartValue g.row.L.Denot = record { part = part; devices = c.in_ok-devices.devices; timeline = c.in_ok-timeline.timeline; outgoing = c.in_ok-outgoing.outgoing; records = c.in_ok-records.records; steps = 0 } in
     let made = c.in_ok-timeline.ensures in
     represents_first t part g.L.EventList.pending p
-    (c.every_state_is_orderly.ensures.opens (net_of t) c.every_topology_is_a_network.ensures.network (here_of t part) (here_by_node t part))
+    ((c.every_state_is_orderly.ensures (net_of t) c.every_topology_is_a_network.ensures.network).opens (here_of t part) (here_by_node t part))
     refl c.in_ok-devices.ensures made.sent made.events c.in_ok-outgoing.ensures.count c.in_ok-outgoing.ensures.empty (records_first t c.in_ok-records.records c.in_ok-records.ensures.kept c.in_ok-records.ensures.handed (c.in_ok-records.ensures.totals ∙ ap (λ n. replicate n (0, FILE_HEADER_OCTETS)) (ap length c.ifaces.ensures)))

@@ -46,7 +46,7 @@ returns-then-not-branch-clause-next c = λ records trace.
     let before : p.records.handed ≡ c.args.self.now.records.handed = c.loop-done.invariant.handed ∙ ap (λ q. q.records.handed) c.self.view_is in
     let ended = subst (λ b. Advanced pending_of t None t.stop s mid c.advance.new.self (Ok b)) c.if-not-branch.true
     (subst (λ u. Advanced pending_of t None u s mid c.advance.new.self (Ok c.in_ok-advance.field-0)) c.stop.ensures (c.in_ok-advance.ensures.advance None s given.0)) in
-    let all = all_handed pending_of t mid on (c.times_pass.ensures.before_once (net_of t) c.every_topology_is_a_network.ensures.network t.stop) ended.1
+    let all = all_handed pending_of t mid on ((c.times_pass.ensures (net_of t) c.every_topology_is_a_network.ensures.network).before_once t.stop) ended.1
     (ap (slice_get s.records) same ∙ sym given.1 ∙ none) records trace in (
       sym before ∙ sym same ∙ all,
       ap (λ q. q.records.handed) ended.0 ∙ same ∙ before,
