@@ -4,28 +4,28 @@ use Rattle.std.proofs.Common.{Result, Ok, Err, refl, sym, ap, ◌∙◌, subst, 
 use Rattle.std.specs.Prelude.{codes, if◌then◌else◌, unwrap_or, ◌==◌}
 use Rattle.std.specs.Result.{result_ok}
 use Rattle.toml.specs.Data.{Data, Members, get_member}
-use Rattle.nm_base.specs.declared.limits.TheConstants.{MAX_IFACES, MAX_LINKS, MAX_MTU, MAX_NODES, MAX_ROUTES, MAX_SOURCES, MAX_TIME, MIN_MTU}
 use Rattle.nm_topology.specs.declared.fault.Refusal.{Refusal}
 use Rattle.nm_topology.specs.declared.fault.Refusal.TheVariants.{UnknownKey}
 use Rattle.nm_topology.specs.declared.parse.head.Format.{Format}
 use Rattle.nm_topology.specs.declared.parse.head.Format.TheVariants.{One, Two}
 use Rattle.nm_topology.specs.declared.parse.head.Head.{Head}
 use Rattle.nm_topology.specs.Fault.{◌>>=◌, demand}
-use Rattle.nm_topology.specs.Parse.Arrays.{array_of, in_table, is_table}
+use Rattle.nm_topology.specs.Parse.Arrays.{tables_at}
 use Rattle.nm_topology.specs.Parse.DocumentValue.{DocumentValue}
 use Rattle.nm_topology.specs.Parse.Sources.{source_table_of}
 use Rattle.nm_topology.specs.Parse.Tables.{iface_table_of, link_table_of, node_table_of}
 use Rattle.nm_topology.specs.Parse.Tables.{route_table_of}
 use Rattle.nm_topology.specs.Parse.Document.{document_of, format_of, with_tables}
-use Rattle.nm_topology.specs.Parse.Fields.{all_among, number_in, optional, required}
-use Rattle.nm_check.specs.declared.array.Array.{Array}
-use Rattle.nm_check.specs.declared.array.Array.TheVariants as array
-use Rattle.nm_check.specs.declared.field.Field.{Field}
-use Rattle.nm_check.specs.declared.field.Form.TheVariants as form
+use Rattle.nm_topology.specs.Parse.Fields.{all_among, number_at, number_in, required, value_at}
+use Rattle.nm_topology.specs.declared.keys.array.Array.{Array}
+use Rattle.nm_topology.specs.declared.keys.array.Array.TheVariants as array
+use Rattle.nm_topology.specs.declared.keys.field.Field.{Field}
+use Rattle.nm_topology.specs.declared.keys.field.Form.TheVariants as form
 use Rattle.nm_check.specs.declared.spot.FieldFault.{FieldFault}
 use Rattle.nm_check.specs.declared.spot.Spot.TheVariants as spot
-use Rattle.nm_check.specs.Keys.{array_key, key_text}
-use Rattle.nm_check.specs.declared.fields.TheConstants.{ARRAYS, HEAD}
+use Rattle.nm_topology.specs.Keys.{array_key, key_text}
+use Rattle.nm_topology.specs.declared.keys.fields.TheConstants.{ARRAYS, FORMAT, HEAD, MTU, STOP}
+use Rattle.nm_topology.specs.declared.keys.key.TableKey.TheVariants as key
 use Rattle.nm_check.specs.declared.place.FaultPlace.TheVariants as place
 use Rattle.nm_check.specs.Place.{at_top, find_behind, find_in, find_in_arrays, found_by, head_by}
 use Rattle.nm_check.specs.Place.{head_of, no_head, place_in_value, place_of, place_refusal}
@@ -74,22 +74,22 @@ arrays-chain head t = go (first_fault head t ARRAYS) refl ∙ sym (chain-first h
 arrays : (head : Head) (stop : ℕ) (t : Members) → outcome (with_tables head stop t) ≡ chain head t ARRAYS
 unfolding with_tables
 arrays head stop t =
-    five-arrays (optional [] (array_of is_table MAX_NODES (in_table node_table_of)) (get_member (codes "node") t))
-    (optional [] (array_of is_table MAX_IFACES (in_table (iface_table_of head.format))) (get_member (codes "iface") t))
-    (optional [] (array_of is_table MAX_LINKS (in_table link_table_of)) (get_member (codes "link") t))
-    (optional [] (array_of is_table MAX_ROUTES (in_table route_table_of)) (get_member (codes "route") t))
-    (optional [] (array_of is_table MAX_SOURCES (in_table (source_table_of head.mtu))) (get_member (codes "source") t))
+    five-arrays (tables_at node_table_of array.Node t)
+    (tables_at (iface_table_of head.format) array.Iface t)
+    (tables_at link_table_of array.Link t)
+    (tables_at route_table_of array.Route t)
+    (tables_at (source_table_of head.mtu) array.Source t)
     (λ nodes ifaces links routes sources. let d : DocumentValue = record { stop = stop; mtu = head.mtu; nodes = nodes; ifaces = ifaces; links = links; routes = routes; sources = sources } in d)
 
-format-outcome : (v : Option Data) → outcome (required format_of v) ≡ outcome (required (number_in 1 2) v)
+format-outcome : (v : Option Data) → outcome (required format_of v) ≡ outcome (required (number_in FORMAT.least FORMAT.greatest) v)
 format-outcome None = refl
-format-outcome (Some d) = outcome-bind (number_in 1 2 d) (λ n. if n == 1 then One else Two)
+format-outcome (Some d) = outcome-bind (number_in FORMAT.least FORMAT.greatest d) (λ n. if n == 1 then One else Two)
 
 -- the head that was read is that of the text
-head-read : (t : Members) (format : Format) (mtu : ℕ) → required format_of (get_member (codes "format") t) ≡ Ok format → required (number_in MIN_MTU MAX_MTU) (get_member (codes "mtu") t) ≡ Ok mtu → head_of t ≡ record { format = format; mtu = mtu }
+head-read : (t : Members) (format : Format) (mtu : ℕ) → required format_of (value_at key.Format t) ≡ Ok format → number_at key.Mtu MTU t ≡ Ok mtu → head_of t ≡ record { format = format; mtu = mtu }
 head-read t format mtu e h =
-    ap (λ m. head_by (result_ok (required (number_in 1 2) (get_member (codes "format") t))) (result_ok m)) h
-    ∙ by_value (get_member (codes "format") t) e
+    ap (λ m. head_by (result_ok (number_at key.Format FORMAT t)) (result_ok m)) h
+    ∙ by_value (value_at key.Format t) e
   where
     by_number : (r : Result ℕ Refusal) → (r >>= λ n. Ok (if n == 1 then One else Two)) ≡ Ok format → head_by (result_ok r) (Some mtu) ≡ record { format = format; mtu = mtu }
     by_number (Ok n) g =
@@ -97,9 +97,9 @@ head-read t format mtu e h =
         ap (λ (f : Format). let h : Head = record { format = f; mtu = mtu } in h) same
     by_number (Err q) g = cc
 
-    by_value : (v : Option Data) → required format_of v ≡ Ok format → head_by (result_ok (required (number_in 1 2) v)) (Some mtu) ≡ record { format = format; mtu = mtu }
+    by_value : (v : Option Data) → required format_of v ≡ Ok format → head_by (result_ok (required (number_in FORMAT.least FORMAT.greatest) v)) (Some mtu) ≡ record { format = format; mtu = mtu }
     by_value None g = cc
-    by_value (Some d) g = by_number (number_in 1 2 d) g
+    by_value (Some d) g = by_number (number_in FORMAT.least FORMAT.greatest d) g
 
 -- the keys of the top table, its head and then what follows, which is the same whatever stop is
 head-chain : {A B C D : Type 0} (b : Bool) (p : Result A Refusal) (q : Result B Refusal) (r : Result C Refusal) (k : A → B → C → Result D Refusal) (o z : Result Unit Refusal) → outcome p ≡ o
@@ -139,12 +139,12 @@ three-units (Ok u) (Ok v) (Ok w) z = refl
 pub document-refused : (t : Members) → outcome (document_of t) ≡ refused_in (find_in t)
 unfolding document_of
 document-refused t =
-    let format = required format_of (get_member (codes "format") t) in
-    let number = outcome (required (number_in 1 2) (get_member (codes "format") t)) in
-    let stop = required (number_in 1 MAX_TIME) (get_member (codes "stop") t) in
-    let mtu = required (number_in MIN_MTU MAX_MTU) (get_member (codes "mtu") t) in
+    let format = required format_of (value_at key.Format t) in
+    let number = outcome (number_at key.Format FORMAT t) in
+    let stop = number_at key.Stop STOP t in
+    let mtu = number_at key.Mtu MTU t in
     let rest = refused_in (find_in_arrays (head_of t) t) in
-    head-chain (all_among top_keys t) format stop mtu (λ f s m. with_tables (record { format = f; mtu = m }) s t) number rest (format-outcome (get_member (codes "format") t))
+    head-chain (all_among top_keys t) format stop mtu (λ f s m. with_tables (record { format = f; mtu = m }) s t) number rest (format-outcome (value_at key.Format t))
     (λ f s m is_format is_mtu.
     arrays (record { format = f; mtu = m }) s t ∙ sym (arrays-chain (record { format = f; mtu = m }) t)
     ∙ ap (λ (h : Head). refused_in (find_in_arrays h t)) (sym (head-read t f m is_format is_mtu)))

@@ -7,10 +7,10 @@ use Rattle.nm_topology.specs.declared.fault.Refusal.{Refusal}
 use Rattle.nm_topology.specs.declared.parse.head.Head.{Head}
 use Rattle.nm_topology.specs.Parse.Arrays.{all_fit, count, is_table}
 use Rattle.nm_topology.specs.Parse.Fields.{all_among}
-use Rattle.nm_check.specs.declared.array.Array.{Array}
-use Rattle.nm_check.specs.declared.field.Field.{Field}
-use Rattle.nm_check.specs.declared.field.Form.TheVariants as form
-use Rattle.nm_check.specs.declared.fields.TheConstants.{ARRAYS, HEAD}
+use Rattle.nm_topology.specs.declared.keys.array.Array.{Array}
+use Rattle.nm_topology.specs.declared.keys.field.Field.{Field}
+use Rattle.nm_topology.specs.declared.keys.field.Form.TheVariants as form
+use Rattle.nm_topology.specs.declared.keys.fields.TheConstants.{ARRAYS, HEAD}
 use Rattle.nm_check.specs.declared.first.MemberFault.{MemberFault}
 use Rattle.nm_check.specs.declared.place.Found.{Found}
 use Rattle.nm_check.specs.declared.place.FaultPlace.{FaultPlace}
@@ -19,7 +19,7 @@ use Rattle.nm_check.specs.declared.spot.FieldFault.{FieldFault}
 use Rattle.nm_check.specs.declared.spot.Spot.{Spot}
 use Rattle.nm_check.specs.declared.spot.Spot.TheVariants as spot
 use Rattle.nm_check.specs.First.{AreRead, first_from}
-use Rattle.nm_check.specs.Keys.{array_key, array_limit, key_text}
+use Rattle.nm_topology.specs.Keys.{array_key, array_limit, key_text}
 use Rattle.nm_check.specs.Place.{IsFirstPlace, IsFirstTable, at_top, find_behind, find_in, found_by}
 use Rattle.nm_check.specs.Place.{head_of, in_table_at, item_of, no_head, place_at, place_in_array}
 use Rattle.nm_check.specs.Place.{place_in_value, place_of, place_of_member, place_refusal, spot_of}

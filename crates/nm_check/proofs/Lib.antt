@@ -2,7 +2,6 @@ pub mod Documents
 pub mod FirstPlaces
 pub mod Firsts
 pub mod Items
-pub mod Packets
 pub mod Places
 pub mod Repeats
 pub mod Steps

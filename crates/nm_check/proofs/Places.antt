@@ -13,18 +13,17 @@ use Rattle.nm_topology.specs.Parse.Arrays.{all_fit, count, in_table, is_table}
 use Rattle.nm_topology.specs.Parse.Sources.{source_table_of}
 use Rattle.nm_topology.specs.Parse.Tables.{iface_table_of, link_table_of, node_table_of}
 use Rattle.nm_topology.specs.Parse.Tables.{route_table_of}
-use Rattle.nm_base.specs.declared.limits.TheConstants.{MAX_IFACES, MAX_LINKS, MAX_NODES, MAX_ROUTES, MAX_SOURCES}
-use Rattle.nm_check.specs.declared.array.Array.{Array}
-use Rattle.nm_check.specs.declared.array.Array.TheVariants as array_of
-use Rattle.nm_check.specs.declared.field.Field.{Field}
-use Rattle.nm_check.specs.declared.field.Form.TheVariants as form
+use Rattle.nm_topology.specs.declared.keys.array.Array.{Array}
+use Rattle.nm_topology.specs.declared.keys.array.Array.TheVariants as array_of
+use Rattle.nm_topology.specs.declared.keys.field.Field.{Field}
+use Rattle.nm_topology.specs.declared.keys.field.Form.TheVariants as form
 use Rattle.nm_check.specs.declared.first.MemberFault.{MemberFault}
 use Rattle.nm_check.specs.declared.place.FaultPlace.{FaultPlace}
 use Rattle.nm_check.specs.declared.place.FaultPlace.TheVariants as place
 use Rattle.nm_check.specs.declared.spot.Spot.{Spot}
 use Rattle.nm_check.specs.declared.spot.Spot.TheVariants as spot
 use Rattle.nm_check.specs.First.{first_from}
-use Rattle.nm_check.specs.Keys.{array_limit}
+use Rattle.nm_topology.specs.Keys.{array_limit}
 use Rattle.nm_check.specs.Place.{in_table_at, item_of, place_at, place_in_array, place_in_value}
 use Rattle.nm_check.specs.Place.{place_of_member, place_refusal, spot_of}
 use Rattle.nm_check.specs.Reading.{refused_at, tables_of}
@@ -33,11 +32,11 @@ use Rattle.nm_check.proofs.Tables.{item-table}
 
 -- the tables of an array, where it has tables and not too many
 pub tables-first : (head : Head) (a : Array) (ds : Items) → (all_fit is_table ds && nat_le (count ds) (array_limit a)) ≡ true → tables_of head a (Some (array ds)) ≡ refused_member (first_from (item_of head a) 0 ds)
-tables-first head array_of.Node ds e = array-first (in_table node_table_of) MAX_NODES ds e
-tables-first head array_of.Iface ds e = array-first (in_table (iface_table_of head.format)) MAX_IFACES ds e
-tables-first head array_of.Link ds e = array-first (in_table link_table_of) MAX_LINKS ds e
-tables-first head array_of.Route ds e = array-first (in_table route_table_of) MAX_ROUTES ds e
-tables-first head array_of.Source ds e = array-first (in_table (source_table_of head.mtu)) MAX_SOURCES ds e
+tables-first head array_of.Node ds e = array-first (in_table node_table_of) (array_limit array_of.Node) ds e
+tables-first head array_of.Iface ds e = array-first (in_table (iface_table_of head.format)) (array_limit array_of.Iface) ds e
+tables-first head array_of.Link ds e = array-first (in_table link_table_of) (array_limit array_of.Link) ds e
+tables-first head array_of.Route ds e = array-first (in_table route_table_of) (array_limit array_of.Route) ds e
+tables-first head array_of.Source ds e = array-first (in_table (source_table_of head.mtu)) (array_limit array_of.Source) ds e
 
 -- a place, or the top table
 abbrev pub refused_or : Refusal → Option FaultPlace → Refusal

@@ -14,11 +14,12 @@ use Rattle.nm_topology.specs.declared.fault.Refusal.{Refusal}
 use Rattle.nm_topology.specs.declared.fault.Refusal.TheVariants.{UnknownKey}
 use Rattle.nm_topology.specs.declared.parse.head.Head.{Head}
 use Rattle.nm_topology.specs.Fault.{◌>>=◌, demand}
+use Rattle.nm_topology.specs.Keys.{keys_of}
 use Rattle.nm_topology.specs.Parse.Fields.{all_among, number_in, optional}
 use Rattle.nm_topology.specs.Parse.Fields.{some_number_in}
-use Rattle.nm_check.specs.declared.field.Field.{Field}
+use Rattle.nm_topology.specs.declared.keys.field.Field.{Field}
 use Rattle.nm_check.specs.declared.spot.Spot.TheVariants as spot
-use Rattle.nm_check.specs.Reading.{at_field, field_of, first_fault, keys_of, or_else, outcome}
+use Rattle.nm_check.specs.Reading.{at_field, field_of, first_fault, or_else, outcome}
 use Rattle.nm_check.specs.Reading.{refused_at, spot_in}
 
 pub both : (a b : Bool) → (a && b) ≡ true → (a ≡ true) × (b ≡ true)

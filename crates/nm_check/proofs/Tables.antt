@@ -1,10 +1,10 @@
 -- The fields of each kind of table are refused as its reader refuses it.
-use Rattle.std.proofs.Common.{◌≡◌, ◌-◌, Bool, true, false, ◌∷◌, [], Option, None, Some, Result}
+use Rattle.std.proofs.Common.{◌≡◌, ℕ, Bool, true, false, List, drop, ◌∷◌, [], Option, None, Some, Result}
 use Rattle.std.proofs.Common.{Ok, Err, refl, sym, ap, ◌∙◌}
 use Rattle.std.specs.Prelude.{codes, if◌then◌else◌}
 use Rattle.std.specs.Str.{bytes_eq}
 use Rattle.toml.specs.Data.{Data, Members, get_member, string, table}
-use Rattle.nm_base.specs.declared.limits.TheConstants.{MAX_COUNT, MAX_DELAY, MAX_INTERVAL, MAX_PORTS_OF_NODE, MAX_QUEUE, MAX_QUEUE_OCTETS, MAX_RATE, MAX_TIME, MIN_RATE}
+use Rattle.nm_base.specs.declared.limits.TheConstants.{MAX_PORTS_OF_NODE}
 use Rattle.nm_topology.specs.declared.fault.Refusal.{Refusal}
 use Rattle.nm_topology.specs.declared.fault.Refusal.TheVariants.{UnknownKey}
 use Rattle.nm_topology.specs.declared.parse.head.Format.{Format}
@@ -16,33 +16,40 @@ use Rattle.nm_topology.specs.declared.parse.sources.NamedTraffic.TheVariants.{Ra
 use Rattle.nm_topology.specs.declared.traffic.Flow.{Flow}
 use Rattle.nm_topology.specs.Fault.{◌>>=◌}
 use Rattle.nm_topology.specs.Parse.Arrays.{array_of, is_integer}
-use Rattle.nm_topology.specs.Parse.Fields.{all_among, in_form, number_in, optional, plain_text}
-use Rattle.nm_topology.specs.Parse.Fields.{required, required_text, some_number_in}
+use Rattle.nm_topology.specs.Keys.{keys_of, size_under}
+use Rattle.nm_topology.specs.Parse.Fields.{all_among, in_form, number_at, number_in, number_or}
+use Rattle.nm_topology.specs.Parse.Fields.{optional, plain_text, required, required_text}
+use Rattle.nm_topology.specs.Parse.Fields.{some_number_at, some_number_in, text_at, value_at}
 use Rattle.nm_topology.specs.Parse.Forms.{name_of, node_kind_of, prefix_of, usable_address_of}
 use Rattle.nm_topology.specs.Parse.Sources.{cbr_of, echo_of, flow_of, packets_of, raw_of, source_by}
 use Rattle.nm_topology.specs.Parse.Sources.{source_kind_of, source_table_of}
 use Rattle.nm_topology.specs.Parse.SourceTableValue.{SourceTableValue}
-use Rattle.nm_topology.specs.Parse.Tables.{iface_keys, iface_table_of, link_table_of}
+use Rattle.nm_topology.specs.Parse.Tables.{iface_fields, iface_keys, iface_table_of, link_table_of}
 use Rattle.nm_topology.specs.Parse.Tables.{node_table_of, route_table_of}
 use Rattle.nm_topology.specs.Parse.TableValues.{IfaceTableValue, LinkTableValue, NodeTableValue}
 use Rattle.nm_topology.specs.Parse.TableValues.{RouteTableValue}
-use Rattle.nm_check.specs.declared.array.Array.{Array}
-use Rattle.nm_check.specs.declared.array.Array.TheVariants as array
-use Rattle.nm_check.specs.declared.fields.TheConstants.{CBR_TABLE, COUNT, ECHO_TABLE, FILL}
-use Rattle.nm_check.specs.declared.fields.TheConstants.{IFACE_TABLE_ONE, IFACE_TABLE_TWO, INTERVAL}
-use Rattle.nm_check.specs.declared.fields.TheConstants.{LINK_TABLE, NODE_TABLE, RAW_TABLE}
-use Rattle.nm_check.specs.declared.fields.TheConstants.{ROUTE_TABLE, SIZE, SOURCE_KIND, START, TTL}
-use Rattle.nm_check.specs.Place.{fields_by_kind, iface_fields, item_of, or_spot, source_spot}
+use Rattle.nm_topology.specs.declared.keys.array.Array.{Array}
+use Rattle.nm_topology.specs.declared.keys.array.Array.TheVariants as array
+use Rattle.nm_topology.specs.declared.keys.field.Field.{Field}
+use Rattle.nm_topology.specs.declared.keys.field.Form.TheVariants as form
+use Rattle.nm_topology.specs.declared.keys.fields.TheConstants.{CBR_TABLE, COUNT, DELAY, ECHO_TABLE}
+use Rattle.nm_topology.specs.declared.keys.fields.TheConstants.{FILL, IDENTIFIER, IFACE_TABLE_ONE}
+use Rattle.nm_topology.specs.declared.keys.fields.TheConstants.{IFACE_TABLE_TWO, INTERVAL, LINK_TABLE}
+use Rattle.nm_topology.specs.declared.keys.fields.TheConstants.{NODE_TABLE, PARTITION, PORT, QUEUE}
+use Rattle.nm_topology.specs.declared.keys.fields.TheConstants.{QUEUE_OCTETS, RATE, RAW_TABLE}
+use Rattle.nm_topology.specs.declared.keys.fields.TheConstants.{ROUTE_TABLE, START, TTL}
+use Rattle.nm_topology.specs.declared.keys.key.TableKey.TheVariants as key
+use Rattle.nm_check.specs.Place.{fields_by_kind, item_of, or_spot, source_spot}
 use Rattle.nm_check.specs.Place.{spot_of}
-use Rattle.nm_check.specs.Reading.{keys_of, or_else, outcome, refused_at, spot_in}
+use Rattle.nm_check.specs.Reading.{or_else, outcome, refused_at, spot_in}
 use Rattle.nm_check.proofs.Steps.{absent, bind-unit, chain, five, four, outcome-optional}
 use Rattle.nm_check.proofs.Steps.{outcome-some_number, six, spot-chain, three}
 
 pub node_table : (head : Head) (t : Members) → outcome (node_table_of t) ≡ refused_at (spot_in head NODE_TABLE t)
 unfolding node_table_of
 node_table head t =
-    let ports = optional [] (array_of is_integer MAX_PORTS_OF_NODE (number_in 0 65535)) (get_member (codes "ports") t) in
-    four (all_among (keys_of NODE_TABLE) t) (required_text name_of (get_member (codes "name") t)) (required_text node_kind_of (get_member (codes "kind") t)) (required (number_in 0 63) (get_member (codes "partition") t)) ports
+    let ports = optional [] (array_of is_integer MAX_PORTS_OF_NODE (number_in PORT.least PORT.greatest)) (value_at key.Ports t) in
+    four (all_among (keys_of NODE_TABLE) t) (text_at name_of key.Name t) (text_at node_kind_of key.Kind t) (number_at key.Partition PARTITION t) ports
     (λ name kind partition ports. let n : NodeTableValue = record { name = name; kind = kind; partition = partition; ports = ports } in n)
     (outcome ports >>= λ u. Ok tt) (sym (bind-unit (outcome ports)))
     ∙ spot-chain head t NODE_TABLE
@@ -50,8 +57,8 @@ node_table head t =
 pub link_table : (head : Head) (t : Members) → outcome (link_table_of t) ≡ refused_at (spot_in head LINK_TABLE t)
 unfolding link_table_of
 link_table head t =
-    let delay = required (number_in 0 MAX_DELAY) (get_member (codes "delay") t) in
-    four (all_among (keys_of LINK_TABLE) t) (required_text name_of (get_member (codes "a") t)) (required_text name_of (get_member (codes "b") t)) (required (number_in MIN_RATE MAX_RATE) (get_member (codes "rate") t)) delay
+    let delay = number_at key.Delay DELAY t in
+    four (all_among (keys_of LINK_TABLE) t) (text_at name_of key.A t) (text_at name_of key.B t) (number_at key.Rate RATE t) delay
     (λ a b rate delay. let l : LinkTableValue = record { a = a; b = b; rate = rate; delay = delay } in l)
     (outcome delay >>= λ u. Ok tt) (sym (bind-unit (outcome delay)))
     ∙ spot-chain head t LINK_TABLE
@@ -59,81 +66,87 @@ link_table head t =
 pub route_table : (head : Head) (t : Members) → outcome (route_table_of t) ≡ refused_at (spot_in head ROUTE_TABLE t)
 unfolding route_table_of
 route_table head t =
-    let via = required_text name_of (get_member (codes "via") t) in
-    three (all_among (keys_of ROUTE_TABLE) t) (required_text name_of (get_member (codes "node") t)) (required_text prefix_of (get_member (codes "to") t)) via
+    let via = text_at name_of key.Via t in
+    three (all_among (keys_of ROUTE_TABLE) t) (text_at name_of key.Node t) (text_at prefix_of key.To t) via
     (λ node to via. let r : RouteTableValue = record { node = node; to = to; via = via } in r)
     (outcome via >>= λ u. Ok tt) (sym (bind-unit (outcome via)))
     ∙ spot-chain head t ROUTE_TABLE
 
 -- a table of `iface`, whose last field has this outcome where its keys are known
-iface_table_as : (format : Format) (t : Members) (o : Result Unit Refusal) → (all_among (iface_keys format) t ≡ true → outcome (optional None (some_number_in 0 MAX_QUEUE_OCTETS) (get_member (codes "queue_octets") t)) ≡ o)
-    → outcome (iface_table_of format t) ≡ (if all_among (iface_keys format) t then (outcome (required_text name_of (get_member (codes "name") t)) >>= λ u. outcome (required_text name_of (get_member (codes "node") t)) >>= λ u. outcome (required_text usable_address_of (get_member (codes "address") t)) >>= λ u. outcome (required (number_in 0 MAX_QUEUE) (get_member (codes "queue") t)) >>= λ u. o) else Err UnknownKey)
+iface_table_as : (format : Format) (t : Members) (o : Result Unit Refusal) → (all_among (iface_keys format) t ≡ true → outcome (some_number_at key.QueueOctets QUEUE_OCTETS t) ≡ o)
+    → outcome (iface_table_of format t) ≡ (if all_among (iface_keys format) t then (outcome (text_at name_of key.Name t) >>= λ u. outcome (text_at name_of key.Node t) >>= λ u. outcome (text_at usable_address_of key.Address t) >>= λ u. outcome (number_at key.Queue QUEUE t) >>= λ u. o) else Err UnknownKey)
 unfolding iface_table_of
 iface_table_as format t o e =
-    five (all_among (iface_keys format) t) (required_text name_of (get_member (codes "name") t)) (required_text name_of (get_member (codes "node") t)) (required_text usable_address_of (get_member (codes "address") t)) (required (number_in 0 MAX_QUEUE) (get_member (codes "queue") t))
-    (optional None (some_number_in 0 MAX_QUEUE_OCTETS) (get_member (codes "queue_octets") t))
+    five (all_among (iface_keys format) t) (text_at name_of key.Name t) (text_at name_of key.Node t) (text_at usable_address_of key.Address t) (number_at key.Queue QUEUE t)
+    (some_number_at key.QueueOctets QUEUE_OCTETS t)
     (λ name node address queue octets. let i : IfaceTableValue = record { name = name; node = node; address = address; queue = queue; queue_octets = octets } in i)
     o e
 
 pub iface_table : (format : Format) (head : Head) (t : Members) → outcome (iface_table_of format t) ≡ refused_at (spot_in head (iface_fields format) t)
 iface_table One head t =
-    iface_table_as One t (Ok tt) (λ among. ap (λ v. outcome (optional None (some_number_in 0 MAX_QUEUE_OCTETS) v)) (absent (codes "queue_octets") (iface_keys One) refl t among))
+    iface_table_as One t (Ok tt) (λ among. ap (λ v. outcome (optional None (some_number_in QUEUE_OCTETS.least QUEUE_OCTETS.greatest) v)) (absent (codes "queue_octets") (iface_keys One) refl t among))
     ∙ spot-chain head t IFACE_TABLE_ONE
 iface_table Two head t =
-    let octets = outcome (optional 0 (number_in 0 MAX_QUEUE_OCTETS) (get_member (codes "queue_octets") t)) in
-    iface_table_as Two t (octets >>= λ u. Ok tt) (λ among. outcome-some_number 0 MAX_QUEUE_OCTETS (get_member (codes "queue_octets") t) ∙ sym (bind-unit octets))
+    let octets = outcome (number_or 0 key.QueueOctets QUEUE_OCTETS t) in
+    iface_table_as Two t (octets >>= λ u. Ok tt) (λ among. outcome-some_number QUEUE_OCTETS.least QUEUE_OCTETS.greatest (value_at key.QueueOctets t) ∙ sym (bind-unit octets))
     ∙ spot-chain head t IFACE_TABLE_TWO
 
--- the fields that sources share
-flow : (head : Head) (t : Members) → outcome (flow_of head.mtu t) ≡ chain head t (SIZE ∷ FILL ∷ START ∷ INTERVAL ∷ COUNT ∷ TTL ∷ [])
+-- the kind of a source, and the fields that sources share
+abbrev source_kind : Field
+source_kind = record { key = key.Kind; form = form.SourceKind }
+
+abbrev flow_fields : List Field
+flow_fields = drop 5 CBR_TABLE
+
+flow : (head : Head) (t : Members) → outcome (flow_of head.mtu t) ≡ chain head t flow_fields
 unfolding flow_of
 flow head t =
-    let ttl = outcome (optional 0 (number_in 1 255) (get_member (codes "ttl") t)) in
-    six (required (number_in 0 (head.mtu - 28)) (get_member (codes "size") t)) (optional 0 (number_in 0 255) (get_member (codes "fill") t)) (required (number_in 0 MAX_TIME) (get_member (codes "start") t)) (required (number_in 1 MAX_INTERVAL) (get_member (codes "interval") t)) (required (number_in 0 MAX_COUNT) (get_member (codes "count") t)) (optional 64 (number_in 1 255) (get_member (codes "ttl") t))
+    let ttl = outcome (number_or 0 key.Ttl TTL t) in
+    six (number_at key.Size (size_under head.mtu) t) (number_or 0 key.Fill FILL t) (number_at key.Start START t) (number_at key.Interval INTERVAL t) (number_at key.Count COUNT t) (number_or 64 key.Ttl TTL t)
     (λ size fill start interval count ttl. let f : Flow = record { size = size; fill = fill; start = start; interval = interval; count = count; ttl = ttl } in f)
-    (ttl >>= λ u. Ok tt) (outcome-optional 64 1 255 (get_member (codes "ttl") t) ∙ sym (bind-unit ttl))
+    (ttl >>= λ u. Ok tt) (outcome-optional 64 TTL.least TTL.greatest (value_at key.Ttl t) ∙ sym (bind-unit ttl))
 
 -- the kind of a source that is read, and then its other fields
-kind-read : (head : Head) (t : Members) (known : Bool) (rest : Result Unit Refusal) → outcome (required_text source_kind_of (get_member (codes "kind") t)) ≡ Ok tt
-    → (if known then rest else Err UnknownKey) ≡ (if known then (outcome (required_text source_kind_of (get_member (codes "kind") t)) >>= λ u. rest) else Err UnknownKey)
+kind-read : (head : Head) (t : Members) (known : Bool) (rest : Result Unit Refusal) → outcome (text_at source_kind_of key.Kind t) ≡ Ok tt
+    → (if known then rest else Err UnknownKey) ≡ (if known then (outcome (text_at source_kind_of key.Kind t) >>= λ u. rest) else Err UnknownKey)
 kind-read head t known rest e = ap (λ o. if known then (o >>= λ u. rest) else Err UnknownKey) (sym e)
 
-cbr_table : (head : Head) (t : Members) → outcome (required_text source_kind_of (get_member (codes "kind") t)) ≡ Ok tt → outcome (cbr_of head.mtu t) ≡ refused_at (spot_in head CBR_TABLE t)
+cbr_table : (head : Head) (t : Members) → outcome (text_at source_kind_of key.Kind t) ≡ Ok tt → outcome (cbr_of head.mtu t) ≡ refused_at (spot_in head CBR_TABLE t)
 unfolding cbr_of
 cbr_table head t kind =
     let known = all_among (keys_of CBR_TABLE) t in
-    let node = required_text name_of (get_member (codes "node") t) in
-    let to = required_text usable_address_of (get_member (codes "to") t) in
-    let source = required (number_in 0 65535) (get_member (codes "sport") t) in
-    let destination = required (number_in 0 65535) (get_member (codes "dport") t) in
-    let rest = chain head t (SIZE ∷ FILL ∷ START ∷ INTERVAL ∷ COUNT ∷ TTL ∷ []) in
+    let node = text_at name_of key.Node t in
+    let to = text_at usable_address_of key.To t in
+    let source = number_at key.SourcePort PORT t in
+    let destination = number_at key.DestinationPort PORT t in
+    let rest = chain head t flow_fields in
     five known node to source destination (flow_of head.mtu t)
     (λ node to source destination flow. let s : SourceTableValue = record { node = node; traffic = NamedCbr (record { to = to; source_port = source; destination_port = destination; flow = flow }) } in s)
     rest (λ among. flow head t)
     ∙ kind-read head t known (outcome node >>= λ u. outcome to >>= λ u. outcome source >>= λ u. outcome destination >>= λ u. rest) kind
     ∙ spot-chain head t CBR_TABLE
 
-echo_table : (head : Head) (t : Members) → outcome (required_text source_kind_of (get_member (codes "kind") t)) ≡ Ok tt → outcome (echo_of head.mtu t) ≡ refused_at (spot_in head ECHO_TABLE t)
+echo_table : (head : Head) (t : Members) → outcome (text_at source_kind_of key.Kind t) ≡ Ok tt → outcome (echo_of head.mtu t) ≡ refused_at (spot_in head ECHO_TABLE t)
 unfolding echo_of
 echo_table head t kind =
     let known = all_among (keys_of ECHO_TABLE) t in
-    let node = required_text name_of (get_member (codes "node") t) in
-    let to = required_text usable_address_of (get_member (codes "to") t) in
-    let identifier = required (number_in 0 65535) (get_member (codes "ident") t) in
-    let rest = chain head t (SIZE ∷ FILL ∷ START ∷ INTERVAL ∷ COUNT ∷ TTL ∷ []) in
+    let node = text_at name_of key.Node t in
+    let to = text_at usable_address_of key.To t in
+    let identifier = number_at key.Identifier IDENTIFIER t in
+    let rest = chain head t flow_fields in
     four known node to identifier (flow_of head.mtu t)
     (λ node to identifier flow. let s : SourceTableValue = record { node = node; traffic = NamedEcho (record { to = to; identifier = identifier; flow = flow }) } in s)
     rest (flow head t)
     ∙ kind-read head t known (outcome node >>= λ u. outcome to >>= λ u. outcome identifier >>= λ u. rest) kind
     ∙ spot-chain head t ECHO_TABLE
 
-raw_table : (head : Head) (t : Members) → outcome (required_text source_kind_of (get_member (codes "kind") t)) ≡ Ok tt → outcome (raw_of head.mtu t) ≡ refused_at (spot_in head RAW_TABLE t)
+raw_table : (head : Head) (t : Members) → outcome (text_at source_kind_of key.Kind t) ≡ Ok tt → outcome (raw_of head.mtu t) ≡ refused_at (spot_in head RAW_TABLE t)
 unfolding raw_of
 raw_table head t kind =
     let known = all_among (keys_of RAW_TABLE) t in
-    let node = required_text name_of (get_member (codes "node") t) in
-    let via = required_text name_of (get_member (codes "via") t) in
-    let packets = required (packets_of head.mtu) (get_member (codes "packet") t) in
+    let node = text_at name_of key.Node t in
+    let via = text_at name_of key.Via t in
+    let packets = required (packets_of head.mtu) (value_at key.Packet t) in
     let rest = outcome packets >>= λ u. Ok tt in
     three known node via packets
     (λ node via packets. let s : SourceTableValue = record { node = node; traffic = NamedRaw (record { via = via; packets = packets }) } in s)
@@ -142,11 +155,11 @@ raw_table head t kind =
     ∙ spot-chain head t RAW_TABLE
 
 -- a source, by what stands at its kind
-by_kind : (head : Head) (t : Members) (v : Option Data) → get_member (codes "kind") t ≡ v → outcome (required_text source_kind_of v >>= λ kind. source_by kind head.mtu t) ≡ refused_at (or_spot (or_else SOURCE_KIND (outcome (required_text source_kind_of v)) None) (spot_in head (fields_by_kind (required plain_text v)) t))
+by_kind : (head : Head) (t : Members) (v : Option Data) → get_member (codes "kind") t ≡ v → outcome (required_text source_kind_of v >>= λ kind. source_by kind head.mtu t) ≡ refused_at (or_spot (or_else source_kind (outcome (required_text source_kind_of v)) None) (spot_in head (fields_by_kind (required plain_text v)) t))
 by_kind head t None e = refl
 by_kind head t (Some (string s)) e = by_tests (bytes_eq s (codes "cbr")) refl (bytes_eq s (codes "echo")) refl (bytes_eq s (codes "raw")) refl
   where
-    read : (a b c : Bool) → bytes_eq s (codes "cbr") ≡ a → bytes_eq s (codes "echo") ≡ b → bytes_eq s (codes "raw") ≡ c → outcome (required_text source_kind_of (get_member (codes "kind") t)) ≡ outcome (in_form (if a then source_kind_of (codes "cbr") else (if b then source_kind_of (codes "echo") else (if c then source_kind_of (codes "raw") else None))))
+    read : (a b c : Bool) → bytes_eq s (codes "cbr") ≡ a → bytes_eq s (codes "echo") ≡ b → bytes_eq s (codes "raw") ≡ c → outcome (text_at source_kind_of key.Kind t) ≡ outcome (in_form (if a then source_kind_of (codes "cbr") else (if b then source_kind_of (codes "echo") else (if c then source_kind_of (codes "raw") else None))))
     read a b c ea eb ec =
         ap (λ w. outcome (required_text source_kind_of w)) e
         ∙ ap (λ (x : Bool). outcome (in_form (if x then source_kind_of (codes "cbr") else (if bytes_eq s (codes "echo") then source_kind_of (codes "echo") else (if bytes_eq s (codes "raw") then source_kind_of (codes "raw") else None))))) ea
@@ -154,7 +167,7 @@ by_kind head t (Some (string s)) e = by_tests (bytes_eq s (codes "cbr")) refl (b
         ∙ ap (λ (x : Bool). outcome (in_form (if a then source_kind_of (codes "cbr") else (if b then source_kind_of (codes "echo") else (if x then source_kind_of (codes "raw") else None))))) ec
 
     by_tests : (a : Bool) → bytes_eq s (codes "cbr") ≡ a → (b : Bool) → bytes_eq s (codes "echo") ≡ b → (c : Bool) → bytes_eq s (codes "raw") ≡ c
-        → outcome (in_form (if a then source_kind_of (codes "cbr") else (if b then source_kind_of (codes "echo") else (if c then source_kind_of (codes "raw") else None))) >>= λ kind. source_by kind head.mtu t) ≡ refused_at (or_spot (or_else SOURCE_KIND (outcome (in_form (if a then source_kind_of (codes "cbr") else (if b then source_kind_of (codes "echo") else (if c then source_kind_of (codes "raw") else None))))) None) (spot_in head (if a then CBR_TABLE else (if b then ECHO_TABLE else RAW_TABLE)) t))
+        → outcome (in_form (if a then source_kind_of (codes "cbr") else (if b then source_kind_of (codes "echo") else (if c then source_kind_of (codes "raw") else None))) >>= λ kind. source_by kind head.mtu t) ≡ refused_at (or_spot (or_else source_kind (outcome (in_form (if a then source_kind_of (codes "cbr") else (if b then source_kind_of (codes "echo") else (if c then source_kind_of (codes "raw") else None))))) None) (spot_in head (if a then CBR_TABLE else (if b then ECHO_TABLE else RAW_TABLE)) t))
     by_tests true ea b eb c ec = cbr_table head t (read true b c ea eb ec)
     by_tests false ea true eb c ec = echo_table head t (read false true c ea eb ec)
     by_tests false ea false eb true ec = raw_table head t (read false false true ea eb ec)
@@ -163,7 +176,7 @@ by_kind head t (Some _) e = refl
 
 pub source_table : (head : Head) (t : Members) → outcome (source_table_of head.mtu t) ≡ refused_at (source_spot head t)
 unfolding source_table_of
-source_table head t = by_kind head t (get_member (codes "kind") t) refl
+source_table head t = by_kind head t (value_at key.Kind t) refl
 
 -- a table is refused where the fields of its array say, and for what is refused there
 pub item-table : (head : Head) (a : Array) (t : Members) → item_of head a (table t) ≡ refused_at (spot_of head a t)

@@ -1,6 +1,5 @@
 pub mod Doubles
 pub mod First
-pub mod Keys
 pub mod Lines
 pub mod Locate
 pub mod Place

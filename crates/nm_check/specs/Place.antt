@@ -3,35 +3,37 @@ use Rattle.std.specs.Prelude.{◌≡◌, ◌⊎◌, false, ℕ, if◌then◌else
 use Rattle.std.specs.Prelude.{Result, Ok, Err, codes, ◌==◌, ◌&&◌, nat_le, unwrap_or}
 use Rattle.std.specs.Result.{result_ok}
 use Rattle.std.specs.Str.{bytes_eq}
-use Rattle.toml.specs.Data.{Data, Items, Members, array, get_item, get_member, table}
-use Rattle.nm_base.specs.declared.limits.TheConstants.{MAX_MTU, MIN_MTU}
+use Rattle.toml.specs.Data.{Data, Items, Members, array, get_item, table}
+use Rattle.nm_base.specs.declared.limits.TheConstants.{MIN_MTU}
 use Rattle.nm_topology.specs.declared.fault.Refusal.{Refusal}
 use Rattle.nm_topology.specs.declared.parse.head.Format.{Format}
 use Rattle.nm_topology.specs.declared.parse.head.Format.TheVariants.{One, Two}
 use Rattle.nm_topology.specs.declared.parse.head.Head.{Head}
 use Rattle.nm_topology.specs.Parse.Arrays.{all_fit, count, in_table, is_table}
-use Rattle.nm_topology.specs.Parse.Fields.{all_among, number_in, plain_text, required}
+use Rattle.nm_topology.specs.Parse.Fields.{all_among, number_at, plain_text, required, value_at}
 use Rattle.nm_topology.specs.Parse.Sources.{source_table_of}
-use Rattle.nm_topology.specs.Parse.Tables.{iface_table_of, link_table_of, node_table_of}
+use Rattle.nm_topology.specs.Parse.Tables.{iface_fields, iface_table_of, link_table_of}
+use Rattle.nm_topology.specs.Parse.Tables.{node_table_of}
 use Rattle.nm_topology.specs.Parse.Tables.{route_table_of}
-use Rattle.nm_check.specs.declared.array.Array.{Array}
-use Rattle.nm_check.specs.declared.array.Array.TheVariants as array
-use Rattle.nm_check.specs.declared.field.Field.{Field}
-use Rattle.nm_check.specs.declared.fields.TheConstants.{ARRAYS, CBR_TABLE, ECHO_TABLE, HEAD}
-use Rattle.nm_check.specs.declared.fields.TheConstants.{IFACE_TABLE_ONE, IFACE_TABLE_TWO}
-use Rattle.nm_check.specs.declared.fields.TheConstants.{KIND_OF_SOURCE, LINK_TABLE, NODE_TABLE}
-use Rattle.nm_check.specs.declared.fields.TheConstants.{RAW_TABLE, ROUTE_TABLE}
+use Rattle.nm_topology.specs.declared.keys.array.Array.{Array}
+use Rattle.nm_topology.specs.declared.keys.array.Array.TheVariants as array
+use Rattle.nm_topology.specs.declared.keys.field.Field.{Field}
+use Rattle.nm_topology.specs.declared.keys.fields.TheConstants.{ARRAYS, CBR_TABLE, ECHO_TABLE, FORMAT}
+use Rattle.nm_topology.specs.declared.keys.fields.TheConstants.{HEAD, KIND_OF_SOURCE, LINK_TABLE}
+use Rattle.nm_topology.specs.declared.keys.fields.TheConstants.{MTU, NODE_TABLE, RAW_TABLE}
+use Rattle.nm_topology.specs.declared.keys.fields.TheConstants.{ROUTE_TABLE, TOP_TABLE}
+use Rattle.nm_topology.specs.declared.keys.key.TableKey.TheVariants as key
 use Rattle.nm_check.specs.declared.place.Found.{Found}
 use Rattle.nm_check.specs.declared.place.FaultPlace.{FaultPlace}
 use Rattle.nm_check.specs.declared.place.FaultPlace.TheVariants as place
 use Rattle.nm_check.specs.declared.spot.FieldFault.{FieldFault}
 use Rattle.nm_check.specs.declared.spot.Spot.{Spot}
 use Rattle.nm_check.specs.declared.spot.Spot.TheVariants as spot
-use Rattle.nm_check.specs.declared.field.Form.{Form}
-use Rattle.nm_check.specs.declared.field.Form.TheVariants as form
+use Rattle.nm_topology.specs.declared.keys.field.Form.{Form}
+use Rattle.nm_topology.specs.declared.keys.field.Form.TheVariants as form
 use Rattle.nm_check.specs.declared.first.MemberFault.{MemberFault}
 use Rattle.nm_check.specs.First.{AreRead, first_from}
-use Rattle.nm_check.specs.Keys.{array_key, array_limit, key_text}
+use Rattle.nm_topology.specs.Keys.{array_key, array_limit, keys_of}
 use Rattle.nm_check.specs.Reading.{first_fault, outcome, spot_in, spot_refusal}
 
 -- the fields of a table of `source`, by its kind
@@ -42,11 +44,7 @@ fields_by_kind (Ok s) =
 fields_by_kind (Err r) = RAW_TABLE
 
 abbrev pub source_fields : Members → List Field
-source_fields t = fields_by_kind (required plain_text (get_member (codes "kind") t))
-
-abbrev pub iface_fields : Format → List Field
-iface_fields One = IFACE_TABLE_ONE
-iface_fields Two = IFACE_TABLE_TWO
+source_fields t = fields_by_kind (required plain_text (value_at key.Kind t))
 
 -- the fields of a table of an array, in a text with this head
 abbrev pub fields_in : Head → Array → Members → List Field
@@ -107,7 +105,7 @@ place_in_value head (form.Tables a) (Some (array ds)) = place_in_array head a ds
 place_in_value head _ _ = None
 
 abbrev pub place_in_field : Head → Members → Field → Option FaultPlace
-place_in_field head t f = place_in_value head f.form (get_member (key_text f.key) t)
+place_in_field head t f = place_in_value head f.form (value_at f.key t)
 
 abbrev pub place_of : Head → Members → FieldFault → FaultPlace
 place_of head t f = unwrap_or (place_in_field head t f.field) (place.Top (spot.Field f))
@@ -122,8 +120,8 @@ head_by (Some f) (Some m) = record { format = if f == 1 then One else Two; mtu =
 head_by _ _ = no_head
 
 abbrev pub head_of : Members → Head
-head_of t = head_by (result_ok (required (number_in 1 2) (get_member (codes "format") t)))
-    (result_ok (required (number_in MIN_MTU MAX_MTU) (get_member (codes "mtu") t)))
+head_of t =
+    head_by (result_ok (number_at key.Format FORMAT t)) (result_ok (number_at key.Mtu MTU t))
 
 abbrev pub found_by : Head → Members → Option FieldFault → Option Found
 found_by head t None = None
@@ -141,9 +139,7 @@ find_behind t None = find_in_arrays (head_of t) t
 find_behind t (Some f) = Some (at_top (spot.Field f))
 
 abbrev pub top_keys : List (List ℕ)
-top_keys =
-    codes "format" ∷ codes "stop" ∷ codes "mtu" ∷ codes "node" ∷ codes "iface" ∷ codes "link"
-    ∷ codes "route" ∷ codes "source" ∷ []
+top_keys = keys_of TOP_TABLE
 
 -- where in its tables a text is refused, in the reading order
 abbrev pub find_in : Members → Option Found
@@ -163,7 +159,7 @@ refused_in (Some f) = Err (place_refusal f.place)
 -- the table of this number in an array is refused at this spot, and all before it are read
 pub record IsFirstTable (head : Head) (t : Members) (a : Array) (n : ℕ) (s : Spot) : Type 0 where
   pub items : Items
-  pub there : get_member (key_text (array_key a)) t ≡ Some (array items)
+  pub there : value_at (array_key a) t ≡ Some (array items)
   pub before : AreRead (item_of head a) items n
   pub members : Members
   pub numbered : get_item n items ≡ Some (table members)

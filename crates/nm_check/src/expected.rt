@@ -1,7 +1,8 @@
 //! What a field is expected to be, and what it is, in words.
 
-use crate::field::Form;
 use nm_base::limits::{MAX_PORTS_OF_NODE, MAX_RAW_PACKETS};
+use nm_topology::keys::field::{Bounds, Form};
+use nm_topology::keys::fields::{PORT, size_under};
 use nm_topology::parse::forms::{address_of, length_of};
 use nm_topology::parse::head::Head;
 use toml::Value;
@@ -22,21 +23,19 @@ pub fn type_of(value: &Value) -> &'static str {
 /// The type that a field has.
 pub fn type_due(form: Form) -> &'static str {
     match form {
-        Form::Number { .. } | Form::OptionalNumber { .. } | Form::Size => "a whole number",
+        Form::Number(_) | Form::OptionalNumber(_) | Form::Size => "a whole number",
         Form::Ports => "an array of whole numbers",
         Form::Tables(_) | Form::Packets => "an array of tables",
         _ => "a text",
     }
 }
 
-/// The range of a field that is a number.
-pub fn range_of(head: Head, form: Form) -> Option<(u64, u64)> {
+/// The bounds of a field that is a number, or of the members of one that is an array of numbers.
+pub fn bounds_of(head: Head, form: Form) -> Option<Bounds> {
     match form {
-        Form::Number { least, greatest } | Form::OptionalNumber { least, greatest } => {
-            Some((least, greatest))
-        }
-        Form::Size => Some((0, head.mtu.saturating_sub(28) as u64)),
-        Form::Ports => Some((0, 65_535)),
+        Form::Number(bounds) | Form::OptionalNumber(bounds) => Some(bounds),
+        Form::Size => Some(size_under(head.mtu)),
+        Form::Ports => Some(PORT),
         _ => None,
     }
 }

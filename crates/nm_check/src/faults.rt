@@ -6,15 +6,14 @@
 
 ghost use Rattle.std.specs.Prelude.{◌≤◌, IfOk};
 
-use crate::array::Array;
-use crate::field::Form;
-use crate::fields::ARRAYS;
-use crate::first::keys_of;
 use crate::line::{table_line, top_line};
-use crate::place::{FaultPlace, Found, TOP_KEYS, any_head, fields_of, place_of_member};
+use crate::place::{FaultPlace, Found, any_head, fields_of, place_of_member};
 use crate::sentence::{member, push_found, unknown_key};
 use crate::spot::Spot;
 use crate::words::{Piece, push};
+use nm_topology::keys::array::Array;
+use nm_topology::keys::field::Form;
+use nm_topology::keys::fields::{ARRAYS, TOP_TABLE};
 use nm_topology::parse::fields::field;
 use nm_topology::parse::head::Head;
 use std::alloc::{AllocError, Global};
@@ -51,7 +50,6 @@ pub fn push_more(out: &mut Vec<u8>, count: usize) -> Result<(), AllocError> {
 
 /// The line of a fault in a table of an array.
 fn line_in_table(
-    alloc: Global,
     text: &str,
     top: &Table,
     head: Head,
@@ -66,8 +64,8 @@ fn line_in_table(
     let Some(table) = member(top, array, number) else {
         return Ok(None);
     };
-    let known = keys_of(alloc, fields_of(head, array, table)?)?;
-    Ok(table_line(text, name, number, unknown_key(table, &known)))
+    let fields = fields_of(head, array, table)?;
+    Ok(table_line(text, name, number, unknown_key(table, fields)))
 }
 
 /// The key of a field that is refused.
@@ -79,20 +77,15 @@ fn key_of(spot: &Spot) -> &'static str {
 }
 
 /// The line of a place.
-fn line_of(
-    alloc: Global,
-    text: &str,
-    top: &Table,
-    found: &Found,
-) -> Result<Option<u64>, AllocError> {
+fn line_of(text: &str, top: &Table, found: &Found) -> Result<Option<u64>, AllocError> {
     match &found.place {
-        FaultPlace::Top(Spot::Unknown) => Ok(top_line(text, unknown_key(top, &TOP_KEYS))),
+        FaultPlace::Top(Spot::Unknown) => Ok(top_line(text, unknown_key(top, &TOP_TABLE))),
         FaultPlace::Top(spot) => Ok(top_line(text, key_of(spot))),
         FaultPlace::Table {
             array,
             number,
             spot,
-        } => line_in_table(alloc, text, top, found.head, *array, *number, spot),
+        } => line_in_table(text, top, found.head, *array, *number, spot),
     }
 }
 
@@ -106,7 +99,7 @@ fn push_fault(
 ) -> Result<(), AllocError>
     requires { 28 ≤ found.head.mtu }
 {
-    let line = line_of(alloc, text, top, &found)?;
+    let line = line_of(text, top, &found)?;
     push_line(out, line)?;
     push_found(alloc, out, top, found)
 }
@@ -154,7 +147,7 @@ fn push_array(
 ) -> Result<usize, AllocError>
     requires { 28 ≤ head.mtu }
 {
-    let Some(Value::Array(items)) = field(top, array.key().text()) else {
+    let Some(Value::Array(items)) = field(top, array.key()) else {
         return Ok(count);
     };
     let mut count = count;

@@ -1,14 +1,15 @@
 //! What is wrong with a field of a table, as a sentence.
 
-use crate::expected::{form_fault, limit_of, range_of, type_due, type_of};
-use crate::field::{Field, Form};
+use crate::expected::{bounds_of, form_fault, limit_of, type_due, type_of};
 use crate::hint::push_hint;
-use crate::key::TableKey;
 use crate::spot::FieldFault;
 use crate::units::unit_of;
 use crate::words::{Piece, push};
 use nm_topology::Refusal;
-use nm_topology::parse::fields::field;
+use nm_topology::keys::field::{Bounds, Field, Form};
+use nm_topology::keys::fields::PORT;
+use nm_topology::keys::key::TableKey;
+use nm_topology::parse::fields::{field, number};
 use nm_topology::parse::head::Head;
 use std::alloc::AllocError;
 use toml::{Table, Value};
@@ -25,7 +26,7 @@ fn push_unit(out: &mut Vec<u8>, key: TableKey) -> Result<(), AllocError> {
 fn push_out_of_range(
     out: &mut Vec<u8>,
     number: i64,
-    range: Option<(u64, u64)>,
+    bounds: Option<Bounds>,
 ) -> Result<(), AllocError> {
     let sign = if number < 0 { "-" } else { "" };
     push(
@@ -36,7 +37,7 @@ fn push_out_of_range(
             Piece::Number(number.unsigned_abs()),
         ],
     )?;
-    let Some((least, greatest)) = range else {
+    let Some(Bounds { least, greatest }) = bounds else {
         return Ok(());
     };
     push(
@@ -59,7 +60,7 @@ fn push_form_fault(
 ) -> Result<(), AllocError> {
     match value {
         Value::Integer(number) => {
-            push_out_of_range(out, *number, range_of(head, wanted.form))?;
+            push_out_of_range(out, *number, bounds_of(head, wanted.form))?;
             push_unit(out, wanted.key)
         }
         Value::String(text) => push_text_fault(out, head, wanted, text.as_str()),
@@ -131,7 +132,7 @@ fn is_due(form: Form, value: &Value) -> bool {
 /// Whether a member of an array is what it has to be.
 fn is_in_range(form: Form, value: &Value) -> bool {
     match (form, value) {
-        (Form::Ports, Value::Integer(number)) => 0 <= *number && *number <= 65_535,
+        (Form::Ports, value) => number(value, PORT).is_ok(),
         _ => true,
     }
 }
@@ -228,15 +229,14 @@ pub fn push_field_fault(
     table: &Table,
     fault: FieldFault,
 ) -> Result<(), AllocError> {
-    let key = fault.field.key.text();
-    match field(table, key) {
+    match field(table, fault.field.key) {
         Some(value) => push_value_fault(out, head, fault, value),
         None => {
             push(
                 out,
                 &[
                     Piece::Text("key "),
-                    Piece::Quoted(key),
+                    Piece::Quoted(fault.field.key.text()),
                     Piece::Text(" is missing"),
                 ],
             )?;

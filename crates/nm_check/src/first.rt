@@ -1,14 +1,15 @@
 //! The first that is refused: of the fields of a table, and of the tables of an array.
 
-ghost use Rattle.std.specs.Prelude.{◌≡◌, ◌≤◌, IfOk, map, not};
+ghost use Rattle.std.specs.Prelude.{◌≡◌, ◌≤◌, IfOk, not};
 ghost use Rattle.toml.specs.View.{items_view, table_view};
 ghost use Rattle.nm_topology.specs.Parse.Fields.{all_among};
-ghost use Rattle.nm_check.specs.Reading.{first_fault, keys_of, outcome, spot_in};
+ghost use Rattle.nm_check.specs.Reading.{first_fault, outcome, spot_in};
+ghost use Rattle.nm_topology.specs.Keys.{keys_of};
 ghost use Rattle.nm_check.specs.First.{first_from};
 
-use crate::field::Field;
 use crate::reading::read_field;
 use crate::spot::{FieldFault, Spot};
+use nm_topology::keys::field::Field;
 use nm_topology::parse::arrays::Element;
 use nm_topology::parse::fields::only;
 use nm_topology::parse::head::Head;
@@ -42,23 +43,11 @@ pub fn first_fault(
     Ok(None)
 }
 
-/// The keys of these fields.
-pub fn keys_of(alloc: Global, fields: &[Field]) -> Result<Vec<&'static str>, AllocError>
-    ensures { IfOk result (λ v. map (λ k. k.now) v.items ≡ keys_of fields.now) }
-{
-    let mut keys = Vec::new(alloc);
-    for wanted in fields {
-        keys.push(wanted.key.text())?;
-    }
-    Ok(keys)
-}
-
 /// Whether a table has a key that none of these fields has.
-pub fn has_unknown(table: &Table, keys: &[&str]) -> Result<bool, AllocError>
-    ensures { IfOk result
-        (λ b. b ≡ not (all_among (map (λ k. k.now) keys.now) (table_view table.now))) }
+pub fn has_unknown(table: &Table, fields: &[Field]) -> Result<bool, AllocError>
+    ensures { IfOk result (λ b. b ≡ not (all_among (keys_of fields.now) (table_view table.now))) }
 {
-    match only(table, keys) {
+    match only(table, fields) {
         Ok(()) => Ok(false),
         Err(TopoFault::Memory) => Err(AllocError),
         Err(TopoFault::Refused(_)) => Ok(true),
@@ -75,8 +64,7 @@ pub fn spot_in(
     requires { 28 ≤ head.mtu }
     ensures { IfOk result (λ found. found ≡ spot_in head fields.now (table_view table.now)) }
 {
-    let keys = keys_of(alloc, fields)?;
-    if has_unknown(table, &keys)? {
+    if has_unknown(table, fields)? {
         return Ok(Some(Spot::Unknown));
     }
     match first_fault(alloc, head, table, fields)? {

@@ -1,9 +1,9 @@
 //! What would be right in place of a text that is not in the form of its field.
 
-use crate::field::{Field, Form};
-use crate::key::TableKey;
 use crate::words::{Piece, push};
 use nm_packet::Address;
+use nm_topology::keys::field::{Field, Form};
+use nm_topology::keys::key::TableKey;
 use nm_topology::parse::forms::{address_of, is_name, length_of};
 use std::alloc::AllocError;
 

@@ -1,8 +1,8 @@
 //! The tables that name what is not there.
 
-use crate::array::Array;
-use crate::key::TableKey;
 use nm_base::NodeNo;
+use nm_topology::keys::array::Array;
+use nm_topology::keys::key::TableKey;
 use nm_topology::names::Names;
 use nm_topology::parse::sources::{NamedTraffic, SourceTable};
 use nm_topology::parse::tables::{IfaceTable, LinkTable, RouteTable};

@@ -2,11 +2,10 @@
 
 ghost use Rattle.std.specs.Prelude.{◌≤◌};
 
-use crate::field::{Field, Form};
 use crate::first::spot_in;
-use crate::key::TableKey;
 use crate::spot::Spot;
-use nm_base::limits::MAX_TIME;
+use nm_topology::keys::fields::{packet_table, time_from};
+use nm_topology::keys::key::TableKey;
 use nm_topology::parse::fields::required_number;
 use nm_topology::parse::head::Head;
 use std::alloc::{AllocError, Global};
@@ -18,23 +17,6 @@ pub struct PacketFault {
     pub number: usize,
     pub least: u64,
     pub spot: Spot,
-}
-
-/// A table of `packet`, whose time is at least `least` nanoseconds.
-pub fn packet_fields(least: u64) -> [Field; 2] {
-    [
-        Field {
-            key: TableKey::At,
-            form: Form::Number {
-                least,
-                greatest: MAX_TIME,
-            },
-        },
-        Field {
-            key: TableKey::Data,
-            form: Form::Octets,
-        },
-    ]
 }
 
 /// The first of these packets that is refused, in a text with this head.
@@ -50,14 +32,14 @@ pub fn first_packet(
         let Value::Table(table) = item else {
             return Ok(None);
         };
-        if let Some(spot) = spot_in(alloc, head, table, &packet_fields(least))? {
+        if let Some(spot) = spot_in(alloc, head, table, &packet_table(least))? {
             return Ok(Some(PacketFault {
                 number,
                 least,
                 spot,
             }));
         }
-        let Ok(at) = required_number(table, "at", least, MAX_TIME) else {
+        let Ok(at) = required_number(table, TableKey::At, time_from(least)) else {
             return Ok(None);
         };
         least = at + 1;

@@ -2,11 +2,10 @@
 
 ghost use Rattle.std.specs.Prelude.{◌≡◌, ◌≤◌, Some, IfOk, IfSome};
 ghost use Rattle.std.specs.Result.{result_ok};
-ghost use Rattle.toml.specs.Data.{get_item, get_member};
+ghost use Rattle.toml.specs.Data.{get_item};
 ghost use Rattle.toml.specs.View.{items_view, table_view, view};
-ghost use Rattle.nm_topology.specs.Parse.Fields.{number_in, required};
+ghost use Rattle.nm_topology.specs.Parse.Fields.{number_at};
 ghost use Rattle.nm_check.specs.First.{first_from};
-ghost use Rattle.nm_check.specs.Keys.{key_text};
 ghost use Rattle.nm_check.specs.Place.{at_top, fields_in, find_in, find_in_arrays, head_of};
 ghost use Rattle.nm_check.specs.Place.{item_of, spot_of};
 ghost use Rattle.nm_check.specs.Place.{place_at, place_in_array, place_in_field, place_of};
@@ -15,17 +14,17 @@ ghost use Rattle.nm_topology.specs.Parse.Document.{document_of};
 ghost use Rattle.nm_check.specs.Place.{find_behind, no_head};
 ghost use Rattle.nm_check.specs.Reading.{first_fault, outcome};
 
-use crate::array::Array;
-use crate::field::{Field, Form};
-use crate::fields::{
-    ARRAYS, CBR_TABLE, ECHO_TABLE, HEAD, IFACE_TABLE_ONE, IFACE_TABLE_TWO, KIND_OF_SOURCE,
-    LINK_TABLE, NODE_TABLE, RAW_TABLE, ROUTE_TABLE,
-};
 use crate::first::{MemberFault, first_fault, first_member, has_unknown, spot_in};
-use crate::key::TableKey;
 use crate::spot::{FieldFault, Spot};
-use nm_base::limits::{MAX_MTU, MIN_MTU};
+use nm_base::limits::MIN_MTU;
 use nm_topology::TopoFault;
+use nm_topology::keys::array::Array;
+use nm_topology::keys::field::{Bounds, Field, Form};
+use nm_topology::keys::fields::{
+    ARRAYS, CBR_TABLE, ECHO_TABLE, FORMAT, HEAD, IFACE_TABLE_ONE, IFACE_TABLE_TWO, KIND_OF_SOURCE,
+    LINK_TABLE, MTU, NODE_TABLE, RAW_TABLE, ROUTE_TABLE, TOP_TABLE,
+};
+use nm_topology::keys::key::TableKey;
 use nm_topology::parse::arrays::all_fit;
 use nm_topology::parse::fields::{field, required_number, required_plain_text};
 use nm_topology::parse::head::{Format, Head};
@@ -61,18 +60,13 @@ const NO_HEAD: Head = Head {
 };
 
 /// A number of the top table; where it is refused, there is none.
-fn number_of(
-    table: &Table,
-    key: TableKey,
-    least: u64,
-    greatest: u64,
-) -> Result<Option<u64>, AllocError>
-    ensures within { IfOk result (λ found. IfSome found (λ n. (least ≤ n) × (n ≤ greatest))) }
-    ensures value { IfOk result (λ found. found
-        ≡ result_ok (required (number_in least greatest)
-        (get_member (key_text key) (table_view table.now)))) }
+fn number_of(table: &Table, key: TableKey, bounds: Bounds) -> Result<Option<u64>, AllocError>
+    ensures within { IfOk result
+        (λ found. IfSome found (λ n. (bounds.least ≤ n) × (n ≤ bounds.greatest))) }
+    ensures value { IfOk result
+        (λ found. found ≡ result_ok (number_at key bounds (table_view table.now))) }
 {
-    match required_number(table, key.text(), least, greatest) {
+    match required_number(table, key, bounds) {
         Ok(number) => Ok(Some(number)),
         Err(TopoFault::Memory) => Err(AllocError),
         Err(TopoFault::Refused(_)) => Ok(None),
@@ -84,8 +78,8 @@ fn head_of(table: &Table) -> Result<Head, AllocError>
     ensures room { IfOk result (λ head. 28 ≤ head.mtu) }
     ensures value { IfOk result (λ head. head ≡ head_of (table_view table.now)) }
 {
-    let format = number_of(table, TableKey::Format, 1, 2)?;
-    let mtu = number_of(table, TableKey::Mtu, MIN_MTU, MAX_MTU)?;
+    let format = number_of(table, TableKey::Format, FORMAT)?;
+    let mtu = number_of(table, TableKey::Mtu, MTU)?;
     match (format, mtu) {
         (Some(1), Some(mtu)) => Ok(Head {
             format: Format::One,
@@ -104,14 +98,14 @@ fn head_of(table: &Table) -> Result<Head, AllocError>
 pub fn any_head(table: &Table) -> Result<Head, AllocError>
     ensures { IfOk result (λ head. 28 ≤ head.mtu) }
 {
-    let format = match number_of(table, TableKey::Format, 1, 2)? {
+    let format = match number_of(table, TableKey::Format, FORMAT)? {
         Some(1) => Format::One,
         _ => Format::Two,
     };
-    let mtu = number_of(table, TableKey::Mtu, MIN_MTU, MAX_MTU)?;
+    let mtu = number_of(table, TableKey::Mtu, MTU)?;
     Ok(Head {
         format,
-        mtu: mtu.unwrap_or(MAX_MTU) as u16,
+        mtu: mtu.unwrap_or(MTU.greatest) as u16,
     })
 }
 
@@ -119,7 +113,7 @@ pub fn any_head(table: &Table) -> Result<Head, AllocError>
 fn source_fields(table: &Table) -> Result<&'static [Field], AllocError>
     ensures { IfOk result (λ fields. fields.now ≡ source_fields (table_view table.now)) }
 {
-    match required_plain_text(table, "kind") {
+    match required_plain_text(table, TableKey::Kind) {
         Ok("cbr") => Ok(&CBR_TABLE),
         Ok("echo") => Ok(&ECHO_TABLE),
         Err(TopoFault::Memory) => Err(AllocError),
@@ -267,7 +261,7 @@ fn place_in_field(
     let Form::Tables(array) = wanted.form else {
         return Ok(None);
     };
-    match field(table, wanted.key.text()) {
+    match field(table, wanted.key) {
         Some(Value::Array(items)) => place_in_array(alloc, head, array, items),
         _ => Ok(None),
     }
@@ -332,7 +326,7 @@ fn find_first(alloc: Global, table: &Table) -> Result<Option<Found>, AllocError>
     ensures room { IfOk result (λ found. IfSome found (λ f. 28 ≤ f.head.mtu)) }
     ensures value { IfOk result (λ found. found ≡ find_in (table_view table.now)) }
 {
-    if has_unknown(table, &TOP_KEYS)? {
+    if has_unknown(table, &TOP_TABLE)? {
         Ok(Some(at_top(Spot::Unknown)))
     } else {
         find_behind(alloc, table)
@@ -360,8 +354,3 @@ fn find_with_head(alloc: Global, table: &Table) -> Result<Option<Found>, AllocEr
     let head = head_of(table)?;
     find_in_arrays(alloc, head, table)
 }
-
-/// The keys of the top table.
-pub const TOP_KEYS: [&str; 8] = [
-    "format", "stop", "mtu", "node", "iface", "link", "route", "source",
-];

@@ -2,28 +2,29 @@
 
 ghost use Rattle.std.specs.Prelude.{◌≤◌};
 
-use crate::array::Array;
-use crate::field::Form;
 use crate::field_sentence::push_field_fault;
-use crate::first::keys_of;
 use crate::nearest::nearest;
-use crate::packet::{first_packet, packet_fields};
-use crate::place::{FaultPlace, Found, TOP_KEYS, fields_of};
+use crate::packet::first_packet;
+use crate::place::{FaultPlace, Found, fields_of};
 use crate::spot::{FieldFault, Spot};
 use crate::words::{Piece, push};
-use nm_topology::parse::fields::field;
+use nm_topology::keys::array::Array;
+use nm_topology::keys::field::{Field, Form};
+use nm_topology::keys::fields::{TOP_TABLE, packet_table};
+use nm_topology::keys::key::TableKey;
+use nm_topology::parse::fields::{field, is_key_of};
 use nm_topology::parse::head::Head;
 use std::alloc::{AllocError, Global};
 use toml::{Table, Value};
 
 /// The text at a key, if there is one.
-pub fn text_at<'a>(table: &'a Table, key: &str) -> Option<&'a str> {
+fn text_at(table: &Table, key: TableKey) -> Option<&str> {
     field(table, key)?.as_str()
 }
 
 /// The member of an array of a table.
 pub fn member<'a>(table: &'a Table, array: Array, number: usize) -> Option<&'a Table> {
-    field(table, array.key().text())?
+    field(table, array.key())?
         .as_array()?
         .get(number)?
         .as_table()
@@ -43,9 +44,9 @@ fn push_table_name(
     ];
     push(out, &known)?;
     let (before, key) = match array {
-        Array::Node | Array::Iface => (" (", "name"),
+        Array::Node | Array::Iface => (" (", TableKey::Name),
         Array::Link => return Ok(()),
-        Array::Route | Array::Source => (" (node ", "node"),
+        Array::Route | Array::Source => (" (node ", TableKey::Node),
     };
     match text_at(table, key) {
         Some(name) => push(
@@ -56,19 +57,33 @@ fn push_table_name(
     }
 }
 
-/// The first key of a table that is none of these.
-pub fn unknown_key<'a>(table: &'a Table, known: &[&str]) -> &'a str {
+/// The first key of a table that none of these fields has.
+pub fn unknown_key<'a>(table: &'a Table, fields: &[Field]) -> &'a str {
     for key in table.keys() {
-        if !known.iter().any(|k| *k == key.as_str()) {
+        if !is_key_of(fields, key.as_str()) {
             return key.as_str();
         }
     }
     ""
 }
 
-/// Appends that a table has a key that is none of these, and which may have been meant.
-pub fn push_unknown(out: &mut Vec<u8>, table: &Table, known: &[&str]) -> Result<(), AllocError> {
-    let key = unknown_key(table, known);
+/// The keys of these fields.
+fn keys_of(alloc: Global, fields: &[Field]) -> Result<Vec<&'static str>, AllocError> {
+    let mut keys = Vec::new(alloc);
+    for known in fields {
+        keys.push(known.key.text())?;
+    }
+    Ok(keys)
+}
+
+/// Appends that a table has a key that none of these fields has, and which may have been meant.
+fn push_unknown(
+    alloc: Global,
+    out: &mut Vec<u8>,
+    table: &Table,
+    fields: &[Field],
+) -> Result<(), AllocError> {
+    let key = unknown_key(table, fields);
     push(
         out,
         &[
@@ -77,7 +92,7 @@ pub fn push_unknown(out: &mut Vec<u8>, table: &Table, known: &[&str]) -> Result<
             Piece::Text(" is unknown"),
         ],
     )?;
-    push_meant(out, key, known)
+    push_meant(out, key, &keys_of(alloc, fields)?)
 }
 
 /// Appends which of the known words may have been meant.
@@ -105,7 +120,7 @@ fn push_packets_fault(
 ) -> Result<(), AllocError>
     requires { 28 ≤ head.mtu }
 {
-    let Some(Value::Array(items)) = field(table, "packet") else {
+    let Some(Value::Array(items)) = field(table, TableKey::Packet) else {
         return push_field_fault(out, head, table, fault);
     };
     let Some(found) = first_packet(alloc, head, items)? else {
@@ -123,7 +138,7 @@ fn push_packets_fault(
         ],
     )?;
     match found.spot {
-        Spot::Unknown => push_unknown(out, packet, &["at", "data"]),
+        Spot::Unknown => push_unknown(alloc, out, packet, &packet_table(found.least)),
         Spot::Field(inner) => push_field_fault(out, head, packet, inner),
     }
 }
@@ -140,10 +155,7 @@ fn push_table_fault(
     requires { 28 ≤ head.mtu }
 {
     match spot {
-        Spot::Unknown => {
-            let known = keys_of(alloc, fields_of(head, array, table)?)?;
-            push_unknown(out, table, &known)
-        }
+        Spot::Unknown => { push_unknown(alloc, out, table, fields_of(head, array, table)?) }
         Spot::Field(fault) => match fault.field.form {
             Form::Packets => push_packets_fault(alloc, out, head, table, fault),
             _ => push_field_fault(out, head, table, fault),
@@ -164,7 +176,7 @@ pub fn push_found(
         FaultPlace::Top(spot) => {
             push(out, &[Piece::Text("top: ")])?;
             match spot {
-                Spot::Unknown => push_unknown(out, top, &TOP_KEYS),
+                Spot::Unknown => push_unknown(alloc, out, top, &TOP_TABLE),
                 Spot::Field(fault) => push_field_fault(out, found.head, top, fault),
             }
         }

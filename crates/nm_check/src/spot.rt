@@ -3,8 +3,8 @@
 ghost use Rattle.std.specs.Prelude.{◌≡◌};
 ghost use Rattle.nm_check.specs.Reading.{spot_refusal};
 
-use crate::field::Field;
 use nm_topology::Refusal;
+use nm_topology::keys::field::Field;
 
 /// A field that is refused.
 #[derive(Clone, Copy)]

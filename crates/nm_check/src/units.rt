@@ -1,6 +1,6 @@
 //! What a number of a topology text counts, and an example.
 
-use crate::key::TableKey;
+use nm_topology::keys::key::TableKey;
 
 /// What the number behind a key counts, with an example.
 pub fn unit_of(key: TableKey) -> Option<&'static str> {

@@ -7,7 +7,6 @@ ghost use Rattle.std.specs.Prelude.{◌≡◌, ◌<◌, All, IfOk, length, map, 
 ghost use Rattle.nm_topology.specs.Validate.{route_key};
 ghost use Rattle.nm_check.specs.Doubles.{IsFirstDouble, same_key};
 
-use crate::array::Array;
 use crate::doubles::{Double, first_double};
 use crate::lack::{Lacking, push_ifaces, push_links, push_routes, push_sources};
 use crate::names::double_name;
@@ -15,6 +14,7 @@ use nm_base::limits::{MAX_CHANNELS, MAX_ROUTES_OF_NODE};
 use nm_base::{IfaceNo, NodeNo, PartNo};
 use nm_topology::TopoFault;
 use nm_topology::build::partitions::{part_of, partitions_of_nodes};
+use nm_topology::keys::array::Array;
 use nm_topology::names::Names;
 use nm_topology::parse::document::Document;
 use nm_topology::parse::tables::IfaceTable;

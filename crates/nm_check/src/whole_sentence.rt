@@ -1,9 +1,7 @@
 //! What the whole of a topology text is refused for, as a sentence.
 
-use crate::array::Array;
 use crate::doubles::Double;
 use crate::faults::{MAX_FAULTS, push_line, push_more};
-use crate::key::TableKey;
 use crate::lack::{Lack, Lacking};
 use crate::line::table_line;
 use crate::names::names_of;
@@ -13,6 +11,8 @@ use crate::words::{Piece, push};
 use nm_base::PartNo;
 use nm_base::limits::{MAX_CHANNELS, MAX_ROUTES_OF_NODE};
 use nm_topology::Refusal;
+use nm_topology::keys::array::Array;
+use nm_topology::keys::key::TableKey;
 use nm_topology::names::Named;
 use nm_topology::parse::document::Document;
 use nm_topology::parse::sources::{NamedTraffic, SourceTable};

@@ -8,7 +8,10 @@ use Rattle.std.proofs.lemmas.List.Kept.{AllPairs-cons}
 use Rattle.std.specs.List.{list_any, position, position_or_len, prefix_len}
 use Rattle.std.proofs.lemmas.List.{map_push, length-map}
 use Rattle.nm_topology.specs.Names.{repeats, has_double}
-use Rattle.nm_topology.proofs.Keys.{list_any-map}
+
+list_any-map : {X Y : Type 0} (p : Y → Bool) (f : X → Y) (xs : List X) → list_any p (map f xs) ≡ list_any (λ x. p (f x)) xs
+list_any-map p f [] = refl
+list_any-map p f (x ∷ xs) = ap (λ b. p (f x) || b) (list_any-map p f xs)
 
 module _ {X Y : Type 0} (same : Y → Y → Bool) (f : X → Y) where
   repeats-map : (seen xs : List X) → repeats same (map f seen) (map f xs) ≡ repeats (λ a b. same (f a) (f b)) seen xs

@@ -1,15 +1,19 @@
 -- The tables of `source` are read to traffic in range.
 use Rattle.std.proofs.Common.{◌≡◌, All, ℕ, suc, ◌+◌, ◌-◌, ◌≤◌, List, [], ◌∷◌, length, Result, Ok}
 use Rattle.std.proofs.Common.{Err, refl, ap, subst, arith}
-use Rattle.std.specs.Prelude.{nat_le, codes}
+use Rattle.std.specs.Prelude.{nat_le}
 use Rattle.std.proofs.lemmas.Bool.Decides.{nat_tests}
 use Rattle.std.proofs.lemmas.List.Elements.{All-nil, All-cons}
 use Rattle.hex.specs.Hex.{decode_of}
 use Rattle.hex.specs.declared.error.FromHexError.{FromHexError}
-use Rattle.toml.specs.Data.{Data, string, array, Items, no_items, item, Members, get_member}
-use Rattle.nm_base.specs.declared.limits.TheConstants.{MAX_COUNT, MAX_INTERVAL, MAX_RAW_PACKETS, MAX_TIME}
+use Rattle.toml.specs.Data.{Data, string, array, Items, no_items, item, Members}
+use Rattle.nm_base.specs.declared.limits.TheConstants.{MAX_RAW_PACKETS, MAX_TIME}
 use Rattle.nm_topology.specs.declared.fault.Refusal.{Refusal}
 use Rattle.nm_topology.specs.declared.fault.Refusal.TheVariants.{Kind, TooMany}
+use Rattle.nm_topology.specs.declared.keys.fields.TheConstants.{CBR_TABLE, COUNT, ECHO_TABLE, FILL}
+use Rattle.nm_topology.specs.declared.keys.fields.TheConstants.{IDENTIFIER, INTERVAL, PORT}
+use Rattle.nm_topology.specs.declared.keys.fields.TheConstants.{RAW_TABLE, START, TTL}
+use Rattle.nm_topology.specs.declared.keys.key.TableKey.TheVariants as key
 use Rattle.nm_topology.specs.declared.traffic.Flow.{Flow}
 use Rattle.nm_topology.specs.declared.traffic.RawPacket.{RawPacket}
 use Rattle.nm_topology.specs.declared.parse.sources.NamedTraffic.TheVariants.{Cbr as NamedCbr}
@@ -20,12 +24,13 @@ use Rattle.nm_topology.specs.declared.parse.sources.SourceKind.TheVariants.{Cbr 
 use Rattle.nm_topology.specs.declared.parse.sources.SourceKind.TheVariants.{Echo as EchoKind}
 use Rattle.nm_topology.specs.declared.parse.sources.SourceKind.TheVariants.{Raw as RawKind}
 use Rattle.nm_topology.specs.Fault.{◌>>=◌}
-use Rattle.nm_topology.specs.Parse.Fields.{required, optional, number_in, required_text, only}
+use Rattle.nm_topology.specs.Keys.{keys_of, packet_table, size_under, time_from}
+use Rattle.nm_topology.specs.Parse.Fields.{number_at, number_or, only, required, text_at, value_at}
 use Rattle.nm_topology.specs.Parse.Arrays.{is_table, all_fit, count, in_table}
 use Rattle.nm_topology.specs.Parse.Forms.{name_of, usable_address_of}
 use Rattle.nm_topology.specs.Parse.SourceTableValue.{SourceTableValue}
 use Rattle.nm_topology.specs.Parse.Sources.{decoded, octets_of, packet_of, packets_from, packets_of}
-use Rattle.nm_topology.specs.Parse.Sources.{flow_keys, flow_of, cbr_of, echo_of, raw_of}
+use Rattle.nm_topology.specs.Parse.Sources.{flow_of, cbr_of, echo_of, raw_of}
 use Rattle.nm_topology.specs.Parse.Sources.{source_kind_of, source_by, source_table_of}
 use Rattle.nm_topology.specs.Limits.{FitsFlow, AreRising, FitsPackets}
 use Rattle.nm_topology.specs.Parse.Ranges.{FitsNamedTraffic}
@@ -53,10 +58,10 @@ packet-read (Err r) at octets p e = cc
 packet-fits : (mtu least : ℕ) (t : Members) (p : RawPacket) → packet_of mtu least t ≡ Ok p → FitsPacket mtu least p
 unfolding packet_of
 packet-fits mtu least t p e =
-    let read = packet-read (only (codes "at" ∷ codes "data" ∷ []) t)
-    (required (number_in least MAX_TIME) (get_member (codes "at") t)) (required (octets_of mtu) (get_member (codes "data") t)) p e in
-    let at = required-within least MAX_TIME p.at (get_member (codes "at") t) read.0 in
-    let octets = required-holds (λ os. (1 ≤ length os) × (length os ≤ mtu)) (octets_of mtu) (get_member (codes "data") t) p.packet
+    let read = packet-read (only (keys_of (packet_table least)) t)
+    (number_at key.At (time_from least) t) (required (octets_of mtu) (value_at key.Data t)) p e in
+    let at = required-within (time_from least).least (time_from least).greatest p.at (value_at key.At t) read.0 in
+    let octets = required-holds (λ os. (1 ≤ length os) × (length os ≤ mtu)) (octets_of mtu) (value_at key.Data t) p.packet
     (λ d h. octets-within mtu d p.packet h) read.1 in
     (at.0, at.1, octets.0, octets.1)
 
@@ -93,14 +98,14 @@ flow-read (Err r) fill start interval count ttl f e = cc
 flow-fits : (mtu : ℕ) (t : Members) (f : Flow) → 28 ≤ mtu → flow_of mtu t ≡ Ok f → FitsFlow mtu f
 unfolding flow_of
 flow-fits mtu t f room e =
-    let read = flow-read (required (number_in 0 (mtu - 28)) (get_member (codes "size") t)) (optional 0 (number_in 0 255) (get_member (codes "fill") t))
-    (required (number_in 0 MAX_TIME) (get_member (codes "start") t)) (required (number_in 1 MAX_INTERVAL) (get_member (codes "interval") t))
-    (required (number_in 0 MAX_COUNT) (get_member (codes "count") t)) (optional 64 (number_in 1 255) (get_member (codes "ttl") t)) f e in
-    let size = required-within 0 (mtu - 28) f.size (get_member (codes "size") t) read.0 in
-    let start = required-within 0 MAX_TIME f.start (get_member (codes "start") t) read.1 in
-    let interval = required-within 1 MAX_INTERVAL f.interval (get_member (codes "interval") t) read.2 in
-    let count = required-within 0 MAX_COUNT f.count (get_member (codes "count") t) read.3 in
-    let ttl = optional-within 64 1 255 f.ttl (get_member (codes "ttl") t) (omega arith) (omega arith) read.4 in
+    let read = flow-read (number_at key.Size (size_under mtu) t) (number_or 0 key.Fill FILL t)
+    (number_at key.Start START t) (number_at key.Interval INTERVAL t)
+    (number_at key.Count COUNT t) (number_or 64 key.Ttl TTL t) f e in
+    let size = required-within (size_under mtu).least (size_under mtu).greatest f.size (value_at key.Size t) read.0 in
+    let start = required-within START.least START.greatest f.start (value_at key.Start t) read.1 in
+    let interval = required-within INTERVAL.least INTERVAL.greatest f.interval (value_at key.Interval t) read.2 in
+    let count = required-within COUNT.least COUNT.greatest f.count (value_at key.Count t) read.3 in
+    let ttl = optional-within 64 TTL.least TTL.greatest f.ttl (value_at key.Ttl t) (omega arith) (omega arith) read.4 in
     (omega (arith, size.1, room), start.1, interval.0, interval.1, count.1, ttl.0)
 
 cbr-read : (mtu : ℕ) (known : Result Unit Refusal) (node : Result (List ℕ) Refusal) (to source destination : Result ℕ Refusal) (flow : Result Flow Refusal) (s : SourceTableValue) → ((f : Flow) → flow ≡ Ok f → FitsFlow mtu f) → (known >>= λ k. node >>= λ n. to >>= λ a. source >>= λ b. destination >>= λ c. flow >>= λ f. Ok (record { node = n; traffic = NamedCbr (record { to = a; source_port = b; destination_port = c; flow = f }) })) ≡ Ok s → FitsNamedTraffic mtu s.traffic
@@ -139,23 +144,23 @@ raw-read mtu (Err r) node via packets s h e = cc
 kind-fits : (kind : SourceKind) (mtu : ℕ) (t : Members) (s : SourceTableValue) → 28 ≤ mtu → source_by kind mtu t ≡ Ok s → FitsNamedTraffic mtu s.traffic
 unfolding cbr_of echo_of raw_of
 kind-fits CbrKind mtu t s room e =
-    cbr-read mtu (only (codes "kind" ∷ codes "node" ∷ codes "to" ∷ codes "sport" ∷ codes "dport" ∷ flow_keys) t)
-    (required_text name_of (get_member (codes "node") t)) (required_text usable_address_of (get_member (codes "to") t))
-    (required (number_in 0 65535) (get_member (codes "sport") t)) (required (number_in 0 65535) (get_member (codes "dport") t))
+    cbr-read mtu (only (keys_of CBR_TABLE) t)
+    (text_at name_of key.Node t) (text_at usable_address_of key.To t)
+    (number_at key.SourcePort PORT t) (number_at key.DestinationPort PORT t)
     (flow_of mtu t) s (λ f h. flow-fits mtu t f room h) e
 kind-fits EchoKind mtu t s room e =
-    echo-read mtu (only (codes "kind" ∷ codes "node" ∷ codes "to" ∷ codes "ident" ∷ flow_keys) t)
-    (required_text name_of (get_member (codes "node") t)) (required_text usable_address_of (get_member (codes "to") t))
-    (required (number_in 0 65535) (get_member (codes "ident") t)) (flow_of mtu t) s (λ f h. flow-fits mtu t f room h) e
+    echo-read mtu (only (keys_of ECHO_TABLE) t)
+    (text_at name_of key.Node t) (text_at usable_address_of key.To t)
+    (number_at key.Identifier IDENTIFIER t) (flow_of mtu t) s (λ f h. flow-fits mtu t f room h) e
 kind-fits RawKind mtu t s room e =
-    raw-read mtu (only (codes "kind" ∷ codes "node" ∷ codes "via" ∷ codes "packet" ∷ []) t)
-    (required_text name_of (get_member (codes "node") t)) (required_text name_of (get_member (codes "via") t))
-    (required (packets_of mtu) (get_member (codes "packet") t)) s
-    (λ ps h. required-holds (λ qs. FitsPackets mtu qs × All (λ p. 1 ≤ length p.packet) qs) (packets_of mtu) (get_member (codes "packet") t) ps
+    raw-read mtu (only (keys_of RAW_TABLE) t)
+    (text_at name_of key.Node t) (text_at name_of key.Via t)
+    (required (packets_of mtu) (value_at key.Packet t)) s
+    (λ ps h. required-holds (λ qs. FitsPackets mtu qs × All (λ p. 1 ≤ length p.packet) qs) (packets_of mtu) (value_at key.Packet t) ps
     (λ d g. packets-fit mtu d ps g) h) e
 
 pub source-fits : (mtu : ℕ) → 28 ≤ mtu → (t : Members) (s : SourceTableValue) → source_table_of mtu t ≡ Ok s → FitsNamedTraffic mtu s.traffic
 unfolding source_table_of
 source-fits mtu room t s e =
-    let kind = step (required_text source_kind_of (get_member (codes "kind") t)) (λ k. source_by k mtu t) s e in
+    let kind = step (text_at source_kind_of key.Kind t) (λ k. source_by k mtu t) s e in
     kind-fits kind.0 mtu t s room kind.2

@@ -15,9 +15,13 @@ use Rattle.std.proofs.lemmas.Map.Text.{is_eq-slice_cmp}
 use Rattle.sha2.specs.Sha256.{sha256}
 use Rattle.toml.specs.Data.{Data, integer, array, table, Items, no_items, item, Members, no_members}
 use Rattle.toml.specs.Data.{member, get_member}
-use Rattle.nm_base.specs.declared.limits.TheConstants.{MAX_IFACES, MAX_LINKS, MAX_MTU, MAX_NODES, MAX_QUEUE, MAX_QUEUE_OCTETS, MAX_ROUTES, MAX_SOURCES, MAX_TEXT_OCTETS, MAX_TIME, MIN_MTU}
+use Rattle.nm_base.specs.declared.limits.TheConstants.{MAX_TEXT_OCTETS}
 use Rattle.nm_topology.specs.declared.fault.Refusal.{Refusal}
 use Rattle.nm_topology.specs.declared.fault.Refusal.TheVariants.{Kind, Range, TooMany, UnknownKey}
+use Rattle.nm_topology.specs.declared.keys.array.Array.TheVariants as array
+use Rattle.nm_topology.specs.declared.keys.fields.TheConstants.{MTU, QUEUE, QUEUE_OCTETS, STOP}
+use Rattle.nm_topology.specs.declared.keys.fields.TheConstants.{TOP_TABLE}
+use Rattle.nm_topology.specs.declared.keys.key.TableKey.TheVariants as key
 use Rattle.nm_topology.specs.declared.parse.head.Format.{Format}
 use Rattle.nm_topology.specs.declared.parse.head.Format.TheVariants.{One, Two}
 use Rattle.nm_topology.specs.declared.parse.head.Head.{Head}
@@ -29,8 +33,9 @@ use Rattle.nm_topology.specs.Parse.{top_table_of}
 use Rattle.nm_topology.specs.Parse.Arrays.{is_table, all_fit, count, each, in_table, array_of}
 use Rattle.nm_topology.specs.Parse.Document.{document_of, format_of, with_tables}
 use Rattle.nm_topology.specs.Parse.DocumentValue.{DocumentValue}
-use Rattle.nm_topology.specs.Parse.Fields.{required, optional, number_in, some_number_in}
-use Rattle.nm_topology.specs.Parse.Fields.{required_text, all_among}
+use Rattle.nm_topology.specs.Keys.{array_limit, keys_of}
+use Rattle.nm_topology.specs.Parse.Fields.{all_among, number_at, number_in, optional, required}
+use Rattle.nm_topology.specs.Parse.Fields.{some_number_at, text_at}
 use Rattle.nm_topology.specs.Parse.Forms.{name_of, usable_address_of}
 use Rattle.nm_topology.specs.Parse.Sources.{source_table_of}
 use Rattle.nm_topology.specs.Parse.Tables.{iface_keys, iface_table_of, node_table_of, link_table_of}
@@ -103,11 +108,11 @@ unfolding iface_table_of
 same_table t e =
     let rest : Bool → Result IfaceTableValue Refusal = λ b.
     (if b then Ok tt else Err UnknownKey) >>= λ known.
-    required_text name_of (get_member (codes "name") t) >>= λ name.
-    required_text name_of (get_member (codes "node") t) >>= λ node.
-    required_text usable_address_of (get_member (codes "address") t) >>= λ address.
-    required (number_in 0 MAX_QUEUE) (get_member (codes "queue") t) >>= λ queue.
-    optional None (some_number_in 0 MAX_QUEUE_OCTETS) (get_member (codes "queue_octets") t) >>= λ octets.
+    text_at name_of key.Name t >>= λ name.
+    text_at name_of key.Node t >>= λ node.
+    text_at usable_address_of key.Address t >>= λ address.
+    number_at key.Queue QUEUE t >>= λ queue.
+    some_number_at key.QueueOctets QUEUE_OCTETS t >>= λ octets.
     Ok (record { name = name; node = node; address = address; queue = queue; queue_octets = octets }) in
     ap rest (sym (same_keys t e))
 
@@ -129,23 +134,23 @@ same_each (item d ds) e =
     (λ x. ap (λ r. r >>= λ xs. Ok (x ∷ xs)) (same_each ds h.1))
 
 ifaces_in : Format → Option Data → Result (List IfaceTableValue) Refusal
-ifaces_in format o = optional [] (array_of is_table MAX_IFACES (in_table (iface_table_of format))) o
+ifaces_in format o = optional [] (array_of is_table (array_limit array.Iface) (in_table (iface_table_of format))) o
 
 same_ifaces : (o : Option Data) → ((ds : Items) → o ≡ Some (array ds) → all_fit (is_without (codes "queue_octets")) ds ≡ true) → ifaces_in Two o ≡ ifaces_in One o
 unfolding ifaces_in
 same_ifaces None h = refl
 same_ifaces (Some (array ds)) h =
-    ap (λ r. if all_fit is_table ds then (if nat_le (count ds) MAX_IFACES then r else Err TooMany) else Err Kind) (same_each ds (h ds refl))
+    ap (λ r. if all_fit is_table ds then (if nat_le (count ds) (array_limit array.Iface) then r else Err TooMany) else Err Kind) (same_each ds (h ds refl))
 same_ifaces (Some _) h = refl
 
 -- a document, by the values at the keys of its top table
 tables : Head → ℕ → Option Data → Result (List IfaceTableValue) Refusal → Option Data → Option Data → Option Data → Result DocumentValue Refusal
 tables head stop n ifaces l r s =
-    optional [] (array_of is_table MAX_NODES (in_table node_table_of)) n >>= λ ns.
+    optional [] (array_of is_table (array_limit array.Node) (in_table node_table_of)) n >>= λ ns.
     ifaces >>= λ is.
-    optional [] (array_of is_table MAX_LINKS (in_table link_table_of)) l >>= λ ls.
-    optional [] (array_of is_table MAX_ROUTES (in_table route_table_of)) r >>= λ rs.
-    optional [] (array_of is_table MAX_SOURCES (in_table (source_table_of head.mtu))) s >>= λ ss.
+    optional [] (array_of is_table (array_limit array.Link) (in_table link_table_of)) l >>= λ ls.
+    optional [] (array_of is_table (array_limit array.Route) (in_table route_table_of)) r >>= λ rs.
+    optional [] (array_of is_table (array_limit array.Source) (in_table (source_table_of head.mtu))) s >>= λ ss.
     Ok (record { stop = stop; mtu = head.mtu; nodes = ns; ifaces = is; links = ls; routes = rs; sources = ss })
 
 module _ (t : Members) (one : IsFormatOne t) (none : LimitsNoOctets t) where
@@ -167,23 +172,23 @@ module _ (t : Members) (one : IsFormatOne t) (none : LimitsNoOctets t) where
       ∙ ap (λ o. tables h stop (n t) (ifaces_in One (get_member (codes "iface") t)) (l t) (r t) o) (other-stays (codes "source") refl t)
 
   abbrev keys : List (List ℕ)
-  keys = codes "format" ∷ codes "stop" ∷ codes "mtu" ∷ codes "node" ∷ codes "iface" ∷ codes "link" ∷ codes "route" ∷ codes "source" ∷ []
+  keys = keys_of TOP_TABLE
 
   -- the document, from the values of these keys on
   abbrev from : Bool → Option Data → Option Data → Option Data → (Format → ℕ → ℕ → Result DocumentValue Refusal) → Result DocumentValue Refusal
   from known format stop mtu rest =
       demand known UnknownKey >>= λ k.
       required format_of format >>= λ f.
-      required (number_in 1 MAX_TIME) stop >>= λ a.
-      required (number_in MIN_MTU MAX_MTU) mtu >>= λ b.
+      required (number_in STOP.least STOP.greatest) stop >>= λ a.
+      required (number_in MTU.least MTU.greatest) mtu >>= λ b.
       rest f a b
 
   -- the same, once the format and then the time to stop are read
   abbrev last : (ℕ → ℕ → Result DocumentValue Refusal) → ℕ → Result DocumentValue Refusal
-  last rest a = required (number_in MIN_MTU MAX_MTU) (get_member (codes "mtu") t) >>= λ b. rest a b
+  last rest a = required (number_in MTU.least MTU.greatest) (get_member (codes "mtu") t) >>= λ b. rest a b
 
   abbrev after : (ℕ → ℕ → Result DocumentValue Refusal) → Result DocumentValue Refusal
-  after rest = required (number_in 1 MAX_TIME) (get_member (codes "stop") t) >>= λ a. last rest a
+  after rest = required (number_in STOP.least STOP.greatest) (get_member (codes "stop") t) >>= λ a. last rest a
 
   pub same_document : document_of (with_format_two t) ≡ document_of t
   unfolding document_of
@@ -197,8 +202,8 @@ module _ (t : Members) (one : IsFormatOne t) (none : LimitsNoOctets t) where
       ∙ ap (λ o. from (all_among keys t) (Some (integer (pos 2))) o (mtu u) (rest u)) (other-stays (codes "stop") refl t)
       ∙ ap (λ o. from (all_among keys t) (Some (integer (pos 2))) (stop t) o (rest u)) (other-stays (codes "mtu") refl t)
       ∙ agree (demand (all_among keys t) UnknownKey) (λ k. after (rest u Two)) (λ k. after (rest t One)) (λ k.
-      agree (required (number_in 1 MAX_TIME) (stop t)) (last (rest u Two)) (last (rest t One)) (λ a.
-      agree (required (number_in MIN_MTU MAX_MTU) (mtu t)) (rest u Two a) (rest t One a) (λ b. same_tables a b)))
+      agree (required (number_in STOP.least STOP.greatest) (stop t)) (last (rest u Two)) (last (rest t One)) (λ a.
+      agree (required (number_in MTU.least MTU.greatest) (mtu t)) (rest u Two a) (rest t One a) (λ b. same_tables a b)))
       ∙ ap (λ o. from (all_among keys t) o (stop t) (mtu t) (rest t)) (sym one)
 
 -- the digest is all of a network that the text alone decides

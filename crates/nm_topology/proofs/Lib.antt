@@ -4,7 +4,6 @@ pub mod Doubles
 pub mod Ends
 pub mod Flows
 pub mod Formats
-pub mod Keys
 pub mod Limits
 pub mod Members
 pub mod Order
@@ -12,6 +11,7 @@ pub mod Parsing
 pub mod Ranges
 pub mod Searches
 pub mod Steps
+pub mod TableKeys
 pub mod Uses
 pub mod Whole
 pub mod Wires

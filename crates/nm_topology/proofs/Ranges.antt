@@ -1,17 +1,22 @@
 -- What is read from a text is in range.
 use Rattle.std.proofs.Common.{◌≡◌, ℕ, ◌≤◌, List, [], ◌∷◌, length, Option, Some, None, IfSome}
 use Rattle.std.proofs.Common.{Result, Ok, Err, subst, arith}
-use Rattle.std.specs.Prelude.{codes}
-use Rattle.toml.specs.Data.{Data, Members, get_member}
-use Rattle.nm_base.specs.declared.limits.TheConstants.{MAX_DELAY, MAX_IFACES, MAX_LINKS, MAX_MTU, MAX_NODES, MAX_PORTS_OF_NODE, MAX_QUEUE, MAX_QUEUE_OCTETS, MAX_RATE, MAX_ROUTES, MAX_SOURCES, MAX_TIME, MIN_MTU, MIN_RATE}
+use Rattle.toml.specs.Data.{Data, Members}
+use Rattle.nm_base.specs.declared.limits.TheConstants.{MAX_PORTS_OF_NODE, MAX_QUEUE, MAX_QUEUE_OCTETS}
 use Rattle.nm_topology.specs.declared.fault.Refusal.{Refusal}
+use Rattle.nm_topology.specs.declared.keys.array.Array.TheVariants as array
+use Rattle.nm_topology.specs.declared.keys.fields.TheConstants.{DELAY, LINK_TABLE, MTU, NODE_TABLE}
+use Rattle.nm_topology.specs.declared.keys.fields.TheConstants.{PARTITION, PORT, QUEUE, QUEUE_OCTETS}
+use Rattle.nm_topology.specs.declared.keys.fields.TheConstants.{RATE, STOP, TOP_TABLE}
+use Rattle.nm_topology.specs.declared.keys.key.TableKey.TheVariants as key
 use Rattle.nm_topology.specs.declared.parse.head.Format.{Format}
 use Rattle.std.proofs.lemmas.List.Elements.{All-weaker}
 use Rattle.nm_topology.specs.declared.node.NodeKind.{NodeKind}
 use Rattle.nm_topology.specs.Fault.{◌>>=◌}
-use Rattle.nm_topology.specs.Parse.Fields.{required, optional, number_in, some_number_in}
-use Rattle.nm_topology.specs.Parse.Fields.{required_text, only}
-use Rattle.nm_topology.specs.Parse.Arrays.{is_integer, is_table, in_table, array_of}
+use Rattle.nm_topology.specs.Keys.{array_limit, keys_of}
+use Rattle.nm_topology.specs.Parse.Fields.{number_at, number_in, only, optional, required}
+use Rattle.nm_topology.specs.Parse.Fields.{some_number_at, some_number_in, text_at, value_at}
+use Rattle.nm_topology.specs.Parse.Arrays.{is_integer, is_table, in_table, array_of, tables_at}
 use Rattle.nm_topology.specs.Parse.Forms.{name_of, node_kind_of, usable_address_of}
 use Rattle.nm_topology.specs.Parse.TableValues.{NodeTableValue, IfaceTableValue, LinkTableValue}
 use Rattle.nm_topology.specs.Parse.TableValues.{RouteTableValue}
@@ -37,11 +42,11 @@ node-read (Err r) name kind partition ports n e = cc
 node_in_range : (t : Members) (n : NodeTableValue) → node_table_of t ≡ Ok n → length n.ports ≤ MAX_PORTS_OF_NODE
 unfolding node_table_of
 node_in_range t n e =
-    let ports = node-read (only (codes "name" ∷ codes "kind" ∷ codes "partition" ∷ codes "ports" ∷ []) t)
-    (required_text name_of (get_member (codes "name") t)) (required_text node_kind_of (get_member (codes "kind") t))
-    (required (number_in 0 63) (get_member (codes "partition") t))
-    (optional [] (array_of is_integer MAX_PORTS_OF_NODE (number_in 0 65535)) (get_member (codes "ports") t)) n e in
-    let few = optional-holds (λ p. Unit {0}) is_integer MAX_PORTS_OF_NODE (number_in 0 65535) (λ d x h. tt) (get_member (codes "ports") t) n.ports ports in
+    let ports = node-read (only (keys_of NODE_TABLE) t)
+    (text_at name_of key.Name t) (text_at node_kind_of key.Kind t)
+    (number_at key.Partition PARTITION t)
+    (optional [] (array_of is_integer MAX_PORTS_OF_NODE (number_in PORT.least PORT.greatest)) (value_at key.Ports t)) n e in
+    let few = optional-holds (λ p. Unit {0}) is_integer MAX_PORTS_OF_NODE (number_in PORT.least PORT.greatest) (λ d x h. tt) (value_at key.Ports t) n.ports ports in
     few.1
 
 iface-read : (known : Result Unit Refusal) (name node : Result (List ℕ) Refusal) (address queue : Result ℕ Refusal) (octets : Result (Option ℕ) Refusal) (i : IfaceTableValue) → (known >>= λ k. name >>= λ a. node >>= λ b. address >>= λ c. queue >>= λ d. octets >>= λ f. Ok (record { name = a; node = b; address = c; queue = d; queue_octets = f })) ≡ Ok i → (queue ≡ Ok i.queue) × (octets ≡ Ok i.queue_octets)
@@ -67,11 +72,11 @@ iface_in_range : (format : Format) (t : Members) (i : IfaceTableValue) → iface
 unfolding iface_table_of
 iface_in_range format t i e =
     let read = iface-read (only (iface_keys format) t)
-    (required_text name_of (get_member (codes "name") t)) (required_text name_of (get_member (codes "node") t))
-    (required_text usable_address_of (get_member (codes "address") t)) (required (number_in 0 MAX_QUEUE) (get_member (codes "queue") t))
-    (optional None (some_number_in 0 MAX_QUEUE_OCTETS) (get_member (codes "queue_octets") t)) i e in
-    let within = required-within 0 MAX_QUEUE i.queue (get_member (codes "queue") t) read.0 in
-    (within.1, some-within 0 MAX_QUEUE_OCTETS (get_member (codes "queue_octets") t) i.queue_octets read.1)
+    (text_at name_of key.Name t) (text_at name_of key.Node t)
+    (text_at usable_address_of key.Address t) (number_at key.Queue QUEUE t)
+    (some_number_at key.QueueOctets QUEUE_OCTETS t) i e in
+    let within = required-within QUEUE.least QUEUE.greatest i.queue (value_at key.Queue t) read.0 in
+    (within.1, some-within QUEUE_OCTETS.least QUEUE_OCTETS.greatest (value_at key.QueueOctets t) i.queue_octets read.1)
 
 link-read : (known : Result Unit Refusal) (a b : Result (List ℕ) Refusal) (rate delay : Result ℕ Refusal) (l : LinkTableValue) → (known >>= λ k. a >>= λ x. b >>= λ y. rate >>= λ r. delay >>= λ d. Ok (record { a = x; b = y; rate = r; delay = d })) ≡ Ok l → (rate ≡ Ok l.rate) × (delay ≡ Ok l.delay)
 link-read (Ok k) (Ok x) (Ok y) (Ok r) (Ok d) l e = (cc, cc)
@@ -84,11 +89,11 @@ link-read (Err q) a b rate delay l e = cc
 link_in_range : (t : Members) (l : LinkTableValue) → link_table_of t ≡ Ok l → IsLinkInRange l
 unfolding link_table_of
 link_in_range t l e =
-    let read = link-read (only (codes "a" ∷ codes "b" ∷ codes "rate" ∷ codes "delay" ∷ []) t)
-    (required_text name_of (get_member (codes "a") t)) (required_text name_of (get_member (codes "b") t))
-    (required (number_in MIN_RATE MAX_RATE) (get_member (codes "rate") t)) (required (number_in 0 MAX_DELAY) (get_member (codes "delay") t)) l e in
-    let rate = required-within MIN_RATE MAX_RATE l.rate (get_member (codes "rate") t) read.0 in
-    let delay = required-within 0 MAX_DELAY l.delay (get_member (codes "delay") t) read.1 in
+    let read = link-read (only (keys_of LINK_TABLE) t)
+    (text_at name_of key.A t) (text_at name_of key.B t)
+    (number_at key.Rate RATE t) (number_at key.Delay DELAY t) l e in
+    let rate = required-within RATE.least RATE.greatest l.rate (value_at key.Rate t) read.0 in
+    let delay = required-within DELAY.least DELAY.greatest l.delay (value_at key.Delay t) read.1 in
     (rate.0, rate.1, delay.1)
 
 -- what the steps of reading a document gave
@@ -117,28 +122,28 @@ document-read (Err r) format stop mtu nodes ifaces links routes sources d e = cc
 pub document_in_range : (t : Members) (d : DocumentValue) → document_of t ≡ Ok d → IsInRange d
 unfolding document_of with_tables
 document_in_range t d e =
-    let faces : Format → Result (List IfaceTableValue) Refusal = λ f. optional [] (array_of is_table MAX_IFACES (in_table (iface_table_of f))) (get_member (codes "iface") t) in
-    let sources : ℕ → Result (List SourceTableValue) Refusal = λ m. optional [] (array_of is_table MAX_SOURCES (in_table (source_table_of m))) (get_member (codes "source") t) in
+    let faces : Format → Result (List IfaceTableValue) Refusal = λ f. tables_at (iface_table_of f) array.Iface t in
+    let sources : ℕ → Result (List SourceTableValue) Refusal = λ m. tables_at (source_table_of m) array.Source t in
     let found = document-read
-    (only (codes "format" ∷ codes "stop" ∷ codes "mtu" ∷ codes "node" ∷ codes "iface" ∷ codes "link" ∷ codes "route" ∷ codes "source" ∷ []) t)
-    (required format_of (get_member (codes "format") t)) (required (number_in 1 MAX_TIME) (get_member (codes "stop") t))
-    (required (number_in MIN_MTU MAX_MTU) (get_member (codes "mtu") t))
-    (optional [] (array_of is_table MAX_NODES (in_table node_table_of)) (get_member (codes "node") t))
+    (only (keys_of TOP_TABLE) t)
+    (required format_of (value_at key.Format t)) (number_at key.Stop STOP t)
+    (number_at key.Mtu MTU t)
+    (tables_at node_table_of array.Node t)
     faces
-    (optional [] (array_of is_table MAX_LINKS (in_table link_table_of)) (get_member (codes "link") t))
-    (optional [] (array_of is_table MAX_ROUTES (in_table route_table_of)) (get_member (codes "route") t)) sources d e in
+    (tables_at link_table_of array.Link t)
+    (tables_at route_table_of array.Route t) sources d e in
     let read = found.1 in
-    let stop = required-within 1 MAX_TIME d.stop (get_member (codes "stop") t) read.stop_is in
-    let mtu = required-within MIN_MTU MAX_MTU d.mtu (get_member (codes "mtu") t) read.mtu_is in
+    let stop = required-within STOP.least STOP.greatest d.stop (value_at key.Stop t) read.stop_is in
+    let mtu = required-within MTU.least MTU.greatest d.mtu (value_at key.Mtu t) read.mtu_is in
     let room : 28 ≤ d.mtu = omega (arith, mtu.0) in
-    let nodes = optional-holds (λ n. length n.ports ≤ MAX_PORTS_OF_NODE) is_table MAX_NODES (in_table node_table_of)
-    (in_table-holds (λ n. length n.ports ≤ MAX_PORTS_OF_NODE) node_table_of node_in_range) (get_member (codes "node") t) d.nodes read.nodes_are in
-    let ifaces = optional-holds IsQueued is_table MAX_IFACES (in_table (iface_table_of found.0))
-    (in_table-holds IsQueued (iface_table_of found.0) (iface_in_range found.0)) (get_member (codes "iface") t) d.ifaces read.ifaces_are in
-    let links = optional-holds IsLinkInRange is_table MAX_LINKS (in_table link_table_of)
-    (in_table-holds IsLinkInRange link_table_of link_in_range) (get_member (codes "link") t) d.links read.links_are in
-    let fit = optional-holds (λ s. FitsNamedTraffic d.mtu s.traffic) is_table MAX_SOURCES (in_table (source_table_of d.mtu))
-    (in_table-holds (λ s. FitsNamedTraffic d.mtu s.traffic) (source_table_of d.mtu) (source-fits d.mtu room)) (get_member (codes "source") t) d.sources read.sources_are in
+    let nodes = optional-holds (λ n. length n.ports ≤ MAX_PORTS_OF_NODE) is_table (array_limit array.Node) (in_table node_table_of)
+    (in_table-holds (λ n. length n.ports ≤ MAX_PORTS_OF_NODE) node_table_of node_in_range) (value_at key.Node t) d.nodes read.nodes_are in
+    let ifaces = optional-holds IsQueued is_table (array_limit array.Iface) (in_table (iface_table_of found.0))
+    (in_table-holds IsQueued (iface_table_of found.0) (iface_in_range found.0)) (value_at key.Iface t) d.ifaces read.ifaces_are in
+    let links = optional-holds IsLinkInRange is_table (array_limit array.Link) (in_table link_table_of)
+    (in_table-holds IsLinkInRange link_table_of link_in_range) (value_at key.Link t) d.links read.links_are in
+    let fit = optional-holds (λ s. FitsNamedTraffic d.mtu s.traffic) is_table (array_limit array.Source) (in_table (source_table_of d.mtu))
+    (in_table-holds (λ s. FitsNamedTraffic d.mtu s.traffic) (source_table_of d.mtu) (source-fits d.mtu room)) (value_at key.Source t) d.sources read.sources_are in
     record {
       least_stop = stop.0;
       greatest_stop = stop.1;

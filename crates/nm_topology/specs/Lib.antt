@@ -2,6 +2,7 @@ pub mod Accepted
 pub mod Build
 pub mod Fault
 pub mod Formats
+pub mod Keys
 pub mod Limits
 pub mod Names
 pub mod Parse

@@ -6,6 +6,7 @@
 
 pub mod build;
 pub mod fault;
+pub mod keys;
 pub mod laws;
 pub mod names;
 pub mod node;

@@ -4,7 +4,10 @@ use Rattle.std.specs.Prelude.{[], ◌∷◌, Result, Ok, Err}
 use Rattle.toml.specs.Data.{Data, integer, array, table, Items, no_items, item, Members}
 use Rattle.nm_topology.specs.declared.fault.Refusal.{Refusal}
 use Rattle.nm_topology.specs.declared.fault.Refusal.TheVariants.{Kind, TooMany}
+use Rattle.nm_topology.specs.declared.keys.array.Array.{Array}
 use Rattle.nm_topology.specs.Fault.{◌>>=◌}
+use Rattle.nm_topology.specs.Keys.{array_key, array_limit}
+use Rattle.nm_topology.specs.Parse.Fields.{optional, value_at}
 
 abbrev pub is_integer : Data → Bool
 is_integer (integer z) = true
@@ -43,3 +46,9 @@ array_of fits limit read _ = Err Kind
 abbrev pub in_table : {X : Type 0} → (Members → Result X Refusal) → Data → Result X Refusal
 in_table read (table ms) = read ms
 in_table read _ = Err Kind
+
+-- the tables of an array; absent is empty
+abbrev pub tables_at : {X : Type 0} → (Members → Result X Refusal) → Array → Members
+    → Result (List X) Refusal
+tables_at read a t =
+    optional [] (array_of is_table (array_limit a) (in_table read)) (value_at (array_key a) t)

@@ -1,12 +1,19 @@
 -- Fields of tables: which keys a table has, and how a value is read.
 use Rattle.std.specs.Prelude.{ℕ, ℤ, pos, negsuc, Bool, true, ◌&&◌, nat_le, if◌then◌else◌, List}
 use Rattle.std.specs.Prelude.{Option, Some, None, Result, Ok, Err}
-use Rattle.toml.specs.Data.{Data, string, integer, Members, no_members, member}
+use Rattle.toml.specs.Data.{Data, string, integer, Members, no_members, member, get_member}
 use Rattle.std.specs.List.{list_any}
 use Rattle.std.specs.Str.{bytes_eq}
 use Rattle.nm_topology.specs.declared.fault.Refusal.{Refusal}
 use Rattle.nm_topology.specs.declared.fault.Refusal.TheVariants.{Missing, UnknownKey, Kind, Range}
+use Rattle.nm_topology.specs.declared.keys.field.Bounds.{Bounds}
+use Rattle.nm_topology.specs.declared.keys.key.TableKey.{TableKey}
 use Rattle.nm_topology.specs.Fault.{◌>>=◌}
+use Rattle.nm_topology.specs.Keys.{key_text}
+
+-- the value at a key, if there is one
+abbrev pub value_at : TableKey → Members → Option Data
+value_at key t = get_member (key_text key) t
 
 -- a value that must be there, and one that may be absent
 abbrev pub required : {X : Type 0} → (Data → Result X Refusal) → Option Data → Result X Refusal
@@ -26,9 +33,20 @@ abbrev pub number_in : ℕ → ℕ → Data → Result ℕ Refusal
 number_in least greatest (integer z) = whole_in least greatest z
 number_in least greatest _ = Err Kind
 
--- the same, for a key that may be absent
+-- the number at a key
+abbrev pub number_at : TableKey → Bounds → Members → Result ℕ Refusal
+number_at key b t = required (number_in b.least b.greatest) (value_at key t)
+
+-- the same, where the key may be absent
+abbrev pub number_or : ℕ → TableKey → Bounds → Members → Result ℕ Refusal
+number_or absent key b t = optional absent (number_in b.least b.greatest) (value_at key t)
+
+-- a number, or none
 abbrev pub some_number_in : ℕ → ℕ → Data → Result (Option ℕ) Refusal
 some_number_in least greatest d = number_in least greatest d >>= λ n. Ok (Some n)
+
+abbrev pub some_number_at : TableKey → Bounds → Members → Result (Option ℕ) Refusal
+some_number_at key b t = optional None (some_number_in b.least b.greatest) (value_at key t)
 
 abbrev pub in_form : {X : Type 0} → Option X → Result X Refusal
 in_form None = Err Range
@@ -49,3 +67,7 @@ plain_text _ = Err Kind
 
 abbrev pub required_text : {X : Type 0} → (List ℕ → Option X) → Option Data → Result X Refusal
 required_text form value = required plain_text value >>= λ s. in_form (form s)
+
+-- a text in a form, at a key
+abbrev pub text_at : {X : Type 0} → (List ℕ → Option X) → TableKey → Members → Result X Refusal
+text_at form key t = required_text form (value_at key t)

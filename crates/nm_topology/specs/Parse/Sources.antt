@@ -1,19 +1,23 @@
--- The tables of `source`: for each kind its keys in order, whether they are required, and their
--- types and ranges.
-use Rattle.std.specs.Prelude.{ℕ, ◌+◌, ◌-◌, ◌&&◌, nat_le, if◌then◌else◌, List, [], ◌∷◌, length}
+-- The tables of `source`: for each kind its keys in order, and what is read at each.
+use Rattle.std.specs.Prelude.{ℕ, ◌+◌, ◌&&◌, nat_le, if◌then◌else◌, List, [], ◌∷◌, length}
 use Rattle.std.specs.Prelude.{Option, Some, None, Result, Ok, Err, codes}
 use Rattle.std.specs.Str.{bytes_eq}
-use Rattle.toml.specs.Data.{Data, array, Items, no_items, item, Members, get_member}
+use Rattle.toml.specs.Data.{Data, array, Items, no_items, item, Members}
 use Rattle.hex.specs.Hex.{decode_of}
 use Rattle.hex.specs.declared.error.FromHexError.{FromHexError}
-use Rattle.nm_base.specs.declared.limits.TheConstants.{MAX_COUNT, MAX_INTERVAL, MAX_RAW_PACKETS, MAX_TIME}
+use Rattle.nm_base.specs.declared.limits.TheConstants.{MAX_RAW_PACKETS}
 use Rattle.nm_topology.specs.declared.fault.Refusal.{Refusal}
 use Rattle.nm_topology.specs.declared.fault.Refusal.TheVariants.{Hex, Kind, Range, TooMany}
+use Rattle.nm_topology.specs.declared.keys.fields.TheConstants.{CBR_TABLE, COUNT, ECHO_TABLE, FILL}
+use Rattle.nm_topology.specs.declared.keys.fields.TheConstants.{IDENTIFIER, INTERVAL, PORT}
+use Rattle.nm_topology.specs.declared.keys.fields.TheConstants.{RAW_TABLE, START, TTL}
+use Rattle.nm_topology.specs.declared.keys.key.TableKey.TheVariants as key
 use Rattle.nm_topology.specs.declared.traffic.Flow.{Flow}
 use Rattle.nm_topology.specs.declared.traffic.RawPacket.{RawPacket}
 use Rattle.nm_topology.specs.Fault.{◌>>=◌}
-use Rattle.nm_topology.specs.Parse.Fields.{required, optional, number_in, plain_text, required_text}
-use Rattle.nm_topology.specs.Parse.Fields.{only}
+use Rattle.nm_topology.specs.Keys.{keys_of, packet_table, size_under, time_from}
+use Rattle.nm_topology.specs.Parse.Fields.{number_at, number_or, only, plain_text, required, text_at}
+use Rattle.nm_topology.specs.Parse.Fields.{value_at}
 use Rattle.nm_topology.specs.Parse.Arrays.{is_table, all_fit, count, in_table}
 use Rattle.nm_topology.specs.Parse.Forms.{name_of, usable_address_of}
 use Rattle.nm_topology.specs.declared.parse.sources.NamedTraffic.TheVariants.{Cbr as NamedCbr}
@@ -36,9 +40,9 @@ octets_of mtu d = plain_text d >>= λ s. decoded mtu (decode_of s)
 
 unfoldable pub packet_of : ℕ → ℕ → Members → Result RawPacket Refusal
 packet_of mtu least t = do
-  known ← only (codes "at" ∷ codes "data" ∷ []) t
-  at ← required (number_in least MAX_TIME) (get_member (codes "at") t)
-  octets ← required (octets_of mtu) (get_member (codes "data") t)
+  known ← only (keys_of (packet_table least)) t
+  at ← number_at key.At (time_from least) t
+  octets ← required (octets_of mtu) (value_at key.Data t)
   Ok (record { at = at; packet = octets })
 
 -- packets one after another, each later than the one before
@@ -59,12 +63,12 @@ packets_of mtu _ = Err Kind
 -- the keys that UDP and echo sources share, but for what leads to them
 unfoldable pub flow_of : ℕ → Members → Result Flow Refusal
 flow_of mtu t = do
-  size ← required (number_in 0 (mtu - 28)) (get_member (codes "size") t)
-  fill ← optional 0 (number_in 0 255) (get_member (codes "fill") t)
-  start ← required (number_in 0 MAX_TIME) (get_member (codes "start") t)
-  interval ← required (number_in 1 MAX_INTERVAL) (get_member (codes "interval") t)
-  count ← required (number_in 0 MAX_COUNT) (get_member (codes "count") t)
-  ttl ← optional 64 (number_in 1 255) (get_member (codes "ttl") t)
+  size ← number_at key.Size (size_under mtu) t
+  fill ← number_or 0 key.Fill FILL t
+  start ← number_at key.Start START t
+  interval ← number_at key.Interval INTERVAL t
+  count ← number_at key.Count COUNT t
+  ttl ← number_or 64 key.Ttl TTL t
   Ok (record {
     size = size;
     fill = fill;
@@ -74,19 +78,13 @@ flow_of mtu t = do
     ttl = ttl;
   })
 
-abbrev pub flow_keys : List (List ℕ)
-flow_keys =
-    codes "size" ∷ codes "fill" ∷ codes "start" ∷ codes "interval" ∷ codes "count" ∷ codes "ttl"
-    ∷ []
-
 unfoldable pub cbr_of : ℕ → Members → Result SourceTableValue Refusal
 cbr_of mtu t = do
-  known ← only (codes "kind" ∷ codes "node" ∷ codes "to" ∷ codes "sport" ∷ codes "dport"
-      ∷ flow_keys) t
-  node ← required_text name_of (get_member (codes "node") t)
-  to ← required_text usable_address_of (get_member (codes "to") t)
-  source ← required (number_in 0 65535) (get_member (codes "sport") t)
-  destination ← required (number_in 0 65535) (get_member (codes "dport") t)
+  known ← only (keys_of CBR_TABLE) t
+  node ← text_at name_of key.Node t
+  to ← text_at usable_address_of key.To t
+  source ← number_at key.SourcePort PORT t
+  destination ← number_at key.DestinationPort PORT t
   flow ← flow_of mtu t
   Ok (record {
     node = node;
@@ -100,10 +98,10 @@ cbr_of mtu t = do
 
 unfoldable pub echo_of : ℕ → Members → Result SourceTableValue Refusal
 echo_of mtu t = do
-  known ← only (codes "kind" ∷ codes "node" ∷ codes "to" ∷ codes "ident" ∷ flow_keys) t
-  node ← required_text name_of (get_member (codes "node") t)
-  to ← required_text usable_address_of (get_member (codes "to") t)
-  identifier ← required (number_in 0 65535) (get_member (codes "ident") t)
+  known ← only (keys_of ECHO_TABLE) t
+  node ← text_at name_of key.Node t
+  to ← text_at usable_address_of key.To t
+  identifier ← number_at key.Identifier IDENTIFIER t
   flow ← flow_of mtu t
   Ok (record {
     node = node;
@@ -112,10 +110,10 @@ echo_of mtu t = do
 
 unfoldable pub raw_of : ℕ → Members → Result SourceTableValue Refusal
 raw_of mtu t = do
-  known ← only (codes "kind" ∷ codes "node" ∷ codes "via" ∷ codes "packet" ∷ []) t
-  node ← required_text name_of (get_member (codes "node") t)
-  via ← required_text name_of (get_member (codes "via") t)
-  packets ← required (packets_of mtu) (get_member (codes "packet") t)
+  known ← only (keys_of RAW_TABLE) t
+  node ← text_at name_of key.Node t
+  via ← text_at name_of key.Via t
+  packets ← required (packets_of mtu) (value_at key.Packet t)
   Ok (record { node = node; traffic = NamedRaw (record { via = via; packets = packets }) })
 
 abbrev pub source_kind_of : List ℕ → Option SourceKind
@@ -132,5 +130,5 @@ source_by RawKind mtu t = raw_of mtu t
 -- the kind is read before all else
 unfoldable pub source_table_of : ℕ → Members → Result SourceTableValue Refusal
 source_table_of mtu t = do
-  kind ← required_text source_kind_of (get_member (codes "kind") t)
+  kind ← text_at source_kind_of key.Kind t
   source_by kind mtu t

@@ -1,16 +1,19 @@
 //! Arrays of a topology text: what each member is read to, in order.
 
 ghost use Rattle.std.specs.Prelude.{◌≡◌, ◌≤◌, Bool, [], length, IfOk, Result};
-ghost use Rattle.toml.specs.Data.{Data, Members, get_member};
+ghost use Rattle.toml.specs.Data.{Data, Members};
 ghost use Rattle.toml.specs.View.{view, items_view, table_view};
 ghost use Rattle.nm_topology.specs.declared.fault.Refusal.{Refusal as RefusalValue};
 ghost use Rattle.nm_topology.specs.declared.parse.head.Head.{Head as HeadValue};
 ghost use Rattle.nm_topology.specs.Parse.Arrays.{all_fit, each, members_of, array_of, in_table};
-ghost use Rattle.nm_topology.specs.Parse.Arrays.{is_table};
+ghost use Rattle.nm_topology.specs.Parse.Arrays.{is_table, tables_at};
 ghost use Rattle.nm_topology.specs.Fault.{Gives};
-ghost use Rattle.nm_topology.specs.Parse.Fields.{optional};
+ghost use Rattle.nm_topology.specs.Keys.{array_limit};
+ghost use Rattle.nm_topology.specs.Parse.Fields.{optional, value_at};
 
 use crate::fault::{Refusal, TopoFault};
+use crate::keys::array::Array;
+use crate::keys::key::TableKey;
 use crate::parse::fields::field;
 use crate::parse::head::Head;
 use std::alloc::Global;
@@ -72,19 +75,34 @@ pub fn optional_array<T: Element>(
     alloc: Global,
     head: Head,
     table: &Table,
-    key: &str,
+    key: TableKey,
     limit: usize,
 ) -> Result<Vec<T>, TopoFault>
     requires { 28 ≤ head.mtu }
     ensures count { IfOk result (λ v. length v.items ≤ limit) }
     ensures value { Gives (λ v. v.items) result
         (optional [] (array_of T.has_type limit (T.reads head))
-        (get_member key.now (table_view table.now))) }
+        (value_at key (table_view table.now))) }
 {
     match field(table, key) {
         Some(value) => array(alloc, head, limit, value),
         None => Ok(Vec::new(alloc)),
     }
+}
+
+/// The tables of an array; absent is empty.
+pub fn tables<T: FromTable>(
+    alloc: Global,
+    head: Head,
+    table: &Table,
+    array: Array,
+) -> Result<Vec<T>, TopoFault>
+    requires { 28 ≤ head.mtu }
+    ensures count { IfOk result (λ v. length v.items ≤ array_limit array) }
+    ensures value { Gives (λ v. v.items) result
+        (tables_at (T.of_table head) array (table_view table.now)) }
+{
+    optional_array(alloc, head, table, array.key(), array.limit())
 }
 
 /// An array of members of one type, of which there are at most `limit`.

@@ -1,22 +1,22 @@
 //! A whole topology text as it is read, with names in place of numbers.
 
-ghost use Rattle.std.specs.Prelude.{◌≤◌, codes};
-ghost use Rattle.toml.specs.Data.{get_member};
+ghost use Rattle.std.specs.Prelude.{◌≤◌};
+ghost use Rattle.nm_topology.specs.declared.keys.key.TableKey.TheVariants as key;
 ghost use Rattle.toml.specs.View.{table_view};
 ghost use Rattle.nm_topology.specs.Parse.Document.{document_of, format_of, with_tables};
-ghost use Rattle.nm_topology.specs.Parse.Fields.{required};
+ghost use Rattle.nm_topology.specs.Parse.Fields.{required, value_at};
 ghost use Rattle.nm_topology.specs.Fault.{Gives};
 
 use crate::fault::TopoFault;
-use crate::parse::arrays::optional_array;
+use crate::keys::array::Array;
+use crate::keys::fields::{FORMAT, MTU, STOP, TOP_TABLE};
+use crate::keys::key::TableKey;
+use crate::parse::arrays::tables;
 use crate::parse::fields::{only, required_number};
 use crate::parse::head::{Format, Head};
 use crate::parse::sources::SourceTable;
 use crate::parse::tables::{IfaceTable, LinkTable, NodeTable, RouteTable};
 use nm_base::Time;
-use nm_base::limits::{
-    MAX_IFACES, MAX_LINKS, MAX_MTU, MAX_NODES, MAX_ROUTES, MAX_SOURCES, MAX_TIME, MIN_MTU,
-};
 use std::alloc::Global;
 use std::marker::Model;
 use toml::Table;
@@ -62,11 +62,11 @@ fn read_tables(alloc: Global, head: Head, stop: Time, table: &Table) -> Result<D
     requires { 28 ≤ head.mtu }
     ensures { Gives (λ x. x) result (with_tables head stop (table_view table.now)) }
 {
-    let nodes = optional_array(alloc, head, table, "node", MAX_NODES)?;
-    let ifaces = optional_array(alloc, head, table, "iface", MAX_IFACES)?;
-    let links = optional_array(alloc, head, table, "link", MAX_LINKS)?;
-    let routes = optional_array(alloc, head, table, "route", MAX_ROUTES)?;
-    let sources = optional_array(alloc, head, table, "source", MAX_SOURCES)?;
+    let nodes = tables(alloc, head, table, Array::Node)?;
+    let ifaces = tables(alloc, head, table, Array::Iface)?;
+    let links = tables(alloc, head, table, Array::Link)?;
+    let routes = tables(alloc, head, table, Array::Route)?;
+    let sources = tables(alloc, head, table, Array::Source)?;
     Ok(Document {
         stop,
         mtu: head.mtu,
@@ -81,9 +81,9 @@ fn read_tables(alloc: Global, head: Head, stop: Time, table: &Table) -> Result<D
 /// Reads the format of a text.
 fn required_format(table: &Table) -> Result<Format, TopoFault>
     ensures { Gives (λ f. f) result
-        (required format_of (get_member (codes "format") (table_view table.now))) }
+        (required format_of (value_at key.Format (table_view table.now))) }
 {
-    match required_number(table, "format", 1, 2)? {
+    match required_number(table, TableKey::Format, FORMAT)? {
         1 => Ok(Format::One),
         _ => Ok(Format::Two),
     }
@@ -94,15 +94,10 @@ fn required_format(table: &Table) -> Result<Format, TopoFault>
 pub fn read_document(alloc: Global, table: &Table) -> Result<Document, TopoFault>
     ensures { Gives (λ x. x) result (document_of (table_view table.now)) }
 {
-    only(
-        table,
-        &[
-            "format", "stop", "mtu", "node", "iface", "link", "route", "source",
-        ],
-    )?;
+    only(table, &TOP_TABLE)?;
     let format = required_format(table)?;
-    let stop = required_number(table, "stop", 1, MAX_TIME)?;
-    let mtu = required_number(table, "mtu", MIN_MTU, MAX_MTU)? as u16;
+    let stop = required_number(table, TableKey::Stop, STOP)?;
+    let mtu = required_number(table, TableKey::Mtu, MTU)? as u16;
     read_tables(
         alloc,
         Head { format, mtu },

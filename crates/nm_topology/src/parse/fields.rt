@@ -1,18 +1,20 @@
 //! Fields of a table, each read by its key.
 
-ghost use Rattle.std.specs.Prelude.{◌≡◌, ◌≤◌, IfOk, option_map, map, string_bytes};
+ghost use Rattle.std.specs.Prelude.{◌≡◌, ◌≤◌, IfOk, option_map, string_bytes};
 ghost use Rattle.std.specs.List.{list_all, list_any};
 ghost use Rattle.std.specs.Str.{bytes_eq};
 ghost use Rattle.std.specs.BTreeMap.{keys};
-ghost use Rattle.toml.specs.Data.{get_member};
 ghost use Rattle.toml.specs.View.{table_view, view};
 ghost use Rattle.nm_topology.specs.Fault.{Gives};
-ghost use Rattle.nm_topology.specs.Parse.Fields.{number_in, required, optional, plain_text};
-ghost use Rattle.nm_topology.specs.Parse.Fields.{required_text, only};
+ghost use Rattle.nm_topology.specs.Keys.{keys_of};
+ghost use Rattle.nm_topology.specs.Parse.Fields.{number_at, number_in, number_or, only, plain_text};
+ghost use Rattle.nm_topology.specs.Parse.Fields.{required, text_at, value_at};
 ghost use Rattle.nm_topology.specs.Parse.Forms.{name_of, node_kind_of, usable_address_of};
 ghost use Rattle.nm_topology.specs.Parse.Forms.{prefix_of};
 
 use crate::fault::{Refusal, TopoFault};
+use crate::keys::field::{Bounds, Field};
+use crate::keys::key::TableKey;
 use crate::node::NodeKind;
 use crate::parse::forms::{is_name, prefix_of, usable_address_of};
 use crate::prefix::Prefix;
@@ -21,66 +23,59 @@ use std::alloc::Global;
 use toml::{Table, Value};
 
 /// The value at a key, if there is one.
-pub fn field<'a>(table: &'a Table, key: &str) -> Option<&'a Value>
-    ensures { option_map (λ v. view v.now) result ≡ get_member key.now (table_view table.now) }
+pub fn field<'a>(table: &'a Table, key: TableKey) -> Option<&'a Value>
+    ensures { option_map (λ v. view v.now) result ≡ value_at key (table_view table.now) }
 {
-    table.get(key)
+    table.get(key.text())
 }
 
-/// A whole number from `least` to `greatest`.
-pub fn number(value: &Value, least: u64, greatest: u64) -> Result<u64, TopoFault>
-    ensures within { IfOk result (λ n. (least ≤ n) × (n ≤ greatest)) }
-    ensures value { Gives (λ n. n) result (number_in least greatest (view value.now)) }
+/// A whole number within bounds.
+pub fn number(value: &Value, bounds: Bounds) -> Result<u64, TopoFault>
+    ensures within { IfOk result (λ n. (bounds.least ≤ n) × (n ≤ bounds.greatest)) }
+    ensures value { Gives (λ n. n) result
+        (number_in bounds.least bounds.greatest (view value.now)) }
 {
     let Some(found) = value.as_integer() else {
         return Err(TopoFault::Refused(Refusal::Kind));
     };
     match u64::try_from(found) {
-        Ok(number) if least <= number && number <= greatest => Ok(number),
+        Ok(number) if bounds.least <= number && number <= bounds.greatest => Ok(number),
         _ => Err(TopoFault::Refused(Refusal::Range)),
     }
 }
 
-/// A required whole number from `least` to `greatest`.
-pub fn required_number(
-    table: &Table,
-    key: &str,
-    least: u64,
-    greatest: u64,
-) -> Result<u64, TopoFault>
-    ensures within { IfOk result (λ n. (least ≤ n) × (n ≤ greatest)) }
-    ensures value { Gives (λ n. n) result
-        (required (number_in least greatest) (get_member key.now (table_view table.now))) }
+/// A required whole number.
+pub fn required_number(table: &Table, key: TableKey, bounds: Bounds) -> Result<u64, TopoFault>
+    ensures within { IfOk result (λ n. (bounds.least ≤ n) × (n ≤ bounds.greatest)) }
+    ensures value { Gives (λ n. n) result (number_at key bounds (table_view table.now)) }
 {
     match field(table, key) {
-        Some(value) => number(value, least, greatest),
+        Some(value) => number(value, bounds),
         None => Err(TopoFault::Refused(Refusal::Missing)),
     }
 }
 
-/// An optional whole number from `least` to `greatest`, or `absent`.
+/// An optional whole number, or `absent`.
 pub fn optional_number(
     table: &Table,
-    key: &str,
+    key: TableKey,
+    bounds: Bounds,
     absent: u64,
-    least: u64,
-    greatest: u64,
 ) -> Result<u64, TopoFault>
-    requires { (least ≤ absent) × (absent ≤ greatest) }
-    ensures within { IfOk result (λ n. (least ≤ n) × (n ≤ greatest)) }
-    ensures value { Gives (λ n. n) result
-        (optional absent (number_in least greatest) (get_member key.now (table_view table.now))) }
+    requires { (bounds.least ≤ absent) × (absent ≤ bounds.greatest) }
+    ensures within { IfOk result (λ n. (bounds.least ≤ n) × (n ≤ bounds.greatest)) }
+    ensures value { Gives (λ n. n) result (number_or absent key bounds (table_view table.now)) }
 {
     match field(table, key) {
-        Some(value) => number(value, least, greatest),
+        Some(value) => number(value, bounds),
         None => Ok(absent),
     }
 }
 
 /// A required text.
-pub fn required_plain_text<'a>(table: &'a Table, key: &str) -> Result<&'a str, TopoFault>
+pub fn required_plain_text<'a>(table: &'a Table, key: TableKey) -> Result<&'a str, TopoFault>
     ensures { Gives (λ s. s.now) result
-        (required plain_text (get_member key.now (table_view table.now))) }
+        (required plain_text (value_at key (table_view table.now))) }
 {
     let Some(value) = field(table, key) else {
         return Err(TopoFault::Refused(Refusal::Missing));
@@ -92,9 +87,8 @@ pub fn required_plain_text<'a>(table: &'a Table, key: &str) -> Result<&'a str, T
 }
 
 /// A required name.
-pub fn required_name(alloc: Global, table: &Table, key: &str) -> Result<String, TopoFault>
-    ensures { Gives string_bytes result
-        (required_text name_of (get_member key.now (table_view table.now))) }
+pub fn required_name(alloc: Global, table: &Table, key: TableKey) -> Result<String, TopoFault>
+    ensures { Gives string_bytes result (text_at name_of key (table_view table.now)) }
 {
     let text = required_plain_text(table, key)?;
     if !is_name(text.as_bytes()) {
@@ -104,9 +98,8 @@ pub fn required_name(alloc: Global, table: &Table, key: &str) -> Result<String, 
 }
 
 /// A required address that is no martian.
-pub fn required_address(table: &Table, key: &str) -> Result<Address, TopoFault>
-    ensures { Gives (λ a. a) result
-        (required_text usable_address_of (get_member key.now (table_view table.now))) }
+pub fn required_address(table: &Table, key: TableKey) -> Result<Address, TopoFault>
+    ensures { Gives (λ a. a) result (text_at usable_address_of key (table_view table.now)) }
 {
     let text = required_plain_text(table, key)?;
     match usable_address_of(text.as_bytes()) {
@@ -116,9 +109,8 @@ pub fn required_address(table: &Table, key: &str) -> Result<Address, TopoFault>
 }
 
 /// A required prefix.
-pub fn required_prefix(table: &Table, key: &str) -> Result<Prefix, TopoFault>
-    ensures { Gives (λ p. p) result
-        (required_text prefix_of (get_member key.now (table_view table.now))) }
+pub fn required_prefix(table: &Table, key: TableKey) -> Result<Prefix, TopoFault>
+    ensures { Gives (λ p. p) result (text_at prefix_of key (table_view table.now)) }
 {
     let text = required_plain_text(table, key)?;
     match prefix_of(text) {
@@ -127,25 +119,31 @@ pub fn required_prefix(table: &Table, key: &str) -> Result<Prefix, TopoFault>
     }
 }
 
-/// Whether each key of the table is among these.
-fn has_only(table: &Table, allowed: &[&str]) -> bool
-    ensures { result ≡ list_all (λ k. list_any (λ l. bytes_eq l.now (string_bytes k)) allowed.now)
-        (keys table.now) }
+/// Whether each key of the table is that of one of these fields.
+fn has_only(table: &Table, fields: &[Field]) -> bool
+    ensures { result ≡ list_all (λ k. list_any (λ l. bytes_eq l (string_bytes k))
+        (keys_of fields.now)) (keys table.now) }
 {
-    table.keys().all(|key| is_among(allowed, key.as_str()))
+    table.keys().all(|key| is_key_of(fields, key.as_str()))
 }
 
-fn is_among(keys: &[&str], key: &str) -> bool
-    ensures { result ≡ list_any (λ k. bytes_eq k.now key.now) keys.now }
+/// Whether a key is that of one of these fields.
+pub fn is_key_of(fields: &[Field], key: &str) -> bool
+    ensures { result ≡ list_any (λ k. bytes_eq k key.now) (keys_of fields.now) }
 {
-    keys.iter().any(|known| *known == key)
+    for known in fields {
+        if known.key.text() == key {
+            return true;
+        }
+    }
+    false
 }
 
-/// Refuses a table that has a key which is not among these.
-pub fn only(table: &Table, allowed: &[&str]) -> Result<(), TopoFault>
-    ensures { Gives (λ u. u) result (only (map (λ k. k.now) allowed.now) (table_view table.now)) }
+/// Refuses a table that has a key which is that of none of these fields.
+pub fn only(table: &Table, fields: &[Field]) -> Result<(), TopoFault>
+    ensures { Gives (λ u. u) result (only (keys_of fields.now) (table_view table.now)) }
 {
-    if has_only(table, allowed) {
+    if has_only(table, fields) {
         Ok(())
     } else {
         Err(TopoFault::Refused(Refusal::UnknownKey))
@@ -153,9 +151,8 @@ pub fn only(table: &Table, allowed: &[&str]) -> Result<(), TopoFault>
 }
 
 /// A required text that names one of a few kinds.
-pub fn required_node_kind(table: &Table, key: &str) -> Result<NodeKind, TopoFault>
-    ensures { Gives (λ k. k) result
-        (required_text node_kind_of (get_member key.now (table_view table.now))) }
+pub fn required_node_kind(table: &Table, key: TableKey) -> Result<NodeKind, TopoFault>
+    ensures { Gives (λ k. k) result (text_at node_kind_of key (table_view table.now)) }
 {
     match required_plain_text(table, key)? {
         "host" => Ok(NodeKind::Host),

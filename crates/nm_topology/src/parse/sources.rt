@@ -3,15 +3,20 @@
 ghost use Rattle.std.specs.Prelude.{◌≡◌, ◌≤◌, IfOk};
 ghost use Rattle.nm_base.specs.declared.limits.TheConstants.{MAX_TIME};
 ghost use Rattle.nm_topology.specs.Parse.Arrays.{in_table};
-ghost use Rattle.toml.specs.Data.{array, get_member};
+ghost use Rattle.toml.specs.Data.{array};
 ghost use Rattle.toml.specs.View.{table_view, items_view, view};
 ghost use Rattle.nm_topology.specs.Fault.{Gives};
-ghost use Rattle.nm_topology.specs.Parse.Fields.{required, required_text};
+ghost use Rattle.nm_topology.specs.Parse.Fields.{required, text_at, value_at};
 ghost use Rattle.nm_topology.specs.Parse.Sources.{octets_of, packet_of, packets_from, packets_of};
 ghost use Rattle.nm_topology.specs.Parse.Sources.{flow_of, cbr_of, echo_of, raw_of, source_kind_of};
 ghost use Rattle.nm_topology.specs.Parse.Sources.{source_table_of};
 
 use crate::fault::{Refusal, TopoFault};
+use crate::keys::fields::{
+    CBR_TABLE, COUNT, ECHO_TABLE, FILL, IDENTIFIER, INTERVAL, PORT, RAW_TABLE, START, TTL,
+    packet_table, size_under, time_from,
+};
+use crate::keys::key::TableKey;
 use crate::parse::arrays::{FromTable, Member, all_fit};
 use crate::parse::fields::{
     field, only, optional_number, required_address, required_name, required_number,
@@ -21,7 +26,7 @@ use crate::parse::head::Head;
 use crate::traffic::{Cbr, Echo, Flow, RawPacket};
 use bytes::Bytes;
 use hex::FromHexError;
-use nm_base::limits::{MAX_COUNT, MAX_INTERVAL, MAX_RAW_PACKETS, MAX_TIME};
+use nm_base::limits::MAX_RAW_PACKETS;
 use nm_base::{Packet, Time};
 use std::alloc::Global;
 use std::marker::Model;
@@ -67,9 +72,14 @@ impl Model for SourceTable {
 }
 
 /// The octets of a raw packet: hexadecimal, 1 to `mtu` octets.
-fn required_octets(alloc: Global, mtu: u16, table: &Table, key: &str) -> Result<Packet, TopoFault>
+pub fn required_octets(
+    alloc: Global,
+    mtu: u16,
+    table: &Table,
+    key: TableKey,
+) -> Result<Packet, TopoFault>
     ensures { Gives (λ p. p) result
-        (required (octets_of mtu) (get_member key.now (table_view table.now))) }
+        (required (octets_of mtu) (value_at key (table_view table.now))) }
 {
     let text = required_plain_text(table, key)?;
     let octets = match hex::decode(alloc, text) {
@@ -92,9 +102,9 @@ fn raw_packet(alloc: Global, mtu: u16, least: u64, table: &Table) -> Result<RawP
     ensures within { IfOk result (λ p. p.at ≤ MAX_TIME) }
     ensures value { Gives (λ p. p) result (packet_of mtu least (table_view table.now)) }
 {
-    only(table, &["at", "data"])?;
-    let at = required_number(table, "at", least, MAX_TIME)?;
-    let packet = required_octets(alloc, mtu, table, "data")?;
+    only(table, &packet_table(least))?;
+    let at = required_number(table, TableKey::At, time_from(least))?;
+    let packet = required_octets(alloc, mtu, table, TableKey::Data)?;
     Ok(RawPacket {
         at: Time::from_nanoseconds(at),
         packet,
@@ -135,14 +145,15 @@ fn packets(alloc: Global, mtu: u16, items: &[Value]) -> Result<Vec<RawPacket>, T
     Ok(packets)
 }
 
-fn required_packets(
+/// The packets of a raw source.
+pub fn required_packets(
     alloc: Global,
     mtu: u16,
     table: &Table,
-    key: &str,
+    key: TableKey,
 ) -> Result<Vec<RawPacket>, TopoFault>
     ensures { Gives (λ v. v.items) result
-        (required (packets_of mtu) (get_member key.now (table_view table.now))) }
+        (required (packets_of mtu) (value_at key (table_view table.now))) }
 {
     let Some(value) = field(table, key) else {
         return Err(TopoFault::Refused(Refusal::Missing));
@@ -166,20 +177,17 @@ fn some_packets(alloc: Global, mtu: u16, items: &[Value]) -> Result<Vec<RawPacke
     packets(alloc, mtu, items)
 }
 
-/// Octets of an IPv4 header and a UDP or ICMP header.
-const HEADERS: u16 = 28;
-
 #[tactic(auto, unfolding(crate::specs::Parse::Sources::flow_of))]
 fn flow(mtu: u16, table: &Table) -> Result<Flow, TopoFault>
     requires { 28 ≤ mtu }
     ensures { Gives (λ x. x) result (flow_of mtu (table_view table.now)) }
 {
-    let size = required_number(table, "size", 0, (mtu - HEADERS) as u64)?;
-    let fill = optional_number(table, "fill", 0, 0, 255)?;
-    let start = required_number(table, "start", 0, MAX_TIME)?;
-    let interval = required_number(table, "interval", 1, MAX_INTERVAL)?;
-    let count = required_number(table, "count", 0, MAX_COUNT)?;
-    let ttl = optional_number(table, "ttl", 64, 1, 255)?;
+    let size = required_number(table, TableKey::Size, size_under(mtu))?;
+    let fill = optional_number(table, TableKey::Fill, FILL, 0)?;
+    let start = required_number(table, TableKey::Start, START)?;
+    let interval = required_number(table, TableKey::Interval, INTERVAL)?;
+    let count = required_number(table, TableKey::Count, COUNT)?;
+    let ttl = optional_number(table, TableKey::Ttl, TTL, 64)?;
     Ok(Flow {
         size: size as u16,
         fill: fill as u8,
@@ -195,17 +203,11 @@ fn cbr_table(alloc: Global, mtu: u16, table: &Table) -> Result<SourceTable, Topo
     requires { 28 ≤ mtu }
     ensures { Gives (λ x. x) result (cbr_of mtu (table_view table.now)) }
 {
-    only(
-        table,
-        &[
-            "kind", "node", "to", "sport", "dport", "size", "fill", "start", "interval", "count",
-            "ttl",
-        ],
-    )?;
-    let node = required_name(alloc, table, "node")?;
-    let to = required_address(table, "to")?;
-    let source_port = required_number(table, "sport", 0, 65_535)?;
-    let destination_port = required_number(table, "dport", 0, 65_535)?;
+    only(table, &CBR_TABLE)?;
+    let node = required_name(alloc, table, TableKey::Node)?;
+    let to = required_address(table, TableKey::To)?;
+    let source_port = required_number(table, TableKey::SourcePort, PORT)?;
+    let destination_port = required_number(table, TableKey::DestinationPort, PORT)?;
     let flow = flow(mtu, table)?;
     Ok(SourceTable {
         node,
@@ -223,15 +225,10 @@ fn echo_table(alloc: Global, mtu: u16, table: &Table) -> Result<SourceTable, Top
     requires { 28 ≤ mtu }
     ensures { Gives (λ x. x) result (echo_of mtu (table_view table.now)) }
 {
-    only(
-        table,
-        &[
-            "kind", "node", "to", "ident", "size", "fill", "start", "interval", "count", "ttl",
-        ],
-    )?;
-    let node = required_name(alloc, table, "node")?;
-    let to = required_address(table, "to")?;
-    let identifier = required_number(table, "ident", 0, 65_535)?;
+    only(table, &ECHO_TABLE)?;
+    let node = required_name(alloc, table, TableKey::Node)?;
+    let to = required_address(table, TableKey::To)?;
+    let identifier = required_number(table, TableKey::Identifier, IDENTIFIER)?;
     let flow = flow(mtu, table)?;
     Ok(SourceTable {
         node,
@@ -247,10 +244,10 @@ fn echo_table(alloc: Global, mtu: u16, table: &Table) -> Result<SourceTable, Top
 fn raw_table(alloc: Global, mtu: u16, table: &Table) -> Result<SourceTable, TopoFault>
     ensures { Gives (λ x. x) result (raw_of mtu (table_view table.now)) }
 {
-    only(table, &["kind", "node", "via", "packet"])?;
-    let node = required_name(alloc, table, "node")?;
-    let via = required_name(alloc, table, "via")?;
-    let packets = required_packets(alloc, mtu, table, "packet")?;
+    only(table, &RAW_TABLE)?;
+    let node = required_name(alloc, table, TableKey::Node)?;
+    let via = required_name(alloc, table, TableKey::Via)?;
+    let packets = required_packets(alloc, mtu, table, TableKey::Packet)?;
     Ok(SourceTable {
         node,
         traffic: NamedTraffic::Raw(NamedRaw { via, packets }),
@@ -259,15 +256,15 @@ fn raw_table(alloc: Global, mtu: u16, table: &Table) -> Result<SourceTable, Topo
 
 /// The kinds of sources.
 #[derive(Clone, Copy)]
-enum SourceKind {
+pub enum SourceKind {
     Cbr,
     Echo,
     Raw,
 }
 
-fn required_source_kind(table: &Table, key: &str) -> Result<SourceKind, TopoFault>
-    ensures { Gives (λ k. k) result
-        (required_text source_kind_of (get_member key.now (table_view table.now))) }
+/// What stands at the kind of a source.
+pub fn required_source_kind(table: &Table, key: TableKey) -> Result<SourceKind, TopoFault>
+    ensures { Gives (λ k. k) result (text_at source_kind_of key (table_view table.now)) }
 {
     match required_plain_text(table, key)? {
         "cbr" => Ok(SourceKind::Cbr),
@@ -283,7 +280,7 @@ fn source_table(alloc: Global, mtu: u16, table: &Table) -> Result<SourceTable, T
     requires { 28 ≤ mtu }
     ensures { Gives (λ x. x) result (source_table_of mtu (table_view table.now)) }
 {
-    match required_source_kind(table, "kind")? {
+    match required_source_kind(table, TableKey::Kind)? {
         SourceKind::Cbr => cbr_table(alloc, mtu, table),
         SourceKind::Echo => echo_table(alloc, mtu, table),
         SourceKind::Raw => raw_table(alloc, mtu, table),

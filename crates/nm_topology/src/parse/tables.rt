@@ -1,15 +1,20 @@
 //! The tables of a topology text, each read by itself.
 
-ghost use Rattle.std.specs.Prelude.{◌≤◌, None, codes};
-ghost use Rattle.toml.specs.Data.{get_member};
+ghost use Rattle.std.specs.Prelude.{◌≤◌};
 ghost use Rattle.toml.specs.View.{table_view};
-ghost use Rattle.nm_base.specs.declared.limits.TheConstants.{MAX_QUEUE_OCTETS};
+ghost use Rattle.nm_topology.specs.declared.keys.fields.TheConstants.{QUEUE_OCTETS};
+ghost use Rattle.nm_topology.specs.declared.keys.key.TableKey.TheVariants as key;
 ghost use Rattle.nm_topology.specs.Fault.{Gives};
-ghost use Rattle.nm_topology.specs.Parse.Fields.{only, optional, some_number_in};
+ghost use Rattle.nm_topology.specs.Parse.Fields.{only, some_number_at};
 ghost use Rattle.nm_topology.specs.Parse.Tables.{iface_keys, iface_table_of, link_table_of};
 ghost use Rattle.nm_topology.specs.Parse.Tables.{node_table_of, route_table_of};
 
 use crate::fault::TopoFault;
+use crate::keys::fields::{
+    DELAY, IFACE_TABLE_ONE, IFACE_TABLE_TWO, LINK_TABLE, NODE_TABLE, PARTITION, PORT, QUEUE,
+    QUEUE_OCTETS, RATE, ROUTE_TABLE,
+};
+use crate::keys::key::TableKey;
 use crate::names::Named;
 use crate::node::NodeKind;
 use crate::parse::arrays::{Element, FromTable, Member, optional_array};
@@ -19,9 +24,7 @@ use crate::parse::fields::{
 };
 use crate::parse::head::{Format, Head};
 use crate::prefix::Prefix;
-use nm_base::limits::{
-    MAX_DELAY, MAX_PORTS_OF_NODE, MAX_QUEUE, MAX_QUEUE_OCTETS, MAX_RATE, MIN_RATE,
-};
+use nm_base::limits::MAX_PORTS_OF_NODE;
 use nm_packet::Address;
 use std::alloc::Global;
 use std::marker::Model;
@@ -142,19 +145,18 @@ fn only_iface_keys(format: Format, table: &Table) -> Result<(), TopoFault>
     ensures { Gives (λ u. u) result (only (iface_keys format) (table_view table.now)) }
 {
     match format {
-        Format::One => only(table, &["name", "node", "address", "queue"]),
-        Format::Two => only(table, &["name", "node", "address", "queue", "queue_octets"]),
+        Format::One => only(table, &IFACE_TABLE_ONE),
+        Format::Two => only(table, &IFACE_TABLE_TWO),
     }
 }
 
 /// Reads the limit in octets, if there is one. Only a table of format 2 has its key.
 fn queue_octets(table: &Table) -> Result<Option<u32>, TopoFault>
     ensures { Gives (λ n. n) result
-        (optional None (some_number_in 0 MAX_QUEUE_OCTETS)
-        (get_member (codes "queue_octets") (table_view table.now))) }
+        (some_number_at key.QueueOctets QUEUE_OCTETS (table_view table.now)) }
 {
-    match field(table, "queue_octets") {
-        Some(value) => Ok(Some(number(value, 0, MAX_QUEUE_OCTETS)? as u32)),
+    match field(table, TableKey::QueueOctets) {
+        Some(value) => Ok(Some(number(value, QUEUE_OCTETS)? as u32)),
         None => Ok(None),
     }
 }
@@ -164,10 +166,10 @@ fn iface_table(alloc: Global, format: Format, table: &Table) -> Result<IfaceTabl
     ensures { Gives (λ x. x) result (iface_table_of format (table_view table.now)) }
 {
     only_iface_keys(format, table)?;
-    let name = required_name(alloc, table, "name")?;
-    let node = required_name(alloc, table, "node")?;
-    let address = required_address(table, "address")?;
-    let queue = required_number(table, "queue", 0, MAX_QUEUE)?;
+    let name = required_name(alloc, table, TableKey::Name)?;
+    let node = required_name(alloc, table, TableKey::Node)?;
+    let address = required_address(table, TableKey::Address)?;
+    let queue = required_number(table, TableKey::Queue, QUEUE)?;
     let queue_octets = queue_octets(table)?;
     Ok(IfaceTable {
         name,
@@ -182,11 +184,11 @@ fn iface_table(alloc: Global, format: Format, table: &Table) -> Result<IfaceTabl
 fn link_table(alloc: Global, table: &Table) -> Result<LinkTable, TopoFault>
     ensures { Gives (λ x. x) result (link_table_of (table_view table.now)) }
 {
-    only(table, &["a", "b", "rate", "delay"])?;
-    let a = required_name(alloc, table, "a")?;
-    let b = required_name(alloc, table, "b")?;
-    let rate = required_number(table, "rate", MIN_RATE, MAX_RATE)?;
-    let delay = required_number(table, "delay", 0, MAX_DELAY)?;
+    only(table, &LINK_TABLE)?;
+    let a = required_name(alloc, table, TableKey::A)?;
+    let b = required_name(alloc, table, TableKey::B)?;
+    let rate = required_number(table, TableKey::Rate, RATE)?;
+    let delay = required_number(table, TableKey::Delay, DELAY)?;
     Ok(LinkTable { a, b, rate, delay })
 }
 
@@ -194,10 +196,10 @@ fn link_table(alloc: Global, table: &Table) -> Result<LinkTable, TopoFault>
 fn route_table(alloc: Global, table: &Table) -> Result<RouteTable, TopoFault>
     ensures { Gives (λ x. x) result (route_table_of (table_view table.now)) }
 {
-    only(table, &["node", "to", "via"])?;
-    let node = required_name(alloc, table, "node")?;
-    let to = required_prefix(table, "to")?;
-    let via = required_name(alloc, table, "via")?;
+    only(table, &ROUTE_TABLE)?;
+    let node = required_name(alloc, table, TableKey::Node)?;
+    let to = required_prefix(table, TableKey::To)?;
+    let via = required_name(alloc, table, TableKey::Via)?;
     Ok(RouteTable { node, to, via })
 }
 
@@ -212,12 +214,13 @@ impl Member for u16 {
 }
 
 impl Element for u16 {
+    ghost use Rattle.nm_topology.specs.declared.keys.fields.TheConstants.{PORT};
     ghost use Rattle.nm_topology.specs.Parse.Fields.{number_in};
 
-    ghost reads = { λ head d. number_in 0 65535 d };
+    ghost reads = { λ head d. number_in PORT.least PORT.greatest d };
 
     fn read(_alloc: Global, _head: Head, value: &Value) -> Result<u16, TopoFault> {
-        Ok(number(value, 0, 65_535)? as u16)
+        Ok(number(value, PORT)? as u16)
     }
 }
 
@@ -226,11 +229,11 @@ fn node_table(alloc: Global, head: Head, table: &Table) -> Result<NodeTable, Top
     requires { 28 ≤ head.mtu }
     ensures { Gives (λ x. x) result (node_table_of (table_view table.now)) }
 {
-    only(table, &["name", "kind", "partition", "ports"])?;
-    let name = required_name(alloc, table, "name")?;
-    let kind = required_node_kind(table, "kind")?;
-    let partition = required_number(table, "partition", 0, 63)?;
-    let ports = optional_array(alloc, head, table, "ports", MAX_PORTS_OF_NODE)?;
+    only(table, &NODE_TABLE)?;
+    let name = required_name(alloc, table, TableKey::Name)?;
+    let kind = required_node_kind(table, TableKey::Kind)?;
+    let partition = required_number(table, TableKey::Partition, PARTITION)?;
+    let ports = optional_array(alloc, head, table, TableKey::Ports, MAX_PORTS_OF_NODE)?;
     Ok(NodeTable {
         name,
         kind,

@@ -1,7 +1,7 @@
 use Rattle.std.proofs.Common.{◌≡◌, ◌≤◌, Option, sym, ◌∙◌, subst, arith, length}
 use Rattle.std.specs.Prelude.{IfOk}
 use Rattle.nm_check.specs.declared.place.FaultPlace.{FaultPlace}
-use Rattle.nm_check.specs.Keys.{array_limit}
+use Rattle.nm_topology.specs.Keys.{array_limit}
 use Rattle.nm_check.proofs.Places.{in-array}
 use Rattle.nm_check.proofs.place.place_in_array.Goals as goal
 

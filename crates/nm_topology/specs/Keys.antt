@@ -1,10 +1,13 @@
 -- The keys of a topology text, as they stand in one, and its arrays of tables.
-use Rattle.std.specs.Prelude.{ℕ, List, codes}
-use Rattle.nm_base.specs.declared.limits.TheConstants.{MAX_IFACES, MAX_LINKS, MAX_NODES, MAX_ROUTES, MAX_SOURCES}
-use Rattle.nm_check.specs.declared.array.Array.{Array}
-use Rattle.nm_check.specs.declared.array.Array.TheVariants as array
-use Rattle.nm_check.specs.declared.key.TableKey.{TableKey}
-use Rattle.nm_check.specs.declared.key.TableKey.TheVariants as key
+use Rattle.std.specs.Prelude.{ℕ, ◌-◌, List, [], ◌∷◌, codes, map}
+use Rattle.nm_base.specs.declared.limits.TheConstants.{MAX_IFACES, MAX_LINKS, MAX_NODES, MAX_ROUTES, MAX_SOURCES, MAX_TIME}
+use Rattle.nm_topology.specs.declared.keys.array.Array.{Array}
+use Rattle.nm_topology.specs.declared.keys.array.Array.TheVariants as array
+use Rattle.nm_topology.specs.declared.keys.field.Bounds.{Bounds}
+use Rattle.nm_topology.specs.declared.keys.field.Field.{Field}
+use Rattle.nm_topology.specs.declared.keys.field.Form.TheVariants as form
+use Rattle.nm_topology.specs.declared.keys.key.TableKey.{TableKey}
+use Rattle.nm_topology.specs.declared.keys.key.TableKey.TheVariants as key
 
 abbrev pub key_text : TableKey → List ℕ
 key_text key.Format = codes "format"
@@ -56,3 +59,21 @@ array_limit array.Iface = MAX_IFACES
 array_limit array.Link = MAX_LINKS
 array_limit array.Route = MAX_ROUTES
 array_limit array.Source = MAX_SOURCES
+
+-- the keys of these fields, as they stand in a text
+abbrev pub keys_of : List Field → List (List ℕ)
+keys_of fields = map (λ f. key_text f.key) fields
+
+-- octets of data of a source's packet: what two headers leave of the mtu
+abbrev pub size_under : ℕ → Bounds
+size_under mtu = record { least = 0; greatest = mtu - 28 }
+
+-- the time of a packet of a raw source: at least so much
+abbrev pub time_from : ℕ → Bounds
+time_from least = record { least = least; greatest = MAX_TIME }
+
+-- a table of `packet` whose time is at least so much
+abbrev pub packet_table : ℕ → List Field
+packet_table least =
+    record { key = key.At; form = form.Number (time_from least) }
+    ∷ record { key = key.Data; form = form.Octets } ∷ []

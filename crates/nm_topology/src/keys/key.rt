@@ -1,7 +1,7 @@
 //! The keys of a topology text.
 
 ghost use Rattle.std.specs.Prelude.{◌≡◌};
-ghost use Rattle.nm_check.specs.Keys.{key_text};
+ghost use Rattle.nm_topology.specs.Keys.{key_text};
 
 /// A key of a topology text.
 #[derive(Clone, Copy)]

@@ -1,16 +1,23 @@
 //! What stands behind the keys of a table.
 
-use crate::array::Array;
-use crate::key::TableKey;
+use crate::keys::array::Array;
+use crate::keys::key::TableKey;
+
+/// The least and the greatest of a whole number.
+#[derive(Clone, Copy)]
+pub struct Bounds {
+    pub least: u64,
+    pub greatest: u64,
+}
 
 /// What stands behind a key.
 #[derive(Clone, Copy)]
 pub enum Form {
-    /// A whole number from `least` to `greatest`.
-    Number { least: u64, greatest: u64 },
+    /// A whole number within these bounds.
+    Number(Bounds),
     /// The same, where the key may be absent.
-    OptionalNumber { least: u64, greatest: u64 },
-    /// Octets of data of a source's packet: 0 to what two headers leave of the mtu.
+    OptionalNumber(Bounds),
+    /// Octets of data of a source's packet, within the bounds of `fields::size_under`.
     Size,
     /// The name of a node or of an interface.
     Name,
@@ -22,7 +29,7 @@ pub enum Form {
     NodeKind,
     /// "cbr", "echo" or "raw".
     SourceKind,
-    /// Whole numbers 0 to 65,535, of which there are at most 64. The key may be absent.
+    /// UDP ports, of which there are at most 64. The key may be absent.
     Ports,
     /// Tables. The key may be absent.
     Tables(Array),

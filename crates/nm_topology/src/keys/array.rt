@@ -1,9 +1,9 @@
 //! The arrays of tables of a topology text.
 
 ghost use Rattle.std.specs.Prelude.{◌≡◌};
-ghost use Rattle.nm_check.specs.Keys.{array_key, array_limit};
+ghost use Rattle.nm_topology.specs.Keys.{array_key, array_limit};
 
-use crate::key::TableKey;
+use crate::keys::key::TableKey;
 use nm_base::limits::{MAX_IFACES, MAX_LINKS, MAX_NODES, MAX_ROUTES, MAX_SOURCES};
 
 /// An array of tables of a topology text.

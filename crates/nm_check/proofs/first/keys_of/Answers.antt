@@ -1,9 +1,0 @@
-use Rattle.std.proofs.Common.{arith}
-use Rattle.std.proofs.lemmas.Grind.{common_steps}
-use Rattle.nm_check.proofs.first.keys_of.Goals as goal
-
-pub loop-wanted-preserved : goal.loop-wanted-preserved
-loop-wanted-preserved c = grind (arith, common_steps)
-
-pub returns : goal.returns
-returns c = grind (arith, common_steps)
