@@ -20,6 +20,7 @@ use nm_topology::parse::document::Document;
 use nm_topology::parse::tables::IfaceTable;
 use nm_topology::parts::{Link, PlacedRoute};
 use nm_topology::resolve::tables;
+use nm_topology::validate::checks::{addresses_of, route_keys};
 use std::alloc::{AllocError, Global};
 
 /// What the whole is refused for. Numbers are from 0, in the order of the text.
@@ -211,25 +212,8 @@ fn double_address(alloc: Global, ifaces: &[IfaceTable]) -> Result<Option<Double>
     ensures { IfOk result
         (λ found. IsFirstDouble nat_eq (map (λ i. i.address) ifaces.now) found) }
 {
-    let addresses: Vec<u32> = ifaces
-        .iter()
-        .map(|table| table.address.bits())
-        .collect(alloc)?;
+    let addresses = addresses_of(alloc, ifaces)?;
     first_double(alloc, &addresses)
-}
-
-/// The node and the prefix of each route.
-fn route_keys(alloc: Global, routes: &[PlacedRoute]) -> Result<Vec<(u32, u32, u8)>, AllocError>
-    ensures { IfOk result (λ v. v.items ≡ map route_key routes.now) }
-{
-    routes
-        .iter()
-        .map(|r| (
-            r.node.number(),
-            r.route.to.address.bits(),
-            r.route.to.length,
-        ))
-        .collect(alloc)
 }
 
 /// Two routes of one node that have one prefix.

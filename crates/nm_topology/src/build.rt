@@ -35,11 +35,13 @@ fn wire(
     count: usize,
     resolved: &Resolved,
 ) -> Result<Wired, AllocError>
+    // What the names resolved to is there.
     requires count { count ≤ MAX_IFACES }
     requires owners { (length resolved.now.owners ≡ count)
         × All (λ o. o < length parts.now) resolved.now.owners }
     requires links { All (λ l. (l.a < count) × (l.b < count)) resolved.now.links }
     requires routes { All (λ r. r.node < length parts.now) resolved.now.routes }
+    // What hangs together, as it is defined.
     ensures node_routes { IfOk result (λ w. w.node_routes.items
         ≡ routes_of_nodes (length parts.now) resolved.now.routes) }
     ensures far { IfOk result (λ w. w.far.items ≡ far_ends count resolved.now.links) }
@@ -63,15 +65,18 @@ fn wire_tables(
     ifaces: &[IfaceTable],
     resolved: &Resolved,
 ) -> Result<Wired, TopoFault>
+    // What the names resolved to is there.
     requires count { length ifaces.now ≤ MAX_IFACES }
     requires owners { (length resolved.now.owners ≡ length ifaces.now)
         × All (λ o. o < length nodes.now) resolved.now.owners }
     requires links { All (λ l. (l.a < length ifaces.now) × (l.b < length ifaces.now))
         resolved.now.links }
     requires routes { All (λ r. r.node < length nodes.now) resolved.now.routes }
+    // The tests of the whole decide.
     ensures few { IfOk result (λ w. length w.receivers.items ≤ MAX_CHANNELS) }
     ensures tested { Gives (λ _. tt) result (tested (map (λ n. n.partition) nodes.now)
         (map (λ i. i.address) ifaces.now) (length nodes.now) (length ifaces.now) resolved.now) }
+    // What hangs together, as it is defined.
     ensures node_routes { IfOk result (λ w. w.node_routes.items
         ≡ routes_of_nodes (length nodes.now) resolved.now.routes) }
     ensures far { IfOk result (λ w. w.far.items
@@ -146,6 +151,7 @@ pub fn place(
     iface_tables: Vec<IfaceTable>,
     resolved: &Resolved,
 ) -> Result<Placed, TopoFault>
+    // What the names resolved to is there.
     requires count { length iface_tables.items ≤ MAX_IFACES }
     requires owners { (length resolved.now.owners ≡ length iface_tables.items)
         × All (λ o. o < length node_tables.items) resolved.now.owners }
@@ -153,10 +159,12 @@ pub fn place(
         (λ l. (l.a < length iface_tables.items) × (l.b < length iface_tables.items))
         resolved.now.links }
     requires routes { All (λ r. r.node < length node_tables.items) resolved.now.routes }
+    // The tests of the whole decide.
     ensures few { IfOk result (λ p. length p.receivers.items ≤ MAX_CHANNELS) }
     ensures tested { Gives (λ _. tt) result (tested (map (λ n. n.partition) node_tables.items)
         (map (λ i. i.address) iface_tables.items) (length node_tables.items)
         (length iface_tables.items) resolved.now) }
+    // What is put together, as it is defined.
     ensures nodes { IfOk result (λ p. p.nodes.items
         ≡ placed_nodes node_tables.items
         (routes_of_nodes (length node_tables.items) resolved.now.routes)) }

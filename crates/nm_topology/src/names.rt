@@ -59,7 +59,7 @@ pub trait Named {
 }
 
 /// The name of each.
-fn names_of<T: Named>(alloc: Global, items: &[T]) -> Result<Vec<&str>, AllocError>
+pub fn names_of<T: Named>(alloc: Global, items: &[T]) -> Result<Vec<&str>, AllocError>
     ensures len { IfOk result (λ v. length v.items ≡ length items.now) }
     ensures names { IfOk result (λ v. map (λ k. k.now) v.items ≡ map T.name items.now) }
 {

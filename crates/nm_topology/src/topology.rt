@@ -243,19 +243,23 @@ impl Topology {
 /// nodes have one name, no two interfaces one name or one address, and no two routes of a node one
 /// prefix.
 pub fn accepted_topologies_are_in_order(topology: &Topology)
+    // What names what is there.
     ensures order { IsInOrder topology.now.nodes topology.now.ifaces topology.now.links }
+    ensures placed { All
+        (λ s. IsPlaced (length topology.now.nodes) (owners_of topology.now.ifaces) s)
+        topology.now.sources }
+    ensures receivers { AreReceivers topology.now.nodes topology.now.ifaces topology.now.receivers }
+    // How much there is.
     ensures nodes { length topology.now.nodes ≤ MAX_NODES }
     ensures ifaces { length topology.now.ifaces ≤ MAX_IFACES }
     ensures links { length topology.now.links ≤ MAX_LINKS }
     ensures sources { length topology.now.sources ≤ MAX_SOURCES }
     ensures channels { length topology.now.receivers ≤ MAX_CHANNELS }
-    ensures placed { All
-        (λ s. IsPlaced (length topology.now.nodes) (owners_of topology.now.ifaces) s)
-        topology.now.sources }
     ensures partitions { topology.now.partitions ≤ MAX_PARTITIONS }
+    // The ranges of what there is.
     ensures limits { IsWithinLimits topology.now }
     ensures octets { All (λ s. HasOctets s.traffic) topology.now.sources }
-    ensures receivers { AreReceivers topology.now.nodes topology.now.ifaces topology.now.receivers }
+    // Nothing stands there twice.
     ensures doubles { HasNoDoubles topology.now.nodes topology.now.ifaces }
 {
     let _nodes = &topology.nodes;

@@ -27,6 +27,7 @@ pub fn validate(
     resolved: &Resolved,
     wired: &Wired,
 ) -> Result<(), TopoFault>
+    // What the names resolved to is there, and what hangs together is of it.
     requires owners { (length resolved.now.owners ≡ length ifaces.now)
         × All (λ o. o < length parts.now) resolved.now.owners }
     requires links { All (λ l. (l.a < length ifaces.now) × (l.b < length ifaces.now))
@@ -36,6 +37,7 @@ pub fn validate(
     requires receivers { wired.now.receivers.items
         ≡ receivers_of parts.now resolved.now.owners
         (far_ends (length ifaces.now) resolved.now.links) }
+    // The tests of the whole decide.
     ensures few { IfOk result (λ _. length wired.now.receivers.items ≤ MAX_CHANNELS) }
     ensures tested { Gives (λ u. u) result (tested parts.now (map (λ i. i.address) ifaces.now)
         (length parts.now) (length ifaces.now) resolved.now) }

@@ -78,6 +78,27 @@ pub fn time_from(least: u64) -> Bounds
     within!(least, MAX_TIME)
 }
 
+/// These fields, and the arrays of the top table.
+macro_rules! before_arrays {
+    ($($field:expr),*) => {
+        [
+            $($field,)*
+            field!(Node, Form::Tables(Array::Node)),
+            field!(Iface, Form::Tables(Array::Iface)),
+            field!(Link, Form::Tables(Array::Link)),
+            field!(Route, Form::Tables(Array::Route)),
+            field!(Source, Form::Tables(Array::Source)),
+        ]
+    };
+}
+
+/// The top table: its head, and then its arrays.
+pub const TOP_TABLE: [Field; 8] = before_arrays![
+    field!(Format, Form::Number(FORMAT)),
+    field!(Stop, Form::Number(STOP)),
+    field!(Mtu, Form::Number(MTU))
+];
+
 /// The head of the top table.
 pub const HEAD: [Field; 3] = [
     field!(Format, Form::Number(FORMAT)),
@@ -86,25 +107,7 @@ pub const HEAD: [Field; 3] = [
 ];
 
 /// The arrays of the top table, which are read once its head is.
-pub const ARRAYS: [Field; 5] = [
-    field!(Node, Form::Tables(Array::Node)),
-    field!(Iface, Form::Tables(Array::Iface)),
-    field!(Link, Form::Tables(Array::Link)),
-    field!(Route, Form::Tables(Array::Route)),
-    field!(Source, Form::Tables(Array::Source)),
-];
-
-/// The top table: its head, and then its arrays.
-pub const TOP_TABLE: [Field; 8] = [
-    field!(Format, Form::Number(FORMAT)),
-    field!(Stop, Form::Number(STOP)),
-    field!(Mtu, Form::Number(MTU)),
-    field!(Node, Form::Tables(Array::Node)),
-    field!(Iface, Form::Tables(Array::Iface)),
-    field!(Link, Form::Tables(Array::Link)),
-    field!(Route, Form::Tables(Array::Route)),
-    field!(Source, Form::Tables(Array::Source)),
-];
+pub const ARRAYS: [Field; 5] = before_arrays![];
 
 /// A table of `node`.
 pub const NODE_TABLE: [Field; 4] = [
@@ -114,22 +117,27 @@ pub const NODE_TABLE: [Field; 4] = [
     field!(Ports, Form::Ports),
 ];
 
+/// A table of `iface`, and these fields behind the others.
+macro_rules! iface_table {
+    ($($field:expr),*) => {
+        [
+            field!(Name, Form::Name),
+            field!(Node, Form::Name),
+            field!(Address, Form::Address),
+            field!(Queue, Form::Number(QUEUE)),
+            $($field,)*
+        ]
+    };
+}
+
 /// A table of `iface` in format 1.
-pub const IFACE_TABLE_ONE: [Field; 4] = [
-    field!(Name, Form::Name),
-    field!(Node, Form::Name),
-    field!(Address, Form::Address),
-    field!(Queue, Form::Number(QUEUE)),
-];
+pub const IFACE_TABLE_ONE: [Field; 4] = iface_table![];
 
 /// A table of `iface` in format 2.
-pub const IFACE_TABLE_TWO: [Field; 5] = [
-    field!(Name, Form::Name),
-    field!(Node, Form::Name),
-    field!(Address, Form::Address),
-    field!(Queue, Form::Number(QUEUE)),
-    field!(QueueOctets, Form::OptionalNumber(QUEUE_OCTETS)),
-];
+pub const IFACE_TABLE_TWO: [Field; 5] = iface_table![field!(
+    QueueOctets,
+    Form::OptionalNumber(QUEUE_OCTETS)
+)];
 
 /// A table of `link`.
 pub const LINK_TABLE: [Field; 4] = [
@@ -149,34 +157,32 @@ pub const ROUTE_TABLE: [Field; 3] = [
 /// The kind of a source, which is read before all else.
 pub const KIND_OF_SOURCE: [Field; 1] = [field!(Kind, Form::SourceKind)];
 
+/// A table of `source` whose packets are alike: these fields, and those that tell its flow.
+macro_rules! flow_table {
+    ($($field:expr),*) => {
+        [
+            field!(Kind, Form::SourceKind),
+            field!(Node, Form::Name),
+            field!(To, Form::Address),
+            $($field,)*
+            field!(Size, Form::Size),
+            field!(Fill, Form::OptionalNumber(FILL)),
+            field!(Start, Form::Number(START)),
+            field!(Interval, Form::Number(INTERVAL)),
+            field!(Count, Form::Number(COUNT)),
+            field!(Ttl, Form::OptionalNumber(TTL)),
+        ]
+    };
+}
+
 /// A table of `source` of kind "cbr".
-pub const CBR_TABLE: [Field; 11] = [
-    field!(Kind, Form::SourceKind),
-    field!(Node, Form::Name),
-    field!(To, Form::Address),
+pub const CBR_TABLE: [Field; 11] = flow_table![
     field!(SourcePort, Form::Number(PORT)),
-    field!(DestinationPort, Form::Number(PORT)),
-    field!(Size, Form::Size),
-    field!(Fill, Form::OptionalNumber(FILL)),
-    field!(Start, Form::Number(START)),
-    field!(Interval, Form::Number(INTERVAL)),
-    field!(Count, Form::Number(COUNT)),
-    field!(Ttl, Form::OptionalNumber(TTL)),
+    field!(DestinationPort, Form::Number(PORT))
 ];
 
 /// A table of `source` of kind "echo".
-pub const ECHO_TABLE: [Field; 10] = [
-    field!(Kind, Form::SourceKind),
-    field!(Node, Form::Name),
-    field!(To, Form::Address),
-    field!(Identifier, Form::Number(IDENTIFIER)),
-    field!(Size, Form::Size),
-    field!(Fill, Form::OptionalNumber(FILL)),
-    field!(Start, Form::Number(START)),
-    field!(Interval, Form::Number(INTERVAL)),
-    field!(Count, Form::Number(COUNT)),
-    field!(Ttl, Form::OptionalNumber(TTL)),
-];
+pub const ECHO_TABLE: [Field; 10] = flow_table![field!(Identifier, Form::Number(IDENTIFIER))];
 
 /// A table of `source` of kind "raw".
 pub const RAW_TABLE: [Field; 4] = [

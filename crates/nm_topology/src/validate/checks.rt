@@ -21,15 +21,22 @@ use nm_base::limits::{MAX_CHANNELS, MAX_ROUTES_OF_NODE};
 use nm_base::{IfaceNo, NodeNo, PartNo};
 use std::alloc::{AllocError, Global};
 
+/// The address of each interface.
+pub fn addresses_of(alloc: Global, tables: &[IfaceTable]) -> Result<Vec<u32>, AllocError>
+    ensures { IfOk result (λ v. v.items ≡ map (λ i. i.address) tables.now) }
+{
+    tables
+        .iter()
+        .map(|table| table.address.bits())
+        .collect(alloc)
+}
+
 /// Refuses two interfaces with one address.
 pub fn check_addresses(alloc: Global, tables: &[IfaceTable]) -> Result<(), TopoFault>
     ensures { Gives (λ u. u) result
         (demand (not (has_double nat_eq (map (λ i. i.address) tables.now))) DoubleAddress) }
 {
-    let addresses: Vec<u32> = tables
-        .iter()
-        .map(|table| table.address.bits())
-        .collect(alloc)?;
+    let addresses = addresses_of(alloc, tables)?;
     match distinct(alloc, &addresses)? {
         Some(_) => Ok(()),
         None => Err(TopoFault::Refused(Refusal::DoubleAddress)),
@@ -37,7 +44,7 @@ pub fn check_addresses(alloc: Global, tables: &[IfaceTable]) -> Result<(), TopoF
 }
 
 /// The node and the prefix of each route.
-fn route_keys(alloc: Global, routes: &[PlacedRoute]) -> Result<Vec<(u32, u32, u8)>, AllocError>
+pub fn route_keys(alloc: Global, routes: &[PlacedRoute]) -> Result<Vec<(u32, u32, u8)>, AllocError>
     ensures { IfOk result (λ v. v.items ≡ map route_key routes.now) }
 {
     routes
