@@ -10,6 +10,7 @@ ghost use Rattle.nm_check.specs.Place.{at_top, fields_in, find_in, find_in_array
 ghost use Rattle.nm_check.specs.Place.{item_of, spot_of};
 ghost use Rattle.nm_check.specs.Place.{place_at, place_in_array, place_in_field, place_of};
 ghost use Rattle.nm_check.specs.Place.{IsFirstPlace, refused_in, source_fields, source_spot};
+ghost use Rattle.nm_topology.specs.Keys.{IsInBounds};
 ghost use Rattle.nm_topology.specs.Parse.Document.{document_of};
 ghost use Rattle.nm_check.specs.Place.{find_behind, no_head};
 ghost use Rattle.nm_check.specs.Reading.{first_fault, outcome};
@@ -61,8 +62,7 @@ const NO_HEAD: Head = Head {
 
 /// A number of the top table; where it is refused, there is none.
 fn number_of(table: &Table, key: TableKey, bounds: Bounds) -> Result<Option<u64>, AllocError>
-    ensures within { IfOk result
-        (λ found. IfSome found (λ n. (bounds.least ≤ n) × (n ≤ bounds.greatest))) }
+    ensures within { IfOk result (λ found. IfSome found (IsInBounds bounds)) }
     ensures value { IfOk result
         (λ found. found ≡ result_ok (number_at key bounds (table_view table.now))) }
 {

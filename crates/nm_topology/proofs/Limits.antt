@@ -1,11 +1,12 @@
 -- Tables in range make a topology within the limits.
 use Rattle.std.proofs.Common.{◌≡◌, All, ℕ, zero, suc, ◌+◌, ◌<◌, ◌≤◌, true, max, List, [], ◌∷◌}
-use Rattle.std.proofs.Common.{length, map, Result, Ok, Err, refl, sym, ap, ◌∙◌, subst, arith}
+use Rattle.std.proofs.Common.{length, map, None, Some, Result, Ok, Err, refl, sym, ap, ◌∙◌, subst, arith}
 use Rattle.std.proofs.Common.{add-zero, ⊎_elim}
 use Rattle.std.specs.Prelude.{slice_index_or, IfSome, Option}
 use Rattle.std.proofs.lemmas.List.Elements.{All-nil, All-cons, All-weaker}
 use Rattle.nm_base.specs.declared.limits.TheConstants.{MAX_DELAY, MAX_PORTS_OF_NODE, MAX_QUEUE, MAX_QUEUE_OCTETS, MAX_RATE, MIN_RATE}
 use Rattle.nm_topology.specs.declared.fault.Refusal.{Refusal}
+use Rattle.nm_topology.specs.declared.keys.fields.TheConstants.{QUEUE, QUEUE_OCTETS}
 use Rattle.nm_topology.specs.declared.parts.Far.{Far}
 use Rattle.nm_topology.specs.declared.parts.Link.{Link}
 use Rattle.nm_topology.specs.declared.parts.Route.{Route}
@@ -18,6 +19,7 @@ use Rattle.nm_topology.specs.declared.parse.sources.NamedTraffic.TheVariants.{Cb
 use Rattle.nm_topology.specs.declared.parse.sources.NamedTraffic.TheVariants.{Echo as NamedEcho}
 use Rattle.nm_topology.specs.declared.parse.sources.NamedTraffic.TheVariants.{Raw as NamedRaw}
 use Rattle.nm_topology.specs.Fault.{◌>>=◌}
+use Rattle.nm_topology.specs.Keys.{IsInBounds}
 use Rattle.nm_topology.specs.Parse.TableValues.{NodeTableValue, IfaceTableValue, LinkTableValue}
 use Rattle.nm_topology.specs.Parse.SourceTableValue.{SourceTableValue}
 use Rattle.nm_topology.specs.Parse.DocumentValue.{DocumentValue}
@@ -85,7 +87,11 @@ link-read (Err r) b rate delay k e = cc
 link-rated : (names : Names) (l : LinkTableValue) (k : Link) → IsLinkInRange l → link_between names l ≡ Ok k → IsRated k.rate k.delay
 link-rated names l k h e =
     let same = link-read (number_of_name names l.a) (number_of_name names l.b) l.rate l.delay k e in
-    subst (λ r. IsRated r k.delay) same.0 (subst (λ d. IsRated l.rate d) same.1 h)
+    subst (λ r. IsRated r k.delay) same.0 (subst (λ d. IsRated l.rate d) same.1 (h.0.0, h.0.1, h.1.1))
+
+few-octets : (o : Option ℕ) → IfSome o (IsInBounds QUEUE_OCTETS) → IfSome o (λ n. n ≤ MAX_QUEUE_OCTETS)
+few-octets None h = tt
+few-octets (Some n) h = h.1
 
 -- sources as they were read
 traffic-fits : (mtu : ℕ) (ifaces : Names) (owners : List ℕ) (node : ℕ) (named : NamedTraffic) (t : Traffic) → FitsNamedTraffic mtu named → placed_traffic ifaces owners node named ≡ Ok t → FitsTraffic mtu t × HasOctets t
@@ -201,11 +207,12 @@ module _ (d : DocumentValue) (t : ResolvedValue) (node_routes : List (List Route
 
   ports : All IsPort v.ifaces
   ports = subst (λ is. All IsPort is) (sym put.ifaces)
-      (ifaces-within d.ifaces t.owners (far_ends (length d.ifaces) t.links) range.ifaces (fars-rated (length d.ifaces) t.links links used))
+      (ifaces-within d.ifaces t.owners (far_ends (length d.ifaces) t.links) (All-weaker (λ i. IsInBounds QUEUE i.queue) (λ i. i.queue ≤ MAX_QUEUE) (λ i h. h.1) d.ifaces range.ifaces) (fars-rated (length d.ifaces) t.links links used))
 
   octets : All (λ i. IfSome i.queue_octets (λ n. n ≤ MAX_QUEUE_OCTETS)) v.ifaces
   octets = subst (λ is. All (λ i. IfSome i.queue_octets (λ n. n ≤ MAX_QUEUE_OCTETS)) is) (sym put.ifaces)
-      (octets-within (λ o. IfSome o (λ n. n ≤ MAX_QUEUE_OCTETS)) d.ifaces t.owners (far_ends (length d.ifaces) t.links) range.queue_octets)
+      (octets-within (λ o. IfSome o (λ n. n ≤ MAX_QUEUE_OCTETS)) d.ifaces t.owners (far_ends (length d.ifaces) t.links)
+      (All-weaker (λ i. IfSome i.queue_octets (IsInBounds QUEUE_OCTETS)) (λ i. IfSome i.queue_octets (λ n. n ≤ MAX_QUEUE_OCTETS)) (λ i. few-octets i.queue_octets) d.ifaces range.queue_octets))
 
   nodes : All (λ n. (n.partition < v.partitions) × (length n.ports ≤ MAX_PORTS_OF_NODE)) v.nodes
   nodes =
@@ -216,10 +223,10 @@ module _ (d : DocumentValue) (t : ResolvedValue) (node_routes : List (List Route
 
   pub within_limits : IsWithinLimits v
   within_limits = record {
-    least_stop = omega (arith, put.stop, range.least_stop);
-    greatest_stop = omega (arith, put.stop, range.greatest_stop);
-    least_mtu = omega (arith, put.mtu, range.least_mtu);
-    greatest_mtu = omega (arith, put.mtu, range.greatest_mtu);
+    least_stop = omega (arith, put.stop, range.stop.0);
+    greatest_stop = omega (arith, put.stop, range.stop.1);
+    least_mtu = omega (arith, put.mtu, range.mtu.0);
+    greatest_mtu = omega (arith, put.mtu, range.mtu.1);
     nodes = nodes;
     ifaces = ports;
     queue_octets = octets;

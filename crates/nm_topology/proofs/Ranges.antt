@@ -2,9 +2,10 @@
 use Rattle.std.proofs.Common.{◌≡◌, ℕ, ◌≤◌, List, [], ◌∷◌, length, Option, Some, None, IfSome}
 use Rattle.std.proofs.Common.{Result, Ok, Err, subst, arith}
 use Rattle.toml.specs.Data.{Data, Members}
-use Rattle.nm_base.specs.declared.limits.TheConstants.{MAX_PORTS_OF_NODE, MAX_QUEUE, MAX_QUEUE_OCTETS}
+use Rattle.nm_base.specs.declared.limits.TheConstants.{MAX_PORTS_OF_NODE}
 use Rattle.nm_topology.specs.declared.fault.Refusal.{Refusal}
 use Rattle.nm_topology.specs.declared.keys.array.Array.TheVariants as array
+use Rattle.nm_topology.specs.declared.keys.field.Bounds.{Bounds}
 use Rattle.nm_topology.specs.declared.keys.fields.TheConstants.{DELAY, LINK_TABLE, MTU, NODE_TABLE}
 use Rattle.nm_topology.specs.declared.keys.fields.TheConstants.{PARTITION, PORT, QUEUE, QUEUE_OCTETS}
 use Rattle.nm_topology.specs.declared.keys.fields.TheConstants.{RATE, STOP, TOP_TABLE}
@@ -13,7 +14,7 @@ use Rattle.nm_topology.specs.declared.parse.head.Format.{Format}
 use Rattle.std.proofs.lemmas.List.Elements.{All-weaker}
 use Rattle.nm_topology.specs.declared.node.NodeKind.{NodeKind}
 use Rattle.nm_topology.specs.Fault.{◌>>=◌}
-use Rattle.nm_topology.specs.Keys.{array_limit, keys_of}
+use Rattle.nm_topology.specs.Keys.{IsInBounds, array_limit, keys_of}
 use Rattle.nm_topology.specs.Parse.Fields.{number_at, number_in, only, optional, required}
 use Rattle.nm_topology.specs.Parse.Fields.{some_number_at, some_number_in, text_at, value_at}
 use Rattle.nm_topology.specs.Parse.Arrays.{is_integer, is_table, in_table, array_of, tables_at}
@@ -58,15 +59,15 @@ iface-read (Ok k) (Ok a) (Err r) address queue octets i e = cc
 iface-read (Ok k) (Err r) node address queue octets i e = cc
 iface-read (Err r) name node address queue octets i e = cc
 
-some-within : (least greatest : ℕ) (o : Option Data) (n : Option ℕ) → optional None (some_number_in least greatest) o ≡ Ok n → IfSome n (λ m. m ≤ greatest)
-some-within least greatest None n e = let none : ◌≡◌ {A = Option ℕ} None n = cc in subst (λ m. IfSome m (λ k. k ≤ greatest)) none tt
-some-within least greatest (Some d) n e =
-    let a = step (number_in least greatest d) (λ m. Ok (Some m)) n e in
+some-within : (b : Bounds) (o : Option Data) (n : Option ℕ) → optional None (some_number_in b.least b.greatest) o ≡ Ok n → IfSome n (IsInBounds b)
+some-within b None n e = let none : ◌≡◌ {A = Option ℕ} None n = cc in subst (λ m. IfSome m (IsInBounds b)) none tt
+some-within b (Some d) n e =
+    let a = step (number_in b.least b.greatest d) (λ m. Ok (Some m)) n e in
     let some : Some a.0 ≡ n = cc (a.2) in
-    subst (λ m. IfSome m (λ k. k ≤ greatest)) some (number-within least greatest a.0 d a.1).1
+    subst (λ m. IfSome m (IsInBounds b)) some (number-within b.least b.greatest a.0 d a.1)
 
 abbrev IsQueued : IfaceTableValue → Type 0
-IsQueued i = (i.queue ≤ MAX_QUEUE) × IfSome i.queue_octets (λ n. n ≤ MAX_QUEUE_OCTETS)
+IsQueued i = IsInBounds QUEUE i.queue × IfSome i.queue_octets (IsInBounds QUEUE_OCTETS)
 
 iface_in_range : (format : Format) (t : Members) (i : IfaceTableValue) → iface_table_of format t ≡ Ok i → IsQueued i
 unfolding iface_table_of
@@ -76,7 +77,7 @@ iface_in_range format t i e =
     (text_at usable_address_of key.Address t) (number_at key.Queue QUEUE t)
     (some_number_at key.QueueOctets QUEUE_OCTETS t) i e in
     let within = required-within QUEUE.least QUEUE.greatest i.queue (value_at key.Queue t) read.0 in
-    (within.1, some-within QUEUE_OCTETS.least QUEUE_OCTETS.greatest (value_at key.QueueOctets t) i.queue_octets read.1)
+    (within, some-within QUEUE_OCTETS (value_at key.QueueOctets t) i.queue_octets read.1)
 
 link-read : (known : Result Unit Refusal) (a b : Result (List ℕ) Refusal) (rate delay : Result ℕ Refusal) (l : LinkTableValue) → (known >>= λ k. a >>= λ x. b >>= λ y. rate >>= λ r. delay >>= λ d. Ok (record { a = x; b = y; rate = r; delay = d })) ≡ Ok l → (rate ≡ Ok l.rate) × (delay ≡ Ok l.delay)
 link-read (Ok k) (Ok x) (Ok y) (Ok r) (Ok d) l e = (cc, cc)
@@ -94,7 +95,7 @@ link_in_range t l e =
     (number_at key.Rate RATE t) (number_at key.Delay DELAY t) l e in
     let rate = required-within RATE.least RATE.greatest l.rate (value_at key.Rate t) read.0 in
     let delay = required-within DELAY.least DELAY.greatest l.delay (value_at key.Delay t) read.1 in
-    (rate.0, rate.1, delay.1)
+    (rate, delay)
 
 -- what the steps of reading a document gave
 record DocumentRead (format : Format) (stop mtu : Result ℕ Refusal) (nodes : Result (List NodeTableValue) Refusal) (ifaces : Format → Result (List IfaceTableValue) Refusal) (links : Result (List LinkTableValue) Refusal) (sources : ℕ → Result (List SourceTableValue) Refusal) (d : DocumentValue) : Type 0 where
@@ -145,13 +146,11 @@ document_in_range t d e =
     let fit = optional-holds (λ s. FitsNamedTraffic d.mtu s.traffic) is_table (array_limit array.Source) (in_table (source_table_of d.mtu))
     (in_table-holds (λ s. FitsNamedTraffic d.mtu s.traffic) (source_table_of d.mtu) (source-fits d.mtu room)) (value_at key.Source t) d.sources read.sources_are in
     record {
-      least_stop = stop.0;
-      greatest_stop = stop.1;
-      least_mtu = mtu.0;
-      greatest_mtu = mtu.1;
+      stop = stop;
+      mtu = mtu;
       nodes = nodes.0;
-      ifaces = All-weaker IsQueued (λ i. i.queue ≤ MAX_QUEUE) (λ i h. h.0) d.ifaces ifaces.0;
-      queue_octets = All-weaker IsQueued (λ i. IfSome i.queue_octets (λ n. n ≤ MAX_QUEUE_OCTETS)) (λ i h. h.1) d.ifaces ifaces.0;
+      ifaces = All-weaker IsQueued (λ i. IsInBounds QUEUE i.queue) (λ i h. h.0) d.ifaces ifaces.0;
+      queue_octets = All-weaker IsQueued (λ i. IfSome i.queue_octets (IsInBounds QUEUE_OCTETS)) (λ i h. h.1) d.ifaces ifaces.0;
       links = links.0;
       sources = fit.0;
     }

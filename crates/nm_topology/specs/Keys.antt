@@ -1,5 +1,5 @@
 -- The keys of a topology text, as they stand in one, and its arrays of tables.
-use Rattle.std.specs.Prelude.{ℕ, ◌-◌, List, [], ◌∷◌, codes, map}
+use Rattle.std.specs.Prelude.{ℕ, ◌-◌, ◌≤◌, List, [], ◌∷◌, codes, map}
 use Rattle.nm_base.specs.declared.limits.TheConstants.{MAX_IFACES, MAX_LINKS, MAX_NODES, MAX_ROUTES, MAX_SOURCES, MAX_TIME}
 use Rattle.nm_topology.specs.declared.keys.array.Array.{Array}
 use Rattle.nm_topology.specs.declared.keys.array.Array.TheVariants as array
@@ -63,6 +63,10 @@ array_limit array.Source = MAX_SOURCES
 -- the keys of these fields, as they stand in a text
 abbrev pub keys_of : List Field → List (List ℕ)
 keys_of fields = map (λ f. key_text f.key) fields
+
+-- a number within the bounds of its key
+abbrev pub IsInBounds : Bounds → ℕ → Type 0
+IsInBounds b n = (b.least ≤ n) × (n ≤ b.greatest)
 
 -- octets of data of a source's packet: what two headers leave of the mtu
 abbrev pub size_under : ℕ → Bounds

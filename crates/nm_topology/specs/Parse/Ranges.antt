@@ -1,16 +1,19 @@
 -- The ranges of what a topology text says, with names in place of numbers.
 use Rattle.std.specs.Prelude.{ℕ, ◌≤◌, All, length, IfSome}
-use Rattle.nm_base.specs.declared.limits.TheConstants.{MAX_DELAY, MAX_MTU, MAX_PORTS_OF_NODE, MAX_QUEUE, MAX_QUEUE_OCTETS, MAX_RATE, MAX_TIME, MIN_MTU, MIN_RATE}
+use Rattle.nm_base.specs.declared.limits.TheConstants.{MAX_PORTS_OF_NODE}
+use Rattle.nm_topology.specs.declared.keys.fields.TheConstants.{DELAY, MTU, QUEUE, QUEUE_OCTETS}
+use Rattle.nm_topology.specs.declared.keys.fields.TheConstants.{RATE, STOP}
 use Rattle.nm_topology.specs.declared.parse.sources.NamedTraffic.{NamedTraffic}
 use Rattle.nm_topology.specs.declared.parse.sources.NamedTraffic.TheVariants.{Cbr as NamedCbr}
 use Rattle.nm_topology.specs.declared.parse.sources.NamedTraffic.TheVariants.{Echo as NamedEcho}
 use Rattle.nm_topology.specs.declared.parse.sources.NamedTraffic.TheVariants.{Raw as NamedRaw}
 use Rattle.nm_topology.specs.Parse.TableValues.{LinkTableValue}
 use Rattle.nm_topology.specs.Parse.DocumentValue.{DocumentValue}
+use Rattle.nm_topology.specs.Keys.{IsInBounds}
 use Rattle.nm_topology.specs.Limits.{FitsFlow, FitsPackets}
 
 abbrev pub IsLinkInRange : LinkTableValue → Type 0
-IsLinkInRange l = (MIN_RATE ≤ l.rate) × (l.rate ≤ MAX_RATE) × (l.delay ≤ MAX_DELAY)
+IsLinkInRange l = IsInBounds RATE l.rate × IsInBounds DELAY l.delay
 
 unfoldable pub FitsNamedTraffic : ℕ → NamedTraffic → Type 0
 FitsNamedTraffic mtu (NamedCbr c) = FitsFlow mtu c.flow
@@ -19,12 +22,10 @@ FitsNamedTraffic mtu (NamedRaw r) =
     FitsPackets mtu r.packets × All (λ p. 1 ≤ length p.packet) r.packets
 
 pub record IsInRange (d : DocumentValue) : Type 0 where
-  pub least_stop : 1 ≤ d.stop
-  pub greatest_stop : d.stop ≤ MAX_TIME
-  pub least_mtu : MIN_MTU ≤ d.mtu
-  pub greatest_mtu : d.mtu ≤ MAX_MTU
+  pub stop : IsInBounds STOP d.stop
+  pub mtu : IsInBounds MTU d.mtu
   pub nodes : All (λ n. length n.ports ≤ MAX_PORTS_OF_NODE) d.nodes
-  pub ifaces : All (λ i. i.queue ≤ MAX_QUEUE) d.ifaces
-  pub queue_octets : All (λ i. IfSome i.queue_octets (λ n. n ≤ MAX_QUEUE_OCTETS)) d.ifaces
+  pub ifaces : All (λ i. IsInBounds QUEUE i.queue) d.ifaces
+  pub queue_octets : All (λ i. IfSome i.queue_octets (IsInBounds QUEUE_OCTETS)) d.ifaces
   pub links : All IsLinkInRange d.links
   pub sources : All (λ s. FitsNamedTraffic d.mtu s.traffic) d.sources

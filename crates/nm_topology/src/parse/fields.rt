@@ -1,12 +1,12 @@
 //! Fields of a table, each read by its key.
 
-ghost use Rattle.std.specs.Prelude.{◌≡◌, ◌≤◌, IfOk, option_map, string_bytes};
+ghost use Rattle.std.specs.Prelude.{◌≡◌, IfOk, option_map, string_bytes};
 ghost use Rattle.std.specs.List.{list_all, list_any};
 ghost use Rattle.std.specs.Str.{bytes_eq};
 ghost use Rattle.std.specs.BTreeMap.{keys};
 ghost use Rattle.toml.specs.View.{table_view, view};
 ghost use Rattle.nm_topology.specs.Fault.{Gives};
-ghost use Rattle.nm_topology.specs.Keys.{keys_of};
+ghost use Rattle.nm_topology.specs.Keys.{IsInBounds, keys_of};
 ghost use Rattle.nm_topology.specs.Parse.Fields.{number_at, number_in, number_or, only, plain_text};
 ghost use Rattle.nm_topology.specs.Parse.Fields.{required, text_at, value_at};
 ghost use Rattle.nm_topology.specs.Parse.Forms.{name_of, node_kind_of, usable_address_of};
@@ -31,7 +31,7 @@ pub fn field<'a>(table: &'a Table, key: TableKey) -> Option<&'a Value>
 
 /// A whole number within bounds.
 pub fn number(value: &Value, bounds: Bounds) -> Result<u64, TopoFault>
-    ensures within { IfOk result (λ n. (bounds.least ≤ n) × (n ≤ bounds.greatest)) }
+    ensures within { IfOk result (IsInBounds bounds) }
     ensures value { Gives (λ n. n) result
         (number_in bounds.least bounds.greatest (view value.now)) }
 {
@@ -46,7 +46,7 @@ pub fn number(value: &Value, bounds: Bounds) -> Result<u64, TopoFault>
 
 /// A required whole number.
 pub fn required_number(table: &Table, key: TableKey, bounds: Bounds) -> Result<u64, TopoFault>
-    ensures within { IfOk result (λ n. (bounds.least ≤ n) × (n ≤ bounds.greatest)) }
+    ensures within { IfOk result (IsInBounds bounds) }
     ensures value { Gives (λ n. n) result (number_at key bounds (table_view table.now)) }
 {
     match field(table, key) {
@@ -62,8 +62,8 @@ pub fn optional_number(
     bounds: Bounds,
     absent: u64,
 ) -> Result<u64, TopoFault>
-    requires { (bounds.least ≤ absent) × (absent ≤ bounds.greatest) }
-    ensures within { IfOk result (λ n. (bounds.least ≤ n) × (n ≤ bounds.greatest)) }
+    requires { IsInBounds bounds absent }
+    ensures within { IfOk result (IsInBounds bounds) }
     ensures value { Gives (λ n. n) result (number_or absent key bounds (table_view table.now)) }
 {
     match field(table, key) {
