@@ -1,7 +1,7 @@
 -- A document is refused where `find_in` says, and for what is refused there.
 use Rattle.std.proofs.Common.{◌≡◌, ℕ, Bool, true, false, List, [], ◌∷◌, Option, Some, None}
 use Rattle.std.proofs.Common.{Result, Ok, Err, refl, sym, ap, ◌∙◌, subst, map}
-use Rattle.std.specs.Prelude.{codes, if◌then◌else◌, unwrap_or, ◌==◌}
+use Rattle.std.specs.Prelude.{if◌then◌else◌, unwrap_or, ◌==◌}
 use Rattle.std.specs.Result.{result_ok}
 use Rattle.toml.specs.Data.{Data, Members, get_member}
 use Rattle.nm_topology.specs.declared.fault.Refusal.{Refusal}

@@ -1,5 +1,5 @@
 -- The fields of each kind of table are refused as its reader refuses it.
-use Rattle.std.proofs.Common.{◌≡◌, ℕ, Bool, true, false, List, drop, ◌∷◌, [], Option, None, Some, Result}
+use Rattle.std.proofs.Common.{◌≡◌, Bool, true, false, List, drop, [], Option, None, Some, Result}
 use Rattle.std.proofs.Common.{Ok, Err, refl, sym, ap, ◌∙◌}
 use Rattle.std.specs.Prelude.{codes, if◌then◌else◌}
 use Rattle.std.specs.Str.{bytes_eq}

@@ -1,5 +1,5 @@
 -- Where in the tables of a topology text its first fault lies.
-use Rattle.std.specs.Prelude.{◌≡◌, ◌⊎◌, false, ℕ, if◌then◌else◌, List, [], ◌∷◌, Option, Some, None}
+use Rattle.std.specs.Prelude.{◌≡◌, ◌⊎◌, false, ℕ, if◌then◌else◌, List, Option, Some, None}
 use Rattle.std.specs.Prelude.{Result, Ok, Err, codes, ◌==◌, ◌&&◌, nat_le, unwrap_or}
 use Rattle.std.specs.Result.{result_ok}
 use Rattle.std.specs.Str.{bytes_eq}

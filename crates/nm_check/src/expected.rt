@@ -3,7 +3,7 @@
 use nm_base::limits::{MAX_PORTS_OF_NODE, MAX_RAW_PACKETS};
 use nm_topology::keys::field::{Bounds, Form};
 use nm_topology::keys::fields::{PORT, size_under};
-use nm_topology::parse::forms::{address_of, length_of};
+use nm_topology::parse::forms::{MAX_NAME, address_of, length_of};
 use nm_topology::parse::head::Head;
 use toml::Value;
 
@@ -53,7 +53,7 @@ pub fn limit_of(form: Form) -> usize {
 pub fn form_fault(form: Form, text: &str) -> &'static str {
     match form {
         Form::Name if text.is_empty() => "but a name has a character at least",
-        Form::Name if text.len() > 32 => "but a name has at most 32 characters",
+        Form::Name if text.len() > MAX_NAME => "but a name has at most 32 characters",
         Form::Name => "but a name is of a to z, 0 to 9 and hyphen, and begins with no hyphen",
         Form::Address if address_of(text.as_bytes()).is_some() => {
             "but no address begins with 0, 127 or 224 to 255"

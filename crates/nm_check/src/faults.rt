@@ -4,8 +4,6 @@
 //! (`place::find`). The others are found by the same look at one member of an array
 //! (`place::place_of_member`); that all are told is tested.
 
-ghost use Rattle.std.specs.Prelude.{◌≤◌, IfOk};
-
 use crate::line::{table_line, top_line};
 use crate::place::{FaultPlace, Found, any_head, fields_of, place_of_member};
 use crate::sentence::{member, push_found, unknown_key};
@@ -96,9 +94,7 @@ fn push_fault(
     text: &str,
     top: &Table,
     found: Found,
-) -> Result<(), AllocError>
-    requires { 28 ≤ found.head.mtu }
-{
+) -> Result<(), AllocError> {
     let line = line_of(text, top, &found)?;
     push_line(out, line)?;
     push_found(alloc, out, top, found)
@@ -124,9 +120,7 @@ fn push_other(
     top: &Table,
     found: Found,
     count: usize,
-) -> Result<usize, AllocError>
-    requires { 28 ≤ found.head.mtu }
-{
+) -> Result<usize, AllocError> {
     if count < MAX_FAULTS {
         out.push(b'\n')?;
         push_fault(alloc, out, text, top, found)?;
@@ -144,9 +138,7 @@ fn push_array(
     array: Array,
     first: &FaultPlace,
     count: usize,
-) -> Result<usize, AllocError>
-    requires { 28 ≤ head.mtu }
-{
+) -> Result<usize, AllocError> {
     let Some(Value::Array(items)) = field(top, array.key()) else {
         return Ok(count);
     };
@@ -189,9 +181,7 @@ pub fn push_faults(
     text: &str,
     top: &Table,
     found: Found,
-) -> Result<(), AllocError>
-    requires { 28 ≤ found.head.mtu }
-{
+) -> Result<(), AllocError> {
     let first = found.place;
     push_fault(alloc, out, text, top, found)?;
     let count = push_others(alloc, out, text, top, &first)?;

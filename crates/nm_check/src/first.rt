@@ -1,6 +1,6 @@
 //! The first that is refused: of the fields of a table, and of the tables of an array.
 
-ghost use Rattle.std.specs.Prelude.{◌≡◌, ◌≤◌, IfOk, not};
+ghost use Rattle.std.specs.Prelude.{◌≡◌, IfOk, not};
 ghost use Rattle.toml.specs.View.{items_view, table_view};
 ghost use Rattle.nm_topology.specs.Parse.Fields.{all_among};
 ghost use Rattle.nm_check.specs.Reading.{first_fault, outcome, spot_in};
@@ -24,7 +24,6 @@ pub fn first_fault(
     table: &Table,
     fields: &[Field],
 ) -> Result<Option<FieldFault>, AllocError>
-    requires { 28 ≤ head.mtu }
     ensures { IfOk result
         (λ found. found ≡ first_fault head (table_view table.now) fields.now) }
 {
@@ -61,7 +60,6 @@ pub fn spot_in(
     table: &Table,
     fields: &[Field],
 ) -> Result<Option<Spot>, AllocError>
-    requires { 28 ≤ head.mtu }
     ensures { IfOk result (λ found. found ≡ spot_in head fields.now (table_view table.now)) }
 {
     if has_unknown(table, fields)? {
@@ -86,7 +84,6 @@ pub fn first_member<T: Element>(
     head: Head,
     items: &[Value],
 ) -> Result<Option<MemberFault>, AllocError>
-    requires { 28 ≤ head.mtu }
     ensures { IfOk result (λ found.
         found ≡ first_from (λ d. outcome (T.reads head d)) 0 (items_view items.now)) }
 {

@@ -4,11 +4,8 @@ use crate::words::{Piece, push};
 use nm_packet::Address;
 use nm_topology::keys::field::{Field, Form};
 use nm_topology::keys::key::TableKey;
-use nm_topology::parse::forms::{address_of, is_name, length_of};
+use nm_topology::parse::forms::{MAX_NAME, address_of, is_name, length_of};
 use std::alloc::AllocError;
-
-/// The longest name, in octets.
-const MAX_NAME: usize = 32;
 
 /// What a character of a name would be: a small letter, a digit, or else a hyphen.
 fn name_character(octet: u8) -> u8 {

@@ -5,13 +5,11 @@ use crate::words::{Piece, push};
 use nm_base::Time;
 use nm_base::limits::MAX_RATE;
 use nm_iface::transmission::transmission_time;
+use nm_topology::keys::fields::HEADERS;
 use nm_topology::parts::Far;
 use nm_topology::traffic::{Flow, RawPacket, Traffic};
 use nm_topology::{NodeKind, Topology};
 use std::alloc::{AllocError, Global};
-
-/// Octets of the IPv4 header and of the UDP or ICMP header of a source's packet.
-const HEADERS: u64 = 28;
 
 /// Packets, and their octets.
 #[derive(Clone, Copy)]
@@ -50,7 +48,7 @@ fn with_packets(load: Load, packets: &[RawPacket], stop: Time) -> Load {
 
 /// What a flow adds before the end of the simulation.
 fn with_flow(load: Load, flow: Flow, stop: Time) -> Load {
-    let octets = flow.size as u64 + HEADERS;
+    let octets = flow.size as u64 + HEADERS as u64;
     load.and(packets_before(flow, stop), octets)
 }
 

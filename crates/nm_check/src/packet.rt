@@ -1,7 +1,5 @@
 //! The first packet of a raw source that is refused.
 
-ghost use Rattle.std.specs.Prelude.{◌≤◌};
-
 use crate::first::spot_in;
 use crate::spot::Spot;
 use nm_topology::keys::fields::{packet_table, time_from};
@@ -24,9 +22,7 @@ pub fn first_packet(
     alloc: Global,
     head: Head,
     items: &[Value],
-) -> Result<Option<PacketFault>, AllocError>
-    requires { 28 ≤ head.mtu }
-{
+) -> Result<Option<PacketFault>, AllocError> {
     let mut least = 0;
     for (number, item) in items.iter().enumerate() {
         let Value::Table(table) = item else {

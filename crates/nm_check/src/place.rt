@@ -139,7 +139,6 @@ pub fn fields_of(head: Head, array: Array, table: &Table) -> Result<&'static [Fi
 
 /// Where a table of `source` is refused: at its kind, before all else.
 fn source_spot(alloc: Global, head: Head, table: &Table) -> Result<Option<Spot>, AllocError>
-    requires { 28 ≤ head.mtu }
     ensures { IfOk result (λ found. found ≡ source_spot head (table_view table.now)) }
 {
     if let Some(fault) = first_fault(alloc, head, table, &KIND_OF_SOURCE)? {
@@ -156,7 +155,6 @@ fn spot_of(
     array: Array,
     table: &Table,
 ) -> Result<Option<Spot>, AllocError>
-    requires { 28 ≤ head.mtu }
     ensures { IfOk result (λ found. found ≡ spot_of head array (table_view table.now)) }
 {
     if let Array::Source = array {
@@ -173,7 +171,6 @@ fn first_table(
     array: Array,
     items: &[Value],
 ) -> Result<Option<MemberFault>, AllocError>
-    requires { 28 ≤ head.mtu }
     ensures { IfOk result (λ found.
         found ≡ first_from (item_of head array) 0 (items_view items.now)) }
 {
@@ -194,7 +191,6 @@ pub fn place_of_member(
     number: usize,
     value: &Value,
 ) -> Result<Option<FaultPlace>, AllocError>
-    requires { 28 ≤ head.mtu }
     ensures { IfOk result (λ found. found ≡ place_at head array number (Some (view value.now))) }
 {
     let Value::Table(table) = value else {
@@ -218,7 +214,6 @@ fn place_at(
     items: &[Value],
     number: usize,
 ) -> Result<Option<FaultPlace>, AllocError>
-    requires { 28 ≤ head.mtu }
     ensures { IfOk result (λ found. found
         ≡ place_at head array number (get_item number (items_view items.now))) }
 {
@@ -236,7 +231,6 @@ fn place_in_array(
     array: Array,
     items: &[Value],
 ) -> Result<Option<FaultPlace>, AllocError>
-    requires { 28 ≤ head.mtu }
     ensures { IfOk result (λ found. found ≡ place_in_array head array (items_view items.now)) }
 {
     if !all_fit::<NodeTable>(items) || items.len() > array.limit() {
@@ -255,7 +249,6 @@ fn place_in_field(
     table: &Table,
     wanted: Field,
 ) -> Result<Option<FaultPlace>, AllocError>
-    requires { 28 ≤ head.mtu }
     ensures { IfOk result (λ found. found ≡ place_in_field head (table_view table.now) wanted) }
 {
     let Form::Tables(array) = wanted.form else {
@@ -274,7 +267,6 @@ fn place_of(
     table: &Table,
     fault: FieldFault,
 ) -> Result<FaultPlace, AllocError>
-    requires { 28 ≤ head.mtu }
     ensures { IfOk result (λ found. found ≡ place_of head (table_view table.now) fault) }
 {
     match place_in_field(alloc, head, table, fault.field)? {

@@ -1,7 +1,7 @@
 //! Whether what stands behind a key is refused, by the readers of `nm_topology`. What they give is
 //! let go.
 
-ghost use Rattle.std.specs.Prelude.{◌≡◌, ◌≤◌, []};
+ghost use Rattle.std.specs.Prelude.{[]};
 ghost use Rattle.nm_base.specs.declared.limits.TheConstants.{MAX_PORTS_OF_NODE};
 ghost use Rattle.toml.specs.View.{table_view};
 ghost use Rattle.nm_topology.specs.declared.keys.fields.TheConstants.{PORT};
@@ -37,7 +37,6 @@ fn read_tables(
     key: TableKey,
     array: Array,
 ) -> Result<(), TopoFault>
-    requires { 28 ≤ head.mtu }
     ensures { Gives (λ u. u) result (tables_of head array (value_at key (table_view table.now))) }
 {
     let limit = array.limit();
@@ -63,7 +62,6 @@ fn read_tables(
 
 /// Reads the ports of a node.
 fn read_ports(alloc: Global, head: Head, table: &Table, key: TableKey) -> Result<(), TopoFault>
-    requires { 28 ≤ head.mtu }
     ensures { Gives (λ u. u) result
         (outcome (optional []
         (array_of is_integer MAX_PORTS_OF_NODE (number_in PORT.least PORT.greatest))
@@ -88,7 +86,6 @@ fn read_optional_number(table: &Table, key: TableKey, bounds: Bounds) -> Result<
 
 /// Reads a field of a table, in a text with this head.
 pub fn read_field(alloc: Global, head: Head, table: &Table, wanted: Field) -> Result<(), TopoFault>
-    requires { 28 ≤ head.mtu }
     ensures { Gives (λ u. u) result (field_of head (table_view table.now) wanted) }
 {
     let key = wanted.key;

@@ -1,7 +1,5 @@
 //! What is wrong in a table, and where, as a sentence.
 
-ghost use Rattle.std.specs.Prelude.{◌≤◌};
-
 use crate::field_sentence::push_field_fault;
 use crate::nearest::nearest;
 use crate::packet::first_packet;
@@ -117,9 +115,7 @@ fn push_packets_fault(
     head: Head,
     table: &Table,
     fault: FieldFault,
-) -> Result<(), AllocError>
-    requires { 28 ≤ head.mtu }
-{
+) -> Result<(), AllocError> {
     let Some(Value::Array(items)) = field(table, TableKey::Packet) else {
         return push_field_fault(out, head, table, fault);
     };
@@ -151,9 +147,7 @@ fn push_table_fault(
     array: Array,
     table: &Table,
     spot: Spot,
-) -> Result<(), AllocError>
-    requires { 28 ≤ head.mtu }
-{
+) -> Result<(), AllocError> {
     match spot {
         Spot::Unknown => { push_unknown(alloc, out, table, fields_of(head, array, table)?) }
         Spot::Field(fault) => match fault.field.form {
@@ -169,9 +163,7 @@ pub fn push_found(
     out: &mut Vec<u8>,
     top: &Table,
     found: Found,
-) -> Result<(), AllocError>
-    requires { 28 ≤ found.head.mtu }
-{
+) -> Result<(), AllocError> {
     match found.place {
         FaultPlace::Top(spot) => {
             push(out, &[Piece::Text("top: ")])?;

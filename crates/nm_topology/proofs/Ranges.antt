@@ -1,5 +1,5 @@
 -- What is read from a text is in range.
-use Rattle.std.proofs.Common.{◌≡◌, ℕ, ◌≤◌, List, [], ◌∷◌, length, Option, Some, None, IfSome}
+use Rattle.std.proofs.Common.{◌≡◌, ℕ, ◌≤◌, List, [], length, Option, Some, None, IfSome}
 use Rattle.std.proofs.Common.{Result, Ok, Err, subst, arith}
 use Rattle.toml.specs.Data.{Data, Members}
 use Rattle.nm_base.specs.declared.limits.TheConstants.{MAX_PORTS_OF_NODE}

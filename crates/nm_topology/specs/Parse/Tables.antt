@@ -1,5 +1,5 @@
 -- The tables of a topology text: for each its keys in order, and what is read at each.
-use Rattle.std.specs.Prelude.{ℕ, List, [], None, Result, Ok}
+use Rattle.std.specs.Prelude.{ℕ, List, [], Result, Ok}
 use Rattle.toml.specs.Data.{Members}
 use Rattle.nm_base.specs.declared.limits.TheConstants.{MAX_PORTS_OF_NODE}
 use Rattle.nm_topology.specs.declared.fault.Refusal.{Refusal}

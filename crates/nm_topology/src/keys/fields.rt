@@ -8,8 +8,8 @@ use crate::keys::array::Array;
 use crate::keys::field::{Bounds, Field, Form};
 use crate::keys::key::TableKey;
 use nm_base::limits::{
-    MAX_COUNT, MAX_DELAY, MAX_INTERVAL, MAX_MTU, MAX_QUEUE, MAX_QUEUE_OCTETS, MAX_RATE, MAX_TIME,
-    MIN_MTU, MIN_RATE,
+    MAX_COUNT, MAX_DELAY, MAX_INTERVAL, MAX_MTU, MAX_PARTITION, MAX_QUEUE, MAX_QUEUE_OCTETS,
+    MAX_RATE, MAX_TIME, MIN_MTU, MIN_RATE,
 };
 
 /// A field: its key, and what stands behind it. (A constant can call no function.)
@@ -37,7 +37,7 @@ pub const STOP: Bounds = within!(1, MAX_TIME);
 
 pub const MTU: Bounds = within!(MIN_MTU, MAX_MTU);
 
-pub const PARTITION: Bounds = within!(0, 63);
+pub const PARTITION: Bounds = within!(0, MAX_PARTITION);
 
 pub const PORT: Bounds = within!(0, 65_535);
 
@@ -62,7 +62,7 @@ pub const COUNT: Bounds = within!(0, MAX_COUNT);
 pub const TTL: Bounds = within!(1, 255);
 
 /// Octets of an IPv4 header and a UDP or ICMP header.
-const HEADERS: u16 = 28;
+pub const HEADERS: u16 = 28;
 
 /// Octets of data of a source's packet: what two headers leave of the mtu.
 pub fn size_under(mtu: u16) -> Bounds

@@ -34,9 +34,8 @@ pub trait Element: Member {
     // What a value is read to, in a text with this head.
     ghost reads: { HeadValue → Data → Result Self RefusalValue };
 
-    /// Reads a member of a text with this head, whose mtu leaves room for headers.
+    /// Reads a member of a text with this head.
     fn read(alloc: Global, head: Head, value: &Value) -> Result<Self, TopoFault>
-        requires { 28 ≤ head.mtu }
         ensures { Gives (λ x. x) result (reads head (view value.now)) };
 }
 
@@ -45,9 +44,8 @@ pub trait FromTable: Drop {
     // What a table is read to, in a text with this head.
     ghost of_table: { HeadValue → Members → Result Self RefusalValue };
 
-    /// Reads a table of a text with this head, whose mtu leaves room for headers.
+    /// Reads a table of a text with this head.
     fn from_table(alloc: Global, head: Head, table: &Table) -> Result<Self, TopoFault>
-        requires { 28 ≤ head.mtu }
         ensures { Gives (λ x. x) result (of_table head (table_view table.now)) };
 }
 
@@ -78,7 +76,6 @@ pub fn optional_array<T: Element>(
     key: TableKey,
     limit: usize,
 ) -> Result<Vec<T>, TopoFault>
-    requires { 28 ≤ head.mtu }
     ensures count { IfOk result (λ v. length v.items ≤ limit) }
     ensures value { Gives (λ v. v.items) result
         (optional [] (array_of T.has_type limit (T.reads head))
@@ -97,7 +94,6 @@ pub fn tables<T: FromTable>(
     table: &Table,
     array: Array,
 ) -> Result<Vec<T>, TopoFault>
-    requires { 28 ≤ head.mtu }
     ensures count { IfOk result (λ v. length v.items ≤ array_limit array) }
     ensures value { Gives (λ v. v.items) result
         (tables_at (T.of_table head) array (table_view table.now)) }
@@ -112,7 +108,6 @@ fn array<T: Element>(
     limit: usize,
     value: &Value,
 ) -> Result<Vec<T>, TopoFault>
-    requires { 28 ≤ head.mtu }
     ensures count { IfOk result (λ v. length v.items ≤ limit) }
     ensures value { Gives (λ v. v.items) result
         (array_of T.has_type limit (T.reads head) (view value.now)) }
@@ -130,7 +125,6 @@ fn members<T: Element>(
     limit: usize,
     items: &[Value],
 ) -> Result<Vec<T>, TopoFault>
-    requires { 28 ≤ head.mtu }
     ensures count { IfOk result (λ v. length v.items ≤ limit) }
     ensures value { Gives (λ v. v.items) result
         (members_of T.has_type limit (T.reads head) (items_view items.now)) }
@@ -156,7 +150,6 @@ pub fn all_fit<T: Member>(items: &[Value]) -> bool
 }
 
 fn each<T: Element>(alloc: Global, head: Head, items: &[Value]) -> Result<Vec<T>, TopoFault>
-    requires { 28 ≤ head.mtu }
     ensures count { IfOk result (λ v. length v.items ≡ length items.now) }
     ensures value { Gives (λ v. v.items) result (each (T.reads head) (items_view items.now)) }
 {

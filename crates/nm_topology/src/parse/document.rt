@@ -59,7 +59,6 @@ impl Model for Document {
 /// Reads the arrays of tables of a text with this head that stops then.
 #[tactic(auto, unfolding(crate::specs::Parse::Document::with_tables))]
 fn read_tables(alloc: Global, head: Head, stop: Time, table: &Table) -> Result<Document, TopoFault>
-    requires { 28 ≤ head.mtu }
     ensures { Gives (λ x. x) result (with_tables head stop (table_view table.now)) }
 {
     let nodes = tables(alloc, head, table, Array::Node)?;

@@ -11,7 +11,7 @@ use itoa::Buffer;
 use nm_packet::Address;
 
 /// The greatest number of characters of a name.
-const MAX_NAME: usize = 32;
+pub const MAX_NAME: usize = 32;
 
 fn is_name_character(c: u8) -> bool
     ensures { result ≡ is_name_character c }

@@ -179,7 +179,6 @@ fn some_packets(alloc: Global, mtu: u16, items: &[Value]) -> Result<Vec<RawPacke
 
 #[tactic(auto, unfolding(crate::specs::Parse::Sources::flow_of))]
 fn flow(mtu: u16, table: &Table) -> Result<Flow, TopoFault>
-    requires { 28 ≤ mtu }
     ensures { Gives (λ x. x) result (flow_of mtu (table_view table.now)) }
 {
     let size = required_number(table, TableKey::Size, size_under(mtu))?;
@@ -200,7 +199,6 @@ fn flow(mtu: u16, table: &Table) -> Result<Flow, TopoFault>
 
 #[tactic(auto, unfolding(crate::specs::Parse::Sources::cbr_of))]
 fn cbr_table(alloc: Global, mtu: u16, table: &Table) -> Result<SourceTable, TopoFault>
-    requires { 28 ≤ mtu }
     ensures { Gives (λ x. x) result (cbr_of mtu (table_view table.now)) }
 {
     only(table, &CBR_TABLE)?;
@@ -222,7 +220,6 @@ fn cbr_table(alloc: Global, mtu: u16, table: &Table) -> Result<SourceTable, Topo
 
 #[tactic(auto, unfolding(crate::specs::Parse::Sources::echo_of))]
 fn echo_table(alloc: Global, mtu: u16, table: &Table) -> Result<SourceTable, TopoFault>
-    requires { 28 ≤ mtu }
     ensures { Gives (λ x. x) result (echo_of mtu (table_view table.now)) }
 {
     only(table, &ECHO_TABLE)?;
@@ -277,7 +274,6 @@ pub fn required_source_kind(table: &Table, key: TableKey) -> Result<SourceKind, 
 /// A table of `source`.
 #[tactic(auto, unfolding(crate::specs::Parse::Sources::source_table_of))]
 fn source_table(alloc: Global, mtu: u16, table: &Table) -> Result<SourceTable, TopoFault>
-    requires { 28 ≤ mtu }
     ensures { Gives (λ x. x) result (source_table_of mtu (table_view table.now)) }
 {
     match required_source_kind(table, TableKey::Kind)? {

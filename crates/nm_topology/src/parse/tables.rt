@@ -41,11 +41,12 @@ pub struct NodeTable {
 
 impl Model for NodeTable {
     ghost use Rattle.std.specs.Prelude.{◌≤◌, string_bytes};
+    ghost use Rattle.nm_base.specs.declared.limits.TheConstants.{MAX_PARTITION};
     ghost use Rattle.nm_topology.specs.Parse.TableValues.{NodeTableValue};
 
     ghost Value = { NodeTableValue };
 
-    ghost invariant = { λ r. r.partition ≤ 63 };
+    ghost invariant = { λ r. r.partition ≤ MAX_PARTITION };
 
     ghost view = { λ r. record {
       name = string_bytes r.name;
@@ -226,7 +227,6 @@ impl Element for u16 {
 
 #[tactic(auto, unfolding(crate::specs::Parse::Tables::node_table_of))]
 fn node_table(alloc: Global, head: Head, table: &Table) -> Result<NodeTable, TopoFault>
-    requires { 28 ≤ head.mtu }
     ensures { Gives (λ x. x) result (node_table_of (table_view table.now)) }
 {
     only(table, &NODE_TABLE)?;
