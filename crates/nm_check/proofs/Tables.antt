@@ -1,9 +1,8 @@
 -- The fields of each kind of table are refused as its reader refuses it.
-use Rattle.std.proofs.Common.{◌≡◌, Bool, true, false, List, drop, [], Option, None, Some, Result}
+use Rattle.std.proofs.Common.{◌≡◌, Bool, true, List, drop, [], None, Result}
 use Rattle.std.proofs.Common.{Ok, Err, refl, sym, ap, ◌∙◌}
 use Rattle.std.specs.Prelude.{codes, if◌then◌else◌}
-use Rattle.std.specs.Str.{bytes_eq}
-use Rattle.toml.specs.Data.{Data, Members, get_member, string, table}
+use Rattle.toml.specs.Data.{Members, table}
 use Rattle.nm_base.specs.declared.limits.TheConstants.{MAX_PORTS_OF_NODE}
 use Rattle.nm_topology.specs.declared.fault.Refusal.{Refusal}
 use Rattle.nm_topology.specs.declared.fault.Refusal.TheVariants.{UnknownKey}
@@ -13,12 +12,16 @@ use Rattle.nm_topology.specs.declared.parse.head.Head.{Head}
 use Rattle.nm_topology.specs.declared.parse.sources.NamedTraffic.TheVariants.{Cbr as NamedCbr}
 use Rattle.nm_topology.specs.declared.parse.sources.NamedTraffic.TheVariants.{Echo as NamedEcho}
 use Rattle.nm_topology.specs.declared.parse.sources.NamedTraffic.TheVariants.{Raw as NamedRaw}
+use Rattle.nm_topology.specs.declared.parse.sources.SourceKind.{SourceKind}
+use Rattle.nm_topology.specs.declared.parse.sources.SourceKind.TheVariants.{Cbr as CbrKind}
+use Rattle.nm_topology.specs.declared.parse.sources.SourceKind.TheVariants.{Echo as EchoKind}
+use Rattle.nm_topology.specs.declared.parse.sources.SourceKind.TheVariants.{Raw as RawKind}
 use Rattle.nm_topology.specs.declared.traffic.Flow.{Flow}
 use Rattle.nm_topology.specs.Fault.{◌>>=◌}
 use Rattle.nm_topology.specs.Parse.Arrays.{array_of, is_integer}
 use Rattle.nm_topology.specs.Keys.{keys_of, size_under}
-use Rattle.nm_topology.specs.Parse.Fields.{all_among, in_form, number_at, number_in, number_or}
-use Rattle.nm_topology.specs.Parse.Fields.{optional, plain_text, required, required_text}
+use Rattle.nm_topology.specs.Parse.Fields.{all_among, number_at, number_in, number_or}
+use Rattle.nm_topology.specs.Parse.Fields.{optional, required}
 use Rattle.nm_topology.specs.Parse.Fields.{some_number_at, some_number_in, text_at, value_at}
 use Rattle.nm_topology.specs.Parse.Forms.{name_of, node_kind_of, prefix_of, usable_address_of}
 use Rattle.nm_topology.specs.Parse.Sources.{cbr_of, echo_of, flow_of, packets_of, raw_of, source_by}
@@ -155,28 +158,15 @@ raw_table head t kind =
     ∙ spot-chain head t RAW_TABLE
 
 -- a source, by what stands at its kind
-by_kind : (head : Head) (t : Members) (v : Option Data) → get_member (codes "kind") t ≡ v → outcome (required_text source_kind_of v >>= λ kind. source_by kind head.mtu t) ≡ refused_at (or_spot (or_else source_kind (outcome (required_text source_kind_of v)) None) (spot_in head (fields_by_kind (required plain_text v)) t))
-by_kind head t None e = refl
-by_kind head t (Some (string s)) e = by_tests (bytes_eq s (codes "cbr")) refl (bytes_eq s (codes "echo")) refl (bytes_eq s (codes "raw")) refl
-  where
-    read : (a b c : Bool) → bytes_eq s (codes "cbr") ≡ a → bytes_eq s (codes "echo") ≡ b → bytes_eq s (codes "raw") ≡ c → outcome (text_at source_kind_of key.Kind t) ≡ outcome (in_form (if a then source_kind_of (codes "cbr") else (if b then source_kind_of (codes "echo") else (if c then source_kind_of (codes "raw") else None))))
-    read a b c ea eb ec =
-        ap (λ w. outcome (required_text source_kind_of w)) e
-        ∙ ap (λ (x : Bool). outcome (in_form (if x then source_kind_of (codes "cbr") else (if bytes_eq s (codes "echo") then source_kind_of (codes "echo") else (if bytes_eq s (codes "raw") then source_kind_of (codes "raw") else None))))) ea
-        ∙ ap (λ (x : Bool). outcome (in_form (if a then source_kind_of (codes "cbr") else (if x then source_kind_of (codes "echo") else (if bytes_eq s (codes "raw") then source_kind_of (codes "raw") else None))))) eb
-        ∙ ap (λ (x : Bool). outcome (in_form (if a then source_kind_of (codes "cbr") else (if b then source_kind_of (codes "echo") else (if x then source_kind_of (codes "raw") else None))))) ec
-
-    by_tests : (a : Bool) → bytes_eq s (codes "cbr") ≡ a → (b : Bool) → bytes_eq s (codes "echo") ≡ b → (c : Bool) → bytes_eq s (codes "raw") ≡ c
-        → outcome (in_form (if a then source_kind_of (codes "cbr") else (if b then source_kind_of (codes "echo") else (if c then source_kind_of (codes "raw") else None))) >>= λ kind. source_by kind head.mtu t) ≡ refused_at (or_spot (or_else source_kind (outcome (in_form (if a then source_kind_of (codes "cbr") else (if b then source_kind_of (codes "echo") else (if c then source_kind_of (codes "raw") else None))))) None) (spot_in head (if a then CBR_TABLE else (if b then ECHO_TABLE else RAW_TABLE)) t))
-    by_tests true ea b eb c ec = cbr_table head t (read true b c ea eb ec)
-    by_tests false ea true eb c ec = echo_table head t (read false true c ea eb ec)
-    by_tests false ea false eb true ec = raw_table head t (read false false true ea eb ec)
-    by_tests false ea false eb false ec = refl
-by_kind head t (Some _) e = refl
+by_kind : (head : Head) (t : Members) (r : Result SourceKind Refusal) → text_at source_kind_of key.Kind t ≡ r → outcome (r >>= λ kind. source_by kind head.mtu t) ≡ refused_at (or_spot (or_else source_kind (outcome r) None) (spot_in head (fields_by_kind r) t))
+by_kind head t (Ok CbrKind) e = cbr_table head t (ap outcome e)
+by_kind head t (Ok EchoKind) e = echo_table head t (ap outcome e)
+by_kind head t (Ok RawKind) e = raw_table head t (ap outcome e)
+by_kind head t (Err r) e = refl
 
 pub source_table : (head : Head) (t : Members) → outcome (source_table_of head.mtu t) ≡ refused_at (source_spot head t)
 unfolding source_table_of
-source_table head t = by_kind head t (value_at key.Kind t) refl
+source_table head t = by_kind head t (text_at source_kind_of key.Kind t) refl
 
 -- a table is refused where the fields of its array say, and for what is refused there
 pub item-table : (head : Head) (a : Array) (t : Members) → item_of head a (table t) ≡ refused_at (spot_of head a t)

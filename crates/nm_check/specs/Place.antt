@@ -1,17 +1,20 @@
 -- Where in the tables of a topology text its first fault lies.
 use Rattle.std.specs.Prelude.{◌≡◌, ◌⊎◌, false, ℕ, if◌then◌else◌, List, Option, Some, None}
-use Rattle.std.specs.Prelude.{Result, Ok, Err, codes, ◌==◌, ◌&&◌, nat_le, unwrap_or}
+use Rattle.std.specs.Prelude.{Result, Ok, Err, ◌==◌, ◌&&◌, nat_le, unwrap_or}
 use Rattle.std.specs.Result.{result_ok}
-use Rattle.std.specs.Str.{bytes_eq}
 use Rattle.toml.specs.Data.{Data, Items, Members, array, get_item, table}
 use Rattle.nm_base.specs.declared.limits.TheConstants.{MIN_MTU}
 use Rattle.nm_topology.specs.declared.fault.Refusal.{Refusal}
 use Rattle.nm_topology.specs.declared.parse.head.Format.{Format}
 use Rattle.nm_topology.specs.declared.parse.head.Format.TheVariants.{One, Two}
 use Rattle.nm_topology.specs.declared.parse.head.Head.{Head}
+use Rattle.nm_topology.specs.declared.parse.sources.SourceKind.{SourceKind}
+use Rattle.nm_topology.specs.declared.parse.sources.SourceKind.TheVariants.{Cbr as CbrKind}
+use Rattle.nm_topology.specs.declared.parse.sources.SourceKind.TheVariants.{Echo as EchoKind}
+use Rattle.nm_topology.specs.declared.parse.sources.SourceKind.TheVariants.{Raw as RawKind}
 use Rattle.nm_topology.specs.Parse.Arrays.{all_fit, count, in_table, is_table}
-use Rattle.nm_topology.specs.Parse.Fields.{all_among, number_at, plain_text, required, value_at}
-use Rattle.nm_topology.specs.Parse.Sources.{source_table_of}
+use Rattle.nm_topology.specs.Parse.Fields.{all_among, number_at, text_at, value_at}
+use Rattle.nm_topology.specs.Parse.Sources.{source_kind_of, source_table_of}
 use Rattle.nm_topology.specs.Parse.Tables.{iface_fields, iface_table_of, link_table_of}
 use Rattle.nm_topology.specs.Parse.Tables.{node_table_of}
 use Rattle.nm_topology.specs.Parse.Tables.{route_table_of}
@@ -37,14 +40,14 @@ use Rattle.nm_topology.specs.Keys.{array_key, array_limit, keys_of}
 use Rattle.nm_check.specs.Reading.{first_fault, outcome, spot_in, spot_refusal}
 
 -- the fields of a table of `source`, by its kind
-abbrev pub fields_by_kind : Result (List ℕ) Refusal → List Field
-fields_by_kind (Ok s) =
-    if bytes_eq s (codes "cbr") then CBR_TABLE
-    else (if bytes_eq s (codes "echo") then ECHO_TABLE else RAW_TABLE)
+abbrev pub fields_by_kind : Result SourceKind Refusal → List Field
+fields_by_kind (Ok CbrKind) = CBR_TABLE
+fields_by_kind (Ok EchoKind) = ECHO_TABLE
+fields_by_kind (Ok RawKind) = RAW_TABLE
 fields_by_kind (Err r) = RAW_TABLE
 
 abbrev pub source_fields : Members → List Field
-source_fields t = fields_by_kind (required plain_text (value_at key.Kind t))
+source_fields t = fields_by_kind (text_at source_kind_of key.Kind t)
 
 -- the fields of a table of an array, in a text with this head
 abbrev pub fields_in : Head → Array → Members → List Field

@@ -1,6 +1,6 @@
 //! Where in a topology text its first fault lies, and what it is the fault of.
 
-ghost use Rattle.std.specs.Prelude.{◌≡◌, IfOk};
+ghost use Rattle.std.specs.Prelude.{IfOk};
 ghost use Rattle.toml.specs.View.{table_view};
 ghost use Rattle.nm_check.specs.Locate.{IsLocated, IsLocatedIn};
 

@@ -27,9 +27,9 @@ use nm_topology::keys::fields::{
 };
 use nm_topology::keys::key::TableKey;
 use nm_topology::parse::arrays::all_fit;
-use nm_topology::parse::fields::{field, required_number, required_plain_text};
+use nm_topology::parse::fields::{field, required_number};
 use nm_topology::parse::head::{Format, Head};
-use nm_topology::parse::sources::SourceTable;
+use nm_topology::parse::sources::{SourceKind, SourceTable, required_source_kind};
 use nm_topology::parse::tables::{IfaceTable, LinkTable, NodeTable, RouteTable};
 use std::alloc::{AllocError, Global};
 use toml::{Table, Value};
@@ -113,9 +113,9 @@ pub fn any_head(table: &Table) -> Result<Head, AllocError>
 fn source_fields(table: &Table) -> Result<&'static [Field], AllocError>
     ensures { IfOk result (λ fields. fields.now ≡ source_fields (table_view table.now)) }
 {
-    match required_plain_text(table, TableKey::Kind) {
-        Ok("cbr") => Ok(&CBR_TABLE),
-        Ok("echo") => Ok(&ECHO_TABLE),
+    match required_source_kind(table, TableKey::Kind) {
+        Ok(SourceKind::Cbr) => Ok(&CBR_TABLE),
+        Ok(SourceKind::Echo) => Ok(&ECHO_TABLE),
         Err(TopoFault::Memory) => Err(AllocError),
         _ => Ok(&RAW_TABLE),
     }

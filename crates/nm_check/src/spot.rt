@@ -1,8 +1,5 @@
 //! Where in a table a fault lies.
 
-ghost use Rattle.std.specs.Prelude.{◌≡◌};
-ghost use Rattle.nm_check.specs.Reading.{spot_refusal};
-
 use nm_topology::Refusal;
 use nm_topology::keys::field::Field;
 
