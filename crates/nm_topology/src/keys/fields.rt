@@ -1,5 +1,6 @@
-//! The fields of each kind of table, in the order in which they are read. A range stands here, and
-//! nowhere else in the code or in what is said of it.
+//! The fields of each kind of table, in the order in which they are read. A range stands here
+//! alone: readers read by it, definitions name it. What those above rely on is said in the words of
+//! `nm_base::limits` beside it (`specs/Limits.antt`), and follows from it.
 
 ghost use Rattle.std.specs.Prelude.{◌≡◌};
 ghost use Rattle.nm_topology.specs.Keys.{packet_table, size_under, time_from};
