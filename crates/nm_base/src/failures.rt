@@ -1,37 +1,40 @@
 //! A count that contracts see and no memory holds.
 
-ghost use Rattle.std.specs.Prelude.{◌≡◌, ℕ, ◌+◌};
-ghost use Rattle.std.specs.Borrow.{ftrue};
+ghost use Rattle.std.specs.Prelude.{◌≡◌, ◌+◌};
 
-use std::marker::{Model, PhantomData};
+use crate::octets::Octets;
+use std::marker::Model;
 
 /// How often something has failed: a whole number without bound, for contracts alone. It takes no
 /// memory.
 #[derive(Drop)]
 pub struct FailureCount {
-    marker: PhantomData<()>,
-    pub ghost count: { ℕ },
+    /// An octet for each failure.
+    marks: Octets,
 }
 
 impl Model for FailureCount {
-    ghost also_owns = { λ _. ftrue };
-}
+    ghost use Rattle.std.specs.Prelude.{ℕ, length};
 
-// It owns nothing, so it may go to another thread.
-unsafe impl Send for FailureCount {}
+    ghost Value = { ℕ };
+
+    ghost view = { λ f. length f.marks.list };
+}
 
 impl FailureCount {
     /// No failure so far.
     pub fn new() -> Self
-        ensures { result.count ≡ 0 }
+        ensures { result ≡ 0 }
     {
         FailureCount {
-            marker: PhantomData,
+            marks: Octets::new(),
         }
     }
 
     /// One more failure.
     pub fn rise(&mut self)
-        ensures { self.new.count ≡ self.old.count + 1 }
-    {}
+        ensures { self.new ≡ self.old + 1 }
+    {
+        self.marks.add(&[0]);
+    }
 }

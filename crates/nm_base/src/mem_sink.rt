@@ -26,7 +26,7 @@ impl Model for MemSink {
     ghost view = { λ s. record {
       octets = s.held.items;
       room = s.left;
-      failures = s.failed.count;
+      failures = s.failed;
     } };
 
     ghost invariant = { λ s. vec_len s.held + s.left ≤ vec_capacity s.held };

@@ -43,8 +43,8 @@ impl Model for MemWire {
       taken = w.held.items;
       room = w.room;
       piece = w.piece;
-      ends = w.ended.count;
-      failures = w.failed.count;
+      ends = w.ended;
+      failures = w.failed;
     } };
 
     ghost invariant = { λ w. (w.at ≤ vec_len w.source)

@@ -22,7 +22,7 @@ impl<W> Model for StdSink<W> {
 
     ghost Value = { WriterSink W };
 
-    ghost view = { λ s. record { writer = s.writer; failures = s.failed.count } };
+    ghost view = { λ s. record { writer = s.writer; failures = s.failed } };
 }
 
 impl<W> StdSink<W> {

@@ -79,9 +79,9 @@ impl Wire for CutWire {
 
     ghost taken = { λ w. w.sent.list };
 
-    ghost ends = { λ w. w.ended.count };
+    ghost ends = { λ w. w.ended };
 
-    ghost failures = { λ w. w.failed.count };
+    ghost failures = { λ w. w.failed };
 
     fn read_some(&mut self, buffer: &mut [u8]) -> Read {
         if self.cut.gives == 0 {

@@ -91,7 +91,7 @@ impl Wire for PipeWire {
 
     ghost ends = { λ _. 0 };
 
-    ghost failures = { λ w. w.failed.count };
+    ghost failures = { λ w. w.failed };
 
     fn read_some(&mut self, buffer: &mut [u8]) -> Read {
         let count = move_out(&self.from, buffer);

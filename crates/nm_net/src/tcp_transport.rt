@@ -42,7 +42,7 @@ impl<R> Model for TcpTransport<R> {
     // How many waits ran out.
     ghost Value = { ℕ };
 
-    ghost view = { λ n. n.idle.count };
+    ghost view = { λ n. n.idle };
 }
 
 /// Whether a connection meets itself: its own end has the address to which it was begun. Where

@@ -30,8 +30,8 @@ impl Model for TcpWire {
     ghost view = { λ s. record {
       given = s.got.list;
       taken = s.sent.list;
-      ends = s.ended.count;
-      failures = s.failed.count;
+      ends = s.ended;
+      failures = s.failed;
     } };
 }
 

@@ -22,7 +22,7 @@ impl<W: Wire> Wire for CutWire<W> {
 
     ghost ends = { λ s. W.ends s.wire };
 
-    ghost failures = { λ s. W.failures s.wire + s.failed.count };
+    ghost failures = { λ s. W.failures s.wire + s.failed };
 
     fn read_some(&mut self, buffer: &mut [u8]) -> Read {
         self.wire.read_some(buffer)

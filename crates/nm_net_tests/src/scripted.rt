@@ -64,7 +64,7 @@ impl Scripted {
 
     /// Whether this call fails.
     fn fails(&mut self) -> bool
-        ensures { self.new.idle.count ≡ self.old.idle.count }
+        ensures { self.new.idle ≡ self.old.idle }
     {
         self.calls = self.calls.saturating_add(1);
         self.calls == self.fails.at || self.fails.for_good && self.calls > self.fails.at
@@ -74,7 +74,7 @@ impl Scripted {
     fn wire(&mut self) -> Option<MemWire>
         ensures fresh { IfSome result
             (λ w. (w.at ≡ 0) × (w.taken ≡ []) × (w.ends ≡ 0) × (w.failures ≡ 0)) }
-        ensures idle { self.new.idle.count ≡ self.old.idle.count }
+        ensures idle { self.new.idle ≡ self.old.idle }
     {
         let source = self.sources.pop()?;
         self.given = self.given.saturating_add(1);
@@ -85,7 +85,7 @@ impl Scripted {
 impl Transport for Scripted {
     type Connection = MemWire;
 
-    ghost elapsed_periods = { λ n. n.idle.count };
+    ghost elapsed_periods = { λ n. n.idle };
 
     fn connect(&mut self, _peer: usize) -> Option<MemWire> {
         if self.fails() || self.called {

@@ -56,7 +56,7 @@ impl<I> Model for NamedInputs<I> {
 
     ghost Value = { CountedInputs I };
 
-    ghost view = { λ i. record { inputs = i.inputs; failures = i.failed.count } };
+    ghost view = { λ i. record { inputs = i.inputs; failures = i.failed } };
 }
 
 impl<I> NamedInputs<I> {
