@@ -1,5 +1,26 @@
 -- What contracts see of the sinks.
-use Rattle.std.specs.Prelude.{ℕ, List}
+use Rattle.std.specs.Prelude.{◌≡◌, ℕ, ◌+◌, List, Option}
+use Rattle.std.specs.Io.KnownBytes.{Appends}
+
+-- what is seen of a sink
+pub record SinkSeen : Type 0 where
+  -- the octets that it took so far, where it tells them
+  pub taken : Option (List ℕ)
+  -- how often it has failed
+  pub failures : ℕ
+
+-- between two moments a sink took these octets, which stand behind those before, where it tells
+-- them
+abbrev pub HasTaken : (old new : SinkSeen) → List ℕ → Type 0
+HasTaken old new octets = Appends old.taken new.taken octets
+
+-- it did not fail
+abbrev pub HasNotFailed : (old new : SinkSeen) → Type 0
+HasNotFailed old new = new.failures ≡ old.failures
+
+-- it failed once
+abbrev pub HasFailedOnce : (old new : SinkSeen) → Type 0
+HasFailedOnce old new = new.failures ≡ old.failures + 1
 
 -- a sink over a writer: the writer, and how often it has failed
 pub record WriterSink (W : Type 0) : Type 0 where

@@ -1,6 +1,6 @@
 //! A sink in memory, with a budget.
 
-ghost use Rattle.std.specs.Prelude.{◌≡◌, ℕ, ◌+◌, ◌-◌, ◌<◌, ◌≤◌, ◌++◌, List, [], Some, min, take};
+ghost use Rattle.std.specs.Prelude.{◌≡◌, ◌+◌, ◌-◌, ◌<◌, ◌≤◌, ◌++◌, [], Some, min, take};
 ghost use Rattle.std.specs.Prelude.{length, vec_len, vec_capacity, IfOk, IsOk, OnErr, ◌↔◌};
 
 use crate::failures::FailureCount;
@@ -61,9 +61,7 @@ impl MemSink {
 }
 
 impl Sink for MemSink {
-    ghost taken = { λ s. Some s.octets };
-
-    ghost failures = { λ s. s.failures };
+    ghost seen = { λ s. record { taken = Some s.octets; failures = s.failures } };
 
     /// Takes as many octets as there is room for, and fails where there is none.
     fn write_some(&mut self, octets: &[u8]) -> Result<usize, SinkFault>

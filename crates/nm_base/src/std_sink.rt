@@ -1,6 +1,6 @@
 //! A sink over a writer of the standard library.
 
-ghost use Rattle.std.specs.Prelude.{◌≡◌, ℕ, ◌+◌, if◌then◌else◌, is_ok, nat_lt, MatchResult, None};
+ghost use Rattle.std.specs.Prelude.{◌≡◌, ◌+◌, if◌then◌else◌, is_ok, nat_lt, MatchResult, None};
 ghost use Rattle.std.specs.Prelude.{Some};
 ghost use Rattle.std.specs.Io.KnownBytes.{Keeps};
 
@@ -82,9 +82,7 @@ fn taken_count(answer: io::Result<usize>) -> Option<usize>
 }
 
 impl<W: Write> Sink for StdSink<W> {
-    ghost taken = { λ s. W.contents s.writer };
-
-    ghost failures = { λ s. s.failures };
+    ghost seen = { λ s. record { taken = W.contents s.writer; failures = s.failures } };
 
     fn write_some(&mut self, octets: &[u8]) -> Result<usize, SinkFault> {
         match taken_count(self.writer.write(octets)) {

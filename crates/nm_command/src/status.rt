@@ -1,7 +1,7 @@
 //! How the program ends.
 
 ghost use Rattle.std.specs.Prelude.{◌≡◌, ◌⊎◌, ◌+◌, ◌++◌, IfErr, OnOk, codes, decimal};
-ghost use Rattle.std.specs.Io.KnownBytes.{Appends};
+ghost use Rattle.nm_base.specs.Sink.{HasFailedOnce, HasNotFailed, HasTaken};
 ghost use Rattle.nm_command.specs.Status.{code_of, ended, line_of};
 ghost use Rattle.nm_command.specs.declared.status.Status.TheVariants.{File, Memory};
 
@@ -122,8 +122,8 @@ impl Status {
     ///
     /// The sink failed. It may have taken the front of the line.
     pub fn say<S: Sink>(self, sink: &mut S) -> Result<(), SinkFault>
-        ensures said { OnOk result (Appends (S.taken sink.old) (S.taken sink.new) (line_of self)) }
-        ensures failed { IfErr result (λ _. S.failures sink.new ≡ S.failures sink.old + 1) }
+        ensures said { OnOk result (HasTaken (S.seen sink.old) (S.seen sink.new) (line_of self)) }
+        ensures failed { IfErr result (λ _. HasFailedOnce (S.seen sink.old) (S.seen sink.new)) }
     {
         match self {
             Status::Done => put(sink, b""),
@@ -147,9 +147,9 @@ impl Status {
 
 /// Gives a sink all octets.
 fn put<S: Sink>(sink: &mut S, octets: &[u8]) -> Result<(), SinkFault>
-    ensures said { OnOk result (Appends (S.taken sink.old) (S.taken sink.new) octets.now) }
-    ensures no_fault { OnOk result (S.failures sink.new ≡ S.failures sink.old) }
-    ensures failed { IfErr result (λ _. S.failures sink.new ≡ S.failures sink.old + 1) }
+    ensures said { OnOk result (HasTaken (S.seen sink.old) (S.seen sink.new) octets.now) }
+    ensures no_fault { OnOk result (HasNotFailed (S.seen sink.old) (S.seen sink.new)) }
+    ensures failed { IfErr result (λ _. HasFailedOnce (S.seen sink.old) (S.seen sink.new)) }
 {
     match write_all(sink, octets) {
         Ok(()) => Ok(()),
@@ -159,9 +159,9 @@ fn put<S: Sink>(sink: &mut S, octets: &[u8]) -> Result<(), SinkFault>
 
 /// Gives a sink a line that ends with a number.
 fn put_number<S: Sink>(sink: &mut S, text: &[u8], number: u64) -> Result<(), SinkFault>
-    ensures said { OnOk result (Appends (S.taken sink.old) (S.taken sink.new)
+    ensures said { OnOk result (HasTaken (S.seen sink.old) (S.seen sink.new)
         (text.now ++ decimal number ++ codes "\n")) }
-    ensures failed { IfErr result (λ _. S.failures sink.new ≡ S.failures sink.old + 1) }
+    ensures failed { IfErr result (λ _. HasFailedOnce (S.seen sink.old) (S.seen sink.new)) }
 {
     let mut buffer = Buffer::new();
     put(sink, text)?;

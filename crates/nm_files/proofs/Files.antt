@@ -5,6 +5,7 @@ use Rattle.std.proofs.lemmas.List.Elements.{All-from_get_or, All-get_or}
 use Rattle.std.proofs.lemmas.Option.{slice_get_within, get_or_from_slice_get, slice_get-get_or}
 use Rattle.std.proofs.lemmas.Bool.Decides.{nat_tests}
 use Rattle.std.specs.Io.KnownBytes.{Appends}
+use Rattle.nm_base.specs.Sink.{SinkSeen}
 use Rattle.nm_base.proofs.Sinks.{Appends-append}
 use Rattle.nm_base.specs.Count.{saturated}
 use Rattle.nm_base.specs.declared.record.Record.{Record}
@@ -24,33 +25,33 @@ pub on_ok : {T E : Type 0} {A B : Type 0} (r : Result T E) → (A → B) → OnO
 on_ok (Ok x) f a = f a
 on_ok (Err e) f a = tt
 
-module _ {S : Type 0} (taken : S → Option (List ℕ)) (failures : S → ℕ) (r : Record (List ℕ)) where
+module _ {S : Type 0} (seen : S → SinkSeen) (r : Record (List ℕ)) where
   -- the record's own file took it
-  pub own_took : (old new : Writer S) (n : ℕ) → r.iface ≡ n → AddedAll taken failures old new (written old.form (record_octets r)) → Took taken failures (r ∷ []) n old new
+  pub own_took : (old new : Writer S) (n : ℕ) → r.iface ≡ n → AddedAll seen old new (written old.form (record_octets r)) → Took seen (r ∷ []) n old new
   own_took old new n here w =
       let same : (r.iface == n) ≡ true = grind (arith, nat_tests, here) in
       record {
-        whole = subst (Appends (taken old.sink) (taken new.sink)) (sym (written_there old.form n r same)) w.whole;
+        whole = subst (Appends (seen old.sink).taken (seen new.sink).taken) (sym (written_there old.form n r same)) w.whole;
         no_fault = w.no_fault;
         same_form = w.same_form;
         counted = λ before is. let more = w.count in let all = ap length (written_there old.form n r same) in omega (arith, is, more, all);
       }
 
   -- another file took nothing of it
-  other_took : (n : ℕ) (o : Option (Writer S)) → (r.iface == n) ≡ false → FileTook taken failures (r ∷ []) n o o
+  other_took : (n : ℕ) (o : Option (Writer S)) → (r.iface == n) ≡ false → FileTook seen (r ∷ []) n o o
   other_took n None other = tt
   other_took n (Some file) other = record {
-    whole = subst (Appends (taken file.sink) (taken file.sink)) (sym (written_elsewhere file.form n r other)) (WroteAll-nil taken failures file.sink).whole;
+    whole = subst (Appends (seen file.sink).taken (seen file.sink).taken) (sym (written_elsewhere file.form n r other)) (WroteAll-nil (seen file.sink)).whole;
     no_fault = refl;
     same_form = refl;
     counted = λ before is. let none = ap length (written_elsewhere file.form n r other) in omega (arith, is, none);
   }
 
-  same_file : (n : ℕ) (o p : Option (Writer S)) → p ≡ o → (r.iface == n) ≡ false → FileTook taken failures (r ∷ []) n o p
-  same_file n o p same other = subst (FileTook taken failures (r ∷ []) n o) (sym same) (other_took n o other)
+  same_file : (n : ℕ) (o p : Option (Writer S)) → p ≡ o → (r.iface == n) ≡ false → FileTook seen (r ∷ []) n o p
+  same_file n o p same other = subst (FileTook seen (r ∷ []) n o) (sym same) (other_took n o other)
 
   -- no file is the record's own
-  pub none_took : (files : List (Option (Writer S))) → length files ≤ r.iface → FilesTook taken failures (r ∷ []) files files
+  pub none_took : (files : List (Option (Writer S))) → length files ≤ r.iface → FilesTook seen (r ∷ []) files files
   none_took files far = record {
     count = refl;
     each = λ n o p old new.
@@ -60,23 +61,23 @@ module _ {S : Type 0} (taken : S → Option (List ℕ)) (failures : S → ℕ) (
 
   -- one is
   pub one_took : (files : List (Option (Writer S))) (k : ℕ) (own new : Option (Writer S)) → k ≡ r.iface → k < length files → slice_get files k ≡ Some own
-      → FileTook taken failures (r ∷ []) r.iface own new → FilesTook taken failures (r ∷ []) files (slice_set files k new)
+      → FileTook seen (r ∷ []) r.iface own new → FilesTook seen (r ∷ []) files (slice_set files k new)
   one_took files k own new is low there own_did = record {
     count = length-set files k new;
     each = λ n o p old at. pick n o p old at (n == k) refl;
   }
     where
-      took : FileTook taken failures (r ∷ []) k own new
-      took = subst (λ m. FileTook taken failures (r ∷ []) m own new) (sym is) own_did
+      took : FileTook seen (r ∷ []) k own new
+      took = subst (λ m. FileTook seen (r ∷ []) m own new) (sym is) own_did
 
-      pick : (n : ℕ) (o p : Option (Writer S)) → slice_get files n ≡ Some o → slice_get (slice_set files k new) n ≡ Some p → (b : Bool) → (n == k) ≡ b → FileTook taken failures (r ∷ []) n o p
+      pick : (n : ℕ) (o p : Option (Writer S)) → slice_get files n ≡ Some o → slice_get (slice_set files k new) n ≡ Some p → (b : Bool) → (n == k) ≡ b → FileTook seen (r ∷ []) n o p
       pick n o p old at true same =
           let here : n ≡ k = grind (arith, nat_tests, same) in
           let first : get_or (set files k new) k p ≡ p = get_or_from_slice_get (set files k new) k p p (subst (λ m. slice_get (set files k new) m ≡ Some p) here at) in
           let is_new : new ≡ p = sym (get_or-set_same files k new p low) ∙ first in
           let was : Some o ≡ Some own = sym old ∙ ap (slice_get files) here ∙ there in
           let is_own : own ≡ o = cc in
-          subst (λ m. FileTook taken failures (r ∷ []) m o p) (sym here) (subst (λ z. FileTook taken failures (r ∷ []) k z p) is_own (subst (FileTook taken failures (r ∷ []) k own) is_new took))
+          subst (λ m. FileTook seen (r ∷ []) m o p) (sym here) (subst (λ z. FileTook seen (r ∷ []) k z p) is_own (subst (FileTook seen (r ∷ []) k own) is_new took))
       pick n o p old at false other =
           let away : n ≡ k → ⊥ = λ e. grind (arith, nat_tests, other, e) in
           let first : get_or (set files k new) n p ≡ p = get_or_from_slice_get (set files k new) n p p at in
@@ -84,33 +85,33 @@ module _ {S : Type 0} (taken : S → Option (List ℕ)) (failures : S → ℕ) (
           let was : get_or files n p ≡ o = get_or_from_slice_get files n o p old in
           same_file n o p (sym kept ∙ was) (grind (arith, nat_tests, other, is))
 
-module _ {S : Type 0} (taken : S → Option (List ℕ)) (failures : S → ℕ) where
-  none_yet : (n : ℕ) (o p : Option (Writer S)) → p ≡ o → FileTook taken failures [] n o p
-  none_yet n None p same = subst (FileTook taken failures [] n None) (sym same) tt
-  none_yet n (Some file) p same = subst (FileTook taken failures [] n (Some file)) (sym same) (record {
-    whole = subst (Appends (taken file.sink) (taken file.sink)) (sym (written-nil file.form)) (WroteAll-nil taken failures file.sink).whole;
+module _ {S : Type 0} (seen : S → SinkSeen) where
+  none_yet : (n : ℕ) (o p : Option (Writer S)) → p ≡ o → FileTook seen [] n o p
+  none_yet n None p same = subst (FileTook seen [] n None) (sym same) tt
+  none_yet n (Some file) p same = subst (FileTook seen [] n (Some file)) (sym same) (record {
+    whole = subst (Appends (seen file.sink).taken (seen file.sink).taken) (sym (written-nil file.form)) (WroteAll-nil (seen file.sink)).whole;
     no_fault = refl;
     same_form = refl;
     counted = λ before is. let none = ap length (written-nil file.form) in omega (arith, is, none);
   })
 
   -- of no records all files took what is theirs
-  pub no_records : (files : List (Option (Writer S))) → FilesTook taken failures [] files files
+  pub no_records : (files : List (Option (Writer S))) → FilesTook seen [] files files
   no_records files = record {
     count = refl;
     each = λ n o p old new. none_yet n o p (let e : Some p ≡ Some o = sym new ∙ old in cc);
   }
 
-  file_more : (xs ys : List (Record (List ℕ))) (n : ℕ) (o m p : Option (Writer S)) → FileTook taken failures xs n o m → FileTook taken failures ys n m p → FileTook taken failures (xs ++ ys) n o p
+  file_more : (xs ys : List (Record (List ℕ))) (n : ℕ) (o m p : Option (Writer S)) → FileTook seen xs n o m → FileTook seen ys n m p → FileTook seen (xs ++ ys) n o p
   file_more xs ys n None None None v w = tt
   file_more xs ys n None None (Some p) v w = absurd w
   file_more xs ys n None (Some m) p v w = absurd v
   file_more xs ys n (Some o) None p v w = absurd v
   file_more xs ys n (Some o) (Some m) None v w = absurd w
   file_more xs ys n (Some o) (Some m) (Some p) v w = record {
-    whole = subst (Appends (taken o.sink) (taken p.sink)) (sym (written_at-append o.form n xs ys))
-        (Appends-append (taken o.sink) (taken m.sink) (taken p.sink) (written_at o.form n xs) (written_at o.form n ys) v.whole
-        (subst (λ f. Appends (taken m.sink) (taken p.sink) (written_at f n ys)) v.same_form w.whole));
+    whole = subst (Appends (seen o.sink).taken (seen p.sink).taken) (sym (written_at-append o.form n xs ys))
+        (Appends-append (seen o.sink).taken (seen m.sink).taken (seen p.sink).taken (written_at o.form n xs) (written_at o.form n ys) v.whole
+        (subst (λ f. Appends (seen m.sink).taken (seen p.sink).taken (written_at f n ys)) v.same_form w.whole));
     no_fault = w.no_fault ∙ v.no_fault;
     same_form = w.same_form ∙ v.same_form;
     counted = λ before is.
@@ -121,7 +122,7 @@ module _ {S : Type 0} (taken : S → Option (List ℕ)) (failures : S → ℕ) w
   }
 
   -- and of more
-  pub more_records : (xs ys : List (Record (List ℕ))) (old mid new : List (Option (Writer S))) → FilesTook taken failures xs old mid → FilesTook taken failures ys mid new → FilesTook taken failures (xs ++ ys) old new
+  pub more_records : (xs ys : List (Record (List ℕ))) (old mid new : List (Option (Writer S))) → FilesTook seen xs old mid → FilesTook seen ys mid new → FilesTook seen (xs ++ ys) old new
   more_records xs ys old mid new v w = record {
     count = w.count ∙ v.count;
     each = λ n o p first last.
@@ -133,34 +134,34 @@ module _ {S : Type 0} (taken : S → Option (List ℕ)) (failures : S → ℕ) w
 
   -- after the first n records one more
   pub next_record : (records : List (Record (List ℕ))) (n : ℕ) (r : Record (List ℕ)) (old mid new : List (Option (Writer S))) → slice_get records n ≡ Some r
-      → FilesTook taken failures (take n records) old mid → FilesTook taken failures (r ∷ []) mid new → FilesTook taken failures (take (n + 1) records) old new
+      → FilesTook seen (take n records) old mid → FilesTook seen (r ∷ []) mid new → FilesTook seen (take (n + 1) records) old new
   next_record records n r old mid new is v w =
-      subst (λ l. FilesTook taken failures l old new) (sym (one_more records n (n + 1) r is refl)) (more_records (take n records) (r ∷ []) old mid new v w)
+      subst (λ l. FilesTook seen l old new) (sym (one_more records n (n + 1) r is refl)) (more_records (take n records) (r ∷ []) old mid new v w)
 
 -- Files are counted: one whose header alone was written, and all, whatever records they take.
-module _ {S : Type 0} (taken : S → Option (List ℕ)) (made : Option Files) where
-  pub begun_counted : (sink : S) (file : Writer S) → IsEmpty made (taken sink) → IsBegun taken sink file → IsCounted taken made (Some file)
+module _ {S : Type 0} (seen : S → SinkSeen) (made : Option Files) where
+  pub begun_counted : (sink : S) (file : Writer S) → IsEmpty made (seen sink).taken → IsBegun seen sink file → IsCounted seen made (Some file)
   begun_counted sink file empty begun first told =
-      (file_header, appended (taken sink) (taken file.sink) file_header [] begun.header (empty first told), begun.counted)
+      (file_header, appended (seen sink).taken (seen file.sink).taken file_header [] begun.header (empty first told), begun.counted)
 
-  file_counted : (failures : S → ℕ) (records : List (Record (List ℕ))) (n : ℕ) (o p : Option (Writer S)) → FileTook taken failures records n o p
-      → IsCounted taken made o → IsCounted taken made p
-  file_counted failures records n None None took was = tt
-  file_counted failures records n None (Some p) took was = absurd took
-  file_counted failures records n (Some o) None took was = absurd took
-  file_counted failures records n (Some o) (Some p) took was = λ first told.
+  file_counted : (records : List (Record (List ℕ))) (n : ℕ) (o p : Option (Writer S)) → FileTook seen records n o p
+      → IsCounted seen made o → IsCounted seen made p
+  file_counted records n None None took was = tt
+  file_counted records n None (Some p) took was = absurd took
+  file_counted records n (Some o) None took was = absurd took
+  file_counted records n (Some o) (Some p) took was = λ first told.
       let then = was first told in
       let more = written_at o.form n records in
       let count = took.counted (length then.0) then.2 in
       let all = length-append then.0 more in
-      (then.0 ++ more, appended (taken o.sink) (taken p.sink) more then.0 took.whole then.1, omega (arith, count, all))
+      (then.0 ++ more, appended (seen o.sink).taken (seen p.sink).taken more then.0 took.whole then.1, omega (arith, count, all))
 
-  pub files_counted : (failures : S → ℕ) (records : List (Record (List ℕ))) (old new : List (Option (Writer S))) → FilesTook taken failures records old new
-      → AreCounted taken made old → AreCounted taken made new
-  files_counted failures records old new took was =
-      All-from_get_or (IsCounted taken made) new None (λ i low.
+  pub files_counted : (records : List (Record (List ℕ))) (old new : List (Option (Writer S))) → FilesTook seen records old new
+      → AreCounted seen made old → AreCounted seen made new
+  files_counted records old new took was =
+      All-from_get_or (IsCounted seen made) new None (λ i low.
       let same = took.count in
       let there : i < length old = omega (arith, low, same) in
-      file_counted failures records i (get_or old i None) (get_or new i None)
+      file_counted records i (get_or old i None) (get_or new i None)
       (took.each i (get_or old i None) (get_or new i None) (slice_get-get_or old i None there) (slice_get-get_or new i None low))
-      (All-get_or (IsCounted taken made) old i None there was))
+      (All-get_or (IsCounted seen made) old i None there was))

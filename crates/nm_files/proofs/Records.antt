@@ -1,10 +1,11 @@
 -- What is written of records.
-use Rattle.std.proofs.Common.{◌≡◌, ℕ, ◌+◌, ◌==◌, true, false, cond, List, [], ◌∷◌, ◌++◌, length, take, drop, flat_map, Option, Some, Result, Err, Ok, slice_get, append-nil, add-one, sym, ◌∙◌, ap, subst, arith}
+use Rattle.std.proofs.Common.{◌≡◌, ℕ, ◌+◌, ◌==◌, true, false, cond, List, [], ◌∷◌, ◌++◌, length, take, drop, flat_map, Some, Result, Err, Ok, slice_get, append-nil, add-one, sym, ◌∙◌, ap, subst, arith}
 use Rattle.std.proofs.Math.Seq.{take-suc}
 use Rattle.std.proofs.lemmas.Grind.{flat_map-append}
 use Rattle.std.proofs.lemmas.List.{take_all, take-append-drop}
 use Rattle.std.proofs.lemmas.List.Elements.{filter-append}
 use Rattle.std.proofs.lemmas.Option.{slice_get_within, get_or_from_slice_get}
+use Rattle.nm_base.specs.Sink.{SinkSeen}
 use Rattle.nm_base.specs.declared.record.Record.{Record}
 use Rattle.nm_pcap.specs.declared.form.Form.{Form}
 use Rattle.nm_pcap.specs.Format.{file_header, record_octets}
@@ -49,69 +50,69 @@ module _ (pick : List (Record (List ℕ)) → List (Record (List ℕ))) (none : 
       → written_at form iface (pick records) ≡ written_at form iface (pick (take n records)) ++ written_at form iface (pick (drop n records))
   parts_at form iface records n = ap (λ l. written_at form iface (pick l)) (sym (take-append-drop n records)) ∙ picked_both form iface (take n records) (drop n records)
 
-  module _ {S : Type 0} (taken : S → Option (List ℕ)) (failures : S → ℕ) (iface : ℕ) (records : List (Record (List ℕ))) where
+  module _ {S : Type 0} (seen : S → SinkSeen) (iface : ℕ) (records : List (Record (List ℕ))) where
     -- no record was written so far
-    pub no_record : (old : Writer S) (n : ℕ) → n ≡ 0 → old.failed ≡ false → WroteOn taken failures old old (written_at old.form iface (pick (take n records)))
+    pub no_record : (old : Writer S) (n : ℕ) → n ≡ 0 → old.failed ≡ false → WroteOn seen old old (written_at old.form iface (pick (take n records)))
     no_record old n zero sound =
-        subst (WroteOn taken failures old old)
-        (sym (ap (λ k. written_at old.form iface (pick (take k records))) zero ∙ ap (written_at old.form iface) none ∙ written-nil old.form)) (WroteOn-nil taken failures old sound)
+        subst (WroteOn seen old old)
+        (sym (ap (λ k. written_at old.form iface (pick (take k records))) zero ∙ ap (written_at old.form iface) none ∙ written-nil old.form)) (WroteOn-nil seen old sound)
 
     -- after the first n records one more was dealt with, whatever came of it
     after_record : (old mid new : Writer S) (outcome : Result Unit TraceFault) (n m : ℕ) (r : Record (List ℕ)) → slice_get records n ≡ Some r → m ≡ n + 1
-        → WroteOn taken failures old mid (written_at old.form iface (pick (take n records))) → WritesOn taken failures mid new outcome (written_at mid.form iface (pick (r ∷ [])))
-        → WritesOn taken failures old new outcome (written_at old.form iface (pick (take m records)))
+        → WroteOn seen old mid (written_at old.form iface (pick (take n records))) → WritesOn seen mid new outcome (written_at mid.form iface (pick (r ∷ [])))
+        → WritesOn seen old new outcome (written_at old.form iface (pick (take m records)))
     after_record old mid new outcome n m r is next v w =
-        subst (WritesOn taken failures old new outcome)
+        subst (WritesOn seen old new outcome)
         (sym (ap (λ l. written_at old.form iface (pick l)) (one_more records n m r is next) ∙ picked_both old.form iface (take n records) (r ∷ [])))
-        (WritesOn-after taken failures old mid new outcome (written_at old.form iface (pick (take n records))) (written_at old.form iface (pick (r ∷ []))) v
-        (subst (λ f. WritesOn taken failures mid new outcome (written_at f iface (pick (r ∷ [])))) v.same_form w))
+        (WritesOn-after seen old mid new outcome (written_at old.form iface (pick (take n records))) (written_at old.form iface (pick (r ∷ []))) v
+        (subst (λ f. WritesOn seen mid new outcome (written_at f iface (pick (r ∷ [])))) v.same_form w))
 
     pub next_record : (old mid new : Writer S) (n m : ℕ) (r : Record (List ℕ)) → slice_get records n ≡ Some r → m ≡ n + 1
-        → WroteOn taken failures old mid (written_at old.form iface (pick (take n records))) → WroteOn taken failures mid new (written_at mid.form iface (pick (r ∷ [])))
-        → WroteOn taken failures old new (written_at old.form iface (pick (take m records)))
+        → WroteOn seen old mid (written_at old.form iface (pick (take n records))) → WroteOn seen mid new (written_at mid.form iface (pick (r ∷ [])))
+        → WroteOn seen old new (written_at old.form iface (pick (take m records)))
     next_record old mid new n m r is next v w = after_record old mid new (Ok tt) n m r is next v w
 
     pub last_record : (old mid new : Writer S) (e : TraceFault) (n m : ℕ) (r : Record (List ℕ)) → slice_get records n ≡ Some r → m ≡ n + 1
-        → WroteOn taken failures old mid (written_at old.form iface (pick (take n records))) → WritesOn taken failures mid new (Err e) (written_at mid.form iface (pick (r ∷ [])))
-        → WritesOn taken failures old new (Err e) (written_at old.form iface (pick records))
+        → WroteOn seen old mid (written_at old.form iface (pick (take n records))) → WritesOn seen mid new (Err e) (written_at mid.form iface (pick (r ∷ [])))
+        → WritesOn seen old new (Err e) (written_at old.form iface (pick records))
     last_record old mid new e n m r is next v w =
-        subst (WritesOn taken failures old new (Err e)) (sym (parts_at old.form iface records m))
-        (WritesOn-more taken failures old new e _ _ (after_record old mid new (Err e) n m r is next v w))
+        subst (WritesOn seen old new (Err e)) (sym (parts_at old.form iface records m))
+        (WritesOn-more seen old new e _ _ (after_record old mid new (Err e) n m r is next v w))
 
     -- the records are all, or they are some
-    pub all_records : (old new : Writer S) (n : ℕ) → n ≡ length records → WroteOn taken failures old new (written_at old.form iface (pick (take n records)))
-        → WroteOn taken failures old new (written_at old.form iface (pick records))
-    all_records old new n all w = subst (λ l. WroteOn taken failures old new (written_at old.form iface (pick l))) (take_all n records (omega (arith, all))) w
+    pub all_records : (old new : Writer S) (n : ℕ) → n ≡ length records → WroteOn seen old new (written_at old.form iface (pick (take n records)))
+        → WroteOn seen old new (written_at old.form iface (pick records))
+    all_records old new n all w = subst (λ l. WroteOn seen old new (written_at old.form iface (pick l))) (take_all n records (omega (arith, all))) w
 
-    pub some_records : (old new : Writer S) (n : ℕ) → WroteOn taken failures old new (written_at old.form iface (pick (take n records)))
-        → WrotePart taken failures old.sink new.sink (written_at old.form iface (pick records))
+    pub some_records : (old new : Writer S) (n : ℕ) → WroteOn seen old new (written_at old.form iface (pick (take n records)))
+        → WrotePart (seen old.sink) (seen new.sink) (written_at old.form iface (pick records))
     some_records old new n w =
-        subst (WrotePart taken failures old.sink new.sink) (sym (parts_at old.form iface records n))
-        (WroteAll-part taken failures old.sink new.sink (written_at old.form iface (pick (take n records))) (written_at old.form iface (pick (drop n records))) w.all)
+        subst (WrotePart (seen old.sink) (seen new.sink)) (sym (parts_at old.form iface records n))
+        (WroteAll-part (seen old.sink) (seen new.sink) (written_at old.form iface (pick (take n records))) (written_at old.form iface (pick (drop n records))) w.all)
 
-module _ {S : Type 0} (taken : S → Option (List ℕ)) (failures : S → ℕ) (iface : ℕ) (records : List (Record (List ℕ))) where
+module _ {S : Type 0} (seen : S → SinkSeen) (iface : ℕ) (records : List (Record (List ℕ))) where
   -- the file is cut short in its header, or in its records, or it is written as far as its end
-  pub cut_in_header : (old new : Writer S) (e : TraceFault) → WritesOn taken failures old new (Err e) (written old.form file_header) → WritesOn taken failures old new (Err e) (trace_file old.form iface records)
+  pub cut_in_header : (old new : Writer S) (e : TraceFault) → WritesOn seen old new (Err e) (written old.form file_header) → WritesOn seen old new (Err e) (trace_file old.form iface records)
   cut_in_header old new e w =
-      subst (WritesOn taken failures old new (Err e)) (sym (file_parts old.form iface records))
-      (WritesOn-more taken failures old new e _ (ending old.form) (WritesOn-more taken failures old new e (written old.form file_header) (written_at old.form iface records) w))
+      subst (WritesOn seen old new (Err e)) (sym (file_parts old.form iface records))
+      (WritesOn-more seen old new e _ (ending old.form) (WritesOn-more seen old new e (written old.form file_header) (written_at old.form iface records) w))
 
-  pub after_header : (old mid new : Writer S) (outcome : Result Unit TraceFault) → WroteOn taken failures old mid (written old.form file_header) → WritesOn taken failures mid new outcome (written_at mid.form iface records)
-      → WritesOn taken failures old new outcome (written old.form file_header ++ written_at old.form iface records)
+  pub after_header : (old mid new : Writer S) (outcome : Result Unit TraceFault) → WroteOn seen old mid (written old.form file_header) → WritesOn seen mid new outcome (written_at mid.form iface records)
+      → WritesOn seen old new outcome (written old.form file_header ++ written_at old.form iface records)
   after_header old mid new outcome v w =
-      WritesOn-after taken failures old mid new outcome (written old.form file_header) (written_at old.form iface records) v
-      (subst (λ f. WritesOn taken failures mid new outcome (written_at f iface records)) v.same_form w)
+      WritesOn-after seen old mid new outcome (written old.form file_header) (written_at old.form iface records) v
+      (subst (λ f. WritesOn seen mid new outcome (written_at f iface records)) v.same_form w)
 
-  pub cut_in_records : (old mid new : Writer S) (e : TraceFault) → WroteOn taken failures old mid (written old.form file_header) → WritesOn taken failures mid new (Err e) (written_at mid.form iface records)
-      → WritesOn taken failures old new (Err e) (trace_file old.form iface records)
+  pub cut_in_records : (old mid new : Writer S) (e : TraceFault) → WroteOn seen old mid (written old.form file_header) → WritesOn seen mid new (Err e) (written_at mid.form iface records)
+      → WritesOn seen old new (Err e) (trace_file old.form iface records)
   cut_in_records old mid new e v w =
-      subst (WritesOn taken failures old new (Err e)) (sym (file_parts old.form iface records))
-      (WritesOn-more taken failures old new e _ (ending old.form) (after_header old mid new (Err e) v w))
+      subst (WritesOn seen old new (Err e)) (sym (file_parts old.form iface records))
+      (WritesOn-more seen old new e _ (ending old.form) (after_header old mid new (Err e) v w))
 
-  pub to_the_end : (old mid late new : Writer S) (outcome : Result Unit TraceFault) → WroteOn taken failures old mid (written old.form file_header) → WroteOn taken failures mid late (written_at mid.form iface records)
-      → WritesOn taken failures late new outcome (ending late.form) → WritesOn taken failures old new outcome (trace_file old.form iface records)
+  pub to_the_end : (old mid late new : Writer S) (outcome : Result Unit TraceFault) → WroteOn seen old mid (written old.form file_header) → WroteOn seen mid late (written_at mid.form iface records)
+      → WritesOn seen late new outcome (ending late.form) → WritesOn seen old new outcome (trace_file old.form iface records)
   to_the_end old mid late new outcome v w x =
-      subst (WritesOn taken failures old new outcome) (sym (file_parts old.form iface records))
-      (WritesOn-after taken failures old late new outcome (written old.form file_header ++ written_at old.form iface records) (ending old.form)
+      subst (WritesOn seen old new outcome) (sym (file_parts old.form iface records))
+      (WritesOn-after seen old late new outcome (written old.form file_header ++ written_at old.form iface records) (ending old.form)
       (after_header old mid late (Ok tt) v w)
-      (subst (λ f. WritesOn taken failures late new outcome (ending f)) (w.same_form ∙ v.same_form) x))
+      (subst (λ f. WritesOn seen late new outcome (ending f)) (w.same_form ∙ v.same_form) x))

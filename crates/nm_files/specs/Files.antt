@@ -1,6 +1,6 @@
 -- Trace files that are written side by side. File n is that of interface n.
 use Rattle.std.specs.Prelude.{◌≡◌, ◌≢◌, ℕ, ◌+◌, false, All, List, [], ◌∷◌, ◌++◌, length, slice_get, slice_index_or, take, Option, Some, None}
-use Rattle.std.specs.Io.KnownBytes.{Appends}
+use Rattle.nm_base.specs.Sink.{HasNotFailed, HasTaken, SinkSeen}
 use Rattle.nm_base.specs.Count.{saturated}
 use Rattle.nm_base.specs.declared.record.Record.{Record}
 use Rattle.nm_pcap.specs.declared.form.Form.TheVariants.{Octets}
@@ -18,18 +18,20 @@ IsSound None = Unit {0}
 IsSound (Some file) = file.failed ≡ false
 
 -- of a file, if there is one: where it is told which files were placed, its sink tells what it took, and as many octets are counted
-abbrev pub IsCounted : {S : Type 0} → (S → Option (List ℕ)) → Option Files → Option (Writer S) → Type 0
-IsCounted taken made None = Unit {0}
-IsCounted taken made (Some file) =
-    (first : Files) → made ≡ Some first → (octets : List ℕ) × (taken file.sink ≡ Some octets) × (file.written ≡ saturated (length octets))
+abbrev pub IsCounted : {S : Type 0} → (S → SinkSeen) → Option Files → Option (Writer S) → Type 0
+IsCounted seen made None = Unit {0}
+IsCounted seen made (Some file) =
+    (first : Files) → made ≡ Some first → (octets : List ℕ)
+    × ((seen file.sink).taken ≡ Some octets) × (file.written ≡ saturated (length octets))
 
-abbrev pub AreCounted : {S : Type 0} → (S → Option (List ℕ)) → Option Files → List (Option (Writer S)) → Type 0
-AreCounted taken made files = All (IsCounted taken made) files
+abbrev pub AreCounted : {S : Type 0} → (S → SinkSeen) → Option Files → List (Option (Writer S))
+    → Type 0
+AreCounted seen made files = All (IsCounted seen made) files
 
-module _ {S : Type 0} (taken : S → Option (List ℕ)) (sink : S) where
+module _ {S : Type 0} (seen : S → SinkSeen) (sink : S) where
   -- the file of this sink, which took the header, as it is
   pub record IsBegun (file : Writer S) : Type 0 where
-    pub header : Appends (taken sink) (taken file.sink) file_header
+    pub header : HasTaken (seen sink) (seen file.sink) file_header
     pub form : file.form ≡ Octets
     pub counted : file.written ≡ saturated (length file_header)
 
@@ -39,11 +41,11 @@ module _ {S : Type 0} (taken : S → Option (List ℕ)) (sink : S) where
     pub begun : IsBegun file
     pub last : new ≡ old ++ Some file ∷ []
 
-module _ {S : Type 0} (taken : S → Option (List ℕ)) (failures : S → ℕ) (records : List (Record (List ℕ))) where
+module _ {S : Type 0} (seen : S → SinkSeen) (records : List (Record (List ℕ))) where
   -- of these records the file took those that are at interface n, and did not fail
   pub record Took (n : ℕ) (old new : Writer S) : Type 0 where
-    pub whole : Appends (taken old.sink) (taken new.sink) (written_at old.form n records)
-    pub no_fault : failures new.sink ≡ failures old.sink
+    pub whole : HasTaken (seen old.sink) (seen new.sink) (written_at old.form n records)
+    pub no_fault : HasNotFailed (seen old.sink) (seen new.sink)
     pub same_form : new.form ≡ old.form
     -- if so many octets were counted before, as many more are as were written, up to 2 ^ 64 - 1
     pub counted : (before : ℕ) → old.written ≡ saturated before → new.written ≡ saturated (before + length (written_at old.form n records))
@@ -58,12 +60,13 @@ module _ {S : Type 0} (taken : S → Option (List ℕ)) (failures : S → ℕ) (
     pub count : length new ≡ length old
     pub each : (n : ℕ) (o p : Option (Writer S)) → slice_get old n ≡ Some o → slice_get new n ≡ Some p → FileTook n o p
 
-module _ {S : Type 0} (taken : S → Option (List ℕ)) (failures : S → ℕ) where
+module _ {S : Type 0} (seen : S → SinkSeen) where
   -- The sink of the file failed: it took a part of what is written of the record, from the front, and so many octets of the file in all.
   abbrev pub FileFailed : (r : Record (List ℕ)) → (written : ℕ) → Option (Writer S) → Option (Writer S) → Type 0
   FileFailed r n None new = ⊥
   FileFailed r n (Some old) None = ⊥
-  FileFailed r n (Some old) (Some new) = AddedPart taken failures old new (written old.form (record_octets r)) n
+  FileFailed r n (Some old) (Some new) =
+      AddedPart seen old new (written old.form (record_octets r)) n
 
   -- that of the record's interface did, and the others are as they were
   pub record OwnFileFailed (r : Record (List ℕ)) (old new : List (Option (Writer S))) (fault : FileFault) : Type 0 where
@@ -77,5 +80,5 @@ module _ {S : Type 0} (taken : S → Option (List ℕ)) (failures : S → ℕ) w
     pub failed_at : Record (List ℕ)
     pub place : slice_get records number ≡ Some failed_at
     pub before : List (Option (Writer S))
-    pub took : FilesTook taken failures (take number records) old before
+    pub took : FilesTook seen (take number records) old before
     pub failed : OwnFileFailed failed_at before new fault

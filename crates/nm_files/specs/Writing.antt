@@ -1,47 +1,47 @@
 -- What a call that writes to a sink did, and what a call that writes on in a trace file did.
-use Rattle.std.specs.Prelude.{◌≡◌, ℕ, ◌+◌, ◌<◌, ◌≤◌, List, take, length, false, Option, Result, Ok, Err}
-use Rattle.std.specs.Io.KnownBytes.{Appends}
+use Rattle.std.specs.Prelude.{◌≡◌, ℕ, ◌<◌, ◌≤◌, List, take, length, false, Result, Ok, Err}
+use Rattle.nm_base.specs.Sink.{HasFailedOnce, HasNotFailed, HasTaken, SinkSeen}
 use Rattle.nm_pcap.specs.declared.writer.PcapFault.{PcapFault}
 use Rattle.nm_pcap.specs.Writer.{Writer}
 use Rattle.nm_files.specs.declared.trace_file.TraceFault.{TraceFault}
 use Rattle.nm_files.specs.declared.trace_file.TraceFault.TheVariants.{Sink, Memory}
 
-module _ {S : Type 0} (taken : S → Option (List ℕ)) (failures : S → ℕ) (old new : S) where
+module _ (old new : SinkSeen) where
   -- all the octets were taken
   pub record WroteAll (octets : List ℕ) : Type 0 where
-    pub whole : Appends (taken old) (taken new) octets
-    pub no_fault : failures new ≡ failures old
+    pub whole : HasTaken old new octets
+    pub no_fault : HasNotFailed old new
 
   -- the sink failed when it had taken a part of the octets, from the front
   pub record WrotePrefix (octets : List ℕ) : Type 0 where
     pub part : ℕ
     pub short : part < length octets
-    pub front : Appends (taken old) (taken new) (take part octets)
-    pub fault : failures new ≡ failures old + 1
+    pub front : HasTaken old new (take part octets)
+    pub fault : HasFailedOnce old new
 
   -- the sink took a part of the octets, from the front, and did not fail
   pub record WrotePart (octets : List ℕ) : Type 0 where
     pub part : ℕ
     pub within : part ≤ length octets
-    pub front : Appends (taken old) (taken new) (take part octets)
-    pub no_fault : failures new ≡ failures old
+    pub front : HasTaken old new (take part octets)
+    pub no_fault : HasNotFailed old new
 
   abbrev pub Writes : Result Unit TraceFault → List ℕ → Type 0
   Writes (Ok _) octets = WroteAll octets
   Writes (Err Sink) octets = WrotePrefix octets
   Writes (Err Memory) octets = WrotePart octets
 
-module _ {S : Type 0} (taken : S → Option (List ℕ)) (failures : S → ℕ) (old new : Writer S) where
+module _ {S : Type 0} (seen : S → SinkSeen) (old new : Writer S) where
   -- all the octets were written, and the file may be written on
   pub record WroteOn (octets : List ℕ) : Type 0 where
-    pub all : WroteAll taken failures old.sink new.sink octets
+    pub all : WroteAll (seen old.sink) (seen new.sink) octets
     pub sound : new.failed ≡ false
     pub same_form : new.form ≡ old.form
 
   abbrev pub WritesOn : Result Unit TraceFault → List ℕ → Type 0
   WritesOn (Ok _) octets = WroteOn octets
-  WritesOn (Err Sink) octets = WrotePrefix taken failures old.sink new.sink octets
-  WritesOn (Err Memory) octets = WrotePart taken failures old.sink new.sink octets
+  WritesOn (Err Sink) octets = WrotePrefix (seen old.sink) (seen new.sink) octets
+  WritesOn (Err Memory) octets = WrotePart (seen old.sink) (seen new.sink) octets
 
 -- a fault of a trace file is one of its sink
 abbrev pub sink_outcome : Result Unit PcapFault → Result Unit TraceFault

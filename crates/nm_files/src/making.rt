@@ -20,7 +20,7 @@ fn write_list<S: Sink>(
 ) -> Result<(), TraceFault>
     requires sound { file.old.failed ≡ false }
     requires times { All (λ r. r.time ≤ MAX_TIME) records.now }
-    ensures { WritesOn S.taken S.failures file.old file.new result
+    ensures { WritesOn S.seen file.old file.new result
         (written_at file.old.form iface records.now) }
 {
     for number in 0..records.len() {
@@ -37,7 +37,7 @@ fn write_whole<S: Sink>(
 ) -> Result<(), TraceFault>
     requires sound { file.old.failed ≡ false }
     requires times { All (λ r. r.time ≤ MAX_TIME) records.now }
-    ensures { WritesOn S.taken S.failures file.old file.new result
+    ensures { WritesOn S.seen file.old file.new result
         (trace_file file.old.form iface records.now) }
 {
     sink_outcome(file.start())?;

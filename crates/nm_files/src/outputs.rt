@@ -39,7 +39,7 @@ pub trait Outputs {
     /// `Failed` where the system refused it, `Memory` where memory was refused.
     fn create(&mut self, name: &str) -> Result<Self::File, OutputFault>
         ensures empty { IfOk result
-            (λ file. IsEmpty (made self.old) (Self.File.taken file)) }
+            (λ file. IsEmpty (made self.old) (Self.File.seen file).taken) }
         ensures same { made self.new ≡ made self.old };
 
     /// Closes a file that was made with this name, and has all that it took.
@@ -49,7 +49,7 @@ pub trait Outputs {
     /// `Failed` where the system did not take all, `Memory` where memory was refused.
     fn close(&mut self, name: &str, file: Self::File) -> Result<Self::Closed, OutputFault>
         ensures whole { IfOk result
-            (λ c. IsClosed name.now (Self.File.taken file) (closed c)) }
+            (λ c. IsClosed name.now (Self.File.seen file).taken (closed c)) }
         ensures same { made self.new ≡ made self.old };
 
     /// Gives a closed file its name, in place of what had it.

@@ -28,7 +28,7 @@ pub fn write_at<S: Sink>(
 ) -> Result<(), TraceFault>
     requires time { «record».now.time ≤ MAX_TIME }
     requires sound { file.old.failed ≡ false }
-    ensures { WritesOn S.taken S.failures file.old file.new result
+    ensures { WritesOn S.seen file.old file.new result
         (written_at file.old.form iface («record».now ∷ [])) }
 {
     if record.iface != iface {

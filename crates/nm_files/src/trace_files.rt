@@ -1,7 +1,8 @@
 //! The trace files of a replica, written as its records are handed out.
 
 ghost use Rattle.std.specs.Prelude.{◌≡◌, ℕ, ◌<◌, ◌≤◌, ◌∷◌, [], ◌++◌, false, All, IfErr, IfOk};
-ghost use Rattle.std.specs.Prelude.{List, None, OnOk, Option, get_or};
+ghost use Rattle.std.specs.Prelude.{None, OnOk, Option, get_or};
+ghost use Rattle.nm_base.specs.Sink.{SinkSeen};
 ghost use Rattle.nm_base.specs.declared.limits.TheConstants.{MAX_TIME};
 ghost use Rattle.nm_files.specs.Files.{AreCounted, FileFailed, FileTook, FilesTook, HasBegun};
 ghost use Rattle.nm_files.specs.Files.{OwnFileFailed, FailedAt, IsBegun, IsSound};
@@ -60,7 +61,7 @@ pub struct TraceFiles<S> {
 /// A file whose header is written.
 fn begun<S: Sink + Drop>(iface: IfaceNo, sink: S) -> Result<PcapOut<S>, FilesFault>
     ensures sound { IfOk result (λ f. f.failed ≡ false) }
-    ensures begun { IfOk result (IsBegun S.taken sink) }
+    ensures begun { IfOk result (IsBegun S.seen sink) }
 {
     let mut file = PcapOut::new(sink);
     match file.start() {
@@ -80,11 +81,11 @@ fn put_in<S: Sink>(
     requires here { «record».now.iface ≡ iface }
     requires sound { IsSound file.old }
     ensures took { OnOk result
-        (FileTook S.taken S.failures («record».now ∷ []) iface file.old file.new) }
+        (FileTook S.seen («record».now ∷ []) iface file.old file.new) }
     ensures sound { OnOk result (IsSound file.new) }
     ensures iface { IfErr result (λ f. f.iface ≡ iface) }
     ensures failed { IfErr result
-        (λ f. FileFailed S.taken S.failures «record».now f.written file.old file.new) }
+        (λ f. FileFailed S.seen «record».now f.written file.old file.new) }
 {
     let Some(file) = file else {
         return Ok(());
@@ -114,9 +115,9 @@ impl<S> TraceFiles<S> {
     /// Takes the file of an interface out, if it has one.
     pub fn take(&mut self, iface: IfaceNo) -> Option<PcapOut<S>>
         ensures file { result ≡ get_or self.old.files.items iface None }
-        ensures counted { (taken : S → Option (List ℕ)) (made : Option Files)
-            → AreCounted taken made self.old.files.items
-            → AreCounted taken made self.new.files.items }
+        ensures counted { (seen : S → SinkSeen) (made : Option Files)
+            → AreCounted seen made self.old.files.items
+            → AreCounted seen made self.new.files.items }
         ensures others { (n : ℕ) → iface < n
             → get_or self.new.files.items n None ≡ get_or self.old.files.items n None }
     {
@@ -152,7 +153,7 @@ impl<S: Sink + Drop> TraceFiles<S> {
     pub fn open(&mut self, iface: IfaceNo, sink: S) -> Result<(), FilesFault>
         requires { All IsSound self.old.files.items }
         ensures sound { All IsSound self.new.files.items }
-        ensures begun { OnOk result (HasBegun S.taken sink
+        ensures begun { OnOk result (HasBegun S.seen sink
             self.old.files.items self.new.files.items) }
     {
         let file = begun(iface, sink)?;
@@ -170,10 +171,10 @@ impl<S: Sink> TraceFiles<S> {
     pub fn put(&mut self, record: &Record) -> Result<(), FileFault>
         requires time { «record».now.time ≤ MAX_TIME }
         requires sound { All IsSound self.old.files.items }
-        ensures took { OnOk result (FilesTook S.taken S.failures («record».now ∷ [])
+        ensures took { OnOk result (FilesTook S.seen («record».now ∷ [])
             self.old.files.items self.new.files.items) }
         ensures sound { OnOk result (All IsSound self.new.files.items) }
-        ensures failed { IfErr result (OwnFileFailed S.taken S.failures «record».now
+        ensures failed { IfErr result (OwnFileFailed S.seen «record».now
             self.old.files.items self.new.files.items) }
     {
         let number = record.iface.index();
@@ -191,10 +192,10 @@ impl<S: Sink> TraceFiles<S> {
     pub fn put_all(&mut self, records: &[Record]) -> Result<(), FileFault>
         requires time { All (λ r. r.time ≤ MAX_TIME) records.now }
         requires sound { All IsSound self.old.files.items }
-        ensures took { OnOk result (FilesTook S.taken S.failures records.now
+        ensures took { OnOk result (FilesTook S.seen records.now
             self.old.files.items self.new.files.items) }
         ensures sound { OnOk result (All IsSound self.new.files.items) }
-        ensures failed { IfErr result (FailedAt S.taken S.failures records.now
+        ensures failed { IfErr result (FailedAt S.seen records.now
             self.old.files.items self.new.files.items) }
     {
         for number in 0..records.len() {

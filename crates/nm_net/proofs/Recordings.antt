@@ -4,6 +4,7 @@ use Rattle.std.proofs.lemmas.Grind.{flat_map-append}
 use Rattle.std.proofs.lemmas.List.{append_assoc, get_or-drop}
 use Rattle.std.proofs.lemmas.List.Elements.{All-append, All-cons, All-drop, All-take}
 use Rattle.std.proofs.lemmas.Option.{slice_get_within, get_or_from_slice_get, slice_get-get_or}
+use Rattle.nm_base.specs.Sink.{SinkSeen}
 use Rattle.nm_base.specs.declared.limits.TheConstants.{MAX_TIME}
 use Rattle.nm_base.specs.declared.record.Record.{Record}
 use Rattle.nm_pcap.specs.Writer.{Writer}
@@ -71,13 +72,13 @@ module _ (exact : Bool) (own : Home) where
     ap (λ z. z ++ ys) v.2 ∙ ap (λ z. flat_map out_of v.0 ++ z) w.2 ∙ sym (flat_map-append out_of v.0 w.0),
   )
 
-  module _ {S : Type 0} (taken : S → Option (List ℕ)) (failures : S → ℕ) where
-    pub streams_none : (files : List (Option (Writer S))) → All IsSound files → Streams taken failures exact own files files
+  module _ {S : Type 0} (seen : S → SinkSeen) where
+    pub streams_none : (files : List (Option (Writer S))) → All IsSound files → Streams seen exact own files files
     streams_none files sound =
-        (0, record { records = []; count = refl; handed = ([], (λ k d low. absurd (omega (arith, low))), refl); took = no_records taken failures files; sound = sound })
+        (0, record { records = []; count = refl; handed = ([], (λ k d low. absurd (omega (arith, low))), refl); took = no_records seen files; sound = sound })
 
-    pub streams_more : (old mid new : List (Option (Writer S))) → Streams taken failures exact own old mid → Streams taken failures exact own mid new
-        → Streams taken failures exact own old new
+    pub streams_more : (old mid new : List (Option (Writer S))) → Streams seen exact own old mid → Streams seen exact own mid new
+        → Streams seen exact own old new
     streams_more old mid new v w =
         let a = v.1 in
         let b = w.1 in (
@@ -86,7 +87,7 @@ module _ (exact : Bool) (own : Home) where
             records = a.records ++ b.records;
             count = refl;
             handed = handed_more a.records b.records a.handed b.handed;
-            took = more_records taken failures a.records b.records old mid new a.took b.took;
+            took = more_records seen a.records b.records old mid new a.took b.took;
             sound = b.sound;
           },
         )

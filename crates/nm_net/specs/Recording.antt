@@ -1,5 +1,6 @@
 -- Records that a replica hands out, and the trace files to which they go.
 use Rattle.std.specs.Prelude.{◌≡◌, ℕ, ◌+◌, ◌≤◌, Bool, true, All, List, ◌++◌, drop, flat_map, length, take, Option}
+use Rattle.nm_base.specs.Sink.{SinkSeen}
 use Rattle.nm_base.specs.declared.limits.TheConstants.{MAX_TIME}
 use Rattle.nm_base.specs.declared.record.Record.{Record}
 use Rattle.nm_pcap.specs.Writer.{Writer}
@@ -33,16 +34,15 @@ AreHandedOut exact own records =
 
 -- the files took the parts of so many records that were handed out, each those at its own
 -- interface, and may be written on
-pub record Wrote {S : Type 0} (taken : S → Option (List ℕ)) (failures : S → ℕ) (exact : Bool)
-    (own : Home) (written : ℕ)
+pub record Wrote {S : Type 0} (seen : S → SinkSeen) (exact : Bool) (own : Home) (written : ℕ)
     (old new : List (Option (Writer S))) : Type 0 where
   pub records : List (Record (List ℕ))
   pub count : length records ≡ written
   pub handed : AreHandedOut exact own records
-  pub took : FilesTook taken failures records old new
+  pub took : FilesTook seen records old new
   pub sound : All IsSound new
 
 -- however many
-abbrev pub Streams : {S : Type 0} → (S → Option (List ℕ)) → (S → ℕ) → Bool → Home
+abbrev pub Streams : {S : Type 0} → (S → SinkSeen) → Bool → Home
     → List (Option (Writer S)) → List (Option (Writer S)) → Type 0
-Streams taken failures exact own old new = (n : ℕ) × Wrote taken failures exact own n old new
+Streams seen exact own old new = (n : ℕ) × Wrote seen exact own n old new

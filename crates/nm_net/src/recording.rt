@@ -34,7 +34,7 @@ fn write_some<C: Counts, S: Sink, R: Wait>(
     files: &mut TraceFiles<S>,
 ) -> Result<Recorded, FilesFault>
     requires { All IsSound files.old.files.items }
-    ensures wrote { IfOk result (λ r. Wrote S.taken S.failures C.exact C.home r.written
+    ensures wrote { IfOk result (λ r. Wrote S.seen C.exact C.home r.written
         files.old.files.items files.new.files.items) }
     ensures last { IfOk result (λ r. r.is_last ≡ true → WasFinished C.exact C.home false) }
 {
@@ -63,7 +63,7 @@ pub(crate) fn write_records<C: Counts, S: Sink, R: Wait>(
     is_left: bool,
 ) -> Result<Recorded, FilesFault>
     requires { All IsSound files.old.files.items }
-    ensures streams { OnOk result (Streams S.taken S.failures C.exact C.home
+    ensures streams { OnOk result (Streams S.seen C.exact C.home
         files.old.files.items files.new.files.items) }
     ensures last { IfOk result (λ r. r.is_last ≡ true → WasFinished C.exact C.home false) }
 {

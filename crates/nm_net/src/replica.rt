@@ -122,7 +122,7 @@ pub fn run_replica<C: Counts, S: Sink, T: Transport, G: Gate, R: Wait>(
     requires files { All IsSound holdings.old.files.files.items }
 
     // Where serving ended, each file took those at its interface of the records handed out.
-    ensures streams { result ≡ Ended → Streams S.taken S.failures C.exact C.home
+    ensures streams { result ≡ Ended → Streams S.seen C.exact C.home
         holdings.old.files.files.items holdings.new.files.files.items }
 
     // The ending says the truth about the replica and about the time that passed.

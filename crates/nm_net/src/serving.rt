@@ -458,7 +458,7 @@ pub(crate) fn poll<C: Counts, S: Sink, T: Transport, R: Wait>(
     ensures passes { length holdings.new.passes.items ≡ length holdings.old.passes.items }
 
     // Each file took those at its interface of the records that were handed out.
-    ensures streams { OnOk result (Streams S.taken S.failures C.exact C.home
+    ensures streams { OnOk result (Streams S.seen C.exact C.home
         holdings.old.files.files.items holdings.new.files.files.items) }
 
     // It answers whether the wait ran out, and whether all is done. An early ending is no success.

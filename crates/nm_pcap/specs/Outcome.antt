@@ -1,6 +1,6 @@
 -- What a call that writes to a trace file did.
-use Rattle.std.specs.Prelude.{◌≡◌, ℕ, ◌+◌, ◌<◌, take, length, List, [], ◌∷◌, ◌++◌, true, false, Option, Result, Ok, Err}
-use Rattle.std.specs.Io.KnownBytes.{Appends}
+use Rattle.std.specs.Prelude.{◌≡◌, ℕ, ◌+◌, ◌<◌, take, length, List, [], ◌∷◌, ◌++◌, true, false, Result, Ok, Err}
+use Rattle.nm_base.specs.Sink.{HasFailedOnce, HasNotFailed, HasTaken, SinkSeen}
 use Rattle.nm_base.specs.Count.{saturated}
 use Rattle.nm_base.specs.declared.record.Record.{Record}
 use Rattle.nm_pcap.specs.declared.writer.PcapFault.{PcapFault}
@@ -9,12 +9,12 @@ use Rattle.nm_pcap.specs.Format.{record_octets}
 use Rattle.nm_pcap.specs.Writer.{Writer}
 use Rattle.nm_pcap.specs.Writing.{written}
 
-module _ {W : Type 0} (taken : W → Option (List ℕ)) (failures : W → ℕ) (old new : Writer W) where
+module _ {W : Type 0} (seen : W → SinkSeen) (old new : Writer W) where
   -- all the octets were written
   pub record AddedAll (octets : List ℕ) : Type 0 where
     pub sound : old.failed ≡ false
-    pub whole : Appends (taken old.sink) (taken new.sink) octets
-    pub no_fault : failures new.sink ≡ failures old.sink
+    pub whole : HasTaken (seen old.sink) (seen new.sink) octets
+    pub no_fault : HasNotFailed (seen old.sink) (seen new.sink)
     pub count : new.written ≡ saturated (old.written + length octets)
     pub still_sound : new.failed ≡ false
     pub same_form : new.form ≡ old.form
@@ -24,8 +24,8 @@ module _ {W : Type 0} (taken : W → Option (List ℕ)) (failures : W → ℕ) (
     pub sound : old.failed ≡ false
     pub part : ℕ
     pub short : part < length octets
-    pub front : Appends (taken old.sink) (taken new.sink) (take part octets)
-    pub fault : failures new.sink ≡ failures old.sink + 1
+    pub front : HasTaken (seen old.sink) (seen new.sink) (take part octets)
+    pub fault : HasFailedOnce (seen old.sink) (seen new.sink)
     pub count : new.written ≡ saturated (old.written + part)
     pub told : written ≡ new.written
     pub over : new.failed ≡ true
@@ -46,11 +46,13 @@ module _ {W : Type 0} (taken : W → Option (List ℕ)) (failures : W → ℕ) (
     pub front : List ℕ
     pub rest : List ℕ
     pub parts : front ++ rest ≡ octets
-    pub held : Appends (taken old.sink) (taken new.sink) front
+    pub held : HasTaken (seen old.sink) (seen new.sink) front
     pub all : new.failed ≡ false → rest ≡ []
 
 -- records were put one after another, each call with its answer
-abbrev pub Puts : {W : Type 0} → (W → Option (List ℕ)) → (W → ℕ) → Writer W → List (Record (List ℕ) × Result Unit PcapFault) → Writer W → Type 0
-Puts taken failures old [] new = new ≡ old
-Puts {W = W} taken failures old (p ∷ ps) new =
-    (mid : Writer W) × Adds taken failures old mid p.1 (written old.form (record_octets p.0)) × Puts taken failures mid ps new
+abbrev pub Puts : {W : Type 0} → (W → SinkSeen) → Writer W
+    → List (Record (List ℕ) × Result Unit PcapFault) → Writer W → Type 0
+Puts seen old [] new = new ≡ old
+Puts {W = W} seen old (p ∷ ps) new =
+    (mid : Writer W) × Adds seen old mid p.1 (written old.form (record_octets p.0))
+    × Puts seen mid ps new

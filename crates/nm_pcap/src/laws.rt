@@ -1,7 +1,8 @@
 //! Laws of the definitions: each function has an empty body, and its contract is the law.
 
-ghost use Rattle.std.specs.Prelude.{◌≡◌, ℕ, List, [], ◌∷◌, ◌++◌, Option, Result, map};
+ghost use Rattle.std.specs.Prelude.{◌≡◌, ℕ, List, [], ◌∷◌, ◌++◌, Result, map};
 ghost use Rattle.nm_base.specs.declared.record.Record.{Record};
+ghost use Rattle.nm_base.specs.Sink.{SinkSeen};
 ghost use Rattle.nm_pcap.specs.declared.writer.PcapFault.{PcapFault};
 ghost use Rattle.nm_pcap.specs.Format.{file_header, record_octets, pcap};
 ghost use Rattle.nm_pcap.specs.Outcome.{HoldsPrefix, Puts, Adds};
@@ -18,10 +19,10 @@ pub fn file_grows()
 /// After `start` and any `put`s, whatever they answered, the octets that the sink took are a prefix
 /// of the file of the records put, in its form, and all of it as long as the sink has not failed.
 pub fn file_is_a_prefix<W>()
-    ensures { (taken : W → Option (List ℕ)) (failures : W → ℕ) (fresh started new : Writer W)
+    ensures { (seen : W → SinkSeen) (fresh started new : Writer W)
         (first : Result Unit PcapFault) (puts : List (Record (List ℕ) × Result Unit PcapFault))
-        → Adds taken failures fresh started first (written fresh.form file_header)
-        → Puts taken failures started puts new
-        → HoldsPrefix taken failures fresh new
+        → Adds seen fresh started first (written fresh.form file_header)
+        → Puts seen started puts new
+        → HoldsPrefix seen fresh new
         (written fresh.form (pcap (map (λ p. p.0) puts))) }
 {}

@@ -130,8 +130,7 @@ impl<W: Sink> PcapOut<W> {
     /// `File` where the sink failed in this call: it took a prefix of the header. `Failed` where it
     /// had failed before.
     pub fn start(&mut self) -> Result<(), PcapFault>
-        ensures { Adds W.taken W.failures self.old self.new result
-            (written self.old.form file_header) }
+        ensures { Adds W.seen self.old self.new result (written self.old.form file_header) }
     {
         self.write(&file_header_octets())
     }
@@ -144,7 +143,7 @@ impl<W: Sink> PcapOut<W> {
     /// had failed before.
     pub fn put(&mut self, record: &Record) -> Result<(), PcapFault>
         requires { «record».now.time ≤ MAX_TIME }
-        ensures { Adds W.taken W.failures self.old self.new result
+        ensures { Adds W.seen self.old self.new result
             (written self.old.form (record_octets «record».now)) }
     {
         let header = record_header_octets(record.time, record.packet.octet_count() as u32);
@@ -158,7 +157,7 @@ impl<W: Sink> PcapOut<W> {
     ///
     /// `File` where the sink failed in this call. `Failed` where it had failed before.
     pub fn end(&mut self) -> Result<(), PcapFault>
-        ensures { Adds W.taken W.failures self.old self.new result (ending self.old.form) }
+        ensures { Adds W.seen self.old self.new result (ending self.old.form) }
     {
         match self.form {
             Form::Octets => self.write_whole(b""),
@@ -168,7 +167,7 @@ impl<W: Sink> PcapOut<W> {
 
     /// Writes these octets, and then those, in the file's form.
     fn write_two(&mut self, first: &[u8], second: &[u8]) -> Result<(), PcapFault>
-        ensures { Adds W.taken W.failures self.old self.new result
+        ensures { Adds W.seen self.old self.new result
             (written self.old.form (first.now ++ second.now)) }
     {
         self.write(first)?;
@@ -177,8 +176,7 @@ impl<W: Sink> PcapOut<W> {
 
     /// Writes these octets in the file's form.
     fn write(&mut self, octets: &[u8]) -> Result<(), PcapFault>
-        ensures { Adds W.taken W.failures self.old self.new result
-            (written self.old.form octets.now) }
+        ensures { Adds W.seen self.old self.new result (written self.old.form octets.now) }
     {
         match self.form {
             Form::Octets => self.write_whole(octets),
@@ -188,7 +186,7 @@ impl<W: Sink> PcapOut<W> {
 
     /// Writes these octets as lower-case hexadecimal, a chunk at a time.
     fn write_hexadecimal(&mut self, octets: &[u8]) -> Result<(), PcapFault>
-        ensures { Adds W.taken W.failures self.old self.new result (encode_lower octets.now) }
+        ensures { Adds W.seen self.old self.new result (encode_lower octets.now) }
     {
         self.check()?;
         let mut at = 0;
@@ -203,7 +201,7 @@ impl<W: Sink> PcapOut<W> {
     /// Writes at most 1,024 octets as lower-case hexadecimal.
     fn write_chunk(&mut self, octets: &[u8]) -> Result<(), PcapFault>
         requires { length octets.now ≤ CHUNK_OCTETS }
-        ensures { Adds W.taken W.failures self.old self.new result (encode_lower octets.now) }
+        ensures { Adds W.seen self.old self.new result (encode_lower octets.now) }
     {
         let mut digits = [0; CHUNK_DIGITS];
         let digits = &mut digits[..2 * octets.len()];
@@ -213,7 +211,7 @@ impl<W: Sink> PcapOut<W> {
 
     /// Writes these octets as they are.
     fn write_whole(&mut self, octets: &[u8]) -> Result<(), PcapFault>
-        ensures { Adds W.taken W.failures self.old self.new result octets.now }
+        ensures { Adds W.seen self.old self.new result octets.now }
     {
         self.check()?;
         match write_all(&mut self.sink, octets) {

@@ -1,5 +1,6 @@
 -- How the program ends, and why.
-use Rattle.std.specs.Prelude.{◌≡◌, Bool, false, ℕ, List, Option, Some, None}
+use Rattle.std.specs.Prelude.{◌≡◌, Bool, false, Option, Some, None}
+use Rattle.nm_base.specs.Sink.{SinkSeen}
 use Rattle.nm_command.specs.declared.status.Status.{Status}
 use Rattle.nm_command.specs.declared.status.Status.TheVariants.{Done, Usage, File}
 use Rattle.nm_command.specs.Command.{CommandValue, Trace, All, Rounds, Script, Check, Show, Text, Series, Packets, Path, Run, Node}
@@ -25,10 +26,10 @@ pub record Surroundings (S : Type 0) : Type 0 where
   pub made : Option Files
 
 abbrev pub surroundings : {I S F : Type 0} → (texts : I → InputTexts)
-    → (taken : S → Option (List ℕ)) → (failures : S → ℕ) → (made : F → Option Files)
+    → (seen : S → SinkSeen) → (made : F → Option Files)
     → CountedInputs I → S → F → Surroundings S
-surroundings texts taken failures made inputs sink outputs =
-    record { exchange = exchange texts taken failures inputs sink; made = made outputs }
+surroundings texts seen made inputs sink outputs =
+    record { exchange = exchange texts seen inputs sink; made = made outputs }
 
 -- What each status says of a command. Words that are no command are `Usage`. Only `all`, `run` and
 -- `node` make files.

@@ -210,8 +210,8 @@ pub(crate) fn say_node<I: Inputs, F: Outputs, O: Sink + Drop, R: Net + Wait + Cl
     outputs: &mut F,
     out: O,
 ) -> (Status, O)
-    ensures { EndsNode (exchange I.seen O.taken O.failures inputs.old out)
-        (exchange I.seen O.taken O.failures inputs.new result.1)
+    ensures { EndsNode (exchange I.seen O.seen inputs.old out)
+        (exchange I.seen O.seen inputs.new result.1)
         (F.made outputs.old) (F.made outputs.new)
         words.now.topology.now words.now.folder.now words.now.partition words.now.replica
         words.now.addresses.now result.0 }

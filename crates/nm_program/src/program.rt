@@ -1,7 +1,7 @@
 //! The program: words and inputs in, octets and a status out.
 
 ghost use Rattle.std.specs.Prelude.{◌≡◌, map, string_bytes};
-ghost use Rattle.std.specs.Io.KnownBytes.{Appends};
+ghost use Rattle.nm_base.specs.Sink.{HasNotFailed, HasTaken};
 ghost use Rattle.nm_command.specs.Command.{command_of};
 ghost use Rattle.nm_command.specs.Status.{line_of};
 ghost use Rattle.nm_command.specs.declared.status.Status.TheVariants.{Done, File};
@@ -48,11 +48,11 @@ where
     F::File: Send,
     R: Runtime,
     ensures ending { ProgramEnds
-        (surroundings I.seen O.taken O.failures F.made inputs.old out outputs.old)
-        (surroundings I.seen O.taken O.failures F.made inputs.new result.1 outputs.new)
+        (surroundings I.seen O.seen F.made inputs.old out outputs.old)
+        (surroundings I.seen O.seen F.made inputs.new result.1 outputs.new)
         (command_of (map (λ w. string_bytes w) words.now)) result.0 }
-    ensures line { E.failures errors.new ≡ E.failures errors.old
-        → Appends (E.taken errors.old) (E.taken errors.new) (line_of result.0) }
+    ensures line { HasNotFailed (E.seen errors.old) (E.seen errors.new)
+        → HasTaken (E.seen errors.old) (E.seen errors.new) (line_of result.0) }
 {
     let (status, out) = perform(means, words, inputs, outputs, out);
     (report(status, errors), out)
@@ -70,8 +70,8 @@ where
     F::File: Send,
     R: Runtime,
     ensures { ProgramEnds
-        (surroundings I.seen O.taken O.failures F.made inputs.old out outputs.old)
-        (surroundings I.seen O.taken O.failures F.made inputs.new result.1 outputs.new)
+        (surroundings I.seen O.seen F.made inputs.old out outputs.old)
+        (surroundings I.seen O.seen F.made inputs.new result.1 outputs.new)
         (command_of (map (λ w. string_bytes w) words.now)) result.0 }
 {
     let Means {
@@ -108,8 +108,8 @@ where
 /// Ends with this status: says its line on `errors`.
 pub fn report<E: Sink>(status: Status, errors: &mut E) -> Status
     ensures status { result ≡ status }
-    ensures line { E.failures errors.new ≡ E.failures errors.old
-        → Appends (E.taken errors.old) (E.taken errors.new) (line_of status) }
+    ensures line { HasNotFailed (E.seen errors.old) (E.seen errors.new)
+        → HasTaken (E.seen errors.old) (E.seen errors.new) (line_of status) }
 {
     let _ = status.say(errors);
     status
@@ -119,8 +119,9 @@ pub fn report<E: Sink>(status: Status, errors: &mut E) -> Status
 /// What is not handed on is not done: its status is `File`, and its line is said.
 pub fn conclude<E: Sink>(status: Status, handed: bool, errors: &mut E) -> Status
     ensures status { result ≡ handed_on handed status }
-    ensures line { result ≡ File → status ≡ Done → E.failures errors.new ≡ E.failures errors.old
-        → Appends (E.taken errors.old) (E.taken errors.new) (line_of File) }
+    ensures line { result ≡ File → status ≡ Done
+        → HasNotFailed (E.seen errors.old) (E.seen errors.new)
+        → HasTaken (E.seen errors.old) (E.seen errors.new) (line_of File) }
     ensures quiet { result ≡ status → errors.new ≡ errors.old }
 {
     match status {

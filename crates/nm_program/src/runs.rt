@@ -174,8 +174,8 @@ where
     F::File: Send,
     R: Runtime,
     requires { (1 ≤ words.now.workers) × (words.now.workers ≤ MAX_WORKERS) }
-    ensures { EndsRun (exchange I.seen O.taken O.failures inputs.old out)
-        (exchange I.seen O.taken O.failures inputs.new result.1)
+    ensures { EndsRun (exchange I.seen O.seen inputs.old out)
+        (exchange I.seen O.seen inputs.new result.1)
         (F.made outputs.old) (F.made outputs.new) words.now.topology.now
         words.now.replicas result.0 }
 {

@@ -3,6 +3,7 @@ use Rattle.std.proofs.Common.{◌≡◌, ℕ, ◌+◌, List, [], ◌∷◌, ◌+
 use Rattle.std.proofs.lemmas.Bool.{cases_lt}
 use Rattle.std.proofs.lemmas.List.{get_or_past, map-append}
 use Rattle.std.proofs.lemmas.List.Elements.{All-get_or}
+use Rattle.nm_base.specs.Sink.{SinkSeen}
 use Rattle.nm_pcap.specs.Writer.{Writer}
 use Rattle.nm_topology.specs.PartValues.{IfaceValue}
 use Rattle.nm_topology.specs.TopologyValue.{TopologyValue}
@@ -50,8 +51,8 @@ module _ (folder : List ℕ) (t : TopologyValue) (totals : List IfaceTotals) whe
     all_placed after all are placed first told = let c = are first told in (c.0, c.1, placed c.0 (λ _ _. c.2) first told)
 
 -- of files that are counted each is, if it is there
-pub one_counted : {S : Type 0} (taken : S → Option (List ℕ)) (made : Option Files) (files : List (Option (Writer S))) (n : ℕ) → AreCounted taken made files
-    → IsCounted taken made (get_or files n None)
-one_counted taken made files n are =
-    ⊎_elim (λ low. All-get_or (IsCounted taken made) files n None low are) (λ past. subst (IsCounted taken made) (sym (get_or_past files n None past)) tt)
+pub one_counted : {S : Type 0} (seen : S → SinkSeen) (made : Option Files) (files : List (Option (Writer S))) (n : ℕ) → AreCounted seen made files
+    → IsCounted seen made (get_or files n None)
+one_counted seen made files n are =
+    ⊎_elim (λ low. All-get_or (IsCounted seen made) files n None low are) (λ past. subst (IsCounted seen made) (sym (get_or_past files n None past)) tt)
     (cases_lt n (length files))

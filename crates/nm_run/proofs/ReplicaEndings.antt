@@ -3,6 +3,7 @@ use Rattle.std.proofs.Common.{◌≡◌, ◌≢◌, inl, inr, ℕ, ◌+◌, ◌<
 use Rattle.std.proofs.lemmas.List.{get_or-map, length-map}
 use Rattle.std.proofs.lemmas.List.Elements.{All-from_get_or}
 use Rattle.std.proofs.lemmas.Option.{slice_get-get_or}
+use Rattle.nm_base.specs.Sink.{SinkSeen}
 use Rattle.nm_files.specs.Files.{AreCounted}
 use Rattle.nm_files.specs.Outputs.{Files}
 use Rattle.nm_net.specs.declared.served.Served.{Served}
@@ -80,8 +81,8 @@ module _ (ends : List Served) (n : ℕ) where
   )
 
 -- where all replicas were done, the files of all are counted
-pub all_counted : {S : Type 0} (taken : S → Option (List ℕ)) (made : Option Files) (ends : List (SideEnd S)) → All (λ s. s ≡ served.Ended) (map (λ e. e.served) ends)
-    → All (StillCounts taken made) ends → All (λ e. AreCounted taken made e.holdings.files.files.items) ends
-all_counted taken made ends ended still k d low =
+pub all_counted : {S : Type 0} (seen : S → SinkSeen) (made : Option Files) (ends : List (SideEnd S)) → All (λ s. s ≡ served.Ended) (map (λ e. e.served) ends)
+    → All (StillCounts seen made) ends → All (λ e. AreCounted seen made e.holdings.files.files.items) ends
+all_counted seen made ends ended still k d low =
     let same = length-map ends (λ e. e.served) in
     still k d low (sym (get_or-map (λ e. e.served) ends k d d.served low) ∙ ended k d.served (omega (arith, low, same)))

@@ -69,8 +69,8 @@ fn gather_sides<S: Sink + Drop>(
     ends: Vec<SideEnd<S>>,
 ) -> Result<Vec<TraceFiles<S>>, AllocError>
     ensures { (made : Option Files)
-        → All (λ end. AreCounted S.taken made end.holdings.files.files.items) ends.items
-        → IfOk result (λ files. All (λ own. AreCounted S.taken made own.files.items) files.items) }
+        → All (λ end. AreCounted S.seen made end.holdings.files.files.items) ends.items
+        → IfOk result (λ files. All (λ own. AreCounted S.seen made own.files.items) files.items) }
 {
     let mut files = Vec::new(alloc);
     for end in ends {
@@ -171,8 +171,8 @@ pub(crate) fn close_run<S: Sink + Drop>(
     ensures books { IfOk result
         (λ run. AreOfRun (arc_value plan.now.topology.now) plan.now.replicas run.0.items) }
     ensures files { (made : Option Files)
-        → All (λ end. AreCounted S.taken made end.holdings.files.files.items) ends.items
-        → IfOk result (λ run. All (λ own. AreCounted S.taken made own.files.items) run.1.items) }
+        → All (λ end. AreCounted S.seen made end.holdings.files.files.items) ends.items
+        → IfOk result (λ run. All (λ own. AreCounted S.seen made own.files.items) run.1.items) }
 {
     let mut passes = Passes::new(alloc, books.len())?;
     let files = gather_sides(alloc, &mut passes, ends)?;

@@ -38,12 +38,12 @@ fn open_own<F: Outputs>(
     // The interface is there, and the files that are open are sound and counted.
     requires there { iface < length folder.topology.now.ifaces }
     requires sound { All IsSound files.old.files.items }
-    requires counted { AreCounted F.File.taken (F.made outputs.old) files.old.files.items }
+    requires counted { AreCounted F.File.seen (F.made outputs.old) files.old.files.items }
 
     // So are they with this one, and none was placed.
     ensures sound { All IsSound files.new.files.items }
     ensures counted { OnOk result
-        (AreCounted F.File.taken (F.made outputs.old) files.new.files.items) }
+        (AreCounted F.File.seen (F.made outputs.old) files.new.files.items) }
     ensures same { F.made outputs.new ≡ F.made outputs.old }
 {
     if partition_of(folder.topology, iface) != partition {
@@ -67,7 +67,7 @@ pub(crate) fn open_files<F: Outputs>(
 ) -> Result<TraceFiles<F::File>, Stop>
     ensures sound { IfOk result (λ f. All IsSound f.files.items) }
     ensures counted { IfOk result
-        (λ f. AreCounted F.File.taken (F.made outputs.old) f.files.items) }
+        (λ f. AreCounted F.File.seen (F.made outputs.old) f.files.items) }
     ensures same { F.made outputs.new ≡ F.made outputs.old }
 {
     accepted_topologies_are_in_order(folder.topology); // law: there are few interfaces
@@ -89,9 +89,9 @@ fn take_file<S: Sink>(
 ) -> Option<PcapOut<S>>
     requires { iface < length topology.now.ifaces }
     ensures { (made : Option Files)
-        → All (λ own. AreCounted S.taken made own.files.items) files.old.items
-        → IsCounted S.taken made result
-        × All (λ own. AreCounted S.taken made own.files.items) files.new.items }
+        → All (λ own. AreCounted S.seen made own.files.items) files.old.items
+        → IsCounted S.seen made result
+        × All (λ own. AreCounted S.seen made own.files.items) files.new.items }
 {
     let first = partition_of(topology, iface).index() * replicas as usize;
     files.get_mut(first)?.take(iface)
@@ -115,7 +115,7 @@ fn close_one<F: Outputs>(
     file: PcapOut<F::File>,
 ) -> Result<ClosedFile<F::Closed>, Stop>
     requires there { iface < length folder.topology.now.ifaces }
-    requires counted { IsCounted F.File.taken (F.made outputs.old) (Some file) }
+    requires counted { IsCounted F.File.seen (F.made outputs.old) (Some file) }
     ensures closed { (first : Files) → F.made outputs.old ≡ Some first
         → IfOk result (λ c. (whole : List ℕ × List ℕ) × (F.closed c.file ≡ Some whole)
         × ((x : IfaceValue) → slice_get folder.entry.topology.now.ifaces iface ≡ Some x
@@ -153,7 +153,7 @@ pub(crate) fn close_all<F: Outputs>(
     files: Vec<TraceFiles<F::File>>,
 ) -> Result<Vec<ClosedFile<F::Closed>>, Stop>
     requires count { length totals.now ≡ length folder.topology.now.ifaces }
-    requires counted { All (λ own. AreCounted F.File.taken (F.made outputs.old) own.files.items)
+    requires counted { All (λ own. AreCounted F.File.seen (F.made outputs.old) own.files.items)
         files.items }
     ensures closed { IfOk result (λ closed. AreClosed F.closed (F.made outputs.old)
         folder.entry.folder.now folder.entry.topology.now totals.now

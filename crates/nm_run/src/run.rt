@@ -113,7 +113,7 @@ fn holdings_of<F: Outputs, R: Wait>(
     ensures seats { IfOk result (λ h. h.seats ≡ seats) }
     ensures files { IfOk result (λ h. All IsSound h.files.files.items) }
     ensures counted { IfOk result
-        (λ h. AreCounted F.File.taken (F.made outputs.old) h.files.files.items) }
+        (λ h. AreCounted F.File.seen (F.made outputs.old) h.files.files.items) }
     ensures same { F.made outputs.new ≡ F.made outputs.old }
 {
     let folder = TraceFolder {
@@ -171,7 +171,7 @@ fn side_of<F: Outputs, R: Wait>(
     ensures seats { IfOk result (λ s. s.holdings.seats ≡ seats) }
     ensures files { IfOk result (λ s. All IsSound s.holdings.files.files.items) }
     ensures counted { IfOk result
-        (λ s. AreCounted F.File.taken (F.made outputs.old) s.holdings.files.files.items) }
+        (λ s. AreCounted F.File.seen (F.made outputs.old) s.holdings.files.files.items) }
     ensures same { F.made outputs.new ≡ F.made outputs.old }
 {
     let (Some(listener), Some(book)) = (opened.listeners.get(index), opened.books.get(index)) else {
@@ -202,7 +202,7 @@ fn sides_of<F: Outputs, R: Wait>(
     requires { All (IsOwnerOf opened.now.board.now) owners.items }
     ensures sides { IfOk result (λ sides. All (λ s. All (IsOwnerOf opened.now.board.now)
         s.holdings.seats.items × All IsSound s.holdings.files.files.items) sides.items) }
-    ensures counted { IfOk result (λ sides. All (λ s. AreCounted F.File.taken
+    ensures counted { IfOk result (λ sides. All (λ s. AreCounted F.File.seen
         (F.made outputs.old) s.holdings.files.files.items) sides.items) }
     ensures same { F.made outputs.new ≡ F.made outputs.old }
 {
@@ -304,7 +304,7 @@ where
     F::File: Send,
     R: Runtime,
     requires { (1 ≤ plan.now.workers) × (plan.now.workers ≤ 64) }
-    ensures counted { IfOk result (λ run. All (λ end. AreCounted F.File.taken
+    ensures counted { IfOk result (λ run. All (λ end. AreCounted F.File.seen
         (F.made outputs.old) end.holdings.files.files.items) run.0.items) }
     ensures same { F.made outputs.new ≡ F.made outputs.old }
 {

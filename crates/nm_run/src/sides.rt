@@ -73,7 +73,7 @@ impl<S: Sink> Promise<SideEnd<S>> for TookRecords<S> {
     ghost use Rattle.nm_net.specs.declared.served.Served.TheVariants.{Ended};
     ghost use Rattle.nm_run.specs.Took.{TookSome};
 
-    ghost kept_by = { λ p end. end.served ≡ Ended → TookSome S.taken S.failures
+    ghost kept_by = { λ p end. end.served ≡ Ended → TookSome S.seen
         p.0.value.files.items end.holdings.files.files.items };
 }
 
@@ -89,7 +89,7 @@ fn serve<S: Sink, G: Gate, R: Net + Wait + Clock + Drop + Copy>(
 ) -> Served
     requires owners { All (IsOwnerOf threaded.now.board.now) holdings.old.seats.items }
     requires files { All IsSound holdings.old.files.files.items }
-    ensures took { result ≡ Ended → TookSome S.taken S.failures
+    ensures took { result ≡ Ended → TookSome S.seen
         holdings.old.files.files.items holdings.new.files.files.items }
 {
     // There is a book for each replica.
@@ -143,7 +143,7 @@ pub(crate) fn run_side<S: Sink, G: Gate, R: Net + Wait + Clock + Drop + Copy>(
 ) -> SideEnd<S>
     requires owners { All (IsOwnerOf threaded.now.board.now) side.holdings.seats.items }
     requires files { All IsSound side.holdings.files.files.items }
-    ensures took { result.served ≡ Ended → TookSome S.taken S.failures
+    ensures took { result.served ≡ Ended → TookSome S.seen
         side.holdings.files.files.items result.holdings.files.files.items }
 {
     let Side {
@@ -198,8 +198,8 @@ pub(crate) fn run_threads<S: Sink + Drop + Send, G: Gate + Sync, R: Runtime>(
     requires sides { All (λ s. All (IsOwnerOf threaded.now.board.now) s.holdings.seats.items
         × All IsSound s.holdings.files.files.items) sides.items }
     ensures counted { (made : Option Files)
-        → All (λ s. AreCounted S.taken made s.holdings.files.files.items) sides.items
-        → IfOk result (λ run. All (StillCounts S.taken made) run.0.items) }
+        → All (λ s. AreCounted S.seen made s.holdings.files.files.items) sides.items
+        → IfOk result (λ run. All (StillCounts S.seen made) run.0.items) }
 {
     thread::scope(
         thread::scope_env(),
@@ -210,8 +210,8 @@ pub(crate) fn run_threads<S: Sink + Drop + Send, G: Gate + Sync, R: Runtime>(
             requires sides { All (λ s. All (IsOwnerOf threaded.now.board.now)
                 s.holdings.seats.items × All IsSound s.holdings.files.files.items) sides.items }
             ensures counted { (made : Option Files)
-                → All (λ s. AreCounted S.taken made s.holdings.files.files.items) sides.items
-                → IfOk result (λ run. All (StillCounts S.taken made) run.0.items) }
+                → All (λ s. AreCounted S.seen made s.holdings.files.files.items) sides.items
+                → IfOk result (λ run. All (StillCounts S.seen made) run.0.items) }
         {
             let mut dispatcher = dispatcher;
             let mut threads = Vec::new(alloc);
@@ -222,7 +222,7 @@ pub(crate) fn run_threads<S: Sink + Drop + Send, G: Gate + Sync, R: Runtime>(
                     move || -> SideEnd<S>
                         requires { All (IsOwnerOf threaded.now.board.now) side.holdings.seats.items
                             × All IsSound side.holdings.files.files.items }
-                        ensures { result.served ≡ Ended → TookSome S.taken S.failures
+                        ensures { result.served ≡ Ended → TookSome S.seen
                             side.holdings.files.files.items result.holdings.files.files.items }
                     { run_side(rt, alloc, threaded, side) },
                 );

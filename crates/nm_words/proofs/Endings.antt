@@ -1,49 +1,26 @@
 -- How a word ends.
 use Rattle.std.proofs.Common.{◌≡◌, ℕ, List, Option, Result, Ok, Err, IfOk, IfErr, inl, inr, ap, sym, subst, refl}
 use Rattle.std.proofs.lemmas.Result.{IfOk-at_ok}
+use Rattle.nm_base.specs.Sink.{SinkSeen}
 use Rattle.nm_pcap.specs.declared.form.Form.{Form}
-use Rattle.nm_topology.specs.TopologyValue.{TopologyValue}
 use Rattle.nm_command.specs.declared.status.Status.{Status}
-use Rattle.nm_command.specs.declared.view.Subject.{Subject}
 use Rattle.nm_command.specs.declared.ways.Ways.{Ways}
 use Rattle.nm_files.specs.declared.trace_file.TraceFault.{TraceFault}
 use Rattle.nm_files.specs.declared.trace_file.TraceFault.TheVariants.{Sink, Memory}
 use Rattle.nm_words.specs.Input.{InputsSeen, IsInput}
-use Rattle.nm_words.specs.Output.{EndsWord, IsCutOff, IsPartWritten, IsPut, IsWritten, OutputSeen, output_seen}
-use Rattle.nm_words.specs.Series.{WritesSteps}
+use Rattle.nm_words.specs.Output.{EndsWord, IsPut, output_seen}
 use Rattle.nm_words.specs.Traces.{EndsTrace, IsAnswer, outcome_status}
-use Rattle.nm_files.specs.Writing.{Writes, WroteAll, WrotePart, WrotePrefix}
-
--- what a call says of what a sink took and how often it failed is so of what is seen of it
-module _ {S : Type 0} (taken : S → Option (List ℕ)) (failures : S → ℕ) (old new : S) where
-  abbrev pub seen : S → OutputSeen S
-  seen = output_seen taken failures
-
-  pub is_written : (octets : List ℕ) → WroteAll taken failures old new octets → IsWritten (seen old) (seen new) octets
-  is_written octets w = record { whole = w.whole; no_fault = w.no_fault }
-
-  pub is_cut_off : (octets : List ℕ) → WrotePrefix taken failures old new octets → IsCutOff (seen old) (seen new) octets
-  is_cut_off octets w = record { part = w.part; short = w.short; front = w.front; fault = w.fault }
-
-  pub is_part_written : (octets : List ℕ) → WrotePart taken failures old new octets → IsPartWritten (seen old) (seen new) octets
-  is_part_written octets w = record { part = w.part; within = w.within; front = w.front; no_fault = w.no_fault }
-
-  pub writes_steps : (subject : Subject) (step : ℕ) (t : TopologyValue) (status : Status) → WritesSteps taken failures old new subject step t status
-      → WritesSteps (λ (o : OutputSeen S). o.taken) (λ o. o.failures) (seen old) (seen new) subject step t status
-  writes_steps subject step t status (inl (done, (octets, tells, w))) = inl (done, (octets, tells, is_written octets w))
-  writes_steps subject step t status (inr (inl (file, (steps, octets, tells, w)))) = inr (inl (file, (steps, octets, tells, is_cut_off octets w)))
-  writes_steps subject step t status (inr (inr (memory, inl same))) = inr (inr (memory, inl (ap seen same)))
-  writes_steps subject step t status (inr (inr (memory, inr (steps, octets, tells, w)))) = inr (inr (memory, inr (steps, octets, tells, is_written octets w)))
+use Rattle.nm_files.specs.Writing.{Writes}
 
 -- what is said was written, or was not, or nothing is said
-module _ {S : Type 0} (taken : S → Option (List ℕ)) (failures : S → ℕ) (before after : InputsSeen) (old new : S) {V : Type 0} (text : V → List ℕ) (asked : V → Status) where
+module _ {S : Type 0} (seen : S → SinkSeen) (before after : InputsSeen) (old new : S) {V : Type 0} (text : V → List ℕ) (asked : V → Status) where
   pub ends_word : (Says : Status → List ℕ → Type 0) (Fails : Status → Type 0) (said : Result V Status) (status : Status)
       → IfOk said (λ v. Says (asked v) (text v)) → IfErr said Fails
-      → IfOk said (λ v. IsPut (output_seen taken failures old) (output_seen taken failures new) (text v) (asked v) status) → IfErr said (λ s. (status ≡ s) × (new ≡ old))
-      → EndsWord (record { inputs = before; output = output_seen taken failures old }) (record { inputs = after; output = output_seen taken failures new }) Says Fails status
+      → IfOk said (λ v. IsPut (output_seen seen old) (output_seen seen new) (text v) (asked v) status) → IfErr said (λ s. (status ≡ s) × (new ≡ old))
+      → EndsWord (record { inputs = before; output = output_seen seen old }) (record { inputs = after; output = output_seen seen new }) Says Fails status
   ends_word Says Fails (Ok v) status says fails (inl (same, w)) unsaid = inl (text v, subst (λ s. Says s (text v)) (sym same) says, w)
   ends_word Says Fails (Ok v) status says fails (inr (file, w)) unsaid = inr (inl (file, (asked v, text v, says, w)))
-  ends_word Says Fails (Err s) status says fails put (same, kept) = inr (inr (subst Fails (sym same) fails, ap (output_seen taken failures) kept))
+  ends_word Says Fails (Err s) status says fails put (same, kept) = inr (inr (subst Fails (sym same) fails, ap (output_seen seen) kept))
 
 -- what holds of a text that was made holds of what is said
 pub text_is_said : {V T E F : Type 0} (text : V → T) (asked : V → Status) (P : Status → T → Type 0) (status : Status) (made : Result T E) (said : Result V F)
@@ -52,11 +29,11 @@ text_is_said text asked P status made (Ok v) holds (is, had) = subst (λ s. P s 
 text_is_said text asked P status made (Err e) holds had = tt
 
 -- an answer that is written as it is made
-module _ {S : Type 0} (taken : S → Option (List ℕ)) (failures : S → ℕ) (before after : InputsSeen) (old new : S) where
+module _ {S : Type 0} (seen : S → SinkSeen) (before after : InputsSeen) (old new : S) where
   pub ends_written : (form : Form) (ways : Ways) (topology : List ℕ) (name : Option (List ℕ)) (text octets : List ℕ) (outcome : Result Unit TraceFault)
-      → IsInput (before.text topology) text → IsAnswer form ways name text octets → Writes taken failures old new outcome octets
-      → EndsTrace (record { inputs = before; output = output_seen taken failures old }) (record { inputs = after; output = output_seen taken failures new })
+      → IsInput (before.text topology) text → IsAnswer form ways name text octets → Writes (seen old) (seen new) outcome octets
+      → EndsTrace (record { inputs = before; output = output_seen seen old }) (record { inputs = after; output = output_seen seen new })
       form ways topology name (outcome_status outcome)
-  ends_written form ways topology name text octets (Ok _) input answer w = inl (inl (octets, (text, input, (refl, answer)), is_written taken failures old new octets w))
-  ends_written form ways topology name text octets (Err Sink) input answer w = inl (inr (inl (refl, (_, octets, (text, input, (refl, answer)), is_cut_off taken failures old new octets w))))
-  ends_written form ways topology name text octets (Err Memory) input answer w = inr (refl, (octets, (text, input, (refl, answer)), is_part_written taken failures old new octets w))
+  ends_written form ways topology name text octets (Ok _) input answer w = inl (inl (octets, (text, input, (refl, answer)), w))
+  ends_written form ways topology name text octets (Err Sink) input answer w = inl (inr (inl (refl, (_, octets, (text, input, (refl, answer)), w))))
+  ends_written form ways topology name text octets (Err Memory) input answer w = inr (refl, (octets, (text, input, (refl, answer)), w))

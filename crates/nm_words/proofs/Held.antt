@@ -10,6 +10,7 @@ use Rattle.std.proofs.lemmas.Bool.{true≢false}
 use Rattle.std.proofs.lemmas.List.Elements.{All-get_or, All-push}
 use Rattle.std.proofs.lemmas.Bool.Decides.{nat_tests}
 use Rattle.std.proofs.lemmas.Option.{get_or_from_slice_get, slice_get-get_or, slice_get_within}
+use Rattle.nm_base.specs.Sink.{SinkSeen}
 use Rattle.nm_base.specs.declared.record.Record.{Record}
 use Rattle.nm_pcap.specs.declared.form.Form.TheVariants.{Octets}
 use Rattle.nm_pcap.specs.Format.{file_header}
@@ -59,16 +60,16 @@ All-more P xs n x is first next = subst (All P) (sym (more xs n x is)) (All-push
     more : {X : Type 0} (xs : List X) (n : ℕ) (x : X) → slice_get xs n ≡ Some x → take (n + 1) xs ≡ take n xs ++ x ∷ []
     more xs n x is = take_more xs n x (slice_get_within xs n x is) ∙ ap (λ y. take n xs ++ y ∷ []) (get_or_from_slice_get xs n x x is)
 
-module _ {S : Type 0} (taken : S → Option (List ℕ)) (made : Option Files) (t : TopologyValue) (names : List (List ℕ)) where
+module _ {S : Type 0} (seen : S → SinkSeen) (made : Option Files) (t : TopologyValue) (names : List (List ℕ)) where
   -- of no interface a file was begun so far
-  pub none_held : (records : List (Record (List ℕ))) (files : List (Option (Writer S))) → files ≡ [] → AreHeld taken made t names records files
+  pub none_held : (records : List (Record (List ℕ))) (files : List (Option (Writer S))) → files ≡ [] → AreHeld seen made t names records files
   none_held records files none = record {
     each = λ n iface low at. let e = ap length none in absurd (omega (arith, low, e));
   }
 
   -- one more file was begun
   pub one_held : (files new : List (Option (Writer S))) (n : ℕ) (iface : IfaceValue) → length files ≡ n → slice_get t.ifaces n ≡ Some iface
-      → AreHeld taken made t names [] files → HasOpened taken made (is_wanted names iface) files new → AreHeld taken made t names [] new
+      → AreHeld seen made t names [] files → HasOpened seen made (is_wanted names iface) files new → AreHeld seen made t names [] new
   one_held files new n iface count is held opened = record {
     each = λ m other low at. pick m other (subst (λ l. m < length l) opened.1 low) at (m == n) refl;
   }
@@ -80,23 +81,23 @@ module _ {S : Type 0} (taken : S → Option (List ℕ)) (made : Option Files) (t
       same other e = cc
 
       pick : (m : ℕ) (other : IfaceValue) → m < length (files ++ file ∷ []) → slice_get t.ifaces m ≡ Some other → (b : Bool) → (m == n) ≡ b
-          → HoldsFile taken made (is_wanted names other) (octets_after m []) (get_or new m None)
+          → HoldsFile seen made (is_wanted names other) (octets_after m []) (get_or new m None)
       pick m other low at true here =
           let e : m ≡ n = grind (arith, nat_tests, here) in
           let is_other : other ≡ iface = same other (sym at ∙ ap (slice_get t.ifaces) e ∙ is) in
           let last : get_or new m None ≡ file = ap (λ l. get_or l m None) opened.1 ∙ ap (λ k. get_or (files ++ file ∷ []) k None) (e ∙ sym count) ∙ get_or-append_seam files file [] None in
-          subst (λ z. HoldsFile taken made (is_wanted names other) (octets_after m []) z) (sym last)
-          (subst (λ o. HoldsFile taken made (is_wanted names other) o file) (sym (append-nil file_header)) (subst (λ i. HoldsFile taken made (is_wanted names i) file_header file) (sym is_other) opened.2))
+          subst (λ z. HoldsFile seen made (is_wanted names other) (octets_after m []) z) (sym last)
+          (subst (λ o. HoldsFile seen made (is_wanted names other) o file) (sym (append-nil file_header)) (subst (λ i. HoldsFile seen made (is_wanted names i) file_header file) (sym is_other) opened.2))
       pick m other low at false here =
           let long = length-append files (file ∷ []) in
           let less : m < length files = grind (arith, nat_tests, here, low, long, count) in
-          subst (λ z. HoldsFile taken made (is_wanted names other) (octets_after m []) z) (sym (ap (λ l. get_or l m None) opened.1 ∙ get_or-append files (file ∷ []) None m less))
+          subst (λ z. HoldsFile seen made (is_wanted names other) (octets_after m []) z) (sym (ap (λ l. get_or l m None) opened.1 ∙ get_or-append files (file ∷ []) None m less))
           (held.each m other less at)
 
   -- the files took more records
-  pub more_held : (failures : S → ℕ) (records : List (Record (List ℕ))) (old new : List (Option (Writer S)))
-      → AreHeld taken made t names [] old → FilesTook taken failures records old new → AreHeld taken made t names records new
-  more_held failures records old new held took = record {
+  pub more_held : (records : List (Record (List ℕ))) (old new : List (Option (Writer S)))
+      → AreHeld seen made t names [] old → FilesTook seen records old new → AreHeld seen made t names records new
+  more_held records old new held took = record {
     each = λ n iface low at.
         let count = took.count in
         let was : n < length old = omega (arith, low, count) in
@@ -104,7 +105,7 @@ module _ {S : Type 0} (taken : S → Option (List ℕ)) (made : Option Files) (t
         (took.each n (get_or old n None) (get_or new n None) (slice_get-get_or old n None was) (slice_get-get_or new n None low));
   }
     where
-      wrote : (n : ℕ) (b : Bool) (o p : Option (Writer S)) → HoldsFile taken made b (octets_after n []) o → FileTook taken failures records n o p → HoldsFile taken made b (octets_after n records) p
+      wrote : (n : ℕ) (b : Bool) (o p : Option (Writer S)) → HoldsFile seen made b (octets_after n []) o → FileTook seen records n o p → HoldsFile seen made b (octets_after n records) p
       wrote n false None None h w = refl
       wrote n false None (Some p) h w = absurd w
       wrote n false (Some o) p h w = absurd (some_is_none o h)
@@ -115,7 +116,7 @@ module _ {S : Type 0} (taken : S → Option (List ℕ)) (made : Option Files) (t
       wrote n true (Some o) None h w = absurd w
       wrote n true (Some o) (Some p) h w = (
         w.same_form ∙ h.0,
-        λ first is. appended (taken o.sink) (taken p.sink) (written_at Octets n records) file_header (subst (λ f. Appends (taken o.sink) (taken p.sink) (written_at f n records)) h.0 w.whole)
+        λ first is. appended (seen o.sink).taken (seen p.sink).taken (written_at Octets n records) file_header (subst (λ f. Appends (seen o.sink).taken (seen p.sink).taken (written_at f n records)) h.0 w.whole)
             (h.1 first is ∙ ap (λ l. Some l) (append-nil file_header)),
       )
 

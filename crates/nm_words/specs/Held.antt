@@ -1,5 +1,6 @@
 -- Trace files of interfaces that are written side by side: what they hold.
 use Rattle.std.specs.Prelude.{◌≡◌, Bool, true, false, ℕ, ◌<◌, List, [], ◌∷◌, ◌++◌, get_or, length, slice_get, Option, Some, None}
+use Rattle.nm_base.specs.Sink.{SinkSeen}
 use Rattle.nm_base.specs.declared.record.Record.{Record}
 use Rattle.nm_pcap.specs.declared.form.Form.TheVariants.{Octets}
 use Rattle.nm_pcap.specs.Format.{file_header}
@@ -14,14 +15,15 @@ use Rattle.nm_words.specs.All.{is_wanted}
 abbrev pub octets_after : ℕ → List (Record (List ℕ)) → List ℕ
 octets_after n records = file_header ++ written_at Octets n records
 
-module _ {S : Type 0} (taken : S → Option (List ℕ)) (made : Option Files) where
+module _ {S : Type 0} (seen : S → SinkSeen) (made : Option Files) where
   -- where a file is wanted, it is there and holds these octets, if it is told which files were
   -- placed; else there is none
   abbrev pub HoldsFile : Bool → List ℕ → Option (Writer S) → Type 0
   HoldsFile false octets file = file ≡ None
   HoldsFile true octets None = ⊥
   HoldsFile true octets (Some file) =
-      (file.form ≡ Octets) × ((first : Files) → made ≡ Some first → taken file.sink ≡ Some octets)
+      (file.form ≡ Octets)
+      × ((first : Files) → made ≡ Some first → (seen file.sink).taken ≡ Some octets)
 
   -- behind the others comes the file of an interface, or none, which has its header alone
   abbrev pub HasOpened : Bool → List (Option (Writer S)) → List (Option (Writer S)) → Type 0

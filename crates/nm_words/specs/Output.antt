@@ -1,31 +1,28 @@
 -- What a word says, and how the program ends with it.
-use Rattle.std.specs.Prelude.{◌≡◌, ◌⊎◌, ℕ, List, Option}
+use Rattle.std.specs.Prelude.{◌≡◌, ◌⊎◌, ℕ, List}
+use Rattle.nm_base.specs.Sink.{SinkSeen}
 use Rattle.nm_command.specs.declared.status.Status.{Status}
 use Rattle.nm_command.specs.declared.status.Status.TheVariants.{File}
 use Rattle.nm_files.specs.Writing.{WroteAll, WrotePart, WrotePrefix}
 use Rattle.nm_words.specs.Input.{CountedInputs, InputTexts, InputsSeen, IsInput, IsUnread, inputs_seen}
 
--- the sink for what a word says, with what is seen of it: what it took, where that is told, and how
--- often it failed
+-- the sink for what a word says, and what is seen of it
 pub record OutputSeen (S : Type 0) : Type 0 where
   pub sink : S
-  pub taken : Option (List ℕ)
-  pub failures : ℕ
+  pub seen : SinkSeen
 
-abbrev pub output_seen : {S : Type 0} → (taken : S → Option (List ℕ)) → (failures : S → ℕ) → S
-    → OutputSeen S
-output_seen taken failures sink =
-    record { sink = sink; taken = taken sink; failures = failures sink }
+abbrev pub output_seen : {S : Type 0} → (seen : S → SinkSeen) → S → OutputSeen S
+output_seen seen sink = record { sink = sink; seen = seen sink }
 
 -- what a word has to do with, before it or after it
 pub record Exchange (S : Type 0) : Type 0 where
   pub inputs : InputsSeen
   pub output : OutputSeen S
 
-abbrev pub exchange : {I S : Type 0} → (texts : I → InputTexts) → (taken : S → Option (List ℕ))
-    → (failures : S → ℕ) → CountedInputs I → S → Exchange S
-exchange texts taken failures inputs sink =
-    record { inputs = inputs_seen texts inputs; output = output_seen taken failures sink }
+abbrev pub exchange : {I S : Type 0} → (texts : I → InputTexts) → (seen : S → SinkSeen)
+    → CountedInputs I → S → Exchange S
+exchange texts seen inputs sink =
+    record { inputs = inputs_seen texts inputs; output = output_seen seen sink }
 
 -- these octets are said with this status, of the text that the input of a name has
 abbrev pub SaysOfInput : InputsSeen → (name : List ℕ) → (List ℕ → Status → List ℕ → Type 0)
@@ -59,15 +56,15 @@ FailsOfInputs before after one two Fails status =
 module _ {S : Type 0} (old new : OutputSeen S) where
   -- all the octets were written
   abbrev pub IsWritten : List ℕ → Type 0
-  IsWritten octets = WroteAll (λ (o : OutputSeen S). o.taken) (λ o. o.failures) old new octets
+  IsWritten octets = WroteAll old.seen new.seen octets
 
   -- the sink failed when it had taken a part of the octets, from the front
   abbrev pub IsCutOff : List ℕ → Type 0
-  IsCutOff octets = WrotePrefix (λ (o : OutputSeen S). o.taken) (λ o. o.failures) old new octets
+  IsCutOff octets = WrotePrefix old.seen new.seen octets
 
   -- it took a part of the octets, from the front, and did not fail
   abbrev pub IsPartWritten : List ℕ → Type 0
-  IsPartWritten octets = WrotePart (λ (o : OutputSeen S). o.taken) (λ o. o.failures) old new octets
+  IsPartWritten octets = WrotePart old.seen new.seen octets
 
   -- the octets were written, and the status is the one that was asked for; or the sink failed
   abbrev pub IsPut : List ℕ → Status → Status → Type 0

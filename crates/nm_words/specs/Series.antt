@@ -1,18 +1,17 @@
 -- The word `series`: what interfaces or sources do over time.
-use Rattle.std.specs.Prelude.{◌≡◌, ◌⊎◌, ℕ, ◌*◌, ◌<◌, ◌≤◌, List, length, Option, Ok, codes}
+use Rattle.std.specs.Prelude.{◌≡◌, ◌⊎◌, ℕ, ◌*◌, ◌<◌, ◌≤◌, List, length, Ok, codes}
 use Rattle.nm_topology.specs.Topology.{topology_of}
 use Rattle.nm_topology.specs.TopologyValue.{TopologyValue}
 use Rattle.nm_command.specs.declared.status.Status.{Status}
 use Rattle.nm_command.specs.declared.status.Status.TheVariants.{Done, Rows, File, Memory}
 use Rattle.nm_command.specs.declared.view.Subject.{Subject}
 use Rattle.nm_command.specs.declared.view.Subject.TheVariants.{Interfaces, Sources}
-use Rattle.nm_files.specs.Writing.{WroteAll, WrotePrefix}
 use Rattle.nm_series.specs.Flows.{AreLines}
 use Rattle.nm_series.specs.Rows.{IsIfaceStep}
 use Rattle.nm_series.specs.Steps.{AreAllSteps, AreSteps, steps_in}
 use Rattle.nm_series.specs.declared.steps.TheConstants.{MAX_ROWS}
 use Rattle.nm_words.specs.Input.{HasTopology, IsRefused}
-use Rattle.nm_words.specs.Output.{Exchange, FailsOfInput, OutputSeen}
+use Rattle.nm_words.specs.Output.{Exchange, FailsOfInput, IsCutOff, IsWritten, OutputSeen}
 
 -- the names of the columns
 abbrev pub columns_of : Subject → List ℕ
@@ -56,16 +55,16 @@ HasManyRows subject step text status = IsRefused text status
 
 -- What the sink took: all; or a part of the first so many steps, where it failed; or nothing, or
 -- those, where memory was refused.
-module _ {S : Type 0} (taken : S → Option (List ℕ)) (failures : S → ℕ) (old new : S)
+module _ {S : Type 0} (old new : OutputSeen S)
     (subject : Subject) (step : ℕ) (t : TopologyValue) where
   abbrev pub WritesSteps : Status → Type 0
   WritesSteps status =
       ((status ≡ Done) × ((octets : List ℕ) × TellsAll subject step t octets
-      × WroteAll taken failures old new octets))
+      × IsWritten old new octets))
       ⊎ ((status ≡ File) × ((steps : ℕ) × (octets : List ℕ)
-      × TellsSteps subject step t steps octets × WrotePrefix taken failures old new octets))
+      × TellsSteps subject step t steps octets × IsCutOff old new octets))
       ⊎ ((status ≡ Memory) × ((new ≡ old) ⊎ ((steps : ℕ) × (octets : List ℕ)
-      × TellsSteps subject step t steps octets × WroteAll taken failures old new octets)))
+      × TellsSteps subject step t steps octets × IsWritten old new octets)))
 
 -- what each status says
 module _ {S : Type 0} (before after : Exchange S) where
@@ -73,7 +72,6 @@ module _ {S : Type 0} (before after : Exchange S) where
   EndsSeries topology step subject status =
       ((network : TopologyValue) × HasTopology before.inputs topology network
       × HasFewRows subject step network
-      × WritesSteps (λ (o : OutputSeen S). o.taken) (λ o. o.failures) before.output after.output
-      subject step network status)
+      × WritesSteps before.output after.output subject step network status)
       ⊎ (FailsOfInput before.inputs after.inputs topology (HasManyRows subject step) status
       × (after.output ≡ before.output))

@@ -91,7 +91,7 @@ fn open_wanted<F: Outputs>(
     // Where its file is asked for, it stands behind the others, and was begun.
     ensures opened { (iface : IfaceValue)
         → slice_get wanted.now.network.now.ifaces number ≡ Some iface
-        → OnOk result (HasOpened F.File.taken (F.made outputs.old)
+        → OnOk result (HasOpened F.File.seen (F.made outputs.old)
         (is_wanted (map (λ n. string_bytes n) wanted.now.names.now) iface)
         files.old.files.items files.new.files.items) }
     ensures sound { All IsSound files.new.files.items }
@@ -116,7 +116,7 @@ fn open_all<F: Outputs>(
     wanted: &Wanted<'_>,
     outputs: &mut F,
 ) -> Result<TraceFiles<F::File>, Status>
-    ensures held { IfOk result (λ files. AreHeld F.File.taken (F.made outputs.old)
+    ensures held { IfOk result (λ files. AreHeld F.File.seen (F.made outputs.old)
         wanted.now.network.now (map (λ n. string_bytes n) wanted.now.names.now)
         [] files.files.items) }
     ensures count { IfOk result (λ files.
@@ -145,7 +145,7 @@ fn record_all<S: Sink>(
     requires sound { All IsSound files.old.files.items }
     ensures took { (records : List (TraceRecord (List ℕ)))
         → IsTraceBefore network.now network.now.stop records
-        → OnOk result (FilesTook S.taken S.failures records
+        → OnOk result (FilesTook S.seen records
         files.old.files.items files.new.files.items) }
     ensures fault { IfErr result (λ s. (s ≡ File) ⊎ (s ≡ Memory)) }
 {
@@ -170,7 +170,7 @@ fn close_wanted<F: Outputs>(
     requires there { number < length wanted.now.network.now.ifaces }
     ensures closed { (iface : IfaceValue) (is_asked : Bool) (octets : List ℕ)
         → slice_get wanted.now.network.now.ifaces number ≡ Some iface
-        → HoldsFile F.File.taken (F.made outputs.old) is_asked octets
+        → HoldsFile F.File.seen (F.made outputs.old) is_asked octets
         (get_or files.old.files.items number None)
         → IfOk result (λ o. IsClosedAs (F.made outputs.old) is_asked
         (file_name wanted.now.folder.now iface, octets) (option_map F.closed o)) }
@@ -198,7 +198,7 @@ fn close_all<F: Outputs>(
 ) -> Result<Vec<F::Closed>, Status>
     requires { length files.old.files.items ≡ length wanted.now.network.now.ifaces }
     ensures whole { (records : List (TraceRecord (List ℕ)))
-        → AreHeld F.File.taken (F.made outputs.old) wanted.now.network.now
+        → AreHeld F.File.seen (F.made outputs.old) wanted.now.network.now
         (map (λ n. string_bytes n) wanted.now.names.now) records files.old.files.items
         → IfOk result (λ closed. AreWhole (F.made outputs.old) (map F.closed closed.items)
         (wanted_files wanted.now.network.now (map (λ n. string_bytes n) wanted.now.names.now)

@@ -33,8 +33,8 @@ impl Output {
 
 /// Writes a text, and gives the sink back.
 fn put<O: Sink>(output: Output, mut out: O) -> (Status, O)
-    ensures { IsPut (output_seen O.taken O.failures out)
-        (output_seen O.taken O.failures result.1) output.text.items output.status result.0 }
+    ensures { IsPut (output_seen O.seen out)
+        (output_seen O.seen result.1) output.text.items output.status result.0 }
 {
     match write_all(&mut out, output.text.as_slice()) {
         Ok(()) => (output.status, out),
@@ -45,8 +45,8 @@ fn put<O: Sink>(output: Output, mut out: O) -> (Status, O)
 /// Ends a word: writes what it says, or hands on the status with which it says nothing. Gives the
 /// sink back.
 pub fn end<O: Sink>(said: Result<Output, Status>, out: O) -> (Status, O)
-    ensures written { IfOk said (λ output. IsPut (output_seen O.taken O.failures out)
-        (output_seen O.taken O.failures result.1) output.text.items output.status result.0) }
+    ensures written { IfOk said (λ output. IsPut (output_seen O.seen out)
+        (output_seen O.seen result.1) output.text.items output.status result.0) }
     ensures unsaid { IfErr said (λ status. (result.0 ≡ status) × (result.1 ≡ out)) }
 {
     match said {

@@ -48,8 +48,8 @@ pub fn say_packets<I: Inputs, O: Sink + Drop>(
     out: O,
     progress: &Progress,
 ) -> (Status, O)
-    ensures { EndsPackets (exchange I.seen O.taken O.failures inputs.old out)
-        (exchange I.seen O.taken O.failures inputs.new result.1)
+    ensures { EndsPackets (exchange I.seen O.seen inputs.old out)
+        (exchange I.seen O.seen inputs.new result.1)
         words.now.topology.now words.now.source result.0 }
 {
     end(packets_said(alloc, words, inputs, progress), out)

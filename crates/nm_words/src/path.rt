@@ -82,8 +82,8 @@ pub fn say_path<I: Inputs, O: Sink + Drop>(
     inputs: &mut NamedInputs<I>,
     out: O,
 ) -> (Status, O)
-    ensures { EndsPath (exchange I.seen O.taken O.failures inputs.old out)
-        (exchange I.seen O.taken O.failures inputs.new result.1)
+    ensures { EndsPath (exchange I.seen O.seen inputs.old out)
+        (exchange I.seen O.seen inputs.new result.1)
         words.now.topology.now words.now.node.now words.now.address.now result.0 }
 {
     end(path_said(alloc, words, inputs), out)

@@ -114,8 +114,8 @@ pub fn say_rounds<I: Inputs, O: Sink + Drop>(
 ) -> (Status, O)
     requires some { 1 ≤ max }
     requires few { max ≤ MAX_ROUNDS }
-    ensures { EndsRounds (exchange I.seen O.taken O.failures inputs.old out)
-        (exchange I.seen O.taken O.failures inputs.new result.1)
+    ensures { EndsRounds (exchange I.seen O.seen inputs.old out)
+        (exchange I.seen O.seen inputs.new result.1)
         topology.entry.now max result.0 }
 {
     end(rounds_said(alloc, topology, max, inputs, progress), out)

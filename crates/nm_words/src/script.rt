@@ -106,8 +106,8 @@ pub fn say_script<I: Inputs, O: Sink + Drop>(
     inputs: &mut NamedInputs<I>,
     out: O,
 ) -> (Status, O)
-    ensures { EndsScript (exchange I.seen O.taken O.failures inputs.old out)
-        (exchange I.seen O.taken O.failures inputs.new result.1)
+    ensures { EndsScript (exchange I.seen O.seen inputs.old out)
+        (exchange I.seen O.seen inputs.new result.1)
         topology.entry.now steps.entry.now result.0 }
 {
     end(script_said(alloc, topology, steps, inputs), out)

@@ -9,7 +9,7 @@ ghost use Rattle.nm_series.specs.Series.{IsSeries};
 ghost use Rattle.nm_series.specs.Steps.{steps_in};
 ghost use Rattle.nm_series.specs.declared.steps.TheConstants.{MAX_ROWS};
 ghost use Rattle.nm_words.specs.Input.{HasTopology, inputs_seen};
-ghost use Rattle.nm_words.specs.Output.{FailsOfInput, exchange};
+ghost use Rattle.nm_words.specs.Output.{FailsOfInput, exchange, output_seen};
 ghost use Rattle.nm_words.specs.Series.{EndsSeries, HasFewRows, HasManyRows, TellsOf, WritesSteps};
 ghost use Rattle.nm_words.specs.Series.{columns_of, rows_in};
 
@@ -67,9 +67,9 @@ fn rows_of(topology: &Topology, step: u64, subject: Subject) -> u64
 
 /// Gives a sink octets.
 fn put<S: Sink>(sink: &mut S, octets: &[u8]) -> Result<(), Status>
-    ensures whole { OnOk result (WroteAll S.taken S.failures sink.old sink.new octets.now) }
+    ensures whole { OnOk result (WroteAll (S.seen sink.old) (S.seen sink.new) octets.now) }
     ensures cut { IfErr result (λ status. (status ≡ File)
-        × WrotePrefix S.taken S.failures sink.old sink.new octets.now) }
+        × WrotePrefix (S.seen sink.old) (S.seen sink.new) octets.now) }
 {
     match write_all(sink, octets) {
         Ok(()) => Ok(()),
@@ -89,8 +89,8 @@ fn write_from_begin<T: Told, S: Sink>(
     requires tells { TellsOf T.are_rows subject topology.now }
     requires series { IsSeries T.had topology.now series.old }
     requires begin { series.old.time ≡ 0 }
-    ensures { WritesSteps S.taken S.failures sink.old sink.new subject series.old.step
-        topology.now (ended result) }
+    ensures { WritesSteps (output_seen S.seen sink.old) (output_seen S.seen sink.new)
+        subject series.old.step topology.now (ended result) }
 {
     put(sink, columns_of(subject))?;
     for _ in 0..u64::MAX {
@@ -111,8 +111,8 @@ fn write_all_steps<T: Told, S: Sink>(
     progress: &Progress,
 ) -> Result<(), Status>
     requires { TellsOf T.are_rows words.now.subject topology.now }
-    ensures { WritesSteps S.taken S.failures sink.old sink.new words.now.subject words.now.step
-        topology.now (ended result) }
+    ensures { WritesSteps (output_seen S.seen sink.old) (output_seen S.seen sink.new)
+        words.now.subject words.now.step topology.now (ended result) }
 {
     let mut series = Series::<T>::begin(alloc, topology, words.step)?;
     write_from_begin(alloc, topology, words.subject, &mut series, sink, progress)
@@ -126,8 +126,8 @@ fn write_steps<S: Sink>(
     sink: &mut S,
     progress: &Progress,
 ) -> Result<(), Status>
-    ensures { WritesSteps S.taken S.failures sink.old sink.new words.now.subject words.now.step
-        topology.now (ended result) }
+    ensures { WritesSteps (output_seen S.seen sink.old) (output_seen S.seen sink.new)
+        words.now.subject words.now.step topology.now (ended result) }
 {
     match words.subject {
         Subject::Interfaces => write_all_steps::<IfaceTotals, S>(
@@ -173,8 +173,8 @@ pub fn write_series<I: Inputs, O: Sink + Drop>(
 ) -> (Status, O)
     requires some { 1 ≤ words.now.step }
     requires short { words.now.step ≤ MAX_TIME }
-    ensures { EndsSeries (exchange I.seen O.taken O.failures inputs.old out)
-        (exchange I.seen O.taken O.failures inputs.new result.1)
+    ensures { EndsSeries (exchange I.seen O.seen inputs.old out)
+        (exchange I.seen O.seen inputs.new result.1)
         words.now.topology.now words.now.step words.now.subject result.0 }
 {
     match read_series(alloc, words, inputs) {

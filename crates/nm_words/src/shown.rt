@@ -72,8 +72,8 @@ pub fn say_view<I: Inputs, O: Sink + Drop>(
     out: O,
     progress: &Progress,
 ) -> (Status, O)
-    ensures { EndsShown (exchange I.seen O.taken O.failures inputs.old out)
-        (exchange I.seen O.taken O.failures inputs.new result.1)
+    ensures { EndsShown (exchange I.seen O.seen inputs.old out)
+        (exchange I.seen O.seen inputs.new result.1)
         topology.entry.now result.0 }
 {
     end(view_said(alloc, topology, view, inputs, progress), out)
@@ -131,8 +131,8 @@ pub fn say_text<I: Inputs, O: Sink + Drop>(
     inputs: &mut NamedInputs<I>,
     out: O,
 ) -> (Status, O)
-    ensures { EndsText (exchange I.seen O.taken O.failures inputs.old out)
-        (exchange I.seen O.taken O.failures inputs.new result.1)
+    ensures { EndsText (exchange I.seen O.seen inputs.old out)
+        (exchange I.seen O.seen inputs.new result.1)
         topology.entry.now iface.entry.now result.0 }
 {
     end(text_said(alloc, topology, iface, inputs), out)

@@ -47,7 +47,7 @@ fn write_one<S: Sink>(
 ) -> Result<(), TraceFault>
     requires time { «record».now.time ≤ MAX_TIME }
     requires sound { file.old.failed ≡ false }
-    ensures { WritesOn S.taken S.failures file.old file.new result
+    ensures { WritesOn S.seen file.old file.new result
         (written_at file.old.form traced.now.iface (going traced.now.ways («record».now ∷ []))) }
 {
     if !goes(traced.ways, record.dir) {
@@ -74,7 +74,7 @@ pub fn write_trace_file<S: Sink + Drop>(
 ) -> (Result<(), TraceFault>, S)
     ensures { (records : List (TraceRecord (List ℕ)))
         → IsTraceBefore topology.now topology.now.stop records
-        → Writes S.taken S.failures sink result.1 result.0
+        → Writes (S.seen sink) (S.seen result.1) result.0
         (trace_file form traced.now.iface (going traced.now.ways records)) }
 {
     let mut file = PcapOut::in_form(sink, form);
@@ -93,7 +93,7 @@ fn write_file<S: Sink>(
     requires { file.old.failed ≡ false }
     ensures { (records : List (TraceRecord (List ℕ)))
         → IsTraceBefore topology.now topology.now.stop records
-        → WritesOn S.taken S.failures file.old file.new result
+        → WritesOn S.seen file.old file.new result
         (trace_file file.old.form traced.now.iface (going traced.now.ways records)) }
 {
     sink_outcome(file.start())?;
@@ -116,7 +116,7 @@ fn write_all_of<S: Sink>(
     requires sound { file.old.failed ≡ false }
     ensures { (records : List (TraceRecord (List ℕ)))
         → IsTraceBefore topology.now topology.now.stop records
-        → WritesOn S.taken S.failures file.old file.new result
+        → WritesOn S.seen file.old file.new result
         (written_at file.old.form traced.now.iface (going traced.now.ways records)) }
 {
     for number in 0..u64::MAX {

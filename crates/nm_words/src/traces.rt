@@ -30,8 +30,8 @@ pub fn write_trace<I: Inputs, O: Sink + Drop>(
     out: O,
     progress: &Progress,
 ) -> (Status, O)
-    ensures { EndsTrace (exchange I.seen O.taken O.failures inputs.old out)
-        (exchange I.seen O.taken O.failures inputs.new result.1)
+    ensures { EndsTrace (exchange I.seen O.seen inputs.old out)
+        (exchange I.seen O.seen inputs.new result.1)
         words.now.form words.now.ways words.now.topology.now
         (option_map (λ n. n.now) words.now.iface) result.0 }
 {

@@ -7,5 +7,5 @@ abbrev pub invariant-loop-number : goal.invariant-loop-number
 invariant-loop-number g l = record {
   within : l.number ≤ length l.records;
   sound : l.file.failed ≡ false;
-  front : WroteOn g.S.Sink.taken g.S.Sink.failures l.fn.file l.file (written_at l.fn.file.form l.iface (take l.number l.records));
+  front : WroteOn g.S.Sink.seen l.fn.file l.file (written_at l.fn.file.form l.iface (take l.number l.records));
 }

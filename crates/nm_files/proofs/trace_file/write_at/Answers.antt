@@ -9,11 +9,11 @@ use Rattle.nm_files.proofs.trace_file.write_at.Goals as goal
 pub returns-then-ne : goal.returns-then-ne
 returns-then-ne g c =
     let other : (c.args.record.now.iface == c.args.iface) ≡ false = search rules in
-    subst (WroteOn g.S.Sink.taken g.S.Sink.failures c.args.file.now c.args.file.now) (sym (written_elsewhere c.args.file.now.form c.args.iface c.args.record.now other))
-    (WroteOn-nil g.S.Sink.taken g.S.Sink.failures c.args.file.now c.requires.sound)
+    subst (WroteOn g.S.Sink.seen c.args.file.now c.args.file.now) (sym (written_elsewhere c.args.file.now.form c.args.iface c.args.record.now other))
+    (WroteOn-nil g.S.Sink.seen c.args.file.now c.requires.sound)
 
 pub returns : goal.returns
 returns g c =
     let same : (c.args.record.now.iface == c.args.iface) ≡ true = search rules in
-    subst (WritesOn g.S.Sink.taken g.S.Sink.failures c.args.file.now c.put.new.self c.sink_outcome.result) (sym (written_there c.args.file.now.form c.args.iface c.args.record.now same))
-    (WritesOn-put g.S.Sink.taken g.S.Sink.failures _ _ c.put.result _ (written c.args.file.now.form (record_octets c.args.record.now)) c.sink_outcome.ensures c.requires.sound c.put.ensures)
+    subst (WritesOn g.S.Sink.seen c.args.file.now c.put.new.self c.sink_outcome.result) (sym (written_there c.args.file.now.form c.args.iface c.args.record.now same))
+    (WritesOn-put g.S.Sink.seen _ _ c.put.result _ (written c.args.file.now.form (record_octets c.args.record.now)) c.sink_outcome.ensures c.requires.sound c.put.ensures)

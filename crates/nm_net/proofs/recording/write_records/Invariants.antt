@@ -5,6 +5,6 @@ use Rattle.nm_net.proofs.recording.write_records.Given as goal
 
 abbrev pub invariant-loop : goal.invariant-loop
 invariant-loop g l = record {
-  streams : Streams g.S.Sink.taken g.S.Sink.failures g.C.Counts.exact g.C.Counts.home l.initial.files.files.items l.files.files.items;
+  streams : Streams g.S.Sink.seen g.C.Counts.exact g.C.Counts.home l.initial.files.files.items l.files.files.items;
   last : l.all.is_last ≡ true → WasFinished g.C.Counts.exact g.C.Counts.home false;
 }

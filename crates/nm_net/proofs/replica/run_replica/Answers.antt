@@ -19,12 +19,12 @@ loop-polls-init g c = record {
   seats = refl;
   passes = refl;
   idle = search rules;
-  streams = streams_none g.C.Counts.exact g.C.Counts.home g.S.Sink.taken g.S.Sink.failures c.args.holdings.now.files.files.items c.requires.files;
+  streams = streams_none g.C.Counts.exact g.C.Counts.home g.S.Sink.seen c.args.holdings.now.files.files.items c.requires.files;
 }
 
 pub returns-in-Some-clause-streams : goal.returns-in-Some-clause-streams
 returns-in-Some-clause-streams g c = λ _.
-    streams_more g.C.Counts.exact g.C.Counts.home g.S.Sink.taken g.S.Sink.failures c.args.holdings.now.files.files.items c.loop-polls.holdings.files.files.items c.poll-in-loop-polls.new.holdings.files.files.items
+    streams_more g.C.Counts.exact g.C.Counts.home g.S.Sink.seen c.args.holdings.now.files.files.items c.loop-polls.holdings.files.files.items c.poll-in-loop-polls.new.holdings.files.files.items
     c.loop-polls.invariant.streams c.in-Ok-poll.ensures.streams
 
 pub returns-in-Some-clause-ends : goal.returns-in-Some-clause-ends
@@ -50,6 +50,6 @@ loop-polls-preserved g c =
       seats = c.in-Ok-poll.ensures.seats ∙ c.loop-polls.invariant.seats;
       passes = c.in-Ok-poll.ensures.passes ∙ c.loop-polls.invariant.passes;
       idle = subst (λ idle. start + idle ≤ after) (sym c.idle_periods-idle.ensures) many;
-      streams = streams_more g.C.Counts.exact g.C.Counts.home g.S.Sink.taken g.S.Sink.failures c.args.holdings.now.files.files.items c.loop-polls.holdings.files.files.items
+      streams = streams_more g.C.Counts.exact g.C.Counts.home g.S.Sink.seen c.args.holdings.now.files.files.items c.loop-polls.holdings.files.files.items
           c.poll-in-loop-polls.new.holdings.files.files.items c.loop-polls.invariant.streams c.in-Ok-poll.ensures.streams;
     }

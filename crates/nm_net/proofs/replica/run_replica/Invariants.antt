@@ -9,5 +9,5 @@ invariant-loop-polls g l = record {
   seats : length l.holdings.seats.items ≡ length l.fn.holdings.seats.items;
   passes : length l.holdings.passes.items ≡ length l.fn.holdings.passes.items;
   idle : g.T.Transport.elapsed_periods l.fn.transport + l.idle ≤ g.T.Transport.elapsed_periods l.transport;
-  streams : Streams g.S.Sink.taken g.S.Sink.failures g.C.Counts.exact g.C.Counts.home l.fn.holdings.files.files.items l.holdings.files.files.items;
+  streams : Streams g.S.Sink.seen g.C.Counts.exact g.C.Counts.home l.fn.holdings.files.files.items l.holdings.files.files.items;
 }

@@ -17,8 +17,8 @@ pub close_one-requires-clause-counted : goal.close_one-requires-clause-counted
 close_one-requires-clause-counted g c =
     let made = g.F.Outputs.made in
     let both = c.take_file.ensures (made c.args.outputs.now) c.loop-number.invariant.counted in
-    subst (λ m. IsCounted g.F.File.Sink.taken m (Some c.in-Some.file)) (sym c.loop-number.invariant.same)
-    (subst (IsCounted g.F.File.Sink.taken (made c.args.outputs.now)) c.in-Some.is both.0)
+    subst (λ m. IsCounted g.F.File.Sink.seen m (Some c.in-Some.file)) (sym c.loop-number.invariant.same)
+    (subst (IsCounted g.F.File.Sink.seen (made c.args.outputs.now)) c.in-Some.is both.0)
 
 pub loop-number-preserved : goal.loop-number-preserved
 loop-number-preserved g c =

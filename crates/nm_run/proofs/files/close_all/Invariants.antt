@@ -6,7 +6,7 @@ use Rattle.nm_run.proofs.files.close_all.Given as goal
 abbrev pub invariant-loop-number : goal.invariant-loop-number
 invariant-loop-number g l = record {
   within : l.number ≤ length l.folder.topology.now.ifaces;
-  counted : All (λ own. AreCounted g.F.File.Sink.taken (g.F.Outputs.made l.fn.outputs) own.files.items) l.files.items;
+  counted : All (λ own. AreCounted g.F.File.Sink.seen (g.F.Outputs.made l.fn.outputs) own.files.items) l.files.items;
   closed : AreClosed g.F.Outputs.closed (g.F.Outputs.made l.fn.outputs) l.folder.folder.now l.folder.topology.now l.totals l.number l.closed.items;
   same : g.F.Outputs.made l.outputs ≡ g.F.Outputs.made l.fn.outputs;
 }

@@ -6,9 +6,9 @@ use Rattle.nm_run.proofs.files.open_own.Goals as goal
 
 pub returns-clause-counted : goal.returns-clause-counted
 returns-clause-counted g c =
-    let taken = g.F.File.Sink.taken in
+    let seen = g.F.File.Sink.seen in
     let made = g.F.Outputs.made c.args.outputs.now in
     let begun = c.in_ok-open-in-Ok.ensures.begun in
-    subst (AreCounted taken made) (sym begun.last)
-    (All-push (IsCounted taken made) c.args.files.now.files.items (Some begun.file) c.requires.counted
-    (begun_counted taken made c.in-Ok.sink begun.file c.in-Ok.ensures.empty begun.begun))
+    subst (AreCounted seen made) (sym begun.last)
+    (All-push (IsCounted seen made) c.args.files.now.files.items (Some begun.file) c.requires.counted
+    (begun_counted seen made c.in-Ok.sink begun.file c.in-Ok.ensures.empty begun.begun))

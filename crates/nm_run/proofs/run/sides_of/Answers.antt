@@ -14,9 +14,9 @@ loop-index-preserved g c =
           (All-push (λ s. All (IsOwnerOf board) s.holdings.seats.items × All IsSound s.holdings.files.files.items) c.loop-index.sides.items c.in_ok-side_of.field-0
           c.loop-index.invariant.sides
           (subst (λ z. All (IsOwnerOf board) z.items) (sym c.in_ok-side_of.ensures.seats) c.in_ok-own.ensures.own, c.in_ok-side_of.ensures.files));
-      counted = subst (All (λ s. AreCounted g.F.File.Sink.taken (g.F.Outputs.made c.args.outputs.now) s.holdings.files.files.items)) (sym last)
-          (All-push (λ s. AreCounted g.F.File.Sink.taken (g.F.Outputs.made c.args.outputs.now) s.holdings.files.files.items) c.loop-index.sides.items c.in_ok-side_of.field-0
+      counted = subst (All (λ s. AreCounted g.F.File.Sink.seen (g.F.Outputs.made c.args.outputs.now) s.holdings.files.files.items)) (sym last)
+          (All-push (λ s. AreCounted g.F.File.Sink.seen (g.F.Outputs.made c.args.outputs.now) s.holdings.files.files.items) c.loop-index.sides.items c.in_ok-side_of.field-0
           c.loop-index.invariant.counted
-          (subst (λ m. AreCounted g.F.File.Sink.taken m c.in_ok-side_of.field-0.holdings.files.files.items) c.loop-index.invariant.same c.in_ok-side_of.ensures.counted));
+          (subst (λ m. AreCounted g.F.File.Sink.seen m c.in_ok-side_of.field-0.holdings.files.files.items) c.loop-index.invariant.same c.in_ok-side_of.ensures.counted));
       same = c.in_ok-side_of.ensures.same ∙ c.loop-index.invariant.same;
     }

@@ -7,6 +7,6 @@ abbrev pub invariant-loop-index : goal.invariant-loop-index
 invariant-loop-index g l = record {
   rest : All (IsOwnerOf l.opened.board.now) l.rest.items;
   sides : All (λ s. All (IsOwnerOf l.opened.board.now) s.holdings.seats.items × All IsSound s.holdings.files.files.items) l.sides.items;
-  counted : All (λ s. AreCounted g.F.File.Sink.taken (g.F.Outputs.made l.initial.outputs) s.holdings.files.files.items) l.sides.items;
+  counted : All (λ s. AreCounted g.F.File.Sink.seen (g.F.Outputs.made l.initial.outputs) s.holdings.files.files.items) l.sides.items;
   same : g.F.Outputs.made l.outputs ≡ g.F.Outputs.made l.initial.outputs;
 }

@@ -22,9 +22,9 @@ loop-number-preserved g c =
       whole = λ records held.
           let count = c.requires in
           let there = held.each n is.0 (omega (arith, low, count)) is.1 in
-          let now = subst (HoldsFile g.F.File.Sink.taken made (is_wanted names is.0) (octets_after n records)) (sym (c.loop-number.invariant.left n (omega arith))) there in
+          let now = subst (HoldsFile g.F.File.Sink.seen made (is_wanted names is.0) (octets_after n records)) (sym (c.loop-number.invariant.left n (omega arith))) there in
           let closed = c.in_ok-closed.ensures.closed is.0 (is_wanted names is.0) (octets_after n records) is.1
-          (subst (λ m. HoldsFile g.F.File.Sink.taken m (is_wanted names is.0) (octets_after n records) (get_or c.loop-number.files.files.items n None)) (sym same) now) in
+          (subst (λ m. HoldsFile g.F.File.Sink.seen m (is_wanted names is.0) (octets_after n records) (get_or c.loop-number.files.files.items n None)) (sym same) now) in
           whole_more g.F.Outputs.closed (wanted_file names c.args.wanted.now.folder.now records) t.ifaces n is.0 made c.loop-number.all.items c.push_some.new.list.items c.in_ok-closed.closed is.1
           c.in_ok-push_some.ensures
           (one_closed g.F.Outputs.closed made names c.args.wanted.now.folder.now records n is.0 c.in_ok-closed.closed

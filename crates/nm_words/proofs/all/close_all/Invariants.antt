@@ -11,7 +11,7 @@ invariant-loop-number g l = record {
   within : l.number ≤ length l.wanted.network.now.ifaces;
   left : (n : ℕ) → l.number ≤ n → get_or l.files.files.items n None ≡ get_or l.fn.files.files.items n None;
   whole : (records : List (Record (List ℕ)))
-      → AreHeld g.F.File.Sink.taken (g.F.Outputs.made l.fn.outputs) l.wanted.network.now (map (λ n. string_bytes n) l.wanted.names.now) records l.fn.files.files.items
+      → AreHeld g.F.File.Sink.seen (g.F.Outputs.made l.fn.outputs) l.wanted.network.now (map (λ n. string_bytes n) l.wanted.names.now) records l.fn.files.files.items
       → AreWhole (g.F.Outputs.made l.fn.outputs) (map g.F.Outputs.closed l.all.items)
       (flat_map (wanted_file (map (λ n. string_bytes n) l.wanted.names.now) l.wanted.folder.now records) (enumerate_from 0 (take l.number l.wanted.network.now.ifaces)));
   same : g.F.Outputs.made l.outputs ≡ g.F.Outputs.made l.fn.outputs;

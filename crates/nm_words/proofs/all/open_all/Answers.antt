@@ -10,7 +10,7 @@ loop-number-init g c = record {
   within = omega arith;
   count = ap length c.new-files.ensures;
   sound = search rules;
-  held = none_held g.F.File.Sink.taken (g.F.Outputs.made c.args.outputs.now) c.args.wanted.now.network.now (map (λ n. string_bytes n) c.args.wanted.now.names.now) [] c.new-files.result.files.items c.new-files.ensures;
+  held = none_held g.F.File.Sink.seen (g.F.Outputs.made c.args.outputs.now) c.args.wanted.now.network.now (map (λ n. string_bytes n) c.args.wanted.now.names.now) [] c.new-files.result.files.items c.new-files.ensures;
   same = refl;
 }
 
@@ -23,11 +23,11 @@ loop-number-preserved g c =
     let files = c.loop-number.files.files.items in
     let low : n < length t.ifaces = search rules in
     let is = element t.ifaces n low in
-    let opened = subst (λ m. HasOpened g.F.File.Sink.taken m (is_wanted names is.0) files c.open_wanted.new.files.files.items) c.loop-number.invariant.same (c.in_ok-open_wanted.ensures.opened is.0 is.1) in
+    let opened = subst (λ m. HasOpened g.F.File.Sink.seen m (is_wanted names is.0) files c.open_wanted.new.files.files.items) c.loop-number.invariant.same (c.in_ok-open_wanted.ensures.opened is.0 is.1) in
     record {
       within = omega (arith, low);
       count = let long = ap length opened.1 ∙ length-append files (opened.0 ∷ []) in let was = c.loop-number.invariant.count in omega (arith, long, was);
       sound = c.in_ok-open_wanted.ensures.sound;
-      held = one_held g.F.File.Sink.taken made t names files c.open_wanted.new.files.files.items n is.0 c.loop-number.invariant.count is.1 c.loop-number.invariant.held opened;
+      held = one_held g.F.File.Sink.seen made t names files c.open_wanted.new.files.files.items n is.0 c.loop-number.invariant.count is.1 c.loop-number.invariant.held opened;
       same = c.in_ok-open_wanted.ensures.same ∙ c.loop-number.invariant.same;
     }

@@ -8,6 +8,6 @@ invariant-loop-number g l = record {
   within : l.number ≤ length l.wanted.network.now.ifaces;
   count : length l.files.files.items ≡ l.number;
   sound : All IsSound l.files.files.items;
-  held : AreHeld g.F.File.Sink.taken (g.F.Outputs.made l.fn.outputs) l.wanted.network.now (map (λ n. string_bytes n) l.wanted.names.now) [] l.files.files.items;
+  held : AreHeld g.F.File.Sink.seen (g.F.Outputs.made l.fn.outputs) l.wanted.network.now (map (λ n. string_bytes n) l.wanted.names.now) [] l.files.files.items;
   same : g.F.Outputs.made l.outputs ≡ g.F.Outputs.made l.fn.outputs;
 }

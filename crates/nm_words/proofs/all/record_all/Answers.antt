@@ -10,8 +10,8 @@ pub loop-number-init : goal.loop-number-init
 loop-number-init g c = record {
   tracing = c.requires.tracing;
   sound = c.requires.sound;
-  took = λ records trace. subst (λ k. FilesTook g.S.Sink.taken g.S.Sink.failures (take k records) c.args.files.now.files.items c.args.files.now.files.items) (sym c.requires.none)
-      (no_records g.S.Sink.taken g.S.Sink.failures c.args.files.now.files.items);
+  took = λ records trace. subst (λ k. FilesTook g.S.Sink.seen (take k records) c.args.files.now.files.items c.args.files.now.files.items) (sym c.requires.none)
+      (no_records g.S.Sink.seen c.args.files.now.files.items);
 }
 
 pub loop-number-preserved : goal.loop-number-preserved
@@ -23,8 +23,8 @@ loop-number-preserved g c =
       sound = c.in_ok-put.ensures.sound;
       took = λ records trace.
           let handed = subst (λ (o : Option (Record (List ℕ))). Hands records n (Ok o) m) c.in-Some.is (c.in_ok-record.ensures.next records trace) in
-          subst (λ k. FilesTook g.S.Sink.taken g.S.Sink.failures (take k records) c.args.files.now.files.items c.put.new.self.files.items) (sym handed.1)
-          (next_record g.S.Sink.taken g.S.Sink.failures records n c.in-Some.record c.args.files.now.files.items c.loop-number.files.files.items c.put.new.self.files.items handed.0
+          subst (λ k. FilesTook g.S.Sink.seen (take k records) c.args.files.now.files.items c.put.new.self.files.items) (sym handed.1)
+          (next_record g.S.Sink.seen records n c.in-Some.record c.args.files.now.files.items c.loop-number.files.files.items c.put.new.self.files.items handed.0
           (c.loop-number.invariant.took records trace) c.in_ok-put.ensures.took);
     }
 
@@ -33,4 +33,4 @@ returns-in_default-clause-took g c = λ records trace.
     let n = c.loop-number.tracer.records.handed in
     let handed = subst (λ (o : Option (Record (List ℕ))). Hands records n (Ok o) c.next_record.new.tracer.records.handed) c.in_default.is (c.in_ok-record.ensures.next records trace) in
     let all = handed.0 in
-    subst (λ l. FilesTook g.S.Sink.taken g.S.Sink.failures l c.args.files.now.files.items c.loop-number.files.files.items) (take_all n records (omega (arith, all))) (c.loop-number.invariant.took records trace)
+    subst (λ l. FilesTook g.S.Sink.seen l c.args.files.now.files.items c.loop-number.files.files.items) (take_all n records (omega (arith, all))) (c.loop-number.invariant.took records trace)

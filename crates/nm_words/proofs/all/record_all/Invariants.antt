@@ -10,5 +10,5 @@ invariant-loop-number g l = record {
   tracing : IsTracing pending_of l.network l.tracer;
   sound : All IsSound l.files.files.items;
   took : (records : List (Record (List ℕ))) → IsTraceBefore l.network l.network.stop records
-      → FilesTook g.S.Sink.taken g.S.Sink.failures (take l.tracer.records.handed records) l.fn.files.files.items l.files.files.items;
+      → FilesTook g.S.Sink.seen (take l.tracer.records.handed records) l.fn.files.files.items l.files.files.items;
 }

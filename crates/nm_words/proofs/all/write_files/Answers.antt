@@ -15,9 +15,9 @@ pub returns-clause-whole : goal.returns-clause-whole
 returns-clause-whole g c = λ records trace.
     let t = c.args.wanted.now.network.now in
     let names = map (λ n. string_bytes n) c.args.wanted.now.names.now in
-    let taken = g.F.File.Sink.taken in
+    let seen = g.F.File.Sink.seen in
     let same = c.in_ok-files.ensures.same in
-    let held = more_held taken (g.F.Outputs.made c.args.outputs.now) t names g.F.File.Sink.failures records c.in_ok-files.files.files.items c.record_all.new.files.files.items
+    let held = more_held seen (g.F.Outputs.made c.args.outputs.now) t names records c.in_ok-files.files.files.items c.record_all.new.files.files.items
     c.in_ok-files.ensures.held (c.in_ok-record_all.ensures.took records trace) in
     subst (λ m. IfOk c.close_all.result (λ closed. AreWhole m (map g.F.Outputs.closed closed.items) (wanted_files t names c.args.wanted.now.folder.now records))) same
-    (c.close_all.ensures.whole records (subst (λ m. AreHeld taken m t names records c.record_all.new.files.files.items) (sym same) held))
+    (c.close_all.ensures.whole records (subst (λ m. AreHeld seen m t names records c.record_all.new.files.files.items) (sym same) held))

@@ -11,8 +11,8 @@ loop-init g c =
     record {
       series = c.requires.series;
       step = refl;
-      going = begins g.S.Sink.taken g.S.Sink.failures (IsStepOf c.args.subject t) (columns_of c.args.subject) c.args.series.now.step t.stop c.args.sink.now c.put.new.sink c.args.series.now.time
-          (subst (λ l. WroteAll g.S.Sink.taken g.S.Sink.failures c.args.sink.now c.put.new.sink l) c.columns_of.ensures c.in_ok-put.ensures.whole) c.requires.begin;
+      going = begins (IsStepOf c.args.subject t) (columns_of c.args.subject) c.args.series.now.step t.stop (g.S.Sink.seen c.args.sink.now) (g.S.Sink.seen c.put.new.sink) c.args.series.now.time
+          (subst (λ l. WroteAll (g.S.Sink.seen c.args.sink.now) (g.S.Sink.seen c.put.new.sink) l) c.columns_of.ensures c.in_ok-put.ensures.whole) c.requires.begin;
     }
 
 pub loop-preserved : goal.loop-preserved
@@ -22,10 +22,10 @@ loop-preserved g c =
     record {
       series = next.0;
       step = next.3 ∙ c.loop.invariant.step;
-      going = goes_on g.S.Sink.taken g.S.Sink.failures (IsStepOf c.args.subject t) (columns_of c.args.subject) c.args.series.now.step t.stop c.args.sink.now c.loop.sink c.put-in-loop.new.sink
+      going = goes_on (IsStepOf c.args.subject t) (columns_of c.args.subject) c.args.series.now.step t.stop (g.S.Sink.seen c.args.sink.now) (g.S.Sink.seen c.loop.sink) (g.S.Sink.seen c.put-in-loop.new.sink)
           c.loop.series.time c.next.new.self.time c.in-Some.text.items c.loop.invariant.going next.1
           (next.2 ∙ ap (λ s. min (c.loop.series.time + s) t.stop) c.loop.invariant.step) (c.requires.tells _ _ _ next.4)
-          (subst (λ l. WroteAll g.S.Sink.taken g.S.Sink.failures c.loop.sink c.put-in-loop.new.sink l) c.as_slice.ensures.value c.in_ok-put-2.ensures.whole);
+          (subst (λ l. WroteAll (g.S.Sink.seen c.loop.sink) (g.S.Sink.seen c.put-in-loop.new.sink) l) c.as_slice.ensures.value c.in_ok-put-2.ensures.whole);
     }
 
 pub returns-in_err-put : goal.returns-in_err-put
@@ -38,7 +38,7 @@ returns-in_err-put g c =
         0,
         columns_of c.args.subject,
         refl,
-        subst (λ l. WrotePrefix g.S.Sink.taken g.S.Sink.failures c.args.sink.now c.put.new.sink l) c.columns_of.ensures cut.1,
+        subst (λ l. WrotePrefix (g.S.Sink.seen c.args.sink.now) (g.S.Sink.seen c.put.new.sink) l) c.columns_of.ensures cut.1,
       ),
     )))
 
@@ -56,8 +56,8 @@ returns-in_err-put-2 g c =
     let cut = c.in_err-put-2.ensures.cut in
     rw (p.1, p.2, cut.0) (inr (inl (
       refl,
-      is_cut g.S.Sink.taken g.S.Sink.failures (IsStepOf c.args.subject t) (columns_of c.args.subject) c.args.series.now.step t.stop c.args.sink.now c.loop.sink
-          c.put-in-loop.new.sink c.loop.series.time c.next.new.self.time c.in-Some.text.items c.loop.invariant.going
+      is_cut (IsStepOf c.args.subject t) (columns_of c.args.subject) c.args.series.now.step t.stop (g.S.Sink.seen c.args.sink.now) (g.S.Sink.seen c.loop.sink)
+          (g.S.Sink.seen c.put-in-loop.new.sink) c.loop.series.time c.next.new.self.time c.in-Some.text.items c.loop.invariant.going
           (next.2 ∙ ap (λ s. min (c.loop.series.time + s) t.stop) c.loop.invariant.step) (c.requires.tells _ _ _ next.4)
-          (subst (λ l. WrotePrefix g.S.Sink.taken g.S.Sink.failures c.loop.sink c.put-in-loop.new.sink l) c.as_slice.ensures.value cut.1),
+          (subst (λ l. WrotePrefix (g.S.Sink.seen c.loop.sink) (g.S.Sink.seen c.put-in-loop.new.sink) l) c.as_slice.ensures.value cut.1),
     )))

@@ -8,5 +8,5 @@ abbrev pub invariant-loop : goal.invariant-loop
 invariant-loop g l = record {
   series : IsSeries g.T.Told.had l.topology l.series;
   step : l.series.step ≡ l.fn.series.step;
-  going : Going g.S.Sink.taken g.S.Sink.failures (IsStepOf l.fn.subject l.topology) (columns_of l.fn.subject) l.fn.series.step l.topology.stop l.fn.sink l.sink l.series.time;
+  going : Going (IsStepOf l.fn.subject l.topology) (columns_of l.fn.subject) l.fn.series.step l.topology.stop (g.S.Sink.seen l.fn.sink) (g.S.Sink.seen l.sink) l.series.time;
 }

@@ -12,7 +12,7 @@ pub loop-number-init : goal.loop-number-init
 loop-number-init g c = record {
   tracing = c.requires.tracing;
   sound = c.requires.sound;
-  front = λ records trace. no_record (going c.args.traced.now.ways) refl (going_both c.args.traced.now.ways) g.S.Sink.taken g.S.Sink.failures c.args.traced.now.iface records c.args.file.now c.args.tracer.now.records.handed c.requires.none c.requires.sound;
+  front = λ records trace. no_record (going c.args.traced.now.ways) refl (going_both c.args.traced.now.ways) g.S.Sink.seen c.args.traced.now.iface records c.args.file.now c.args.tracer.now.records.handed c.requires.none c.requires.sound;
 }
 
 pub returns-in_err-write_one : goal.returns-in_err-write_one
@@ -22,7 +22,7 @@ returns-in_err-write_one g c records trace =
     let handed = subst (λ (o : Option (Record (List ℕ))). Hands records n (Ok o) m) c.in-Some.is
     (subst (λ r. Hands records n r m) (was_ok c.next_record.result _ c.in_ok-next.next c.in_ok-next.ensures) (c.next_record.ensures.next records trace)) in
     let p = err_from_is_err_and c.from_residual-in_err-write_one.result c.from_residual-in_err-write_one.ensures.1 in
-    rw (p.1, p.2) (last_record (going c.args.traced.now.ways) refl (going_both c.args.traced.now.ways) g.S.Sink.taken g.S.Sink.failures c.args.traced.now.iface records c.args.file.now c.loop-number.file c.write_one.new.file _ n m c.in-Some.record handed.0 handed.1
+    rw (p.1, p.2) (last_record (going c.args.traced.now.ways) refl (going_both c.args.traced.now.ways) g.S.Sink.seen c.args.traced.now.iface records c.args.file.now c.loop-number.file c.write_one.new.file _ n m c.in-Some.record handed.0 handed.1
     (c.loop-number.invariant.front records trace) c.in_err-write_one.ensures)
 
 pub returns-in_default : goal.returns-in_default
@@ -30,13 +30,13 @@ returns-in_default g c records trace =
     let n = c.loop-number.tracer.records.handed in
     let handed = subst (λ (o : Option (Record (List ℕ))). Hands records n (Ok o) c.next_record.new.tracer.records.handed) c.in_default.is
     (subst (λ r. Hands records n r c.next_record.new.tracer.records.handed) (was_ok c.next_record.result _ c.in_ok-next.next c.in_ok-next.ensures) (c.next_record.ensures.next records trace)) in
-    all_records (going c.args.traced.now.ways) refl (going_both c.args.traced.now.ways) g.S.Sink.taken g.S.Sink.failures c.args.traced.now.iface records c.args.file.now c.loop-number.file n handed.0 (c.loop-number.invariant.front records trace)
+    all_records (going c.args.traced.now.ways) refl (going_both c.args.traced.now.ways) g.S.Sink.seen c.args.traced.now.iface records c.args.file.now c.loop-number.file n handed.0 (c.loop-number.invariant.front records trace)
 
 pub returns-in_err-next : goal.returns-in_err-next
 returns-in_err-next g c records trace =
     let p = err_from_is_err_and c.from_residual.result c.from_residual.ensures.1 in
     let e = is_fault c.next_record.result _ c.in_err-next.field-0.0 c.in_err-next.ensures in
-    rw (p.1, p.2, e) (some_records (going c.args.traced.now.ways) refl (going_both c.args.traced.now.ways) g.S.Sink.taken g.S.Sink.failures c.args.traced.now.iface records c.args.file.now c.loop-number.file c.loop-number.tracer.records.handed (c.loop-number.invariant.front records trace))
+    rw (p.1, p.2, e) (some_records (going c.args.traced.now.ways) refl (going_both c.args.traced.now.ways) g.S.Sink.seen c.args.traced.now.iface records c.args.file.now c.loop-number.file c.loop-number.tracer.records.handed (c.loop-number.invariant.front records trace))
 
 pub loop-number-preserved : goal.loop-number-preserved
 loop-number-preserved g c =
@@ -48,10 +48,10 @@ loop-number-preserved g c =
       front = λ records trace.
           let handed = subst (λ (o : Option (Record (List ℕ))). Hands records n (Ok o) m) c.in-Some.is
           (subst (λ r. Hands records n r m) (was_ok c.next_record.result _ c.in_ok-next.next c.in_ok-next.ensures) (c.next_record.ensures.next records trace)) in
-          next_record (going c.args.traced.now.ways) refl (going_both c.args.traced.now.ways) g.S.Sink.taken g.S.Sink.failures c.args.traced.now.iface records c.args.file.now c.loop-number.file c.write_one.new.file n m c.in-Some.record handed.0 handed.1
+          next_record (going c.args.traced.now.ways) refl (going_both c.args.traced.now.ways) g.S.Sink.seen c.args.traced.now.iface records c.args.file.now c.loop-number.file c.write_one.new.file n m c.in-Some.record handed.0 handed.1
           (c.loop-number.invariant.front records trace) c.in_ok-write_one.ensures;
     }
 
 pub returns : goal.returns
 returns g c records trace =
-    some_records (going c.args.traced.now.ways) refl (going_both c.args.traced.now.ways) g.S.Sink.taken g.S.Sink.failures c.args.traced.now.iface records c.args.file.now c.loop-number.file c.loop-number.tracer.records.handed (c.loop-number.invariant.front records trace)
+    some_records (going c.args.traced.now.ways) refl (going_both c.args.traced.now.ways) g.S.Sink.seen c.args.traced.now.iface records c.args.file.now c.loop-number.file c.loop-number.tracer.records.handed (c.loop-number.invariant.front records trace)

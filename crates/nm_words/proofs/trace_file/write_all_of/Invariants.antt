@@ -12,5 +12,5 @@ invariant-loop-number g l = record {
   tracing : IsTracing pending_of l.topology l.tracer;
   sound : l.file.failed ≡ false;
   front : (records : List (Record (List ℕ))) → IsTraceBefore l.topology l.topology.stop records
-      → WroteOn g.S.Sink.taken g.S.Sink.failures l.initial.file l.file (written_at l.initial.file.form l.traced.iface (going l.traced.ways (take l.tracer.records.handed records)));
+      → WroteOn g.S.Sink.seen l.initial.file l.file (written_at l.initial.file.form l.traced.iface (going l.traced.ways (take l.tracer.records.handed records)));
 }

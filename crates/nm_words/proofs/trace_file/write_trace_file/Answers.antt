@@ -9,7 +9,7 @@ pub returns : goal.returns
 returns g c records trace =
     let outcome = c.write_file-outcome.result in
     let file = trace_file c.args.form c.args.traced.now.iface (going c.args.traced.now.ways records) in
-    subst (λ s. Writes g.S.Sink.taken g.S.Sink.failures c.args.sink s outcome file) (sym c.into_sink.ensures)
-    (Writes-of g.S.Sink.taken g.S.Sink.failures _ _ outcome file
-    (subst (λ w. WritesOn g.S.Sink.taken g.S.Sink.failures w c.write_file-outcome.new.file outcome (trace_file w.form c.args.traced.now.iface (going c.args.traced.now.ways records))) c.in_form-file.ensures
+    subst (λ s. Writes (g.S.Sink.seen c.args.sink) (g.S.Sink.seen s) outcome file) (sym c.into_sink.ensures)
+    (Writes-of g.S.Sink.seen _ _ outcome file
+    (subst (λ w. WritesOn g.S.Sink.seen w c.write_file-outcome.new.file outcome (trace_file w.form c.args.traced.now.iface (going c.args.traced.now.ways records))) c.in_form-file.ensures
     (c.write_file-outcome.ensures records trace)))

@@ -6,5 +6,5 @@ abbrev pub invariant-loop-number : goal.invariant-loop-number
 invariant-loop-number g l = record {
   within : l.number ≤ length l.records;
   sound : All IsSound l.self.files.items;
-  took : FilesTook g.S.Sink.taken g.S.Sink.failures (take l.number l.records) l.fn.self.files.items l.self.files.items;
+  took : FilesTook g.S.Sink.seen (take l.number l.records) l.fn.self.files.items l.self.files.items;
 }

@@ -11,4 +11,4 @@ returns g c =
     let octets : c.record_header_octets-header.result ++ c.octets.result.now ≡ record_octets r =
     ap (λ h. h ++ c.octets.result.now) header ∙ ap (λ p. record_header r.time (length r.packet) ++ p) c.octets.ensures.value
     in
-    subst (λ l. Adds g.W.Sink.taken g.W.Sink.failures c.args.self.now c.write_two.new.self c.write_two.result (written c.args.self.now.form l)) octets c.write_two.ensures
+    subst (λ l. Adds g.W.Sink.seen c.args.self.now c.write_two.new.self c.write_two.result (written c.args.self.now.form l)) octets c.write_two.ensures

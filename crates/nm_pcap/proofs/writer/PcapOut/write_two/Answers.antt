@@ -10,12 +10,12 @@ pub returns-in_err-write : goal.returns-in_err-write
 returns-in_err-write g c =
     let p = err_from_is_err_and c.from_residual.result c.from_residual.ensures.1 in
     let form = c.args.self.now.form in
-    subst (λ l. Adds g.W.Sink.taken g.W.Sink.failures c.args.self.now c.write.new.self c.from_residual.result l) (sym (written-append form c.args.first.now c.args.second.now))
-    (rw (p.1, p.2) (Adds-err g.W.Sink.taken g.W.Sink.failures _ _ _ (written form c.args.first.now) (written form c.args.second.now) c.in_err-write.ensures))
+    subst (λ l. Adds g.W.Sink.seen c.args.self.now c.write.new.self c.from_residual.result l) (sym (written-append form c.args.first.now c.args.second.now))
+    (rw (p.1, p.2) (Adds-err g.W.Sink.seen _ _ _ (written form c.args.first.now) (written form c.args.second.now) c.in_err-write.ensures))
 
 pub returns : goal.returns
 returns g c =
     let form = c.args.self.now.form in
-    subst (λ l. Adds g.W.Sink.taken g.W.Sink.failures c.args.self.now c.write-2.new.self c.write-2.result l) (sym (written-append form c.args.first.now c.args.second.now))
-    (Adds-ok g.W.Sink.taken g.W.Sink.failures _ c.write.new.self _ _ (written form c.args.first.now) (written form c.args.second.now) c.in_ok-write.ensures
-    (subst (λ f. Adds g.W.Sink.taken g.W.Sink.failures c.write.new.self c.write-2.new.self c.write-2.result (written f c.args.second.now)) c.in_ok-write.ensures.same_form c.write-2.ensures))
+    subst (λ l. Adds g.W.Sink.seen c.args.self.now c.write-2.new.self c.write-2.result l) (sym (written-append form c.args.first.now c.args.second.now))
+    (Adds-ok g.W.Sink.seen _ c.write.new.self _ _ (written form c.args.first.now) (written form c.args.second.now) c.in_ok-write.ensures
+    (subst (λ f. Adds g.W.Sink.seen c.write.new.self c.write-2.new.self c.write-2.result (written f c.args.second.now)) c.in_ok-write.ensures.same_form c.write-2.ensures))

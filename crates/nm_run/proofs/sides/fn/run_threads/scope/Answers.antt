@@ -28,7 +28,7 @@ loop-side-preserved g c =
     let side = c.in-Some.side in
     let more = into_iter_items c.next.new.self in
     let next = c.in-Some.ensures.steps.0 in
-    let taken = g.S.Sink.taken in
+    let seen = g.S.Sink.seen in
     let last : c.push.new.self.items ≡ c.loop-side.threads.items ++ c.in-Ok.thread ∷ [] = search rules in
     let promised : c.in-Ok.thread.promise.0.value ≡ side.holdings.files = search rules in
     record {
@@ -36,11 +36,11 @@ loop-side-preserved g c =
           (into_iter_items c.loop-side.side-iterator) next c.loop-side.invariant.rest;
       counted = λ made all.
           let was = c.loop-side.invariant.counted made all in (
-            All-rest (λ s. AreCounted taken made s.holdings.files.files.items) side more (into_iter_items c.loop-side.side-iterator) next was.0,
-            subst (All (λ h. AreCounted taken made h.promise.0.value.files.items)) (sym last)
-                (All-push (λ h. AreCounted taken made h.promise.0.value.files.items) c.loop-side.threads.items c.in-Ok.thread was.1
-                (subst (λ f. AreCounted taken made f.files.items) (sym promised)
-                (All-head (λ s. AreCounted taken made s.holdings.files.files.items) side more (subst (All (λ s. AreCounted taken made s.holdings.files.files.items)) next was.0)))),
+            All-rest (λ s. AreCounted seen made s.holdings.files.files.items) side more (into_iter_items c.loop-side.side-iterator) next was.0,
+            subst (All (λ h. AreCounted seen made h.promise.0.value.files.items)) (sym last)
+                (All-push (λ h. AreCounted seen made h.promise.0.value.files.items) c.loop-side.threads.items c.in-Ok.thread was.1
+                (subst (λ f. AreCounted seen made f.files.items) (sym promised)
+                (All-head (λ s. AreCounted seen made s.holdings.files.files.items) side more (subst (All (λ s. AreCounted seen made s.holdings.files.files.items)) next was.0)))),
           );
     }
 
@@ -54,27 +54,27 @@ loop-thread-preserved g c =
     let thread = c.in-Some-thread.thread in
     let more = into_iter_items c.next-in-loop-thread.new.self in
     let next = c.in-Some-thread.ensures.steps.0 in
-    let taken = g.S.Sink.taken in
+    let seen = g.S.Sink.seen in
     record {
       counted = λ made all.
           let was = c.loop-thread.invariant.counted made all in (
-            All-rest (λ h. AreCounted taken made h.promise.0.value.files.items) thread more (into_iter_items c.loop-thread.thread-iterator) next was.0,
-            subst (All (StillCounts taken made)) (sym c.in_ok-push.ensures.items)
-                (All-push (StillCounts taken made) c.loop-thread.ends.items c.join.result was.1 (λ ended.
+            All-rest (λ h. AreCounted seen made h.promise.0.value.files.items) thread more (into_iter_items c.loop-thread.thread-iterator) next was.0,
+            subst (All (StillCounts seen made)) (sym c.in_ok-push.ensures.items)
+                (All-push (StillCounts seen made) c.loop-thread.ends.items c.join.result was.1 (λ ended.
                 let took = c.join.ensures ended in
-                files_counted taken made g.S.Sink.failures took.0 thread.promise.0.value.files.items c.join.result.holdings.files.files.items took.1
-                (All-head (λ h. AreCounted taken made h.promise.0.value.files.items) thread more
-                (subst (All (λ h. AreCounted taken made h.promise.0.value.files.items)) next was.0)))),
+                files_counted seen made took.0 thread.promise.0.value.files.items c.join.result.holdings.files.files.items took.1
+                (All-head (λ h. AreCounted seen made h.promise.0.value.files.items) thread more
+                (subst (All (λ h. AreCounted seen made h.promise.0.value.files.items)) next was.0)))),
           );
     }
 
 pub returns : goal.returns
 returns g c =
-    let taken = g.S.Sink.taken in
+    let seen = g.S.Sink.seen in
     record {
       counted = λ made all.
           let begun = c.loop-side.invariant.counted made
-          (subst (All (λ s. AreCounted taken made s.holdings.files.files.items)) (sym c.into_iter-side-iterator.ensures.into_iter_gives.0) all) in
+          (subst (All (λ s. AreCounted seen made s.holdings.files.files.items)) (sym c.into_iter-side-iterator.ensures.into_iter_gives.0) all) in
           (c.loop-thread.invariant.counted made
-          (subst (All (λ h. AreCounted taken made h.promise.0.value.files.items)) (sym c.into_iter-thread-iterator.ensures.into_iter_gives.0) begun.1)).1;
+          (subst (All (λ h. AreCounted seen made h.promise.0.value.files.items)) (sym c.into_iter-thread-iterator.ensures.into_iter_gives.0) begun.1)).1;
     }

@@ -12,15 +12,15 @@ abbrev pub invariant-loop-side : goal.invariant-loop-side
 invariant-loop-side g l = record {
   rest : All (λ s. All (IsOwnerOf l.threaded.board.now) s.holdings.seats.items × All IsSound s.holdings.files.files.items)
       (into_iter_items l.side-iterator);
-  counted : (made : Option Files) → All (λ s. AreCounted g.S.Sink.taken made s.holdings.files.files.items) (into_iter_items l.initial.side-iterator)
-      → All (λ s. AreCounted g.S.Sink.taken made s.holdings.files.files.items) (into_iter_items l.side-iterator)
-      × All (λ h. AreCounted g.S.Sink.taken made h.promise.0.value.files.items) l.threads.items;
+  counted : (made : Option Files) → All (λ s. AreCounted g.S.Sink.seen made s.holdings.files.files.items) (into_iter_items l.initial.side-iterator)
+      → All (λ s. AreCounted g.S.Sink.seen made s.holdings.files.files.items) (into_iter_items l.side-iterator)
+      × All (λ h. AreCounted g.S.Sink.seen made h.promise.0.value.files.items) l.threads.items;
 }
 
 -- If the files with which the threads began were counted, those of the replicas that have ended are.
 abbrev pub invariant-loop-thread : goal.invariant-loop-thread
 invariant-loop-thread g l = record {
-  counted : (made : Option Files) → All (λ h. AreCounted g.S.Sink.taken made h.promise.0.value.files.items) (into_iter_items l.initial.thread-iterator)
-      → All (λ h. AreCounted g.S.Sink.taken made h.promise.0.value.files.items) (into_iter_items l.thread-iterator)
-      × All (StillCounts g.S.Sink.taken made) l.ends.items;
+  counted : (made : Option Files) → All (λ h. AreCounted g.S.Sink.seen made h.promise.0.value.files.items) (into_iter_items l.initial.thread-iterator)
+      → All (λ h. AreCounted g.S.Sink.seen made h.promise.0.value.files.items) (into_iter_items l.thread-iterator)
+      × All (StillCounts g.S.Sink.seen made) l.ends.items;
 }
