@@ -7,33 +7,45 @@ use Rattle.nm_base.specs.declared.wire.Written.TheVariants as written
 use Rattle.nm_base.specs.declared.mem_wire.Ending.{Ending}
 use Rattle.nm_base.specs.declared.mem_wire.Ending.TheVariants as ending
 
-module _ {W : Type 0} (way : W → List ℕ) (failures : W → ℕ) (old new : W) where
+-- what is seen of a wire
+pub record WireSeen : Type 0 where
+  -- the octets that it gave so far, and those that it took
+  pub given : List ℕ
+  pub taken : List ℕ
+  -- how often a read found that the other side sends no more
+  pub ends : ℕ
+  -- how often it has failed
+  pub failures : ℕ
+
+-- one of its two ways: the octets that it gave, or those that it took
+module _ (way : WireSeen → List ℕ) (old new : WireSeen) where
   -- nothing went this way, and nothing failed
   abbrev pub IsStill : Type 0
-  IsStill = (way new ≡ way old) × (failures new ≡ failures old)
+  IsStill = (way new ≡ way old) × (new.failures ≡ old.failures)
 
   -- nothing went this way, since the wire failed
   abbrev pub HasFailed : Type 0
-  HasFailed = (way new ≡ way old) × (failures new ≡ failures old + 1)
+  HasFailed = (way new ≡ way old) × (new.failures ≡ old.failures + 1)
 
   -- the first n of these went this way, at least one
   abbrev pub Goes : ℕ → List ℕ → Type 0
   Goes n octets =
-      (1 ≤ n) × (n ≤ length octets) × (way new ≡ way old ++ take n octets) × (failures new ≡ failures old)
+      (1 ≤ n) × (n ≤ length octets) × (way new ≡ way old ++ take n octets)
+      × (new.failures ≡ old.failures)
 
+module _ (old new : WireSeen) where
   -- a write of these octets
   abbrev pub WriteDoes : Written → List ℕ → Type 0
-  WriteDoes (written.Took n) octets = Goes n octets
-  WriteDoes written.Later octets = IsStill
-  WriteDoes written.Fault octets = HasFailed
+  WriteDoes (written.Took n) octets = Goes (λ w. w.taken) old new n octets
+  WriteDoes written.Later octets = IsStill (λ w. w.taken) old new
+  WriteDoes written.Fault octets = HasFailed (λ w. w.taken) old new
 
-module _ {W : Type 0} (way : W → List ℕ) (ends failures : W → ℕ) (old new : W) where
   -- a read into this buffer, as it is afterwards, and whether the other side had ended
   abbrev pub ReadDoes : Read → List ℕ → Type 0
-  ReadDoes (read.Got n) buffer = Goes way failures old new n buffer × (ends new ≡ ends old)
-  ReadDoes read.End buffer = IsStill way failures old new × (ends new ≡ ends old + 1)
-  ReadDoes read.Later buffer = IsStill way failures old new × (ends new ≡ ends old)
-  ReadDoes read.Fault buffer = HasFailed way failures old new × (ends new ≡ ends old)
+  ReadDoes (read.Got n) buffer = Goes (λ w. w.given) old new n buffer × (new.ends ≡ old.ends)
+  ReadDoes read.End buffer = IsStill (λ w. w.given) old new × (new.ends ≡ old.ends + 1)
+  ReadDoes read.Later buffer = IsStill (λ w. w.given) old new × (new.ends ≡ old.ends)
+  ReadDoes read.Fault buffer = HasFailed (λ w. w.given) old new × (new.ends ≡ old.ends)
 
 -- what contracts see of a wire in memory
 pub record MemoryWire : Type 0 where
@@ -51,9 +63,14 @@ pub record MemoryWire : Type 0 where
   pub ends : ℕ
   pub failures : ℕ
 
--- the octets that it gave so far
-abbrev pub given_octets : MemoryWire → List ℕ
-given_octets w = take w.at w.source
+-- as a wire it gave the first of those octets
+abbrev pub memory_seen : MemoryWire → WireSeen
+memory_seen w = record {
+  given = take w.at w.source;
+  taken = w.taken;
+  ends = w.ends;
+  failures = w.failures;
+}
 
 -- a buffer once these octets were copied to its front
 abbrev pub after_copy : List ℕ → List ℕ → List ℕ

@@ -98,23 +98,16 @@ impl MemWire {
 impl Wire for MemWire {
     ghost use Rattle.std.specs.Prelude.{drop, take};
     ghost use Rattle.nm_base.specs.Wire.{ReadDoes, after_copy, after_read, after_write};
-    ghost use Rattle.nm_base.specs.Wire.{given_octets, read_answer, read_count, write_answer};
+    ghost use Rattle.nm_base.specs.Wire.{memory_seen, read_answer, read_count, write_answer};
     ghost use Rattle.nm_base.specs.Wire.{write_count};
 
-    ghost given = { given_octets };
-
-    ghost taken = { λ w. w.taken };
-
-    ghost ends = { λ w. w.ends };
-
-    ghost failures = { λ w. w.failures };
+    ghost seen = { memory_seen };
 
     /// Gives as many octets as are left, as the buffer takes and as a call moves; where none is
     /// left, it answers the ending.
     fn read_some(&mut self, buffer: &mut [u8]) -> Read
         requires { 0 < length buffer.old }
-        ensures reads { ReadDoes
-            given_octets (λ w. w.ends) (λ w. w.failures) self.old self.new result buffer.new }
+        ensures reads { ReadDoes (memory_seen self.old) (memory_seen self.new) result buffer.new }
         ensures answer { result
             ≡ read_answer self.old.ending (read_count self.old (length buffer.old)) }
         ensures wire { self.new ≡ after_read self.old (read_count self.old (length buffer.old)) }

@@ -1,6 +1,6 @@
 //! Wires: both ways of one connection, in pieces of any length. No call waits.
 
-ghost use Rattle.std.specs.Prelude.{◌≡◌, ℕ, ◌<◌, List, length};
+ghost use Rattle.std.specs.Prelude.{◌≡◌, ◌<◌, length};
 
 /// What a read of a wire found.
 #[derive(Clone, Copy)]
@@ -29,27 +29,22 @@ pub enum Written {
 /// One connection. A clause sees the octets that it gave and took so far, how often a read found
 /// that the other side sends no more, and how often the connection has failed.
 pub trait Wire {
-    ghost use Rattle.nm_base.specs.Wire.{ReadDoes, WriteDoes};
+    ghost use Rattle.nm_base.specs.Wire.{ReadDoes, WireSeen, WriteDoes};
 
-    // The octets that were read so far, and those that were written.
-    ghost given: { Self → List ℕ };
-
-    ghost taken: { Self → List ℕ };
-
-    // How often a read found the end, and how often the wire has failed.
-    ghost ends: { Self → ℕ };
-
-    ghost failures: { Self → ℕ };
+    // What is seen of it: the octets that were read so far, and those that were written, how often
+    // a read found the end, and how often the wire has failed.
+    ghost seen: { Self → WireSeen };
 
     /// Reads what came next into the front of a buffer that is not empty.
     fn read_some(&mut self, buffer: &mut [u8]) -> Read
         requires { 0 < length buffer.old }
-        ensures reads { ReadDoes given ends failures self.old self.new result buffer.new }
-        ensures keeps { taken self.new ≡ taken self.old };
+        ensures reads { ReadDoes (seen self.old) (seen self.new) result buffer.new }
+        ensures keeps { (seen self.new).taken ≡ (seen self.old).taken };
 
     /// Writes the first octets of a list that is not empty.
     fn write_some(&mut self, octets: &[u8]) -> Written
         requires { 0 < length octets.now }
-        ensures writes { WriteDoes taken failures self.old self.new result octets.now }
-        ensures keeps { (given self.new ≡ given self.old) × (ends self.new ≡ ends self.old) };
+        ensures writes { WriteDoes (seen self.old) (seen self.new) result octets.now }
+        ensures keeps { ((seen self.new).given ≡ (seen self.old).given)
+            × ((seen self.new).ends ≡ (seen self.old).ends) };
 }

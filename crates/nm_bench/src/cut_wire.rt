@@ -75,13 +75,12 @@ pub(crate) fn cut_pipe(
 }
 
 impl Wire for CutWire {
-    ghost given = { λ w. w.got.list };
-
-    ghost taken = { λ w. w.sent.list };
-
-    ghost ends = { λ w. w.ended };
-
-    ghost failures = { λ w. w.failed };
+    ghost seen = { λ w. record {
+      given = w.got.list;
+      taken = w.sent.list;
+      ends = w.ended;
+      failures = w.failed;
+    } };
 
     fn read_some(&mut self, buffer: &mut [u8]) -> Read {
         if self.cut.gives == 0 {

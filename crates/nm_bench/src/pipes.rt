@@ -85,13 +85,12 @@ pub(crate) fn pipe(alloc: Global) -> Result<(PipeWire, PipeWire), AllocError> {
 }
 
 impl Wire for PipeWire {
-    ghost given = { λ w. w.got.list };
-
-    ghost taken = { λ w. w.sent.list };
-
-    ghost ends = { λ _. 0 };
-
-    ghost failures = { λ w. w.failed };
+    ghost seen = { λ w. record {
+      given = w.got.list;
+      taken = w.sent.list;
+      ends = 0;
+      failures = w.failed;
+    } };
 
     fn read_some(&mut self, buffer: &mut [u8]) -> Read {
         let count = move_out(&self.from, buffer);

@@ -1,6 +1,7 @@
 -- One turn after another.
 use Rattle.std.proofs.Common.{◌≡◌, ℕ, ◌+◌, ◌&&◌, nat_lt, Bool, true, false, List, [], ◌∷◌, ◌++◌, length, map, Option, Some, None, Ok, Err, if◌then◌else◌, refl, sym, ◌∙◌, ap, ◌⊎◌, inl, inr, subst, append_assoc, append-nil, true≢false}
 use Rattle.std.proofs.lemmas.Grind.{flat_map-append}
+use Rattle.nm_base.specs.Wire.{WireSeen}
 use Rattle.nm_model.proofs.ListLemmas.{not_some}
 use Rattle.nm_frames.specs.declared.frame.Frame.{Frame}
 use Rattle.nm_frames.specs.declared.frame.Frame.TheVariants.{Hello, Have, Data, Null, Bye}
@@ -73,9 +74,9 @@ turn_in ins outs = in-append (map Took ins) (map Gave outs) ∙ ap (λ l. frames
 turn_out : (ins outs : List Frame) → frames_out (turn_steps ins outs) ≡ outs
 turn_out ins outs = out-append (map Took ins) (map Gave outs) ∙ ap (λ l. l ++ frames_out (map Gave outs)) (out-took ins) ∙ out-gave outs
 
-module _ {W : Type 0} (given taken : W → List ℕ) (ends failures : W → ℕ) where
+module _ {W : Type 0} (seen : W → WireSeen) where
   -- one turn's account
-  of_moves : (old new : LinkValue W) (rest left : List ℕ) → Moves given taken ends failures old new rest left → (new.failed ≡ false → (rest ≡ new.rest) × (left ≡ new.out)) → Accounts given taken old new
+  of_moves : (old new : LinkValue W) (rest left : List ℕ) → Moves seen old new rest left → (new.failed ≡ false → (rest ≡ new.rest) × (left ≡ new.out)) → Accounts seen old new
   of_moves old new rest left m whole = record {
     steps = turn_steps m.ins m.outs;
     came = m.came;
@@ -91,24 +92,24 @@ module _ {W : Type 0} (given taken : W → List ℕ) (ends failures : W → ℕ)
     whole = whole;
   }
 
-  of_none : (old : LinkValue W) → Accounts given taken old old
+  of_none : (old : LinkValue W) → Accounts seen old old
   of_none old = record {
     steps = [];
     came = [];
     went = [];
     rest = old.rest;
     left = old.out;
-    came_in = sym (append-nil (given old.wire));
+    came_in = sym (append-nil (seen old.wire).given);
     framed = append-nil old.rest;
     lived = refl;
-    went_out = sym (append-nil (taken old.wire));
+    went_out = sym (append-nil (seen old.wire).taken);
     sent = sym (append-nil old.out);
     acceptor = refl;
     whole = λ e. (refl, refl);
   }
 
   -- a turn after which the link has not failed, and then others
-  of_both : (first mid last : LinkValue W) → mid.failed ≡ false → Accounts given taken first mid → Accounts given taken mid last → Accounts given taken first last
+  of_both : (first mid last : LinkValue W) → mid.failed ≡ false → Accounts seen first mid → Accounts seen mid last → Accounts seen first last
   of_both first mid last fine a b =
       let held = a.whole fine in
       record {
@@ -117,14 +118,14 @@ module _ {W : Type 0} (given taken : W → List ℕ) (ends failures : W → ℕ)
         went = a.went ++ b.went;
         rest = b.rest;
         left = b.left;
-        came_in = b.came_in ∙ ap (λ l. l ++ b.came) a.came_in ∙ append_assoc (given first.wire) a.came b.came;
+        came_in = b.came_in ∙ ap (λ l. l ++ b.came) a.came_in ∙ append_assoc (seen first.wire).given a.came b.came;
         framed =
             join_in first.rest a.came b.came mid.rest b.rest (frames_in a.steps) (frames_in b.steps) (a.framed ∙ ap (λ l. stream_octets (frames_in a.steps) ++ l) held.0) b.framed
             ∙ ap (λ fs. stream_octets fs ++ b.rest) (sym (in-append a.steps b.steps));
         lived =
             lives_append first.acceptor first.session mid.session last.session a.steps b.steps a.lived
             (subst (λ (h : Option AcceptorValue). LinkLives h mid.session b.steps last.session) a.acceptor b.lived);
-        went_out = b.went_out ∙ ap (λ l. l ++ b.went) a.went_out ∙ append_assoc (taken first.wire) a.went b.went;
+        went_out = b.went_out ∙ ap (λ l. l ++ b.went) a.went_out ∙ append_assoc (seen first.wire).taken a.went b.went;
         sent =
             join_out a.went b.went first.out mid.out b.left (frames_out a.steps) (frames_out b.steps) (ap (λ l. a.went ++ l) (sym held.1) ∙ a.sent) b.sent
             ∙ ap (λ fs. first.out ++ stream_octets fs) (sym (out-append a.steps b.steps));
@@ -133,47 +134,47 @@ module _ {W : Type 0} (given taken : W → List ℕ) (ends failures : W → ℕ)
       }
 
   -- a turn, or half of one, that went well in some way, broke, or found that the link had failed
-  module _ (old new : LinkValue W) (Well : Type 0) (moved : Well → ℕ) (moves : Well → Moves given taken ends failures old new new.rest new.out) (whole : Well → new.failed ≡ false) where
+  module _ (old new : LinkValue W) (Well : Type 0) (moved : Well → ℕ) (moves : Well → Moves seen old new new.rest new.out) (whole : Well → new.failed ≡ false) where
     -- a link that has failed stays as it is
-    stays_by : (turn : Turn) → old.failed ≡ true → Says given taken ends failures old new Well moved turn → new ≡ old
+    stays_by : (turn : Turn) → old.failed ≡ true → Says seen old new Well moved turn → new ≡ old
     stays_by Progress over t = absurd (true≢false (sym over ∙ (moves t.0).was_whole))
     stays_by Idle over t = absurd (true≢false (sym over ∙ (moves t.0).was_whole))
     stays_by Ended over t = absurd (true≢false (sym over ∙ (moves t.0).was_whole))
     stays_by (Broken cause) over t = absurd (true≢false (sym over ∙ t.moves.was_whole))
     stays_by Failed over t = t.1
 
-    of_well : Well → Accounts given taken old new × ((new.failed ≡ false) ⊎ (new.failed ≡ true))
+    of_well : Well → Accounts seen old new × ((new.failed ≡ false) ⊎ (new.failed ≡ true))
     of_well w = (of_moves old new new.rest new.out (moves w) (λ e. (refl, refl)), inl (whole w))
 
-    of_answer : (turn : Turn) → Says given taken ends failures old new Well moved turn → Accounts given taken old new × ((new.failed ≡ false) ⊎ (new.failed ≡ true))
+    of_answer : (turn : Turn) → Says seen old new Well moved turn → Accounts seen old new × ((new.failed ≡ false) ⊎ (new.failed ≡ true))
     of_answer Progress t = of_well t.0
     of_answer Idle t = of_well t.0
     of_answer Ended t = of_well t.0
     of_answer (Broken cause) t = (of_moves old new t.rest t.left t.moves (λ e. absurd (true≢false (sym t.over ∙ e))), inr t.over)
-    of_answer Failed t = (subst (λ (x : LinkValue W). Accounts given taken old x) (sym t.1) (of_none old), inr (ap (λ (l : LinkValue W). l.failed) t.1 ∙ t.0))
+    of_answer Failed t = (subst (λ (x : LinkValue W). Accounts seen old x) (sym t.1) (of_none old), inr (ap (λ (l : LinkValue W). l.failed) t.1 ∙ t.0))
 
-  stays : (turn : Turn) (old new : LinkValue W) → old.failed ≡ true → Turns given taken ends failures old new turn ⊎ Hears given taken ends failures old new turn → new ≡ old
+  stays : (turn : Turn) (old new : LinkValue W) → old.failed ≡ true → Turns seen old new turn ⊎ Hears seen old new turn → new ≡ old
   stays turn old new over (inl t) =
-      stays_by old new (Went given taken ends failures old new) (λ w. length w.moves.came + length w.moves.went) (λ w. w.moves) (λ w. w.whole) turn over t
-  stays turn old new over (inr t) = stays_by old new (Heard given taken ends failures old new) (λ h. length h.moves.came) (λ h. h.moves) (λ h. h.whole) turn over t
+      stays_by old new (Went seen old new) (λ w. length w.moves.came + length w.moves.went) (λ w. w.moves) (λ w. w.whole) turn over t
+  stays turn old new over (inr t) = stays_by old new (Heard seen old new) (λ h. length h.moves.came) (λ h. h.moves) (λ h. h.whole) turn over t
 
-  stays_failed : (path : List (Turn × LinkValue W)) (old new : LinkValue W) → old.failed ≡ true → GoesOn given taken ends failures old path new → new ≡ old
+  stays_failed : (path : List (Turn × LinkValue W)) (old new : LinkValue W) → old.failed ≡ true → GoesOn seen old path new → new ≡ old
   stays_failed [] old new over g = g
   stays_failed (p ∷ path) old new over g =
       let same = stays p.0 old p.1 over g.0 in
       stays_failed path p.1 new (ap (λ (l : LinkValue W). l.failed) same ∙ over) g.1 ∙ same
 
-  of_step : (turn : Turn) (old new : LinkValue W) → Turns given taken ends failures old new turn ⊎ Hears given taken ends failures old new turn → Accounts given taken old new × ((new.failed ≡ false) ⊎ (new.failed ≡ true))
+  of_step : (turn : Turn) (old new : LinkValue W) → Turns seen old new turn ⊎ Hears seen old new turn → Accounts seen old new × ((new.failed ≡ false) ⊎ (new.failed ≡ true))
   of_step turn old new (inl t) =
-      of_answer old new (Went given taken ends failures old new) (λ w. length w.moves.came + length w.moves.went) (λ w. w.moves) (λ w. w.whole) turn t
-  of_step turn old new (inr t) = of_answer old new (Heard given taken ends failures old new) (λ h. length h.moves.came) (λ h. h.moves) (λ h. h.whole) turn t
+      of_answer old new (Went seen old new) (λ w. length w.moves.came + length w.moves.went) (λ w. w.moves) (λ w. w.whole) turn t
+  of_step turn old new (inr t) = of_answer old new (Heard seen old new) (λ h. length h.moves.came) (λ h. h.moves) (λ h. h.whole) turn t
 
-  go_on : (path : List (Turn × LinkValue W)) (first mid last : LinkValue W) → Accounts given taken first mid × ((mid.failed ≡ false) ⊎ (mid.failed ≡ true)) → GoesOn given taken ends failures mid path last → Accounts given taken mid last → Accounts given taken first last
+  go_on : (path : List (Turn × LinkValue W)) (first mid last : LinkValue W) → Accounts seen first mid × ((mid.failed ≡ false) ⊎ (mid.failed ≡ true)) → GoesOn seen mid path last → Accounts seen mid last → Accounts seen first last
   go_on path first mid last (a, inl fine) g rest = of_both first mid last fine a rest
-  go_on path first mid last (a, inr over) g rest = subst (λ (x : LinkValue W). Accounts given taken first x) (sym (stays_failed path mid last over g)) a
+  go_on path first mid last (a, inr over) g rest = subst (λ (x : LinkValue W). Accounts seen first x) (sym (stays_failed path mid last over g)) a
 
-  pub accounts : (path : List (Turn × LinkValue W)) (first last : LinkValue W) → GoesOn given taken ends failures first path last → Accounts given taken first last
-  accounts [] first last e = subst (λ (x : LinkValue W). Accounts given taken first x) (sym e) (of_none first)
+  pub accounts : (path : List (Turn × LinkValue W)) (first last : LinkValue W) → GoesOn seen first path last → Accounts seen first last
+  accounts [] first last e = subst (λ (x : LinkValue W). Accounts seen first x) (sym e) (of_none first)
   accounts (p ∷ path) first last g = go_on path first p.1 last (of_step p.0 first p.1 g.0) g.1 (accounts path p.1 last g.1)
 
 -- ---- the numbers of messages

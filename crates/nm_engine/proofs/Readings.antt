@@ -3,7 +3,7 @@ use Rattle.std.proofs.Common.{◌≡◌, ℕ, ◌+◌, ◌<◌, ◌≤◌, inl, 
 use Rattle.std.specs.List.{AllByRecursion}
 use Rattle.std.proofs.lemmas.Bool.Decides.{nat_tests}
 use Rattle.std.proofs.lemmas.Grind.{common_steps}
-use Rattle.nm_base.specs.Wire.{Goes}
+use Rattle.nm_base.specs.Wire.{Goes, WireSeen}
 use Rattle.nm_frames.specs.declared.frame.Frame.{Frame}
 use Rattle.nm_frames.specs.declared.fault.FrameFault.{FrameFault}
 use Rattle.nm_frames.specs.declared.fault.FrameFault.TheVariants.{BadLength}
@@ -20,17 +20,17 @@ use Rattle.nm_engine.specs.Reading.{Came, FeedsReader, IsFramed, Reads}
 none_framed : (held : List ℕ) → IsFramed (held ++ []) [] held
 none_framed held = record { parts = append-nil held; each = tt }
 
-module _ {W : Type 0} (given : W → List ℕ) (ends failures : W → ℕ) (old new : W) where
+module _ (old new : WireSeen) where
   -- nothing came
-  pub came_none : (held : List ℕ) (frames : List Frame) → frames ≡ [] → given new ≡ given old → Came given ends failures old new held frames held
+  pub came_none : (held : List ℕ) (frames : List Frame) → frames ≡ [] → new.given ≡ old.given → Came old new held frames held
   came_none held frames none same = record {
     came = [];
     most = omega arith;
-    came_in = same ∙ sym (append-nil (given old));
+    came_in = same ∙ sym (append-nil old.given);
     framed = subst (λ (fs : List Frame). IsFramed (held ++ []) fs held) (sym none) (none_framed held);
   }
 
-  pub read_none : (e : Bool) (r : ReaderValue) (frames : List Frame) → frames ≡ [] → given new ≡ given old → failures new ≡ failures old → r.failed ≡ false → (e ≡ false → ends new ≡ ends old) → Reads given ends failures old new e r frames r (Ok 0)
+  pub read_none : (e : Bool) (r : ReaderValue) (frames : List Frame) → frames ≡ [] → new.given ≡ old.given → new.failures ≡ old.failures → r.failed ≡ false → (e ≡ false → new.ends ≡ old.ends) → Reads old new e r frames r (Ok 0)
   unfolding came_none
   read_none e r frames none same sound whole no_end = record { came = came_none r.rest frames none same; count = refl; sound = sound; no_end = no_end; whole = whole }
 
@@ -38,7 +38,7 @@ module _ {W : Type 0} (given : W → List ℕ) (ends failures : W → ℕ) (old 
   taken_within n octets e = grind (arith, common_steps, e)
 
   -- octets came and were fed
-  pub read_some : (e : Bool) (n : ℕ) (octets : List ℕ) (r q : ReaderValue) (frames : List Frame) (result : Result ℕ Cause) → length octets ≡ MAX_READ_OCTETS → Goes given failures old new n octets → ends new ≡ ends old → FeedsReader r (take n octets) frames q result → Reads given ends failures old new e r frames q result
+  pub read_some : (e : Bool) (n : ℕ) (octets : List ℕ) (r q : ReaderValue) (frames : List Frame) (result : Result ℕ Cause) → length octets ≡ MAX_READ_OCTETS → Goes (λ w. w.given) old new n octets → new.ends ≡ old.ends → FeedsReader r (take n octets) frames q result → Reads old new e r frames q result
   read_some e n octets r q frames (Ok m) size goes same fed = record {
     came = record { came = take n octets; most = taken_within n octets size; came_in = goes.2; framed = fed.1 };
     count = sym fed.0;

@@ -4,6 +4,7 @@ use Rattle.std.proofs.lemmas.Bool.{false≢true}
 use Rattle.std.specs.List.{AllByRecursion}
 use Rattle.std.proofs.lemmas.Bool.Decides.{nat_tests}
 use Rattle.std.proofs.lemmas.Grind.{flat_map-append}
+use Rattle.nm_base.specs.Wire.{WireSeen}
 use Rattle.nm_frames.specs.declared.frame.Frame.{Frame}
 use Rattle.nm_frames.specs.Frame.{IsFrame, frame_octets, stream_octets}
 use Rattle.nm_frames.specs.Lives.{Took, Gave}
@@ -36,16 +37,16 @@ each_mid [] back f each = each.0
 each_mid (x ∷ front) back f each = each_mid front back f each.1
 
 -- The frames that were read were taken, and nothing else was done with the parts of a link.
-module _ {W : Type 0} (given taken : W → List ℕ) (ends failures : W → ℕ) (old new : Parts W) (frames : List Frame) (e : Bool) (bye : e ≡ bye_taken old.party.session)
-    (keeps : new.party.acceptor ≡ old.party.acceptor) (kept : taken new.wire ≡ taken old.wire) (same : new.out.items ≡ old.out.items) where
+module _ {W : Type 0} (seen : W → WireSeen) (old new : Parts W) (frames : List Frame) (e : Bool) (bye : e ≡ bye_taken old.party.session)
+    (keeps : new.party.acceptor ≡ old.party.acceptor) (kept : (seen new.wire).taken ≡ (seen old.wire).taken) (same : new.out.items ≡ old.out.items) where
   abbrev Read : Result ℕ Cause → Type 0
-  Read read = Reads given ends failures old.wire new.wire e old.reader frames new.reader read
+  Read read = Reads (seen old.wire) (seen new.wire) e old.reader frames new.reader read
 
   abbrev TookAll : List Frame → Type 0
   TookAll ins = LinkLives old.party.acceptor old.party.session (map Took ins) new.party.session
 
   -- what came, whatever the read's answer, and that the wire has not failed if there are frames
-  read_came : (read : Result ℕ Cause) → Read read → (rest : List ℕ) × Came given ends failures old.wire new.wire old.reader.rest frames rest × ((failures new.wire ≡ failures old.wire) ⊎ (frames ≡ []))
+  read_came : (read : Result ℕ Cause) → Read read → (rest : List ℕ) × Came (seen old.wire) (seen new.wire) old.reader.rest frames rest × (((seen new.wire).failures ≡ (seen old.wire).failures) ⊎ (frames ≡ []))
   read_came (Ok n) c = (new.reader.rest, c.came, inl c.sound)
   read_came (Err End) c = (c.0, c.1, inl c.2.2)
   read_came (Err Fault) c = (c.0, c.1, inr c.2.0)
@@ -54,12 +55,12 @@ module _ {W : Type 0} (given taken : W → List ℕ) (ends failures : W → ℕ)
   read_came (Err Book) c = absurd c.2
   read_came (Err Memory) c = (c.0, c.1, inl c.2)
 
-  sound_if : (front back : List Frame) (f : Frame) → frames ≡ front ++ f ∷ back → (failures new.wire ≡ failures old.wire) ⊎ (frames ≡ []) → failures new.wire ≡ failures old.wire + 0
+  sound_if : (front back : List Frame) (f : Frame) → frames ≡ front ++ f ∷ back → ((seen new.wire).failures ≡ (seen old.wire).failures) ⊎ (frames ≡ []) → (seen new.wire).failures ≡ (seen old.wire).failures + 0
   sound_if front back f split (inl e) = omega (arith, e)
   sound_if front back f split (inr e) = absurd (not_none front back f (sym split ∙ e))
 
   -- no octet went
-  abbrev still : (came rest : List ℕ) (ins : List Frame) (b : Bool) → length came ≤ MAX_READ_OCTETS → given new.wire ≡ given old.wire ++ came → old.reader.rest ++ came ≡ stream_octets ins ++ rest → TookAll ins → Moves given taken ends failures (link_of old false) (link_of new b) rest new.out.items
+  abbrev still : (came rest : List ℕ) (ins : List Frame) (b : Bool) → length came ≤ MAX_READ_OCTETS → (seen new.wire).given ≡ (seen old.wire).given ++ came → old.reader.rest ++ came ≡ stream_octets ins ++ rest → TookAll ins → Moves seen (link_of old false) (link_of new b) rest new.out.items
   still came rest ins b most came_in framed took = record {
     was_whole = refl;
     came = came;
@@ -72,14 +73,14 @@ module _ {W : Type 0} (given taken : W → List ℕ) (ends failures : W → ℕ)
     framed = framed;
     took = took;
     gave = refl;
-    went_out = kept ∙ sym (append-nil (taken old.wire));
+    went_out = kept ∙ sym (append-nil (seen old.wire).taken);
     sent = same ∙ sym (append-nil old.out.items);
     acceptor = keeps;
   }
 
-  broke : (cause : Cause) (came rest : List ℕ) (ins : List Frame) → length came ≤ MAX_READ_OCTETS → given new.wire ≡ given old.wire ++ came → old.reader.rest ++ came ≡ stream_octets ins ++ rest → TookAll ins
-      → IsReason given taken ends failures (link_of old false) (link_of new true) cause rest new.party.session → failures new.wire ≡ failures old.wire + faults_of cause
-      → Breaks given taken ends failures (link_of old false) (link_of new true) cause
+  broke : (cause : Cause) (came rest : List ℕ) (ins : List Frame) → length came ≤ MAX_READ_OCTETS → (seen new.wire).given ≡ (seen old.wire).given ++ came → old.reader.rest ++ came ≡ stream_octets ins ++ rest → TookAll ins
+      → IsReason seen (link_of old false) (link_of new true) cause rest new.party.session → (seen new.wire).failures ≡ (seen old.wire).failures + faults_of cause
+      → Breaks seen (link_of old false) (link_of new true) cause
   broke cause came rest ins most came_in framed took reason faults = record {
     rest = rest;
     left = new.out.items;
@@ -90,14 +91,14 @@ module _ {W : Type 0} (given taken : W → List ℕ) (ends failures : W → ℕ)
   }
 
   -- a frame was not taken
-  stopped_by : (cause : Cause) (rest : List ℕ) (c : Came given ends failures old.wire new.wire old.reader.rest frames rest) (front back : List Frame) (f : Frame) → failures new.wire ≡ failures old.wire + faults_of cause
-      → (IsFrame f → IsReason given taken ends failures (link_of old false) (link_of new true) cause (frame_octets f ++ (stream_octets back ++ rest)) new.party.session) → frames ≡ front ++ f ∷ back → TookAll front
-      → Breaks given taken ends failures (link_of old false) (link_of new true) cause
+  stopped_by : (cause : Cause) (rest : List ℕ) (c : Came (seen old.wire) (seen new.wire) old.reader.rest frames rest) (front back : List Frame) (f : Frame) → (seen new.wire).failures ≡ (seen old.wire).failures + faults_of cause
+      → (IsFrame f → IsReason seen (link_of old false) (link_of new true) cause (frame_octets f ++ (stream_octets back ++ rest)) new.party.session) → frames ≡ front ++ f ∷ back → TookAll front
+      → Breaks seen (link_of old false) (link_of new true) cause
   stopped_by cause rest c front back f sound reason split took =
       broke cause c.came (frame_octets f ++ (stream_octets back ++ rest)) front c.most c.came_in (from_frame (old.reader.rest ++ c.came) rest frames front back f c.framed.parts split) took
       (reason (each_mid front back f (subst (λ (fs : List Frame). AllByRecursion IsFrame fs) split c.framed.each))) sound
 
-  pub breaks_take : (read : Result ℕ Cause) (cause : Cause) → Read read → TakesAll old.party.acceptor old.party.session frames new.party.session (Err cause) → Breaks given taken ends failures (link_of old false) (link_of new true) cause
+  pub breaks_take : (read : Result ℕ Cause) (cause : Cause) → Read read → TakesAll old.party.acceptor old.party.session frames new.party.session (Err cause) → Breaks seen (link_of old false) (link_of new true) cause
   breaks_take read End reads takes = absurd takes.5
   breaks_take read Fault reads takes = absurd takes.5
   breaks_take read BadFrame reads takes = absurd takes.5
@@ -111,7 +112,7 @@ module _ {W : Type 0} (given taken : W → List ℕ) (ends failures : W → ℕ)
       let c = read_came read reads in stopped_by Memory c.0 c.1 takes.0 takes.2 takes.1 (sound_if takes.0 takes.2 takes.1 takes.3 c.2) (λ fits. tt) takes.3 takes.4
 
   -- the read ended
-  breaks_read : (cause : Cause) → Read (Err cause) → TookAll frames → Breaks given taken ends failures (link_of old false) (link_of new true) cause
+  breaks_read : (cause : Cause) → Read (Err cause) → TookAll frames → Breaks seen (link_of old false) (link_of new true) cause
   breaks_read End c took = broke End c.1.came c.0 frames c.1.most c.1.came_in c.1.framed.parts took (c.2.0, sym bye ∙ c.2.1) (omega (arith, c.2.2))
   breaks_read Fault c took = broke Fault c.1.came c.0 frames c.1.most c.1.came_in c.1.framed.parts took tt c.2.1
   breaks_read BadFrame c took = broke BadFrame c.1.came c.0 frames c.1.most c.1.came_in c.1.framed.parts took c.2.0 (omega (arith, c.2.1))
@@ -120,7 +121,7 @@ module _ {W : Type 0} (given taken : W → List ℕ) (ends failures : W → ℕ)
   breaks_read Memory c took = broke Memory c.1.came c.0 frames c.1.most c.1.came_in c.1.framed.parts took tt (omega (arith, c.2))
 
   -- all frames were taken
-  pub took_in : (read : Result ℕ Cause) → Read read → TookAll frames → IsPart new.reader.rest → TakesIn given taken ends failures old new read
+  pub took_in : (read : Result ℕ Cause) → Read read → TookAll frames → IsPart new.reader.rest → TakesIn seen old new read
   took_in (Ok n) c took part = (
     record {
       moves = still c.came.came new.reader.rest frames false c.came.most c.came.came_in c.came.framed.parts took;
@@ -136,17 +137,17 @@ module _ {W : Type 0} (given taken : W → List ℕ) (ends failures : W → ℕ)
   took_in (Err cause) c took part = breaks_read cause c took
 
 -- The answer where all went well.
-module _ {W : Type 0} (given taken : W → List ℕ) (ends failures : W → ℕ) (old new : LinkValue W) (Well : Type 0) (moved : Well → ℕ) (well : Well) (n : ℕ) (count : moved well ≡ n) where
-  by_count : (HasEnded new.session new.out → ⊥) → (b : Bool) → nat_lt 0 n ≡ b → Says given taken ends failures old new Well moved (if b then Progress else Idle)
+module _ {W : Type 0} (seen : W → WireSeen) (old new : LinkValue W) (Well : Type 0) (moved : Well → ℕ) (well : Well) (n : ℕ) (count : moved well ≡ n) where
+  by_count : (HasEnded new.session new.out → ⊥) → (b : Bool) → nat_lt 0 n ≡ b → Says seen old new Well moved (if b then Progress else Idle)
   by_count on true is = (well, (grind (arith, nat_tests, is, count)), on)
   by_count on false is = (well, (grind (arith, nat_tests, is, count)), on)
 
-  pub says_well : (ended : Bool) → (ended ≡ true → HasEnded new.session new.out) → (HasEnded new.session new.out → ended ≡ true) → Says given taken ends failures old new Well moved (answer_of ended n)
+  pub says_well : (ended : Bool) → (ended ≡ true → HasEnded new.session new.out) → (HasEnded new.session new.out → ended ≡ true) → Says seen old new Well moved (answer_of ended n)
   says_well true over only = (well, over refl)
   says_well false over only = by_count (λ is. false≢true (only is)) (nat_lt 0 n) refl
 
 -- What was given, once the link had heard.
-module _ {W : Type 0} (given taken : W → List ℕ) (ends failures : W → ℕ) (old mid : LinkValue W) (h : Heard given taken ends failures old mid) (z : Option SessionValue) (x : W) (p : List ℕ) where
+module _ {W : Type 0} (seen : W → WireSeen) (old mid : LinkValue W) (h : Heard seen old mid) (z : Option SessionValue) (x : W) (p : List ℕ) where
   abbrev gone : List ℕ → Bool → LinkValue W
   gone out failed = record { wire = x; acceptor = mid.acceptor; session = z; rest = mid.rest; out = out; failed = failed }
 
@@ -155,13 +156,13 @@ module _ {W : Type 0} (given taken : W → List ℕ) (ends failures : W → ℕ)
       let same : mid.session ≡ h.moves.mid = subst (λ (fs : List Frame). LinkLives old.acceptor h.moves.mid (map Gave fs) mid.session) h.none_given h.moves.gave in
       subst (λ (m : Option SessionValue). LinkLives old.acceptor old.session (map Took h.moves.ins) m) (sym same) h.moves.took
 
-  kept : taken mid.wire ≡ taken old.wire
-  kept = h.moves.went_out ∙ ap (λ l. taken old.wire ++ l) h.none_went ∙ append-nil (taken old.wire)
+  kept : (seen mid.wire).taken ≡ (seen old.wire).taken
+  kept = h.moves.went_out ∙ ap (λ l. (seen old.wire).taken ++ l) h.none_went ∙ append-nil (seen old.wire).taken
 
   same_out : mid.out ≡ old.out
   same_out = ap (λ l. l ++ mid.out) (sym h.none_went) ∙ h.moves.sent ∙ ap (λ fs. old.out ++ stream_octets fs) h.none_given ∙ append-nil old.out
 
-  abbrev gave_moves : (went left lost out : List ℕ) (b : Bool) → GivesFrames old.acceptor mid.session z mid.out p lost → given x ≡ given mid.wire → taken x ≡ taken mid.wire ++ went → went ++ left ≡ p ++ lost → Moves given taken ends failures old (gone out b) mid.rest left
+  abbrev gave_moves : (went left lost out : List ℕ) (b : Bool) → GivesFrames old.acceptor mid.session z mid.out p lost → (seen x).given ≡ (seen mid.wire).given → (seen x).taken ≡ (seen mid.wire).taken ++ went → went ++ left ≡ p ++ lost → Moves seen old (gone out b) mid.rest left
   gave_moves went left lost out b g same went_out sent = record {
     was_whole = h.moves.was_whole;
     came = h.moves.came;
@@ -180,27 +181,27 @@ module _ {W : Type 0} (given taken : W → List ℕ) (ends failures : W → ℕ)
   }
 
   -- memory for a frame was refused
-  pub breaks_give : (cause : Cause) → GivesOr {A = Unit {0}} old.acceptor mid.session z mid.out p (Err cause) → x ≡ mid.wire → Breaks given taken ends failures old (gone p true) cause
+  pub breaks_give : (cause : Cause) → GivesOr {A = Unit {0}} old.acceptor mid.session z mid.out p (Err cause) → x ≡ mid.wire → Breaks seen old (gone p true) cause
   breaks_give End g same = absurd g
   breaks_give Fault g same = absurd g
   breaks_give BadFrame g same = absurd g
   breaks_give BadSession g same = absurd g
   breaks_give Book g same = absurd g
   breaks_give Memory g same =
-      let fine : failures x ≡ failures mid.wire = ap failures same in
+      let fine : (seen x).failures ≡ (seen mid.wire).failures = ap (λ y. (seen y).failures) same in
       let sound = h.sound in
       record {
         rest = mid.rest;
         left = p ++ g.0;
-        moves = gave_moves [] (p ++ g.0) g.0 p true g.1 (ap given same) (ap taken same ∙ sym (append-nil (taken mid.wire))) refl;
+        moves = gave_moves [] (p ++ g.0) g.0 p true g.1 (ap (λ y. (seen y).given) same) (ap (λ y. (seen y).taken) same ∙ sym (append-nil (seen mid.wire).taken)) refl;
         reason = tt;
         faults = omega (arith, fine, sound);
         over = refl;
       }
 
-  module _ (y : List ℕ) (gives : GivesFrames old.acceptor mid.session z mid.out p []) (same : given x ≡ given mid.wire) where
+  module _ (y : List ℕ) (gives : GivesFrames old.acceptor mid.session z mid.out p []) (same : (seen x).given ≡ (seen mid.wire).given) where
     -- the wire failed as it took octets
-    pub breaks_write : (cause : Cause) → Writes taken failures mid.wire x p y (Err cause) → Breaks given taken ends failures old (gone y true) cause
+    pub breaks_write : (cause : Cause) → Writes (seen mid.wire) (seen x) p y (Err cause) → Breaks seen old (gone y true) cause
     breaks_write End l = absurd l
     breaks_write Fault l =
         let sound = h.sound in
@@ -217,10 +218,10 @@ module _ {W : Type 0} (given taken : W → List ℕ) (ends failures : W → ℕ)
     breaks_write Book l = absurd l
     breaks_write Memory l = absurd l
 
-    pub turned_well : (n m : ℕ) → length h.moves.came ≡ n → Writes taken failures mid.wire x p y (Ok m) → ends x ≡ ends mid.wire → HoldsNone z p → (ended : Bool) → (ended ≡ true → HasEnded z y) → (HasEnded z y → ended ≡ true)
-        → Turns given taken ends failures old (gone y false) (answer_of ended (n + m))
+    pub turned_well : (n m : ℕ) → length h.moves.came ≡ n → Writes (seen mid.wire) (seen x) p y (Ok m) → (seen x).ends ≡ (seen mid.wire).ends → HoldsNone z p → (ended : Bool) → (ended ≡ true → HasEnded z y) → (HasEnded z y → ended ≡ true)
+        → Turns seen old (gone y false) (answer_of ended (n + m))
     turned_well n m count l still_on all ended over only =
-        let well : Went given taken ends failures old (gone y false) = record {
+        let well : Went seen old (gone y false) = record {
           moves = gave_moves l.0.went y [] y false gives same l.0.went_out (l.0.front ∙ sym (append-nil p));
           sound = l.2 ∙ h.sound;
           no_end = λ is. still_on ∙ h.no_end is;
@@ -230,4 +231,4 @@ module _ {W : Type 0} (given taken : W → List ℕ) (ends failures : W → ℕ)
         } in
         let went = l.1 in
         let sum : length h.moves.came + length l.0.went ≡ n + m = omega (arith, count, went) in
-        says_well given taken ends failures old (gone y false) (Went given taken ends failures old (gone y false)) (λ w. length w.moves.came + length w.moves.went) well (n + m) sum ended over only
+        says_well seen old (gone y false) (Went seen old (gone y false)) (λ w. length w.moves.came + length w.moves.went) well (n + m) sum ended over only

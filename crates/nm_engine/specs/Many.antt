@@ -1,5 +1,6 @@
 -- A link over many turns.
 use Rattle.std.specs.Prelude.{◌≡◌, ◌⊎◌, ℕ, false, List, [], ◌∷◌, ◌++◌, Option, Some, None}
+use Rattle.nm_base.specs.Wire.{WireSeen}
 use Rattle.nm_frames.specs.Frame.{stream_octets}
 use Rattle.nm_frames.specs.Lives.{HasCursor, SessionStep}
 use Rattle.nm_frames.specs.Session.{SessionValue}
@@ -9,24 +10,25 @@ use Rattle.nm_engine.specs.Lives.{LinkLives, frames_in, frames_out}
 use Rattle.nm_engine.specs.Turn.{Hears, Turns}
 
 -- turn by turn, or half of one in which the link only heard: each answer, and the link after it
-abbrev pub GoesOn : {W : Type 0} → (W → List ℕ) → (W → List ℕ) → (W → ℕ) → (W → ℕ) → LinkValue W → List (Turn × LinkValue W) → LinkValue W → Type 0
-GoesOn given taken ends failures old [] new = new ≡ old
-GoesOn given taken ends failures old (p ∷ path) new =
-    (Turns given taken ends failures old p.1 p.0 ⊎ Hears given taken ends failures old p.1 p.0) × GoesOn given taken ends failures p.1 path new
+abbrev pub GoesOn : {W : Type 0} → (W → WireSeen) → LinkValue W → List (Turn × LinkValue W)
+    → LinkValue W → Type 0
+GoesOn seen old [] new = new ≡ old
+GoesOn seen old (p ∷ path) new =
+    (Turns seen old p.1 p.0 ⊎ Hears seen old p.1 p.0) × GoesOn seen p.1 path new
 
 -- What came over all turns, with the octets held at first, are the octets of the frames that were taken, and then the rest, which a link
 -- that has not failed holds. What went, and then what is left, which it holds too, is what waited at first and the octets of the frames
 -- that were given. So nothing that was taken over is lost, and nothing is made up.
-pub record Accounts {W : Type 0} (given taken : W → List ℕ) (first last : LinkValue W) : Type 0 where
+pub record Accounts {W : Type 0} (seen : W → WireSeen) (first last : LinkValue W) : Type 0 where
   pub steps : List SessionStep
   pub came : List ℕ
   pub went : List ℕ
   pub rest : List ℕ
   pub left : List ℕ
-  pub came_in : given last.wire ≡ given first.wire ++ came
+  pub came_in : (seen last.wire).given ≡ (seen first.wire).given ++ came
   pub framed : first.rest ++ came ≡ stream_octets (frames_in steps) ++ rest
   pub lived : LinkLives first.acceptor first.session steps last.session
-  pub went_out : taken last.wire ≡ taken first.wire ++ went
+  pub went_out : (seen last.wire).taken ≡ (seen first.wire).taken ++ went
   pub sent : went ++ left ≡ first.out ++ stream_octets (frames_out steps)
   pub acceptor : last.acceptor ≡ first.acceptor
   pub whole : last.failed ≡ false → (rest ≡ last.rest) × (left ≡ last.out)

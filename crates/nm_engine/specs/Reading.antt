@@ -1,6 +1,7 @@
 -- What one read of a link came to.
 use Rattle.std.specs.Prelude.{◌≡◌, ℕ, ◌+◌, ◌≤◌, Bool, true, false, List, [], ◌++◌, length, Result, Ok, Err, Some}
 use Rattle.std.specs.List.{AllByRecursion}
+use Rattle.nm_base.specs.Wire.{WireSeen}
 use Rattle.nm_frames.specs.declared.frame.Frame.{Frame}
 use Rattle.nm_frames.specs.declared.fault.FrameFault.{FrameFault}
 use Rattle.nm_frames.specs.Frame.{IsFrame, stream_octets}
@@ -26,30 +27,32 @@ FeedsReader r piece frames q (Err BadSession) = ⊥
 FeedsReader r piece frames q (Err Book) = ⊥
 FeedsReader r piece frames q (Err Memory) = frames ≡ []
 
-module _ {W : Type 0} (given : W → List ℕ) (ends failures : W → ℕ) (old new : W) where
+module _ (old new : WireSeen) where
   -- these octets came; with those that were held before they are the frames, and then the rest
   pub record Came (held : List ℕ) (frames : List Frame) (rest : List ℕ) : Type 0 where
     pub came : List ℕ
     pub most : length came ≤ MAX_READ_OCTETS
-    pub came_in : given new ≡ given old ++ came
+    pub came_in : new.given ≡ old.given ++ came
     pub framed : IsFramed (held ++ came) frames rest
 
   -- so many octets came, and the reader goes on; the end is not found, unless it may be
   pub record ReadsOn (may_end : Bool) (r : ReaderValue) (frames : List Frame) (q : ReaderValue) (n : ℕ) : Type 0 where
     pub came : Came r.rest frames q.rest
     pub count : length came.came ≡ n
-    pub sound : failures new ≡ failures old
-    pub no_end : may_end ≡ false → ends new ≡ ends old
+    pub sound : new.failures ≡ old.failures
+    pub no_end : may_end ≡ false → new.ends ≡ old.ends
     pub whole : q.failed ≡ false
 
   -- why nothing more is read
   abbrev pub ReadEnds : Bool → Cause → List Frame → List ℕ → Type 0
-  ReadEnds may_end End frames rest = (ends new ≡ ends old + 1) × (may_end ≡ false) × (failures new ≡ failures old)
-  ReadEnds may_end Fault frames rest = (frames ≡ []) × (failures new ≡ failures old + 1)
-  ReadEnds may_end BadFrame frames rest = ((e : FrameFault) × (fault_shown rest ≡ Some e)) × (failures new ≡ failures old)
+  ReadEnds may_end End frames rest =
+      (new.ends ≡ old.ends + 1) × (may_end ≡ false) × (new.failures ≡ old.failures)
+  ReadEnds may_end Fault frames rest = (frames ≡ []) × (new.failures ≡ old.failures + 1)
+  ReadEnds may_end BadFrame frames rest =
+      ((e : FrameFault) × (fault_shown rest ≡ Some e)) × (new.failures ≡ old.failures)
   ReadEnds may_end BadSession frames rest = ⊥
   ReadEnds may_end Book frames rest = ⊥
-  ReadEnds may_end Memory frames rest = failures new ≡ failures old
+  ReadEnds may_end Memory frames rest = new.failures ≡ old.failures
 
   -- the reader goes on, or ends there
   abbrev pub Reads : Bool → ReaderValue → List Frame → ReaderValue → Result ℕ Cause → Type 0

@@ -1,5 +1,6 @@
 -- What one turn of a link did.
 use Rattle.std.specs.Prelude.{◌≡◌, ℕ, ◌+◌, ◌<◌, ◌≤◌, nat_lt, if◌then◌else◌, Bool, true, false, List, [], ◌++◌, length, map, Option, Some, Result, Ok, Err}
+use Rattle.nm_base.specs.Wire.{WireSeen}
 use Rattle.nm_frames.specs.declared.frame.Frame.{Frame}
 use Rattle.nm_frames.specs.declared.fault.FrameFault.{FrameFault}
 use Rattle.nm_frames.specs.Frame.{IsFrame, frame_octets, stream_octets}
@@ -38,7 +39,7 @@ pub record HasEnded (session : Option SessionValue) (out : List ℕ) : Type 0 wh
 abbrev pub answer_of : Bool → ℕ → Turn
 answer_of ended moved = if ended then Ended else if nat_lt 0 moved then Progress else Idle
 
-module _ {W : Type 0} (given taken : W → List ℕ) (ends failures : W → ℕ) (old new : LinkValue W) where
+module _ {W : Type 0} (seen : W → WireSeen) (old new : LinkValue W) where
   -- What came, with the octets held before, are the octets of the frames that the session took, and then the rest. What went, and then
   -- what is left, is what waited before and the octets of the frames that the session gave once it had taken those.
   pub record Moves (rest left : List ℕ) : Type 0 where
@@ -49,11 +50,11 @@ module _ {W : Type 0} (given taken : W → List ℕ) (ends failures : W → ℕ)
     pub outs : List Frame
     pub mid : Option SessionValue
     pub most : length came ≤ MAX_READ_OCTETS
-    pub came_in : given new.wire ≡ given old.wire ++ came
+    pub came_in : (seen new.wire).given ≡ (seen old.wire).given ++ came
     pub framed : old.rest ++ came ≡ stream_octets ins ++ rest
     pub took : LinkLives old.acceptor old.session (map Took ins) mid
     pub gave : LinkLives old.acceptor mid (map Gave outs) new.session
-    pub went_out : taken new.wire ≡ taken old.wire ++ went
+    pub went_out : (seen new.wire).taken ≡ (seen old.wire).taken ++ went
     pub sent : went ++ left ≡ old.out ++ stream_octets outs
     pub acceptor : new.acceptor ≡ old.acceptor
 
@@ -61,8 +62,8 @@ module _ {W : Type 0} (given taken : W → List ℕ) (ends failures : W → ℕ)
   -- before. The rest is no whole frame, and shows no fault. What stood in the buffer before the write is all that the session owed, or enough.
   pub record Went : Type 0 where
     pub moves : Moves new.rest new.out
-    pub sound : failures new.wire ≡ failures old.wire
-    pub no_end : bye_taken old.session ≡ false → ends new.wire ≡ ends old.wire
+    pub sound : (seen new.wire).failures ≡ (seen old.wire).failures
+    pub no_end : bye_taken old.session ≡ false → (seen new.wire).ends ≡ (seen old.wire).ends
     pub part : IsPart new.rest
     pub all : HoldsNone new.session (moves.went ++ new.out)
     pub whole : new.failed ≡ false
@@ -74,7 +75,8 @@ module _ {W : Type 0} (given taken : W → List ℕ) (ends failures : W → ℕ)
 
   -- the reason of a cause
   abbrev pub IsReason : Cause → List ℕ → Option SessionValue → Type 0
-  IsReason End rest mid = (ends new.wire ≡ ends old.wire + 1) × (bye_taken old.session ≡ false)
+  IsReason End rest mid =
+      ((seen new.wire).ends ≡ (seen old.wire).ends + 1) × (bye_taken old.session ≡ false)
   IsReason Fault rest mid = Unit {0}
   IsReason BadFrame rest mid = (e : FrameFault) × (fault_shown rest ≡ Some e)
   IsReason BadSession rest mid = StopsAt BadSession rest mid
@@ -87,7 +89,7 @@ module _ {W : Type 0} (given taken : W → List ℕ) (ends failures : W → ℕ)
     pub left : List ℕ
     pub moves : Moves rest left
     pub reason : IsReason cause rest moves.mid
-    pub faults : failures new.wire ≡ failures old.wire + faults_of cause
+    pub faults : (seen new.wire).failures ≡ (seen old.wire).failures + faults_of cause
     pub over : new.failed ≡ true
 
   -- a turn in which the link only heard: the session gave nothing, and nothing was written
@@ -95,8 +97,8 @@ module _ {W : Type 0} (given taken : W → List ℕ) (ends failures : W → ℕ)
     pub moves : Moves new.rest new.out
     pub none_given : moves.outs ≡ []
     pub none_went : moves.went ≡ []
-    pub sound : failures new.wire ≡ failures old.wire
-    pub no_end : bye_taken old.session ≡ false → ends new.wire ≡ ends old.wire
+    pub sound : (seen new.wire).failures ≡ (seen old.wire).failures
+    pub no_end : bye_taken old.session ≡ false → (seen new.wire).ends ≡ (seen old.wire).ends
     pub part : IsPart new.rest
     pub whole : new.failed ≡ false
 
@@ -127,24 +129,24 @@ link_of parts failed = record {
 }
 
 -- the parts of a link that has not failed
-module _ {W : Type 0} (given taken : W → List ℕ) (ends failures : W → ℕ) (old new : Parts W) where
+module _ {W : Type 0} (seen : W → WireSeen) (old new : Parts W) where
   -- this, or the link broke
   abbrev pub OrBreaks : {A : Type 0} → (A → Type 0) → Result A Cause → Type 0
   OrBreaks Fine (Ok x) = Fine x
   OrBreaks Fine (Err cause) =
-      Breaks given taken ends failures (link_of old false) (link_of new true) cause
+      Breaks seen (link_of old false) (link_of new true) cause
 
   -- the link heard, and so many octets came
   abbrev pub TakesIn : Result ℕ Cause → Type 0
   TakesIn result = OrBreaks
-      (λ n. (h : Heard given taken ends failures (link_of old false) (link_of new false))
+      (λ n. (h : Heard seen (link_of old false) (link_of new false))
       × (length h.moves.came ≡ n))
       result
 
   abbrev pub Listens : Result Turn Cause → Type 0
   Listens result =
-      OrBreaks (Hears given taken ends failures (link_of old false) (link_of new false)) result
+      OrBreaks (Hears seen (link_of old false) (link_of new false)) result
 
   abbrev pub Works : Result Turn Cause → Type 0
   Works result =
-      OrBreaks (Turns given taken ends failures (link_of old false) (link_of new false)) result
+      OrBreaks (Turns seen (link_of old false) (link_of new false)) result

@@ -1,6 +1,7 @@
 //! Laws of the definitions: each function's contract is a law, and its body is empty.
 
 ghost use Rattle.std.specs.Prelude.{ℕ, List, Option};
+ghost use Rattle.nm_base.specs.Wire.{WireSeen};
 ghost use Rattle.nm_engine.specs.declared.answer.Turn.{Turn};
 ghost use Rattle.nm_engine.specs.Acceptor.{AcceptorValue};
 ghost use Rattle.nm_engine.specs.Link.{LinkValue};
@@ -13,9 +14,9 @@ ghost use Rattle.nm_frames.specs.Session.{SessionValue};
 /// over is lost and nothing is made up: the octets that came are those of the frames that were
 /// taken and a rest, and those that went begin the octets of the frames that were given.
 pub fn nothing_is_lost<W>()
-    ensures { (given taken : W → List ℕ) (ends failures : W → ℕ) (first last : LinkValue W)
-        (path : List (Turn × LinkValue W)) → GoesOn given taken ends failures first path last
-        → Accounts given taken first last }
+    ensures { (seen : W → WireSeen) (first last : LinkValue W)
+        (path : List (Turn × LinkValue W)) → GoesOn seen first path last
+        → Accounts seen first last }
 {}
 
 /// Over any steps of a link's session, each message that is given on a channel has the number that

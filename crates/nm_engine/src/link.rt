@@ -157,7 +157,7 @@ impl<W: Wire> Link<W> {
         pass: &mut Pass<C>,
         buffer: &mut ReadBuffer,
     ) -> Turn
-        ensures hears { Hears W.given W.taken W.ends W.failures self.old self.new result }
+        ensures hears { Hears W.seen self.old self.new result }
         ensures bounded { IsBounded self.new.rest self.new.out }
     {
         if self.failed {
@@ -183,7 +183,7 @@ impl<W: Wire> Link<W> {
         pass: &mut Pass<C>,
         buffer: &mut ReadBuffer,
     ) -> Turn
-        ensures turns { Turns W.given W.taken W.ends W.failures self.old self.new result }
+        ensures turns { Turns W.seen self.old self.new result }
         ensures bounded { IsBounded self.new.rest self.new.out }
     {
         if self.failed {

@@ -73,12 +73,12 @@ pub(crate) fn read_in<W: Wire>(
     requires part { IsPart reader.old.rest }
 
     // What the wire gave is frames and the part of one that is kept.
-    ensures reads { Reads W.given W.ends W.failures wire.old wire.new may_end reader.old
+    ensures reads { Reads (W.seen wire.old) (W.seen wire.new) may_end reader.old
         frames.new.items reader.new result }
     ensures part { IsPart reader.new.rest }
 
     // Nothing is written.
-    ensures keeps { W.taken wire.new ≡ W.taken wire.old }
+    ensures keeps { (W.seen wire.new).taken ≡ (W.seen wire.old).taken }
 {
     match wire.read_some(octets) {
         Read::Got(count) => feed(alloc, reader, &octets[..count], frames),

@@ -61,7 +61,7 @@ fn take_in<W: Wire, C: Counts, R: Wait>(
 ) -> Result<usize, Cause>
     requires sound { parts.old.reader.failed ≡ false }
     requires bounded { IsBounded parts.old.reader.rest parts.old.out.items }
-    ensures takes { TakesIn W.given W.taken W.ends W.failures parts.old parts.new result }
+    ensures takes { TakesIn W.seen parts.old parts.new result }
     ensures bounded { IsBounded parts.new.reader.rest parts.new.out.items }
     ensures sound { IfOk result (λ _. parts.new.reader.failed ≡ false) }
 {
@@ -90,7 +90,7 @@ pub(crate) fn listen<W: Wire, C: Counts, R: Wait>(
 ) -> Result<Turn, Cause>
     requires sound { parts.old.reader.failed ≡ false }
     requires bounded { IsBounded parts.old.reader.rest parts.old.out.items }
-    ensures hears { Listens W.given W.taken W.ends W.failures parts.old parts.new result }
+    ensures hears { Listens W.seen parts.old parts.new result }
     ensures bounded { IsBounded parts.new.reader.rest parts.new.out.items }
     ensures sound { IfOk result (λ _. parts.new.reader.failed ≡ false) }
 {
@@ -110,7 +110,7 @@ pub(crate) fn work<W: Wire, C: Counts, R: Wait>(
 ) -> Result<Turn, Cause>
     requires sound { parts.old.reader.failed ≡ false }
     requires bounded { IsBounded parts.old.reader.rest parts.old.out.items }
-    ensures works { Works W.given W.taken W.ends W.failures parts.old parts.new result }
+    ensures works { Works W.seen parts.old parts.new result }
     ensures bounded { IsBounded parts.new.reader.rest parts.new.out.items }
     ensures sound { IfOk result (λ _. parts.new.reader.failed ≡ false) }
 {

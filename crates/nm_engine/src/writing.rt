@@ -17,9 +17,9 @@ fn drop_front(out: &mut Vec<u8>, count: usize)
 
 /// Writes once from the front of the buffer. How many octets went.
 pub(crate) fn write_out<W: Wire>(wire: &mut W, out: &mut Vec<u8>) -> Result<usize, Cause>
-    ensures writes { Writes W.taken W.failures wire.old wire.new out.old.items out.new.items
-        result }
-    ensures keeps { (W.given wire.new ≡ W.given wire.old) × (W.ends wire.new ≡ W.ends wire.old) }
+    ensures writes { Writes (W.seen wire.old) (W.seen wire.new) out.old.items out.new.items result }
+    ensures keeps { ((W.seen wire.new).given ≡ (W.seen wire.old).given)
+        × ((W.seen wire.new).ends ≡ (W.seen wire.old).ends) }
 {
     if out.is_empty() {
         return Ok(0);

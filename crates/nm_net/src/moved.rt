@@ -1,6 +1,6 @@
 //! A wire that counts what moves on it, and is read only where something may have come.
 
-ghost use Rattle.std.specs.Prelude.{◌≡◌, ℕ, List};
+ghost use Rattle.std.specs.Prelude.{◌≡◌};
 
 use crate::counting::{FrameCounter, Frames};
 use crate::written::WrittenMessages;
@@ -117,13 +117,7 @@ impl<W> CountingWire<W> {
 }
 
 impl<W: Wire> Wire for CountingWire<W> {
-    ghost given = { λ c. W.given c };
-
-    ghost taken = { λ c. W.taken c };
-
-    ghost ends = { λ c. W.ends c };
-
-    ghost failures = { λ c. W.failures c };
+    ghost seen = { λ c. W.seen c };
 
     fn read_some(&mut self, buffer: &mut [u8]) -> Read {
         if !self.is_ready() {

@@ -1,6 +1,6 @@
 //! A wire over a TCP connection that does not wait.
 
-ghost use Rattle.std.specs.Prelude.{◌≡◌, ℕ, ◌+◌, ◌<◌, ◌≤◌, ◌++◌, List, [], take, length};
+ghost use Rattle.std.specs.Prelude.{◌≡◌, []};
 
 use mio::net::TcpStream;
 use mio::{Interest, Registry, Token};
@@ -23,9 +23,9 @@ pub struct TcpWire {
 }
 
 impl Model for TcpWire {
-    ghost use Rattle.nm_net.specs.Transport.{WireValue};
+    ghost use Rattle.nm_base.specs.Wire.{WireSeen};
 
-    ghost Value = { WireValue };
+    ghost Value = { WireSeen };
 
     ghost view = { λ s. record {
       given = s.got.list;
@@ -72,13 +72,7 @@ impl TcpWire {
 }
 
 impl Wire for TcpWire {
-    ghost given = { λ s. s.given };
-
-    ghost taken = { λ s. s.taken };
-
-    ghost ends = { λ s. s.ends };
-
-    ghost failures = { λ s. s.failures };
+    ghost seen = { λ s. s };
 
     fn read_some(&mut self, buffer: &mut [u8]) -> WireRead {
         match self.stream.read(buffer) {

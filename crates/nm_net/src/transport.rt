@@ -42,14 +42,12 @@ pub trait Transport {
 
     /// Begins a connection to the peer with this number, if it can. It may not be made yet.
     fn connect(&mut self, peer: usize) -> Option<Self::Connection>
-        ensures fresh { IfSome result (IsFresh Self.Connection.given Self.Connection.taken
-            Self.Connection.ends Self.Connection.failures) }
+        ensures fresh { IfSome result (λ w. IsFresh (Self.Connection.seen w)) }
         ensures idle { elapsed_periods self.new ≡ elapsed_periods self.old };
 
     /// The next connection that a peer began, if there is one.
     fn accept(&mut self) -> Option<Self::Connection>
-        ensures fresh { IfSome result (IsFresh Self.Connection.given Self.Connection.taken
-            Self.Connection.ends Self.Connection.failures) }
+        ensures fresh { IfSome result (λ w. IsFresh (Self.Connection.seen w)) }
         ensures idle { elapsed_periods self.new ≡ elapsed_periods self.old };
 
     /// Whether the system refused the connection that was asked for last, or that somebody began,

@@ -16,13 +16,10 @@ pub struct CutWire<W> {
 }
 
 impl<W: Wire> Wire for CutWire<W> {
-    ghost given = { λ s. W.given s.wire };
-
-    ghost taken = { λ s. W.taken s.wire };
-
-    ghost ends = { λ s. W.ends s.wire };
-
-    ghost failures = { λ s. W.failures s.wire + s.failed };
+    // The wire below, with the failures that were added.
+    ghost seen = { λ s. record (W.seen s.wire) {
+      failures = (W.seen s.wire).failures + s.failed;
+    } };
 
     fn read_some(&mut self, buffer: &mut [u8]) -> Read {
         self.wire.read_some(buffer)

@@ -13,13 +13,13 @@ returns-in_err-came-clause-works g c =
 pub returns-in_err-give_all-clause-works : goal.returns-in_err-give_all-clause-works
 returns-in_err-give_all-clause-works g c =
     let p = err_from_is_err_and c.from_residual-in_err-give_all.result c.from_residual-in_err-give_all.ensures.1 in
-    rw (p.1, p.2) (breaks_give g.W.Wire.given g.W.Wire.taken g.W.Wire.ends g.W.Wire.failures (link_of c.args.parts.now false) (link_of c.take_in.new.parts false) c.in_ok-came.ensures.takes.0
+    rw (p.1, p.2) (breaks_give g.W.Wire.seen (link_of c.args.parts.now false) (link_of c.take_in.new.parts false) c.in_ok-came.ensures.takes.0
     c.give_all.new.session c.take_in.new.parts.wire c.give_all.new.out.items c.in_err-give_all.field-0.0 (c.in_err-give_all.ensures.gives c.args.parts.now.party.acceptor) refl)
 
 pub returns-in_err-went-clause-works : goal.returns-in_err-went-clause-works
 returns-in_err-went-clause-works g c =
     let p = err_from_is_err_and c.from_residual-in_err-went.result c.from_residual-in_err-went.ensures.1 in
-    rw (p.1, p.2) (breaks_write g.W.Wire.given g.W.Wire.taken g.W.Wire.ends g.W.Wire.failures (link_of c.args.parts.now false) (link_of c.take_in.new.parts false) c.in_ok-came.ensures.takes.0
+    rw (p.1, p.2) (breaks_write g.W.Wire.seen (link_of c.args.parts.now false) (link_of c.take_in.new.parts false) c.in_ok-came.ensures.takes.0
     c.give_all.new.session c.write_out.new.wire c.give_all.new.out.items c.write_out.new.out.items (c.in_ok-give_all.ensures.gives c.args.parts.now.party.acceptor) c.write_out.ensures.keeps.0
     c.in_err-went.field-0.0 c.in_err-went.ensures.writes)
 
@@ -29,8 +29,8 @@ returns-clause-works g c =
     let mid = link_of c.take_in.new.parts false in
     let takes = c.in_ok-came.ensures.takes in
     let new = record mid { wire = c.write_out.new.wire; session = c.give_all.new.session; out = c.write_out.new.out.items } in
-    subst (λ (x : Turn). Turns g.W.Wire.given g.W.Wire.taken g.W.Wire.ends g.W.Wire.failures old new x) (sym c.answer.ensures)
-    (turned_well g.W.Wire.given g.W.Wire.taken g.W.Wire.ends g.W.Wire.failures old mid takes.0 c.give_all.new.session c.write_out.new.wire c.give_all.new.out.items c.write_out.new.out.items
+    subst (λ (x : Turn). Turns g.W.Wire.seen old new x) (sym c.answer.ensures)
+    (turned_well g.W.Wire.seen old mid takes.0 c.give_all.new.session c.write_out.new.wire c.give_all.new.out.items c.write_out.new.out.items
     (c.in_ok-give_all.ensures.gives c.args.parts.now.party.acceptor) c.write_out.ensures.keeps.0 c.in_ok-came.came c.in_ok-went.went takes.1 c.in_ok-went.ensures.writes c.write_out.ensures.keeps.1
     c.in_ok-give_all.ensures.all c.has_ended.result
     (λ over. subst (λ (l : List ℕ). HasEnded c.give_all.new.session l) c.deref.ensures.value (c.has_ended.ensures.ended over))

@@ -7,5 +7,5 @@ pub returns-in-Ok-clause-hears : goal.returns-in-Ok-clause-hears
 returns-in-Ok-clause-hears g c =
     let i = c.self.inside in
     let n = c.listen.new.parts in
-    subst (λ (x : LinkValue g.row.W.Denot). Hears g.W.Wire.given g.W.Wire.taken g.W.Wire.ends g.W.Wire.failures x (link_of n i.failed) c.in-Ok.turn) c.self.view_is
-    (subst (λ (b : Bool). Hears g.W.Wire.given g.W.Wire.taken g.W.Wire.ends g.W.Wire.failures (link_of i.parts b) (link_of n b) c.in-Ok.turn) (sym c.if-self.false) c.in-Ok.ensures.hears)
+    subst (λ (x : LinkValue g.row.W.Denot). Hears g.W.Wire.seen x (link_of n i.failed) c.in-Ok.turn) c.self.view_is
+    (subst (λ (b : Bool). Hears g.W.Wire.seen (link_of i.parts b) (link_of n b) c.in-Ok.turn) (sym c.if-self.false) c.in-Ok.ensures.hears)

@@ -7,5 +7,5 @@ pub returns-in-Ok-clause-turns : goal.returns-in-Ok-clause-turns
 returns-in-Ok-clause-turns g c =
     let i = c.self.inside in
     let n = c.work.new.parts in
-    subst (λ (x : LinkValue g.row.W.Denot). Turns g.W.Wire.given g.W.Wire.taken g.W.Wire.ends g.W.Wire.failures x (link_of n i.failed) c.in-Ok.turn) c.self.view_is
-    (subst (λ (b : Bool). Turns g.W.Wire.given g.W.Wire.taken g.W.Wire.ends g.W.Wire.failures (link_of i.parts b) (link_of n b) c.in-Ok.turn) (sym c.if-self.false) c.in-Ok.ensures.works)
+    subst (λ (x : LinkValue g.row.W.Denot). Turns g.W.Wire.seen x (link_of n i.failed) c.in-Ok.turn) c.self.view_is
+    (subst (λ (b : Bool). Turns g.W.Wire.seen (link_of i.parts b) (link_of n b) c.in-Ok.turn) (sym c.if-self.false) c.in-Ok.ensures.works)
