@@ -64,7 +64,9 @@ key_back d k = ap (λ p. key_of k.time p k.number) (place_back k.place)
 pub key_cmp-IsAntisymmetric : IsAntisymmetric key_cmp
 unfolding key_cmp
 key_cmp-IsAntisymmetric a b e =
-    sym (key_back a a) ∙ ap (key_from a) (slice_cmp-IsAntisymmetric nat_cmp-IsAntisymmetric (key_code a) (key_code b) e) ∙ key_back a b
+    sym (key_back a a) ∙ ap (key_from a)
+    (slice_cmp-IsAntisymmetric nat_cmp-IsAntisymmetric (key_code a)
+    (key_code b) e) ∙ key_back a b
 
 -- A place as a number, where there are so many interfaces: 2i, 2i + 1, and then the sources.
 abbrev pub place_number : ℕ → Place → ℕ

@@ -111,7 +111,10 @@ write_answer n = if nat_lt 0 n then written.Took n else written.Fault
 abbrev pub after_read : MemoryWire → ℕ → MemoryWire
 after_read w n =
     if nat_lt 0 n then record w { at = w.at + n }
-    else record w { ends = w.ends + ending_ends w.ending; failures = w.failures + ending_failures w.ending }
+    else record w {
+      ends = w.ends + ending_ends w.ending;
+      failures = w.failures + ending_failures w.ending;
+    }
 
 -- the wire after a write of these octets that moves n of them
 abbrev pub after_write : MemoryWire → List ℕ → ℕ → MemoryWire

@@ -17,9 +17,11 @@ use Rattle.nm_topology.specs.Parse.Forms.{least_below}
 
 -- what the program is asked to do, with the names of inputs as octets
 pub data CommandValue : Type 0 where
-  -- to write a trace file: its form, which ways its packets go, the topology, and the name of the interface, if it has one
+  -- to write a trace file: its form, which ways its packets go, the topology, and the name of
+  -- the interface, if it has one
   Trace : Form → Ways → List ℕ → Option (List ℕ) → CommandValue
-  -- to write the trace files of interfaces: the topology, the folder, and the names of the interfaces, or of none for all
+  -- to write the trace files of interfaces: the topology, the folder, and the names of the
+  -- interfaces, or of none for all
   All : List ℕ → List ℕ → List (List ℕ) → CommandValue
   -- to run rounds: the topology, and the greatest number of rounds
   Rounds : List ℕ → ℕ → CommandValue
@@ -37,14 +39,18 @@ pub data CommandValue : Type 0 where
   Packets : List ℕ → ℕ → CommandValue
   -- to say the way of a packet: the topology, the name of the node that sends it, and the address
   Path : List ℕ → List ℕ → List ℕ → CommandValue
-  -- to run all partitions: the topology, the folder of their trace files, how many threads run books, and how many replicas each partition has
+  -- to run all partitions: the topology, the folder of their trace files, how many threads run
+  -- books, and how many replicas each partition has
   Run : List ℕ → List ℕ → ℕ → ℕ → CommandValue
-  -- to run one replica: the topology, the folder of its trace files, the partition, the number of the replica, and the addresses
+  -- to run one replica: the topology, the folder of its trace files, the partition, the number
+  -- of the replica, and the addresses
   Node : List ℕ → List ℕ → ℕ → ℕ → List ℕ → CommandValue
 
 abbrev pub command_value : Command → CommandValue
-command_value (command.Trace words) = Trace words.form words.ways words.topology.now (option_map (λ name. name.now) words.iface)
-command_value (command.All words) = All words.topology.now words.folder.now (map (λ name. string_bytes name) words.ifaces.now)
+command_value (command.Trace words) =
+    Trace words.form words.ways words.topology.now (option_map (λ name. name.now) words.iface)
+command_value (command.All words) =
+    All words.topology.now words.folder.now (map (λ name. string_bytes name) words.ifaces.now)
 command_value (command.Rounds topology max) = Rounds topology.now max
 command_value (command.Script topology steps) = Script topology.now steps.now
 command_value (command.Check topology) = Check topology.now
@@ -53,8 +59,10 @@ command_value (command.Text topology iface) = Text topology.now iface.now
 command_value (command.Series words) = Series words.topology.now words.step words.subject
 command_value (command.Packets words) = Packets words.topology.now words.source
 command_value (command.Path words) = Path words.topology.now words.node.now words.address.now
-command_value (command.Run words) = Run words.topology.now words.folder.now words.workers words.replicas
-command_value (command.Node words) = Node words.topology.now words.folder.now words.partition words.replica words.addresses.now
+command_value (command.Run words) =
+    Run words.topology.now words.folder.now words.workers words.replicas
+command_value (command.Node words) =
+    Node words.topology.now words.folder.now words.partition words.replica words.addresses.now
 
 -- the numbers of a command are such as may be asked for
 abbrev pub AsksWithinLimits : Command → Type 0
@@ -68,8 +76,10 @@ AsksWithinLimits (command.Text topology iface) = Unit {0}
 AsksWithinLimits (command.Series words) = (1 ≤ words.step) × (words.step ≤ MAX_TIME)
 AsksWithinLimits (command.Packets words) = words.source ≤ MAX_SOURCE
 AsksWithinLimits (command.Path words) = Unit {0}
-AsksWithinLimits (command.Run words) = (1 ≤ words.workers) × (words.workers ≤ MAX_WORKERS) × (1 ≤ words.replicas) × (words.replicas ≤ MAX_REPLICAS)
-AsksWithinLimits (command.Node words) = (words.partition ≤ MAX_PARTITION) × (words.replica ≤ MAX_REPLICA)
+AsksWithinLimits (command.Run words) = (1 ≤ words.workers) × (words.workers ≤ MAX_WORKERS)
+    × (1 ≤ words.replicas) × (words.replicas ≤ MAX_REPLICAS)
+AsksWithinLimits (command.Node words) =
+    (words.partition ≤ MAX_PARTITION) × (words.replica ≤ MAX_REPLICA)
 
 -- the words that write one trace file
 abbrev pub form_of : List ℕ → Option (Form × Ways)
@@ -89,7 +99,8 @@ abbrev pub trace_from : List ℕ → Option (List ℕ) → Option (Form × Ways)
 trace_from topology iface None = None
 trace_from topology iface (Some form) = Some (Trace form.0 form.1 topology iface)
 
--- `check TOPO`, `report TOPO`, `dot TOPO`, and else `one TOPO`, `onehex TOPO`, `sent TOPO` or `received TOPO`
+-- `check TOPO`, `report TOPO`, `dot TOPO`, and else `one TOPO`, `onehex TOPO`, `sent TOPO` or
+-- `received TOPO`
 abbrev pub of_two : List ℕ → List ℕ → Option CommandValue
 of_two word topology =
     if bytes_eq word (codes "check") then Some (Check topology)
@@ -97,12 +108,18 @@ of_two word topology =
     else (if bytes_eq word (codes "dot") then Some (Show topology Graph)
     else trace_from topology None (form_of word)))
 
--- `text TOPO IFACE`, `report TOPO csv`, `report TOPO delays` and `dot TOPO load`; of other words what else they are
+-- `text TOPO IFACE`, `report TOPO csv`, `report TOPO delays` and `dot TOPO load`; of other words
+-- what else they are
 abbrev pub shown_of : List ℕ → List ℕ → List ℕ → Option CommandValue → Option CommandValue
 shown_of word topology third other =
     if bytes_eq word (codes "text") then Some (Text topology third)
-    else (if bytes_eq word (codes "report") then (if bytes_eq third (codes "csv") then Some (Show topology Values) else (if bytes_eq third (codes "delays") then Some (Show topology Delays) else None))
-    else (if bytes_eq word (codes "dot") then (if bytes_eq third (codes "load") then Some (Show topology Load) else None)
+    else
+    (if bytes_eq word (codes "report") then
+    (if bytes_eq third (codes "csv") then Some (Show topology Values) else
+    (if bytes_eq third (codes "delays") then Some (Show topology Delays) else None))
+    else
+    (if bytes_eq word (codes "dot") then
+    (if bytes_eq third (codes "load") then Some (Show topology Load) else None)
     else other))
 
 -- `series`, if its number is such
@@ -112,21 +129,27 @@ series_of topology subject step = option_map (λ n. Series topology n subject) s
 -- `series TOPO STEP` and `packets TOPO SOURCE`; of other words what else they are
 abbrev pub timed_of : List ℕ → List ℕ → List ℕ → Option CommandValue → Option CommandValue
 timed_of word topology third other =
-    if bytes_eq word (codes "series") then series_of topology Interfaces (asked_number 1 MAX_TIME third)
-    else (if bytes_eq word (codes "packets") then option_map (λ n. Packets topology n) (asked_number 0 MAX_SOURCE third)
+    if bytes_eq word (codes "series") then
+    series_of topology Interfaces (asked_number 1 MAX_TIME third)
+    else
+    (if bytes_eq word (codes "packets") then
+    option_map (λ n. Packets topology n) (asked_number 0 MAX_SOURCE third)
     else other)
 
 -- `rounds TOPO MAX`, `script TOPO STEPS`, those above, and else a trace file, as `one TOPO IFACE`
 abbrev pub of_three : List ℕ → List ℕ → List ℕ → Option CommandValue
 of_three word topology third =
-    if bytes_eq word (codes "rounds") then option_map (λ max. Rounds topology max) (asked_number 1 MAX_ROUNDS third)
+    if bytes_eq word (codes "rounds") then
+    option_map (λ max. Rounds topology max) (asked_number 1 MAX_ROUNDS third)
     else (if bytes_eq word (codes "script") then Some (Script topology third)
-    else timed_of word topology third (shown_of word topology third (trace_from topology (Some third) (form_of word))))
+    else timed_of word topology third
+    (shown_of word topology third (trace_from topology (Some third) (form_of word))))
 
 -- `series TOPO STEP flows` and `path TOPO NODE ADDRESS`
 abbrev pub of_four : List ℕ → List ℕ → List ℕ → List ℕ → Option CommandValue
 of_four word topology third fourth =
-    if bytes_eq word (codes "series") && bytes_eq fourth (codes "flows") then series_of topology Sources (asked_number 1 MAX_TIME third)
+    if bytes_eq word (codes "series") && bytes_eq fourth (codes "flows") then
+    series_of topology Sources (asked_number 1 MAX_TIME third)
     else (if bytes_eq word (codes "path") then Some (Path topology third fourth) else None)
 
 -- `run`, if its two numbers are such
@@ -138,19 +161,23 @@ run_of topology folder (Some workers) (Some replicas) = Some (Run topology folde
 -- `run TOPO DIR WORKERS REPLICAS`
 abbrev pub of_five : List ℕ → List ℕ → List ℕ → List ℕ → List ℕ → Option CommandValue
 of_five word topology folder workers replicas =
-    if bytes_eq word (codes "run") then run_of topology folder (asked_number 1 MAX_WORKERS workers) (asked_number 1 MAX_REPLICAS replicas)
+    if bytes_eq word (codes "run") then
+    run_of topology folder (asked_number 1 MAX_WORKERS workers) (asked_number 1 MAX_REPLICAS replicas)
     else None
 
 -- `node`, if its two numbers are such
 abbrev pub node_of : List ℕ → List ℕ → Option ℕ → Option ℕ → List ℕ → Option CommandValue
 node_of topology folder None replica addresses = None
 node_of topology folder (Some partition) None addresses = None
-node_of topology folder (Some partition) (Some replica) addresses = Some (Node topology folder partition replica addresses)
+node_of topology folder (Some partition) (Some replica) addresses =
+    Some (Node topology folder partition replica addresses)
 
 -- `node TOPO DIR PARTITION REPLICA ADDRESSES`
 abbrev pub of_six : List ℕ → List ℕ → List ℕ → List ℕ → List ℕ → List ℕ → Option CommandValue
 of_six word topology folder partition replica addresses =
-    if bytes_eq word (codes "node") then node_of topology folder (asked_number 0 MAX_PARTITION partition) (asked_number 0 MAX_REPLICA replica) addresses
+    if bytes_eq word (codes "node") then
+    node_of topology folder (asked_number 0 MAX_PARTITION partition)
+    (asked_number 0 MAX_REPLICA replica) addresses
     else None
 
 -- words of two to six; no words are `onehex -`
@@ -160,13 +187,16 @@ of_number (word ∷ []) = None
 of_number (word ∷ topology ∷ []) = of_two word topology
 of_number (word ∷ topology ∷ third ∷ []) = of_three word topology third
 of_number (word ∷ topology ∷ node ∷ address ∷ []) = of_four word topology node address
-of_number (word ∷ topology ∷ folder ∷ workers ∷ replicas ∷ []) = of_five word topology folder workers replicas
-of_number (word ∷ topology ∷ folder ∷ partition ∷ replica ∷ addresses ∷ []) = of_six word topology folder partition replica addresses
+of_number (word ∷ topology ∷ folder ∷ workers ∷ replicas ∷ []) =
+    of_five word topology folder workers replicas
+of_number (word ∷ topology ∷ folder ∷ partition ∷ replica ∷ addresses ∷ []) =
+    of_six word topology folder partition replica addresses
 of_number (word ∷ topology ∷ folder ∷ partition ∷ replica ∷ addresses ∷ more ∷ rest) = None
 
 -- `all TOPO DIR`, with or without names behind it, and else words of a number
 abbrev pub all_or : List (List ℕ) → Option CommandValue → Option CommandValue
-all_or (word ∷ topology ∷ folder ∷ ifaces) other = if bytes_eq word (codes "all") then Some (All topology folder ifaces) else other
+all_or (word ∷ topology ∷ folder ∷ ifaces) other =
+    if bytes_eq word (codes "all") then Some (All topology folder ifaces) else other
 all_or words other = other
 
 abbrev pub command_of : List (List ℕ) → Option CommandValue

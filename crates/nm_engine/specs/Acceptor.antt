@@ -18,10 +18,12 @@ pub record AcceptorValue : Type 0 where
 abbrev pub session_with : AcceptorValue → ℕ → SessionValue
 session_with h peer = new_session h.topology h.me h.replica peer
 
--- the session after the first frame, or why that is refused: it has to be a Hello of a partition below its own from which a channel comes
+-- the session after the first frame, or why that is refused: it has to be a Hello of a partition
+-- below its own from which a channel comes
 abbrev pub first_taken : AcceptorValue → Frame → Result SessionValue SessionFault
 first_taken h (Hello hello) =
-    if nat_lt hello.partition h.me && nat_lt 0 (length (channels_between h.topology hello.partition h.me))
+    if nat_lt hello.partition h.me
+    && nat_lt 0 (length (channels_between h.topology hello.partition h.me))
     then taken (session_with h hello.partition) (Hello hello)
     else Err Peer
 first_taken h (Have count) = Err Order
@@ -37,8 +39,10 @@ IsFromBelow h (Data message) = ⊥
 IsFromBelow h (Null promise) = ⊥
 IsFromBelow h Bye = ⊥
 
--- the session after a frame, or why it is refused; a link has a session or an acceptor that awaits one
-abbrev pub taken_at : Option AcceptorValue → Option SessionValue → Frame → Result SessionValue SessionFault
+-- the session after a frame, or why it is refused; a link has a session or an acceptor that
+-- awaits one
+abbrev pub taken_at : Option AcceptorValue → Option SessionValue → Frame
+    → Result SessionValue SessionFault
 taken_at acceptor (Some s) f = taken s f
 taken_at (Some h) None f = first_taken h f
 taken_at None None f = Err Order

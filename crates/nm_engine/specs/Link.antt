@@ -18,7 +18,8 @@ pub record LinkValue (W : Type 0) : Type 0 where
   pub out : List ℕ
   pub failed : Bool
 
--- octets of a frame that has not come whole: they show no fault, and are fewer than its length says, if they say its length at all
+-- octets of a frame that has not come whole: they show no fault, and are fewer than its length
+-- says, if they say its length at all
 pub record IsPart (rest : List ℕ) : Type 0 where
   pub none : fault_shown rest ≡ None
   pub short : length rest < 4 + stated_length rest

@@ -15,9 +15,11 @@ use Rattle.nm_frames.specs.Owed.{after_giving, owed}
 use Rattle.nm_frames.specs.Session.{SessionValue, purpose}
 use Rattle.nm_engine.specs.Acceptor.{AcceptorValue, taken_at}
 
--- a book took the message in: what it then was is not known, since others may act on it before and after
+-- a book took the message in: what it then was is not known, since others may act on it before
+-- and after
 abbrev pub IsTold : ChannelMessage → Type 0
-IsTold m = (b : BookValue) × (c : BookValue) × (a : Accepted) × Takes b c (message_channel m) (message_taken b.knows m) (Ok a)
+IsTold m = (b : BookValue) × (c : BookValue) × (a : Accepted)
+    × Takes b c (message_channel m) (message_taken b.knows m) (Ok a)
 
 -- a book refused it, and not for want of memory
 abbrev pub IsRefused : ChannelMessage → Type 0
@@ -27,7 +29,8 @@ IsRefused m =
 
 -- a book had no memory for it
 abbrev pub LacksMemory : ChannelMessage → Type 0
-LacksMemory m = (b : BookValue) × (c : BookValue) × Takes b c (message_channel m) (message_taken b.knows m) (Err (Known Memory))
+LacksMemory m = (b : BookValue) × (c : BookValue)
+    × Takes b c (message_channel m) (message_taken b.knows m) (Err (Known Memory))
 
 -- what a frame was for was done
 abbrev pub IsServed : Taken → Type 0
@@ -36,14 +39,17 @@ IsServed Cursor = Unit {0}
 IsServed (ForBook m) = IsTold m
 IsServed Ended = Unit {0}
 
--- Step by step: each frame taken is one that the session takes, and what it was for was done; each frame given is what the session owes of
--- a book as it then was.
-abbrev pub LinkLives : Option AcceptorValue → Option SessionValue → List SessionStep → Option SessionValue → Type 0
+-- Step by step: each frame taken is one that the session takes, and what it was for was done;
+-- each frame given is what the session owes of a book as it then was.
+abbrev pub LinkLives : Option AcceptorValue → Option SessionValue → List SessionStep
+    → Option SessionValue → Type 0
 LinkLives h s [] t = t ≡ s
 LinkLives h s (Took f ∷ r) t =
-    (m : SessionValue) × (taken_at h s f ≡ Ok m) × IsFrame f × IsServed (purpose f) × LinkLives h (Some m) r t
+    (m : SessionValue) × (taken_at h s f ≡ Ok m) × IsFrame f × IsServed (purpose f)
+    × LinkLives h (Some m) r t
 LinkLives h s (Gave f ∷ r) t =
-    (m : SessionValue) × (b : BookValue) × (s ≡ Some m) × (owed m b ≡ Some f) × IsFrame f × LinkLives h (Some (after_giving m f)) r t
+    (m : SessionValue) × (b : BookValue) × (s ≡ Some m) × (owed m b ≡ Some f) × IsFrame f
+    × LinkLives h (Some (after_giving m f)) r t
 LinkLives h s (Broke ∷ r) t = ⊥
 
 -- the frames that were taken, in order, and those that were given

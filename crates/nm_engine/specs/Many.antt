@@ -16,9 +16,10 @@ GoesOn seen old [] new = new ≡ old
 GoesOn seen old (p ∷ path) new =
     (Turns seen old p.1 p.0 ⊎ Hears seen old p.1 p.0) × GoesOn seen p.1 path new
 
--- What came over all turns, with the octets held at first, are the octets of the frames that were taken, and then the rest, which a link
--- that has not failed holds. What went, and then what is left, which it holds too, is what waited at first and the octets of the frames
--- that were given. So nothing that was taken over is lost, and nothing is made up.
+-- What came over all turns, with the octets held at first, are the octets of the frames that
+-- were taken, and then the rest, which a link that has not failed holds. What went, and then
+-- what is left, which it holds too, is what waited at first and the octets of the frames that
+-- were given. So nothing that was taken over is lost, and nothing is made up.
 pub record Accounts {W : Type 0} (seen : W → WireSeen) (first last : LinkValue W) : Type 0 where
   pub steps : List SessionStep
   pub came : List ℕ

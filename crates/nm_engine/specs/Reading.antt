@@ -16,13 +16,16 @@ pub record IsFramed (octets : List ℕ) (frames : List Frame) (rest : List ℕ) 
   pub parts : octets ≡ stream_octets frames ++ rest
   pub each : AllByRecursion IsFrame frames
 
--- the reader took a piece of so many octets, which completed these frames; or it took none of it, or found a fault
+-- the reader took a piece of so many octets, which completed these frames; or it took none of
+-- it, or found a fault
 abbrev pub FeedsReader : ReaderValue → List ℕ → List Frame → ReaderValue → Result ℕ Cause → Type 0
-FeedsReader r piece frames q (Ok n) = (n ≡ length piece) × IsFramed (r.rest ++ piece) frames q.rest × (q.failed ≡ false)
+FeedsReader r piece frames q (Ok n) =
+    (n ≡ length piece) × IsFramed (r.rest ++ piece) frames q.rest × (q.failed ≡ false)
 FeedsReader r piece frames q (Err End) = ⊥
 FeedsReader r piece frames q (Err Fault) = ⊥
 FeedsReader r piece frames q (Err BadFrame) =
-    (rest : List ℕ) × IsFramed (r.rest ++ piece) frames rest × ((e : FrameFault) × (fault_shown rest ≡ Some e))
+    (rest : List ℕ) × IsFramed (r.rest ++ piece) frames rest
+    × ((e : FrameFault) × (fault_shown rest ≡ Some e))
 FeedsReader r piece frames q (Err BadSession) = ⊥
 FeedsReader r piece frames q (Err Book) = ⊥
 FeedsReader r piece frames q (Err Memory) = frames ≡ []
@@ -36,7 +39,8 @@ module _ (old new : WireSeen) where
     pub framed : IsFramed (held ++ came) frames rest
 
   -- so many octets came, and the reader goes on; the end is not found, unless it may be
-  pub record ReadsOn (may_end : Bool) (r : ReaderValue) (frames : List Frame) (q : ReaderValue) (n : ℕ) : Type 0 where
+  pub record ReadsOn (may_end : Bool) (r : ReaderValue) (frames : List Frame) (q : ReaderValue)
+      (n : ℕ) : Type 0 where
     pub came : Came r.rest frames q.rest
     pub count : length came.came ≡ n
     pub sound : new.failures ≡ old.failures
@@ -57,4 +61,5 @@ module _ (old new : WireSeen) where
   -- the reader goes on, or ends there
   abbrev pub Reads : Bool → ReaderValue → List Frame → ReaderValue → Result ℕ Cause → Type 0
   Reads may_end r frames q (Ok n) = ReadsOn may_end r frames q n
-  Reads may_end r frames q (Err cause) = (rest : List ℕ) × Came r.rest frames rest × ReadEnds may_end cause frames rest
+  Reads may_end r frames q (Err cause) =
+      (rest : List ℕ) × Came r.rest frames rest × ReadEnds may_end cause frames rest

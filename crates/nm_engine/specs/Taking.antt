@@ -21,14 +21,17 @@ Tells m (Err BadSession) = ⊥
 Tells m (Err Book) = IsRefused m
 Tells m (Err Memory) = LacksMemory m
 
--- memory for a frame was refused: to a book, for the message that the session takes; or to the session that a first frame makes
+-- memory for a frame was refused: to a book, for the message that the session takes; or to the
+-- session that a first frame makes
 abbrev pub RunsShort : Option AcceptorValue → Option SessionValue → Frame → Type 0
 RunsShort h (Some s) f =
-    (t : SessionValue) × (taken_at h (Some s) f ≡ Ok t) × ((m : ChannelMessage) × (purpose f ≡ ForBook m) × LacksMemory m)
+    (t : SessionValue) × (taken_at h (Some s) f ≡ Ok t)
+    × ((m : ChannelMessage) × (purpose f ≡ ForBook m) × LacksMemory m)
 RunsShort (Some h) None f = IsFromBelow h f
 RunsShort None None f = ⊥
 
--- why a frame is not taken: the session refuses it, or a book refuses what it is for, or memory is refused
+-- why a frame is not taken: the session refuses it, or a book refuses what it is for, or memory
+-- is refused
 abbrev pub Stops : Cause → Option AcceptorValue → Option SessionValue → Frame → Type 0
 Stops End h s f = ⊥
 Stops Fault h s f = ⊥
@@ -38,12 +41,15 @@ Stops Book h s f = (m : ChannelMessage) × (purpose f ≡ ForBook m) × IsRefuse
 Stops Memory h s f = RunsShort h s f
 
 -- a frame was taken, or changed nothing
-abbrev pub TakesOne : Option AcceptorValue → Option SessionValue → Frame → Option SessionValue → Result Unit Cause → Type 0
-TakesOne h s f t (Ok u) = (m : SessionValue) × (taken_at h s f ≡ Ok m) × IsServed (purpose f) × (t ≡ Some m)
+abbrev pub TakesOne : Option AcceptorValue → Option SessionValue → Frame → Option SessionValue
+    → Result Unit Cause → Type 0
+TakesOne h s f t (Ok u) =
+    (m : SessionValue) × (taken_at h s f ≡ Ok m) × IsServed (purpose f) × (t ≡ Some m)
 TakesOne h s f t (Err cause) = (t ≡ s) × Stops cause h s f
 
 -- all frames were taken, or those before the first that is not
-abbrev pub TakesAll : Option AcceptorValue → Option SessionValue → List Frame → Option SessionValue → Result Unit Cause → Type 0
+abbrev pub TakesAll : Option AcceptorValue → Option SessionValue → List Frame → Option SessionValue
+    → Result Unit Cause → Type 0
 TakesAll h s frames t (Ok u) = LinkLives h s (map Took frames) t
 TakesAll h s frames t (Err cause) =
     (front : List Frame) × (f : Frame) × (back : List Frame)

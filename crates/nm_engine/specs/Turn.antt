@@ -40,8 +40,9 @@ abbrev pub answer_of : Bool → ℕ → Turn
 answer_of ended moved = if ended then Ended else if nat_lt 0 moved then Progress else Idle
 
 module _ {W : Type 0} (seen : W → WireSeen) (old new : LinkValue W) where
-  -- What came, with the octets held before, are the octets of the frames that the session took, and then the rest. What went, and then
-  -- what is left, is what waited before and the octets of the frames that the session gave once it had taken those.
+  -- What came, with the octets held before, are the octets of the frames that the session
+  -- took, and then the rest. What went, and then what is left, is what waited before and the
+  -- octets of the frames that the session gave once it had taken those.
   pub record Moves (rest left : List ℕ) : Type 0 where
     pub was_whole : old.failed ≡ false
     pub came : List ℕ
@@ -58,8 +59,10 @@ module _ {W : Type 0} (seen : W → WireSeen) (old new : LinkValue W) where
     pub sent : went ++ left ≡ old.out ++ stream_octets outs
     pub acceptor : new.acceptor ≡ old.acceptor
 
-  -- A turn that went well: the link holds the rest and what is left. The end of what the peer sends was not found, unless its Bye was taken
-  -- before. The rest is no whole frame, and shows no fault. What stood in the buffer before the write is all that the session owed, or enough.
+  -- A turn that went well: the link holds the rest and what is left. The end of what the peer
+  -- sends was not found, unless its Bye was taken before. The rest is no whole frame, and
+  -- shows no fault. What stood in the buffer before the write is all that the session owed, or
+  -- enough.
   pub record Went : Type 0 where
     pub moves : Moves new.rest new.out
     pub sound : (seen new.wire).failures ≡ (seen old.wire).failures
@@ -71,7 +74,8 @@ module _ {W : Type 0} (seen : W → WireSeen) (old new : LinkValue W) where
   -- the rest begins with a frame that was not taken, for this cause
   abbrev pub StopsAt : Cause → List ℕ → Option SessionValue → Type 0
   StopsAt cause rest mid =
-      (f : Frame) × (more : List ℕ) × IsFrame f × (rest ≡ frame_octets f ++ more) × Stops cause old.acceptor mid f
+      (f : Frame) × (more : List ℕ) × IsFrame f × (rest ≡ frame_octets f ++ more)
+      × Stops cause old.acceptor mid f
 
   -- the reason of a cause
   abbrev pub IsReason : Cause → List ℕ → Option SessionValue → Type 0

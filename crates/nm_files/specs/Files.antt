@@ -17,7 +17,8 @@ abbrev pub IsSound : {S : Type 0} → Option (Writer S) → Type 0
 IsSound None = Unit {0}
 IsSound (Some file) = file.failed ≡ false
 
--- of a file, if there is one: where it is told which files were placed, its sink tells what it took, and as many octets are counted
+-- of a file, if there is one: where it is told which files were placed, its sink tells what it
+-- took, and as many octets are counted
 abbrev pub IsCounted : {S : Type 0} → (S → SinkSeen) → Option Files → Option (Writer S) → Type 0
 IsCounted seen made None = Unit {0}
 IsCounted seen made (Some file) =
@@ -48,7 +49,8 @@ module _ {S : Type 0} (seen : S → SinkSeen) (records : List (Record (List ℕ)
     pub no_fault : HasNotFailed (seen old.sink) (seen new.sink)
     pub same_form : new.form ≡ old.form
     -- if so many octets were counted before, as many more are as were written, up to 2 ^ 64 - 1
-    pub counted : (before : ℕ) → old.written ≡ saturated before → new.written ≡ saturated (before + length (written_at old.form n records))
+    pub counted : (before : ℕ) → old.written ≡ saturated before
+        → new.written ≡ saturated (before + length (written_at old.form n records))
 
   abbrev pub FileTook : ℕ → Option (Writer S) → Option (Writer S) → Type 0
   FileTook n None None = Unit {0}
@@ -58,24 +60,30 @@ module _ {S : Type 0} (seen : S → SinkSeen) (records : List (Record (List ℕ)
 
   pub record FilesTook (old new : List (Option (Writer S))) : Type 0 where
     pub count : length new ≡ length old
-    pub each : (n : ℕ) (o p : Option (Writer S)) → slice_get old n ≡ Some o → slice_get new n ≡ Some p → FileTook n o p
+    pub each : (n : ℕ) (o p : Option (Writer S)) → slice_get old n ≡ Some o
+        → slice_get new n ≡ Some p → FileTook n o p
 
 module _ {S : Type 0} (seen : S → SinkSeen) where
-  -- The sink of the file failed: it took a part of what is written of the record, from the front, and so many octets of the file in all.
-  abbrev pub FileFailed : (r : Record (List ℕ)) → (written : ℕ) → Option (Writer S) → Option (Writer S) → Type 0
+  -- The sink of the file failed: it took a part of what is written of the record, from the
+  -- front, and so many octets of the file in all.
+  abbrev pub FileFailed : (r : Record (List ℕ)) → (written : ℕ) → Option (Writer S)
+      → Option (Writer S) → Type 0
   FileFailed r n None new = ⊥
   FileFailed r n (Some old) None = ⊥
   FileFailed r n (Some old) (Some new) =
       AddedPart seen old new (written old.form (record_octets r)) n
 
   -- that of the record's interface did, and the others are as they were
-  pub record OwnFileFailed (r : Record (List ℕ)) (old new : List (Option (Writer S))) (fault : FileFault) : Type 0 where
+  pub record OwnFileFailed (r : Record (List ℕ)) (old new : List (Option (Writer S)))
+      (fault : FileFault) : Type 0 where
     pub iface : fault.iface ≡ r.iface
-    pub file : FileFailed r fault.written (slice_index_or old r.iface None) (slice_index_or new r.iface None)
+    pub file : FileFailed r fault.written (slice_index_or old r.iface None)
+        (slice_index_or new r.iface None)
     pub others : (n : ℕ) → n ≢ r.iface → slice_index_or new n None ≡ slice_index_or old n None
 
   -- it did at one of the records, after those before it were taken
-  pub record FailedAt (records : List (Record (List ℕ))) (old new : List (Option (Writer S))) (fault : FileFault) : Type 0 where
+  pub record FailedAt (records : List (Record (List ℕ))) (old new : List (Option (Writer S)))
+      (fault : FileFault) : Type 0 where
     pub number : ℕ
     pub failed_at : Record (List ℕ)
     pub place : slice_get records number ≡ Some failed_at

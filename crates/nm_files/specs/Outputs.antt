@@ -19,11 +19,13 @@ HasMade before after files = (first : Files) → before ≡ Some first → after
 
 -- behind them come the first of these
 abbrev pub HasMadeSome : Option Files → Option Files → Files → Type 0
-HasMadeSome before after files = (first : Files) → before ≡ Some first → (done : Files) × (rest : Files) × (files ≡ done ++ rest) × (after ≡ Some (first ++ done))
+HasMadeSome before after files = (first : Files) → before ≡ Some first
+    → (done : Files) × (rest : Files) × (files ≡ done ++ rest) × (after ≡ Some (first ++ done))
 
 -- behind the files that were placed before comes this one
 abbrev pub HasPlaced : Option Files → Option Files → Option (List ℕ × List ℕ) → Type 0
-HasPlaced before after closed = (file : List ℕ × List ℕ) → closed ≡ Some file → HasMade before after (file ∷ [])
+HasPlaced before after closed =
+    (file : List ℕ × List ℕ) → closed ≡ Some file → HasMade before after (file ∷ [])
 
 -- a closed file is this one, where it is told which files were placed
 abbrev pub IsWhole : Option Files → Option (List ℕ × List ℕ) → List ℕ × List ℕ → Type 0
@@ -31,4 +33,5 @@ IsWhole made closed file = (first : Files) → made ≡ Some first → closed �
 
 -- closed files are these, in order
 abbrev pub AreWhole : Option Files → List (Option (List ℕ × List ℕ)) → Files → Type 0
-AreWhole made closed files = (first : Files) → made ≡ Some first → closed ≡ map (λ file. Some file) files
+AreWhole made closed files =
+    (first : Files) → made ≡ Some first → closed ≡ map (λ file. Some file) files

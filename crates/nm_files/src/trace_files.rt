@@ -77,12 +77,17 @@ fn put_in<S: Sink>(
     file: &mut Option<PcapOut<S>>,
     record: &Record,
 ) -> Result<(), FileFault>
+    // The record is of this interface, and its time fits a file.
     requires time { «record».now.time ≤ MAX_TIME }
     requires here { «record».now.iface ≡ iface }
     requires sound { IsSound file.old }
+
+    // The file took the record, and is sound.
     ensures took { OnOk result
         (FileTook S.seen («record».now ∷ []) iface file.old file.new) }
     ensures sound { OnOk result (IsSound file.new) }
+
+    // Or its sink failed, which is said with how much the file has.
     ensures iface { IfErr result (λ f. f.iface ≡ iface) }
     ensures failed { IfErr result
         (λ f. FileFailed S.seen «record».now f.written file.old file.new) }

@@ -1,14 +1,14 @@
 -- What single steps of the world do, what they answer, and when they name nothing.
 use Rattle.std.specs.Prelude.{◌≡◌, ◌≢◌, ◌⊎◌, ℕ, ◌+◌, ◌-◌, ◌<◌, ◌≤◌, Bool, true, false, length, List, [], ◌∷◌, ◌++◌, Some, None}
-use Rattle.nm_model.specs.Lists.{nth}
+use Rattle.nm_model.specs.Lists.{nth, set_at}
 use Rattle.nm_model.specs.Network.{Net}
-use Rattle.nm_model.specs.Accept.{Answer, accept_data, accept_null}
+use Rattle.nm_model.specs.Accept.{Accepted, Answer, accept_data, accept_null}
 use Rattle.nm_model.specs.Join.{join, join_faults}
 use Rattle.nm_model.specs.Partition.{comes_in, goes_out, sender_of, receiver_of}
 use Rattle.nm_model.specs.Promise.{Promising, promise}
 use Rattle.nm_model.specs.World.{World, Replica, Step, Frame, DataFrame, NullFrame, Run, Data, Resend}
 use Rattle.nm_model.specs.World.{Null, Deliver, Merge, Restart, Frames, Merged, MergeRefused, NoSuch}
-use Rattle.nm_model.specs.World.{put_replica, is_replica, outgoing, told, happens}
+use Rattle.nm_model.specs.World.{Answered, put_replica, is_replica, outgoing, happens}
 
 -- channel c goes out of the partition of its sender, comes into that of its receiver, and these are
 -- two
@@ -46,15 +46,25 @@ module _ {P N : Type 0} (net : Net P N) (same : P → P → Bool) (w : World P) 
         Puts (Null kind p r c)
         (NullFrame c (length (outgoing net p x c)) (promise net kind p x.knowledge x.ran c) ∷ []) 1
 
-  -- frame i, of channel c, is delivered to replica r of the receiver, which is told what it says;
-  -- the answer is that of taking it
+  -- replica r of partition p knows this of channel c, and nothing else changes; the answer is that
+  -- of taking it
+  abbrev pub HasLearned : Step → ℕ → ℕ → ℕ → Accepted P → Type 0
+  HasLearned step p r c taken = let x = w.replica p r in
+      happens net same w step
+      ≡ (
+        put_replica w p r
+            (record { knowledge = set_at x.knowledge c taken.after; ran = x.ran }),
+        Answered taken.answer,
+      )
+
+  -- frame i, of channel c, is delivered to replica r of the receiver, which is told what it says
   pub record Delivers (i r c : ℕ) : Type 0 where
     pub message : (n : ℕ) (b : ℕ × P) → nth w.bag i ≡ Some (DataFrame c n b)
-        → let p = receiver_of net c in happens net same w (Deliver i r)
-        ≡ told w p r c (accept_data same ((w.replica p r).knowledge c) n b)
+        → let p = receiver_of net c in
+        HasLearned (Deliver i r) p r c (accept_data same ((w.replica p r).knowledge c) n b)
     pub null : (n t : ℕ) → nth w.bag i ≡ Some (NullFrame c n t)
-        → let p = receiver_of net c in happens net same w (Deliver i r)
-        ≡ told w p r c (accept_null ((w.replica p r).knowledge c) n t)
+        → let p = receiver_of net c in
+        HasLearned (Deliver i r) p r c (accept_null ((w.replica p r).knowledge c) n t)
 
   -- replica r of partition p joins what replica s knows, channel by channel, or names the first
   -- channel that can't be joined

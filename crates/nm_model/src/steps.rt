@@ -2,13 +2,13 @@
 //! nothing.
 
 ghost use Rattle.std.specs.Prelude.{◌≡◌, ◌≢◌, ◌⊎◌, ℕ, ◌+◌, ◌-◌, ◌<◌, ◌≤◌, min, ltb, cond, Bool};
-ghost use Rattle.std.specs.Prelude.{true};
+ghost use Rattle.std.specs.Prelude.{true, []};
 ghost use Rattle.nm_model.specs.Network.{Net};
 ghost use Rattle.nm_model.specs.Knowledge.{Knowledge, Know};
 ghost use Rattle.nm_model.specs.Partition.{goes_out, receiver_of};
 ghost use Rattle.nm_model.specs.Before.{IsCount};
 ghost use Rattle.nm_model.specs.World.{World, Replica, Run, Restart, All, Limit, Emptied};
-ghost use Rattle.nm_model.specs.World.{fresh, put_replica, is_replica, happens};
+ghost use Rattle.nm_model.specs.World.{put_replica, is_replica, happens};
 ghost use Rattle.nm_model.specs.StepLaws.{Delivers, HasTwoEnds, JoinsSisters, MayNameNothing};
 ghost use Rattle.nm_model.specs.StepLaws.{OneChanges, PutsFrames};
 
@@ -71,7 +71,12 @@ pub fn a_merge_joins_the_sisters<P, N>()
 pub fn a_restart_begins_anew<P, N>()
     ensures { (net : Net P N) (same : P → P → Bool) (w : World P) (p r : ℕ)
         → is_replica net p r ≡ true
-        → happens net same w (Restart p r) ≡ (put_replica w p r fresh, Emptied) }
+        → happens net same w (Restart p r)
+        ≡ (
+          put_replica w p r
+              (record { knowledge = λ c. record { list = []; clock = 0 }; ran = 0 }),
+          Emptied,
+        ) }
 {}
 
 /// A step that names a partition, replica, channel, frame or message that isn't there changes

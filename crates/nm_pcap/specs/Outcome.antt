@@ -41,7 +41,8 @@ module _ {W : Type 0} (seen : W → SinkSeen) (old new : Writer W) where
   Adds (Err (File n)) octets = AddedPart octets n
   Adds (Err Failed) octets = AddedNothing
 
-  -- what a file holds: so many octets from the front of these, and all of them as long as the sink has not failed
+  -- what a file holds: so many octets from the front of these, and all of them as long as the
+  -- sink has not failed
   pub record HoldsPrefix (octets : List ℕ) : Type 0 where
     pub front : List ℕ
     pub rest : List ℕ

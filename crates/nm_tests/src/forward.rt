@@ -4,7 +4,7 @@
 ghost use Rattle.std.specs.Prelude.{◌≡◌};
 ghost use Rattle.nm_forward.specs.State.{table_of};
 
-use crate::same::{eq_number, eq_text, holds};
+use crate::same::{eq_number, eq_octets, eq_text, holds};
 use crate::texts::TRIO;
 use bytes::Bytes;
 use nm_base::{IfaceNo, NodeNo, Packet, SourceNo, Time, Twin};
@@ -308,6 +308,11 @@ const DATAGRAM: &[u8] =
     b"\x45\x00\x00\x1e\x00\x00\x00\x00\x40\x11\x65\xcd\x0a\x00\x00\x01\x0a\x00\x01\x02\
 \x03\xe8\x00\x09\x00\x0a\xfe\xff\xe7\xe6";
 
+/// What a router sends on of it.
+const FORWARDED: &[u8] =
+    b"\x45\x00\x00\x1e\x00\x00\x00\x00\x3f\x11\x66\xcd\x0a\x00\x00\x01\x0a\x00\x01\x02\
+\x03\xe8\x00\x09\x00\x0a\xfe\xff\xe7\xe6";
+
 fn packet_of(rt: &(impl Abort + AllocGlobal), octets: &[u8]) -> Packet {
     let octets = Bytes::copy_from_slice(rt.alloc(), octets).expect(rt, "there is memory");
     Packet::new(octets).expect(rt, "it fits")
@@ -339,7 +344,7 @@ fn is_refused(rt: &(impl Abort + AllocGlobal), port: Option<Port>) -> bool {
         Reaction::Nothing => panic!(rt; "it is sent"),
         Reaction::Send(via, twin) => {
             eq_number(rt, "via", u64::from(via.number()), 2);
-            eq_number(rt, "time to live", u64::from(twin.packet.octets()[8]), 63);
+            eq_octets(rt, "what is sent", twin.packet.octets(), FORWARDED);
             false
         }
         Reaction::Refused(via) => {

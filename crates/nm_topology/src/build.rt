@@ -41,6 +41,7 @@ fn wire(
         × All (λ o. o < length parts.now) resolved.now.owners }
     requires links { All (λ l. (l.a < count) × (l.b < count)) resolved.now.links }
     requires routes { All (λ r. r.node < length parts.now) resolved.now.routes }
+
     // What hangs together, as it is defined.
     ensures node_routes { IfOk result (λ w. w.node_routes.items
         ≡ routes_of_nodes (length parts.now) resolved.now.routes) }
@@ -72,10 +73,12 @@ fn wire_tables(
     requires links { All (λ l. (l.a < length ifaces.now) × (l.b < length ifaces.now))
         resolved.now.links }
     requires routes { All (λ r. r.node < length nodes.now) resolved.now.routes }
+
     // The tests of the whole decide.
     ensures few { IfOk result (λ w. length w.receivers.items ≤ MAX_CHANNELS) }
     ensures tested { Gives (λ _. tt) result (tested (map (λ n. n.partition) nodes.now)
         (map (λ i. i.address) ifaces.now) (length nodes.now) (length ifaces.now) resolved.now) }
+
     // What hangs together, as it is defined.
     ensures node_routes { IfOk result (λ w. w.node_routes.items
         ≡ routes_of_nodes (length nodes.now) resolved.now.routes) }
@@ -159,11 +162,13 @@ pub fn place(
         (λ l. (l.a < length iface_tables.items) × (l.b < length iface_tables.items))
         resolved.now.links }
     requires routes { All (λ r. r.node < length node_tables.items) resolved.now.routes }
+
     // The tests of the whole decide.
     ensures few { IfOk result (λ p. length p.receivers.items ≤ MAX_CHANNELS) }
     ensures tested { Gives (λ _. tt) result (tested (map (λ n. n.partition) node_tables.items)
         (map (λ i. i.address) iface_tables.items) (length node_tables.items)
         (length iface_tables.items) resolved.now) }
+
     // What is put together, as it is defined.
     ensures nodes { IfOk result (λ p. p.nodes.items
         ≡ placed_nodes node_tables.items

@@ -249,6 +249,7 @@ pub fn accepted_topologies_are_in_order(topology: &Topology)
         (λ s. IsPlaced (length topology.now.nodes) (owners_of topology.now.ifaces) s)
         topology.now.sources }
     ensures receivers { AreReceivers topology.now.nodes topology.now.ifaces topology.now.receivers }
+
     // How much there is.
     ensures nodes { length topology.now.nodes ≤ MAX_NODES }
     ensures ifaces { length topology.now.ifaces ≤ MAX_IFACES }
@@ -256,9 +257,11 @@ pub fn accepted_topologies_are_in_order(topology: &Topology)
     ensures sources { length topology.now.sources ≤ MAX_SOURCES }
     ensures channels { length topology.now.receivers ≤ MAX_CHANNELS }
     ensures partitions { topology.now.partitions ≤ MAX_PARTITIONS }
+
     // The ranges of what there is.
     ensures limits { IsWithinLimits topology.now }
     ensures octets { All (λ s. HasOctets s.traffic) topology.now.sources }
+
     // Nothing stands there twice.
     ensures doubles { HasNoDoubles topology.now.nodes topology.now.ifaces }
 {

@@ -37,6 +37,7 @@ pub fn validate(
     requires receivers { wired.now.receivers.items
         ≡ receivers_of parts.now resolved.now.owners
         (far_ends (length ifaces.now) resolved.now.links) }
+
     // The tests of the whole decide.
     ensures few { IfOk result (λ _. length wired.now.receivers.items ≤ MAX_CHANNELS) }
     ensures tested { Gives (λ u. u) result (tested parts.now (map (λ i. i.address) ifaces.now)

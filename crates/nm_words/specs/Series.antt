@@ -26,8 +26,10 @@ IsStepOf Interfaces t from until text = IsIfaceStep t from until text
 IsStepOf Sources t from until text = AreLines text
 
 -- rows of this kind are the text of a step
-abbrev pub TellsOf : (AreRows : TopologyValue → (from until : ℕ) → List ℕ → Type 0) → Subject → TopologyValue → Type 0
-TellsOf AreRows subject t = (from until : ℕ) (text : List ℕ) → AreRows t from until text → IsStepOf subject t from until text
+abbrev pub TellsOf : (AreRows : TopologyValue → (from until : ℕ) → List ℕ → Type 0) → Subject
+    → TopologyValue → Type 0
+TellsOf AreRows subject t = (from until : ℕ) (text : List ℕ) → AreRows t from until text
+    → IsStepOf subject t from until text
 
 -- the names of the columns, and the first so many steps
 abbrev pub TellsSteps : Subject → (step : ℕ) → TopologyValue → ℕ → List ℕ → Type 0

@@ -18,7 +18,7 @@ use hints::say_more;
 use nm_base::sink::write_all;
 use nm_base::{MemSink, Sink, StdSink};
 use nm_command::{Command, Status};
-use nm_program::{Means, NamedInputs, conclude, report, run};
+use nm_program::{Means, NamedInputs, Runtime, conclude, report, run};
 use nm_progress::Progress;
 use noted::{Noted, NotedWriter};
 use stats::{tell_figures, told_words};
@@ -54,22 +54,13 @@ struct Ended {
 
 /// The program over the files and the network of the system, up to its exit status. On a terminal
 /// more is said of a fault.
-fn perform<N, E: Sink>(
+fn perform<N: Runtime, E: Sink>(
     rt: &HostRuntime,
     system: &N,
     words: &[String],
     errors: &mut E,
     progress: &Progress,
-) -> Ended
-where
-    N: Net<Stream = net::TcpStream, Listener = net::TcpListener>
-        + Threads
-        + Wait
-        + Clock
-        + Sync
-        + Drop
-        + Copy,
-{
+) -> Ended {
     let noted = Noted::new();
     let status = perform_noted(rt, system, words, errors, progress, &noted);
     if rt.stderr().is_terminal() {
@@ -82,23 +73,14 @@ where
 }
 
 /// As `perform`, and notes what went wrong at the system.
-fn perform_noted<N, E: Sink>(
+fn perform_noted<N: Runtime, E: Sink>(
     rt: &HostRuntime,
     system: &N,
     words: &[String],
     errors: &mut E,
     progress: &Progress,
     noted: &Noted,
-) -> Status
-where
-    N: Net<Stream = net::TcpStream, Listener = net::TcpListener>
-        + Threads
-        + Wait
-        + Clock
-        + Sync
-        + Drop
-        + Copy,
-{
+) -> Status {
     let writer = rt.stdout();
     let Ok(writer) = BufWriter::new(rt.alloc(), NotedWriter { writer, noted }) else {
         return report(Status::Memory, errors);
@@ -116,16 +98,12 @@ where
 }
 
 /// As `perform`, while a line on the terminal says how far it is.
-fn perform_watched<N>(rt: &HostRuntime, system: &N, words: &[String], said: &mut MemSink) -> Ended
-where
-    N: Net<Stream = net::TcpStream, Listener = net::TcpListener>
-        + Threads
-        + Wait
-        + Clock
-        + Sync
-        + Drop
-        + Copy,
-{
+fn perform_watched<N: Runtime>(
+    rt: &HostRuntime,
+    system: &N,
+    words: &[String],
+    said: &mut MemSink,
+) -> Ended {
     let (progress, over) = (Progress::new(), Over::new());
     let (_, ended) = thread::join(
         system,
@@ -140,16 +118,12 @@ where
 }
 
 /// As `perform`, while it is counted what each replica does, and told.
-fn perform_told<N>(rt: &HostRuntime, system: &N, words: &[String], said: &mut MemSink) -> Ended
-where
-    N: Net<Stream = net::TcpStream, Listener = net::TcpListener>
-        + Threads
-        + Wait
-        + Clock
-        + Sync
-        + Drop
-        + Copy,
-{
+fn perform_told<N: Runtime>(
+    rt: &HostRuntime,
+    system: &N,
+    words: &[String],
+    said: &mut MemSink,
+) -> Ended {
     let Ok(progress) = Progress::with_figures(rt.alloc()) else {
         return Ended {
             status: report(Status::Memory, said),
@@ -178,22 +152,13 @@ where
 
 /// As `perform`. What is said of errors follows at the end, when a line on the terminal is gone; it
 /// does not where nobody reads the output any more.
-fn perform_quietly<N>(
+fn perform_quietly<N: Runtime>(
     rt: &HostRuntime,
     system: &N,
     words: &[String],
     said: &mut MemSink,
     errors: &mut StdSink<Stderr>,
-) -> Status
-where
-    N: Net<Stream = net::TcpStream, Listener = net::TcpListener>
-        + Threads
-        + Wait
-        + Clock
-        + Sync
-        + Drop
-        + Copy,
-{
+) -> Status {
     let ended = if let Some(asked) = told_words(words) {
         perform_told(rt, system, asked, said)
     } else if rt.stderr().is_terminal() {

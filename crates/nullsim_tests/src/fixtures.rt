@@ -4,13 +4,10 @@ use nm_base::MemSink;
 use nm_command::Status;
 use nm_files::MemOutputs;
 use nm_files::mem_outputs::MemFile;
-use nm_program::{Inputs, Means, NamedInputs, run};
+use nm_program::{Inputs, Means, NamedInputs, Runtime, run};
 use nm_progress::Progress;
 use std::alloc::{AllocError, Global};
 use std::io;
-use std::net::Net;
-use std::sync::Wait;
-use std::time::Clock;
 
 /// The words of a line.
 fn words_of(alloc: Global, line: &str) -> Result<Vec<String>, AllocError> {
@@ -32,17 +29,12 @@ pub struct Ended {
 }
 
 /// Runs the program on the words of a line and inputs. So many files can be made.
-pub fn run_line<
-    I: Inputs + Drop,
-    R: AllocGlobal
-        + Net<Stream = std::net::TcpStream, Listener = std::net::TcpListener>
-        + std::thread::Threads
-        + Wait
-        + Clock
-        + Sync
-        + Drop
-        + Copy,
->(rt: &R, line: &str, inputs: I, room: usize) -> io::Result<Ended> {
+pub fn run_line<I: Inputs + Drop, R: AllocGlobal + Runtime>(
+    rt: &R,
+    line: &str,
+    inputs: I,
+    room: usize,
+) -> io::Result<Ended> {
     let alloc = rt.alloc();
     let words = words_of(alloc, line)?;
     let mut inputs = NamedInputs::new(inputs);

@@ -4,7 +4,7 @@ use crate::fixtures::{Ended, run_line};
 use mio::net::TcpListener;
 use nm_command::Status;
 use nm_fixtures::SPLIT;
-use nm_program::MemInputs;
+use nm_program::{MemInputs, Runtime};
 use std::alloc::Global;
 use std::net::{Ipv4Addr, Net, SocketAddr};
 use std::process::Abort;
@@ -16,16 +16,7 @@ use std::{io, net};
 
 /// Runs the program on the words of a line. The input `split.toml` is SPLIT, and `addresses` has
 /// these lines. One file can be made.
-fn run_split<
-    R: AllocGlobal
-        + Net<Stream = std::net::TcpStream, Listener = std::net::TcpListener>
-        + std::thread::Threads
-        + Wait
-        + Clock
-        + Sync
-        + Drop
-        + Copy,
->(rt: &R, line: &str, addresses: &str) -> io::Result<Ended> {
+fn run_split<R: AllocGlobal + Runtime>(rt: &R, line: &str, addresses: &str) -> io::Result<Ended> {
     let files = [
         ("split.toml", SPLIT.as_bytes()),
         ("addresses", addresses.as_bytes()),
@@ -47,17 +38,11 @@ fn free_addresses<R: Net>(rt: &R, alloc: Global) -> io::Result<String> {
 
 /// A node is done: it made one file, of this name and with the octets that `one` writes of the
 /// interface, and said the interface's line.
-fn is_done<
-    R: Abort
-        + AllocGlobal
-        + Net<Stream = std::net::TcpStream, Listener = std::net::TcpListener>
-        + std::thread::Threads
-        + Wait
-        + Clock
-        + Sync
-        + Drop
-        + Copy,
->(rt: &R, ended: &Ended, iface: &str) -> Result<(), Fail> {
+fn is_done<R: Abort + AllocGlobal + Runtime>(
+    rt: &R,
+    ended: &Ended,
+    iface: &str,
+) -> Result<(), Fail> {
     assert!(rt; ended.status == Status::Done);
     let said = format!(in rt.alloc(); "iface {iface} records 1 octets 140\n")?;
     assert!(rt; ended.out.octets() == said.as_bytes());

@@ -52,6 +52,7 @@ pub fn far_ends(alloc: Global, count: usize, links: &[Link]) -> Result<Vec<Far>,
     // The links join interfaces that are there.
     requires count { count ≤ MAX_IFACES }
     requires ends { All (λ l. (l.a < count) × (l.b < count)) links.now }
+
     // The far ends, place by place and as a list.
     ensures len { IfOk result (λ v. length v.items ≡ count) }
     ensures within { IfOk result (λ v. All (λ f. f.peer < count) v.items) }
