@@ -7,7 +7,8 @@ ghost use Rattle.nm_topology.specs.declared.parse.head.Head.{Head};
 ghost use Rattle.nm_topology.specs.Parse.Sources.{source_table_of};
 ghost use Rattle.nm_topology.specs.Parse.Tables.{iface_fields, iface_table_of, link_table_of};
 ghost use Rattle.nm_topology.specs.Parse.Tables.{node_table_of, route_table_of};
-ghost use Rattle.nm_topology.specs.declared.keys.fields.TheConstants.{LINK_TABLE, NODE_TABLE, ROUTE_TABLE};
+ghost use Rattle.nm_topology.specs.declared.keys.fields.TheConstants.{LINK_TABLE, NODE_TABLE};
+ghost use Rattle.nm_topology.specs.declared.keys.fields.TheConstants.{ROUTE_TABLE};
 ghost use Rattle.nm_check.specs.Place.{source_spot};
 ghost use Rattle.nm_check.specs.Reading.{outcome, refused_at, spot_in};
 

@@ -204,7 +204,7 @@ impl Port {
         self.busy_until.is_some() && !self.has_room(octets)
     }
 
-    /// A packet was dropped.
+    /// Counts a packet that was dropped. The count stops at the greatest `u64`.
     #[inline(always)]
     pub fn count_drop(&mut self)
         ensures { self.new ≡ record self.old { dropped = saturated (self.old.dropped + 1) } }
@@ -216,7 +216,7 @@ impl Port {
     /// starts, if one waits. It takes no memory.
     #[inline(always)]
     pub fn done(&mut self, now: Time) -> Option<Start>
-        // A transmission is under way.
+        // The time is within its limit, and a transmission is under way.
         requires now { now ≤ MAX_TIME }
         requires busy { IsSome self.old.busy }
 

@@ -6,16 +6,10 @@ use Rattle.nm_model.specs.Accept.{last_from}
 use Rattle.nm_model.specs.Partition.{comes_in, sender_of}
 use Rattle.nm_model.specs.Replica.{IsWithin}
 use Rattle.nm_model.specs.Promise.{Promising, promise}
-use Rattle.nm_model.specs.Before.{IsBefore, trace}
-use Rattle.nm_model.specs.World.{Replica, state_of}
+use Rattle.nm_model.specs.WorldLaws.{HasWholeTrace}
 use Rattle.nm_model.specs.Certificate.{Book}
 
 module _ {P N : Type 0} (net : Net P N) where
-  -- a replica of partition p has the whole trace that the network has there
-  abbrev pub HasWholeTrace : ℕ → Replica P → Type 0
-  HasWholeTrace p x = (last : ℕ) → IsBefore net net.stop last
-      → (state_of net p x).records ≡ trace net p last
-
   module _ (books : List (Book P)) where
     -- each book has done no more than what is safe
     abbrev pub AreWithin : Type 0
@@ -25,7 +19,7 @@ module _ {P N : Type 0} (net : Net P N) where
     -- each book has its whole trace
     abbrev pub HaveWholeTraces : Type 0
     HaveWholeTraces = (i : ℕ) (b : Book P) → nth books i ≡ Some b
-        → HasWholeTrace b.part b.replica
+        → HasWholeTrace net b.part b.replica
 
     -- no receiver's clock is past its sender's promise, but where its last message raised it
     abbrev pub ClocksArePromised : Promising → Type 0

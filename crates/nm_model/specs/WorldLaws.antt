@@ -34,6 +34,11 @@ module _ {P N : Type 0} (net : Net P N) where
         → nth (history net last c) i ≡ Some b
         → (kind : Promising) → promise net kind p x.knowledge x.ran c ≤ b.0
 
+  -- a replica of partition p has the whole trace that the network has there
+  abbrev pub HasWholeTrace : ℕ → Replica P → Type 0
+  HasWholeTrace p x = (last : ℕ) → IsBefore net net.stop last
+      → (state_of net p x).records ≡ trace net p last
+
   -- two replicas of partition p that know the same of each channel that comes in, and have done as
   -- many events, have one state and make the same promises
   pub record AreEqualReplicas (p : ℕ) (x y : Replica P) : Type 0 where

@@ -8,8 +8,8 @@ ghost use Rattle.nm_model.specs.Before.{IsBefore, trace};
 ghost use Rattle.nm_model.specs.World.{Replica, fresh};
 ghost use Rattle.nm_model.specs.Certificate.{Book, Fault, FaultShows, AreFinished, IsCertified};
 ghost use Rattle.nm_model.specs.Certificate.{is_done, certify};
-ghost use Rattle.nm_model.specs.CertificateLaws.{AreWithin, ClocksArePromised, HasWholeTrace};
-ghost use Rattle.nm_model.specs.CertificateLaws.{HaveWholeTraces};
+ghost use Rattle.nm_model.specs.WorldLaws.{HasWholeTrace};
+ghost use Rattle.nm_model.specs.CertificateLaws.{AreWithin, ClocksArePromised, HaveWholeTraces};
 
 /// Finished books whose lists and clocks agree have the whole network's traces, whatever told them
 /// what they know. Nothing is asked of who sent what: the argument goes by time, since a message up

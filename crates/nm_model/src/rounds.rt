@@ -18,8 +18,8 @@ pub fn there_are_rounds<P, N>()
 {}
 
 /// Where each channel's lookahead is at least `lead`, all is done in the round after `j` of them,
-/// once `j * lead` reaches stop; with either promise. Whenever a partition's safe time is `stop`, it
-/// has its whole trace once it has run (`early`).
+/// once `j * lead` reaches stop; with either promise. Whenever a partition's safe time is `stop`,
+/// it has its whole trace once it has run (`early`).
 pub fn rounds_bound<P, N>()
     ensures { (net : Net P N) → IsNet net → (same : P → P → Bool) → IsReflexive same
         → (kind : Promising) (b : ℕ → ℕ → Replica P) → IsRounds net same kind b

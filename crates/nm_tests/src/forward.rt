@@ -1,5 +1,5 @@
-//! `nm_forward`: the names of counters, look-ups of routes beside a plain scan, whose sources a node
-//! takes from, and what it sends on to a port that would drop it.
+//! `nm_forward`: the names of counters, look-ups of routes beside a plain scan, whose sources a
+//! node takes from, and what it sends on to a port that would drop it.
 
 ghost use Rattle.std.specs.Prelude.{◌≡◌};
 ghost use Rattle.nm_forward.specs.State.{table_of};

@@ -1,9 +1,14 @@
 //! Laws of topology texts. A law is a function that does nothing: its `ensures` is the statement.
 
-ghost use Rattle.std.specs.Prelude.{◌≡◌, ℕ, ◌≤◌, List, length, Ok};
+ghost use Rattle.std.specs.Prelude.{◌≡◌, ℕ, ◌^◌, ◌≤◌, List, length, Ok};
 ghost use Rattle.sha2.specs.Sha256.{sha256};
 ghost use Rattle.toml.specs.Data.{Members};
 ghost use Rattle.nm_base.specs.declared.limits.TheConstants.{MAX_TEXT_OCTETS};
+ghost use Rattle.nm_topology.specs.declared.keys.fields.TheConstants.{COUNT, DELAY, FILL, FORMAT};
+ghost use Rattle.nm_topology.specs.declared.keys.fields.TheConstants.{IDENTIFIER, INTERVAL, MTU};
+ghost use Rattle.nm_topology.specs.declared.keys.fields.TheConstants.{PARTITION, PORT, QUEUE};
+ghost use Rattle.nm_topology.specs.declared.keys.fields.TheConstants.{QUEUE_OCTETS, RATE, START};
+ghost use Rattle.nm_topology.specs.declared.keys.fields.TheConstants.{STOP, TTL};
 ghost use Rattle.nm_topology.specs.Formats.{IsFormatOne, LimitsNoOctets, with_digest};
 ghost use Rattle.nm_topology.specs.Formats.{with_format_two};
 ghost use Rattle.nm_topology.specs.Parse.{top_table_of};
@@ -21,4 +26,24 @@ pub fn format_two_says_what_format_one_says()
         → top_table_of one ≡ Ok t → top_table_of two ≡ Ok (with_format_two t)
         → IsFormatOne t → LimitsNoOctets t
         → topology_of two ≡ with_digest (sha256 two) (topology_of one) }
+{}
+
+/// The numbers that stand behind the keys of a topology text, each range from its least to its
+/// greatest number. (Times are in nanoseconds, rates in bits per second.)
+pub fn ranges_of_numbers()
+    ensures head { (FORMAT ≡ record { least = 1; greatest = 2 })
+        × (STOP ≡ record { least = 1; greatest = 10 ^ 15 })
+        × (MTU ≡ record { least = 576; greatest = 65_535 }) }
+    ensures node { (PARTITION ≡ record { least = 0; greatest = 63 })
+        × (PORT ≡ record { least = 0; greatest = 65_535 }) }
+    ensures iface { (QUEUE ≡ record { least = 0; greatest = 10_000 })
+        × (QUEUE_OCTETS ≡ record { least = 0; greatest = 655_350_000 }) }
+    ensures link { (RATE ≡ record { least = 1_000; greatest = 10 ^ 12 })
+        × (DELAY ≡ record { least = 0; greatest = 10 ^ 12 }) }
+    ensures source { (IDENTIFIER ≡ record { least = 0; greatest = 65_535 })
+        × (FILL ≡ record { least = 0; greatest = 255 })
+        × (TTL ≡ record { least = 1; greatest = 255 }) }
+    ensures flow { (START ≡ record { least = 0; greatest = 10 ^ 15 })
+        × (INTERVAL ≡ record { least = 1; greatest = 10 ^ 12 })
+        × (COUNT ≡ record { least = 0; greatest = 10 ^ 9 }) }
 {}

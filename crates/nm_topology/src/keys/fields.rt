@@ -1,6 +1,6 @@
-//! The fields of each kind of table, in the order in which they are read. A range stands here
-//! alone: readers read by it, definitions name it. What those above rely on is said in the words of
-//! `nm_base::limits` beside it (`specs/Limits.antt`), and follows from it.
+//! The fields of each kind of table, in the order in which they are read. Readers read by a range,
+//! and definitions name it; which numbers it has is a law (`laws::ranges_of_numbers`). What those
+//! above rely on is said in the words of `nm_base::limits` (`specs/Limits.antt`), and follows.
 
 ghost use Rattle.std.specs.Prelude.{◌≡◌};
 ghost use Rattle.nm_topology.specs.Keys.{packet_table, size_under, time_from};
