@@ -1,5 +1,5 @@
 -- Frames that were given, one after another.
-use Rattle.std.proofs.Common.{◌≡◌, ℕ, List, [], ◌∷◌, ◌++◌, map, Option, Some, Result, Ok, Err, refl, sym, ◌∙◌, ap, subst, append_assoc, append-nil}
+use Rattle.std.proofs.Common.{◌≡◌, ℕ, List, [], ◌∷◌, ◌++◌, map, Option, Some, Result, Ok, refl, sym, ◌∙◌, ap, subst, append_assoc, append-nil}
 use Rattle.std.specs.Prelude.{IfOk}
 use Rattle.std.proofs.lemmas.Grind.{flat_map-append}
 use Rattle.std.proofs.lemmas.List.{map-append}
@@ -9,9 +9,7 @@ use Rattle.nm_frames.specs.Frame.{IsFrame, frame_octets, stream_octets}
 use Rattle.nm_frames.specs.Lives.{SessionStep, Gave}
 use Rattle.nm_frames.specs.Owed.{after_giving, given_maybe, owed}
 use Rattle.nm_frames.specs.Session.{SessionValue}
-use Rattle.nm_engine.specs.declared.answer.Cause.{Cause}
-use Rattle.nm_engine.specs.declared.answer.Cause.TheVariants.{End, Fault, Frame as BadFrame, Session as BadSession, Book, Memory}
-use Rattle.nm_engine.specs.Giving.{GivesFrames, GivesOr}
+use Rattle.nm_engine.specs.Giving.{GivesFrames}
 use Rattle.nm_engine.specs.Acceptor.{AcceptorValue}
 use Rattle.nm_engine.specs.Lives.{LinkLives}
 use Rattle.nm_engine.proofs.Steps.{lives_append}
@@ -39,10 +37,6 @@ module _ (h : Option AcceptorValue) where
         ∙ ap (λ l. a ++ l) (sym (flat_map-append frame_octets one.outs two.outs));
   }
 
-  pub gives_then : (A B : Type 0) (s m t : Option SessionValue) (a b c : List ℕ) (cause : Cause) → GivesFrames h s m a b [] → GivesOr {A = A} h m t b c (Err cause) → GivesOr {A = B} h s t a c (Err cause)
-  gives_then A B s m t a b c End one two = absurd two
-  gives_then A B s m t a b c Fault one two = absurd two
-  gives_then A B s m t a b c BadFrame one two = absurd two
-  gives_then A B s m t a b c BadSession one two = absurd two
-  gives_then A B s m t a b c Book one two = absurd two
-  gives_then A B s m t a b c Memory one two = (two.0, gives_more s m t a b c two.0 one two.1)
+  -- frames were given, and then memory for one more was refused
+  pub gives_then : (s m t : Option SessionValue) (a b c : List ℕ) → GivesFrames h s m a b [] → (lost : List ℕ) × GivesFrames h m t b c lost → (lost : List ℕ) × GivesFrames h s t a c lost
+  gives_then s m t a b c one two = (two.0, gives_more s m t a b c two.0 one two.1)

@@ -11,7 +11,7 @@ use Rattle.nm_frames.specs.Frame.{IsFrame, stream_octets}
 use Rattle.nm_frames.specs.Reader.{FedFault, Feeds, ReaderValue}
 use Rattle.nm_frames.specs.Stream.{IsShort, fault_shown, is_bad_length, stated_length}
 use Rattle.nm_engine.specs.declared.answer.Cause.{Cause}
-use Rattle.nm_engine.specs.declared.answer.Cause.TheVariants.{End, Fault, Frame as BadFrame, Session as BadSession, Book, Memory}
+use Rattle.nm_engine.specs.declared.answer.Cause.TheVariants.{Frame as BadFrame}
 use Rattle.nm_base.specs.declared.limits.TheConstants.{MAX_FRAME_OCTETS, MAX_READ_OCTETS}
 use Rattle.nm_engine.specs.Link.{IsPart}
 use Rattle.nm_engine.specs.Reading.{Came, FeedsReader, IsFramed, Reads}
@@ -46,20 +46,17 @@ module _ (old new : WireSeen) where
     no_end = λ is. same;
     whole = fed.2;
   }
-  read_some e n octets r q frames (Err End) size goes same fed = absurd fed
-  read_some e n octets r q frames (Err Fault) size goes same fed = absurd fed
-  read_some e n octets r q frames (Err BadFrame) size goes same fed = (fed.0, record { came = take n octets; most = taken_within n octets size; came_in = goes.2; framed = fed.1 }, (fed.2, goes.3))
-  read_some e n octets r q frames (Err BadSession) size goes same fed = absurd fed
-  read_some e n octets r q frames (Err Book) size goes same fed = absurd fed
-  read_some e n octets r q frames (Err Memory) size goes same fed = (
+  read_some e n octets r q frames (Err cause) size goes same (inl (is, (rest, framed, shown))) =
+      (rest, record { came = take n octets; most = taken_within n octets size; came_in = goes.2; framed = framed }, inr (inr (inl (is, shown, goes.3))))
+  read_some e n octets r q frames (Err cause) size goes same (inr (is, none)) = (
     r.rest ++ take n octets,
     record {
       came = take n octets;
       most = taken_within n octets size;
       came_in = goes.2;
-      framed = subst (λ (fs : List Frame). IsFramed (r.rest ++ take n octets) fs (r.rest ++ take n octets)) (sym fed) (record { parts = refl; each = tt });
+      framed = subst (λ (fs : List Frame). IsFramed (r.rest ++ take n octets) fs (r.rest ++ take n octets)) (sym none) (record { parts = refl; each = tt });
     },
-    goes.3,
+    inr (inr (inr (is, goes.3))),
   )
 
 -- a reader's answer to a piece, from what it cut
@@ -81,7 +78,7 @@ pub fed_bad : (old new : ReaderValue) (piece : List ℕ) (before after : List Fr
     → (x : FrameFault) → x ≡ e → Feeds old new piece before after (Err x) → FeedsReader old piece after new (Err BadFrame) × IsPart new.rest
 fed_bad old new piece before after none e shows x same fed =
     let fault = shows (subst (λ (y : FrameFault). Feeds old new piece before after (Err y)) same fed) in
-    (fed_fault old new piece before after e none fault, part_fault old new piece before after e fault)
+    (inl (refl, fed_fault old new piece before after e none fault), part_fault old new piece before after e fault)
 
 short_length : (rest : List ℕ) → IsShort rest → length rest < 4 + stated_length rest
 short_length rest (inl lt) = omega (arith, lt)

@@ -13,11 +13,11 @@ use Rattle.nm_engine.specs.declared.answer.Cause.{Cause}
 use Rattle.nm_engine.specs.declared.answer.Cause.TheVariants.{End, Fault, Frame as BadFrame, Session as BadSession, Book, Memory}
 use Rattle.nm_engine.specs.declared.answer.Turn.TheVariants.{Progress, Idle}
 use Rattle.nm_base.specs.declared.limits.TheConstants.{MAX_READ_OCTETS}
-use Rattle.nm_engine.specs.Giving.{GivesFrames, GivesOr, HoldsNone}
+use Rattle.nm_engine.specs.Giving.{GivesFrames, HoldsNone}
 use Rattle.nm_engine.specs.Link.{IsPart, LinkValue, bye_taken}
 use Rattle.nm_engine.specs.Lives.{LinkLives}
 use Rattle.nm_engine.specs.Reading.{Came, Reads}
-use Rattle.nm_engine.specs.Taking.{TakesAll}
+use Rattle.nm_engine.specs.Taking.{Stops, TakesAll}
 use Rattle.nm_engine.specs.Turn.{Breaks, HasEnded, Heard, IsReason, Moves, Says, TakesIn, Turns, Went, answer_of, faults_of, link_of}
 use Rattle.nm_engine.specs.declared.parts.Parts.{Parts}
 use Rattle.nm_engine.specs.Writing.{Writes}
@@ -48,12 +48,10 @@ module _ {W : Type 0} (seen : W → WireSeen) (old new : Parts W) (frames : List
   -- what came, whatever the read's answer, and that the wire has not failed if there are frames
   read_came : (read : Result ℕ Cause) → Read read → (rest : List ℕ) × Came (seen old.wire) (seen new.wire) old.reader.rest frames rest × (((seen new.wire).failures ≡ (seen old.wire).failures) ⊎ (frames ≡ []))
   read_came (Ok n) c = (new.reader.rest, c.came, inl c.sound)
-  read_came (Err End) c = (c.0, c.1, inl c.2.2)
-  read_came (Err Fault) c = (c.0, c.1, inr c.2.0)
-  read_came (Err BadFrame) c = (c.0, c.1, inl c.2.1)
-  read_came (Err BadSession) c = absurd c.2
-  read_came (Err Book) c = absurd c.2
-  read_came (Err Memory) c = (c.0, c.1, inl c.2)
+  read_came (Err cause) (rest, came, inl (is, ends, may_end, sound)) = (rest, came, inl sound)
+  read_came (Err cause) (rest, came, inr (inl (is, none, faults))) = (rest, came, inr none)
+  read_came (Err cause) (rest, came, inr (inr (inl (is, shown, sound)))) = (rest, came, inl sound)
+  read_came (Err cause) (rest, came, inr (inr (inr (is, sound)))) = (rest, came, inl sound)
 
   sound_if : (front back : List Frame) (f : Frame) → frames ≡ front ++ f ∷ back → ((seen new.wire).failures ≡ (seen old.wire).failures) ⊎ (frames ≡ []) → (seen new.wire).failures ≡ (seen old.wire).failures + 0
   sound_if front back f split (inl e) = omega (arith, e)
@@ -98,27 +96,34 @@ module _ {W : Type 0} (seen : W → WireSeen) (old new : Parts W) (frames : List
       broke cause c.came (frame_octets f ++ (stream_octets back ++ rest)) front c.most c.came_in (from_frame (old.reader.rest ++ c.came) rest frames front back f c.framed.parts split) took
       (reason (each_mid front back f (subst (λ (fs : List Frame). AllByRecursion IsFrame fs) split c.framed.each))) sound
 
-  pub breaks_take : (read : Result ℕ Cause) (cause : Cause) → Read read → TakesAll old.party.acceptor old.party.session frames new.party.session (Err cause) → Breaks seen (link_of old false) (link_of new true) cause
-  breaks_take read End reads takes = absurd takes.5
-  breaks_take read Fault reads takes = absurd takes.5
-  breaks_take read BadFrame reads takes = absurd takes.5
-  breaks_take read BadSession reads takes =
-      let c = read_came read reads in
-      stopped_by BadSession c.0 c.1 takes.0 takes.2 takes.1 (sound_if takes.0 takes.2 takes.1 takes.3 c.2) (λ fits. (takes.1, stream_octets takes.2 ++ c.0, fits, refl, takes.5)) takes.3 takes.4
-  breaks_take read Book reads takes =
-      let c = read_came read reads in
-      stopped_by Book c.0 c.1 takes.0 takes.2 takes.1 (sound_if takes.0 takes.2 takes.1 takes.3 c.2) (λ fits. (takes.1, stream_octets takes.2 ++ c.0, fits, refl, takes.5)) takes.3 takes.4
-  breaks_take read Memory reads takes =
-      let c = read_came read reads in stopped_by Memory c.0 c.1 takes.0 takes.2 takes.1 (sound_if takes.0 takes.2 takes.1 takes.3 c.2) (λ fits. tt) takes.3 takes.4
+  -- the link broke for this cause
+  abbrev BreaksFor : Cause → Type 0
+  BreaksFor cause = Breaks seen (link_of old false) (link_of new true) cause
+
+  -- a frame was not taken, for any of its reasons
+  stopped : (cause : Cause) (rest : List ℕ) (c : Came (seen old.wire) (seen new.wire) old.reader.rest frames rest) (front back : List Frame) (f : Frame) → (seen new.wire).failures ≡ (seen old.wire).failures + 0
+      → frames ≡ front ++ f ∷ back → TookAll front → Stops cause old.party.acceptor new.party.session f → BreaksFor cause
+  stopped cause rest c front back f sound split took (inl (is, refuses)) =
+      subst BreaksFor (sym is) (stopped_by BadSession rest c front back f sound (λ fits. (f, stream_octets back ++ rest, fits, refl, refuses)) split took)
+  stopped cause rest c front back f sound split took (inr (inl (is, refuses))) =
+      subst BreaksFor (sym is) (stopped_by Book rest c front back f sound (λ fits. (f, stream_octets back ++ rest, fits, refl, refuses)) split took)
+  stopped cause rest c front back f sound split took (inr (inr (is, short))) =
+      subst BreaksFor (sym is) (stopped_by Memory rest c front back f sound (λ fits. tt) split took)
+
+  pub breaks_take : (read : Result ℕ Cause) (cause : Cause) → Read read → TakesAll old.party.acceptor old.party.session frames new.party.session (Err cause) → BreaksFor cause
+  breaks_take read cause reads (front, f, back, split, took, stops) =
+      let c = read_came read reads in stopped cause c.0 c.1 front back f (sound_if front back f split c.2) split took stops
 
   -- the read ended
-  breaks_read : (cause : Cause) → Read (Err cause) → TookAll frames → Breaks seen (link_of old false) (link_of new true) cause
-  breaks_read End c took = broke End c.1.came c.0 frames c.1.most c.1.came_in c.1.framed.parts took (c.2.0, sym bye ∙ c.2.1) (omega (arith, c.2.2))
-  breaks_read Fault c took = broke Fault c.1.came c.0 frames c.1.most c.1.came_in c.1.framed.parts took tt c.2.1
-  breaks_read BadFrame c took = broke BadFrame c.1.came c.0 frames c.1.most c.1.came_in c.1.framed.parts took c.2.0 (omega (arith, c.2.1))
-  breaks_read BadSession c took = absurd c.2
-  breaks_read Book c took = absurd c.2
-  breaks_read Memory c took = broke Memory c.1.came c.0 frames c.1.most c.1.came_in c.1.framed.parts took tt (omega (arith, c.2))
+  breaks_read : (cause : Cause) → Read (Err cause) → TookAll frames → BreaksFor cause
+  breaks_read cause (rest, c, inl (is, ends, may_end, sound)) took =
+      subst BreaksFor (sym is) (broke End c.came rest frames c.most c.came_in c.framed.parts took (ends, sym bye ∙ may_end) (omega (arith, sound)))
+  breaks_read cause (rest, c, inr (inl (is, none, faults))) took =
+      subst BreaksFor (sym is) (broke Fault c.came rest frames c.most c.came_in c.framed.parts took tt faults)
+  breaks_read cause (rest, c, inr (inr (inl (is, shown, sound)))) took =
+      subst BreaksFor (sym is) (broke BadFrame c.came rest frames c.most c.came_in c.framed.parts took shown (omega (arith, sound)))
+  breaks_read cause (rest, c, inr (inr (inr (is, sound)))) took =
+      subst BreaksFor (sym is) (broke Memory c.came rest frames c.most c.came_in c.framed.parts took tt (omega (arith, sound)))
 
   -- all frames were taken
   pub took_in : (read : Result ℕ Cause) → Read read → TookAll frames → IsPart new.reader.rest → TakesIn seen old new read
@@ -181,13 +186,8 @@ module _ {W : Type 0} (seen : W → WireSeen) (old mid : LinkValue W) (h : Heard
   }
 
   -- memory for a frame was refused
-  pub breaks_give : (cause : Cause) → GivesOr {A = Unit {0}} old.acceptor mid.session z mid.out p (Err cause) → x ≡ mid.wire → Breaks seen old (gone p true) cause
-  breaks_give End g same = absurd g
-  breaks_give Fault g same = absurd g
-  breaks_give BadFrame g same = absurd g
-  breaks_give BadSession g same = absurd g
-  breaks_give Book g same = absurd g
-  breaks_give Memory g same =
+  pub breaks_give : (lost : List ℕ) × GivesFrames old.acceptor mid.session z mid.out p lost → x ≡ mid.wire → Breaks seen old (gone p true) Memory
+  breaks_give g same =
       let fine : (seen x).failures ≡ (seen mid.wire).failures = ap (λ y. (seen y).failures) same in
       let sound = h.sound in
       record {
@@ -202,21 +202,16 @@ module _ {W : Type 0} (seen : W → WireSeen) (old mid : LinkValue W) (h : Heard
   module _ (y : List ℕ) (gives : GivesFrames old.acceptor mid.session z mid.out p []) (same : (seen x).given ≡ (seen mid.wire).given) where
     -- the wire failed as it took octets
     pub breaks_write : (cause : Cause) → Writes (seen mid.wire) (seen x) p y (Err cause) → Breaks seen old (gone y true) cause
-    breaks_write End l = absurd l
-    breaks_write Fault l =
+    breaks_write cause (is, l, faults) =
         let sound = h.sound in
-        record {
+        subst (λ c. Breaks seen old (gone y true) c) (sym is) (record {
           rest = mid.rest;
           left = y;
-          moves = gave_moves l.0.went y [] y true gives same l.0.went_out (l.0.front ∙ sym (append-nil p));
+          moves = gave_moves l.went y [] y true gives same l.went_out (l.front ∙ sym (append-nil p));
           reason = tt;
-          faults = omega (arith, l.1, sound);
+          faults = omega (arith, faults, sound);
           over = refl;
-        }
-    breaks_write BadFrame l = absurd l
-    breaks_write BadSession l = absurd l
-    breaks_write Book l = absurd l
-    breaks_write Memory l = absurd l
+        })
 
     pub turned_well : (n m : ℕ) → length h.moves.came ≡ n → Writes (seen mid.wire) (seen x) p y (Ok m) → (seen x).ends ≡ (seen mid.wire).ends → HoldsNone z p → (ended : Bool) → (ended ≡ true → HasEnded z y) → (HasEnded z y → ended ≡ true)
         → Turns seen old (gone y false) (answer_of ended (n + m))

@@ -1,15 +1,12 @@
 -- What a session gave, and what of it stands in the buffer.
-use Rattle.std.specs.Prelude.{◌≡◌, ℕ, ◌≤◌, ◌⊎◌, Bool, List, [], ◌++◌, length, map, Option, Some, None, Result, Ok, Err}
-use Rattle.std.specs.Prelude.{IfOk, OnErr}
+use Rattle.std.specs.Prelude.{◌≡◌, ℕ, ◌≤◌, ◌⊎◌, List, [], ◌++◌, length, map, Option, Some, None, Result, Ok, Err}
 use Rattle.nm_base.specs.declared.limits.TheConstants.{FULL_OUT_OCTETS}
 use Rattle.nm_book.specs.Book.{BookValue}
 use Rattle.nm_frames.specs.declared.frame.Frame.{Frame}
 use Rattle.nm_frames.specs.Frame.{stream_octets}
 use Rattle.nm_frames.specs.Lives.{Gave}
-use Rattle.nm_frames.specs.Owed.{given_maybe, owed}
+use Rattle.nm_frames.specs.Owed.{owed}
 use Rattle.nm_frames.specs.Session.{SessionValue}
-use Rattle.nm_engine.specs.declared.answer.Cause.{Cause}
-use Rattle.nm_engine.specs.declared.answer.Cause.TheVariants.{End, Fault, Frame as BadFrame, Session as BadSession, Book, Memory}
 use Rattle.nm_engine.specs.Acceptor.{AcceptorValue}
 use Rattle.nm_engine.specs.Lives.{LinkLives}
 
@@ -21,15 +18,10 @@ pub record GivesFrames (h : Option AcceptorValue) (s t : Option SessionValue)
   pub put : after ++ lost ≡ before ++ stream_octets outs
 
 -- the same of a call that is refused for memory alone
-abbrev pub GivesOr : {A : Type 0} → Option AcceptorValue → Option SessionValue → Option SessionValue
-    → List ℕ → List ℕ → Result A Cause → Type 0
+abbrev pub GivesOr : {A E : Type 0} → Option AcceptorValue → Option SessionValue
+    → Option SessionValue → List ℕ → List ℕ → Result A E → Type 0
 GivesOr h s t before after (Ok x) = GivesFrames h s t before after []
-GivesOr h s t before after (Err End) = ⊥
-GivesOr h s t before after (Err Fault) = ⊥
-GivesOr h s t before after (Err BadFrame) = ⊥
-GivesOr h s t before after (Err BadSession) = ⊥
-GivesOr h s t before after (Err Book) = ⊥
-GivesOr h s t before after (Err Memory) = (lost : List ℕ) × GivesFrames h s t before after lost
+GivesOr h s t before after (Err e) = (lost : List ℕ) × GivesFrames h s t before after lost
 
 -- a session owes nothing of a book as it then was (which book, this does not say); where there
 -- is no session, nothing is owed

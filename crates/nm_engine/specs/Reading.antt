@@ -1,5 +1,5 @@
 -- What one read of a link came to.
-use Rattle.std.specs.Prelude.{◌≡◌, ℕ, ◌+◌, ◌≤◌, Bool, true, false, List, [], ◌++◌, length, Result, Ok, Err, Some}
+use Rattle.std.specs.Prelude.{◌≡◌, ◌⊎◌, ℕ, ◌+◌, ◌≤◌, Bool, false, List, [], ◌++◌, length, Result, Ok, Err, Some}
 use Rattle.std.specs.List.{AllByRecursion}
 use Rattle.nm_base.specs.Wire.{WireSeen}
 use Rattle.nm_frames.specs.declared.frame.Frame.{Frame}
@@ -8,8 +8,12 @@ use Rattle.nm_frames.specs.Frame.{IsFrame, stream_octets}
 use Rattle.nm_frames.specs.Reader.{ReaderValue}
 use Rattle.nm_frames.specs.Stream.{fault_shown}
 use Rattle.nm_engine.specs.declared.answer.Cause.{Cause}
-use Rattle.nm_engine.specs.declared.answer.Cause.TheVariants.{End, Fault, Frame as BadFrame, Session as BadSession, Book, Memory}
+use Rattle.nm_engine.specs.declared.answer.Cause.TheVariants.{End, Fault, Frame as BadFrame, Memory}
 use Rattle.nm_base.specs.declared.limits.TheConstants.{MAX_READ_OCTETS}
+
+-- octets that show why they begin no frame
+abbrev pub ShowsFault : List ℕ → Type 0
+ShowsFault rest = (e : FrameFault) × (fault_shown rest ≡ Some e)
 
 -- octets are those of these frames, and then a rest
 pub record IsFramed (octets : List ℕ) (frames : List Frame) (rest : List ℕ) : Type 0 where
@@ -21,14 +25,10 @@ pub record IsFramed (octets : List ℕ) (frames : List Frame) (rest : List ℕ) 
 abbrev pub FeedsReader : ReaderValue → List ℕ → List Frame → ReaderValue → Result ℕ Cause → Type 0
 FeedsReader r piece frames q (Ok n) =
     (n ≡ length piece) × IsFramed (r.rest ++ piece) frames q.rest × (q.failed ≡ false)
-FeedsReader r piece frames q (Err End) = ⊥
-FeedsReader r piece frames q (Err Fault) = ⊥
-FeedsReader r piece frames q (Err BadFrame) =
-    (rest : List ℕ) × IsFramed (r.rest ++ piece) frames rest
-    × ((e : FrameFault) × (fault_shown rest ≡ Some e))
-FeedsReader r piece frames q (Err BadSession) = ⊥
-FeedsReader r piece frames q (Err Book) = ⊥
-FeedsReader r piece frames q (Err Memory) = frames ≡ []
+FeedsReader r piece frames q (Err cause) =
+    ((cause ≡ BadFrame)
+    × ((rest : List ℕ) × IsFramed (r.rest ++ piece) frames rest × ShowsFault rest))
+    ⊎ ((cause ≡ Memory) × (frames ≡ []))
 
 module _ (old new : WireSeen) where
   -- these octets came; with those that were held before they are the frames, and then the rest
@@ -47,16 +47,15 @@ module _ (old new : WireSeen) where
     pub no_end : may_end ≡ false → new.ends ≡ old.ends
     pub whole : q.failed ≡ false
 
-  -- why nothing more is read
+  -- why nothing more is read: the end is found where it may not be, the wire failed, the rest is
+  -- no frame, or memory was refused
   abbrev pub ReadEnds : Bool → Cause → List Frame → List ℕ → Type 0
-  ReadEnds may_end End frames rest =
-      (new.ends ≡ old.ends + 1) × (may_end ≡ false) × (new.failures ≡ old.failures)
-  ReadEnds may_end Fault frames rest = (frames ≡ []) × (new.failures ≡ old.failures + 1)
-  ReadEnds may_end BadFrame frames rest =
-      ((e : FrameFault) × (fault_shown rest ≡ Some e)) × (new.failures ≡ old.failures)
-  ReadEnds may_end BadSession frames rest = ⊥
-  ReadEnds may_end Book frames rest = ⊥
-  ReadEnds may_end Memory frames rest = new.failures ≡ old.failures
+  ReadEnds may_end cause frames rest =
+      ((cause ≡ End) × (new.ends ≡ old.ends + 1) × (may_end ≡ false)
+      × (new.failures ≡ old.failures))
+      ⊎ ((cause ≡ Fault) × (frames ≡ []) × (new.failures ≡ old.failures + 1))
+      ⊎ ((cause ≡ BadFrame) × ShowsFault rest × (new.failures ≡ old.failures))
+      ⊎ ((cause ≡ Memory) × (new.failures ≡ old.failures))
 
   -- the reader goes on, or ends there
   abbrev pub Reads : Bool → ReaderValue → List Frame → ReaderValue → Result ℕ Cause → Type 0

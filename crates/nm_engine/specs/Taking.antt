@@ -1,5 +1,5 @@
 -- What a session took of the frames that came, and why it took no more.
-use Rattle.std.specs.Prelude.{◌≡◌, ℕ, List, ◌∷◌, ◌++◌, map, Option, Some, None, Result, Ok, Err}
+use Rattle.std.specs.Prelude.{◌≡◌, ◌⊎◌, List, ◌∷◌, ◌++◌, map, Option, Some, None, Result, Ok, Err}
 use Rattle.nm_book.specs.declared.message.ChannelMessage.{ChannelMessage}
 use Rattle.nm_frames.specs.declared.frame.Frame.{Frame}
 use Rattle.nm_frames.specs.declared.session_fault.SessionFault.{SessionFault}
@@ -7,19 +7,22 @@ use Rattle.nm_frames.specs.declared.taken.Taken.TheVariants.{ForBook}
 use Rattle.nm_frames.specs.Lives.{Took}
 use Rattle.nm_frames.specs.Session.{SessionValue, purpose, taken}
 use Rattle.nm_engine.specs.declared.answer.Cause.{Cause}
-use Rattle.nm_engine.specs.declared.answer.Cause.TheVariants.{End, Fault, Frame as BadFrame, Session as BadSession, Book, Memory}
+use Rattle.nm_engine.specs.declared.answer.Cause.TheVariants.{Session as BadSession, Book, Memory}
 use Rattle.nm_engine.specs.Acceptor.{AcceptorValue, IsFromBelow, first_taken, taken_at}
 use Rattle.nm_engine.specs.Lives.{IsRefused, IsServed, IsTold, LacksMemory, LinkLives}
 
 -- a book took a message in, or why not
 abbrev pub Tells : ChannelMessage → Result Unit Cause → Type 0
 Tells m (Ok u) = IsTold m
-Tells m (Err End) = ⊥
-Tells m (Err Fault) = ⊥
-Tells m (Err BadFrame) = ⊥
-Tells m (Err BadSession) = ⊥
-Tells m (Err Book) = IsRefused m
-Tells m (Err Memory) = LacksMemory m
+Tells m (Err cause) = ((cause ≡ Book) × IsRefused m) ⊎ ((cause ≡ Memory) × LacksMemory m)
+
+-- a session refuses a frame
+abbrev pub SessionRefuses : Option AcceptorValue → Option SessionValue → Frame → Type 0
+SessionRefuses h s f = (e : SessionFault) × (taken_at h s f ≡ Err e)
+
+-- a book refuses what a frame is for
+abbrev pub BookRefuses : Frame → Type 0
+BookRefuses f = (m : ChannelMessage) × (purpose f ≡ ForBook m) × IsRefused m
 
 -- memory for a frame was refused: to a book, for the message that the session takes; or to the
 -- session that a first frame makes
@@ -33,12 +36,10 @@ RunsShort None None f = ⊥
 -- why a frame is not taken: the session refuses it, or a book refuses what it is for, or memory
 -- is refused
 abbrev pub Stops : Cause → Option AcceptorValue → Option SessionValue → Frame → Type 0
-Stops End h s f = ⊥
-Stops Fault h s f = ⊥
-Stops BadFrame h s f = ⊥
-Stops BadSession h s f = (e : SessionFault) × (taken_at h s f ≡ Err e)
-Stops Book h s f = (m : ChannelMessage) × (purpose f ≡ ForBook m) × IsRefused m
-Stops Memory h s f = RunsShort h s f
+Stops cause h s f =
+    ((cause ≡ BadSession) × SessionRefuses h s f)
+    ⊎ ((cause ≡ Book) × BookRefuses f)
+    ⊎ ((cause ≡ Memory) × RunsShort h s f)
 
 -- a frame was taken, or changed nothing
 abbrev pub TakesOne : Option AcceptorValue → Option SessionValue → Frame → Option SessionValue
@@ -58,9 +59,6 @@ TakesAll h s frames t (Err cause) =
 -- a peer's first frame made a session, or did not
 abbrev pub Greets : AcceptorValue → Frame → Result SessionValue Cause → Type 0
 Greets h f (Ok s) = (first_taken h f ≡ Ok s) × IsServed (purpose f)
-Greets h f (Err End) = ⊥
-Greets h f (Err Fault) = ⊥
-Greets h f (Err BadFrame) = ⊥
-Greets h f (Err BadSession) = (e : SessionFault) × (first_taken h f ≡ Err e)
-Greets h f (Err Book) = ⊥
-Greets h f (Err Memory) = IsFromBelow h f
+Greets h f (Err cause) =
+    ((cause ≡ BadSession) × ((e : SessionFault) × (first_taken h f ≡ Err e)))
+    ⊎ ((cause ≡ Memory) × IsFromBelow h f)

@@ -2,11 +2,9 @@
 use Rattle.std.specs.Prelude.{◌≡◌, ℕ, ◌+◌, ◌<◌, ◌≤◌, nat_lt, if◌then◌else◌, Bool, true, false, List, [], ◌++◌, length, map, Option, Some, Result, Ok, Err}
 use Rattle.nm_base.specs.Wire.{WireSeen}
 use Rattle.nm_frames.specs.declared.frame.Frame.{Frame}
-use Rattle.nm_frames.specs.declared.fault.FrameFault.{FrameFault}
 use Rattle.nm_frames.specs.Frame.{IsFrame, frame_octets, stream_octets}
 use Rattle.nm_frames.specs.Lives.{Took, Gave}
 use Rattle.nm_frames.specs.Session.{SessionValue}
-use Rattle.nm_frames.specs.Stream.{fault_shown}
 use Rattle.nm_engine.specs.declared.answer.Cause.{Cause}
 use Rattle.nm_engine.specs.declared.answer.Cause.TheVariants.{End, Fault, Frame as BadFrame, Session as BadSession, Book, Memory}
 use Rattle.nm_engine.specs.declared.answer.Turn.{Turn}
@@ -16,7 +14,8 @@ use Rattle.nm_base.specs.declared.limits.TheConstants.{MAX_READ_OCTETS}
 use Rattle.nm_engine.specs.Giving.{HoldsNone}
 use Rattle.nm_engine.specs.Link.{IsPart, LinkValue, bye_taken}
 use Rattle.nm_engine.specs.Lives.{LinkLives}
-use Rattle.nm_engine.specs.Taking.{Stops}
+use Rattle.nm_engine.specs.Reading.{ShowsFault}
+use Rattle.nm_engine.specs.Taking.{BookRefuses, SessionRefuses}
 
 -- the faults of a wire that a cause tells of
 abbrev pub faults_of : Cause → ℕ
@@ -71,20 +70,19 @@ module _ {W : Type 0} (seen : W → WireSeen) (old new : LinkValue W) where
     pub all : HoldsNone new.session (moves.went ++ new.out)
     pub whole : new.failed ≡ false
 
-  -- the rest begins with a frame that was not taken, for this cause
-  abbrev pub StopsAt : Cause → List ℕ → Option SessionValue → Type 0
-  StopsAt cause rest mid =
-      (f : Frame) × (more : List ℕ) × IsFrame f × (rest ≡ frame_octets f ++ more)
-      × Stops cause old.acceptor mid f
+  -- the rest begins with a frame that was not taken, for this reason
+  abbrev pub StopsAt : (Frame → Type 0) → List ℕ → Type 0
+  StopsAt Refuses rest =
+      (f : Frame) × (more : List ℕ) × IsFrame f × (rest ≡ frame_octets f ++ more) × Refuses f
 
   -- the reason of a cause
   abbrev pub IsReason : Cause → List ℕ → Option SessionValue → Type 0
   IsReason End rest mid =
       ((seen new.wire).ends ≡ (seen old.wire).ends + 1) × (bye_taken old.session ≡ false)
   IsReason Fault rest mid = Unit {0}
-  IsReason BadFrame rest mid = (e : FrameFault) × (fault_shown rest ≡ Some e)
-  IsReason BadSession rest mid = StopsAt BadSession rest mid
-  IsReason Book rest mid = StopsAt Book rest mid
+  IsReason BadFrame rest mid = ShowsFault rest
+  IsReason BadSession rest mid = StopsAt (SessionRefuses old.acceptor mid) rest
+  IsReason Book rest mid = StopsAt BookRefuses rest
   IsReason Memory rest mid = Unit {0}
 
   -- a turn at which the link broke: the rest was not taken, and what is left has not gone

@@ -2,7 +2,7 @@
 use Rattle.std.specs.Prelude.{◌≡◌, ℕ, ◌+◌, List, ◌++◌, length, Result, Ok, Err}
 use Rattle.nm_base.specs.Wire.{WireSeen}
 use Rattle.nm_engine.specs.declared.answer.Cause.{Cause}
-use Rattle.nm_engine.specs.declared.answer.Cause.TheVariants.{End, Fault, Frame as BadFrame, Session as BadSession, Book, Memory}
+use Rattle.nm_engine.specs.declared.answer.Cause.TheVariants.{Fault}
 
 module _ (old new : WireSeen) (before after : List ℕ) where
   -- these octets went from the front of the buffer
@@ -14,9 +14,4 @@ module _ (old new : WireSeen) (before after : List ℕ) where
   -- so many of them, or the wire failed
   abbrev pub Writes : Result ℕ Cause → Type 0
   Writes (Ok n) = (l : Leaves) × (length l.went ≡ n) × (new.failures ≡ old.failures)
-  Writes (Err End) = ⊥
-  Writes (Err Fault) = Leaves × (new.failures ≡ old.failures + 1)
-  Writes (Err BadFrame) = ⊥
-  Writes (Err BadSession) = ⊥
-  Writes (Err Book) = ⊥
-  Writes (Err Memory) = ⊥
+  Writes (Err cause) = (cause ≡ Fault) × Leaves × (new.failures ≡ old.failures + 1)

@@ -1,5 +1,10 @@
 //! What a turn of a link answers.
 
+ghost use Rattle.std.specs.Prelude.{◌≡◌};
+ghost use Rattle.nm_engine.specs.declared.answer.Cause.TheVariants.{Memory};
+
+use std::alloc::AllocError;
+
 /// Why a link broke.
 #[derive(Clone, Copy, Debug, PartialEq, Eq)]
 pub enum Cause {
@@ -16,6 +21,14 @@ pub enum Cause {
     Book,
     /// Memory was refused.
     Memory,
+}
+
+impl From<AllocError> for Cause {
+    ghost from_gives = { λ _ c. c ≡ Memory };
+
+    fn from(_: AllocError) -> Self {
+        Cause::Memory
+    }
 }
 
 /// What a turn came to.

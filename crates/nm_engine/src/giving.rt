@@ -6,10 +6,10 @@ ghost use Rattle.nm_engine.specs.Acceptor.{AcceptorValue};
 ghost use Rattle.std.specs.Prelude.{Option};
 
 use crate::acts::NextOut;
-use crate::answer::Cause;
 use nm_base::limits::{FULL_OUT_OCTETS, MAX_FRAME_OCTETS, MAX_OUT_OCTETS};
 use nm_frames::{Session, write_frame};
 use nm_shared::{Counts, Pass, SharedBook};
+use std::alloc::AllocError;
 use std::sync::Wait;
 
 /// Puts the frame that the session owes next at the end of the buffer. Whether there was one.
@@ -19,7 +19,7 @@ fn give_one<C: Counts, R: Wait>(
     book: &SharedBook<C>,
     pass: &mut Pass<C>,
     out: &mut Vec<u8>,
-) -> Result<bool, Cause>
+) -> Result<bool, AllocError>
     ensures gives { (h : Option AcceptorValue) → GivesOr h session.old session.new out.old.items
         out.new.items result }
     ensures none { result ≡ Ok false → OwesNone session.new }
@@ -32,11 +32,11 @@ fn give_one<C: Counts, R: Wait>(
     let (back, owed) = book.act(rt, pass, NextOut { session: asked });
     *session = Some(back);
     match owed {
-        Err(_) => Err(Cause::Memory),
+        Err(refused) => Err(refused),
         Ok(None) => Ok(false),
         Ok(Some(frame)) => match write_frame(&frame, out) {
             Ok(()) => Ok(true),
-            Err(_) => Err(Cause::Memory),
+            Err(refused) => Err(refused),
         },
     }
 }
@@ -48,7 +48,7 @@ pub(crate) fn give_all<C: Counts, R: Wait>(
     book: &SharedBook<C>,
     pass: &mut Pass<C>,
     out: &mut Vec<u8>,
-) -> Result<(), Cause>
+) -> Result<(), AllocError>
     requires { vec_len out.old ≤ MAX_OUT_OCTETS }
     ensures gives { (h : Option AcceptorValue) → GivesOr h session.old session.new out.old.items
         out.new.items result }

@@ -1,4 +1,4 @@
-use Rattle.std.proofs.Common.{[], arith, Bool}
+use Rattle.std.proofs.Common.{[], arith}
 use Rattle.std.proofs.lemmas.Result.{err_from_is_err_and}
 use Rattle.nm_engine.proofs.Givings.{gives_more, gives_then}
 use Rattle.nm_engine.proofs.giving.give_all.Goals as goal
@@ -10,7 +10,7 @@ returns-then-not-branch-clause-gives g c = λ h.
 pub returns-in_err-give_one-clause-gives : goal.returns-in_err-give_one-clause-gives
 returns-in_err-give_one-clause-gives g c = λ h.
     let p = err_from_is_err_and c.from_residual.result c.from_residual.ensures.1 in
-    rw (p.1, p.2) (gives_then h Bool (Unit {0}) c.args.session.now c.loop-session.session c.give_one.new.session c.args.out.now.items c.loop-session.out.items c.give_one.new.out.items c.in_err-give_one.field-0.0 (c.loop-session.invariant.gives h) (c.in_err-give_one.ensures.gives h))
+    rw p.1 (gives_then h c.args.session.now c.loop-session.session c.give_one.new.session c.args.out.now.items c.loop-session.out.items c.give_one.new.out.items (c.loop-session.invariant.gives h) (c.in_err-give_one.ensures.gives h))
 
 pub loop-session-preserved : goal.loop-session-preserved
 loop-session-preserved g c = record {

@@ -1,4 +1,4 @@
-use Rattle.std.proofs.Common.{◌≡◌, length, arith, true, false, sym, ◌∙◌, true≢false}
+use Rattle.std.proofs.Common.{◌≡◌, length, arith, true, false, inl, inr, refl, sym, ◌∙◌, true≢false}
 use Rattle.nm_base.specs.declared.limits.TheConstants.{MAX_READ_OCTETS}
 use Rattle.nm_engine.proofs.Readings.{came_none, read_none, read_some}
 use Rattle.nm_engine.proofs.reading.read_in.Goals as goal
@@ -14,7 +14,7 @@ returns-then-may_end-clause-reads g c =
 
 pub returns-else-may_end-clause-reads : goal.returns-else-may_end-clause-reads
 returns-else-may_end-clause-reads g c =
-    (_, came_none (g.W.Wire.seen c.args.wire.now) (g.W.Wire.seen c.read_some.new.self) c.args.reader.now.rest c.args.frames.now.items c.requires.none c.in-End.ensures.reads.0.0, (c.in-End.ensures.reads.1, c.if-may_end.false, c.in-End.ensures.reads.0.1))
+    (_, came_none (g.W.Wire.seen c.args.wire.now) (g.W.Wire.seen c.read_some.new.self) c.args.reader.now.rest c.args.frames.now.items c.requires.none c.in-End.ensures.reads.0.0, inl (refl, c.in-End.ensures.reads.1, c.if-may_end.false, c.in-End.ensures.reads.0.1))
 
 pub returns-in-Later-clause-reads : goal.returns-in-Later-clause-reads
 returns-in-Later-clause-reads g c =
@@ -22,4 +22,4 @@ returns-in-Later-clause-reads g c =
 
 pub returns-in-Fault-clause-reads : goal.returns-in-Fault-clause-reads
 returns-in-Fault-clause-reads g c =
-    (_, came_none (g.W.Wire.seen c.args.wire.now) (g.W.Wire.seen c.read_some.new.self) c.args.reader.now.rest c.args.frames.now.items c.requires.none c.in-Fault.ensures.reads.0.0, (c.requires.none, c.in-Fault.ensures.reads.0.1))
+    (_, came_none (g.W.Wire.seen c.args.wire.now) (g.W.Wire.seen c.read_some.new.self) c.args.reader.now.rest c.args.frames.now.items c.requires.none c.in-Fault.ensures.reads.0.0, inr (inl (refl, c.requires.none, c.in-Fault.ensures.reads.0.1)))

@@ -14,7 +14,7 @@ pub returns-in_err-give_all-clause-works : goal.returns-in_err-give_all-clause-w
 returns-in_err-give_all-clause-works g c =
     let p = err_from_is_err_and c.from_residual-in_err-give_all.result c.from_residual-in_err-give_all.ensures.1 in
     rw (p.1, p.2) (breaks_give g.W.Wire.seen (link_of c.args.parts.now false) (link_of c.take_in.new.parts false) c.in_ok-came.ensures.takes.0
-    c.give_all.new.session c.take_in.new.parts.wire c.give_all.new.out.items c.in_err-give_all.field-0.0 (c.in_err-give_all.ensures.gives c.args.parts.now.party.acceptor) refl)
+    c.give_all.new.session c.take_in.new.parts.wire c.give_all.new.out.items (c.in_err-give_all.ensures.gives c.args.parts.now.party.acceptor) refl)
 
 pub returns-in_err-went-clause-works : goal.returns-in_err-went-clause-works
 returns-in_err-went-clause-works g c =
