@@ -3,6 +3,7 @@
 
 pub mod event;
 pub mod failures;
+pub mod fault;
 pub mod key;
 pub mod laws;
 pub mod limits;
@@ -19,6 +20,7 @@ pub mod time;
 pub mod wire;
 
 pub use event::{Event, Origin};
+pub use fault::Fault;
 pub use key::{Key, Place};
 pub use mem_sink::MemSink;
 pub use mem_wire::MemWire;

@@ -20,9 +20,9 @@ fn records_of(books: &[Book]) -> u64 {
 pub(crate) fn rounds_over<R: Files + AllocGlobal>(rt: &R, path: &str) -> Result<(u64, u64), Error> {
     let text = fs::read(rt, path)?;
     match run_rounds(rt.alloc(), text.as_slice(), MAX_ROUNDS) {
-        Rounds::Done { rounds, books } => Ok((rounds, records_of(books.as_slice()))),
-        Rounds::Unfinished { .. } => Err(ErrorKind::TimedOut.into()),
-        Rounds::Topo(TopoFault::Refused(_)) => Err(ErrorKind::InvalidData.into()),
-        Rounds::Memory | Rounds::Topo(TopoFault::Memory) => Err(ErrorKind::OutOfMemory.into()),
+        Ok(Rounds::Done { rounds, books }) => Ok((rounds, records_of(books.as_slice()))),
+        Ok(Rounds::Unfinished { .. }) => Err(ErrorKind::TimedOut.into()),
+        Err(TopoFault::Refused(_)) => Err(ErrorKind::InvalidData.into()),
+        Err(TopoFault::Memory) => Err(ErrorKind::OutOfMemory.into()),
     }
 }

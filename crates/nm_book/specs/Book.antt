@@ -17,6 +17,7 @@ use Rattle.nm_events.specs.Held.{Held, pending_of}
 use Rattle.nm_knowledge.specs.Answers.{answer, know_fault_number, reason}
 use Rattle.nm_knowledge.specs.Octets.{same_octets}
 use Rattle.nm_knowledge.specs.declared.answer.Accepted.{Accepted}
+use Rattle.nm_knowledge.specs.declared.answer.KnowFault.{KnowFault}
 use Rattle.nm_knowledge.specs.declared.answer.KnowFault.TheVariants.{Memory}
 use Rattle.nm_sim.specs.Network.{net_of}
 use Rattle.nm_sim.specs.Part.{PartValue, Represents}
@@ -111,15 +112,19 @@ pub record IsBook (t : TopologyValue) (p : ℕ) (knows : List (Know (List ℕ)))
       (from_scratch (net_of t) p (knowledge_of t knows) part.steps)
   pub within : IsWithin (net_of t) p (knowledge_of t knows) part.steps
 
--- of channel c is learned what the model's function says of what was told; or a message that is
--- new found no memory
+-- why nothing was learned of what was told: the model's function says so; or a message that is new
+-- found no memory
+abbrev pub IsNotLearned : model.Accepted (List ℕ) → KnowFault → Type 0
+IsNotLearned taken Memory = taken.answer ≡ model.New
+IsNotLearned taken f = Some taken.answer ≡ reason f
+
+-- of channel c is learned what the model's function says of what was told; or nothing
 abbrev pub Learns : List (Know (List ℕ)) → List (Know (List ℕ)) → ℕ → model.Accepted (List ℕ)
     → Result Accepted AcceptFault → Type 0
 Learns old new c taken (Ok a) =
     (Some taken.answer ≡ answer (Ok a)) × (new ≡ slice_set old c taken.after)
-Learns old new c taken (Err Stranger) = ⊥
-Learns old new c taken (Err (Known Memory)) = (taken.answer ≡ model.New) × (new ≡ old)
-Learns old new c taken (Err (Known f)) = (Some taken.answer ≡ reason f) × (new ≡ old)
+Learns old new c taken (Err e) =
+    (f : KnowFault) × (e ≡ Known f) × IsNotLearned taken f × (new ≡ old)
 
 -- the same where the channel may not come in here: then nothing is
 abbrev pub LearnsIf : Bool → List (Know (List ℕ)) → List (Know (List ℕ)) → ℕ

@@ -87,9 +87,8 @@ module _ (t : TopologyValue) (p : ℕ) (knows others : List (Know (List ℕ))) w
   -- all channels that come in can be joined, or this is the first that can't
   abbrev pub Checks : Result Unit MergeFault → Type 0
   Checks (Ok u) = AreJoinable t p knows others (length knows)
-  Checks (Err Stranger) = ⊥
-  Checks (Err (Channel c fault)) = IsFirstMergeFault t p knows others c fault
-  Checks (Err Memory) = ⊥
+  Checks (Err e) = (c : ℕ) × (fault : KnowFault) × (e ≡ Channel c fault)
+      × IsFirstMergeFault t p knows others c fault
 
   pub record AreGains (gains : List (Option Gain)) : Type 0 where
     pub count : length gains ≡ length knows

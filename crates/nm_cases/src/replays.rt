@@ -15,6 +15,7 @@ use nm_rounds::replay::replay;
 use nm_rounds::rounds::{Rounds, run_rounds};
 use nm_rounds::{ReplayEnd, ReplayFault, WorldReport, WorldStep};
 use nm_script::{read_script, report_text};
+use nm_topology::TopoFault;
 use std::alloc::Global;
 use std::io;
 
@@ -68,14 +69,14 @@ fn line(bench: &Bench, alloc: Global, number: usize) -> io::Result<String> {
 /// What rounds came to, and their replicas.
 fn outcome(alloc: Global, text: &str, max: u64) -> io::Result<(String, Vec<Book>)> {
     match run_rounds(alloc, text.as_bytes(), max.clamp(1, 1_000)) {
-        Rounds::Done { rounds, books } => Ok((format!(in alloc; "done {rounds}")?, books)),
-        Rounds::Unfinished { rounds, books } => {
+        Ok(Rounds::Done { rounds, books }) => Ok((format!(in alloc; "done {rounds}")?, books)),
+        Ok(Rounds::Unfinished { rounds, books }) => {
             Ok((format!(in alloc; "unfinished {rounds}")?, books))
         }
-        Rounds::Memory => Err(io::Error::other("memory")),
-        Rounds::Topo(fault) => {
+        Err(TopoFault::Memory) => Err(io::Error::other("memory")),
+        Err(TopoFault::Refused(refusal)) => {
             Ok((
-                format!(in alloc; "refused {}", fault.number())?,
+                format!(in alloc; "refused {}", refusal.number())?,
                 Vec::new(alloc),
             ))
         }
@@ -92,7 +93,7 @@ fn rounds(bench: &mut Bench, alloc: Global, max: u64) -> io::Result<String> {
 /// The number that a replay of a text is refused with.
 fn refusal(alloc: Global, text: &str) -> io::Result<u8> {
     match replay(alloc, text.as_bytes(), &[]) {
-        Err(ReplayFault::Topo(fault)) => Ok(fault.number()),
+        Err(ReplayFault::Refused(refusal)) => Ok(refusal.number()),
         _ => Ok(0),
     }
 }

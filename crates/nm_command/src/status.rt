@@ -79,7 +79,7 @@ impl From<FilesFault> for Status {
 
     fn from(fault: FilesFault) -> Self {
         match fault {
-            FilesFault::File(_) => Status::File,
+            FilesFault::Refused(_) => Status::File,
             FilesFault::Memory => Status::Memory,
         }
     }

@@ -3,14 +3,15 @@
 ghost use Rattle.std.specs.Prelude.{◌≡◌, ℕ, ◌<◌, ◌≤◌, ◌∷◌, [], ◌++◌, false, All, IfErr, IfOk};
 ghost use Rattle.std.specs.Prelude.{None, OnOk, Option, get_or};
 ghost use Rattle.nm_base.specs.Sink.{SinkSeen};
+ghost use Rattle.nm_base.specs.declared.fault.Fault.TheVariants.{Refused};
 ghost use Rattle.nm_base.specs.declared.limits.TheConstants.{MAX_TIME};
 ghost use Rattle.nm_files.specs.Files.{AreCounted, FileFailed, FileTook, FilesTook, HasBegun};
 ghost use Rattle.nm_files.specs.Files.{OwnFileFailed, FailedAt, IsBegun, IsSound};
 ghost use Rattle.nm_files.specs.Outputs.{Files};
 
-use nm_base::{IfaceNo, Record, Sink};
+use nm_base::{Fault, IfaceNo, Record, Sink};
 use nm_pcap::{PcapFault, PcapOut};
-use std::alloc::{AllocError, AllocFailed, Global};
+use std::alloc::{AllocError, Global};
 use thiserror::Error;
 
 /// The trace file of an interface failed. It has so many octets, from the front of what it was to
@@ -22,32 +23,14 @@ pub struct FileFault {
     pub written: u64,
 }
 
-/// Why trace files were not opened, or not written on.
-#[derive(Clone, Copy, Debug, PartialEq, Eq, Error)]
-pub enum FilesFault {
-    /// The file failed.
-    #[error("{0}")]
-    File(FileFault),
-    /// Memory was refused.
-    #[error("out of memory")]
-    Memory,
-}
+/// Why trace files were not opened, or not written on: one failed, or memory was refused.
+pub type FilesFault = Fault<FileFault>;
 
 impl From<FileFault> for FilesFault {
+    ghost from_gives = { λ file fault. fault ≡ Refused file };
+
     fn from(fault: FileFault) -> Self {
-        FilesFault::File(fault)
-    }
-}
-
-impl From<AllocError> for FilesFault {
-    fn from(_: AllocError) -> Self {
-        FilesFault::Memory
-    }
-}
-
-impl<T: Drop> From<AllocFailed<T>> for FilesFault {
-    fn from(_: AllocFailed<T>) -> Self {
-        FilesFault::Memory
+        FilesFault::Refused(fault)
     }
 }
 
@@ -66,7 +49,7 @@ fn begun<S: Sink + Drop>(iface: IfaceNo, sink: S) -> Result<PcapOut<S>, FilesFau
     let mut file = PcapOut::new(sink);
     match file.start() {
         Ok(()) => Ok(file),
-        Err(PcapFault::File { written }) => Err(FilesFault::File(FileFault { iface, written })),
+        Err(PcapFault::File { written }) => Err(FilesFault::Refused(FileFault { iface, written })),
         Err(PcapFault::Failed) => unreachable!(),
     }
 }
@@ -153,7 +136,7 @@ impl<S: Sink + Drop> TraceFiles<S> {
     ///
     /// # Errors
     ///
-    /// `File` where the file failed: it has a prefix of the header. `Memory` where memory was
+    /// `Refused` where the file failed: it has a prefix of the header. `Memory` where memory was
     /// refused. No interface was added then.
     pub fn open(&mut self, iface: IfaceNo, sink: S) -> Result<(), FilesFault>
         requires { All IsSound self.old.files.items }

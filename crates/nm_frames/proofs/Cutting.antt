@@ -1,11 +1,10 @@
 -- Frames cut off the front of octets, one after another.
-use Rattle.std.proofs.Common.{◌≡◌, ℕ, ◌-◌, drop, ◌<◌, List, [], ◌∷◌, ◌++◌, length, None, false, Err, refl, sym, ap, subst, ◌∙◌, append_assoc, append-nil, length-append, arith}
+use Rattle.std.proofs.Common.{◌≡◌, ℕ, ◌-◌, drop, ◌<◌, List, [], ◌∷◌, ◌++◌, length, None, false, Err, inl, inr, refl, sym, ap, subst, ◌∙◌, append_assoc, append-nil, length-append, arith}
 use Rattle.std.proofs.lemmas.List.{drop_at}
 use Rattle.std.proofs.lemmas.Grind.{flat_map-append}
 use Rattle.std.specs.List.{AllByRecursion}
 use Rattle.nm_frames.specs.declared.frame.Frame.{Frame}
 use Rattle.nm_frames.specs.declared.fault.FrameFault.{FrameFault}
-use Rattle.nm_frames.specs.declared.fault.FrameFault.TheVariants.{BadLength, BadKind, BadBody, Failed, Memory}
 use Rattle.nm_frames.specs.Frame.{IsFrame, frame_octets, stream_octets}
 use Rattle.nm_frames.specs.Stream.{fault_shown, IsShort}
 use Rattle.nm_frames.specs.Reader.{ReaderValue, FindsFrame, Cuts, CutsTo, FedWhole}
@@ -32,21 +31,15 @@ cuts_more o p q a b c one two = record {
 }
 
 pub cuts_to : (e : FrameFault) (o p : List ℕ) (a b c : List Frame) → Cuts o p a b → CutsTo e p b c → CutsTo e o a c
-cuts_to BadLength o p a b c one two = (two.0, cuts_more o p two.0 a b c one two.1, two.2)
-cuts_to BadKind o p a b c one two = (two.0, cuts_more o p two.0 a b c one two.1, two.2)
-cuts_to BadBody o p a b c one two = (two.0, cuts_more o p two.0 a b c one two.1, two.2)
-cuts_to Failed o p a b c one two = two
-cuts_to Memory o p a b c one two = (one.frames ++ two.0, two.1 ∙ ap (λ l. l ++ two.0) one.added ∙ append_assoc a one.frames two.0)
+cuts_to e o p a b c one (inl (is, (rest, cut, shown))) = inl (is, (rest, cuts_more o p rest a b c one cut, shown))
+cuts_to e o p a b c one (inr (is, (frames, added))) = inr (is, (one.frames ++ frames, added ∙ ap (λ l. l ++ frames) one.added ∙ append_assoc a one.frames frames))
 
 pub shorter : (o r : List ℕ) (f : Frame) → o ≡ frame_octets f ++ r → length r < length o
 shorter o r f e = omega (arith, ap length e, length-append (frame_octets f) r)
 
 pub finds_to : (e : FrameFault) (o : List ℕ) (b : List Frame) → FindsFrame o (Err e) → CutsTo e o b b
-finds_to BadLength o b is = (o, cuts_none o b, is)
-finds_to BadKind o b is = (o, cuts_none o b, is)
-finds_to BadBody o b is = (o, cuts_none o b, is)
-finds_to Failed o b is = is
-finds_to Memory o b is = ([], sym (append-nil b))
+finds_to e o b (inl (is, shown)) = inl (is, (o, cuts_none o b, shown))
+finds_to e o b (inr is) = inr (is, ([], sym (append-nil b)))
 
 -- what follows the frames is the end of the octets
 pub end_of : (o r : List ℕ) (b c : List Frame) → Cuts o r b c → drop (length o - length r) o ≡ r

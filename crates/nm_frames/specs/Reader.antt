@@ -1,5 +1,5 @@
 -- What a reader holds, and what it makes of a piece.
-use Rattle.std.specs.Prelude.{◌≡◌, ◌<◌, length, ℕ, Bool, true, false, List, [], ◌++◌, Option, Some, None, Result, Ok, Err}
+use Rattle.std.specs.Prelude.{◌≡◌, ◌⊎◌, ◌<◌, length, ℕ, Bool, true, false, List, [], ◌++◌, Option, Some, None, Result, Ok, Err}
 use Rattle.std.specs.List.{AllByRecursion}
 use Rattle.nm_frames.specs.declared.frame.Frame.{Frame}
 use Rattle.nm_frames.specs.declared.fault.FrameFault.{FrameFault}
@@ -13,15 +13,16 @@ pub record ReaderValue : Type 0 where
   pub rest : List ℕ
   pub failed : Bool
 
+-- a fault that the octets of a stream show
+abbrev pub IsOfStream : FrameFault → Type 0
+IsOfStream e = (e ≡ BadLength) ⊎ (e ≡ BadKind) ⊎ (e ≡ BadBody)
+
 -- what octets at the place of a frame came to
 abbrev pub FindsFrame : List ℕ → Result (Option (Frame × List ℕ)) FrameFault → Type 0
 FindsFrame octets (Ok None) = (fault_shown octets ≡ None) × IsShort octets
 FindsFrame octets (Ok (Some found)) = IsFrame found.0 × (octets ≡ frame_octets found.0 ++ found.1)
-FindsFrame octets (Err BadLength) = fault_shown octets ≡ Some BadLength
-FindsFrame octets (Err BadKind) = fault_shown octets ≡ Some BadKind
-FindsFrame octets (Err BadBody) = fault_shown octets ≡ Some BadBody
-FindsFrame octets (Err Failed) = ⊥
-FindsFrame octets (Err Memory) = Unit {0}
+FindsFrame octets (Err e) =
+    (IsOfStream e × (fault_shown octets ≡ Some e)) ⊎ (e ≡ Memory)
 
 -- The same of a call's answer, whose rest is lent.
 abbrev pub Found : {B : Type 0} → (B → List ℕ) → List ℕ → Result (Option (Frame × B)) FrameFault
@@ -37,16 +38,12 @@ pub record Cuts (octets rest : List ℕ) (before after : List Frame) : Type 0 wh
   pub each : AllByRecursion IsFrame frames
   pub parts : octets ≡ stream_octets frames ++ rest
 
--- up to the octets that show the fault
+-- up to the octets that show the fault, or until memory was refused
 abbrev pub CutsTo : FrameFault → List ℕ → List Frame → List Frame → Type 0
-CutsTo BadLength octets before after =
-    (rest : List ℕ) × Cuts octets rest before after × (fault_shown rest ≡ Some BadLength)
-CutsTo BadKind octets before after =
-    (rest : List ℕ) × Cuts octets rest before after × (fault_shown rest ≡ Some BadKind)
-CutsTo BadBody octets before after =
-    (rest : List ℕ) × Cuts octets rest before after × (fault_shown rest ≡ Some BadBody)
-CutsTo Failed octets before after = ⊥
-CutsTo Memory octets before after = (frames : List Frame) × (after ≡ before ++ frames)
+CutsTo e octets before after =
+    (IsOfStream e
+    × ((rest : List ℕ) × Cuts octets rest before after × (fault_shown rest ≡ Some e)))
+    ⊎ ((e ≡ Memory) × ((frames : List Frame) × (after ≡ before ++ frames)))
 
 -- one frame was cut off the front, or the octets are short, or show a fault
 abbrev pub CutsOne : {B : Type 0} → (B → List ℕ) → List ℕ → List Frame → List Frame

@@ -29,7 +29,7 @@ impl Model for Reader {
 }
 
 /// Puts the frame at the front of the octets into a list, and answers the octets after it.
-#[tactic(auto, using(crate::proofs::Cutting::finds_to, crate::proofs::Cutting::cuts_one, crate::proofs::Cutting::shorter))]
+#[tactic(auto, using(crate::proofs::Cutting::cuts_one, crate::proofs::Cutting::shorter))]
 fn cut_one<'a>(
     alloc: Global,
     octets: &'a [u8],

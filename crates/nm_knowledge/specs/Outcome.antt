@@ -1,5 +1,5 @@
 -- What a call leaves and answers, by the definitions.
-use Rattle.std.specs.Prelude.{◌≡◌, ℕ, ◌<◌, List, length, Some, None, Result, Ok, Err}
+use Rattle.std.specs.Prelude.{◌≡◌, ℕ, ◌<◌, true, List, length, Some, None, is_some, Result, Ok, Err}
 use Rattle.nm_model.specs.Knowledge.{Know, IsCompatible}
 use Rattle.nm_model.specs.Accept as model
 use Rattle.nm_model.specs.Join.{join, join_fault}
@@ -25,11 +25,10 @@ Joins old new other (Err Memory) =
     (join_fault same_octets old other ≡ None) × (length old.list < length other.list) × (new ≡ old)
 Joins old new other (Err f) = (join_fault same_octets old other ≡ reason f) × (new ≡ old)
 
--- whether two can be joined, and else the fault, which is never one of memory
+-- whether two can be joined, and else the model's fault, which memory is not
 abbrev pub Finds : Know (List ℕ) → Know (List ℕ) → Result Unit KnowFault → Type 0
 Finds a b (Ok _) = join_fault same_octets a b ≡ None
-Finds a b (Err Memory) = ⊥
-Finds a b (Err f) = join_fault same_octets a b ≡ reason f
+Finds a b (Err f) = (is_some (reason f) ≡ true) × (join_fault same_octets a b ≡ reason f)
 
 -- the join of two that are compatible; or messages of the other found no memory, or the two are
 -- not compatible, and nothing changed

@@ -1,5 +1,5 @@
 -- What accepting frames and joining do to knowledge that is valid for a history.
-use Rattle.std.proofs.Common.{◌≡◌, ℕ, suc, ◌<◌, ◌≤◌, Bool, true, false, cond, ltb, ◌==◌, List, [], ◌∷◌, ◌++◌, length, Option, Some, None, refl, sym, ap, ◌∙◌, subst, arith, true≢false, ⊎_elim, length-append}
+use Rattle.std.proofs.Common.{◌≡◌, inl, inr, ℕ, suc, ◌<◌, ◌≤◌, Bool, true, false, cond, ltb, ◌==◌, List, [], ◌∷◌, ◌++◌, length, Option, Some, None, refl, sym, ap, ◌∙◌, subst, arith, true≢false, ⊎_elim, length-append}
 use Rattle.std.proofs.lemmas.Bool.{cases_lt}
 use Rattle.std.proofs.lemmas.Bool.Decides.{nat_tests}
 use Rattle.nm_model.specs.Accept.{New, Known, Raised, Gap, Differs, Late, NotRising, Contrary, Accepted, last_from, same_message, data_at, accept_data, null_at, accept_null}
@@ -70,7 +70,7 @@ module _ {P : Type 0} where
         go (Some m) f =
             let g = prefix_nth _ _ n m v.begins f in
             let mb : m ≡ b = cc in
-            (subst IsFine (ap (λ z. cond z Known (Differs n)) (sym (same_self eq m b mb))) tt, v)
+            (inr (inr (inl (ap (λ z. cond z Known (Differs n)) (same_self eq m b mb)))), v)
         go None f = at_length (n == length a.list) refl
           where
             inside : n ≡ length a.list → nth H (length a.list) ≡ Some b
@@ -85,11 +85,11 @@ module _ {P : Type 0} where
                     let l = last_is b.0 a.list i in
                     let h = prefix_nth _ _ l.0 l.1 v.begins l.3 in
                     let r = rising l.0 n l.1 b (omega (arith, l.2)) h e in omega (arith, l.4))
-                rises false i = (tt, valid_next a H rising v b (inside z))
+                rises false i = (inl refl, valid_next a H rising v b (inside z))
 
             at_length : (z : Bool) → (n == length a.list) ≡ z → IsFine (cond z (cond (ltb b.0 a.clock) (record { answer = Late a.clock; after = a }) (cond {A = Accepted P} (last_from b.0 a.list) (record { answer = NotRising; after = a }) (record { answer = New; after = record { list = a.list ++ b ∷ []; clock = b.0 } }))) (record { answer = Gap (length a.list); after = a })).answer × IsValid (cond z (cond (ltb b.0 a.clock) (record { answer = Late a.clock; after = a }) (cond {A = Accepted P} (last_from b.0 a.list) (record { answer = NotRising; after = a }) (record { answer = New; after = record { list = a.list ++ b ∷ []; clock = b.0 } }))) (record { answer = Gap (length a.list); after = a })).after H
             at_length true g = timed (grind (arith, nat_tests)) (ltb b.0 a.clock) refl
-            at_length false g = (tt, v)
+            at_length false g = (inr (inr (inr (length a.list, refl))), v)
 
   -- null messages
   pub null_under : (a : Know P) (n t : ℕ) → IsUnder a (accept_null a n t).after
@@ -108,16 +108,16 @@ module _ {P : Type 0} where
   null_valid a H v n t h = go (nth a.list n) refl
     where
       go : (o : Option (ℕ × P)) → nth a.list n ≡ o → IsFine (null_at o a n t).answer × IsValid (null_at o a n t).after H
-      go (Some m) f = ((elim (ltb m.0 t) as (λ z. ltb m.0 t ≡ z → IsFine (cond z (Contrary n) Known)) [ true ↦ λ e. absurd (let g = prefix_nth _ _ n m v.begins f in let l = h n m (omega arith) g in let lt : m.0 < t = grind (arith, nat_tests) in omega arith) | false ↦ λ e. tt ]) refl, v)
+      go (Some m) f = ((elim (ltb m.0 t) as (λ z. ltb m.0 t ≡ z → IsFine (cond z (Contrary n) Known)) [ true ↦ λ e. absurd (let g = prefix_nth _ _ n m v.begins f in let l = h n m (omega arith) g in let lt : m.0 < t = grind (arith, nat_tests) in omega arith) | false ↦ λ e. inr (inr (inl refl)) ]) refl, v)
       go None f = at_length (n == length a.list) refl
         where
           raised : n ≡ length a.list → (z : Bool) → IsFine (cond {A = Accepted P} z (record { answer = Raised; after = record a { clock = t } }) (record { answer = Known; after = a })).answer × IsValid (cond {A = Accepted P} z (record { answer = Raised; after = record a { clock = t } }) (record { answer = Known; after = a })).after H
-          raised z true = (tt, valid_raised a H v t (λ i x le e. h i x (omega arith) e))
-          raised z false = (tt, v)
+          raised z true = (inr (inl refl), valid_raised a H v t (λ i x le e. h i x (omega arith) e))
+          raised z false = (inr (inr (inl refl)), v)
 
           at_length : (z : Bool) → (n == length a.list) ≡ z → IsFine (cond z (cond {A = Accepted P} (ltb a.clock t) (record { answer = Raised; after = record a { clock = t } }) (record { answer = Known; after = a })) (record { answer = Gap (length a.list); after = a })).answer × IsValid (cond z (cond {A = Accepted P} (ltb a.clock t) (record { answer = Raised; after = record a { clock = t } }) (record { answer = Known; after = a })) (record { answer = Gap (length a.list); after = a })).after H
           at_length true g = raised (grind (arith, nat_tests)) (ltb a.clock t)
-          at_length false g = (tt, v)
+          at_length false g = (inr (inr (inr (length a.list, refl))), v)
 
 module _ {P N : Type 0} (net : Net P N) (p : ℕ) (K : Knowledge P) where
   pub under_set : (c : ℕ) (a : Know P) → IsUnder (K c) a → IsUnderAll net p K (set_at K c a)

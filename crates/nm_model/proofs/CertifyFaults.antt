@@ -8,7 +8,7 @@ use Rattle.nm_model.specs.Join.{or_else}
 use Rattle.nm_model.specs.Partition.{comes_in, sender_of}
 use Rattle.nm_model.specs.Promise.{Promising, promise}
 use Rattle.nm_model.specs.World.{outgoing}
-use Rattle.nm_model.specs.Certificate.{Book, Fault, MissingPart, UnfinishedPart, PrefixFault, ClockFault, PromiseFault, is_done, Matches, Misses, IsFirstMismatch, AreThere, AreDone, FaultShows, first_of, first_below, has_part, prefix_fault, clock_fault, channel_fault, book_fault, certify}
+use Rattle.nm_model.specs.Certificate.{Book, CertificateFault, MissingPart, UnfinishedPart, PrefixFault, ClockFault, PromiseFault, is_done, Matches, Misses, IsFirstMismatch, AreThere, AreDone, FaultShows, first_of, first_below, has_part, prefix_fault, clock_fault, channel_fault, book_fault, certify}
 use Rattle.nm_model.proofs.ListLemmas.{not_some, number_is, number_tied}
 use Rattle.nm_model.proofs.Cut.{and_both, not_true, channel_inside}
 use Rattle.nm_model.proofs.Accepting.{same_self}
@@ -19,8 +19,8 @@ either : {A : Type 0} (o p : Option A) (x : A) → or_else o p ≡ Some x → (o
 either None p x e = inr (refl, e)
 either (Some y) p x e = inl e
 
-module _ {A : Type 0} (f : A → Option Fault) where
-  of_some : (l : List A) (x : Fault) → first_of f l ≡ Some x → (i : ℕ) × (a : A) × (nth l i ≡ Some a) × (f a ≡ Some x) × ((j : ℕ) (b : A) → j < i → nth l j ≡ Some b → f b ≡ None)
+module _ {A : Type 0} (f : A → Option CertificateFault) where
+  of_some : (l : List A) (x : CertificateFault) → first_of f l ≡ Some x → (i : ℕ) × (a : A) × (nth l i ≡ Some a) × (f a ≡ Some x) × ((j : ℕ) (b : A) → j < i → nth l j ≡ Some b → f b ≡ None)
   of_some [] x e = absurd (not_some x e)
   of_some (y ∷ l) x e = ⊎_elim
       (λ h. (0, y, refl, h, λ j b lt g. absurd (omega arith)))
@@ -31,31 +31,31 @@ module _ {A : Type 0} (f : A → Option Fault) where
       before n i h zero b lt g = let s : y ≡ b = cc in ap f (sym s) ∙ n
       before n i h (suc j) b lt g = h j b (omega arith) g
 
-below_some : (f : ℕ → Option Fault) (n : ℕ) (x : Fault) → first_below f n ≡ Some x → (i : ℕ) × (i < n) × (f i ≡ Some x) × ((j : ℕ) → j < i → f j ≡ None)
+below_some : (f : ℕ → Option CertificateFault) (n : ℕ) (x : CertificateFault) → first_below f n ≡ Some x → (i : ℕ) × (i < n) × (f i ≡ Some x) × ((j : ℕ) → j < i → f j ≡ None)
 below_some f zero x e = absurd (not_some x e)
 below_some f (suc n) x e = ⊎_elim
     (λ h. let r = below_some f n x h in (r.0, omega (arith, r.1), r.2, r.3))
     (λ h. (n, omega arith, h.1, below_none f n h.0))
     (either (first_below f n) (f n) x e)
 
-guard_some : (b : Bool) (o : Option Fault) (x : Fault) → cond b o None ≡ Some x → (b ≡ true) × (o ≡ Some x)
+guard_some : (b : Bool) (o : Option CertificateFault) (x : CertificateFault) → cond b o None ≡ Some x → (b ≡ true) × (o ≡ Some x)
 guard_some true o x e = (refl, e)
 guard_some false o x e = absurd (not_some x e)
 
-test_some : (b : Bool) (y x : Fault) → cond b None (Some y) ≡ Some x → (b ≡ false) × (y ≡ x)
+test_some : (b : Bool) (y x : CertificateFault) → cond b None (Some y) ≡ Some x → (b ≡ false) × (y ≡ x)
 test_some true y x e = absurd (not_some x e)
 test_some false y x e = (refl, cc)
 
-fault_some : (b : Bool) (y x : Fault) → cond b (Some y) None ≡ Some x → (b ≡ true) × (y ≡ x)
+fault_some : (b : Bool) (y x : CertificateFault) → cond b (Some y) None ≡ Some x → (b ≡ true) × (y ≡ x)
 fault_some true y x e = (refl, cc)
 fault_some false y x e = absurd (not_some x e)
 
 module _ {P : Type 0} (same : P → P → Bool) (eq : IsReflexive same) (tells : TellsApart same) (c : ℕ) where
   -- the first number at which two lists differ, counted from n, which the fault names
-  abbrev Found : Fault → ℕ → List (ℕ × P) → List (ℕ × P) → Type 0
+  abbrev Found : CertificateFault → ℕ → List (ℕ × P) → List (ℕ × P) → Type 0
   Found f n k l = (m : ℕ) × (PrefixFault c (n + m) ≡ f) × ((x : ℕ × P) × (nth k m ≡ Some x) × (nth l m ≢ Some x) × ((i : ℕ) → i < m → nth k i ≡ nth l i))
 
-  prefix_some : (n : ℕ) (k l : List (ℕ × P)) (f : Fault) → prefix_fault same c n k l ≡ Some f → Found f n k l
+  prefix_some : (n : ℕ) (k l : List (ℕ × P)) (f : CertificateFault) → prefix_fault same c n k l ≡ Some f → Found f n k l
   prefix_some n [] l f e = absurd (not_some f e)
   prefix_some n (x ∷ k) [] f e =
       let g : PrefixFault c n ≡ f = cc in
@@ -77,17 +77,17 @@ module _ {P : Type 0} (same : P → P → Bool) (eq : IsReflexive same) (tells :
           let z : n + 0 ≡ n = omega arith in
           (0, ap (PrefixFault c) z ∙ u, (x, refl, (λ q. let s : x ≡ y = cc in true≢false (sym (same_self same eq x y s) ∙ g)), λ i lt. absurd (omega arith)))
 
-  clock_some : (t : ℕ) (o : Option (ℕ × P)) (f : Fault) → clock_fault c t o ≡ Some f → (ClockFault c ≡ f) × ((b : ℕ × P) × (o ≡ Some b) × (b.0 < t))
+  clock_some : (t : ℕ) (o : Option (ℕ × P)) (f : CertificateFault) → clock_fault c t o ≡ Some f → (ClockFault c ≡ f) × ((b : ℕ × P) × (o ≡ Some b) × (b.0 < t))
   clock_some t None f e = absurd (not_some f e)
   clock_some t (Some b) f e = let r = fault_some (ltb b.0 t) (ClockFault c) f e in (r.1, (b, refl, grind (arith, nat_tests, r.0)))
 
-  promise_some : (p t : ℕ) (z : Bool) (f : Fault) → cond (ltb p t && not z) (Some (PromiseFault c)) None ≡ Some f → (PromiseFault c ≡ f) × (p < t) × (z ≡ false)
+  promise_some : (p t : ℕ) (z : Bool) (f : CertificateFault) → cond (ltb p t && not z) (Some (PromiseFault c)) None ≡ Some f → (PromiseFault c ≡ f) × (p < t) × (z ≡ false)
   promise_some p t z f e =
       let r = fault_some (ltb p t && not z) (PromiseFault c) f e in
       let b = and_both (ltb p t) (not z) r.0 in (r.1, grind (arith, nat_tests, b.0), not_true z b.1)
 
 module _ {P N : Type 0} (net : Net P N) (ok : IsNet net) (same : P → P → Bool) (eq : IsReflexive same) (tells : TellsApart same) (kind : Promising) where
-  channel_some : (c : ℕ) (r s : Book P) (f : Fault) → channel_fault net same kind c r s ≡ Some f → Misses net kind c r s f
+  channel_some : (c : ℕ) (r s : Book P) (f : CertificateFault) → channel_fault net same kind c r s ≡ Some f → Misses net kind c r s f
   channel_some c r s f e =
       let a = r.replica.knowledge c in
       let out = outgoing net s.part s.replica c in
@@ -95,23 +95,23 @@ module _ {P N : Type 0} (net : Net P N) (ok : IsNet net) (same : P → P → Boo
       ⊎_elim
       (λ h. let w = prefix_some same eq tells c 0 a.list out f h in
       let z : 0 + w.0 ≡ w.0 = omega arith in
-      subst (Misses net kind c r s) (sym (ap (PrefixFault c) z) ∙ w.1) (refl, w.2))
+      inl (w.0, sym w.1 ∙ ap (PrefixFault c) z, w.2))
       (λ h. let begins = prefix_none same eq tells c 0 a.list out h.0 in
       ⊎_elim
-      (λ g. let w = clock_some same eq tells c a.clock (nth out (length a.list)) f g in subst (Misses net kind c r s) w.0 (refl, begins, w.1))
-      (λ g. let w = promise_some same eq tells c p a.clock (last_from a.clock a.list) f g.1 in subst (Misses net kind c r s) w.0
-      (refl, begins, (λ b h. clock_none same eq tells c a.clock (nth out (length a.list)) g.0 b h), w.1, w.2))
+      (λ g. let w = clock_some same eq tells c a.clock (nth out (length a.list)) f g in inr (inl (sym w.0, (begins, w.1))))
+      (λ g. let w = promise_some same eq tells c p a.clock (last_from a.clock a.list) f g.1 in inr (inr
+      (sym w.0, (begins, (λ b h. clock_none same eq tells c a.clock (nth out (length a.list)) g.0 b h), w.1, w.2))))
       (either (clock_fault c a.clock (nth out (length a.list))) _ f h.1))
       (either (prefix_fault same c 0 a.list out) _ f e)
 
   module _ (books : List (Book P)) where
-    abbrev missing : ℕ → Option Fault
+    abbrev missing : ℕ → Option CertificateFault
     missing p = cond (has_part p books) None (Some (MissingPart p))
 
-    abbrev unfinished : Book P → Option Fault
+    abbrev unfinished : Book P → Option CertificateFault
     unfinished b = cond (is_done net b.part b.replica) None (Some (UnfinishedPart b.part))
 
-    abbrev on_channel : Book P → ℕ → Option Fault
+    abbrev on_channel : Book P → ℕ → Option CertificateFault
     on_channel r c = cond (comes_in net r.part c) (first_of (λ (s : Book P). cond (s.part == sender_of net c) (channel_fault net same kind c r s) None) books) None
 
     -- no fault of a receiving book on a channel
@@ -120,7 +120,7 @@ module _ {P N : Type 0} (net : Net P N) (ok : IsNet net) (same : P → P → Boo
         let one = of_none (λ (s : Book P). cond (s.part == sender_of net c) (channel_fault net same kind c r s) None) books (guard_none (comes_in net r.part c) _ e ch) l t g in
         channel_none net same eq tells kind c r t (guard_none (t.part == sender_of net c) _ one (ap (λ z. z == sender_of net c) pt ∙ number_tied (sender_of net c)))
 
-    mismatch : (f : Fault) → first_of (book_fault net same kind books) books ≡ Some f → IsFirstMismatch net kind books f
+    mismatch : (f : CertificateFault) → first_of (book_fault net same kind books) books ≡ Some f → IsFirstMismatch net kind books f
     mismatch f e =
         let row = of_some (book_fault net same kind books) books f e in
         let chan = below_some (on_channel row.1) net.ifaces f row.3 in
@@ -155,14 +155,15 @@ module _ {P N : Type 0} (net : Net P N) (ok : IsNet net) (same : P → P → Boo
     all_done e i b lt g = test_true (is_done net b.part b.replica) (UnfinishedPart b.part) (of_none unfinished books e i b g)
 
     -- a mismatch is one of these three faults
-    shown : (f : Fault) → AreThere net kind books net.parts → AreDone net kind books (length books) → IsFirstMismatch net kind books f → FaultShows net kind books f
-    shown (MissingPart p) t d m = absurd m.misses
-    shown (UnfinishedPart p) t d m = absurd m.misses
-    shown (PrefixFault c n) t d m = (t, d, m)
-    shown (ClockFault c) t d m = (t, d, m)
-    shown (PromiseFault c) t d m = (t, d, m)
+    shown : (f : CertificateFault) → AreThere net kind books net.parts → AreDone net kind books (length books) → IsFirstMismatch net kind books f → FaultShows net kind books f
+    shown f t d m = by_kind m.misses
+      where
+        by_kind : Misses net kind m.c m.r m.s f → FaultShows net kind books f
+        by_kind (inl (n, is, w)) = subst (FaultShows net kind books) (sym is) (t, d, subst (IsFirstMismatch net kind books) is m)
+        by_kind (inr (inl (is, w))) = subst (FaultShows net kind books) (sym is) (t, d, subst (IsFirstMismatch net kind books) is m)
+        by_kind (inr (inr (is, w))) = subst (FaultShows net kind books) (sym is) (t, d, subst (IsFirstMismatch net kind books) is m)
 
-    pub fault_shows : (f : Fault) → certify net same kind books ≡ Some f → FaultShows net kind books f
+    pub fault_shows : (f : CertificateFault) → certify net same kind books ≡ Some f → FaultShows net kind books f
     fault_shows f e = ⊎_elim
         (λ h.
         let r = below_some missing net.parts f h in

@@ -18,7 +18,7 @@ use Rattle.nm_model.specs.Promise.{Promising, promise}
 use Rattle.nm_model.specs.Before.{IsBefore, trace}
 use Rattle.nm_model.specs.World.{Replica, fresh, state_of, outgoing}
 use Rattle.nm_model.specs.Rounds.{given}
-use Rattle.nm_model.specs.Certificate.{Book, Fault, MissingPart, UnfinishedPart, PrefixFault, ClockFault, PromiseFault, is_done, AreFinished, Matches, IsCertified, first_of, first_below, has_part, prefix_fault, clock_fault, channel_fault, book_fault, certify}
+use Rattle.nm_model.specs.Certificate.{Book, CertificateFault, MissingPart, UnfinishedPart, PrefixFault, ClockFault, PromiseFault, is_done, AreFinished, Matches, IsCertified, first_of, first_below, has_part, prefix_fault, clock_fault, channel_fault, book_fault, certify}
 use Rattle.nm_model.proofs.ListLemmas.{not_some, number_is, bool_cases, number_tied, number_apart, same_number}
 use Rattle.nm_model.proofs.Scheduling.{IsAmong, put_from, put_elsewhere, among-append}
 use Rattle.nm_model.proofs.Cut.{and_both, not_true, channel_inside}
@@ -33,33 +33,33 @@ none_both : {A : Type 0} (o p : Option A) → o ≡ None → p ≡ None → or_e
 none_both None p e f = f
 none_both (Some x) p e f = absurd (cc)
 
-pub below_none : (f : ℕ → Option Fault) (n : ℕ) → first_below f n ≡ None → (i : ℕ) → i < n → f i ≡ None
+pub below_none : (f : ℕ → Option CertificateFault) (n : ℕ) → first_below f n ≡ None → (i : ℕ) → i < n → f i ≡ None
 below_none f zero e i lt = absurd (omega arith)
 below_none f (suc n) e i lt = ⊎_elim
     (λ h. below_none f n (left_none (first_below f n) (f n) e) i h)
     (λ h. let z : i ≡ n = omega arith in ap f z ∙ right_none (first_below f n) (f n) e)
     (cases_lt i n)
 
-none_below : (f : ℕ → Option Fault) (n : ℕ) → ((i : ℕ) → i < n → f i ≡ None) → first_below f n ≡ None
+none_below : (f : ℕ → Option CertificateFault) (n : ℕ) → ((i : ℕ) → i < n → f i ≡ None) → first_below f n ≡ None
 none_below f zero h = refl
 none_below f (suc n) h = none_both _ _ (none_below f n (λ i lt. h i (omega arith))) (h n (omega arith))
 
-pub guard_none : (b : Bool) (o : Option Fault) → cond b o None ≡ None → b ≡ true → o ≡ None
+pub guard_none : (b : Bool) (o : Option CertificateFault) → cond b o None ≡ None → b ≡ true → o ≡ None
 guard_none true o e h = e
 guard_none false o e h = absurd (true≢false (sym h))
 
-none_guard : (b : Bool) (o : Option Fault) → (b ≡ true → o ≡ None) → cond b o None ≡ None
+none_guard : (b : Bool) (o : Option CertificateFault) → (b ≡ true → o ≡ None) → cond b o None ≡ None
 none_guard true o h = h refl
 none_guard false o h = refl
 
-pub test_true : (b : Bool) (f : Fault) → cond b None (Some f) ≡ None → b ≡ true
+pub test_true : (b : Bool) (f : CertificateFault) → cond b None (Some f) ≡ None → b ≡ true
 test_true true f e = refl
 test_true false f e = absurd (cc)
 
-true_test : (b : Bool) (f : Fault) → b ≡ true → cond b None (Some f) ≡ None
+true_test : (b : Bool) (f : CertificateFault) → b ≡ true → cond b None (Some f) ≡ None
 true_test b f e = ap (λ z. cond z None (Some f)) e
 
-module _ {A : Type 0} (f : A → Option Fault) where
+module _ {A : Type 0} (f : A → Option CertificateFault) where
   pub of_none : (l : List A) → first_of f l ≡ None → (i : ℕ) (x : A) → nth l i ≡ Some x → f x ≡ None
   of_none [] e i x g = absurd (cc)
   of_none (y ∷ l) e zero x g = let s : y ≡ x = cc in ap f (sym s) ∙ left_none (f y) (first_of f l) e
@@ -118,7 +118,7 @@ module _ {P : Type 0} where
     none_clock t None h = refl
     none_clock t (Some m) h = let le = h m refl in let f : ltb m.0 t ≡ false = grind (arith, nat_tests) in ap (λ z. cond z (Some (ClockFault c)) None) f
 
-promise_none : (p t : ℕ) (z : Bool) (f : Fault) → cond (ltb p t && not z) (Some f) None ≡ None → (t ≤ p) ⊎ (z ≡ true)
+promise_none : (p t : ℕ) (z : Bool) (f : CertificateFault) → cond (ltb p t && not z) (Some f) None ≡ None → (t ≤ p) ⊎ (z ≡ true)
 promise_none p t true f e = inr refl
 promise_none p t false f e = go (ltb p t) refl e
   where
@@ -126,7 +126,7 @@ promise_none p t false f e = go (ltb p t) refl e
     go true g h = absurd (cc)
     go false g h = inl (grind (arith, nat_tests))
 
-none_promise : (p t : ℕ) (z : Bool) (f : Fault) → (t ≤ p) ⊎ (z ≡ true) → cond (ltb p t && not z) (Some f) None ≡ None
+none_promise : (p t : ℕ) (z : Bool) (f : CertificateFault) → (t ≤ p) ⊎ (z ≡ true) → cond (ltb p t && not z) (Some f) None ≡ None
 none_promise p t z f (inl le) = let h : ltb p t ≡ false = grind (arith, nat_tests) in ap (λ y. cond (y && not z) (Some f) None) h
 none_promise p t z f (inr h) = ap (λ y. cond (ltb p t && not y) (Some f) None) h ∙ go (ltb p t)
   where

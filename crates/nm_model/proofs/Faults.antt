@@ -93,13 +93,13 @@ module _ {P : Type 0} where
     fault_shows a b f e = go (first_differs same 0 a.list b.list) refl e
       where
         right : late_past b.clock (nth a.list (length b.list)) ≡ Some f → Shows a b f
-        right h = let l = late_shows b.clock 0 (nth a.list (length b.list)) f h in subst (Shows a b) (sym l.1) (inr (l.0, refl, l.2, l.3))
+        right h = let l = late_shows b.clock 0 (nth a.list (length b.list)) f h in inr (b.clock, l.1, inr (l.0, refl, l.2, l.3))
 
         past : (o : Option Answer) → late_past a.clock (nth b.list (length a.list)) ≡ o → or_else o (late_past b.clock (nth a.list (length b.list))) ≡ Some f → Shows a b f
         past None g h = right h
         past (Some x) g h =
             let s : x ≡ f = cc in
-            let l = late_shows a.clock 0 (nth b.list (length a.list)) f (g ∙ ap Some s) in subst (Shows a b) (sym l.1) (inl (l.0, refl, l.2, l.3))
+            let l = late_shows a.clock 0 (nth b.list (length a.list)) f (g ∙ ap Some s) in inr (a.clock, l.1, inl (l.0, refl, l.2, l.3))
 
         go : (o : Option ℕ) → first_differs same 0 a.list b.list ≡ o → or_else (differs_at o) (or_else (late_past a.clock (nth b.list (length a.list))) (late_past b.clock (nth a.list (length b.list)))) ≡ Some f → Shows a b f
         go None g h = past (late_past a.clock (nth b.list (length a.list))) refl h
@@ -107,7 +107,7 @@ module _ {P : Type 0} where
             let s : Differs n ≡ f = cc in
             let d = differ 0 n a.list b.list g in
             let z : d.0 ≡ n = omega (arith, d.3) in
-            subst (Shows a b) s (d.1, d.2, ap (nth a.list) (sym z) ∙ d.4, ap (nth b.list) (sym z) ∙ d.5, d.6, (λ m lt. d.7 m (omega arith)))
+            inl (n, sym s, (d.1, d.2, ap (nth a.list) (sym z) ∙ d.4, ap (nth b.list) (sym z) ∙ d.5, d.6, (λ m lt. d.7 m (omega arith))))
 
     -- a history of both is the longer list
     pub faultless_compatible : (a b : Know P) → IsKnow a → IsKnow b → join_fault same a b ≡ None → IsCompatible a b

@@ -18,17 +18,17 @@ pub record Book (P : Type 0) : Type 0 where
   pub part : ℕ
   pub replica : Replica P
 
-pub data Fault : Type 0 where
+pub data CertificateFault : Type 0 where
   -- this partition has no book
-  MissingPart : ℕ → Fault
+  MissingPart : ℕ → CertificateFault
   -- a book of this partition is not done
-  UnfinishedPart : ℕ → Fault
+  UnfinishedPart : ℕ → CertificateFault
   -- on this channel the receiver's message of this number isn't the sender's
-  PrefixFault : ℕ → ℕ → Fault
+  PrefixFault : ℕ → ℕ → CertificateFault
   -- on this channel the sender's next message is before the receiver's clock
-  ClockFault : ℕ → Fault
+  ClockFault : ℕ → CertificateFault
   -- on this channel the receiver's clock is past both the sender's promise and its own last message
-  PromiseFault : ℕ → Fault
+  PromiseFault : ℕ → CertificateFault
 
 module _ {P N : Type 0} (net : Net P N) where
   abbrev pub is_done : ℕ → Replica P → Bool
@@ -70,11 +70,12 @@ module _ {P N : Type 0} (net : Net P N) where
           → comes_in net r.part c ≡ true → s.part ≡ sender_of net c → Matches c r s
 
 -- the first fault of a list, and of the numbers below n
-abbrev pub first_of : {A : Type 0} → (A → Option Fault) → List A → Option Fault
+abbrev pub first_of : {A : Type 0} → (A → Option CertificateFault) → List A
+    → Option CertificateFault
 first_of f [] = None
 first_of f (x ∷ l) = or_else (f x) (first_of f l)
 
-abbrev pub first_below : (ℕ → Option Fault) → ℕ → Option Fault
+abbrev pub first_below : (ℕ → Option CertificateFault) → ℕ → Option CertificateFault
 first_below f zero = None
 first_below f (suc n) = or_else (first_below f n) (f n)
 
@@ -84,23 +85,23 @@ has_part p (b ∷ l) = (b.part == p) || has_part p l
 
 -- the first number at which the first list's message isn't the second's, counted from n
 abbrev pub prefix_fault : {P : Type 0} → (P → P → Bool) → ℕ → ℕ → List (ℕ × P) → List (ℕ × P)
-    → Option Fault
+    → Option CertificateFault
 prefix_fault same c n [] l = None
 prefix_fault same c n (x ∷ k) [] = Some (PrefixFault c n)
 prefix_fault same c n (x ∷ k) (y ∷ l) =
     cond (same_message same x y) (prefix_fault same c (suc n) k l) (Some (PrefixFault c n))
 
 -- the clock is past a promise, and past the last message
-abbrev pub promise_fault : {P : Type 0} → ℕ → Know P → ℕ → Option Fault
+abbrev pub promise_fault : {P : Type 0} → ℕ → Know P → ℕ → Option CertificateFault
 promise_fault c a promised =
     cond (ltb promised a.clock && not (last_from a.clock a.list)) (Some (PromiseFault c)) None
 
-abbrev pub clock_fault : {P : Type 0} → ℕ → ℕ → Option (ℕ × P) → Option Fault
+abbrev pub clock_fault : {P : Type 0} → ℕ → ℕ → Option (ℕ × P) → Option CertificateFault
 clock_fault c t None = None
 clock_fault c t (Some b) = cond (ltb b.0 t) (Some (ClockFault c)) None
 
 module _ {P N : Type 0} (net : Net P N) (same : P → P → Bool) (kind : Promising) where
-  abbrev pub channel_fault : ℕ → Book P → Book P → Option Fault
+  abbrev pub channel_fault : ℕ → Book P → Book P → Option CertificateFault
   channel_fault c r s =
       let a = r.replica.knowledge c in
       let out = outgoing net s.part s.replica c in
@@ -109,7 +110,7 @@ module _ {P N : Type 0} (net : Net P N) (same : P → P → Bool) (kind : Promis
       (promise_fault c a (promise net kind s.part s.replica.knowledge s.replica.ran c)))
 
   -- by receiving book, then channel, then sending book
-  abbrev pub book_fault : List (Book P) → Book P → Option Fault
+  abbrev pub book_fault : List (Book P) → Book P → Option CertificateFault
   book_fault books r =
       first_below (λ c. cond (comes_in net r.part c)
       (first_of (λ s. cond (s.part == sender_of net c) (channel_fault c r s) None) books) None)
@@ -117,7 +118,7 @@ module _ {P N : Type 0} (net : Net P N) (same : P → P → Bool) (kind : Promis
 
   -- the certificate's first fault: a partition with no book, a book that isn't done, a channel
   -- on which two books don't match
-  abbrev pub certify : List (Book P) → Option Fault
+  abbrev pub certify : List (Book P) → Option CertificateFault
   certify books =
       or_else (first_below (λ p. cond (has_part p books) None (Some (MissingPart p))) net.parts)
       (or_else
@@ -127,35 +128,44 @@ module _ {P N : Type 0} (net : Net P N) (same : P → P → Bool) (kind : Promis
       (first_of (book_fault books) books))
 
 module _ {P N : Type 0} (net : Net P N) (kind : Promising) where
-  -- what a fault shows of book r's knowledge of channel c beside book s: the first number at
-  -- which the sender's message is another or none; the sender's next message and that it is
-  -- before the clock; or that the clock, which is not past the sender's next message, is past
-  -- both the promise and the last message
-  abbrev pub Misses : ℕ → Book P → Book P → Fault → Type 0
-  Misses c r s (PrefixFault d n) =
-      (d ≡ c)
-      × ((x : ℕ × P) × (nth (r.replica.knowledge c).list n ≡ Some x)
+  -- book r's knowledge of channel c beside book s: this is the first number at which the sender's
+  -- message is another or none
+  abbrev pub MissesPrefix : ℕ → Book P → Book P → ℕ → Type 0
+  MissesPrefix c r s n =
+      (x : ℕ × P) × (nth (r.replica.knowledge c).list n ≡ Some x)
       × (nth (outgoing net s.part s.replica c) n ≢ Some x)
       × ((m : ℕ) → m < n
-      → nth (r.replica.knowledge c).list m ≡ nth (outgoing net s.part s.replica c) m))
-  Misses c r s (ClockFault d) =
-      (d ≡ c) × IsPrefix (r.replica.knowledge c).list (outgoing net s.part s.replica c)
+      → nth (r.replica.knowledge c).list m ≡ nth (outgoing net s.part s.replica c) m)
+
+  -- the sender's next message is before the clock
+  abbrev pub MissesClock : ℕ → Book P → Book P → Type 0
+  MissesClock c r s =
+      IsPrefix (r.replica.knowledge c).list (outgoing net s.part s.replica c)
       × ((b : ℕ × P)
       × (nth (outgoing net s.part s.replica c) (length (r.replica.knowledge c).list) ≡ Some b)
       × (b.0 < (r.replica.knowledge c).clock))
-  Misses c r s (PromiseFault d) =
-      (d ≡ c) × IsPrefix (r.replica.knowledge c).list (outgoing net s.part s.replica c)
+
+  -- the clock, which is not past the sender's next message, is past both the promise and the last
+  -- message
+  abbrev pub MissesPromise : ℕ → Book P → Book P → Type 0
+  MissesPromise c r s =
+      IsPrefix (r.replica.knowledge c).list (outgoing net s.part s.replica c)
       × ((b : ℕ × P)
       → nth (outgoing net s.part s.replica c) (length (r.replica.knowledge c).list) ≡ Some b
       → (r.replica.knowledge c).clock ≤ b.0)
       × (promise net kind s.part s.replica.knowledge s.replica.ran c
       < (r.replica.knowledge c).clock)
       × (last_from (r.replica.knowledge c).clock (r.replica.knowledge c).list ≡ false)
-  Misses c r s (MissingPart p) = ⊥
-  Misses c r s (UnfinishedPart p) = ⊥
+
+  -- what a fault shows of book r's knowledge of channel c beside book s
+  abbrev pub Misses : ℕ → Book P → Book P → CertificateFault → Type 0
+  Misses c r s f =
+      ((n : ℕ) × (f ≡ PrefixFault c n) × MissesPrefix c r s n)
+      ⊎ ((f ≡ ClockFault c) × MissesClock c r s)
+      ⊎ ((f ≡ PromiseFault c) × MissesPromise c r s)
 
   -- the first two books that do not match: by receiving book, then channel, then sending book
-  pub record IsFirstMismatch (books : List (Book P)) (f : Fault) : Type 0 where
+  pub record IsFirstMismatch (books : List (Book P)) (f : CertificateFault) : Type 0 where
     pub i : ℕ
     pub c : ℕ
     pub j : ℕ
@@ -186,7 +196,7 @@ module _ {P N : Type 0} (net : Net P N) (kind : Promising) where
 
   -- what the certificate's fault shows: the least partition that has no book; else the first
   -- book that is not done; else the first two books that do not match
-  abbrev pub FaultShows : List (Book P) → Fault → Type 0
+  abbrev pub FaultShows : List (Book P) → CertificateFault → Type 0
   FaultShows books (MissingPart p) = (p < net.parts) × AreThere books p
       × ((i : ℕ) (b : Book P) → nth books i ≡ Some b → b.part ≢ p)
   FaultShows books (UnfinishedPart p) =

@@ -2,7 +2,7 @@
 use Rattle.std.specs.Prelude.{◌≡◌, ◌≢◌, ◌⊎◌, ℕ, zero, suc, ◌<◌, max, Bool, cond, ltb, leb, length, List, [], ◌∷◌, Option, Some, None}
 use Rattle.nm_model.specs.Lists.{nth}
 use Rattle.nm_model.specs.Knowledge.{Knowledge, Know}
-use Rattle.nm_model.specs.Accept.{Answer, New, Raised, Known, Gap, Differs, Late, NotRising, Contrary, same_message}
+use Rattle.nm_model.specs.Accept.{Answer, Differs, Late, same_message}
 
 -- the longer list and the greater clock
 abbrev pub join : {P : Type 0} → Know P → Know P → Know P
@@ -42,21 +42,23 @@ join_fault same a b =
     (or_else (late_past a.clock (nth b.list (length a.list)))
     (late_past b.clock (nth a.list (length b.list))))
 
+-- the messages of this number are two, and those of all lower numbers the same
+abbrev pub DifferFirstAt : {P : Type 0} → Know P → Know P → ℕ → Type 0
+DifferFirstAt {P} a b n =
+    (x : ℕ × P) × (y : ℕ × P) × (nth a.list n ≡ Some x) × (nth b.list n ≡ Some y) × (x ≢ y)
+    × ((m : ℕ) → m < n → nth a.list m ≡ nth b.list m)
+
+-- the first message that b has past a's end is before a's clock, which is t
+abbrev pub IsLateFor : {P : Type 0} → Know P → Know P → ℕ → Type 0
+IsLateFor {P} a b t =
+    (x : ℕ × P) × (t ≡ a.clock) × (nth b.list (length a.list) ≡ Some x) × (x.0 < t)
+
 -- what a fault of a and b shows: other messages of this number, the first such; or one of the
 -- two clocks and the message before it
 abbrev pub Shows : {P : Type 0} → Know P → Know P → Answer → Type 0
-Shows {P} a b (Differs n) =
-    (x : ℕ × P) × (y : ℕ × P) × (nth a.list n ≡ Some x) × (nth b.list n ≡ Some y) × (x ≢ y)
-    × ((m : ℕ) → m < n → nth a.list m ≡ nth b.list m)
-Shows {P} a b (Late t) =
-    ((x : ℕ × P) × (t ≡ a.clock) × (nth b.list (length a.list) ≡ Some x) × (x.0 < t))
-    ⊎ ((x : ℕ × P) × (t ≡ b.clock) × (nth a.list (length b.list) ≡ Some x) × (x.0 < t))
-Shows a b New = ⊥
-Shows a b Raised = ⊥
-Shows a b Known = ⊥
-Shows a b (Gap n) = ⊥
-Shows a b NotRising = ⊥
-Shows a b (Contrary n) = ⊥
+Shows a b f =
+    ((n : ℕ) × (f ≡ Differs n) × DifferFirstAt a b n)
+    ⊎ ((t : ℕ) × (f ≡ Late t) × (IsLateFor a b t ⊎ IsLateFor b a t))
 
 abbrev pub at_channel : ℕ → Option Answer → Option (ℕ × Answer)
 at_channel c None = None

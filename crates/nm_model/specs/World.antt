@@ -1,10 +1,10 @@
 -- Replicas that run, send, hear, merge and restart, over every schedule. Each step is atomic.
-use Rattle.std.specs.Prelude.{ℕ, zero, suc, ◌-◌, Bool, cond, ◌&&◌, ltb, leb, length, drop, List, [], ◌∷◌, ◌++◌, Option, Some, None}
+use Rattle.std.specs.Prelude.{◌≡◌, ◌⊎◌, ℕ, zero, suc, ◌-◌, Bool, cond, ◌&&◌, ltb, leb, length, drop, List, [], ◌∷◌, ◌++◌, Option, Some, None}
 use Rattle.nm_model.specs.Lists.{nth, set_at}
 use Rattle.nm_model.specs.Network.{Net}
 use Rattle.nm_model.specs.Run.{State, pends_before}
 use Rattle.nm_model.specs.Knowledge.{Knowledge, no_knowledge}
-use Rattle.nm_model.specs.Accept.{Answer, New, Raised, Known, Gap, Differs, Late, NotRising, Contrary, Accepted, accept_data, accept_null}
+use Rattle.nm_model.specs.Accept.{Answer, New, Raised, Known, Gap, Accepted, accept_data, accept_null}
 use Rattle.nm_model.specs.Join.{join_all, join_faults}
 use Rattle.nm_model.specs.Partition.{goes_out, receiver_of}
 use Rattle.nm_model.specs.Replica.{from_scratch, safe_time}
@@ -190,14 +190,7 @@ module _ {P N : Type 0} (net : Net P N) where
 
 -- of all refusals only a gap
 abbrev pub IsFine : Answer → Type 0
-IsFine New = Unit {0}
-IsFine Raised = Unit {0}
-IsFine Known = Unit {0}
-IsFine (Gap n) = Unit {0}
-IsFine (Differs n) = ⊥
-IsFine (Late n) = ⊥
-IsFine NotRising = ⊥
-IsFine (Contrary n) = ⊥
+IsFine a = (a ≡ New) ⊎ (a ≡ Raised) ⊎ (a ≡ Known) ⊎ ((n : ℕ) × (a ≡ Gap n))
 
 abbrev pub IsFineOutcome : Outcome → Type 0
 IsFineOutcome (All n) = Unit {0}

@@ -6,7 +6,8 @@ ghost use Rattle.nm_model.specs.Accept.{IsReflexive, TellsApart};
 ghost use Rattle.nm_model.specs.Promise.{Promising};
 ghost use Rattle.nm_model.specs.Before.{IsBefore, trace};
 ghost use Rattle.nm_model.specs.World.{Replica, fresh};
-ghost use Rattle.nm_model.specs.Certificate.{Book, Fault, FaultShows, AreFinished, IsCertified};
+ghost use Rattle.nm_model.specs.Certificate.{AreFinished, Book, CertificateFault, FaultShows};
+ghost use Rattle.nm_model.specs.Certificate.{IsCertified};
 ghost use Rattle.nm_model.specs.Certificate.{is_done, certify};
 ghost use Rattle.nm_model.specs.WorldLaws.{HasWholeTrace};
 ghost use Rattle.nm_model.specs.CertificateLaws.{AreWithin, ClocksArePromised, HaveWholeTraces};
@@ -45,7 +46,7 @@ pub fn certified_clocks_are_promised<P, N>()
 /// that do not match, and where.
 pub fn certify_faults_are_right<P, N>()
     ensures { (net : Net P N) → IsNet net → (same : P → P → Bool) → IsReflexive same
-        → TellsApart same → (kind : Promising) (books : List (Book P)) (f : Fault)
+        → TellsApart same → (kind : Promising) (books : List (Book P)) (f : CertificateFault)
         → certify net same kind books ≡ Some f → FaultShows net kind books f }
 {}
 

@@ -2,8 +2,9 @@
 use Rattle.std.specs.Prelude.{◌≡◌, ◌⊎◌, ℕ, ◌+◌, ◌≤◌, ◌<◌, ◌==◌, ◌&&◌, Bool, true, false, List, length, slice_index_or, Option, Some, None, if◌then◌else◌}
 use Rattle.nm_engine.specs.declared.answer.Cause.{Cause}
 use Rattle.nm_engine.specs.declared.answer.Cause.TheVariants as cause
-use Rattle.nm_files.specs.declared.trace_files.FilesFault.{FilesFault}
-use Rattle.nm_files.specs.declared.trace_files.FilesFault.TheVariants as fault
+use Rattle.nm_base.specs.declared.fault.Fault.{Fault}
+use Rattle.nm_base.specs.declared.fault.Fault.TheVariants as fault
+use Rattle.nm_files.specs.declared.trace_files.FileFault.{FileFault}
 use Rattle.nm_book.specs.Book.{BookValue, replica_of, state_of}
 use Rattle.nm_model.specs.Certificate.{is_done}
 use Rattle.nm_shared.specs.Known.{Home, home_of}
@@ -24,8 +25,8 @@ break_served cause.Book is_peer = Some Net
 break_served cause.Memory is_peer = Some Memory
 
 -- how serving ends where trace files were not written on
-abbrev pub file_served : FilesFault → Served
-file_served (fault.File f) = File f.iface f.written
+abbrev pub file_served : Fault FileFault → Served
+file_served (fault.Refused f) = File f.iface f.written
 file_served fault.Memory = Memory
 
 -- nothing is left to do for the replica
@@ -80,8 +81,5 @@ EndsWith exact own keeps limit before after (Stalled polls) =
 
 -- how serving ends where the replica was not seen to be done, and is not stalled
 abbrev pub EndsEarly : Served → Type 0
-EndsEarly Ended = ⊥
-EndsEarly Net = Unit {0}
-EndsEarly Memory = Unit {0}
-EndsEarly (File iface written) = Unit {0}
-EndsEarly (Stalled polls) = ⊥
+EndsEarly s =
+    (s ≡ Net) ⊎ (s ≡ Memory) ⊎ ((iface : ℕ) × (written : ℕ) × (s ≡ File iface written))

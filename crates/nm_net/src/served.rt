@@ -52,7 +52,7 @@ pub(crate) fn file_served(fault: FilesFault) -> Served
     ensures early { EndsEarly result }
 {
     match fault {
-        FilesFault::File(FileFault { iface, written }) => Served::File { iface, written },
+        FilesFault::Refused(FileFault { iface, written }) => Served::File { iface, written },
         FilesFault::Memory => Served::Memory,
     }
 }

@@ -6,8 +6,9 @@ use Rattle.std.specs.Net.Text.{socket_v4_text}
 use Rattle.std.specs.declared.vec.Vec.{Vec}
 use Rattle.std.specs.declared.alloc.Global.{Global}
 use Rattle.nm_peers.specs.declared.listener.Listener.{Listener}
-use Rattle.nm_peers.specs.declared.fault.ListenersFault.{ListenersFault}
-use Rattle.nm_peers.specs.declared.fault.ListenersFault.TheVariants.{Refused, Memory}
+use Rattle.nm_base.specs.declared.fault.Fault.{Fault}
+use Rattle.nm_base.specs.declared.fault.Fault.TheVariants.{Refused, Memory}
+use Rattle.nm_peers.specs.declared.fault.NoListeners.{NoListeners}
 
 -- `P R A.B.C.D:PORT`
 abbrev pub listener_words : Listener → List ℕ
@@ -43,10 +44,10 @@ pub record AreListeners (text : List ℕ) (partitions partition replica : ℕ)
   pub own : list_any (is_of partition replica) listeners ≡ true
 
 -- the listeners that the text says; or it says none; or memory was refused
-abbrev pub ReadsListeners : List ℕ → ℕ → ℕ → ℕ → Result (Vec Listener Global) ListenersFault
-    → Type 0
+abbrev pub ReadsListeners : List ℕ → ℕ → ℕ → ℕ
+    → Result (Vec Listener Global) (Fault NoListeners) → Type 0
 ReadsListeners text partitions partition replica (Ok listeners) =
     AreListeners text partitions partition replica listeners.items
-ReadsListeners text partitions partition replica (Err Refused) =
+ReadsListeners text partitions partition replica (Err (Refused none)) =
     (listeners : List Listener) → AreListeners text partitions partition replica listeners → ⊥
 ReadsListeners text partitions partition replica (Err Memory) = Unit {0}

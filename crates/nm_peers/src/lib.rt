@@ -8,7 +8,7 @@ pub mod listener;
 pub mod peers;
 pub mod read;
 
-pub use fault::ListenersFault;
+pub use fault::{ListenersFault, NoListeners};
 pub use listener::Listener;
 pub use peers::{Peers, peers_of};
 pub use read::read_listeners;

@@ -4,7 +4,7 @@ ghost use Rattle.std.specs.Prelude.{◌≡◌};
 ghost use Rattle.std.specs.List.{list_any};
 ghost use Rattle.nm_peers.specs.Listeners.{ReadsListeners, is_of};
 
-use crate::fault::ListenersFault;
+use crate::fault::{ListenersFault, NoListeners};
 use crate::line::listener_of;
 use crate::listener::Listener;
 use nm_base::{PartNo, split_once};
@@ -40,19 +40,19 @@ pub fn read_listeners(
     let mut rest = text;
     while let Some((line, after)) = split_once(rest, b'\n') {
         let Some(listener) = listener_of(line, partitions) else {
-            return Err(ListenersFault::Refused);
+            return Err(ListenersFault::Refused(NoListeners));
         };
         if has(&listeners, listener.partition, listener.replica) {
-            return Err(ListenersFault::Refused);
+            return Err(ListenersFault::Refused(NoListeners));
         }
         listeners.push(listener)?;
         rest = after;
     }
     if !rest.is_empty() {
-        return Err(ListenersFault::Refused);
+        return Err(ListenersFault::Refused(NoListeners));
     }
     if !has(&listeners, partition, replica) {
-        return Err(ListenersFault::Refused);
+        return Err(ListenersFault::Refused(NoListeners));
     }
     Ok(listeners)
 }

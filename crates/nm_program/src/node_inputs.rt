@@ -35,7 +35,7 @@ fn read_texts(
     let count = network.partitions();
     match read_listeners(alloc, addresses, count, words.partition, words.replica) {
         Ok(listeners) => Ok((share(alloc, network)?, listeners)),
-        Err(ListenersFault::Refused) => Err(Status::Usage),
+        Err(ListenersFault::Refused(_)) => Err(Status::Usage),
         Err(ListenersFault::Memory) => Err(Status::Memory),
     }
 }

@@ -3,7 +3,6 @@ use Rattle.std.proofs.Common.{◌≡◌, ℕ, zero, suc, ◌≤◌, Bool, true, 
 use Rattle.std.proofs.lemmas.Bool.{cases_lt}
 use Rattle.nm_knowledge.specs.Octets.{same_octets}
 use Rattle.nm_knowledge.specs.declared.answer.Accepted.{Accepted}
-use Rattle.nm_knowledge.specs.declared.answer.KnowFault.TheVariants.{Gap, Differs, Late, NotRising, Memory as NoSpace, Contrary}
 use Rattle.nm_model.specs.Accept as model
 use Rattle.nm_model.specs.Join.{join, join_fault}
 use Rattle.nm_model.specs.Knowledge.{IsKnow, IsUnder, Know, nothing_known}
@@ -18,7 +17,6 @@ use Rattle.nm_book.specs.Laws.{AreSisters}
 use Rattle.nm_book.specs.Merging.{MergesChannels}
 use Rattle.nm_book.specs.Running.{Runs}
 use Rattle.nm_book.specs.declared.fault.AcceptFault.{AcceptFault}
-use Rattle.nm_book.specs.declared.fault.AcceptFault.TheVariants.{Known, Stranger}
 use Rattle.nm_book.specs.declared.fault.MergeFault.{MergeFault}
 use Rattle.nm_book.specs.declared.fault.MergeFault.TheVariants.{Stranger as NotMine, Channel, Memory as NoRoom}
 use Rattle.nm_book.specs.declared.message.ChannelMessage.{ChannelMessage}
@@ -89,13 +87,7 @@ module _ (reflexive : (a : Know (List ℕ)) → IsUnder a a)
         under = set_under reflexive ks (message_channel m) (message_taken ks m).after (taken_under ks m);
         order = set_order ks (message_channel m) (message_taken ks m).after order (taken_order ks m order);
       })
-  learned ks js m (Err Stranger) order l = absurd l
-  learned ks js m (Err (Known (Gap n))) order l = same_adds reflexive ks js order l.1
-  learned ks js m (Err (Known (Differs n))) order l = same_adds reflexive ks js order l.1
-  learned ks js m (Err (Known (Late n))) order l = same_adds reflexive ks js order l.1
-  learned ks js m (Err (Known NotRising)) order l = same_adds reflexive ks js order l.1
-  learned ks js m (Err (Known NoSpace)) order l = same_adds reflexive ks js order l.1
-  learned ks js m (Err (Known (Contrary n))) order l = same_adds reflexive ks js order l.1
+  learned ks js m (Err e) order l = same_adds reflexive ks js order l.3
 
   learned_if : (q : Bool) (ks js : List (Know (List ℕ))) (m : ChannelMessage) (r : Result Accepted AcceptFault) → AreInOrder ks → LearnsIf q ks js (message_channel m) (message_taken ks m) r → Adds ks js
   learned_if true ks js m r order l = learned ks js m r order l

@@ -6,7 +6,7 @@ use Rattle.std.proofs.lemmas.Bool.Decides.{nat_tests}
 use Rattle.std.proofs.lemmas.List.Kept.{AllPairs-from_increasing}
 use Rattle.nm_topology.specs.Topology.{channel_from, receiving_iface}
 use Rattle.nm_topology.specs.TopologyValue.{TopologyValue}
-use Rattle.nm_model.specs.Certificate.{Fault, first_below}
+use Rattle.nm_model.specs.Certificate.{CertificateFault, first_below}
 use Rattle.nm_model.specs.Knowledge.{Know, nothing_known}
 use Rattle.nm_model.specs.Network.{Net}
 use Rattle.nm_model.specs.Partition.{comes_in, goes_out, sender_of}
@@ -44,7 +44,7 @@ knows_of t b d k same numbered none comes is =
 pub receivers_rise : (t : TopologyValue) → IsStrictlyIncreasing t.receivers → (c d : ℕ) → c < d → d < length t.receivers → receiving_iface t c < receiving_iface t d
 receivers_rise t rises c d lt there = AllPairs-from_increasing t.receivers rises c d (length t.ifaces) lt there
 
-module _ (t : TopologyValue) (p : ℕ) (f : ℕ → Option Fault)
+module _ (t : TopologyValue) (p : ℕ) (f : ℕ → Option CertificateFault)
     (numbered : (i : ℕ) → comes_in (net_of t) p i ≡ true → (c : ℕ) × (c < length t.receivers) × (receiving_iface t c ≡ i) × (1 ≤ (net_of t).delay i))
     (elsewhere : (i : ℕ) → comes_in (net_of t) p i ≡ false → f i ≡ None) where
   -- the channels below number n have no fault
@@ -60,7 +60,7 @@ module _ (t : TopologyValue) (p : ℕ) (f : ℕ → Option Fault)
 
   -- channel n has the first
   pub this_channel : ((c d : ℕ) → c < d → d < length t.receivers → receiving_iface t c < receiving_iface t d)
-      → (n m : ℕ) (x : Fault) → receiving_iface t n < m → ((d : ℕ) → d < n → f (receiving_iface t d) ≡ None)
+      → (n m : ℕ) (x : CertificateFault) → receiving_iface t n < m → ((d : ℕ) → d < n → f (receiving_iface t d) ≡ None)
       → n < length t.receivers → f (receiving_iface t n) ≡ Some x → first_below f m ≡ Some x
   this_channel rising n m x inside none there here =
       first_is f m (receiving_iface t n) x inside (none_below f (receiving_iface t n) (λ i h. none_at n none i (λ d lt e. earlier i h d lt e))) here

@@ -1,7 +1,7 @@
 -- Books in a list, and messages of two lists, one after another.
 use Rattle.std.proofs.Common.{◌≡◌, ℕ, zero, suc, ◌+◌, ◌<◌, ◌≤◌, All, Contains, true, false, cond, List, [], ◌∷◌, length, map, drop, get_or, Option, Some, None, refl, sym, ap, ◌∙◌, subst, arith}
 use Rattle.std.proofs.lemmas.List.{at_drop_more, at_drop_all, get_or-map, length-map}
-use Rattle.nm_model.specs.Certificate.{Book, Fault, PrefixFault, first_of, prefix_fault}
+use Rattle.nm_model.specs.Certificate.{Book, CertificateFault, PrefixFault, first_of, prefix_fault}
 use Rattle.nm_model.specs.Join.{or_else}
 use Rattle.nm_model.specs.Lists.{nth}
 use Rattle.nm_model.proofs.ListLemmas.{nth_below}
@@ -20,24 +20,24 @@ module _ {A : Type 0} (value : A → BookValue) (l : List A) (n : ℕ) (x : A) (
   is_contained = (n, omega (arith, length-map l value), get_or-map value l n x (value x) there ∙ ap value (sym is))
 
   -- the first fault from the n-th on is its own, or one behind it
-  pub first_at : (f : Book (List ℕ) → Option Fault)
+  pub first_at : (f : Book (List ℕ) → Option CertificateFault)
       → first_of f (books_of (map value (drop n l))) ≡ or_else (f (book_of (value x))) (first_of f (books_of (map value (drop (n + 1) l))))
   first_at f =
       at_drop_more (λ z. first_of f (books_of (map value z))) l n x there
       ∙ ap (λ y. or_else (f (book_of (value y))) (first_of f (books_of (map value (drop (n + 1) l))))) (sym is)
 
-  pub first_behind : (f : Book (List ℕ) → Option Fault) → f (book_of (value x)) ≡ None
+  pub first_behind : (f : Book (List ℕ) → Option CertificateFault) → f (book_of (value x)) ≡ None
       → first_of f (books_of (map value (drop n l))) ≡ first_of f (books_of (map value l))
       → first_of f (books_of (map value (drop (n + 1) l))) ≡ first_of f (books_of (map value l))
   first_behind f none rest = ap (λ o. or_else o (first_of f (books_of (map value (drop (n + 1) l))))) (sym none) ∙ sym (first_at f) ∙ rest
 
-  pub first_here : (f : Book (List ℕ) → Option Fault) (fault : Fault) → f (book_of (value x)) ≡ Some fault
+  pub first_here : (f : Book (List ℕ) → Option CertificateFault) (fault : CertificateFault) → f (book_of (value x)) ≡ Some fault
       → first_of f (books_of (map value (drop n l))) ≡ first_of f (books_of (map value l))
       → first_of f (books_of (map value l)) ≡ Some fault
   first_here f fault found rest = sym rest ∙ first_at f ∙ ap (λ o. or_else o (first_of f (books_of (map value (drop (n + 1) l))))) found
 
 -- behind the last there is no fault
-pub first_past : {A : Type 0} (value : A → BookValue) (l : List A) (n : ℕ) → length l ≤ n → (f : Book (List ℕ) → Option Fault)
+pub first_past : {A : Type 0} (value : A → BookValue) (l : List A) (n : ℕ) → length l ≤ n → (f : Book (List ℕ) → Option CertificateFault)
     → first_of f (books_of (map value (drop n l))) ≡ first_of f (books_of (map value l)) → first_of f (books_of (map value l)) ≡ None
 first_past value l n past f rest = sym rest ∙ at_drop_all (λ z. first_of f (books_of (map value z))) l n past
 

@@ -5,7 +5,7 @@ use Rattle.nm_topology.specs.Topology.{receiving_iface}
 use Rattle.nm_topology.specs.TopologyValue.{TopologyValue}
 use Rattle.nm_model.specs.Accept.{last_from}
 use Rattle.nm_model.specs.Before.{IsBefore, trace}
-use Rattle.nm_model.specs.Certificate.{Book, Fault, MissingPart, UnfinishedPart, PrefixFault, ClockFault, PromiseFault, FaultShows, IsCertified, certify, clock_fault, first_below, prefix_fault}
+use Rattle.nm_model.specs.Certificate.{Book, CertificateFault, ClockFault, PromiseFault, FaultShows, IsCertified, certify, clock_fault, first_below, prefix_fault}
 use Rattle.nm_model.specs.Join.{or_else}
 use Rattle.nm_model.specs.Knowledge.{Know}
 use Rattle.nm_model.specs.Lists.{nth}
@@ -21,19 +21,14 @@ use Rattle.nm_rounds.specs.declared.certify.CertFault.{CertFault}
 use Rattle.nm_rounds.specs.declared.certify.CertFault.TheVariants.{Topology, Missing, Unfinished, Prefix, Clock, Promise}
 
 -- a fault that was found is the model's
-pub found : (t : TopologyValue) (o : Option Fault) (e : CertFault) → FindsFault t o (Err e) → (f : Fault) × (o ≡ Some f) × ((p : Option Fault) → p ≡ Some f → FindsFault t p (Err e))
-found t o Topology h = absurd h
-found t o (Missing p) h = (MissingPart p, h, λ q k. k)
-found t o (Unfinished p) h = (UnfinishedPart p, h, λ q k. k)
-found t o (Prefix c n) h = (PrefixFault (receiving_iface t c) n, h, λ q k. k)
-found t o (Clock c) h = (ClockFault (receiving_iface t c), h, λ q k. k)
-found t o (Promise c) h = (PromiseFault (receiving_iface t c), h, λ q k. k)
+pub found : (t : TopologyValue) (o : Option CertificateFault) (e : CertFault) → FindsFault t o (Err e) → (f : CertificateFault) × (o ≡ Some f) × ((p : Option CertificateFault) → p ≡ Some f → FindsFault t p (Err e))
+found t o e (f, is, here) = (f, here, λ q k. (f, is, k))
 
 -- a step's fault is that of all steps where those before it found none
-pub first_step : (t : TopologyValue) (o p : Option Fault) (e : CertFault) → FindsFault t o (Err e) → FindsFault t (or_else o p) (Err e)
+pub first_step : (t : TopologyValue) (o p : Option CertificateFault) (e : CertFault) → FindsFault t o (Err e) → FindsFault t (or_else o p) (Err e)
 first_step t o p e h = let s = found t o e h in s.2 (or_else o p) (ap (λ z. or_else z p) s.1)
 
-pub next_step : (t : TopologyValue) (o p : Option Fault) (r : Result Unit CertFault) → o ≡ None → FindsFault t p r → FindsFault t (or_else o p) r
+pub next_step : (t : TopologyValue) (o p : Option CertificateFault) (r : Result Unit CertFault) → o ≡ None → FindsFault t p r → FindsFault t (or_else o p) r
 next_step t o p r none h = subst (λ z. FindsFault t z r) (ap (λ z. or_else z p) (sym none)) h
 
 pub ifaces_are : (t : TopologyValue) → (net_of t).ifaces ≡ length t.ifaces
@@ -41,11 +36,11 @@ unfolding net_of
 ifaces_are t = refl
 
 -- the first fault below a number
-pub none_below : (f : ℕ → Option Fault) (n : ℕ) → ((i : ℕ) → i < n → f i ≡ None) → first_below f n ≡ None
+pub none_below : (f : ℕ → Option CertificateFault) (n : ℕ) → ((i : ℕ) → i < n → f i ≡ None) → first_below f n ≡ None
 none_below f zero h = refl
 none_below f (suc n) h = ap₂ (λ o p. or_else o p) (none_below f n (λ i lt. h i (omega arith))) (h n (omega arith))
 
-pub first_is : (f : ℕ → Option Fault) (n i : ℕ) (x : Fault) → i < n → first_below f i ≡ None → f i ≡ Some x → first_below f n ≡ Some x
+pub first_is : (f : ℕ → Option CertificateFault) (n i : ℕ) (x : CertificateFault) → i < n → first_below f i ≡ None → f i ≡ Some x → first_below f n ≡ Some x
 first_is f zero i x lt none here = absurd (omega arith)
 first_is f (suc n) i x lt none here = ⊎_elim
     (λ h. ap (λ o. or_else o (f n)) (first_is f n i x h none here))
@@ -53,6 +48,11 @@ first_is f (suc n) i x lt none here = ⊎_elim
     (cases_lt i n)
 
 -- the fault of a channel, by its three tests
+pub prefix_shown : (i : ℕ) (a : Know (List ℕ)) (sent : List (ℕ × List ℕ)) (promised : ℕ) (f : CertificateFault)
+    → prefix_fault same_octets i 0 a.list sent ≡ Some f → list_fault i a sent promised ≡ Some f
+prefix_shown i a sent promised f here =
+    ap (λ o. or_else o (or_else (clock_fault i a.clock (nth sent (length a.list))) (cond (ltb promised a.clock && not (last_from a.clock a.list)) (Some (PromiseFault i)) None))) here
+
 module _ (i : ℕ) (a : Know (List ℕ)) (sent : List (ℕ × List ℕ)) (promised : ℕ) (prefix : prefix_fault same_octets i 0 a.list sent ≡ None) where
   pub clock_shown : clock_fault i a.clock (nth sent (length a.list)) ≡ Some (ClockFault i) → list_fault i a sent promised ≡ Some (ClockFault i)
   clock_shown clock =
@@ -88,17 +88,17 @@ is_book (v ∷ l) (suc i) d h = is_book l i d (omega arith)
 
 module _ (t : TopologyValue) (books : List BookValue) (ours : AreOf t books) where
   -- a fault shows what the model's shows, and where there is none the books are certified
-  refused : ((f : Fault) → certify (net_of t) same_octets Tight (books_of books) ≡ Some f → FaultShows (net_of t) Tight (books_of books) f)
+  refused : ((f : CertificateFault) → certify (net_of t) same_octets Tight (books_of books) ≡ Some f → FaultShows (net_of t) Tight (books_of books) f)
       → (e : CertFault) → FindsFault t (certify (net_of t) same_octets Tight (books_of books)) (Err e) → Certifies t books (Err e)
-  refused shows Topology h = absurd h
-  refused shows (Missing p) h = (ours, shows _ h)
-  refused shows (Unfinished p) h = (ours, shows _ h)
-  refused shows (Prefix c n) h = (ours, shows _ h)
-  refused shows (Clock c) h = (ours, shows _ h)
-  refused shows (Promise c) h = (ours, shows _ h)
+  refused shows Topology (f, is, here) = absurd (let g : None ≡ Some f = is in cc)
+  refused shows (Missing p) (f, is, here) = (ours, shows _ (here ∙ sym is))
+  refused shows (Unfinished p) (f, is, here) = (ours, shows _ (here ∙ sym is))
+  refused shows (Prefix c n) (f, is, here) = (ours, shows _ (here ∙ sym is))
+  refused shows (Clock c) (f, is, here) = (ours, shows _ (here ∙ sym is))
+  refused shows (Promise c) (f, is, here) = (ours, shows _ (here ∙ sym is))
 
   pub answered : (certify (net_of t) same_octets Tight (books_of books) ≡ None → AreCertified t books)
-      → ((f : Fault) → certify (net_of t) same_octets Tight (books_of books) ≡ Some f → FaultShows (net_of t) Tight (books_of books) f)
+      → ((f : CertificateFault) → certify (net_of t) same_octets Tight (books_of books) ≡ Some f → FaultShows (net_of t) Tight (books_of books) f)
       → (r : Result Unit CertFault) → FindsFault t (certify (net_of t) same_octets Tight (books_of books)) r → Certifies t books r
   answered sound shows (Ok u) h = sound h
   answered sound shows (Err e) h = refused shows e h
@@ -139,7 +139,7 @@ module _ (t : TopologyValue) (books : List BookValue) (ours : AreOf t books) whe
     exactly (Err e) h shown = not_certified e h
 
     -- both are so of an answer with a fault
-    pub refuses : ((f : Fault) → certify (net_of t) same_octets Tight (books_of books) ≡ Some f → FaultShows (net_of t) Tight (books_of books) f)
+    pub refuses : ((f : CertificateFault) → certify (net_of t) same_octets Tight (books_of books) ≡ Some f → FaultShows (net_of t) Tight (books_of books) f)
         → (e : CertFault) (r : Result Unit CertFault) → r ≡ Err e → FindsFault t (certify (net_of t) same_octets Tight (books_of books)) (Err e)
         → Certifies t books r × (IsOk r ↔ (AreOf t books × IsCertified (net_of t) Tight (books_of books)))
     refuses shows e r is h = (

@@ -16,7 +16,7 @@ use Rattle.nm_model.specs.Lists.{nth, set_at}
 use Rattle.nm_model.specs.Partition.{comes_in, receiver_of}
 use Rattle.nm_model.specs.World as model
 use Rattle.nm_sim.specs.Network.{net_of}
-use Rattle.nm_book.specs.Book.{BookValue, LearnsIf, Learns, Takes, is_incoming, is_replica, knowledge_of, message_channel, message_taken, only_if}
+use Rattle.nm_book.specs.Book.{BookValue, IsNotLearned, LearnsIf, Learns, Takes, is_incoming, is_replica, knowledge_of, message_channel, message_taken, only_if}
 use Rattle.nm_book.specs.declared.message.ChannelMessage.{ChannelMessage}
 use Rattle.nm_book.specs.declared.message.ChannelMessage.TheVariants.{Data as DataMessage, Null as NullMessage}
 use Rattle.nm_book.specs.declared.fault.AcceptFault.TheVariants.{Known, Stranger}
@@ -150,7 +150,10 @@ module _ (t : TopologyValue) (books : List BookValue) (bag : List ChannelMessage
 
       -- it comes in here
       pub no_stranger : Takes b c ch (message_taken b.knows m) (Err Stranger) → ⊥
-      no_stranger h = subst (λ z. LearnsIf z b.knows c.knows ch (message_taken b.knows m) (Err Stranger)) incoming h.learns
+      no_stranger h = not_here (subst (λ z. LearnsIf z b.knows c.knows ch (message_taken b.knows m) (Err Stranger)) incoming h.learns)
+        where
+          not_here : Learns b.knows c.knows ch (message_taken b.knows m) (Err Stranger) → ⊥
+          not_here (f, is, why, same) = absurd (let e : Stranger ≡ Known f = is in cc)
 
       -- it refused it, for another reason
       pub refused : (f : KnowFault) → Takes b c ch (message_taken b.knows m) (Err (Known f)) → Steps t w (step.Deliver i r) (refusal_of f) (slice_set books place c) bag
@@ -166,10 +169,13 @@ module _ (t : TopologyValue) (books : List BookValue) (bag : List ChannelMessage
               (with_book t books bag w stands p r there place at b c read _
               (learned (said_of (x.knowledge iface) m).after (h.same ∙ ap (λ z. record b { knows = z }) (same ∙ sym (set-get_or b.knows ch nothing_known) ∙ ap (slice_set b.knows ch) (sym keeps)))))
 
+          by_why : (f : KnowFault) → IsNotLearned (message_taken b.knows m) f → c.knows ≡ b.knows → Steps t w (step.Deliver i r) (refusal_of f) (slice_set books place c) bag
+          by_why fault.Memory why same = unchanged_at t books bag w stands p r there place at b c read (h.same ∙ ap (λ z. record b { knows = z }) same)
+          by_why (fault.Gap n) why same = for_reason (fault.Gap n) why same
+          by_why (fault.Differs n) why same = for_reason (fault.Differs n) why same
+          by_why (fault.Late n) why same = for_reason (fault.Late n) why same
+          by_why fault.NotRising why same = for_reason fault.NotRising why same
+          by_why (fault.Contrary n) why same = for_reason (fault.Contrary n) why same
+
           by_fault : (f : KnowFault) → Learns b.knows c.knows ch (message_taken b.knows m) (Err (Known f)) → Steps t w (step.Deliver i r) (refusal_of f) (slice_set books place c) bag
-          by_fault fault.Memory l = unchanged_at t books bag w stands p r there place at b c read (h.same ∙ ap (λ z. record b { knows = z }) l.1)
-          by_fault (fault.Gap n) l = for_reason (fault.Gap n) l.0 l.1
-          by_fault (fault.Differs n) l = for_reason (fault.Differs n) l.0 l.1
-          by_fault (fault.Late n) l = for_reason (fault.Late n) l.0 l.1
-          by_fault fault.NotRising l = for_reason fault.NotRising l.0 l.1
-          by_fault (fault.Contrary n) l = for_reason (fault.Contrary n) l.0 l.1
+          by_fault f (known, is, why, same) = let e : known ≡ f = cc in by_why f (subst (IsNotLearned (message_taken b.knows m)) e why) same

@@ -1,11 +1,12 @@
 -- The headline, from the prefix theorem of the model's world.
-use Rattle.std.proofs.Common.{◌≡◌, ℕ, zero, suc, ◌+◌, ◌*◌, ◌<◌, ◌≤◌, min, true, false, List, [], ◌∷◌, length, map, slice_get, slice_index_or, Option, Some, None, refl, sym, ◌∙◌, ap, subst, arith, ⊎_elim, true≢false}
+use Rattle.std.proofs.Common.{◌≡◌, inl, inr, ℕ, zero, suc, ◌+◌, ◌*◌, ◌<◌, ◌≤◌, min, Bool, true, false, List, [], ◌∷◌, length, map, slice_get, slice_index_or, Option, Some, None, refl, sym, ◌∙◌, ap, subst, arith, ⊎_elim, true≢false}
 use Rattle.std.proofs.lemmas.Bool.{cases_lt}
 use Rattle.std.specs.Option.{option_map}
 use Rattle.nm_topology.specs.Topology.{channel_from, receiving_iface}
 use Rattle.nm_topology.specs.TopologyValue.{TopologyValue}
 use Rattle.nm_knowledge.specs.Answers.{reason}
 use Rattle.nm_knowledge.specs.declared.answer.KnowFault.TheVariants as fault
+use Rattle.nm_model.specs.Accept as accept
 use Rattle.nm_model.specs.Before.{IsBefore, IsCount, IsKnowledge, events_at, history, trace}
 use Rattle.nm_model.specs.Join.{join}
 use Rattle.nm_model.specs.Knowledge.{IsUnder, IsValid, Know, Knowledge, nothing_known}
@@ -39,22 +40,42 @@ place_of (suc i) = go (place_of i)
     go (p, suc zero, two, e) = (suc p, 0, omega arith, omega (arith, e))
     go (p, suc (suc r), two, e) = absurd (omega (arith, two))
 
+-- of the model's answers these are fine
+abbrev is_fine : accept.Answer → Bool
+is_fine accept.New = true
+is_fine accept.Raised = true
+is_fine accept.Known = true
+is_fine (accept.Gap n) = true
+is_fine (accept.Differs n) = false
+is_fine (accept.Late n) = false
+is_fine accept.NotRising = false
+is_fine (accept.Contrary n) = false
+
+not_fine : {A : Type 0} (a : accept.Answer) → is_fine a ≡ false → model.IsFine a → A
+not_fine a is_not fine = absurd (true≢false (sym (says fine) ∙ is_not))
+  where
+    says : model.IsFine a → is_fine a ≡ true
+    says (inl is) = ap is_fine is
+    says (inr (inl is)) = ap is_fine is
+    says (inr (inr (inl is))) = ap is_fine is
+    says (inr (inr (inr (n, is)))) = ap is_fine is
+
 -- what is fine of the model's answers is no refusal
 fine_is : (t : TopologyValue) (a : StepAnswer) (o : model.Outcome) → outcome_of t a ≡ Some o → model.IsFineOutcome o → IsNoRefusal a
 fine_is t (told.All n) o e fine = tt
 fine_is t (told.Limit n) o e fine = tt
 fine_is t (told.Frames n) o e fine = tt
 fine_is t (told.Accepted a) o e fine = tt
-fine_is t (told.Refused (fault.Gap n)) o e fine = tt
-fine_is t (told.Refused (fault.Differs n)) o e fine = let g : model.Answered (Rattle.nm_model.specs.Accept.Differs n) ≡ o = cc in subst model.IsFineOutcome (sym g) fine
-fine_is t (told.Refused (fault.Late n)) o e fine = let g : model.Answered (Rattle.nm_model.specs.Accept.Late n) ≡ o = cc in subst model.IsFineOutcome (sym g) fine
-fine_is t (told.Refused fault.NotRising) o e fine = let g : model.Answered Rattle.nm_model.specs.Accept.NotRising ≡ o = cc in subst model.IsFineOutcome (sym g) fine
+fine_is t (told.Refused (fault.Gap n)) o e fine = (n, refl)
+fine_is t (told.Refused (fault.Differs n)) o e fine = let g : model.Answered (accept.Differs n) ≡ o = cc in not_fine (accept.Differs n) refl (subst model.IsFineOutcome (sym g) fine)
+fine_is t (told.Refused (fault.Late n)) o e fine = let g : model.Answered (accept.Late n) ≡ o = cc in not_fine (accept.Late n) refl (subst model.IsFineOutcome (sym g) fine)
+fine_is t (told.Refused fault.NotRising) o e fine = let g : model.Answered accept.NotRising ≡ o = cc in not_fine accept.NotRising refl (subst model.IsFineOutcome (sym g) fine)
 fine_is t (told.Refused fault.Memory) o e fine = absurd (let g : None ≡ Some o = e in cc)
-fine_is t (told.Refused (fault.Contrary n)) o e fine = let g : model.Answered (Rattle.nm_model.specs.Accept.Contrary n) ≡ o = cc in subst model.IsFineOutcome (sym g) fine
+fine_is t (told.Refused (fault.Contrary n)) o e fine = let g : model.Answered (accept.Contrary n) ≡ o = cc in not_fine (accept.Contrary n) refl (subst model.IsFineOutcome (sym g) fine)
 fine_is t told.Merged o e fine = tt
 fine_is t (told.MergeRefused (refusal.Channel c f)) o e fine = by_reason (reason f) e
   where
-    by_reason : (r : Option Rattle.nm_model.specs.Accept.Answer) → option_map (model.MergeRefused (receiving_iface t c)) r ≡ Some o → ⊥
+    by_reason : (r : Option accept.Answer) → option_map (model.MergeRefused (receiving_iface t c)) r ≡ Some o → ⊥
     by_reason None g = absurd (let h : None ≡ Some o = g in cc)
     by_reason (Some a) g = let h : model.MergeRefused (receiving_iface t c) a ≡ o = cc in subst model.IsFineOutcome (sym h) fine
 fine_is t (told.MergeRefused refusal.Stranger) o e fine = absurd (let g : None ≡ Some o = e in cc)

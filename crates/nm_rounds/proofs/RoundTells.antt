@@ -5,7 +5,7 @@ use Rattle.nm_knowledge.specs.declared.answer.Accepted.{Accepted}
 use Rattle.nm_knowledge.specs.declared.answer.KnowFault.{KnowFault}
 use Rattle.nm_knowledge.specs.declared.answer.KnowFault.TheVariants as fault
 use Rattle.nm_model.specs.Knowledge.{Know, nothing_known}
-use Rattle.nm_book.specs.Book.{BookValue, Learns, LearnsIf, Takes, is_incoming, message_channel, message_taken}
+use Rattle.nm_book.specs.Book.{BookValue, IsNotLearned, Learns, LearnsIf, Takes, is_incoming, message_channel, message_taken}
 use Rattle.nm_book.specs.declared.message.ChannelMessage.{ChannelMessage}
 use Rattle.nm_book.specs.declared.message.ChannelMessage.TheVariants.{Data as DataMessage, Null as NullMessage}
 use Rattle.nm_book.specs.declared.fault.AcceptFault.TheVariants.{Known, Stranger}
@@ -41,7 +41,10 @@ module _ (b c : BookValue) (m : ChannelMessage) (comes : is_incoming b (message_
       h.same ∙ ap (λ z. record b { knows = z }) (learns.1 ∙ ap (slice_set b.knows ch) (after_is b.knows m))
 
   pub no_stranger : Takes b c ch (message_taken b.knows m) (Err Stranger) → ⊥
-  no_stranger h = subst (λ z. LearnsIf z b.knows c.knows ch (message_taken b.knows m) (Err Stranger)) comes h.learns
+  no_stranger h = not_here (subst (λ z. LearnsIf z b.knows c.knows ch (message_taken b.knows m) (Err Stranger)) comes h.learns)
+    where
+      not_here : Learns b.knows c.knows ch (message_taken b.knows m) (Err Stranger) → ⊥
+      not_here (f, is, why, same) = absurd (let e : Stranger ≡ Known f = is in cc)
 
   -- it refused it
   pub refused : (f : KnowFault) → (f ≡ fault.Memory → ⊥) → Takes b c ch (message_taken b.knows m) (Err (Known f)) → c ≡ record b { knows = slice_set b.knows ch (told_message known m) }
@@ -51,13 +54,16 @@ module _ (b c : BookValue) (m : ChannelMessage) (comes : is_incoming b (message_
       for_reason f why same =
           h.same ∙ ap (λ z. record b { knows = z }) (same ∙ sym (set_same b.knows ch) ∙ ap (slice_set b.knows ch) (sym (stays b.knows m f why)))
 
+      by_why : (f : KnowFault) → (f ≡ fault.Memory → ⊥) → IsNotLearned (message_taken b.knows m) f → c.knows ≡ b.knows → c ≡ record b { knows = slice_set b.knows ch (told_message known m) }
+      by_why (fault.Gap n) other why same = for_reason (fault.Gap n) why same
+      by_why (fault.Differs n) other why same = for_reason (fault.Differs n) why same
+      by_why (fault.Late n) other why same = for_reason (fault.Late n) why same
+      by_why fault.NotRising other why same = for_reason fault.NotRising why same
+      by_why fault.Memory other why same = absurd (other refl)
+      by_why (fault.Contrary n) other why same = for_reason (fault.Contrary n) why same
+
       by_fault : (f : KnowFault) → (f ≡ fault.Memory → ⊥) → Learns b.knows c.knows ch (message_taken b.knows m) (Err (Known f)) → c ≡ record b { knows = slice_set b.knows ch (told_message known m) }
-      by_fault (fault.Gap n) other l = for_reason (fault.Gap n) l.0 l.1
-      by_fault (fault.Differs n) other l = for_reason (fault.Differs n) l.0 l.1
-      by_fault (fault.Late n) other l = for_reason (fault.Late n) l.0 l.1
-      by_fault fault.NotRising other l = for_reason fault.NotRising l.0 l.1
-      by_fault fault.Memory other l = absurd (other refl)
-      by_fault (fault.Contrary n) other l = for_reason (fault.Contrary n) l.0 l.1
+      by_fault f other (why_not, is, why, same) = let e : why_not ≡ f = cc in by_why f other (subst (IsNotLearned (message_taken b.knows m)) e why) same
 
 -- one message more
 pub told_more : (a : Know (List ℕ)) (ms : List ChannelMessage) (i : ℕ) (m : ChannelMessage) → slice_get ms i ≡ Some m → told_all a (take (suc i) ms) ≡ told_message (told_all a (take i ms)) m

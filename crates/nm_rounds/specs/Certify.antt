@@ -4,7 +4,7 @@ use Rattle.nm_topology.specs.Topology.{receiving_iface}
 use Rattle.nm_topology.specs.TopologyValue.{TopologyValue}
 use Rattle.nm_model.specs.Before.{IsBefore, trace}
 use Rattle.nm_model.specs.Accept.{last_from, same_message}
-use Rattle.nm_model.specs.Certificate.{Book, Fault, MissingPart, UnfinishedPart, PrefixFault, ClockFault, PromiseFault, FaultShows, IsCertified}
+use Rattle.nm_model.specs.Certificate.{Book, CertificateFault, MissingPart, UnfinishedPart, PrefixFault, ClockFault, PromiseFault, FaultShows, IsCertified}
 use Rattle.nm_model.specs.Certificate.{channel_fault, clock_fault, first_of, has_part, is_done, prefix_fault}
 use Rattle.nm_model.specs.Join.{or_else}
 use Rattle.nm_model.specs.Knowledge.{Know}
@@ -38,7 +38,7 @@ pub record AreCertified (t : TopologyValue) (books : List BookValue) : Type 0 wh
       → All (λ b. (state_of b).records ≡ trace (net_of t) b.partition last) books
 
 -- all are books of this topology, and the model's certificate has this fault
-abbrev pub ShowsFault : TopologyValue → List BookValue → Fault → Type 0
+abbrev pub ShowsFault : TopologyValue → List BookValue → CertificateFault → Type 0
 ShowsFault t books f = AreOf t books × FaultShows (net_of t) Tight (books_of books) f
 
 -- The answer of a certificate. The model names a channel by its receiving interface.
@@ -51,21 +51,26 @@ Certifies t books (Err (Prefix c n)) = ShowsFault t books (PrefixFault (receivin
 Certifies t books (Err (Clock c)) = ShowsFault t books (ClockFault (receiving_iface t c))
 Certifies t books (Err (Promise c)) = ShowsFault t books (PromiseFault (receiving_iface t c))
 
+-- the model's fault, which speaks of no topology, and names a channel by its receiving interface
+abbrev pub model_fault : TopologyValue → CertFault → Option CertificateFault
+model_fault t Topology = None
+model_fault t (Missing p) = Some (MissingPart p)
+model_fault t (Unfinished p) = Some (UnfinishedPart p)
+model_fault t (Prefix c n) = Some (PrefixFault (receiving_iface t c) n)
+model_fault t (Clock c) = Some (ClockFault (receiving_iface t c))
+model_fault t (Promise c) = Some (PromiseFault (receiving_iface t c))
+
 -- How it goes: a step's answer is what the model's certificate finds there.
-abbrev pub FindsFault : TopologyValue → Option Fault → Result Unit CertFault → Type 0
+abbrev pub FindsFault : TopologyValue → Option CertificateFault → Result Unit CertFault → Type 0
 FindsFault t found (Ok u) = found ≡ None
-FindsFault t found (Err Topology) = ⊥
-FindsFault t found (Err (Missing p)) = found ≡ Some (MissingPart p)
-FindsFault t found (Err (Unfinished p)) = found ≡ Some (UnfinishedPart p)
-FindsFault t found (Err (Prefix c n)) = found ≡ Some (PrefixFault (receiving_iface t c) n)
-FindsFault t found (Err (Clock c)) = found ≡ Some (ClockFault (receiving_iface t c))
-FindsFault t found (Err (Promise c)) = found ≡ Some (PromiseFault (receiving_iface t c))
+FindsFault t found (Err e) =
+    (f : CertificateFault) × (model_fault t e ≡ Some f) × (found ≡ Some f)
 
 -- a partition has no book; a book is not done
-abbrev pub missing : List BookValue → ℕ → Option Fault
+abbrev pub missing : List BookValue → ℕ → Option CertificateFault
 missing books p = cond (has_part p (books_of books)) None (Some (MissingPart p))
 
-abbrev pub unfinished : TopologyValue → Book (List ℕ) → Option Fault
+abbrev pub unfinished : TopologyValue → Book (List ℕ) → Option CertificateFault
 unfinished t b = cond (is_done (net_of t) b.part b.replica) None (Some (UnfinishedPart b.part))
 
 -- each event that the book did was before the safe time
@@ -79,7 +84,7 @@ is_same_entry (Some x) None = false
 is_same_entry (Some x) (Some y) = same_message same_octets x y
 
 -- the fault of channel c, of which a is known and on which this was sent and promised
-abbrev pub list_fault : ℕ → Know (List ℕ) → List (ℕ × List ℕ) → ℕ → Option Fault
+abbrev pub list_fault : ℕ → Know (List ℕ) → List (ℕ × List ℕ) → ℕ → Option CertificateFault
 list_fault c a sent promised =
     or_else (prefix_fault same_octets c 0 a.list sent)
     (or_else (clock_fault c a.clock (nth sent (length a.list)))
@@ -87,11 +92,13 @@ list_fault c a sent promised =
 
 -- the fault of channel c between the receiving book r and book s, if that sends on it; and beside
 -- each of the books, if it comes into r
-abbrev pub sender_fault : TopologyValue → ℕ → Book (List ℕ) → Book (List ℕ) → Option Fault
+abbrev pub sender_fault : TopologyValue → ℕ → Book (List ℕ) → Book (List ℕ)
+    → Option CertificateFault
 sender_fault t c r s =
     cond (s.part == sender_of (net_of t) c) (channel_fault (net_of t) same_octets Tight c r s) None
 
-abbrev pub incoming_fault : TopologyValue → List BookValue → Book (List ℕ) → ℕ → Option Fault
+abbrev pub incoming_fault : TopologyValue → List BookValue → Book (List ℕ) → ℕ
+    → Option CertificateFault
 incoming_fault t books r c =
     cond (comes_in (net_of t) r.part c) (first_of (sender_fault t c r) (books_of books)) None
 

@@ -4,7 +4,7 @@ use Rattle.nm_base.specs.declared.record.Record.{Record}
 use Rattle.nm_topology.specs.Topology.{receiving_iface}
 use Rattle.nm_topology.specs.TopologyValue.{TopologyValue}
 use Rattle.nm_knowledge.specs.declared.answer.KnowFault.{KnowFault}
-use Rattle.nm_knowledge.specs.declared.answer.KnowFault.TheVariants.{Gap, Differs, Late, NotRising, Memory as NoMemory, Contrary}
+use Rattle.nm_knowledge.specs.declared.answer.KnowFault.TheVariants.{Gap}
 use Rattle.nm_model.specs.Before.{IsBefore, events_at, history}
 use Rattle.nm_model.specs.Join.{join}
 use Rattle.nm_model.specs.Knowledge.{IsCompatible, IsUnder, IsValid, Know, nothing_known}
@@ -36,12 +36,7 @@ HasRunAll b = pends_before (safe_of b) (state_of b) ≡ false
 
 -- a frame is refused for a gap alone
 abbrev pub IsGap : KnowFault → Type 0
-IsGap (Gap have) = Unit {0}
-IsGap (Differs n) = ⊥
-IsGap (Late t) = ⊥
-IsGap NotRising = ⊥
-IsGap NoMemory = ⊥
-IsGap (Contrary n) = ⊥
+IsGap fault = (have : ℕ) × (fault ≡ Gap have)
 
 -- and a merge never
 abbrev pub IsNoRefusal : StepAnswer → Type 0

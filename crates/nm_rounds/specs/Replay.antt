@@ -6,8 +6,8 @@ use Rattle.std.specs.Arc.{arc_value}
 use Rattle.std.specs.declared.sync.Arc.{Arc}
 use Rattle.std.specs.declared.alloc.Global.{Global}
 use Rattle.nm_topology.specs.declared.fault.Refusal.{Refusal}
-use Rattle.nm_topology.specs.declared.fault.TopoFault.{TopoFault}
-use Rattle.nm_topology.specs.declared.fault.TopoFault.TheVariants.{Refused, Memory as NoMemory}
+use Rattle.nm_base.specs.declared.fault.Fault.{Fault}
+use Rattle.nm_base.specs.declared.fault.Fault.TheVariants.{Refused, Memory as NoMemory}
 use Rattle.nm_knowledge.specs.Octets.{same_octets}
 use Rattle.nm_model.specs.World as model
 use Rattle.nm_sim.specs.Network.{net_of}
@@ -16,8 +16,6 @@ use Rattle.nm_rounds.specs.World.{AreReplicas, happens, outcome_of, step_of}
 use Rattle.nm_rounds.specs.declared.step.StepAnswer.{StepAnswer}
 use Rattle.nm_rounds.specs.declared.step.WorldStep.{WorldStep}
 use Rattle.nm_rounds.specs.declared.step.WorldStep.TheVariants as step
-use Rattle.nm_rounds.specs.declared.fault.ReplayFault.{ReplayFault}
-use Rattle.nm_rounds.specs.declared.fault.ReplayFault.TheVariants.{Topo, Memory as OutOfMemory}
 use Rattle.nm_rounds.specs.declared.replay.WorldReport.{WorldReport}
 use Rattle.nm_rounds.specs.declared.replay.ReplayEnd.{ReplayEnd}
 use Rattle.nm_rounds.specs.declared.replay.ReplayEnd.TheVariants.{Ended, NoSuch, Memory}
@@ -70,23 +68,18 @@ pub record IsReplay (t : TopologyValue) (steps : List WorldStep) (answers : List
       ≡ map Some (answers_of t (first_steps t steps (length answers)))
   pub replicas : AreReplicas t books (world_after t did)
 
--- why a text is read to no topology
-abbrev pub Refuses : Result TopologyValue Refusal → TopoFault → Type 0
-Refuses read (Refused r) = read ≡ Err r
-Refuses read NoMemory = ⊥
-
 -- a text is read to a topology, or refused; or memory was
-abbrev pub Reads : List ℕ → Result (Arc TopologyValue Global) ReplayFault → Type 0
+abbrev pub Reads : List ℕ → Result (Arc TopologyValue Global) (Fault Refusal) → Type 0
 Reads text (Ok shared) = topology_of text ≡ Ok (arc_value shared)
-Reads text (Err (Topo f)) = Refuses (topology_of text) f
-Reads text (Err OutOfMemory) = Unit {0}
+Reads text (Err (Refused r)) = topology_of text ≡ Err r
+Reads text (Err NoMemory) = Unit {0}
 
 -- A text is read to the report's topology, of which it is a replay; or the text is refused; or
 -- memory was refused before the first step.
-abbrev pub Reports : List ℕ → List WorldStep → Result WorldReport ReplayFault → Type 0
+abbrev pub Reports : List ℕ → List WorldStep → Result WorldReport (Fault Refusal) → Type 0
 Reports text steps (Ok report) =
     (topology_of text ≡ Ok (arc_value report.topology))
     × IsReplay (arc_value report.topology) steps report.answers.items report.books.items
     report.ending
-Reports text steps (Err (Topo f)) = Refuses (topology_of text) f
-Reports text steps (Err OutOfMemory) = Unit {0}
+Reports text steps (Err (Refused r)) = topology_of text ≡ Err r
+Reports text steps (Err NoMemory) = Unit {0}

@@ -1,6 +1,9 @@
 -- What rounds of all partitions come to: each runs all that is safe, and then hears all that the
 -- others have for it.
-use Rattle.std.specs.Prelude.{◌≡◌, ℕ, suc, ◌+◌, ◌-◌, ◌<◌, ◌≤◌, Bool, true, false, List, [], ◌∷◌, length, slice_get, Option, Some, None, Ok}
+use Rattle.std.specs.Prelude.{◌≡◌, ℕ, suc, ◌+◌, ◌-◌, ◌<◌, ◌≤◌, Bool, true, false, List, [], ◌∷◌, length, slice_get, Option, Some, None, Result, Ok, Err}
+use Rattle.nm_base.specs.declared.fault.Fault.{Fault}
+use Rattle.nm_base.specs.declared.fault.Fault.TheVariants.{Refused, Memory}
+use Rattle.nm_topology.specs.declared.fault.Refusal.{Refusal}
 use Rattle.nm_topology.specs.Topology.{receiving_iface, topology_of}
 use Rattle.nm_topology.specs.TopologyValue.{TopologyValue}
 use Rattle.nm_knowledge.specs.Octets.{same_octets}
@@ -16,10 +19,9 @@ use Rattle.nm_sim.specs.Network.{net_of}
 use Rattle.nm_book.specs.Book.{BookValue, knowledge, message_channel, promise_on, replica_of, sent_over, state_of}
 use Rattle.nm_book.specs.declared.message.ChannelMessage.{ChannelMessage}
 use Rattle.nm_book.specs.declared.message.ChannelMessage.TheVariants.{Data, Null}
-use Rattle.nm_rounds.specs.Replay.{Refuses}
 use Rattle.nm_rounds.specs.World.{IsReplicaOf}
 use Rattle.nm_rounds.specs.declared.rounds.Rounds.{Rounds}
-use Rattle.nm_rounds.specs.declared.rounds.Rounds.TheVariants.{Done, Unfinished, Memory, Topo}
+use Rattle.nm_rounds.specs.declared.rounds.Rounds.TheVariants.{Done, Unfinished}
 
 -- the books are those of the first n partitions in turn, each the model's replica 0 of its
 -- partition
@@ -156,14 +158,10 @@ AreEnded t max None books = AreUnfinished t max max books
 abbrev pub RunsTo : TopologyValue → ℕ → Rounds → Type 0
 RunsTo t max (Done rounds books) = AreDoneWithin t max rounds books.items
 RunsTo t max (Unfinished rounds books) = AreUnfinished t max rounds books.items
-RunsTo t max Memory = Unit {0}
-RunsTo t max (Topo f) = ⊥
 
--- and over a text: it is read to the topology of these books, or it is refused
-abbrev pub ComesTo : List ℕ → ℕ → Rounds → Type 0
-ComesTo text max (Done rounds books) =
-    (t : TopologyValue) × (topology_of text ≡ Ok t) × AreDoneWithin t max rounds books.items
-ComesTo text max (Unfinished rounds books) =
-    (t : TopologyValue) × (topology_of text ≡ Ok t) × AreUnfinished t max rounds books.items
-ComesTo text max Memory = Unit {0}
-ComesTo text max (Topo f) = Refuses (topology_of text) f
+-- and over a text: it is read to the topology of these books, or it is refused; or memory was
+abbrev pub ComesTo : List ℕ → ℕ → Result Rounds (Fault Refusal) → Type 0
+ComesTo text max (Ok rounds) =
+    (t : TopologyValue) × (topology_of text ≡ Ok t) × RunsTo t max rounds
+ComesTo text max (Err (Refused r)) = topology_of text ≡ Err r
+ComesTo text max (Err Memory) = Unit {0}

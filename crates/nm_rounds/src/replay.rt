@@ -13,7 +13,7 @@ use crate::laws::the_headline_holds_of_every_replay;
 use crate::step::{StepAnswer, WorldStep};
 use crate::world::{Stop, all_replicas, do_step};
 use nm_book::Book;
-use nm_topology::{TopoFault, Topology};
+use nm_topology::Topology;
 use std::alloc::Global;
 use std::sync::Arc;
 
@@ -78,11 +78,8 @@ fn do_steps(
 fn read(alloc: Global, text: &[u8]) -> Result<Arc<Topology>, ReplayFault>
     ensures { Reads text.now result }
 {
-    match Topology::read(alloc, text) {
-        Ok(topology) => Ok(Arc::new(alloc, topology)?),
-        Err(TopoFault::Memory) => Err(ReplayFault::Memory),
-        Err(fault) => Err(ReplayFault::Topo(fault)),
-    }
+    let topology = Topology::read(alloc, text)?;
+    Ok(Arc::new(alloc, topology)?)
 }
 
 /// Lets replicas 0 and 1 of each partition of the network do these steps, one after another, from
@@ -95,8 +92,8 @@ fn read(alloc: Global, text: &[u8]) -> Result<Arc<Topology>, ReplayFault>
 ///
 /// # Errors
 ///
-/// `Topo` where the text is refused, with its first fault. `Memory` where memory was refused before
-/// the first step.
+/// `Refused` where the text is refused, with its first fault. `Memory` where memory was refused
+/// before the first step.
 pub fn replay(alloc: Global, text: &[u8], steps: &[WorldStep]) -> Result<WorldReport, ReplayFault>
     ensures report { Reports text.now steps.now result }
     ensures headline { IfOk result (λ report. Headline (arc_value report.topology)

@@ -30,10 +30,6 @@ pub enum Rounds {
     Done { rounds: u64, books: Vec<Book> },
     /// So many rounds were asked for, and in each of them some book was not done.
     Unfinished { rounds: u64, books: Vec<Book> },
-    /// Memory was refused.
-    Memory,
-    /// The text is refused, with its first fault.
-    Topo(TopoFault),
 }
 
 /// Adds a book that knows nothing behind the others.
@@ -108,8 +104,19 @@ fn do_rounds(
     Ok(None)
 }
 
-/// Does rounds over a network.
-fn rounds_of(
+/// Lets all partitions of a network run and hear each other, in rounds, until all is done, but in
+/// at most so many rounds.
+///
+/// In a round each partition runs all that is safe. If all are done then, that is the last round.
+/// Else the new messages of each channel and its null message, which makes the promise of the
+/// moment, are first gathered of all channels, and only then told. Where there is no channel all is
+/// done in the first round; and always after `stop` divided by the least lookahead of a channel,
+/// rounded up, and one round more. After each round it is noted how far all are.
+///
+/// # Errors
+///
+/// Where memory was refused.
+pub fn run_rounds_over(
     alloc: Global,
     topology: &Arc<Topology>,
     max: u64,
@@ -126,43 +133,17 @@ fn rounds_of(
     }
 }
 
-/// Lets all partitions of a network run and hear each other, in rounds, until all is done, but in
-/// at most so many rounds. It never answers `Topo`.
-///
-/// In a round each partition runs all that is safe. If all are done then, that is the last round.
-/// Else the new messages of each channel and its null message, which makes the promise of the
-/// moment, are first gathered of all channels, and only then told. Where there is no channel all is
-/// done in the first round; and always after `stop` divided by the least lookahead of a channel,
-/// rounded up, and one round more. After each round it is noted how far all are.
-pub fn run_rounds_over(
-    alloc: Global,
-    topology: &Arc<Topology>,
-    max: u64,
-    progress: &Progress,
-) -> Rounds
-    requires some { 1 ≤ max }
-    requires few { max ≤ MAX_ROUNDS }
-    ensures { RunsTo (arc_value topology.now) max result }
-{
-    match rounds_of(alloc, topology, max, progress) {
-        Ok(rounds) => rounds,
-        Err(_) => Rounds::Memory,
-    }
-}
-
 /// Reads the text of a network, and lets its partitions run as `run_rounds_over` does.
-pub fn run_rounds(alloc: Global, text: &[u8], max: u64) -> Rounds
+///
+/// # Errors
+///
+/// `Refused` where the text is refused, with its first fault. `Memory` where memory was refused.
+pub fn run_rounds(alloc: Global, text: &[u8], max: u64) -> Result<Rounds, TopoFault>
     requires some { 1 ≤ max }
     requires few { max ≤ MAX_ROUNDS }
     ensures { ComesTo text.now max result }
 {
-    let topology = match Topology::read(alloc, text) {
-        Ok(topology) => topology,
-        Err(TopoFault::Memory) => return Rounds::Memory,
-        Err(fault) => return Rounds::Topo(fault),
-    };
-    match Arc::new(alloc, topology) {
-        Ok(topology) => run_rounds_over(alloc, &topology, max, &Progress::new()),
-        Err(_) => Rounds::Memory,
-    }
+    let network = Topology::read(alloc, text)?;
+    let topology = Arc::new(alloc, network)?;
+    Ok(run_rounds_over(alloc, &topology, max, &Progress::new())?)
 }

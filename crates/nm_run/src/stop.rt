@@ -56,7 +56,7 @@ impl From<io::Error> for Stop {
 impl From<FilesFault> for Stop {
     fn from(fault: FilesFault) -> Self {
         match fault {
-            FilesFault::File(FileFault { iface, written }) => Stop::File { iface, written },
+            FilesFault::Refused(FileFault { iface, written }) => Stop::File { iface, written },
             FilesFault::Memory => Stop::Memory,
         }
     }

@@ -4,9 +4,10 @@ use Rattle.std.specs.List.{All, flat_map}
 use Rattle.std.specs.declared.vec.Vec.{Vec}
 use Rattle.std.specs.declared.alloc.Global.{Global}
 use Rattle.nm_base.specs.Text.{HasNo}
+use Rattle.nm_base.specs.declared.fault.Fault.{Fault}
+use Rattle.nm_base.specs.declared.fault.Fault.TheVariants.{Refused, Memory}
 use Rattle.nm_rounds.specs.declared.step.WorldStep.{WorldStep}
-use Rattle.nm_script.specs.declared.fault.ScriptFault.{ScriptFault}
-use Rattle.nm_script.specs.declared.fault.ScriptFault.TheVariants as fault
+use Rattle.nm_script.specs.declared.fault.BadLine.{BadLine}
 use Rattle.nm_script.specs.declared.line.Line.{Line}
 use Rattle.nm_script.specs.declared.line.Line.TheVariants.{Skipped, Step}
 use Rattle.nm_base.specs.declared.limits.TheConstants.{MAX_SCRIPT_STEPS}
@@ -60,18 +61,18 @@ pub record IsFirstFault (text : List ℕ) (number : ℕ) : Type 0 where
   pub bad : BeginsBadly (length steps) rest
 
 -- the steps of a script; or its first fault; or memory was refused
-abbrev pub Tells : List ℕ → Result (Vec WorldStep Global) ScriptFault → Type 0
+abbrev pub Tells : List ℕ → Result (Vec WorldStep Global) (Fault BadLine) → Type 0
 Tells text (Ok steps) = IsScript text steps.items
-Tells text (Err (fault.Line number)) = IsFirstFault text number
-Tells text (Err fault.Memory) = Unit {0}
+Tells text (Err (Refused bad)) = IsFirstFault text bad.number
+Tells text (Err Memory) = Unit {0}
 
 -- A line of this number is taken in behind others: its steps come behind theirs. Or it is bad; or
 -- memory was refused.
-abbrev pub AddsStep : List WorldStep → List ℕ → ℕ → Result Unit ScriptFault → List WorldStep
-    → Type 0
+abbrev pub AddsStep : List WorldStep → List ℕ → ℕ → Result Unit (Fault BadLine)
+    → List WorldStep → Type 0
 AddsStep before line number (Ok done) after =
     (said : Line) × Says line said × (after ≡ before ++ steps_in said)
     × (length after ≤ MAX_SCRIPT_STEPS)
-AddsStep before line number (Err (fault.Line n)) after =
-    (n ≡ number) × IsBadLine (length before) line
-AddsStep before line number (Err fault.Memory) after = Unit {0}
+AddsStep before line number (Err (Refused bad)) after =
+    (bad.number ≡ number) × IsBadLine (length before) line
+AddsStep before line number (Err Memory) after = Unit {0}

@@ -9,6 +9,6 @@ pub mod report;
 pub mod script;
 mod words;
 
-pub use fault::ScriptFault;
+pub use fault::{BadLine, ScriptFault};
 pub use report::report_text;
 pub use script::read_script;

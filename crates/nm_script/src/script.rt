@@ -4,7 +4,7 @@ ghost use Rattle.std.specs.Prelude.{◌≤◌, length};
 ghost use Rattle.nm_script.specs.Script.{AddsStep, Tells};
 ghost use Rattle.nm_base.specs.declared.limits.TheConstants.{MAX_SCRIPT_STEPS};
 
-use crate::fault::ScriptFault;
+use crate::fault::{BadLine, ScriptFault};
 use crate::line::{Line, read_line};
 use nm_base::limits::MAX_SCRIPT_STEPS;
 use nm_base::split_once;
@@ -19,7 +19,7 @@ fn take_line(steps: &mut Vec<WorldStep>, line: &[u8], number: u64) -> Result<(),
     match read_line(line) {
         Some(Line::Skipped) => Ok(()),
         Some(Line::Step(step)) if steps.len() < MAX_SCRIPT_STEPS => Ok(steps.push(step)?),
-        _ => Err(ScriptFault::Line(number)),
+        _ => Err(ScriptFault::Refused(BadLine { number })),
     }
 }
 
@@ -28,8 +28,8 @@ fn take_line(steps: &mut Vec<WorldStep>, line: &[u8], number: u64) -> Result<(),
 ///
 /// # Errors
 ///
-/// `Line` with the first line that is no such line, or one step too many. `Memory` where memory was
-/// refused.
+/// `Refused` with the first line that is no such line, or one step too many. `Memory` where memory
+/// was refused.
 pub fn read_script(alloc: Global, text: &[u8]) -> Result<Vec<WorldStep>, ScriptFault>
     ensures { Tells text.now result }
 {
@@ -39,7 +39,7 @@ pub fn read_script(alloc: Global, text: &[u8]) -> Result<Vec<WorldStep>, ScriptF
     while !rest.is_empty() {
         number += 1;
         let Some((line, after)) = split_once(rest, b'\n') else {
-            return Err(ScriptFault::Line(number));
+            return Err(ScriptFault::Refused(BadLine { number }));
         };
         take_line(&mut steps, line, number)?;
         rest = after;

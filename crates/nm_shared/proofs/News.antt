@@ -15,11 +15,10 @@ use Rattle.nm_knowledge.specs.Answers.{answer}
 use Rattle.nm_knowledge.specs.Octets.{same_octets}
 use Rattle.nm_knowledge.specs.declared.answer.Accepted.{Accepted}
 use Rattle.nm_knowledge.specs.declared.answer.Accepted.TheVariants.{New, Known as IsKnown, Raised}
-use Rattle.nm_knowledge.specs.declared.answer.KnowFault.TheVariants.{Gap, Differs, Late, NotRising, Memory as NoSpace, Contrary}
 use Rattle.nm_sim.specs.Network.{far_from, net_of}
 use Rattle.nm_book.specs.Book.{BookValue, Learns, LearnsIf, Takes, message_channel, message_taken}
 use Rattle.nm_book.specs.declared.fault.AcceptFault.{AcceptFault}
-use Rattle.nm_book.specs.declared.fault.AcceptFault.TheVariants.{Known, Stranger}
+use Rattle.nm_book.specs.declared.fault.AcceptFault.TheVariants.{Known}
 use Rattle.nm_book.specs.declared.message.ChannelMessage.{ChannelMessage}
 use Rattle.nm_book.specs.declared.message.ChannelMessage.TheVariants.{Data, Null}
 use Rattle.nm_book.specs.Running.{Runs}
@@ -186,13 +185,7 @@ module _ (t : TopologyValue) (p : ℕ) (ks js : List (Know (List ℕ))) (c : ℕ
       let set = set_adds t p ks c taken.after (new_of taken.answer) all comes more in
       let same = ap (λ k. messages_below t p k (length t.receivers)) l.1 in
       omega (arith, e, set, same)
-  learns_adds (Err Stranger) all comes more l = absurd l
-  learns_adds (Err (Known (Gap n))) all comes more l = none_added l.1
-  learns_adds (Err (Known (Differs n))) all comes more l = none_added l.1
-  learns_adds (Err (Known (Late n))) all comes more l = none_added l.1
-  learns_adds (Err (Known NotRising)) all comes more l = none_added l.1
-  learns_adds (Err (Known NoSpace)) all comes more l = none_added l.1
-  learns_adds (Err (Known (Contrary n))) all comes more l = none_added l.1
+  learns_adds (Err e) all comes more l = none_added l.3
 
   learns_if_adds : (q : Bool) (r : Result Accepted AcceptFault) → comes_in (net_of t) p (receiving_iface t c) ≡ q → length ks ≡ length t.receivers → length taken.after.list ≡ count_at ks c + new_of taken.answer → LearnsIf q ks js c taken r → Added (news r)
   learns_if_adds true r is all more l = learns_adds r all is more l

@@ -10,13 +10,11 @@ use Rattle.nm_model.specs.Knowledge.{Know, nothing_known}
 use Rattle.nm_model.specs.Partition.{comes_in}
 use Rattle.nm_knowledge.specs.Octets.{same_octets}
 use Rattle.nm_knowledge.specs.declared.answer.Accepted.{Accepted}
-use Rattle.nm_knowledge.specs.declared.answer.KnowFault.TheVariants.{Gap, Differs, Late, NotRising, Memory as NoSpace, Contrary}
 use Rattle.nm_sim.specs.Network.{net_of}
 use Rattle.nm_book.specs.Book.{BookValue, Learns, LearnsIf, Takes, message_channel, message_taken}
 use Rattle.nm_book.specs.Merging.{AreJoined, BookMerges, KnowledgeValue, MergesChannels, joined_at}
 use Rattle.nm_book.specs.Running.{Runs}
 use Rattle.nm_book.specs.declared.fault.AcceptFault.{AcceptFault}
-use Rattle.nm_book.specs.declared.fault.AcceptFault.TheVariants.{Known, Stranger}
 use Rattle.nm_book.specs.declared.fault.MergeFault.{MergeFault}
 use Rattle.nm_book.specs.declared.fault.MergeFault.TheVariants.{Stranger as NotMine, Channel, Memory as NoRoom}
 use Rattle.nm_book.specs.declared.message.ChannelMessage.{ChannelMessage}
@@ -140,13 +138,7 @@ learns_learned : (ks js : List (Know (List ℕ))) (c : ℕ) (taken : model.Accep
     (r : Result Accepted AcceptFault) → count_at ks c ≤ length taken.after.list
     → Learns ks js c taken r → Learned ks js
 learns_learned ks js c taken (Ok a) h l = set_learned ks js c taken.after h l.1
-learns_learned ks js c taken (Err Stranger) h l = absurd l
-learns_learned ks js c taken (Err (Known (Gap n))) h l = same_learned ks js l.1
-learns_learned ks js c taken (Err (Known (Differs n))) h l = same_learned ks js l.1
-learns_learned ks js c taken (Err (Known (Late n))) h l = same_learned ks js l.1
-learns_learned ks js c taken (Err (Known NotRising)) h l = same_learned ks js l.1
-learns_learned ks js c taken (Err (Known NoSpace)) h l = same_learned ks js l.1
-learns_learned ks js c taken (Err (Known (Contrary n))) h l = same_learned ks js l.1
+learns_learned ks js c taken (Err e) h l = same_learned ks js l.3
 
 learns_if_learned : (q : Bool) (ks js : List (Know (List ℕ))) (c : ℕ)
     (taken : model.Accepted (List ℕ)) (r : Result Accepted AcceptFault)

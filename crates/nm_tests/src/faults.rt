@@ -3,7 +3,7 @@
 use crate::same::{eq_number, eq_shown};
 use nm_knowledge::KnowFault;
 use nm_packet::{HeaderFault, IcmpFault, UdpFault};
-use nm_topology::{Refusal, TopoFault};
+use nm_topology::{Refusal, TopoFault, fault_number};
 use std::process::Abort;
 
 #[test]
@@ -17,7 +17,8 @@ fn faults_of_packets(rt: HostRuntime) {
 fn faults_of_topologies(rt: HostRuntime) {
     let double = TopoFault::Refused(Refusal::DoubleName);
     let text = "topology refused: two nodes or two interfaces with one name";
-    eq_number(&rt, "memory", u64::from(TopoFault::Memory.number()), 14);
+    let number = fault_number(TopoFault::Memory);
+    eq_number(&rt, "memory", u64::from(number), 14);
     eq_shown(&rt, TopoFault::Memory, "out of memory");
     eq_shown(&rt, double, text)
 }

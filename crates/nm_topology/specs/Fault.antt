@@ -5,8 +5,8 @@ use Rattle.nm_topology.specs.declared.fault.Refusal.TheVariants.{Text, Missing, 
 use Rattle.nm_topology.specs.declared.fault.Refusal.TheVariants.{Range, TooMany, DoubleName, NoSuch}
 use Rattle.nm_topology.specs.declared.fault.Refusal.TheVariants.{IfaceUse, DoubleAddress}
 use Rattle.nm_topology.specs.declared.fault.Refusal.TheVariants.{DoubleRoute, CutDelay, Hex}
-use Rattle.nm_topology.specs.declared.fault.TopoFault.{TopoFault}
-use Rattle.nm_topology.specs.declared.fault.TopoFault.TheVariants.{Refused, Memory}
+use Rattle.nm_base.specs.declared.fault.Fault.{Fault}
+use Rattle.nm_base.specs.declared.fault.Fault.TheVariants.{Refused, Memory}
 
 abbrev pub refusal_number : Refusal → ℕ
 refusal_number Text = 1
@@ -23,7 +23,7 @@ refusal_number DoubleRoute = 11
 refusal_number CutDelay = 12
 refusal_number Hex = 13
 
-abbrev pub fault_number : TopoFault → ℕ
+abbrev pub fault_number : Fault Refusal → ℕ
 fault_number (Refused r) = refusal_number r
 fault_number Memory = 14
 
@@ -34,12 +34,12 @@ abbrev pub ◌>>=◌ : {A B : Type 0} → Result A Refusal → (A → Result B R
 (Err r) >>= f = Err r
 
 -- a function failed as reading does, or memory ran out
-abbrev pub Fails : {Y : Type 0} → TopoFault → Result Y Refusal → Type 0
+abbrev pub Fails : {Y : Type 0} → Fault Refusal → Result Y Refusal → Type 0
 Fails Memory read = Unit {0}
 Fails (Refused r) read = read ≡ Err r
 
 -- what a function gave, seen by view, is what reading gives, unless memory ran out
-abbrev pub Gives : {X Y : Type 0} → (X → Y) → Result X TopoFault → Result Y Refusal → Type 0
+abbrev pub Gives : {X Y : Type 0} → (X → Y) → Result X (Fault Refusal) → Result Y Refusal → Type 0
 Gives view (Ok x) read = read ≡ Ok (view x)
 Gives view (Err e) read = Fails e read
 

@@ -1,10 +1,9 @@
 //! Why a topology text gives no topology.
 
 ghost use Rattle.std.specs.Prelude.{◌≡◌};
-ghost use Rattle.nm_topology.specs.declared.fault.TopoFault.TheVariants.{Memory};
 ghost use Rattle.nm_topology.specs.Fault.{refusal_number, fault_number};
 
-use std::alloc::{AllocError, AllocFailed};
+use nm_base::Fault;
 use std::fmt;
 use thiserror::Error;
 
@@ -26,16 +25,8 @@ pub enum Refusal {
     Hex,
 }
 
-/// Why no topology was made. Nothing is left behind.
-#[derive(Clone, Copy, Debug, PartialEq, Eq, Error)]
-pub enum TopoFault {
-    /// The text is refused.
-    #[error("topology refused: {0}")]
-    Refused(Refusal),
-    /// An allocation was refused. The same call may succeed with more memory.
-    #[error("out of memory")]
-    Memory,
-}
+/// Why no topology was made: the text is refused, or memory was. Nothing is left behind.
+pub type TopoFault = Fault<Refusal>;
 
 impl Refusal {
     /// The number of the refusal, 1 to 13.
@@ -81,34 +72,17 @@ impl Refusal {
 
 impl fmt::Display for Refusal {
     fn fmt<W: fmt::Write>(&self, f: &mut fmt::Formatter<W>) -> fmt::Result {
+        f.write_str("topology refused: ")?;
         f.write_str(self.message())
     }
 }
 
-impl TopoFault {
-    /// The number of the fault: that of the refusal, or 14 for want of memory.
-    pub fn number(self) -> u8
-        ensures { result ≡ fault_number self }
-    {
-        match self {
-            TopoFault::Refused(refusal) => refusal.number(),
-            TopoFault::Memory => 14,
-        }
-    }
-}
-
-impl From<AllocError> for TopoFault {
-    ghost from_gives = { λ _ e. e ≡ Memory };
-
-    fn from(_e: AllocError) -> TopoFault {
-        TopoFault::Memory
-    }
-}
-
-impl<T: Drop> From<AllocFailed<T>> for TopoFault {
-    ghost from_gives = { λ _ e. e ≡ Memory };
-
-    fn from(_e: AllocFailed<T>) -> TopoFault {
-        TopoFault::Memory
+/// The number of a fault: that of the refusal, or 14 for want of memory.
+pub fn fault_number(fault: TopoFault) -> u8
+    ensures { result ≡ fault_number fault }
+{
+    match fault {
+        TopoFault::Refused(refusal) => refusal.number(),
+        TopoFault::Memory => 14,
     }
 }

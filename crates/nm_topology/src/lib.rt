@@ -18,7 +18,7 @@ pub mod topology;
 pub mod traffic;
 pub mod validate;
 
-pub use fault::{Refusal, TopoFault};
+pub use fault::{Refusal, TopoFault, fault_number};
 pub use node::NodeKind;
 pub use prefix::Prefix;
 pub use topology::Topology;

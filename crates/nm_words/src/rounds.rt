@@ -67,16 +67,15 @@ fn rounds_output(
     every_topology_has_a_trace(topology); // law: there is a trace of the whole run
     interfaces_have_their_records::<Packet, NodeState>(); // law: they are in their partition's too
     match run_rounds_over(alloc, topology, max, progress) {
-        Rounds::Done { rounds, books } => Output::of(
+        Ok(Rounds::Done { rounds, books }) => Output::of(
             rounds_text(alloc, b"done", rounds, topology, books.as_slice()),
             Status::Done,
         ),
-        Rounds::Unfinished { rounds, books } => Output::of(
+        Ok(Rounds::Unfinished { rounds, books }) => Output::of(
             rounds_text(alloc, b"unfinished", rounds, topology, books.as_slice()),
             Status::Stalled,
         ),
-        Rounds::Memory => Err(Status::Memory),
-        Rounds::Topo(_) => unreachable!(),
+        Err(_) => Err(Status::Memory),
     }
 }
 

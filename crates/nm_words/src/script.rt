@@ -15,7 +15,6 @@ use nm_command::Status;
 use nm_rounds::replay::replay;
 use nm_rounds::{ReplayEnd, ReplayFault, WorldStep};
 use nm_script::{ScriptFault, read_script, report_text};
-use nm_topology::TopoFault;
 use std::alloc::Global;
 
 /// The status of a script with a bad line. The topology decides before it.
@@ -36,7 +35,7 @@ fn read_steps(alloc: Global, topology: &[u8], script: &[u8]) -> Result<Vec<World
 {
     match read_script(alloc, script) {
         Ok(steps) => Ok(steps),
-        Err(ScriptFault::Line(line)) => Err(bad_line(alloc, topology, script, line)),
+        Err(ScriptFault::Refused(bad)) => Err(bad_line(alloc, topology, script, bad.number)),
         Err(ScriptFault::Memory) => Err(Status::Memory),
     }
 }
@@ -55,12 +54,8 @@ fn steps_output(
 {
     let report = match replay(alloc, topology, steps) {
         Ok(report) => report,
-        Err(ReplayFault::Topo(TopoFault::Refused(refusal))) => {
-            return Err(Status::Topology(refusal));
-        }
-        Err(ReplayFault::Topo(TopoFault::Memory) | ReplayFault::Memory) => {
-            return Err(Status::Memory);
-        }
+        Err(ReplayFault::Refused(refusal)) => return Err(Status::Topology(refusal)),
+        Err(ReplayFault::Memory) => return Err(Status::Memory),
     };
     match report.ending {
         ReplayEnd::Ended => Output::of(report_text(alloc, &report), Status::Done),

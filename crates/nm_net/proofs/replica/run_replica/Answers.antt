@@ -1,6 +1,5 @@
 use Rattle.std.proofs.Common.{◌≤◌, ◌+◌, refl, sym, ◌∙◌, subst, rules}
-use Rattle.nm_net.specs.Served.{EndsEarly}
-use Rattle.nm_net.proofs.Endings.{early_ends}
+use Rattle.nm_net.proofs.Endings.{early_ends, not_ended}
 use Rattle.nm_net.proofs.Polls.{ends_after, idles_wait}
 use Rattle.nm_net.proofs.Recordings.{streams_more, streams_none}
 use Rattle.nm_net.proofs.replica.run_replica.Goals as goal
@@ -11,7 +10,7 @@ returns-in-Err-clause-ends g c =
     c.in-Err.served c.in-Err.ensures.early
 
 pub returns-in-Err-clause-streams : goal.returns-in-Err-clause-streams
-returns-in-Err-clause-streams g c is = absurd (subst EndsEarly is c.in-Err.ensures.early)
+returns-in-Err-clause-streams g c is = not_ended c.in-Err.served is c.in-Err.ensures.early
 
 pub loop-polls-init : goal.loop-polls-init
 loop-polls-init g c = record {

@@ -1,4 +1,4 @@
-use Rattle.std.proofs.Common.{◌≡◌, ◌<◌, ◌∙◌, false, map, cond, Some, None, sym, ap, rules}
+use Rattle.std.proofs.Common.{◌≡◌, ◌<◌, ◌∙◌, false, map, cond, Some, None, refl, sym, ap, rules}
 use Rattle.nm_model.specs.Certificate.{MissingPart, has_part}
 use Rattle.nm_rounds.specs.Certify.{books_of, missing}
 use Rattle.nm_rounds.proofs.CertifySteps.{first_is}
@@ -13,4 +13,4 @@ returns-then-not-has_book c =
     let none : has_part p (books_of books) ≡ false = search rules in
     let here : missing books n ≡ Some (MissingPart p) =
     ap (missing books) (sym c.new-partition.ensures) ∙ ap (λ b. cond b None (Some (MissingPart p))) none in
-    first_is (missing books) c.args.topology.now.partitions n (MissingPart p) below c.loop-number.invariant here
+    (MissingPart p, refl, first_is (missing books) c.args.topology.now.partitions n (MissingPart p) below c.loop-number.invariant here)

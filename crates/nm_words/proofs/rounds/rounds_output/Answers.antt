@@ -13,42 +13,42 @@ use Rattle.nm_words.proofs.rounds.rounds_output.Goals as goal
 
 pub rounds_text-requires : goal.rounds_text-requires
 rounds_text-requires c =
-    let done = c.in-Done.ensures in
+    let done = c.in-Ok-Done.ensures in
     record {
-      books = are_theirs (arc_value c.args.topology.now) c.deref-in-Done.result.now c.in-Done.books.items c.as_slice.result.now c.deref-in-Done.ensures c.as_slice.ensures.value
-          (of_partitions (arc_value c.args.topology.now) (after_runs done.by_round (c.in-Done.rounds - 1)) c.in-Done.books.items done.stand);
+      books = are_theirs (arc_value c.args.topology.now) c.deref-in-Ok-Done.result.now c.in-Ok-Done.books.items c.as_slice.result.now c.deref-in-Ok-Done.ensures c.as_slice.ensures.value
+          (of_partitions (arc_value c.args.topology.now) (after_runs done.by_round (c.in-Ok-Done.rounds - 1)) c.in-Ok-Done.books.items done.stand);
     }
 
-pub rounds_text-requires-in-Unfinished : goal.rounds_text-requires-in-Unfinished
-rounds_text-requires-in-Unfinished c =
-    let left = c.in-Unfinished.ensures in
+pub rounds_text-requires-in-Ok-Unfinished : goal.rounds_text-requires-in-Ok-Unfinished
+rounds_text-requires-in-Ok-Unfinished c =
+    let left = c.in-Ok-Unfinished.ensures in
     record {
-      books = are_theirs (arc_value c.args.topology.now) c.deref-in-Unfinished.result.now c.in-Unfinished.books.items c.as_slice-in-Unfinished.result.now
-          c.deref-in-Unfinished.ensures c.as_slice-in-Unfinished.ensures.value
-          (of_partitions (arc_value c.args.topology.now) (left.by_round c.args.max) c.in-Unfinished.books.items left.stand);
+      books = are_theirs (arc_value c.args.topology.now) c.deref-in-Ok-Unfinished.result.now c.in-Ok-Unfinished.books.items c.as_slice-in-Ok-Unfinished.result.now
+          c.deref-in-Ok-Unfinished.ensures c.as_slice-in-Ok-Unfinished.ensures.value
+          (of_partitions (arc_value c.args.topology.now) (left.by_round c.args.max) c.in-Ok-Unfinished.books.items left.stand);
     }
 
-pub returns-in-Done-clause-said : goal.returns-in-Done-clause-said
-returns-in-Done-clause-said c =
+pub returns-in-Ok-Done-clause-said : goal.returns-in-Ok-Done-clause-said
+returns-in-Ok-Done-clause-said c =
     let t = arc_value c.args.topology.now in
     let there = c.every_topology_has_a_trace.ensures.there t.stop in
     text_is_said (λ o. o.text) (λ o. o.status) (λ status said. (text : List ℕ) → topology_of text ≡ Ok t → SaysRounds c.args.max text status said.items) Done c.rounds_text.result c.of.result
     (IfOk-weaker c.rounds_text.result _ _ (λ v said text read. inl (
       refl,
-      says_done t c.deref-in-Done.result.now c.args.max c.in-Done.rounds c.in-Done.books.items c.as_slice.result.now there.0 text v.items
-          c.deref-in-Done.ensures c.as_slice.ensures.value (c.interfaces_have_their_records.ensures (net_of t)) c.in-Done.ensures
+      says_done t c.deref-in-Ok-Done.result.now c.args.max c.in-Ok-Done.rounds c.in-Ok-Done.books.items c.as_slice.result.now there.0 text v.items
+          c.deref-in-Ok-Done.ensures c.as_slice.ensures.value (c.interfaces_have_their_records.ensures (net_of t)) c.in-Ok-Done.ensures
           (subst (λ z. IsTraceBefore z t.stop there.0) c.deref.ensures there.1) read said,
     )) c.rounds_text.ensures)
     c.of.ensures.made
 
-pub returns-in-Unfinished-clause-said : goal.returns-in-Unfinished-clause-said
-returns-in-Unfinished-clause-said c =
+pub returns-in-Ok-Unfinished-clause-said : goal.returns-in-Ok-Unfinished-clause-said
+returns-in-Ok-Unfinished-clause-said c =
     let t = arc_value c.args.topology.now in
     text_is_said (λ o. o.text) (λ o. o.status) (λ status said. (text : List ℕ) → topology_of text ≡ Ok t → SaysRounds c.args.max text status said.items) Stalled
-    c.rounds_text-in-Unfinished.result c.of-in-Unfinished.result
-    (IfOk-weaker c.rounds_text-in-Unfinished.result _ _ (λ v said text read. inr (
+    c.rounds_text-in-Ok-Unfinished.result c.of-in-Ok-Unfinished.result
+    (IfOk-weaker c.rounds_text-in-Ok-Unfinished.result _ _ (λ v said text read. inr (
       refl,
-      says_unfinished t c.deref-in-Unfinished.result.now c.args.max c.in-Unfinished.rounds c.in-Unfinished.books.items c.as_slice-in-Unfinished.result.now text v.items
-          c.deref-in-Unfinished.ensures c.as_slice-in-Unfinished.ensures.value c.in-Unfinished.ensures read said,
-    )) c.rounds_text-in-Unfinished.ensures)
-    c.of-in-Unfinished.ensures.made
+      says_unfinished t c.deref-in-Ok-Unfinished.result.now c.args.max c.in-Ok-Unfinished.rounds c.in-Ok-Unfinished.books.items c.as_slice-in-Ok-Unfinished.result.now text v.items
+          c.deref-in-Ok-Unfinished.ensures c.as_slice-in-Ok-Unfinished.ensures.value c.in-Ok-Unfinished.ensures read said,
+    )) c.rounds_text-in-Ok-Unfinished.ensures)
+    c.of-in-Ok-Unfinished.ensures.made
