@@ -19,7 +19,7 @@ use Rattle.nm_model.specs.Before.{IsBefore, trace}
 use Rattle.nm_model.specs.World.{Replica, fresh, state_of, outgoing}
 use Rattle.nm_model.specs.Rounds.{given}
 use Rattle.nm_model.specs.Certificate.{Book, Fault, MissingPart, UnfinishedPart, PrefixFault, ClockFault, PromiseFault, is_done, AreFinished, Matches, IsCertified, first_of, first_below, has_part, prefix_fault, clock_fault, channel_fault, book_fault, certify}
-use Rattle.nm_model.proofs.ListLemmas.{not_some, number_is, bool_cases, number_tied, number_apart, same_number}
+use Rattle.nm_model.proofs.ListLemmas.{no_less, not_some, number_is, bool_cases, number_tied, number_apart, same_number}
 use Rattle.nm_model.proofs.Scheduling.{IsAmong, put_from, put_elsewhere, among-append}
 use Rattle.nm_model.proofs.Cut.{and_both, not_true, channel_inside}
 use Rattle.nm_model.proofs.Begin.{messages_only}
@@ -108,11 +108,7 @@ module _ {P : Type 0} where
 
     pub clock_none : (t : ℕ) (o : Option (ℕ × P)) → clock_fault c t o ≡ None → (b : ℕ × P) → o ≡ Some b → t ≤ b.0
     clock_none t None e b f = absurd (cc)
-    clock_none t (Some m) e b f = go (ltb m.0 t) refl e
-      where
-        go : (z : Bool) → ltb m.0 t ≡ z → cond z (Some (ClockFault c)) None ≡ None → t ≤ b.0
-        go true g h = absurd (cc)
-        go false g h = let s : m ≡ b = cc in let u = ap (λ (v : ℕ × P). v.0) s in let le : t ≤ m.0 = grind (arith, nat_tests) in omega arith
+    clock_none t (Some m) e b f = let s : m ≡ b = cc in let u = ap (λ (v : ℕ × P). v.0) s in let le = no_less (ClockFault c) t m.0 e in omega arith
 
     none_clock : (t : ℕ) (o : Option (ℕ × P)) → ((b : ℕ × P) → o ≡ Some b → t ≤ b.0) → clock_fault c t o ≡ None
     none_clock t None h = refl
