@@ -8,13 +8,13 @@ ghost use Rattle.nm_check.specs.Locate.{IsLocated};
 use crate::faults::push_faults;
 use crate::locate::{Located, locate};
 use crate::whole_sentence::push_whole_fault;
-use crate::words::{Piece, push};
+use crate::words::{Appended, Piece, push};
 use nm_base::limits::MAX_TEXT_OCTETS;
 use nm_topology::Refusal;
 use std::alloc::{AllocError, Global};
 
 /// Appends the line and the column of a place in a text, both from 1. A column is a character.
-fn push_position(out: &mut Vec<u8>, before: &[u8]) -> Result<(), AllocError> {
+fn push_position(out: &mut Vec<u8>, before: &[u8]) -> Appended {
     let mut line = 1u64;
     let mut column = 1u64;
     for octet in before {
@@ -41,7 +41,7 @@ fn push_position(out: &mut Vec<u8>, before: &[u8]) -> Result<(), AllocError> {
 }
 
 /// Appends where a text is no TOML document.
-fn push_toml_fault(alloc: Global, out: &mut Vec<u8>, text: &str) -> Result<(), AllocError> {
+fn push_toml_fault(alloc: Global, out: &mut Vec<u8>, text: &str) -> Appended {
     let Err(fault) = toml::table_from_str(alloc, text) else {
         return Ok(());
     };
@@ -59,7 +59,7 @@ fn push_toml_fault(alloc: Global, out: &mut Vec<u8>, text: &str) -> Result<(), A
 }
 
 /// Appends where a text is not UTF-8 or no TOML document.
-fn push_text_fault(alloc: Global, out: &mut Vec<u8>, text: &[u8]) -> Result<(), AllocError> {
+fn push_text_fault(alloc: Global, out: &mut Vec<u8>, text: &[u8]) -> Appended {
     match str::from_utf8(text) {
         Ok(text) => push_toml_fault(alloc, out, text),
         Err(fault) => {
@@ -70,7 +70,7 @@ fn push_text_fault(alloc: Global, out: &mut Vec<u8>, text: &[u8]) -> Result<(), 
 }
 
 /// Appends that a text is too long.
-fn push_length_fault(out: &mut Vec<u8>, length: usize) -> Result<(), AllocError> {
+fn push_length_fault(out: &mut Vec<u8>, length: usize) -> Appended {
     push(
         out,
         &[
@@ -94,7 +94,7 @@ fn push_located(
     text: &[u8],
     located: &Located,
     refusal: Refusal,
-) -> Result<(), AllocError>
+) -> Appended
     requires { IsLocated text.now located.now }
 {
     match located {
@@ -121,12 +121,7 @@ pub fn explain(alloc: Global, text: &[u8], refusal: Refusal) -> Result<Vec<u8>, 
 }
 
 /// Appends what is wrong with a text that is refused so, and where.
-fn push_sentence(
-    alloc: Global,
-    out: &mut Vec<u8>,
-    text: &[u8],
-    refusal: Refusal,
-) -> Result<(), AllocError> {
+fn push_sentence(alloc: Global, out: &mut Vec<u8>, text: &[u8], refusal: Refusal) -> Appended {
     let located = locate(alloc, text)?;
     push_located(alloc, out, text, &located, refusal)
 }

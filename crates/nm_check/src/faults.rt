@@ -8,7 +8,7 @@ use crate::line::{table_line, top_line};
 use crate::place::{FaultPlace, Found, any_head, fields_of, place_of_member};
 use crate::sentence::{member, push_found, unknown_key};
 use crate::spot::Spot;
-use crate::words::{Piece, push};
+use crate::words::{Appended, Piece, push};
 use nm_topology::keys::array::Array;
 use nm_topology::keys::field::Form;
 use nm_topology::keys::fields::{ARRAYS, TOP_TABLE};
@@ -21,7 +21,7 @@ use toml::{Table, Value};
 pub const MAX_FAULTS: usize = 20;
 
 /// Appends a line of the text, if it is known.
-pub fn push_line(out: &mut Vec<u8>, line: Option<u64>) -> Result<(), AllocError> {
+pub fn push_line(out: &mut Vec<u8>, line: Option<u64>) -> Appended {
     match line {
         Some(line) => push(
             out,
@@ -32,7 +32,7 @@ pub fn push_line(out: &mut Vec<u8>, line: Option<u64>) -> Result<(), AllocError>
 }
 
 /// Appends how many faults there are more than were told.
-pub fn push_more(out: &mut Vec<u8>, count: usize) -> Result<(), AllocError> {
+pub fn push_more(out: &mut Vec<u8>, count: usize) -> Appended {
     if count <= MAX_FAULTS {
         return Ok(());
     }
@@ -88,13 +88,7 @@ fn line_of(text: &str, top: &Table, found: &Found) -> Result<Option<u64>, AllocE
 }
 
 /// Appends what is wrong at a place, and on which line it is.
-fn push_fault(
-    alloc: Global,
-    out: &mut Vec<u8>,
-    text: &str,
-    top: &Table,
-    found: Found,
-) -> Result<(), AllocError> {
+fn push_fault(alloc: Global, out: &mut Vec<u8>, text: &str, top: &Table, found: Found) -> Appended {
     let line = line_of(text, top, &found)?;
     push_line(out, line)?;
     push_found(alloc, out, top, found)
@@ -181,7 +175,7 @@ pub fn push_faults(
     text: &str,
     top: &Table,
     found: Found,
-) -> Result<(), AllocError> {
+) -> Appended {
     let first = found.place;
     push_fault(alloc, out, text, top, found)?;
     let count = push_others(alloc, out, text, top, &first)?;

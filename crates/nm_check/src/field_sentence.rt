@@ -4,18 +4,17 @@ use crate::expected::{bounds_of, form_fault, limit_of, type_due, type_of};
 use crate::hint::push_hint;
 use crate::spot::FieldFault;
 use crate::units::unit_of;
-use crate::words::{Piece, push};
+use crate::words::{Appended, Piece, push};
 use nm_topology::Refusal;
 use nm_topology::keys::field::{Bounds, Field, Form};
 use nm_topology::keys::fields::PORT;
 use nm_topology::keys::key::TableKey;
 use nm_topology::parse::fields::{field, number};
 use nm_topology::parse::head::Head;
-use std::alloc::AllocError;
 use toml::{Table, Value};
 
 /// Appends what the number behind a key counts, with an example.
-fn push_unit(out: &mut Vec<u8>, key: TableKey) -> Result<(), AllocError> {
+fn push_unit(out: &mut Vec<u8>, key: TableKey) -> Appended {
     match unit_of(key) {
         Some(unit) => push(out, &[Piece::Text("; "), Piece::Text(unit)]),
         None => Ok(()),
@@ -23,11 +22,7 @@ fn push_unit(out: &mut Vec<u8>, key: TableKey) -> Result<(), AllocError> {
 }
 
 /// Appends a whole number, and that it is in no such range.
-fn push_out_of_range(
-    out: &mut Vec<u8>,
-    number: i64,
-    bounds: Option<Bounds>,
-) -> Result<(), AllocError> {
+fn push_out_of_range(out: &mut Vec<u8>, number: i64, bounds: Option<Bounds>) -> Appended {
     let sign = if number < 0 { "-" } else { "" };
     push(
         out,
@@ -52,12 +47,7 @@ fn push_out_of_range(
 }
 
 /// Appends what is wrong with a value that has the type of its field, but is not in its form.
-fn push_form_fault(
-    out: &mut Vec<u8>,
-    head: Head,
-    wanted: Field,
-    value: &Value,
-) -> Result<(), AllocError> {
+fn push_form_fault(out: &mut Vec<u8>, head: Head, wanted: Field, value: &Value) -> Appended {
     match value {
         Value::Integer(number) => {
             push_out_of_range(out, *number, bounds_of(head, wanted.form))?;
@@ -69,12 +59,7 @@ fn push_form_fault(
 }
 
 /// Appends what is wrong with a text that is not in the form of its field.
-fn push_text_fault(
-    out: &mut Vec<u8>,
-    head: Head,
-    wanted: Field,
-    text: &str,
-) -> Result<(), AllocError> {
+fn push_text_fault(out: &mut Vec<u8>, head: Head, wanted: Field, text: &str) -> Appended {
     match wanted.form {
         Form::Octets => push(
             out,
@@ -101,7 +86,7 @@ fn push_text_fault(
 }
 
 /// Appends that a value is of another type than its field.
-fn push_kind(out: &mut Vec<u8>, found: &Value, due: &str) -> Result<(), AllocError> {
+fn push_kind(out: &mut Vec<u8>, found: &Value, due: &str) -> Appended {
     push(
         out,
         &[
@@ -138,7 +123,7 @@ fn is_in_range(form: Form, value: &Value) -> bool {
 }
 
 /// Appends which member of an array it is.
-fn push_member_name(out: &mut Vec<u8>, wanted: Field, number: usize) -> Result<(), AllocError> {
+fn push_member_name(out: &mut Vec<u8>, wanted: Field, number: usize) -> Appended {
     push(
         out,
         &[
@@ -152,12 +137,7 @@ fn push_member_name(out: &mut Vec<u8>, wanted: Field, number: usize) -> Result<(
 
 /// Appends which member of an array is of another type, or that the array is too long, or which
 /// member is out of its range.
-fn push_array_fault(
-    out: &mut Vec<u8>,
-    head: Head,
-    wanted: Field,
-    items: &[Value],
-) -> Result<(), AllocError> {
+fn push_array_fault(out: &mut Vec<u8>, head: Head, wanted: Field, items: &[Value]) -> Appended {
     for (number, item) in items.iter().enumerate() {
         if !is_due(wanted.form, item) {
             push_member_name(out, wanted, number)?;
@@ -186,12 +166,7 @@ fn push_array_fault(
 }
 
 /// Appends what is wrong with a value that has another type than its field, or is out of its range.
-fn push_value_fault(
-    out: &mut Vec<u8>,
-    head: Head,
-    fault: FieldFault,
-    value: &Value,
-) -> Result<(), AllocError> {
+fn push_value_fault(out: &mut Vec<u8>, head: Head, fault: FieldFault, value: &Value) -> Appended {
     if let (Form::Ports | Form::Tables(_) | Form::Packets, Value::Array(items)) = (
         fault.field.form,
         value,
@@ -210,7 +185,7 @@ fn push_value_fault(
 }
 
 /// Appends that a text is no hexadecimal.
-fn push_hex_fault(out: &mut Vec<u8>, value: &Value) -> Result<(), AllocError> {
+fn push_hex_fault(out: &mut Vec<u8>, value: &Value) -> Appended {
     let text = value.as_str().unwrap_or("");
     push(
         out,
@@ -228,7 +203,7 @@ pub fn push_field_fault(
     head: Head,
     table: &Table,
     fault: FieldFault,
-) -> Result<(), AllocError> {
+) -> Appended {
     match field(table, fault.field.key) {
         Some(value) => push_value_fault(out, head, fault, value),
         None => {

@@ -1,11 +1,10 @@
 //! What would be right in place of a text that is not in the form of its field.
 
-use crate::words::{Piece, push};
+use crate::words::{Appended, Piece, push};
 use nm_packet::Address;
 use nm_topology::keys::field::{Field, Form};
 use nm_topology::keys::key::TableKey;
 use nm_topology::parse::forms::{MAX_NAME, address_of, is_name, length_of};
-use std::alloc::AllocError;
 
 /// What a character of a name would be: a small letter, a digit, or else a hyphen.
 fn name_character(octet: u8) -> u8 {
@@ -33,7 +32,7 @@ fn name_like(text: &str, name: &mut [u8; MAX_NAME]) -> usize {
 }
 
 /// Appends the name that may have been meant.
-fn push_name_like(out: &mut Vec<u8>, text: &str) -> Result<(), AllocError> {
+fn push_name_like(out: &mut Vec<u8>, text: &str) -> Appended {
     let mut buffer = [0u8; MAX_NAME];
     let length = name_like(text, &mut buffer);
     let Some(octets) = buffer.get(..length) else {
@@ -53,7 +52,7 @@ fn push_name_like(out: &mut Vec<u8>, text: &str) -> Result<(), AllocError> {
 }
 
 /// Appends what a name has to be the name of, where an address was given.
-fn push_name_due(out: &mut Vec<u8>, key: TableKey, text: &str) -> Result<(), AllocError> {
+fn push_name_due(out: &mut Vec<u8>, key: TableKey, text: &str) -> Appended {
     match key {
         TableKey::Via | TableKey::A | TableKey::B => push(
             out,
@@ -68,7 +67,7 @@ fn push_name_due(out: &mut Vec<u8>, key: TableKey, text: &str) -> Result<(), All
 }
 
 /// Appends a prefix.
-fn push_prefix(out: &mut Vec<u8>, address: Address, length: u8) -> Result<(), AllocError> {
+fn push_prefix(out: &mut Vec<u8>, address: Address, length: u8) -> Appended {
     push(
         out,
         &[
@@ -82,7 +81,7 @@ fn push_prefix(out: &mut Vec<u8>, address: Address, length: u8) -> Result<(), Al
 }
 
 /// Appends two prefixes that hold an address.
-fn push_lengths(out: &mut Vec<u8>, address: Address) -> Result<(), AllocError> {
+fn push_lengths(out: &mut Vec<u8>, address: Address) -> Appended {
     push(
         out,
         &[
@@ -103,7 +102,7 @@ fn masked(address: Address, length: u8) -> Address {
 }
 
 /// Appends the prefix that may have been meant.
-fn push_prefix_like(out: &mut Vec<u8>, text: &str) -> Result<(), AllocError> {
+fn push_prefix_like(out: &mut Vec<u8>, text: &str) -> Appended {
     if let Some(address) = address_of(text.as_bytes()) {
         return push_lengths(out, address);
     }
@@ -117,7 +116,7 @@ fn push_prefix_like(out: &mut Vec<u8>, text: &str) -> Result<(), AllocError> {
 }
 
 /// Appends the address that may have been meant.
-fn push_address_like(out: &mut Vec<u8>, text: &str) -> Result<(), AllocError> {
+fn push_address_like(out: &mut Vec<u8>, text: &str) -> Appended {
     if is_name(text.as_bytes()) {
         return push(
             out,
@@ -142,7 +141,7 @@ fn push_address_like(out: &mut Vec<u8>, text: &str) -> Result<(), AllocError> {
 
 /// Appends what would be right in place of a text that is not in the form of its field, where that
 /// can be told.
-pub fn push_hint(out: &mut Vec<u8>, wanted: Field, text: &str) -> Result<(), AllocError> {
+pub fn push_hint(out: &mut Vec<u8>, wanted: Field, text: &str) -> Appended {
     match wanted.form {
         Form::Name if address_of(text.as_bytes()).is_some() => {
             push_name_due(out, wanted.key, text)

@@ -1,12 +1,12 @@
 //! The tables that name what is not there.
 
+use crate::words::Appended;
 use nm_base::NodeNo;
 use nm_topology::keys::array::Array;
 use nm_topology::keys::key::TableKey;
 use nm_topology::names::Names;
 use nm_topology::parse::sources::{NamedTraffic, SourceTable};
 use nm_topology::parse::tables::{IfaceTable, LinkTable, RouteTable};
-use std::alloc::AllocError;
 
 /// What a table names that is not there.
 #[derive(Clone, Copy)]
@@ -92,7 +92,7 @@ fn push_lacking(
     array: Array,
     number: usize,
     lack: Option<Lack>,
-) -> Result<(), AllocError> {
+) -> Appended {
     if let Some(lack) = lack {
         all.push(Lacking {
             array,
@@ -104,11 +104,7 @@ fn push_lacking(
 }
 
 /// Appends the tables of `iface` that lack something.
-pub fn push_ifaces(
-    all: &mut Vec<Lacking>,
-    nodes: &Names,
-    tables: &[IfaceTable],
-) -> Result<(), AllocError> {
+pub fn push_ifaces(all: &mut Vec<Lacking>, nodes: &Names, tables: &[IfaceTable]) -> Appended {
     for (number, table) in tables.iter().enumerate() {
         push_lacking(all, Array::Iface, number, iface_lack(nodes, table))?;
     }
@@ -116,11 +112,7 @@ pub fn push_ifaces(
 }
 
 /// Appends the tables of `link` that lack something.
-pub fn push_links(
-    all: &mut Vec<Lacking>,
-    ifaces: &Names,
-    tables: &[LinkTable],
-) -> Result<(), AllocError> {
+pub fn push_links(all: &mut Vec<Lacking>, ifaces: &Names, tables: &[LinkTable]) -> Appended {
     for (number, table) in tables.iter().enumerate() {
         push_lacking(all, Array::Link, number, link_lack(ifaces, table))?;
     }
@@ -134,7 +126,7 @@ pub fn push_routes(
     ifaces: &Names,
     owners: &[NodeNo],
     tables: &[RouteTable],
-) -> Result<(), AllocError> {
+) -> Appended {
     for (number, table) in tables.iter().enumerate() {
         push_lacking(
             all,
@@ -153,7 +145,7 @@ pub fn push_sources(
     ifaces: &Names,
     owners: &[NodeNo],
     tables: &[SourceTable],
-) -> Result<(), AllocError> {
+) -> Appended {
     for (number, table) in tables.iter().enumerate() {
         push_lacking(
             all,

@@ -1,7 +1,7 @@
 //! What an accepted topology says, as lines.
 
 use crate::remarks::with_remarks;
-use crate::words::{Piece, push};
+use crate::words::{Appended, Piece, push};
 use nm_base::Time;
 use nm_base::limits::MAX_RATE;
 use nm_iface::transmission::transmission_time;
@@ -115,7 +115,7 @@ pub fn least_lookahead(topology: &Topology) -> Option<u64> {
 }
 
 /// A line with a word and a number.
-fn push_count(out: &mut Vec<u8>, word: &str, count: usize) -> Result<(), AllocError> {
+fn push_count(out: &mut Vec<u8>, word: &str, count: usize) -> Appended {
     push(
         out,
         &[
@@ -127,7 +127,7 @@ fn push_count(out: &mut Vec<u8>, word: &str, count: usize) -> Result<(), AllocEr
 }
 
 /// Appends how many nodes there are, and of which kinds.
-fn push_nodes(out: &mut Vec<u8>, topology: &Topology) -> Result<(), AllocError> {
+fn push_nodes(out: &mut Vec<u8>, topology: &Topology) -> Appended {
     let hosts = hosts(topology);
     let nodes = topology.nodes().len();
     push(
@@ -145,7 +145,7 @@ fn push_nodes(out: &mut Vec<u8>, topology: &Topology) -> Result<(), AllocError> 
 }
 
 /// Appends how many sources there are, and what they send before the end.
-fn push_sources(out: &mut Vec<u8>, topology: &Topology) -> Result<(), AllocError> {
+fn push_sources(out: &mut Vec<u8>, topology: &Topology) -> Appended {
     let load = load_of(topology);
     push(
         out,
@@ -163,7 +163,7 @@ fn push_sources(out: &mut Vec<u8>, topology: &Topology) -> Result<(), AllocError
 
 /// Appends how many channels there are, their least lookahead, and how many rounds there may be:
 /// those that the end of the simulation needs at that lookahead, and one more.
-fn push_channels(out: &mut Vec<u8>, topology: &Topology) -> Result<(), AllocError> {
+fn push_channels(out: &mut Vec<u8>, topology: &Topology) -> Appended {
     let Some(least) = least_lookahead(topology) else {
         return push(out, &[Piece::Text("channels 0\nrounds at most 1\n")]);
     };
@@ -184,7 +184,7 @@ fn push_channels(out: &mut Vec<u8>, topology: &Topology) -> Result<(), AllocErro
 }
 
 /// Appends what there is.
-fn push_counts(out: &mut Vec<u8>, topology: &Topology) -> Result<(), AllocError> {
+fn push_counts(out: &mut Vec<u8>, topology: &Topology) -> Appended {
     push_nodes(out, topology)?;
     push_count(out, "interfaces ", topology.ifaces().len())?;
     push_count(out, "links ", topology.links().len())?;

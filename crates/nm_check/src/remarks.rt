@@ -1,6 +1,6 @@
 //! What is odd in a topology that is accepted.
 
-use crate::words::{Piece, push};
+use crate::words::{Appended, Piece, push};
 use nm_base::IfaceNo;
 use nm_packet::Address;
 use nm_topology::parts::{Node, Route};
@@ -20,7 +20,7 @@ struct Remarks {
 
 impl Remarks {
     /// One remark more, which is written out if not too many are.
-    fn push(&mut self, pieces: &[Piece]) -> Result<(), AllocError> {
+    fn push(&mut self, pieces: &[Piece]) -> Appended {
         if self.count < MAX_REMARKS {
             push(&mut self.text, &[Piece::Text("remark: ")])?;
             push(&mut self.text, pieces)?;
@@ -31,7 +31,7 @@ impl Remarks {
     }
 
     /// Appends how many remarks there are more than were written out.
-    fn push_more(&mut self) -> Result<(), AllocError> {
+    fn push_more(&mut self) -> Appended {
         if self.count <= MAX_REMARKS {
             return Ok(());
         }
@@ -84,7 +84,7 @@ fn push_route<'a>(
     topology: &'a Topology,
     node: &'a str,
     route: Route,
-) -> Result<(), AllocError> {
+) -> Appended {
     let to = route.to;
     let via = iface_name(topology, route.via);
     remarks.push(&[
@@ -106,7 +106,7 @@ fn push_routes_of(
     topology: &Topology,
     node: &Node,
     addresses: &[u32],
-) -> Result<(), AllocError> {
+) -> Appended {
     for route in node.routes() {
         if !holds_any(route.to, addresses) {
             push_route(remarks, topology, node.name(), *route)?;
@@ -116,11 +116,7 @@ fn push_routes_of(
 }
 
 /// Appends a remark for each route that leads to no address.
-fn push_routes(
-    remarks: &mut Remarks,
-    topology: &Topology,
-    addresses: &[u32],
-) -> Result<(), AllocError> {
+fn push_routes(remarks: &mut Remarks, topology: &Topology, addresses: &[u32]) -> Appended {
     for node in topology.nodes() {
         push_routes_of(remarks, topology, node, addresses)?;
     }
@@ -145,12 +141,7 @@ fn node_name<'a>(topology: &'a Topology, source: &Source) -> &'a str {
 }
 
 /// Appends a remark on a source whose destination nobody has.
-fn push_source(
-    remarks: &mut Remarks,
-    number: usize,
-    node: &str,
-    to: Address,
-) -> Result<(), AllocError> {
+fn push_source(remarks: &mut Remarks, number: usize, node: &str, to: Address) -> Appended {
     remarks.push(&[
         Piece::Text("source "),
         Piece::Number(number as u64),
@@ -162,11 +153,7 @@ fn push_source(
 }
 
 /// Appends a remark for each source whose destination nobody has.
-fn push_sources(
-    remarks: &mut Remarks,
-    topology: &Topology,
-    addresses: &[u32],
-) -> Result<(), AllocError> {
+fn push_sources(remarks: &mut Remarks, topology: &Topology, addresses: &[u32]) -> Appended {
     for (number, source) in topology.sources().iter().enumerate() {
         if let Some(to) = destination(source) {
             if addresses.binary_search(&to.bits()).is_err() {
@@ -202,11 +189,7 @@ fn used_ifaces(alloc: Global, topology: &Topology) -> Result<Vec<bool>, AllocErr
 }
 
 /// Appends a remark for each interface that no route and no raw source uses.
-fn push_ifaces(
-    remarks: &mut Remarks,
-    topology: &Topology,
-    used: &[bool],
-) -> Result<(), AllocError> {
+fn push_ifaces(remarks: &mut Remarks, topology: &Topology, used: &[bool]) -> Appended {
     for (number, iface) in topology.ifaces().iter().enumerate() {
         if used.get(number) == Some(&false) {
             remarks.push(&[
@@ -234,11 +217,7 @@ pub fn with_remarks(
 }
 
 /// Appends the remarks.
-fn push_remarks(
-    alloc: Global,
-    remarks: &mut Remarks,
-    topology: &Topology,
-) -> Result<(), AllocError> {
+fn push_remarks(alloc: Global, remarks: &mut Remarks, topology: &Topology) -> Appended {
     let addresses = addresses(alloc, topology)?;
     push_routes(remarks, topology, &addresses)?;
     push_sources(remarks, topology, &addresses)?;

@@ -5,7 +5,7 @@ use crate::nearest::nearest;
 use crate::packet::first_packet;
 use crate::place::{FaultPlace, Found, fields_of};
 use crate::spot::{FieldFault, Spot};
-use crate::words::{Piece, push};
+use crate::words::{Appended, Piece, push};
 use nm_topology::keys::array::Array;
 use nm_topology::keys::field::{Field, Form};
 use nm_topology::keys::fields::{TOP_TABLE, packet_table};
@@ -29,12 +29,7 @@ pub fn member<'a>(table: &'a Table, array: Array, number: usize) -> Option<&'a T
 }
 
 /// Appends which table of an array it is.
-fn push_table_name(
-    out: &mut Vec<u8>,
-    table: &Table,
-    array: Array,
-    number: usize,
-) -> Result<(), AllocError> {
+fn push_table_name(out: &mut Vec<u8>, table: &Table, array: Array, number: usize) -> Appended {
     let known = [
         Piece::Text(array.key().text()),
         Piece::Text(" "),
@@ -75,12 +70,7 @@ fn keys_of(alloc: Global, fields: &[Field]) -> Result<Vec<&'static str>, AllocEr
 }
 
 /// Appends that a table has a key that none of these fields has, and which may have been meant.
-fn push_unknown(
-    alloc: Global,
-    out: &mut Vec<u8>,
-    table: &Table,
-    fields: &[Field],
-) -> Result<(), AllocError> {
+fn push_unknown(alloc: Global, out: &mut Vec<u8>, table: &Table, fields: &[Field]) -> Appended {
     let key = unknown_key(table, fields);
     push(
         out,
@@ -94,7 +84,7 @@ fn push_unknown(
 }
 
 /// Appends which of the known words may have been meant.
-pub fn push_meant(out: &mut Vec<u8>, word: &str, known: &[&str]) -> Result<(), AllocError> {
+pub fn push_meant(out: &mut Vec<u8>, word: &str, known: &[&str]) -> Appended {
     match nearest(word, known) {
         Some(meant) => push(
             out,
@@ -115,7 +105,7 @@ fn push_packets_fault(
     head: Head,
     table: &Table,
     fault: FieldFault,
-) -> Result<(), AllocError> {
+) -> Appended {
     let Some(Value::Array(items)) = field(table, TableKey::Packet) else {
         return push_field_fault(out, head, table, fault);
     };
@@ -147,7 +137,7 @@ fn push_table_fault(
     array: Array,
     table: &Table,
     spot: Spot,
-) -> Result<(), AllocError> {
+) -> Appended {
     match spot {
         Spot::Unknown => { push_unknown(alloc, out, table, fields_of(head, array, table)?) }
         Spot::Field(fault) => match fault.field.form {
@@ -158,12 +148,7 @@ fn push_table_fault(
 }
 
 /// Appends what is wrong in the tables of a text, and where.
-pub fn push_found(
-    alloc: Global,
-    out: &mut Vec<u8>,
-    top: &Table,
-    found: Found,
-) -> Result<(), AllocError> {
+pub fn push_found(alloc: Global, out: &mut Vec<u8>, top: &Table, found: Found) -> Appended {
     match found.place {
         FaultPlace::Top(spot) => {
             push(out, &[Piece::Text("top: ")])?;

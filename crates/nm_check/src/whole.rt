@@ -61,8 +61,11 @@ fn memory(_fault: TopoFault) -> AllocError {
     AllocError
 }
 
+/// What the whole is refused for, if it is; or memory was refused for the look.
+type Looked = Result<Option<WholeFault>, AllocError>;
+
 /// The fault of names.
-fn names_fault(alloc: Global, document: &Document) -> Result<Option<WholeFault>, AllocError> {
+fn names_fault(alloc: Global, document: &Document) -> Looked {
     if let Some(double) = double_name(alloc, &document.nodes)? {
         return Ok(Some(WholeFault::DoubleName {
             array: Array::Node,
@@ -105,7 +108,7 @@ fn others_lacking(
 }
 
 /// What the whole is refused for, if it is.
-pub fn whole_fault(alloc: Global, document: &Document) -> Result<Option<WholeFault>, AllocError> {
+pub fn whole_fault(alloc: Global, document: &Document) -> Looked {
     if let Some(fault) = names_fault(alloc, document)? {
         return Ok(Some(fault));
     }
@@ -115,12 +118,7 @@ pub fn whole_fault(alloc: Global, document: &Document) -> Result<Option<WholeFau
 }
 
 /// What a document with these names is refused for.
-fn named_fault(
-    alloc: Global,
-    nodes: &Names,
-    ifaces: &Names,
-    document: &Document,
-) -> Result<Option<WholeFault>, AllocError>
+fn named_fault(alloc: Global, nodes: &Names, ifaces: &Names, document: &Document) -> Looked
     requires nodes { length nodes.now ≡ length document.now.nodes }
     requires ifaces { length ifaces.now ≡ length document.now.ifaces }
 {
@@ -161,11 +159,7 @@ fn with_numbers(
 }
 
 /// What a document with these numbers is refused for.
-fn numbered_fault(
-    alloc: Global,
-    numbered: &Numbered,
-    document: &Document,
-) -> Result<Option<WholeFault>, AllocError> {
+fn numbered_fault(alloc: Global, numbered: &Numbered, document: &Document) -> Looked {
     if let Some(fault) = use_fault(alloc, document.ifaces.len(), &numbered.links)? {
         return Ok(Some(fault));
     }
@@ -189,11 +183,7 @@ fn count_end(ends: &mut [usize], iface: IfaceNo) {
 }
 
 /// The first interface that is not exactly one end of one link.
-fn use_fault(
-    alloc: Global,
-    count: usize,
-    links: &[Link],
-) -> Result<Option<WholeFault>, AllocError> {
+fn use_fault(alloc: Global, count: usize, links: &[Link]) -> Looked {
     let mut ends = vec![in alloc; 0usize; count]?;
     for link in links {
         count_end(&mut ends, link.a);
@@ -225,11 +215,7 @@ fn double_route(alloc: Global, routes: &[PlacedRoute]) -> Result<Option<Double>,
 }
 
 /// The first of so many nodes that has too many routes.
-fn routes_fault(
-    alloc: Global,
-    nodes: usize,
-    routes: &[PlacedRoute],
-) -> Result<Option<WholeFault>, AllocError> {
+fn routes_fault(alloc: Global, nodes: usize, routes: &[PlacedRoute]) -> Looked {
     let mut counts = vec![in alloc; 0usize; nodes]?;
     for placed in routes {
         if let Some(count) = counts.get_mut(placed.node.index()) {

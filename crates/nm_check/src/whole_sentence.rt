@@ -6,7 +6,7 @@ use crate::lack::{Lack, Lacking};
 use crate::line::table_line;
 use crate::sentence::push_meant;
 use crate::whole::{WholeFault, whole_fault};
-use crate::words::{Piece, push};
+use crate::words::{Appended, Piece, push};
 use nm_base::PartNo;
 use nm_base::limits::{MAX_CHANNELS, MAX_ROUTES_OF_NODE};
 use nm_topology::Refusal;
@@ -15,7 +15,7 @@ use nm_topology::keys::key::TableKey;
 use nm_topology::names::{Named, names_of};
 use nm_topology::parse::document::Document;
 use nm_topology::parse::sources::{NamedTraffic, SourceTable};
-use std::alloc::{AllocError, Global};
+use std::alloc::Global;
 
 /// The name of a node or of an interface, by its number.
 fn name_of<T: Named>(items: &[T], number: usize) -> &str {
@@ -82,7 +82,7 @@ fn owner_of<'a>(document: &'a Document, iface: &str) -> &'a str {
 }
 
 /// Appends a name in parentheses, behind what it is the name of.
-fn push_named<'a>(out: &mut Vec<u8>, what: &'a str, name: &'a str) -> Result<(), AllocError> {
+fn push_named<'a>(out: &mut Vec<u8>, what: &'a str, name: &'a str) -> Appended {
     push(
         out,
         &[
@@ -100,7 +100,7 @@ fn push_table_name(
     document: &Document,
     array: Array,
     number: usize,
-) -> Result<(), AllocError> {
+) -> Appended {
     push(
         out,
         &[
@@ -126,7 +126,7 @@ fn push_double(
     array: Array,
     double: Double,
     same: &[Piece],
-) -> Result<(), AllocError> {
+) -> Appended {
     push_table_name(out, document, array, double.second)?;
     push(out, &[Piece::Text(": ")])?;
     push_table_name(out, document, array, double.first)?;
@@ -142,7 +142,7 @@ fn push_none<'a>(
     known: &[&str],
     others: &[&str],
     other: &'a str,
-) -> Result<(), AllocError> {
+) -> Appended {
     push(
         out,
         &[
@@ -167,7 +167,7 @@ fn push_no_such(
     out: &mut Vec<u8>,
     document: &Document,
     lacking: Lacking,
-) -> Result<(), AllocError> {
+) -> Appended {
     let nodes = names_of(alloc, &document.nodes)?;
     let ifaces = names_of(alloc, &document.ifaces)?;
     match lacking.lack {
@@ -183,12 +183,7 @@ fn push_no_such(
 }
 
 /// Appends what a table names that is not there.
-fn push_lack(
-    alloc: Global,
-    out: &mut Vec<u8>,
-    document: &Document,
-    lacking: Lacking,
-) -> Result<(), AllocError> {
+fn push_lack(alloc: Global, out: &mut Vec<u8>, document: &Document, lacking: Lacking) -> Appended {
     push_table_name(out, document, lacking.array, lacking.number)?;
     push(out, &[Piece::Text(": ")])?;
     match lacking.lack {
@@ -209,12 +204,7 @@ fn push_lack(
 }
 
 /// Appends how many ends of links name an interface.
-fn push_ends(
-    out: &mut Vec<u8>,
-    document: &Document,
-    iface: usize,
-    ends: usize,
-) -> Result<(), AllocError> {
+fn push_ends(out: &mut Vec<u8>, document: &Document, iface: usize, ends: usize) -> Appended {
     push_table_name(out, document, Array::Iface, iface)?;
     match ends {
         0 => push(
@@ -233,11 +223,7 @@ fn push_ends(
 }
 
 /// Appends what two routes of a node have in common.
-fn push_double_route(
-    out: &mut Vec<u8>,
-    document: &Document,
-    double: Double,
-) -> Result<(), AllocError> {
+fn push_double_route(out: &mut Vec<u8>, document: &Document, double: Double) -> Appended {
     let Some(table) = document.routes.get(double.second) else {
         return Ok(());
     };
@@ -257,11 +243,7 @@ fn push_double_route(
 }
 
 /// Appends the address that two interfaces have.
-fn push_double_address(
-    out: &mut Vec<u8>,
-    document: &Document,
-    double: Double,
-) -> Result<(), AllocError> {
+fn push_double_address(out: &mut Vec<u8>, document: &Document, double: Double) -> Appended {
     let Some(table) = document.ifaces.get(double.second) else {
         return Ok(());
     };
@@ -278,7 +260,7 @@ fn push_double_address(
 }
 
 /// Appends that there are too many of something.
-fn push_many(out: &mut Vec<u8>, count: usize, what: &str, limit: usize) -> Result<(), AllocError> {
+fn push_many(out: &mut Vec<u8>, count: usize, what: &str, limit: usize) -> Appended {
     push(
         out,
         &[
@@ -290,7 +272,7 @@ fn push_many(out: &mut Vec<u8>, count: usize, what: &str, limit: usize) -> Resul
 }
 
 /// Appends that a link between two partitions delays by nothing.
-fn push_cut(out: &mut Vec<u8>, link: usize, a: PartNo, b: PartNo) -> Result<(), AllocError> {
+fn push_cut(out: &mut Vec<u8>, link: usize, a: PartNo, b: PartNo) -> Appended {
     push(
         out,
         &[
@@ -327,7 +309,7 @@ fn push_lacks(
     text: &str,
     document: &Document,
     lacking: &[Lacking],
-) -> Result<(), AllocError> {
+) -> Appended {
     for (place, lack) in lacking.iter().take(MAX_FAULTS).enumerate() {
         if place > 0 {
             out.push(b'\n')?;
@@ -360,7 +342,7 @@ fn push_fault(
     text: &str,
     document: &Document,
     fault: &WholeFault,
-) -> Result<(), AllocError> {
+) -> Appended {
     match fault {
         WholeFault::DoubleName { array, double } => push_double(
             out,
@@ -397,7 +379,7 @@ pub fn push_whole_fault(
     text: &str,
     document: &Document,
     refusal: Refusal,
-) -> Result<(), AllocError> {
+) -> Appended {
     match whole_fault(alloc, document)? {
         Some(fault) => {
             push_line(out, line_of_fault(text, &fault))?;

@@ -4,6 +4,9 @@ use nm_base::{push_number, push_text};
 use nm_packet::Address;
 use std::alloc::AllocError;
 
+/// Something was appended, or memory was refused for it.
+pub type Appended = Result<(), AllocError>;
+
 /// The most octets of a text that are shown.
 const MAX_SHOWN: usize = 40;
 
@@ -30,7 +33,7 @@ fn shown(octet: u8) -> u8 {
 }
 
 /// Appends a text between double quotes.
-fn push_quoted(out: &mut Vec<u8>, text: &[u8]) -> Result<(), AllocError> {
+fn push_quoted(out: &mut Vec<u8>, text: &[u8]) -> Appended {
     push_text(out, b"\"")?;
     for octet in text.iter().take(MAX_SHOWN) {
         out.push(shown(*octet))?;
@@ -42,7 +45,7 @@ fn push_quoted(out: &mut Vec<u8>, text: &[u8]) -> Result<(), AllocError> {
 }
 
 /// Appends an address.
-fn push_address(out: &mut Vec<u8>, address: Address) -> Result<(), AllocError> {
+fn push_address(out: &mut Vec<u8>, address: Address) -> Appended {
     let [a, b, c, d] = address.octets();
     push_number(out, a as u64)?;
     for octet in [b, c, d] {
@@ -52,7 +55,7 @@ fn push_address(out: &mut Vec<u8>, address: Address) -> Result<(), AllocError> {
     Ok(())
 }
 
-fn push_piece(out: &mut Vec<u8>, piece: &Piece) -> Result<(), AllocError> {
+fn push_piece(out: &mut Vec<u8>, piece: &Piece) -> Appended {
     match piece {
         Piece::Text(text) => push_text(out, text.as_bytes()),
         Piece::Number(number) => push_number(out, *number),
@@ -62,7 +65,7 @@ fn push_piece(out: &mut Vec<u8>, piece: &Piece) -> Result<(), AllocError> {
 }
 
 /// Appends pieces, one after another.
-pub fn push(out: &mut Vec<u8>, pieces: &[Piece]) -> Result<(), AllocError> {
+pub fn push(out: &mut Vec<u8>, pieces: &[Piece]) -> Appended {
     for piece in pieces {
         push_piece(out, piece)?;
     }

@@ -12,12 +12,11 @@ use crate::trace_file::{TraceFault, sink_outcome, write_at};
 use nm_base::{IfaceNo, Record, Sink};
 use nm_pcap::PcapOut;
 
+/// All was written, or why not.
+type Written = Result<(), TraceFault>;
+
 /// Writes those of the records that are at the interface.
-fn write_list<S: Sink>(
-    iface: IfaceNo,
-    records: &[Record],
-    file: &mut PcapOut<S>,
-) -> Result<(), TraceFault>
+fn write_list<S: Sink>(iface: IfaceNo, records: &[Record], file: &mut PcapOut<S>) -> Written
     requires sound { file.old.failed ≡ false }
     requires times { All (λ r. r.time ≤ MAX_TIME) records.now }
     ensures { WritesOn S.seen file.old file.new result
@@ -30,11 +29,7 @@ fn write_list<S: Sink>(
 }
 
 /// Writes the trace file of an interface with these records, of which nothing was written.
-fn write_whole<S: Sink>(
-    iface: IfaceNo,
-    records: &[Record],
-    file: &mut PcapOut<S>,
-) -> Result<(), TraceFault>
+fn write_whole<S: Sink>(iface: IfaceNo, records: &[Record], file: &mut PcapOut<S>) -> Written
     requires sound { file.old.failed ≡ false }
     requires times { All (λ r. r.time ≤ MAX_TIME) records.now }
     ensures { WritesOn S.seen file.old file.new result

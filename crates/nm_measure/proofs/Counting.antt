@@ -19,6 +19,7 @@ use Rattle.nm_model.specs.Run.{State, step, step_at}
 use Rattle.nm_model.proofs.ListLemmas.{kept-append, not_some, some_inj}
 use Rattle.nm_sim.specs.Network.{net_of}
 use Rattle.nm_sim.specs.Part.{PartValue, Represents}
+use Rattle.nm_measure.specs.declared.amounts.Amount.{Amount}
 use Rattle.nm_measure.specs.declared.amounts.IfaceTraffic.{IfaceTraffic}
 use Rattle.nm_measure.specs.Amounts.{AreTraffic, amount_after, amount_of, came_to, is_in, traffic_after, traffic_of, went_from}
 use Rattle.nm_measure.specs.Measured.{IsCounted}
@@ -66,6 +67,12 @@ amount_more f l r false h =
     let e : keep_where f (l ++ r ∷ []) ≡ own = kept-append f l (r ∷ []) ∙ ap (λ b. own ++ cond b (r ∷ []) []) h ∙ nothing_more own in
     ap (λ k. record { packets = saturated (length k); octets = saturated (sum_by (λ (x : Record (List ℕ)). length x.packet) k) }) e
 
+-- of two amounts one is another
+one_of_two : (b : Bool) (came in_after went out_after : Amount) → ◌≡◌ {A = IfaceTraffic} (record { came = cond b in_after came; went = cond (not b) out_after went })
+    (cond b (record { came = in_after; went = went }) (record { came = came; went = out_after }))
+one_of_two true came in_after went out_after = refl
+one_of_two false came in_after went out_after = refl
+
 -- the traffic of an interface with one more record
 traffic_more : (i : ℕ) (l : List (Record (List ℕ))) (r : Record (List ℕ)) (b : Bool) → (i == r.iface) ≡ b
     → traffic_of i (l ++ r ∷ []) ≡ cond b (traffic_after (traffic_of i l) r) (traffic_of i l)
@@ -75,16 +82,11 @@ traffic_more i l r b h = go b here (is_in r.dir) refl
     here = grind (arith, nat_tests, h)
 
     go : (b : Bool) → (r.iface == i) ≡ b → (d : Bool) → is_in r.dir ≡ d → traffic_of i (l ++ r ∷ []) ≡ cond b (traffic_after (traffic_of i l) r) (traffic_of i l)
-    go true e true f =
-        let came = amount_more (came_to i) l r true (λ k. e k && f k) in
-        let went = amount_more (went_from i) l r false (λ k. e k && not (f k)) in
+    go true e d f =
+        let came = amount_more (came_to i) l r d (λ k. e k && f k) in
+        let went = amount_more (went_from i) l r (not d) (λ k. e k && not (f k)) in
         (λ k. record { came = came k; went = went k })
-        ∙ sym (ap (λ z. cond z (record { came = amount_after (amount_of (came_to i) l) (length r.packet); went = amount_of (went_from i) l })
-        (record { came = amount_of (came_to i) l; went = amount_after (amount_of (went_from i) l) (length r.packet) })) f)
-    go true e false f =
-        let came = amount_more (came_to i) l r false (λ k. e k && f k) in
-        let went = amount_more (went_from i) l r true (λ k. e k && not (f k)) in
-        (λ k. record { came = came k; went = went k })
+        ∙ one_of_two d _ _ _ _
         ∙ sym (ap (λ z. cond z (record { came = amount_after (amount_of (came_to i) l) (length r.packet); went = amount_of (went_from i) l })
         (record { came = amount_of (came_to i) l; went = amount_after (amount_of (went_from i) l) (length r.packet) })) f)
     go false e d f =

@@ -26,7 +26,7 @@ pub use courses::{Course, Ended, Hop};
 pub use delays::Delays;
 pub use flow_counts::{FlowCounts, PacketOutcome};
 pub use flow_times::FlowTimes;
-pub use lines::end_line;
+pub use lines::{Appended, MadeText, end_line};
 pub use measured::Measured;
 pub use measuring::measure;
 pub use share::thousandths;

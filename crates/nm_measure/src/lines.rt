@@ -6,6 +6,12 @@ ghost use Rattle.nm_measure.specs.Lines.{EndsLine};
 use nm_base::push_text;
 use std::alloc::AllocError;
 
+/// A text that was made, or that memory was refused for it.
+pub type MadeText = Result<Vec<u8>, AllocError>;
+
+/// Something was appended, or memory was refused for it.
+pub type Appended = Result<(), AllocError>;
+
 /// Appends a line feed.
 ///
 /// # Errors

@@ -108,11 +108,7 @@ module _ {P : Type 0} where
 
     pub clock_none : (t : ℕ) (o : Option (ℕ × P)) → clock_fault c t o ≡ None → (b : ℕ × P) → o ≡ Some b → t ≤ b.0
     clock_none t None e b f = absurd (cc)
-    clock_none t (Some m) e b f = go (ltb m.0 t) refl e
-      where
-        go : (z : Bool) → ltb m.0 t ≡ z → cond z (Some (ClockFault c)) None ≡ None → t ≤ b.0
-        go true g h = absurd (cc)
-        go false g h = let s : m ≡ b = cc in let u = ap (λ (v : ℕ × P). v.0) s in let le : t ≤ m.0 = grind (arith, nat_tests) in omega arith
+    clock_none t (Some m) e b f = let s : m ≡ b = cc in let u = ap (λ (v : ℕ × P). v.0) s in let le = no_less (ClockFault c) t m.0 e in omega arith
 
     none_clock : (t : ℕ) (o : Option (ℕ × P)) → ((b : ℕ × P) → o ≡ Some b → t ≤ b.0) → clock_fault c t o ≡ None
     none_clock t None h = refl

@@ -6,7 +6,7 @@ use Rattle.nm_model.specs.Lists.{nth, IsPrefix, IsRising}
 use Rattle.nm_model.specs.Knowledge.{Knowledge, Know, IsKnow, nothing_known, IsValid, IsUnder, IsCompatible}
 use Rattle.nm_model.specs.Accept.{Answer, New, Raised, Known, Gap, Differs, Late, NotRising, Accepted, IsReflexive, TellsApart, same_message, last_from, data_at, accept_data, null_at, accept_null}
 use Rattle.nm_model.specs.Join.{first_differs, late_past, or_else, differs_at, join_fault, Shows, at_channel, join_faults, join}
-use Rattle.nm_model.proofs.ListLemmas.{some_inj, below_or_at, number_is, below_nth, nth_below, nth_push, prefix_self}
+use Rattle.nm_model.proofs.ListLemmas.{some_inj, no_less, below_or_at, number_is, below_nth, nth_below, nth_push, prefix_self}
 use Rattle.nm_model.proofs.Invariants.{rising_push}
 use Rattle.nm_model.proofs.Cut.{and_both}
 use Rattle.nm_model.proofs.Accepting.{same_self}
@@ -31,11 +31,7 @@ at_none n (Some x) e = absurd (cc)
 module _ {P : Type 0} where
   on_time : (t : ℕ) (o : Option (ℕ × P)) → late_past t o ≡ None → (x : ℕ × P) → o ≡ Some x → t ≤ x.0
   on_time t None e x f = absurd (cc)
-  on_time t (Some m) e x f = go (ltb m.0 t) refl e
-    where
-      go : (z : Bool) → ltb m.0 t ≡ z → cond z (Some (Late t)) None ≡ None → t ≤ x.0
-      go true g h = absurd (cc)
-      go false g h = let s : m ≡ x = cc in let u = ap (λ (v : ℕ × P). v.0) s in let le : t ≤ m.0 = grind (arith, nat_tests) in omega arith
+  on_time t (Some m) e x f = let s : m ≡ x = cc in let u = ap (λ (v : ℕ × P). v.0) s in let le = no_less (Late t) t m.0 e in omega arith
 
   -- all past a number where the first is late enough
   rest_later : (t k : ℕ) (l : List (ℕ × P)) → IsRising l → ((x : ℕ × P) → nth l k ≡ Some x → t ≤ x.0) → (n : ℕ) (b : ℕ × P) → k ≤ n → nth l n ≡ Some b → t ≤ b.0

@@ -1,5 +1,5 @@
 -- Lists read at a number, prefixes, and functions changed at a number.
-use Rattle.std.proofs.Common.{◌≡◌, ◌≢◌, ◌⊎◌, inl, inr, ℕ, zero, suc, ◌+◌, ◌<◌, ◌≤◌, Bool, true, false, cond, List, [], ◌∷◌, ◌++◌, length, drop, Option, Some, None, refl, sym, ap, ap₂, ◌∙◌, subst, arith, ◌==◌, append_assoc, append-nil, length-append, ⊎_elim}
+use Rattle.std.proofs.Common.{◌≡◌, ◌≢◌, ◌⊎◌, inl, inr, ℕ, zero, suc, ◌+◌, ◌<◌, ◌≤◌, Bool, true, false, cond, ltb, List, [], ◌∷◌, ◌++◌, length, drop, Option, Some, None, refl, sym, ap, ap₂, ◌∙◌, subst, arith, ◌==◌, append_assoc, append-nil, length-append, ⊎_elim}
 use Rattle.std.proofs.lemmas.Bool.Decides.{nat_tests}
 use Rattle.nm_model.specs.Lists.{nth, IsPrefix, set_at, keep_where}
 
@@ -144,3 +144,11 @@ module _ {A : Type 0} where
 
 pub same_time : {P : Type 0} (t u : ℕ) (x y : P) (o : Option (ℕ × P)) → o ≡ Some (t, x) → o ≡ Some (u, y) → (t ≡ u) × (x ≡ y)
 same_time {P} t u x y o e f = let g = some_inj {A = ℕ × P} (t, x) (u, y) (sym e ∙ f) in (ap (λ z. z.0) g, ap (λ z. z.1) g)
+
+-- where no fault is found that a lesser number has, the number is no less
+pub no_less : {F : Type 0} (f : F) (t n : ℕ) → cond (ltb n t) (Some f) None ≡ None → t ≤ n
+no_less f t n = go (ltb n t) refl
+  where
+    go : (z : Bool) → ltb n t ≡ z → cond z (Some f) None ≡ None → t ≤ n
+    go true g h = absurd (cc)
+    go false g h = grind (arith, nat_tests)

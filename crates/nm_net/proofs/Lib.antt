@@ -1,4 +1,5 @@
 pub mod Owners
+pub mod Changing
 pub mod Greeting
 pub mod Endings
 pub mod Polls

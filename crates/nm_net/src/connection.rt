@@ -47,12 +47,12 @@ pub(crate) struct Remains {
 }
 
 impl<W> Connection<W> {
-    /// A connection to this peer, on which nothing has moved. Its octets count, or do not.
-    pub(crate) fn called(link: Link<CountingWire<W>>, peer: usize, counts: bool) -> Self {
+    /// A connection on which nothing has moved.
+    fn begun(link: Link<CountingWire<W>>, peer: Option<usize>, came: u64, counts: bool) -> Self {
         Connection {
             link,
-            peer: Some(peer),
-            came: 0,
+            peer,
+            came,
             counts,
             is_met: false,
             is_replaced: false,
@@ -63,20 +63,14 @@ impl<W> Connection<W> {
         }
     }
 
+    /// A connection to this peer, on which nothing has moved. Its octets count, or do not.
+    pub(crate) fn called(link: Link<CountingWire<W>>, peer: usize, counts: bool) -> Self {
+        Connection::begun(link, Some(peer), 0, counts)
+    }
+
     /// A connection that someone began after so many others, on which nothing has moved.
     pub(crate) fn accepted(link: Link<CountingWire<W>>, came: u64) -> Self {
-        Connection {
-            link,
-            peer: None,
-            came,
-            counts: true,
-            is_met: false,
-            is_replaced: false,
-            counted: 0,
-            heard: 0,
-            framed: Frames::NONE,
-            waited: Lasted::new(),
-        }
+        Connection::begun(link, None, came, true)
     }
 
     /// How many octets moved since they were counted last. Before the peer's Hello has come none

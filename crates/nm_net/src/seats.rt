@@ -8,6 +8,7 @@ ghost use Rattle.nm_topology.specs.Topology.{receiving_iface};
 
 use nm_base::PartNo;
 use nm_book::channels::goes_out;
+use nm_frames::ReplicaName;
 use nm_shared::{ClockBoard, OwnerSeat};
 use nm_topology::Topology;
 use std::alloc::{AllocError, Global};
@@ -25,25 +26,40 @@ pub fn is_own(topology: &Topology, partition: PartNo, replica: u8, seat: &OwnerS
         && seat.replica() == replica
 }
 
-/// Those of the seats that are the replica's. The others are let go.
-fn own_of(
+/// Seats that own words of one board: those of one replica, and the others.
+#[derive(Drop)]
+pub struct Dealt {
+    pub own: Vec<OwnerSeat>,
+    pub others: Vec<OwnerSeat>,
+}
+
+/// Deals a replica the seats of its outgoing channels.
+///
+/// # Errors
+///
+/// Where memory was refused.
+pub fn deal(
     alloc: Global,
     topology: &Topology,
     board: &ClockBoard,
-    partition: PartNo,
-    replica: u8,
+    name: ReplicaName,
     owners: Vec<OwnerSeat>,
-) -> Result<Vec<OwnerSeat>, AllocError>
+) -> Result<Dealt, AllocError>
     requires { All (IsOwnerOf board.now) owners.items }
-    ensures { IfOk result (λ own. All (IsOwnerOf board.now) own.items) }
+    ensures own { IfOk result (λ d. All (IsOwnerOf board.now) d.own.items) }
+    ensures others { IfOk result (λ d. All (IsOwnerOf board.now) d.others.items) }
 {
+    let ReplicaName { partition, replica } = name;
     let mut own = Vec::new(alloc);
+    let mut others = Vec::new(alloc);
     for seat in owners {
         if is_own(topology, partition, replica, &seat) {
             own.push(seat)?;
+        } else {
+            others.push(seat)?;
         }
     }
-    Ok(own)
+    Ok(Dealt { own, others })
 }
 
 /// Of all seats that own a word of a new board, those of the outgoing channels of one replica. The
@@ -64,5 +80,7 @@ pub fn own_seats(
     requires { AreFirstOwners board.now owners.items }
     ensures { IfOk result (λ own. All (IsOwnerOf board.now) own.items) }
 {
-    own_of(alloc, topology, board, partition, replica, owners)
+    let replica = ReplicaName { partition, replica };
+    let Dealt { own, others: _ } = deal(alloc, topology, board, replica, owners)?;
+    Ok(own)
 }

@@ -1,7 +1,9 @@
 //! Threads that tell one shared book the same.
 
-ghost use Rattle.std.specs.Prelude.{◌≡◌, ◌^◌};
+ghost use Rattle.std.specs.Prelude.{◌≡◌};
 ghost use Rattle.std.specs.Arc.{arc_value};
+ghost use Rattle.nm_shared.specs.Counted.{IsBlankOf};
+ghost use Rattle.nm_shared.specs.Known.{home_at};
 
 use crate::messages::{message, messages, null};
 use crate::sides::topology_of;
@@ -28,15 +30,9 @@ pub(crate) fn shared_of<M: Naming + Send + Sync, E: Ledger + Send + Sync, R: Abo
     messages: Blank,
     events: Blank,
 ) -> SharedBook<Ledgers<M, E>>
-    requires messages { (messages.name ≡ M.name) × (messages.parts ≡ M.parts)
-        × (messages.parts ≡ 2 ^ 32) }
-    requires events { (events.name ≡ E.name) × (events.parts ≡ E.parts)
-        × (events.parts ≡ 2 ^ 32) }
-    requires home { M.home ≡ record {
-      topology = arc_value topology;
-      partition = 1;
-      replica = replica;
-    } }
+    requires messages { IsBlankOf M.name M.parts messages.name messages.parts }
+    requires events { IsBlankOf E.name E.parts events.name events.parts }
+    requires home { M.home ≡ home_at (arc_value topology) 1 replica }
 {
     let (counts, whole) = Ledgers::<M, E>::open(messages, events);
     SharedBook::new(alloc, topology, PartNo::new(1), replica, counts, whole).expect(rt, "a replica")
@@ -139,15 +135,9 @@ fn handed_by_many<
     threads: usize,
     all: &[ChannelMessage],
 ) -> Handed
-    requires messages { (messages.name ≡ M.name) × (messages.parts ≡ M.parts)
-        × (messages.parts ≡ 2 ^ 32) }
-    requires events { (events.name ≡ E.name) × (events.parts ≡ E.parts)
-        × (events.parts ≡ 2 ^ 32) }
-    requires home { M.home ≡ record {
-      topology = arc_value topology;
-      partition = 1;
-      replica = 0;
-    } }
+    requires messages { IsBlankOf M.name M.parts messages.name messages.parts }
+    requires events { IsBlankOf E.name E.parts events.name events.parts }
+    requires home { M.home ≡ home_at (arc_value topology) 1 0 }
 {
     let shared = shared_of::<M, E, R>(rt, alloc, topology, 0, messages, events);
     let told = hand_at_once(rt, alloc, &shared, threads, all);
@@ -204,15 +194,9 @@ fn held_back_of<M: Naming + Send + Sync, E: Ledger + Send + Sync, R: Wait + Abor
     events: Blank,
     message: &ChannelMessage,
 ) -> (usize, u64, u64)
-    requires messages { (messages.name ≡ M.name) × (messages.parts ≡ M.parts)
-        × (messages.parts ≡ 2 ^ 32) }
-    requires events { (events.name ≡ E.name) × (events.parts ≡ E.parts)
-        × (events.parts ≡ 2 ^ 32) }
-    requires home { M.home ≡ record {
-      topology = arc_value topology;
-      partition = 1;
-      replica = 0;
-    } }
+    requires messages { IsBlankOf M.name M.parts messages.name messages.parts }
+    requires events { IsBlankOf E.name E.parts events.name events.parts }
+    requires home { M.home ≡ home_at (arc_value topology) 1 0 }
 {
     let shared = shared_of::<M, E, R>(rt, alloc, topology, 0, messages, events);
     let mut one = shared.pass(rt).expect(rt, "memory");

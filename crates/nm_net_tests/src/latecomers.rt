@@ -2,6 +2,8 @@
 
 ghost use Rattle.std.specs.Prelude.{◌≡◌, ◌^◌};
 ghost use Rattle.std.specs.Arc.{arc_value};
+ghost use Rattle.nm_shared.specs.Counted.{IsBlankOf};
+ghost use Rattle.nm_shared.specs.Known.{home_at};
 
 use crate::callers::shared_of;
 use crate::messages::{message, null};
@@ -64,15 +66,9 @@ fn first_of<M: Naming + Send + Sync, E: Ledger + Send + Sync, R: Wait + Abort>(
     messages: Blank,
     events: Blank,
 ) -> (Finished, Knowledge)
-    requires messages { (messages.name ≡ M.name) × (messages.parts ≡ M.parts)
-        × (messages.parts ≡ 2 ^ 32) }
-    requires events { (events.name ≡ E.name) × (events.parts ≡ E.parts)
-        × (events.parts ≡ 2 ^ 32) }
-    requires home { M.home ≡ record {
-      topology = arc_value topology;
-      partition = 1;
-      replica = 0;
-    } }
+    requires messages { IsBlankOf M.name M.parts messages.name messages.parts }
+    requires events { IsBlankOf E.name E.parts events.name events.parts }
+    requires home { M.home ≡ home_at (arc_value topology) 1 0 }
 {
     let shared = shared_of::<M, E, R>(rt, alloc, topology, 0, messages, events);
     let mut pass = shared.pass(rt).expect(rt, "memory");
@@ -98,15 +94,9 @@ fn second_of<M: Naming + Send + Sync, E: Ledger + Send + Sync, R: Wait + Abort>(
     events: Blank,
     knowledge: &Knowledge,
 ) -> Finished
-    requires messages { (messages.name ≡ M.name) × (messages.parts ≡ M.parts)
-        × (messages.parts ≡ 2 ^ 32) }
-    requires events { (events.name ≡ E.name) × (events.parts ≡ E.parts)
-        × (events.parts ≡ 2 ^ 32) }
-    requires home { M.home ≡ record {
-      topology = arc_value topology;
-      partition = 1;
-      replica = 1;
-    } }
+    requires messages { IsBlankOf M.name M.parts messages.name messages.parts }
+    requires events { IsBlankOf E.name E.parts events.name events.parts }
+    requires home { M.home ≡ home_at (arc_value topology) 1 1 }
 {
     let shared = shared_of::<M, E, R>(rt, alloc, topology, 1, messages, events);
     let mut pass = shared.pass(rt).expect(rt, "memory");

@@ -1,14 +1,15 @@
 -- UDP datagrams as they are written and as they are read.
-use Rattle.std.proofs.Common.{◌≡◌, ℕ, ◌/◌, ◌%◌, ◌<◌, ◌≤◌, ◌⊎◌, ⊎_elim, ◌==◌, not, false, List, ◌∷◌, ◌++◌, length, take, drop, slice_index, Some, None, Result, Ok, Err, refl, sym, ap, subst, ◌∙◌, arith, inl, inr}
+use Rattle.std.proofs.Common.{◌≡◌, ℕ, ◌<◌, ◌≤◌, ◌⊎◌, ⊎_elim, ◌==◌, not, false, List, ◌∷◌, ◌++◌, length, take, drop, slice_index, Some, None, Result, Ok, Err, refl, sym, ap, subst, ◌∙◌, arith, inl, inr}
 use Rattle.std.proofs.lemmas.Bool.{le-ltb, eq-eqb, and_right}
 use Rattle.std.proofs.lemmas.Grind.{common_steps}
-use Rattle.std.proofs.lemmas.List.{get_or_append_left, get_or-take, take_at, drop_more, length-append, length-take, length-take-le}
+use Rattle.std.proofs.lemmas.List.{get_or_append_left, get_or-take, take_at, length-append, length-take, length-take-le}
 use Rattle.std.specs.Result.{IfOk, MatchResult}
 use Rattle.nm_packet.specs.Octets.{IsOctets, word_at}
 use Rattle.nm_packet.specs.Checksum.{folded}
 use Rattle.nm_packet.specs.Udp.{UdpHeader, udp_octets, udp_sum, IsDatagram, IsUdp, udp_fields_of, udp_data_of, udp_cut_of, udp_fault}
 use Rattle.nm_packet.specs.declared.fault.UdpFault.{UdpFault}
 use Rattle.nm_packet.proofs.Grammar.{IsOctets-take}
+use Rattle.nm_packet.proofs.Numbers.{octets_of_word, one_by_one_is}
 
 module _ (source destination : ℕ) where
   -- the tests pass where each of them does
@@ -68,30 +69,14 @@ checksum_passed source destination octets none = grind (arith, common_steps)
 
 -- the first 8 octets and the rest
 split8 : (xs : List ℕ) → 8 ≤ length xs → xs ≡ slice_index xs 0 ∷ slice_index xs 1 ∷ slice_index xs 2 ∷ slice_index xs 3 ∷ slice_index xs 4 ∷ slice_index xs 5 ∷ slice_index xs 6 ∷ slice_index xs 7 ∷ drop 8 xs
-split8 xs h =
-    let e0 : drop 0 xs ≡ slice_index xs 0 ∷ drop 1 xs = drop_more xs 0 0 (omega arith) in
-    let e1 : drop 1 xs ≡ slice_index xs 1 ∷ drop 2 xs = drop_more xs 1 0 (omega arith) in
-    let e2 : drop 2 xs ≡ slice_index xs 2 ∷ drop 3 xs = drop_more xs 2 0 (omega arith) in
-    let e3 : drop 3 xs ≡ slice_index xs 3 ∷ drop 4 xs = drop_more xs 3 0 (omega arith) in
-    let e4 : drop 4 xs ≡ slice_index xs 4 ∷ drop 5 xs = drop_more xs 4 0 (omega arith) in
-    let e5 : drop 5 xs ≡ slice_index xs 5 ∷ drop 6 xs = drop_more xs 5 0 (omega arith) in
-    let e6 : drop 6 xs ≡ slice_index xs 6 ∷ drop 7 xs = drop_more xs 6 0 (omega arith) in
-    let e7 : drop 7 xs ≡ slice_index xs 7 ∷ drop 8 xs = drop_more xs 7 0 (omega arith) in
-    cc
+split8 xs h = one_by_one_is 8 0 xs h
 
 -- octets of the length that they say are spelled by their fields and their data
 udp_spelled : (xs : List ℕ) → IsOctets xs → IsDatagram xs → xs ≡ udp_octets (udp_fields_of xs) (udp_data_of xs)
 udp_spelled xs small whole =
-    let h0 : slice_index xs 0 ≡ word_at xs 0 / 256 = omega (arith, small 0, small 1) in
-    let h1 : slice_index xs 1 ≡ word_at xs 0 % 256 = omega (arith, small 0, small 1) in
-    let h2 : slice_index xs 2 ≡ word_at xs 2 / 256 = omega (arith, small 2, small 3) in
-    let h3 : slice_index xs 3 ≡ word_at xs 2 % 256 = omega (arith, small 2, small 3) in
-    let h4 : slice_index xs 4 ≡ word_at xs 4 / 256 = omega (arith, small 4, small 5) in
-    let h5 : slice_index xs 5 ≡ word_at xs 4 % 256 = omega (arith, small 4, small 5) in
-    let h6 : slice_index xs 6 ≡ word_at xs 6 / 256 = omega (arith, small 6, small 7) in
-    let h7 : slice_index xs 7 ≡ word_at xs 6 % 256 = omega (arith, small 6, small 7) in
+    let w = octets_of_word xs small in
     let split = split8 xs whole.least in
-    cc
+    cc ((w 0).0, (w 0).1, (w 2).0, (w 2).1, (w 4).0, (w 4).1, (w 6).0, (w 6).1)
 
 -- the octets that such a reader cuts off are a datagram
 cut_is_udp : (source destination : ℕ) (octets : List ℕ) → IsOctets octets → udp_fault source destination octets ≡ None → IsDatagram (udp_cut_of octets) → IsUdp source destination (udp_fields_of (udp_cut_of octets)) (udp_data_of (udp_cut_of octets)) (udp_cut_of octets)

@@ -11,6 +11,18 @@ use Rattle.nm_packet.specs.declared.fault.HeaderFault.TheVariants.{Total}
 pub header_sum : (octets : List ℕ) (n sum : ℕ) → n ≡ header_length_of octets → sum ≡ folded (word_sum (take n octets)) → sum ≡ 65535 → folded (word_sum (header_of octets)) ≡ 65535
 header_sum octets n sum is e full = ap (λ (k : ℕ). folded (word_sum (take k octets))) (sym is) ∙ sym e ∙ full
 
+-- octets are a packet where the header says so and has its sum
+pub is_packet : (xs : List ℕ) → slice_index xs 0 / 16 ≡ 4 → 20 ≤ header_length_of xs → header_length_of xs ≤ length xs → length xs < 65536 → folded (word_sum (header_of xs)) ≡ 65535 → word_at xs 2 ≡ length xs → IsPacket xs
+is_packet xs version ihl header greatest checksum total = record {
+  least = omega arith;
+  greatest = greatest;
+  version = version;
+  ihl = ihl;
+  header = header;
+  header_checksum = checksum;
+  total_length = total;
+}
+
 module _ (octets : List ℕ) (least : 20 ≤ length octets) (version : slice_index octets 0 / 16 ≡ 4) (ihl : 20 ≤ header_length_of octets) (header : header_length_of octets ≤ length octets) (checksum : folded (word_sum (header_of octets)) ≡ 65535) where
   pub total_fault : (word_at octets 2 < header_length_of octets) ⊎ (length octets < word_at octets 2) → header_fault octets ≡ Some Total
   total_fault (inl h) = rw (le-ltb (length octets) 20 least, eq-eqb _ 4 version, le-ltb _ _ ihl, le-ltb _ _ header, eq-eqb _ 65535 checksum, lt-ltb _ _ h) refl
@@ -29,12 +41,4 @@ module _ (octets : List ℕ) (least : 20 ≤ length octets) (version : slice_ind
         let third = octet 2 (omega arith) in
         let fourth = octet 3 (omega arith) in
         let same : header_of (take n octets) ≡ header_of octets = rw first (take-take (header_length_of octets) n octets low) in
-        record {
-          least = omega arith;
-          greatest = omega arith;
-          version = omega arith;
-          ihl = omega arith;
-          header = omega arith;
-          header_checksum = ap (λ (l : List ℕ). folded (word_sum l)) same ∙ checksum;
-          total_length = omega arith;
-        }
+        is_packet _ (omega arith) (omega arith) (omega arith) (omega arith) (ap (λ (l : List ℕ). folded (word_sum l)) same ∙ checksum) (omega arith)

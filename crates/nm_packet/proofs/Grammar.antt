@@ -1,50 +1,25 @@
 -- IPv4 packets as they are written and as they are read.
 use Rattle.std.proofs.Common.{◌≡◌, ℕ, ◌+◌, ◌*◌, ◌/◌, ◌%◌, ◌<◌, ◌≤◌, List, ◌∷◌, ◌++◌, length, take, drop, slice_index, Some, None, Result, Ok, Err, refl, sym, ap, ◌∙◌, ⊎_elim, arith}
-use Rattle.std.proofs.lemmas.List.{get_or-take, get_or_past, get_or_append_left, take_at, drop_at, take-append-le, length-append, length-drop, drop_more, drop-append-le, take-append-drop, length-take, length-take-le}
+use Rattle.std.proofs.lemmas.List.{get_or-take, get_or_past, get_or_append_left, take_at, drop_at, take-append-le, length-append, length-drop, drop-append-le, take-append-drop, length-take, length-take-le}
 use Rattle.std.proofs.lemmas.Bool.{cases_lt}
 use Rattle.std.specs.Result.{MatchResult, IfOk}
 use Rattle.nm_packet.specs.Octets.{word_at, long_word_at, IsOctets}
 use Rattle.nm_packet.specs.Checksum.{word_sum, folded}
 use Rattle.nm_packet.specs.Ipv4.{Header, HeaderFits, header_octets, IsIpv4, header_length_of, header_of, payload_of, fields_of, cut_of, header_fault, IsPacket}
 use Rattle.nm_packet.specs.declared.fault.HeaderFault.{HeaderFault}
-use Rattle.nm_packet.proofs.Faults.{no_fault}
+use Rattle.nm_packet.proofs.Faults.{no_fault, is_packet}
+use Rattle.nm_packet.proofs.Numbers.{octets_of_word, one_by_one_is}
 
 -- the first 20 octets and the rest
 pub split20 : (xs : List ℕ) → 20 ≤ length xs → xs ≡ slice_index xs 0 ∷ slice_index xs 1 ∷ slice_index xs 2 ∷ slice_index xs 3 ∷ slice_index xs 4 ∷ slice_index xs 5 ∷ slice_index xs 6 ∷ slice_index xs 7 ∷ slice_index xs 8 ∷ slice_index xs 9 ∷ slice_index xs 10 ∷ slice_index xs 11 ∷ slice_index xs 12 ∷ slice_index xs 13 ∷ slice_index xs 14 ∷ slice_index xs 15 ∷ slice_index xs 16 ∷ slice_index xs 17 ∷ slice_index xs 18 ∷ slice_index xs 19 ∷ drop 20 xs
-split20 xs h =
-    let e0 : drop 0 xs ≡ slice_index xs 0 ∷ drop 1 xs = drop_more xs 0 0 (omega arith) in
-    let e1 : drop 1 xs ≡ slice_index xs 1 ∷ drop 2 xs = drop_more xs 1 0 (omega arith) in
-    let e2 : drop 2 xs ≡ slice_index xs 2 ∷ drop 3 xs = drop_more xs 2 0 (omega arith) in
-    let e3 : drop 3 xs ≡ slice_index xs 3 ∷ drop 4 xs = drop_more xs 3 0 (omega arith) in
-    let e4 : drop 4 xs ≡ slice_index xs 4 ∷ drop 5 xs = drop_more xs 4 0 (omega arith) in
-    let e5 : drop 5 xs ≡ slice_index xs 5 ∷ drop 6 xs = drop_more xs 5 0 (omega arith) in
-    let e6 : drop 6 xs ≡ slice_index xs 6 ∷ drop 7 xs = drop_more xs 6 0 (omega arith) in
-    let e7 : drop 7 xs ≡ slice_index xs 7 ∷ drop 8 xs = drop_more xs 7 0 (omega arith) in
-    let e8 : drop 8 xs ≡ slice_index xs 8 ∷ drop 9 xs = drop_more xs 8 0 (omega arith) in
-    let e9 : drop 9 xs ≡ slice_index xs 9 ∷ drop 10 xs = drop_more xs 9 0 (omega arith) in
-    let e10 : drop 10 xs ≡ slice_index xs 10 ∷ drop 11 xs = drop_more xs 10 0 (omega arith) in
-    let e11 : drop 11 xs ≡ slice_index xs 11 ∷ drop 12 xs = drop_more xs 11 0 (omega arith) in
-    let e12 : drop 12 xs ≡ slice_index xs 12 ∷ drop 13 xs = drop_more xs 12 0 (omega arith) in
-    let e13 : drop 13 xs ≡ slice_index xs 13 ∷ drop 14 xs = drop_more xs 13 0 (omega arith) in
-    let e14 : drop 14 xs ≡ slice_index xs 14 ∷ drop 15 xs = drop_more xs 14 0 (omega arith) in
-    let e15 : drop 15 xs ≡ slice_index xs 15 ∷ drop 16 xs = drop_more xs 15 0 (omega arith) in
-    let e16 : drop 16 xs ≡ slice_index xs 16 ∷ drop 17 xs = drop_more xs 16 0 (omega arith) in
-    let e17 : drop 17 xs ≡ slice_index xs 17 ∷ drop 18 xs = drop_more xs 17 0 (omega arith) in
-    let e18 : drop 18 xs ≡ slice_index xs 18 ∷ drop 19 xs = drop_more xs 18 0 (omega arith) in
-    let e19 : drop 19 xs ≡ slice_index xs 19 ∷ drop 20 xs = drop_more xs 19 0 (omega arith) in
-    cc
+split20 xs h = one_by_one_is 20 0 xs h
 
 -- the octets of a packet are spelled by the fields that are read of them
 pub spelled-fields : (xs : List ℕ) → IsOctets xs → IsPacket xs → xs ≡ header_octets (fields_of xs) ++ payload_of xs
 spelled-fields xs small packet =
     let n = header_length_of xs in
     let first : slice_index xs 0 ≡ 64 + slice_index xs 0 % 16 = omega arith in
-    let h2 : slice_index xs 2 ≡ word_at xs 2 / 256 = omega (arith, small 2, small 3) in
-    let h3 : slice_index xs 3 ≡ word_at xs 2 % 256 = omega (arith, small 2, small 3) in
-    let h4 : slice_index xs 4 ≡ word_at xs 4 / 256 = omega (arith, small 4, small 5) in
-    let h5 : slice_index xs 5 ≡ word_at xs 4 % 256 = omega (arith, small 4, small 5) in
-    let h10 : slice_index xs 10 ≡ word_at xs 10 / 256 = omega (arith, small 10, small 11) in
-    let h11 : slice_index xs 11 ≡ word_at xs 10 % 256 = omega (arith, small 10, small 11) in
+    let w = octets_of_word xs small in
     let h6 : slice_index xs 6 ≡ (word_at xs 6 / 8192 * 8192 + word_at xs 6 % 8192) / 256 = omega (arith, small 6, small 7) in
     let h7 : slice_index xs 7 ≡ (word_at xs 6 / 8192 * 8192 + word_at xs 6 % 8192) % 256 = omega (arith, small 6, small 7) in
     let h12 : slice_index xs 12 ≡ long_word_at xs 12 / 16777216 = omega (arith, small 12, small 13, small 14, small 15) in
@@ -59,7 +34,7 @@ spelled-fields xs small packet =
     let long : 20 ≤ length (take n xs) = omega (arith, length-take-le n xs packet.header) in
     let rest : drop 20 xs ≡ drop 20 (take n xs) ++ drop n xs = ap (drop 20) (sym whole) ∙ drop-append-le 20 (take n xs) (drop n xs) long in
     let split = split20 xs (omega arith) in
-    cc
+    cc ((w 2).0, (w 2).1, (w 4).0, (w 4).1, (w 10).0, (w 10).1)
 
 pub IsOctets-take : (n : ℕ) (xs : List ℕ) → IsOctets xs → IsOctets (take n xs)
 IsOctets-take n xs small i = ⊎_elim
@@ -154,15 +129,7 @@ IsPacket-IsIpv4 h payload xs p =
     let ihl = p.fits.ihl in
     let fits = p.fits.total_length in
     let whole = p.total_length in
-    record {
-      least = omega arith;
-      greatest = omega arith;
-      version = omega arith;
-      ihl = omega arith;
-      header = omega arith;
-      header_checksum = ap (λ (l : List ℕ). folded (word_sum l)) header ∙ p.header_checksum;
-      total_length = omega arith;
-    }
+    is_packet xs (omega arith) (omega arith) (omega arith) (omega arith) (ap (λ (l : List ℕ). folded (word_sum l)) header ∙ p.header_checksum) (omega arith)
 
 module _ (xs rest : List ℕ) (packet : IsPacket xs) where
   before : (i : ℕ) → i < 20 → slice_index (xs ++ rest) i ≡ slice_index xs i

@@ -81,6 +81,22 @@ struct Routing<'a> {
     ghost held: { holders.now ≡ nodes_with topology.now.ifaces to },
 }
 
+impl<'a> Routing<'a> {
+    /// Where packets to an address go that these nodes have.
+    fn new(topology: &'a Topology, tables: &'a Tables, holders: &'a [NodeNo], to: Address) -> Self
+        requires routes { tables.now ≡ routes_of_all topology.now }
+        requires held { holders.now ≡ nodes_with topology.now.ifaces to }
+        ensures { (result.topology.now ≡ topology.now) × (result.to ≡ to) }
+    {
+        Routing {
+            topology,
+            tables,
+            holders,
+            to,
+        }
+    }
+}
+
 /// The node of a number, if it is there.
 fn node_at(topology: &Topology, node: NodeNo) -> Option<&Node>
     ensures { option_map (λ n. n.now) result ≡ slice_get topology.now.nodes node }
@@ -184,12 +200,7 @@ pub fn walk(
         ≡ walk_of topology.now node to time_to_live) }
 {
     let holders = nodes_with(alloc, topology.ifaces(), to)?;
-    let routing = Routing {
-        topology,
-        tables,
-        holders: holders.as_slice(),
-        to,
-    };
+    let routing = Routing::new(topology, tables, holders.as_slice(), to);
     let mut hops = Vec::new(alloc);
     let ending = match first_turn(&routing, node) {
         Turn::Stops(ending) => ending,
@@ -221,12 +232,7 @@ pub fn walk_by(
         ≡ walk_by topology.now via to time_to_live) }
 {
     let holders = nodes_with(alloc, topology.ifaces(), to)?;
-    let routing = Routing {
-        topology,
-        tables,
-        holders: holders.as_slice(),
-        to,
-    };
+    let routing = Routing::new(topology, tables, holders.as_slice(), to);
     let mut hops = vec![in alloc; via; 1]?;
     let next = node_behind(topology.ifaces(), via);
     let ending = go_on(&routing, time_to_live, next, &mut hops)?;

@@ -6,7 +6,8 @@ ghost use Rattle.nm_files.specs.Files.{IsSound};
 ghost use Rattle.nm_net.specs.Served.{IsFinished};
 ghost use Rattle.nm_process.specs.Process.{IsDoneReplica};
 ghost use Rattle.nm_shared.specs.Board.{IsOwnerOf};
-ghost use Rattle.nm_shared.specs.Known.{home_of};
+ghost use Rattle.nm_shared.specs.Counted.{IsBlankOf};
+ghost use Rattle.nm_shared.specs.Known.{home_at, home_of};
 
 use crate::fault::ProcessFault;
 use mio::Poll;
@@ -126,15 +127,10 @@ fn shared_of<M: Naming + Send + Sync, E: Ledger + Send + Sync>(
     messages: Blank,
     events: Blank,
 ) -> Result<SharedBook<Ledgers<M, E>>, ProcessFault>
-    requires messages { (messages.name ≡ M.name) × (messages.parts ≡ M.parts)
-        × (messages.parts ≡ 2 ^ 32) }
-    requires events { (events.name ≡ E.name) × (events.parts ≡ E.parts)
-        × (events.parts ≡ 2 ^ 32) }
-    requires home { M.home ≡ record {
-      topology = arc_value process.now.topology.now;
-      partition = process.now.partition;
-      replica = process.now.replica;
-    } }
+    requires messages { IsBlankOf M.name M.parts messages.name messages.parts }
+    requires events { IsBlankOf E.name E.parts events.name events.parts }
+    requires home { M.home
+        ≡ home_at (arc_value process.now.topology.now) process.now.partition process.now.replica }
 {
     let topology = Arc::try_clone(process.topology)?;
     let (counts, whole) = Ledgers::<M, E>::open(messages, events);
@@ -207,15 +203,10 @@ fn run_named<M: Naming + Send + Sync, E: Ledger + Send + Sync, R: Net + Wait + C
     messages: Blank,
     events: Blank,
 ) -> Result<ProcessEnd, ProcessFault>
-    requires messages { (messages.name ≡ M.name) × (messages.parts ≡ M.parts)
-        × (messages.parts ≡ 2 ^ 32) }
-    requires events { (events.name ≡ E.name) × (events.parts ≡ E.parts)
-        × (events.parts ≡ 2 ^ 32) }
-    requires home { M.home ≡ record {
-      topology = arc_value process.now.topology.now;
-      partition = process.now.partition;
-      replica = process.now.replica;
-    } }
+    requires messages { IsBlankOf M.name M.parts messages.name messages.parts }
+    requires events { IsBlankOf E.name E.parts events.name events.parts }
+    requires home { M.home
+        ≡ home_at (arc_value process.now.topology.now) process.now.partition process.now.replica }
     ensures { IfOk result (λ end. IsDoneReplica (arc_value process.now.topology.now)
         process.now.partition process.now.replica end.book) }
 {

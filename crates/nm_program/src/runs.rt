@@ -105,7 +105,7 @@ fn report_text(
 }
 
 /// Runs all partitions at once: what is said of them.
-fn run_network<F: Outputs, R>(
+fn run_network<F: Outputs, R: Runtime>(
     means: &Means<'_, R>,
     network: &Arc<Topology>,
     words: &RunWords<'_>,
@@ -113,7 +113,6 @@ fn run_network<F: Outputs, R>(
 ) -> Result<Output, Status>
 where
     F::File: Send,
-    R: Runtime,
     requires { (1 ≤ words.now.workers) × (words.now.workers ≤ MAX_WORKERS) }
     ensures said { IfOk result (λ output. (text : List ℕ)
         → topology_of text ≡ Ok (arc_value network.now)
@@ -139,7 +138,7 @@ where
 }
 
 /// What is said of all partitions at once.
-fn run_said<I: Inputs, F: Outputs, R>(
+fn run_said<I: Inputs, F: Outputs, R: Runtime>(
     means: &Means<'_, R>,
     words: &RunWords<'_>,
     inputs: &mut NamedInputs<I>,
@@ -147,7 +146,6 @@ fn run_said<I: Inputs, F: Outputs, R>(
 ) -> Result<Output, Status>
 where
     F::File: Send,
-    R: Runtime,
     requires { (1 ≤ words.now.workers) × (words.now.workers ≤ MAX_WORKERS) }
     ensures said { IfOk result (λ output. SaysOfInput (inputs_seen I.seen inputs.old)
         words.now.topology.now
@@ -163,7 +161,7 @@ where
 
 /// Runs all partitions at once, and says that what they came to is certified, and how many records
 /// each interface has.
-pub(crate) fn say_run<I: Inputs, F: Outputs, O: Sink + Drop, R>(
+pub(crate) fn say_run<I: Inputs, F: Outputs, O: Sink + Drop, R: Runtime>(
     means: &Means<'_, R>,
     words: &RunWords<'_>,
     inputs: &mut NamedInputs<I>,
@@ -172,7 +170,6 @@ pub(crate) fn say_run<I: Inputs, F: Outputs, O: Sink + Drop, R>(
 ) -> (Status, O)
 where
     F::File: Send,
-    R: Runtime,
     requires { (1 ≤ words.now.workers) × (words.now.workers ≤ MAX_WORKERS) }
     ensures { EndsRun (exchange I.seen O.seen inputs.old out)
         (exchange I.seen O.seen inputs.new result.1)

@@ -119,29 +119,21 @@ module _ (reflexive : (a : Know (List ℕ)) → IsUnder a a)
   ran_on limit b c (Limit n) h = let e = h.run.0 in omega (arith, e)
   ran_on limit b c (Memory n) h = let e = h.run.0 in omega (arith, e)
 
+  -- a book that was told, and is else the same
+  told : (b c : BookValue) → Adds b.knows c.knows → c ≡ record b { knows = c.knows } → Follows b c
+  told b c adds same = record {
+    topology = ap (λ z. z.topology) same;
+    partition = ap (λ z. z.partition) same;
+    adds = adds;
+    events = let e : c.events ≡ b.events = ap (λ z. z.events) same in omega (arith, e);
+    handed = let e : c.handed ≡ b.handed = ap (λ z. z.handed) same in omega (arith, e);
+  }
+
   -- one call
   follows : (x : Call) (b c : BookValue) → AreInOrder b.knows → IsFit x → IsCalled x b c → Follows b c
   follows (Accepts m r) b c order fit h =
-      told (learned_if (comes_in (net_of b.topology) b.partition (receiving_iface b.topology (message_channel m))) b.knows c.knows m r order h.learns) h.same
-    where
-      told : Adds b.knows c.knows → c ≡ record b { knows = c.knows } → Follows b c
-      told adds same = record {
-        topology = ap (λ z. z.topology) same;
-        partition = ap (λ z. z.partition) same;
-        adds = adds;
-        events = let e : c.events ≡ b.events = ap (λ z. z.events) same in omega (arith, e);
-        handed = let e : c.handed ≡ b.handed = ap (λ z. z.handed) same in omega (arith, e);
-      }
-  follows (Merges k r) b c order fit h = told (merged b.topology b.partition _ b.knows k.knows c.knows r order fit h.merges) h.same
-    where
-      told : Adds b.knows c.knows → c ≡ record b { knows = c.knows } → Follows b c
-      told adds same = record {
-        topology = ap (λ z. z.topology) same;
-        partition = ap (λ z. z.partition) same;
-        adds = adds;
-        events = let e : c.events ≡ b.events = ap (λ z. z.events) same in omega (arith, e);
-        handed = let e : c.handed ≡ b.handed = ap (λ z. z.handed) same in omega (arith, e);
-      }
+      told b c (learned_if (comes_in (net_of b.topology) b.partition (receiving_iface b.topology (message_channel m))) b.knows c.knows m r order h.learns) h.same
+  follows (Merges k r) b c order fit h = told b c (merged b.topology b.partition _ b.knows k.knows c.knows r order fit h.merges) h.same
   follows (RunsFor limit r) b c order fit h = record {
     topology = ap (λ z. z.topology) h.same;
     partition = ap (λ z. z.partition) h.same;

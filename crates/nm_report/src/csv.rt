@@ -8,10 +8,12 @@ use crate::source_rows::push_source_rows;
 use crate::source_tables::flow_of;
 use nm_base::{IfaceNo, NodeNo, SourceNo, push_number, push_text};
 use nm_forward::Counter;
-use nm_measure::{Delays, FlowCounts, FlowTimes, IfaceTraffic, Measured, end_line};
+use nm_measure::{
+    Appended, Delays, FlowCounts, FlowTimes, IfaceTraffic, MadeText, Measured, end_line,
+};
 use nm_topology::Topology;
 use nm_topology::traffic::{Source, Traffic};
-use std::alloc::{AllocError, Global};
+use std::alloc::Global;
 
 /// What has a value. The names of nodes and of interfaces need no quotes, and that of a source is
 /// its number.
@@ -23,7 +25,7 @@ enum Owner<'a> {
 }
 
 /// Appends what has a value: its kind and its name.
-fn push_owner(text: &mut Vec<u8>, owner: &Owner<'_>) -> Result<(), AllocError> {
+fn push_owner(text: &mut Vec<u8>, owner: &Owner<'_>) -> Appended {
     match owner {
         Owner::Node(name) => {
             push_text(text, b"node,")?;
@@ -41,11 +43,7 @@ fn push_owner(text: &mut Vec<u8>, owner: &Owner<'_>) -> Result<(), AllocError> {
 }
 
 /// Appends values of a node, an interface or a source, each with which measure it is.
-fn push_values(
-    text: &mut Vec<u8>,
-    owner: &Owner<'_>,
-    values: &[(&str, u64)],
-) -> Result<(), AllocError>
+fn push_values(text: &mut Vec<u8>, owner: &Owner<'_>, values: &[(&str, u64)]) -> Appended
     requires { EndsLine text.old.items }
     ensures { OnOk result (EndsLine text.new.items) }
 {
@@ -61,12 +59,7 @@ fn push_values(
 }
 
 /// The counters of a node, also those that are 0.
-fn push_node(
-    text: &mut Vec<u8>,
-    measured: &Measured,
-    name: &str,
-    node: NodeNo,
-) -> Result<(), AllocError>
+fn push_node(text: &mut Vec<u8>, measured: &Measured, name: &str, node: NodeNo) -> Appended
     requires { EndsLine text.old.items }
     ensures { OnOk result (EndsLine text.new.items) }
 {
@@ -78,12 +71,7 @@ fn push_node(
 }
 
 /// The values of an interface.
-fn push_iface(
-    text: &mut Vec<u8>,
-    measured: &Measured,
-    name: &str,
-    iface: IfaceNo,
-) -> Result<(), AllocError>
+fn push_iface(text: &mut Vec<u8>, measured: &Measured, name: &str, iface: IfaceNo) -> Appended
     requires { EndsLine text.old.items }
     ensures { OnOk result (EndsLine text.new.items) }
 {
@@ -104,12 +92,7 @@ fn push_iface(
 }
 
 /// The values that each source has.
-fn push_flow(
-    text: &mut Vec<u8>,
-    source: SourceNo,
-    flow: &FlowCounts,
-    times: &FlowTimes,
-) -> Result<(), AllocError>
+fn push_flow(text: &mut Vec<u8>, source: SourceNo, flow: &FlowCounts, times: &FlowTimes) -> Appended
     requires { EndsLine text.old.items }
     ensures { OnOk result (EndsLine text.new.items) }
 {
@@ -131,12 +114,7 @@ fn push_flow(
 }
 
 /// The values of a source to whose packets there may be echo replies.
-fn push_replies(
-    text: &mut Vec<u8>,
-    source: SourceNo,
-    astray: u64,
-    trips: &Delays,
-) -> Result<(), AllocError>
+fn push_replies(text: &mut Vec<u8>, source: SourceNo, astray: u64, trips: &Delays) -> Appended
     requires { EndsLine text.old.items }
     ensures { OnOk result (EndsLine text.new.items) }
 {
@@ -159,7 +137,7 @@ fn push_source(
     measured: &Measured,
     source: &Source,
     number: SourceNo,
-) -> Result<(), AllocError>
+) -> Appended
     requires { EndsLine text.old.items }
     ensures { OnOk result (EndsLine text.new.items) }
 {
@@ -177,7 +155,7 @@ fn push_source(
 }
 
 /// The values of nodes, of interfaces and of sources.
-fn push_all(text: &mut Vec<u8>, topology: &Topology, measured: &Measured) -> Result<(), AllocError>
+fn push_all(text: &mut Vec<u8>, topology: &Topology, measured: &Measured) -> Appended
     requires { EndsLine text.old.items }
     ensures { OnOk result (EndsLine text.new.items) }
 {
@@ -199,11 +177,7 @@ fn push_all(text: &mut Vec<u8>, topology: &Topology, measured: &Measured) -> Res
 /// # Errors
 ///
 /// Where memory was refused.
-pub fn csv_text(
-    alloc: Global,
-    topology: &Topology,
-    measured: &Measured,
-) -> Result<Vec<u8>, AllocError>
+pub fn csv_text(alloc: Global, topology: &Topology, measured: &Measured) -> MadeText
     ensures { IfOk result (λ text. EndsLine text.items) }
 {
     let mut text = Vec::new(alloc);

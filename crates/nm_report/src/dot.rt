@@ -5,20 +5,20 @@ ghost use Rattle.nm_measure.specs.Lines.{EndsLine};
 
 use crate::units::{push_rate, push_time};
 use nm_base::{IfaceNo, push_number, push_text};
-use nm_measure::end_line;
+use nm_measure::{Appended, end_line};
 use nm_topology::parts::Link;
 use nm_topology::{NodeKind, Topology};
 use std::alloc::{AllocError, Global};
 
 /// Appends a text between quotes. Names have no quotes in them.
-fn push_quoted(text: &mut Vec<u8>, name: &str) -> Result<(), AllocError> {
+fn push_quoted(text: &mut Vec<u8>, name: &str) -> Appended {
     push_text(text, b"\"")?;
     push_text(text, name.as_bytes())?;
     push_text(text, b"\"")
 }
 
 /// Appends the nodes of a partition: hosts are ellipses, routers boxes.
-fn push_nodes(text: &mut Vec<u8>, topology: &Topology, partition: u32) -> Result<(), AllocError> {
+fn push_nodes(text: &mut Vec<u8>, topology: &Topology, partition: u32) -> Appended {
     for node in topology.nodes() {
         if node.partition().number() != partition {
             continue;
@@ -37,7 +37,7 @@ fn push_nodes(text: &mut Vec<u8>, topology: &Topology, partition: u32) -> Result
 }
 
 /// Appends the partitions as clusters.
-pub(crate) fn push_partitions(text: &mut Vec<u8>, topology: &Topology) -> Result<(), AllocError> {
+pub(crate) fn push_partitions(text: &mut Vec<u8>, topology: &Topology) -> Appended {
     for partition in 0..topology.partitions() {
         push_text(text, b"  subgraph cluster_")?;
         push_number(text, u64::from(partition))?;
@@ -51,11 +51,7 @@ pub(crate) fn push_partitions(text: &mut Vec<u8>, topology: &Topology) -> Result
 }
 
 /// Appends the name of the node of an interface.
-pub(crate) fn push_owner(
-    text: &mut Vec<u8>,
-    topology: &Topology,
-    iface: IfaceNo,
-) -> Result<(), AllocError> {
+pub(crate) fn push_owner(text: &mut Vec<u8>, topology: &Topology, iface: IfaceNo) -> Appended {
     let Some(owner) = topology.ifaces().get(iface.index()) else {
         return Ok(());
     };
@@ -66,12 +62,7 @@ pub(crate) fn push_owner(
 }
 
 /// Appends the name of an interface as that of an end of a link.
-fn push_end(
-    text: &mut Vec<u8>,
-    topology: &Topology,
-    end: &[u8],
-    iface: IfaceNo,
-) -> Result<(), AllocError> {
+fn push_end(text: &mut Vec<u8>, topology: &Topology, end: &[u8], iface: IfaceNo) -> Appended {
     push_text(text, end)?;
     match topology.ifaces().get(iface.index()) {
         Some(iface) => push_quoted(text, iface.name()),
@@ -80,14 +71,14 @@ fn push_end(
 }
 
 /// Appends the rate and the delay of a link.
-pub(crate) fn push_quality(text: &mut Vec<u8>, link: Link) -> Result<(), AllocError> {
+pub(crate) fn push_quality(text: &mut Vec<u8>, link: Link) -> Appended {
     push_rate(text, link.rate)?;
     push_text(text, b", ")?;
     push_time(text, link.delay)
 }
 
 /// Appends a link with its rate and delay.
-fn push_link(text: &mut Vec<u8>, topology: &Topology, link: Link) -> Result<(), AllocError> {
+fn push_link(text: &mut Vec<u8>, topology: &Topology, link: Link) -> Appended {
     push_text(text, b"  ")?;
     push_owner(text, topology, link.a)?;
     push_text(text, b" -- ")?;

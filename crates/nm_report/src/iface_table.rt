@@ -3,7 +3,7 @@
 use crate::table::{Table, push_left_out};
 use crate::units::push_percentage;
 use nm_base::IfaceNo;
-use nm_measure::{Amount, IfaceTraffic, Measured, thousandths};
+use nm_measure::{Amount, Appended, IfaceTraffic, Measured, thousandths};
 use nm_topology::Topology;
 use std::alloc::{AllocError, Global};
 use std::cmp::Reverse;
@@ -86,7 +86,7 @@ fn add_iface(
     topology: &Topology,
     measured: &Measured,
     rank: Rank,
-) -> Result<(), AllocError> {
+) -> Appended {
     let IfaceTraffic { came, went } = traffic_at(measured, rank.iface);
     let name = match topology.ifaces().get(rank.iface.index()) {
         Some(iface) => iface.name(),
@@ -112,7 +112,7 @@ pub(crate) fn push_ifaces(
     text: &mut Vec<u8>,
     topology: &Topology,
     measured: &Measured,
-) -> Result<(), AllocError> {
+) -> Appended {
     let mut table = Table::new(alloc, &HEAD, 1)?;
     let ranks = ranks(alloc, topology, measured)?;
     for rank in &ranks {

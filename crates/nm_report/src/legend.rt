@@ -1,7 +1,7 @@
 //! The colours of busy shares, and what says them in a picture.
 
 use nm_base::push_text;
-use std::alloc::AllocError;
+use nm_measure::Appended;
 
 /// The colour of busy shares from some thousandths on.
 struct Shade {
@@ -57,7 +57,7 @@ pub(crate) fn colour_of(share: Option<u64>) -> &'static str {
 }
 
 /// Appends a row of the legend: a colour and what it says.
-fn push_shade(text: &mut Vec<u8>, colour: &str, words: &str) -> Result<(), AllocError> {
+fn push_shade(text: &mut Vec<u8>, colour: &str, words: &str) -> Appended {
     push_text(text, b"<tr><td bgcolor=\"")?;
     push_text(text, colour.as_bytes())?;
     push_text(text, b"\"></td><td align=\"left\">")?;
@@ -66,7 +66,7 @@ fn push_shade(text: &mut Vec<u8>, colour: &str, words: &str) -> Result<(), Alloc
 }
 
 /// Appends the legend: a node of the graph, outside all partitions.
-pub(crate) fn push_legend(text: &mut Vec<u8>) -> Result<(), AllocError> {
+pub(crate) fn push_legend(text: &mut Vec<u8>) -> Appended {
     push_text(
         text,
         b"  \"how to read it\" [shape=none, margin=0, tooltip=\"how to read it\", label=<<table \

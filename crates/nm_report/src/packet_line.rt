@@ -5,11 +5,10 @@ ghost use Rattle.nm_measure.specs.Lines.{EndsLine};
 
 use crate::units::push_address;
 use nm_base::{Dir, Record, push_number, push_text};
-use nm_measure::end_line;
+use nm_measure::{Appended, end_line};
 use nm_packet::icmp::IcmpView;
 use nm_packet::ipv4::Ipv4View;
 use nm_packet::{HeaderFault, Icmp, Ipv4, Udp};
-use std::alloc::AllocError;
 
 /// The numbers of protocols (RFC 790).
 const ICMP: u8 = 1;
@@ -17,7 +16,7 @@ const ICMP: u8 = 1;
 const UDP: u8 = 17;
 
 /// Appends a word and a number.
-fn push_field(text: &mut Vec<u8>, word: &[u8], value: u64) -> Result<(), AllocError> {
+fn push_field(text: &mut Vec<u8>, word: &[u8], value: u64) -> Appended {
     push_text(text, word)?;
     push_number(text, value)
 }
@@ -49,7 +48,7 @@ fn words_of(message_type: u8, code: u8) -> Option<&'static str> {
 }
 
 /// Appends what a message of ICMP says.
-fn push_message(text: &mut Vec<u8>, message: &IcmpView<'_>) -> Result<(), AllocError> {
+fn push_message(text: &mut Vec<u8>, message: &IcmpView<'_>) -> Appended {
     push_text(text, b": ICMP ")?;
     match words_of(message.message_type(), message.code()) {
         Some(words) => push_text(text, words.as_bytes())?,
@@ -66,11 +65,7 @@ fn push_message(text: &mut Vec<u8>, message: &IcmpView<'_>) -> Result<(), AllocE
 }
 
 /// Appends an address, and a port where there is one.
-fn push_place(
-    text: &mut Vec<u8>,
-    address: nm_packet::Address,
-    port: Option<u16>,
-) -> Result<(), AllocError> {
+fn push_place(text: &mut Vec<u8>, address: nm_packet::Address, port: Option<u16>) -> Appended {
     push_address(text, address)?;
     match port {
         Some(port) => push_field(text, b".", u64::from(port)),
@@ -79,11 +74,7 @@ fn push_place(
 }
 
 /// Appends where a packet comes from and where it goes.
-fn push_way(
-    text: &mut Vec<u8>,
-    header: &Ipv4View<'_>,
-    ports: Option<(u16, u16)>,
-) -> Result<(), AllocError> {
+fn push_way(text: &mut Vec<u8>, header: &Ipv4View<'_>, ports: Option<(u16, u16)>) -> Appended {
     let (from, to) = match ports {
         Some((from, to)) => (Some(from), Some(to)),
         None => (None, None),
@@ -94,11 +85,7 @@ fn push_way(
 }
 
 /// Appends what is said of a UDP datagram.
-fn push_datagram(
-    text: &mut Vec<u8>,
-    header: &Ipv4View<'_>,
-    payload: &[u8],
-) -> Result<(), AllocError> {
+fn push_datagram(text: &mut Vec<u8>, header: &Ipv4View<'_>, payload: &[u8]) -> Appended {
     match Udp::read(header.source(), header.destination(), payload) {
         Ok(datagram) => {
             let ports = (datagram.source_port(), datagram.destination_port());
@@ -113,7 +100,7 @@ fn push_datagram(
 }
 
 /// Appends what is said of a payload of ICMP.
-fn push_control(text: &mut Vec<u8>, payload: &[u8]) -> Result<(), AllocError> {
+fn push_control(text: &mut Vec<u8>, payload: &[u8]) -> Appended {
     match Icmp::read(payload) {
         Ok(message) => {
             push_message(text, &message)?;
@@ -124,13 +111,13 @@ fn push_control(text: &mut Vec<u8>, payload: &[u8]) -> Result<(), AllocError> {
 }
 
 /// Appends what is said of a payload of another protocol.
-fn push_other(text: &mut Vec<u8>, protocol: u8, payload: &[u8]) -> Result<(), AllocError> {
+fn push_other(text: &mut Vec<u8>, protocol: u8, payload: &[u8]) -> Appended {
     push_field(text, b": protocol ", u64::from(protocol))?;
     push_field(text, b", length ", payload.len() as u64)
 }
 
 /// Appends what a packet carries, which is no fragment.
-fn push_payload(text: &mut Vec<u8>, header: &Ipv4View<'_>) -> Result<(), AllocError> {
+fn push_payload(text: &mut Vec<u8>, header: &Ipv4View<'_>) -> Appended {
     let (protocol, payload) = (header.protocol(), header.payload());
     if protocol == UDP {
         return push_datagram(text, header, payload);
@@ -144,7 +131,7 @@ fn push_payload(text: &mut Vec<u8>, header: &Ipv4View<'_>) -> Result<(), AllocEr
 }
 
 /// Appends a packet with a header that is in order.
-fn push_packet(text: &mut Vec<u8>, header: &Ipv4View<'_>) -> Result<(), AllocError> {
+fn push_packet(text: &mut Vec<u8>, header: &Ipv4View<'_>) -> Appended {
     if header.more_fragments() || header.fragment_offset() > 0 {
         push_way(text, header, None)?;
         push_field(
@@ -177,7 +164,7 @@ fn fault_of(fault: HeaderFault) -> &'static str {
 /// # Errors
 ///
 /// Where memory was refused. A part of the line may have been appended.
-pub fn push_packet_line(text: &mut Vec<u8>, record: &Record) -> Result<(), AllocError>
+pub fn push_packet_line(text: &mut Vec<u8>, record: &Record) -> Appended
     ensures { OnOk result (EndsLine text.new.items) }
 {
     push_number(text, record.time.nanoseconds())?;

@@ -8,10 +8,10 @@ use crate::iface_table::traffic_at;
 use crate::legend::{colour_of, push_legend};
 use crate::units::{push_percentage, push_time};
 use nm_base::{IfaceNo, push_number, push_text};
-use nm_measure::{Measured, end_line, thousandths};
+use nm_measure::{Appended, MadeText, Measured, end_line, thousandths};
 use nm_topology::Topology;
 use nm_topology::parts::Link;
-use std::alloc::{AllocError, Global};
+use std::alloc::Global;
 
 /// How all parts of the picture look.
 const STYLE: &[u8] = b"  graph [fontname=\"sans-serif\", fontsize=11, nodesep=0.6, ranksep=0.7];
@@ -67,11 +67,7 @@ fn all_dropped(topology: &Topology, measured: &Measured) -> u64 {
 }
 
 /// Appends the title. It stands behind the partitions, whose words would be as large otherwise.
-fn push_title(
-    text: &mut Vec<u8>,
-    topology: &Topology,
-    measured: &Measured,
-) -> Result<(), AllocError> {
+fn push_title(text: &mut Vec<u8>, topology: &Topology, measured: &Measured) -> Appended {
     push_text(text, b"  graph [labelloc=t, fontsize=16, label=\"Use of ")?;
     push_number(text, topology.nodes().len() as u64)?;
     push_text(text, b" nodes and ")?;
@@ -85,7 +81,7 @@ fn push_title(
 
 /// Appends what stands at a direction: on the way there the rate and the delay of the link, and
 /// then its busy share and its drops. Spaces keep lines away from the words.
-fn push_label(text: &mut Vec<u8>, link: Link, way: Way, load: &Load) -> Result<(), AllocError> {
+fn push_label(text: &mut Vec<u8>, link: Link, way: Way, load: &Load) -> Appended {
     push_text(text, b"label=\"")?;
     if let Way::There = way {
         push_text(text, b"  ")?;
@@ -106,7 +102,7 @@ fn push_label(text: &mut Vec<u8>, link: Link, way: Way, load: &Load) -> Result<(
 }
 
 /// Appends a width in points: 1.5 for what is never busy, 7.5 for what always is.
-fn push_width(text: &mut Vec<u8>, busy: u64) -> Result<(), AllocError> {
+fn push_width(text: &mut Vec<u8>, busy: u64) -> Appended {
     let tenths = (busy.min(1_000) * 6 / 100).saturating_add(15);
     push_text(text, b"penwidth=")?;
     push_number(text, tenths / 10)?;
@@ -115,7 +111,7 @@ fn push_width(text: &mut Vec<u8>, busy: u64) -> Result<(), AllocError> {
 }
 
 /// Appends the colour and the width of a direction, and its dashes if it dropped packets.
-fn push_look(text: &mut Vec<u8>, load: &Load) -> Result<(), AllocError> {
+fn push_look(text: &mut Vec<u8>, load: &Load) -> Appended {
     push_text(text, b"color=\"")?;
     push_text(text, colour_of(load.share).as_bytes())?;
     push_text(text, b"\", ")?;
@@ -132,7 +128,7 @@ fn push_words(
     topology: &Topology,
     measured: &Measured,
     load: &Load,
-) -> Result<(), AllocError> {
+) -> Appended {
     if let Some(iface) = topology.ifaces().get(load.iface.index()) {
         push_text(text, iface.name().as_bytes())?;
     }
@@ -163,7 +159,7 @@ fn push_way(
     measured: &Measured,
     link: Link,
     way: Way,
-) -> Result<(), AllocError> {
+) -> Appended {
     let load = load_of(topology, measured, link, way);
     push_text(text, b"  ")?;
     push_owner(text, topology, link.a)?;
@@ -192,11 +188,7 @@ fn push_way(
 /// # Errors
 ///
 /// Where memory was refused.
-pub fn load_text(
-    alloc: Global,
-    topology: &Topology,
-    measured: &Measured,
-) -> Result<Vec<u8>, AllocError>
+pub fn load_text(alloc: Global, topology: &Topology, measured: &Measured) -> MadeText
     ensures { IfOk result (λ text. EndsLine text.items) }
 {
     let mut text = Vec::new(alloc);

@@ -8,7 +8,7 @@ use crate::source_tables::{Trip, push_sources, push_trips};
 use crate::table::{Table, push_left_out};
 use nm_base::{NodeNo, push_text};
 use nm_forward::Counter;
-use nm_measure::{Measured, end_line};
+use nm_measure::{Appended, MadeText, Measured, end_line};
 use nm_topology::Topology;
 use std::alloc::{AllocError, Global};
 
@@ -38,7 +38,7 @@ fn push_nodes(
     text: &mut Vec<u8>,
     topology: &Topology,
     measured: &Measured,
-) -> Result<(), AllocError> {
+) -> Appended {
     let mut table = Table::new(alloc, &["node", "counter", "packets"], 2)?;
     let mut idle = 0u64;
     for (number, node) in (0..u32::MAX).zip(topology.nodes()) {
@@ -58,11 +58,7 @@ fn push_nodes(
 /// # Errors
 ///
 /// Where memory was refused.
-pub fn report_text(
-    alloc: Global,
-    topology: &Topology,
-    measured: &Measured,
-) -> Result<Vec<u8>, AllocError>
+pub fn report_text(alloc: Global, topology: &Topology, measured: &Measured) -> MadeText
     ensures { IfOk result (λ text. EndsLine text.items) }
 {
     let mut text = Vec::new(alloc);

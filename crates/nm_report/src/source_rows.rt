@@ -3,13 +3,12 @@
 ghost use Rattle.std.specs.Prelude.{OnOk};
 ghost use Rattle.nm_measure.specs.Lines.{EndsLine};
 
-use crate::source_tables::{flow_of, kind_of, node_name, push_destination};
+use crate::source_tables::{fates, flow_of, kind_of, node_name, push_destination};
 use crate::units::PERCENTILES;
 use nm_base::{SourceNo, push_number, push_text};
-use nm_measure::{Delays, FlowCounts, FlowTimes, Measured, end_line};
+use nm_measure::{Appended, Delays, FlowCounts, FlowTimes, Measured, end_line};
 use nm_topology::Topology;
 use nm_topology::traffic::Source;
-use std::alloc::AllocError;
 
 /// The names of the columns. Times are in nanoseconds, octets those of delivered IPv4 packets, and
 /// the rate is in bits per second.
@@ -19,13 +18,13 @@ delays_rounded,answered,astray,least_round_trip,round_trip_50,round_trip_90,roun
 round_trip_99_9,greatest_round_trip,mean_round_trip,round_trip_jitter,round_trips_rounded";
 
 /// Appends a value behind others.
-fn push_more(text: &mut Vec<u8>, value: u64) -> Result<(), AllocError> {
+fn push_more(text: &mut Vec<u8>, value: u64) -> Appended {
     push_text(text, b",")?;
     push_number(text, value)
 }
 
 /// Appends how long packets took, and 1 where the percentiles are rounded, 0 where they are exact.
-fn push_delays(text: &mut Vec<u8>, delays: &Delays) -> Result<(), AllocError> {
+fn push_delays(text: &mut Vec<u8>, delays: &Delays) -> Appended {
     push_more(text, delays.least())?;
     for percentile in PERCENTILES {
         push_more(text, delays.percentile(percentile))?;
@@ -37,12 +36,7 @@ fn push_delays(text: &mut Vec<u8>, delays: &Delays) -> Result<(), AllocError> {
 }
 
 /// Appends which source it is.
-fn push_source(
-    text: &mut Vec<u8>,
-    topology: &Topology,
-    source: &Source,
-    number: u32,
-) -> Result<(), AllocError> {
+fn push_source(text: &mut Vec<u8>, topology: &Topology, source: &Source, number: u32) -> Appended {
     push_number(text, u64::from(number))?;
     push_text(text, b",")?;
     push_text(text, kind_of(source).as_bytes())?;
@@ -53,23 +47,12 @@ fn push_source(
 }
 
 /// Appends all that was measured of a source.
-fn push_measures(
-    text: &mut Vec<u8>,
-    flow: &FlowCounts,
-    times: &FlowTimes,
-) -> Result<(), AllocError> {
-    for value in [
-        flow.sent,
-        flow.delivered,
-        flow.refused,
-        flow.dropped,
-        flow.discarded,
-        flow.under_way,
-        times.octets(),
-        times.rate(),
-    ] {
-        push_more(text, value)?;
+fn push_measures(text: &mut Vec<u8>, flow: &FlowCounts, times: &FlowTimes) -> Appended {
+    for count in fates(flow) {
+        push_more(text, count)?;
     }
+    push_more(text, times.octets())?;
+    push_more(text, times.rate())?;
     push_delays(text, &times.delays)?;
     push_more(text, times.round_trips.count())?;
     push_more(text, flow.astray)?;
@@ -81,7 +64,7 @@ pub(crate) fn push_source_rows(
     text: &mut Vec<u8>,
     topology: &Topology,
     measured: &Measured,
-) -> Result<(), AllocError>
+) -> Appended
     requires { EndsLine text.old.items }
     ensures { OnOk result (EndsLine text.new.items) }
 {

@@ -1,12 +1,14 @@
 //! The tables of sources.
 
+ghost use Rattle.std.specs.Prelude.{◌≡◌, ◌∷◌, []};
+
 use crate::table::{Table, push_left_out};
 use crate::units::{PERCENTILES, push_address};
 use nm_base::{SourceNo, push_number, push_text};
-use nm_measure::{Delays, FlowCounts, FlowTimes, Measured};
+use nm_measure::{Appended, Delays, FlowCounts, FlowTimes, Measured};
 use nm_topology::Topology;
 use nm_topology::traffic::{Source, Traffic};
-use std::alloc::{AllocError, Global};
+use std::alloc::Global;
 
 /// The columns of what became of packets.
 const COUNT_HEAD: [&str; 12] = [
@@ -82,7 +84,7 @@ pub(crate) fn node_name<'a>(topology: &'a Topology, source: &Source) -> &'a str 
 }
 
 /// Appends where the packets of a source go; `-` for raw packets, which say it themselves.
-pub(crate) fn push_destination(text: &mut Vec<u8>, source: &Source) -> Result<(), AllocError> {
+pub(crate) fn push_destination(text: &mut Vec<u8>, source: &Source) -> Appended {
     match &source.traffic {
         Traffic::Cbr(cbr) => push_address(text, cbr.to),
         Traffic::Echo(echo) => push_address(text, echo.to),
@@ -97,7 +99,7 @@ fn add_source(
     topology: &Topology,
     source: &Source,
     number: SourceNo,
-) -> Result<(), AllocError> {
+) -> Appended {
     table.number(number.index() as u64)?;
     table.text(kind_of(source).as_bytes())?;
     table.text(node_name(topology, source).as_bytes())?;
@@ -107,12 +109,7 @@ fn add_source(
 }
 
 /// The cell of a percentile, with `~` before one that is rounded.
-fn add_percentile(
-    alloc: Global,
-    table: &mut Table,
-    delays: &Delays,
-    thousandths: u64,
-) -> Result<(), AllocError> {
+fn add_percentile(alloc: Global, table: &mut Table, delays: &Delays, thousandths: u64) -> Appended {
     let mut cell = Vec::new(alloc);
     if delays.is_rounded() {
         push_text(&mut cell, b"~")?;
@@ -122,7 +119,7 @@ fn add_percentile(
 }
 
 /// The cells of a row that say how long packets took.
-fn add_delays(alloc: Global, table: &mut Table, delays: &Delays) -> Result<(), AllocError> {
+fn add_delays(alloc: Global, table: &mut Table, delays: &Delays) -> Appended {
     table.number(delays.least())?;
     for percentile in PERCENTILES {
         add_percentile(alloc, table, delays, percentile)?;
@@ -132,29 +129,32 @@ fn add_delays(alloc: Global, table: &mut Table, delays: &Delays) -> Result<(), A
     table.number(delays.jitter())
 }
 
-/// The row of what became of a source's packets.
-fn add_counts(
-    table: &mut Table,
-    flow: &FlowCounts,
-    times: Option<&FlowTimes>,
-) -> Result<(), AllocError> {
-    let (octets, rate) = match times {
-        Some(times) => (times.octets(), times.rate()),
-        None => (0, 0),
-    };
-    for count in [
+/// How many packets a source sent, and what became of them.
+pub(crate) fn fates(flow: &FlowCounts) -> [u64; 6]
+    ensures { result ≡ flow.now.sent ∷ flow.now.delivered ∷ flow.now.refused ∷ flow.now.dropped
+        ∷ flow.now.discarded ∷ flow.now.under_way ∷ [] }
+{
+    [
         flow.sent,
         flow.delivered,
         flow.refused,
         flow.dropped,
         flow.discarded,
         flow.under_way,
-        octets,
-        rate,
-    ] {
+    ]
+}
+
+/// The row of what became of a source's packets.
+fn add_counts(table: &mut Table, flow: &FlowCounts, times: Option<&FlowTimes>) -> Appended {
+    let (octets, rate) = match times {
+        Some(times) => (times.octets(), times.rate()),
+        None => (0, 0),
+    };
+    for count in fates(flow) {
         table.number(count)?;
     }
-    Ok(())
+    table.number(octets)?;
+    table.number(rate)
 }
 
 /// What became of the packets of sources, and how many sent nothing.
@@ -163,7 +163,7 @@ pub(crate) fn push_sources(
     text: &mut Vec<u8>,
     topology: &Topology,
     measured: &Measured,
-) -> Result<(), AllocError> {
+) -> Appended {
     let mut table = Table::new(alloc, &COUNT_HEAD, 4)?;
     let mut idle = 0u64;
     for (number, source) in (0..u32::MAX).zip(topology.sources()) {
@@ -217,7 +217,7 @@ fn add_trips(
     source: &Source,
     number: SourceNo,
     trip: Trip,
-) -> Result<(), AllocError> {
+) -> Appended {
     let Some(times) = measured.times(number) else {
         return Ok(());
     };
@@ -245,7 +245,7 @@ pub(crate) fn push_trips(
     topology: &Topology,
     measured: &Measured,
     trip: Trip,
-) -> Result<(), AllocError> {
+) -> Appended {
     let mut table = Table::new(alloc, trip_head(trip), 4)?;
     for (number, source) in (0..u32::MAX).zip(topology.sources()) {
         let place = SourceNo::new(number);

@@ -1,7 +1,7 @@
 //! Tables with aligned columns.
 
 use nm_base::{push_number, push_text};
-use nm_measure::end_line;
+use nm_measure::{Appended, end_line};
 use std::alloc::{AllocError, Global};
 
 /// A table of cells, row by row. Its first columns are texts, which stand at the left, and all
@@ -15,7 +15,7 @@ pub(crate) struct Table {
 }
 
 /// Appends so many spaces.
-fn push_spaces(text: &mut Vec<u8>, count: usize) -> Result<(), AllocError> {
+fn push_spaces(text: &mut Vec<u8>, count: usize) -> Appended {
     for _ in 0..count {
         push_text(text, b" ")?;
     }
@@ -38,14 +38,14 @@ impl Table {
     }
 
     /// One more cell, with a text.
-    pub(crate) fn text(&mut self, text: &[u8]) -> Result<(), AllocError> {
+    pub(crate) fn text(&mut self, text: &[u8]) -> Appended {
         let cell = Vec::from_slice(self.alloc, text)?;
         self.cells.push(cell)?;
         Ok(())
     }
 
     /// One more cell, with a number.
-    pub(crate) fn number(&mut self, number: u64) -> Result<(), AllocError> {
+    pub(crate) fn number(&mut self, number: u64) -> Appended {
         let mut cell = Vec::new(self.alloc);
         push_number(&mut cell, number)?;
         self.cells.push(cell)?;
@@ -75,13 +75,7 @@ impl Table {
     }
 
     /// Appends a cell of a column that is so wide.
-    fn push_cell(
-        &self,
-        text: &mut Vec<u8>,
-        cell: &[u8],
-        column: usize,
-        width: usize,
-    ) -> Result<(), AllocError> {
+    fn push_cell(&self, text: &mut Vec<u8>, cell: &[u8], column: usize, width: usize) -> Appended {
         let spaces = width.saturating_sub(cell.len());
         if column >= self.texts {
             push_spaces(text, spaces)?;
@@ -101,7 +95,7 @@ impl Table {
     }
 
     /// Appends an empty line and the table, if it has rows below its head.
-    pub(crate) fn print_behind(&self, text: &mut Vec<u8>) -> Result<(), AllocError> {
+    pub(crate) fn print_behind(&self, text: &mut Vec<u8>) -> Appended {
         if self.cells.len() <= self.columns {
             return Ok(());
         }
@@ -110,7 +104,7 @@ impl Table {
     }
 
     /// Appends the table, whose rows end with line feeds.
-    pub(crate) fn print(&self, text: &mut Vec<u8>) -> Result<(), AllocError> {
+    pub(crate) fn print(&self, text: &mut Vec<u8>) -> Appended {
         let widths = self.widths()?;
         let mut column = 0;
         for cell in &self.cells {
@@ -124,7 +118,7 @@ impl Table {
 }
 
 /// Appends how many rows of a table were left out since they would say nothing, if any were.
-pub(crate) fn push_left_out(text: &mut Vec<u8>, rows: &str, count: u64) -> Result<(), AllocError> {
+pub(crate) fn push_left_out(text: &mut Vec<u8>, rows: &str, count: u64) -> Appended {
     if count == 0 {
         return Ok(());
     }

@@ -1,8 +1,8 @@
 //! Numbers with the units that people use.
 
 use nm_base::{push_number, push_text};
+use nm_measure::Appended;
 use nm_packet::Address;
-use std::alloc::AllocError;
 
 /// Units of rates, in bits per second.
 const RATES: [(u64, &[u8]); 3] = [
@@ -24,7 +24,7 @@ fn push_quantity(
     quantity: u64,
     units: &[(u64, &[u8])],
     least: &[u8],
-) -> Result<(), AllocError> {
+) -> Appended {
     for (size, name) in units {
         if *size > 0 && quantity >= *size && quantity % *size == 0 {
             push_number(text, quantity / *size)?;
@@ -36,17 +36,17 @@ fn push_quantity(
 }
 
 /// Appends a rate in bits per second.
-pub(crate) fn push_rate(text: &mut Vec<u8>, rate: u64) -> Result<(), AllocError> {
+pub(crate) fn push_rate(text: &mut Vec<u8>, rate: u64) -> Appended {
     push_quantity(text, rate, &RATES, b" bit/s")
 }
 
 /// Appends a time in nanoseconds.
-pub(crate) fn push_time(text: &mut Vec<u8>, nanoseconds: u64) -> Result<(), AllocError> {
+pub(crate) fn push_time(text: &mut Vec<u8>, nanoseconds: u64) -> Appended {
     push_quantity(text, nanoseconds, &TIMES, b" ns")
 }
 
 /// Appends an address.
-pub(crate) fn push_address(text: &mut Vec<u8>, address: Address) -> Result<(), AllocError> {
+pub(crate) fn push_address(text: &mut Vec<u8>, address: Address) -> Appended {
     let [a, b, c, d] = address.octets();
     push_number(text, u64::from(a))?;
     for octet in [b, c, d] {
@@ -57,7 +57,7 @@ pub(crate) fn push_address(text: &mut Vec<u8>, address: Address) -> Result<(), A
 }
 
 /// Appends thousandths as a percentage with one decimal.
-pub(crate) fn push_percentage(text: &mut Vec<u8>, thousandths: u64) -> Result<(), AllocError> {
+pub(crate) fn push_percentage(text: &mut Vec<u8>, thousandths: u64) -> Appended {
     push_number(text, thousandths / 10)?;
     push_text(text, b".")?;
     push_number(text, thousandths % 10)?;

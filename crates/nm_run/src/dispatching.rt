@@ -115,7 +115,6 @@ fn keep_all(
 /// Gives jobs to the pool: how many events they were.
 fn give_to_pool<G: Gate + Sync, R: Threads + Wait + Sync>(
     rt: &R,
-    alloc: Global,
     threaded: &Threaded<'_, G>,
     workers: usize,
     dispatcher: &mut Dispatcher,
@@ -125,6 +124,7 @@ fn give_to_pool<G: Gate + Sync, R: Threads + Wait + Sync>(
     requires named { All (λ j. j.book < length threaded.now.books.now) jobs.now }
     ensures { dispatcher.new.seat ≡ dispatcher.old.seat }
 {
+    let alloc = threaded.alloc;
     let report = pool(rt, alloc, threaded.books, jobs, workers, threaded.gate)?;
     let PoolReport { answers, passes } = report;
     keep_all(&mut dispatcher.passes, passes)?;
@@ -135,7 +135,6 @@ fn give_to_pool<G: Gate + Sync, R: Threads + Wait + Sync>(
 /// for one job: what it answers would be the same.
 fn give_jobs<G: Gate + Sync, R: Threads + Wait + Sync>(
     rt: &R,
-    alloc: Global,
     threaded: &Threaded<'_, G>,
     workers: usize,
     dispatcher: &mut Dispatcher,
@@ -144,6 +143,7 @@ fn give_jobs<G: Gate + Sync, R: Threads + Wait + Sync>(
     requires seat { IsSeatOf threaded.now.board.now dispatcher.old.seat }
     ensures { IsSeatOf threaded.now.board.now dispatcher.new.seat }
 {
+    let alloc = threaded.alloc;
     let jobs = jobs_for(
         rt,
         alloc,
@@ -155,7 +155,7 @@ fn give_jobs<G: Gate + Sync, R: Threads + Wait + Sync>(
     if workers == 1 || jobs.len() == 1 {
         return do_in_turn(rt, alloc, threaded, dispatcher, jobs.as_slice());
     }
-    give_to_pool(rt, alloc, threaded, workers, dispatcher, jobs.as_slice())
+    give_to_pool(rt, threaded, workers, dispatcher, jobs.as_slice())
 }
 
 /// Notes how far all partitions are, and which is furthest behind.
@@ -211,7 +211,7 @@ pub(crate) fn dispatch<G: Gate + Sync, R: Threads + Wait + Sync>(
         if threaded.are_over() {
             return Ok(());
         }
-        let Ok(events) = give_jobs(rt, alloc, threaded, workers, dispatcher) else {
+        let Ok(events) = give_jobs(rt, threaded, workers, dispatcher) else {
             threaded.fail();
             return Err(AllocError);
         };

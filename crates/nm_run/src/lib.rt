@@ -13,7 +13,6 @@ mod posts;
 pub mod report;
 pub mod run;
 pub mod runtime;
-mod seats;
 mod sides;
 pub mod stop;
 mod threads;

@@ -18,7 +18,6 @@ use crate::jobs::Watched;
 use crate::posts::{Post, Posts, open_posts, woken_poll};
 use crate::report::{Report, report_of};
 use crate::runtime::Runtime;
-use crate::seats::{Dealt, deal};
 use crate::sides::{Role, Side, SideEnd, run_threads};
 use crate::stop::Stop;
 use crate::threads::Threaded;
@@ -26,6 +25,8 @@ use mio::{Events, Waker};
 use nm_base::PartNo;
 use nm_book::{Book, BookFault};
 use nm_files::{Outputs, TraceFiles};
+use nm_frames::ReplicaName;
+use nm_net::seats::{Dealt, deal};
 use nm_net::{Holdings, Lending};
 use nm_peers::{Listener, peers_of};
 use nm_progress::Progress;
@@ -229,14 +230,12 @@ fn own_and_others(
     let Some(listener) = opened.listeners.get(index) else {
         return Err(Stop::IMPOSSIBLE);
     };
-    let Dealt { own, others } = deal(
-        opened.alloc,
-        opened.plan.topology,
-        opened.board,
-        listener.partition,
-        listener.replica,
-        owners,
-    )?;
+    let replica = ReplicaName {
+        partition: listener.partition,
+        replica: listener.replica,
+    };
+    let topology = opened.plan.topology;
+    let Dealt { own, others } = deal(opened.alloc, topology, opened.board, replica, owners)?;
     Ok((own, others))
 }
 

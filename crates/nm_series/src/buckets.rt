@@ -5,7 +5,7 @@ ghost use Rattle.nm_measure.specs.Lines.{EndsLine};
 
 use crate::cells::push_cell;
 use nm_base::{SourceNo, push_number, push_text};
-use nm_measure::{Delays, Measured, end_line};
+use nm_measure::{Delays, MadeText, Measured, end_line};
 use nm_topology::Topology;
 use std::alloc::{AllocError, Global};
 
@@ -40,11 +40,7 @@ fn push_delays(text: &mut Vec<u8>, source: u32, delays: &Delays) -> Result<(), A
 /// # Errors
 ///
 /// Where memory was refused.
-pub fn delays_text(
-    alloc: Global,
-    topology: &Topology,
-    measured: &Measured,
-) -> Result<Vec<u8>, AllocError>
+pub fn delays_text(alloc: Global, topology: &Topology, measured: &Measured) -> MadeText
     ensures { IfOk result (λ text. EndsLine text.items) }
 {
     let mut text = Vec::new(alloc);

@@ -25,6 +25,10 @@ pub record Meets (exact : Bool) (own : Home) (m e m' e' : ℕ) (b c : BookValue)
   pub messages : Rises exact m (messages_known c - messages_known b) m'
   pub events : Rises exact e (c.events - b.events) e'
 
+-- a blank, of this name and cut into so many parts, is that of a ledger, and is cut into all parts
+abbrev pub IsBlankOf : (own own_parts name parts : ℕ) → Type 0
+IsBlankOf own own_parts name parts = (name ≡ own) × (parts ≡ own_parts) × (parts ≡ 2 ^ 32)
+
 -- no book's
 abbrev pub nowhere : Home
 nowhere = record {

@@ -18,6 +18,10 @@ pub record Home : Type 0 where
   pub partition : ℕ
   pub replica : ℕ
 
+-- of a network's partition the replica of this number
+abbrev pub home_at : TopologyValue → (partition replica : ℕ) → Home
+home_at t partition replica = record { topology = t; partition = partition; replica = replica }
+
 abbrev pub home_of : BookValue → Home
 home_of b = record { topology = b.topology; partition = b.partition; replica = b.replica }
 

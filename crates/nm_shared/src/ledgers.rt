@@ -1,6 +1,7 @@
 //! Exact counts: two ledgers of the standard library, which types name.
 
 ghost use Rattle.std.specs.Prelude.{◌≡◌, ◌^◌, true};
+ghost use Rattle.nm_shared.specs.Counted.{IsBlankOf};
 
 use crate::counts::Counts;
 use std::marker::Brand;
@@ -38,10 +39,8 @@ pub struct LedgerShares<M: Naming, E: Ledger> {
 impl<M: Naming, E: Ledger> Ledgers<M, E> {
     /// Fresh totals, and the whole share.
     pub fn open(messages: Blank, events: Blank) -> (Ledgers<M, E>, LedgerShares<M, E>)
-        requires messages { (messages.name ≡ M.name) × (messages.parts ≡ M.parts)
-            × (messages.parts ≡ 2 ^ 32) }
-        requires events { (events.name ≡ E.name) × (events.parts ≡ E.parts)
-            × (events.parts ≡ 2 ^ 32) }
+        requires messages { IsBlankOf M.name M.parts messages.name messages.parts }
+        requires events { IsBlankOf E.name E.parts events.name events.parts }
         ensures totals { (result.0.messages.total ≡ 0) × (result.0.events.total ≡ 0) }
         ensures share { (result.1.messages.parts ≡ 2 ^ 32) × (result.1.messages.amount ≡ 0)
             × (result.1.events.amount ≡ 0) }

@@ -6,7 +6,7 @@ ghost use Rattle.nm_traffic.specs.Flow.{cbr_octets};
 ghost use Rattle.nm_traffic.specs.Source.{packet_at};
 
 use crate::flow::time_before;
-use crate::packet::SourcePacket;
+use crate::packet::{SourcePacket, TimedPacket};
 use nm_base::Time;
 use nm_topology::traffic::{Cbr, Flow};
 use std::alloc::{AllocError, Global};
@@ -41,11 +41,7 @@ impl CbrSource {
 
     /// Packet `number` and its time, if it comes before `stop`. All packets share their octets.
     #[tactic(auto, unfolding(crate::specs::Source::packet_at))]
-    pub fn packet(
-        &self,
-        stop: Time,
-        number: u64,
-    ) -> Result<Option<(Time, SourcePacket)>, AllocError>
+    pub fn packet(&self, stop: Time, number: u64) -> TimedPacket
         ensures { IfOk result (λ p. p ≡ packet_at stop (CbrTraffic self.now.cbr) number) }
     {
         match time_before(&self.cbr.flow, stop, number) {

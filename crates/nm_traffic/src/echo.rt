@@ -8,7 +8,7 @@ ghost use Rattle.nm_traffic.specs.Flow.{echo_message, flow_data};
 ghost use Rattle.nm_traffic.specs.Source.{packet_at};
 
 use crate::flow::time_before;
-use crate::packet::SourcePacket;
+use crate::packet::{SourcePacket, TimedPacket};
 use nm_base::Time;
 use nm_packet::icmp::{ECHO_CODE, ECHO_REQUEST};
 use nm_packet::{Icmp, MessageKind};
@@ -62,12 +62,7 @@ impl EchoSource {
 
     /// Request `number` and its time, if it comes before `stop`.
     #[tactic(auto, unfolding(crate::specs::Source::packet_at))]
-    pub fn packet(
-        &self,
-        alloc: Global,
-        stop: Time,
-        number: u64,
-    ) -> Result<Option<(Time, SourcePacket)>, AllocError>
+    pub fn packet(&self, alloc: Global, stop: Time, number: u64) -> TimedPacket
         ensures { IfOk result (λ p. p ≡ packet_at stop (EchoTraffic self.now.echo) number) }
     {
         match time_before(&self.echo.flow, stop, number) {

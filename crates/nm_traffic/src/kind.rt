@@ -7,7 +7,7 @@ ghost use Rattle.nm_traffic.specs.Source.{packet_at};
 
 use crate::cbr::CbrSource;
 use crate::echo::EchoSource;
-use crate::packet::SourcePacket;
+use crate::packet::TimedPacket;
 use crate::raw;
 use nm_base::Time;
 use nm_topology::traffic::{Raw, Traffic};
@@ -36,12 +36,7 @@ impl Kind {
     }
 
     /// Packet `number` and its time, if there is one and it comes before `stop`.
-    pub fn packet(
-        &self,
-        alloc: Global,
-        stop: Time,
-        number: u64,
-    ) -> Result<Option<(Time, SourcePacket)>, AllocError>
+    pub fn packet(&self, alloc: Global, stop: Time, number: u64) -> TimedPacket
         ensures { IfOk result (λ p. p ≡ packet_at stop (traffic_of self.now) number) }
     {
         match self {

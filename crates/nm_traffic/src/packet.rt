@@ -3,7 +3,7 @@
 ghost use Rattle.std.specs.Prelude.{◌≡◌, ℕ, ◌≤◌, List, length, IfOk};
 
 use bytes::Bytes;
-use nm_base::Packet;
+use nm_base::{Packet, Time};
 use std::alloc::AllocError;
 use std::marker::Model;
 
@@ -13,6 +13,9 @@ use std::marker::Model;
 pub struct SourcePacket {
     packet: Packet,
 }
+
+/// A packet of a source and its time, if there is one; or memory was refused for it.
+pub type TimedPacket = Result<Option<(Time, SourcePacket)>, AllocError>;
 
 impl Model for SourcePacket {
     ghost Value = { List ℕ };

@@ -4,7 +4,7 @@ ghost use Rattle.std.specs.Prelude.{◌≡◌, IfOk};
 ghost use Rattle.nm_topology.specs.declared.traffic.Traffic.TheVariants.{Raw as RawTraffic};
 ghost use Rattle.nm_traffic.specs.Source.{packet_at};
 
-use crate::packet::SourcePacket;
+use crate::packet::{SourcePacket, TimedPacket};
 use nm_base::Time;
 use nm_topology::traffic::{Raw, RawPacket};
 use std::alloc::{AllocError, Global};
@@ -32,11 +32,7 @@ pub fn copy(alloc: Global, raw: &Raw) -> Result<Raw, AllocError>
 
 /// Packet `number` and its time, if there is one and it comes before `stop`.
 #[tactic(auto, unfolding(crate::specs::Source::packet_at))]
-pub fn packet(
-    raw: &Raw,
-    stop: Time,
-    number: u64,
-) -> Result<Option<(Time, SourcePacket)>, AllocError>
+pub fn packet(raw: &Raw, stop: Time, number: u64) -> TimedPacket
     ensures { IfOk result (λ p. p ≡ packet_at stop (RawTraffic raw.now) number) }
 {
     let Some(found) = raw.packets().get(number as usize) else {

@@ -4,7 +4,7 @@ ghost use Rattle.std.specs.Prelude.{◌≡◌, ℕ, ◌<◌, Some, length, IfOk}
 ghost use Rattle.nm_traffic.specs.Source.{packet_at, source_at, source_of};
 
 use crate::kind::Kind;
-use crate::packet::SourcePacket;
+use crate::packet::TimedPacket;
 use nm_base::{SourceNo, Time};
 use nm_topology::Topology;
 use nm_topology::topology::accepted_topologies_are_in_order;
@@ -47,11 +47,7 @@ impl Source {
 
     /// Packet `number`, from 0, and its time; `None` where the source has no such packet, or none
     /// before the run stops. Nothing is changed: after an `Err` the same call may succeed.
-    pub fn next(
-        &self,
-        alloc: Global,
-        number: u64,
-    ) -> Result<Option<(Time, SourcePacket)>, AllocError>
+    pub fn next(&self, alloc: Global, number: u64) -> TimedPacket
         ensures { IfOk result (λ p. p ≡ packet_at self.now.stop self.now.traffic number) }
     {
         self.kind.packet(alloc, self.stop, number)

@@ -43,6 +43,13 @@ next_given f xs n x old mid new is so_far more =
     more ∙ ap (λ l. l ++ f (n, x)) so_far ∙ append_assoc old (flat_map f (enumerate_from 0 (take n xs))) (f (n, x))
     ∙ ap (λ l. old ++ l) (sym (numbered_more f xs n x (slice_get_within xs n x is) (sym (get_or_from_slice_get xs n x x is))))
 
+-- the next element gives what is said of it
+pub one_given : {X Y : Type 0} (f : ℕ × X → List Y) (xs : List X) (n : ℕ) (old mid new : List Y) → n < length xs
+    → HasGiven f xs n old mid → ((x : X) → slice_get xs n ≡ Some x → new ≡ mid ++ f (n, x)) → HasGiven f xs (n + 1) old new
+one_given f xs n old mid new low so_far more =
+    let is = element xs n low in
+    next_given f xs n is.0 old mid new is.1 so_far (more is.0 is.1)
+
 pub all_given : {X Y : Type 0} (f : ℕ × X → List Y) (xs : List X) (n : ℕ) (old new : List Y) → n ≡ length xs → HasGiven f xs n old new → new ≡ old ++ flat_map f (enumerate_from 0 xs)
 all_given f xs n old new all has = has ∙ ap (λ l. old ++ flat_map f (enumerate_from 0 l)) (take_all n xs (omega (arith, all)))
 

@@ -5,6 +5,7 @@ use Rattle.nm_topology.specs.TopologyValue.{TopologyValue}
 use Rattle.nm_book.specs.Book.{BookValue}
 use Rattle.nm_rounds.specs.Headline.{Headline}
 use Rattle.nm_rounds.specs.Replay.{IsReplay}
+use Rattle.nm_rounds.specs.declared.replay.ReplayEnd.{ReplayEnd}
 use Rattle.nm_rounds.specs.declared.replay.ReplayEnd.TheVariants.{Ended, NoSuch}
 use Rattle.nm_rounds.specs.declared.step.StepAnswer.{StepAnswer}
 use Rattle.nm_rounds.specs.declared.step.WorldStep.{WorldStep}
@@ -15,28 +16,31 @@ use Rattle.nm_command.specs.declared.status.Status.TheVariants.{Done, ScriptLine
 use Rattle.nm_words.specs.Input.{IsRefused}
 use Rattle.nm_words.specs.Output.{EndsWord, Exchange, FailsOfInputs, SaysOfInputs}
 
--- What is said are the answers to all steps of the script, and the books that they left, as the
--- model's world has them. So the headline holds of them.
-pub record SaysReport (text script octets : List ℕ) : Type 0 where
-  pub network : TopologyValue
+-- The topology is read, and the steps of the script end so, with these answers and these books, as
+-- the model's world has them.
+pub record Replays (text script : List ℕ) (network : TopologyValue) (answers : List StepAnswer)
+    (books : List BookValue) (ending : ReplayEnd) : Type 0 where
   pub read : topology_of text ≡ Ok network
   pub steps : List WorldStep
   pub means : IsScript script steps
+  pub replay : IsReplay network steps answers books ending
+
+-- What is said are the answers to all steps of the script, and the books that they left. So the
+-- headline holds of them.
+pub record SaysReport (text script octets : List ℕ) : Type 0 where
+  pub network : TopologyValue
   pub answers : List StepAnswer
   pub books : List BookValue
-  pub replay : IsReplay network steps answers books Ended
+  pub replays : Replays text script network answers books Ended
   pub headline : Headline network answers books
   pub said : octets ≡ report_text answers books
 
 -- this step of the script, counted from 0, names what is not there
 pub record StopsAt (text script : List ℕ) (step : ℕ) : Type 0 where
   pub network : TopologyValue
-  pub read : topology_of text ≡ Ok network
-  pub steps : List WorldStep
-  pub means : IsScript script steps
   pub answers : List StepAnswer
   pub books : List BookValue
-  pub replay : IsReplay network steps answers books (NoSuch step)
+  pub replays : Replays text script network answers books (NoSuch step)
 
 -- the topology is read, and this line of the script, counted from 1, is its first bad one
 pub record HasBadLine (text script : List ℕ) (line : ℕ) : Type 0 where

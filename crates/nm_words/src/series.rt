@@ -106,16 +106,17 @@ fn write_from_begin<T: Told, S: Sink>(
 fn write_all_steps<T: Told, S: Sink>(
     alloc: Global,
     topology: &Topology,
-    words: &SeriesWords<'_>,
+    subject: Subject,
+    step: u64,
     sink: &mut S,
     progress: &Progress,
 ) -> Result<(), Status>
-    requires { TellsOf T.are_rows words.now.subject topology.now }
-    ensures { WritesSteps (output_seen S.seen sink.old) (output_seen S.seen sink.new)
-        words.now.subject words.now.step topology.now (ended result) }
+    requires { TellsOf T.are_rows subject topology.now }
+    ensures { WritesSteps (output_seen S.seen sink.old) (output_seen S.seen sink.new) subject step
+        topology.now (ended result) }
 {
-    let mut series = Series::<T>::begin(alloc, topology, words.step)?;
-    write_from_begin(alloc, topology, words.subject, &mut series, sink, progress)
+    let mut series = Series::<T>::begin(alloc, topology, step)?;
+    write_from_begin(alloc, topology, subject, &mut series, sink, progress)
 }
 
 /// Writes a series, step by step.
@@ -129,12 +130,13 @@ fn write_steps<S: Sink>(
     ensures { WritesSteps (output_seen S.seen sink.old) (output_seen S.seen sink.new)
         words.now.subject words.now.step topology.now (ended result) }
 {
-    match words.subject {
+    let (subject, step) = (words.subject, words.step);
+    match subject {
         Subject::Interfaces => write_all_steps::<IfaceTotals, S>(
-            alloc, topology, words, sink, progress,
+            alloc, topology, subject, step, sink, progress,
         ),
         Subject::Sources => write_all_steps::<FlowTotals, S>(
-            alloc, topology, words, sink, progress,
+            alloc, topology, subject, step, sink, progress,
         ),
     }
 }

@@ -20,11 +20,9 @@ use crate::words::{
     Ended, Given, MAX_FILES, MAX_OUTPUT_OCTETS, expected_of, file_of, run_given, text_in,
 };
 use nm_files::mem_outputs::MemFile;
+use nm_program::Runtime;
 use std::alloc::Global;
-use std::net::Net;
 use std::rt::Files;
-use std::sync::Wait;
-use std::time::Clock;
 use std::{fs, io};
 
 /// A file that the program can read.
@@ -82,16 +80,12 @@ fn iface_of(name: &str) -> Option<&str> {
 }
 
 /// Whether a file has the octets that `one` writes of its interface.
-fn is_as_one<
-    R: AllocGlobal
-        + Net<Stream = std::net::TcpStream, Listener = std::net::TcpListener>
-        + std::thread::Threads
-        + Wait
-        + Clock
-        + Sync
-        + Drop
-        + Copy,
->(rt: &R, topology: &str, given: Given, file: &MemFile) -> io::Result<bool> {
+fn is_as_one<R: Runtime + AllocGlobal>(
+    rt: &R,
+    topology: &str,
+    given: Given,
+    file: &MemFile,
+) -> io::Result<bool> {
     let Some(iface) = iface_of(file.name.as_str()) else {
         return Ok(false);
     };
@@ -104,16 +98,13 @@ fn is_as_one<
 }
 
 /// Appends the lines of the files that were made.
-fn push_files<
-    R: AllocGlobal
-        + Net<Stream = std::net::TcpStream, Listener = std::net::TcpListener>
-        + std::thread::Threads
-        + Wait
-        + Clock
-        + Sync
-        + Drop
-        + Copy,
->(rt: &R, found: &mut String, topology: &str, given: Given, files: &[MemFile]) -> io::Result<()> {
+fn push_files<R: Runtime + AllocGlobal>(
+    rt: &R,
+    found: &mut String,
+    topology: &str,
+    given: Given,
+    files: &[MemFile],
+) -> io::Result<()> {
     if files.is_empty() {
         return Ok(());
     }
@@ -146,16 +137,13 @@ fn push_written(alloc: Global, found: &mut String, octets: &[u8]) -> io::Result<
 }
 
 /// Appends what a run of the program did.
-fn push_ended<
-    R: AllocGlobal
-        + Net<Stream = std::net::TcpStream, Listener = std::net::TcpListener>
-        + std::thread::Threads
-        + Wait
-        + Clock
-        + Sync
-        + Drop
-        + Copy,
->(rt: &R, found: &mut String, topology: &str, given: Given, ended: &Ended) -> io::Result<()> {
+fn push_ended<R: Runtime + AllocGlobal>(
+    rt: &R,
+    found: &mut String,
+    topology: &str,
+    given: Given,
+    ended: &Ended,
+) -> io::Result<()> {
     let error = text_in(&ended.errors)?;
     let error = if error.is_empty() { "-\n" } else { error };
     let head = format!(in rt.alloc(); "status {}\nerror {error}", ended.code)?;
@@ -165,16 +153,13 @@ fn push_ended<
 }
 
 /// Appends a block: what the program does with the words of this line, which follow `words`.
-fn push_block<
-    R: AllocGlobal
-        + Net<Stream = std::net::TcpStream, Listener = std::net::TcpListener>
-        + std::thread::Threads
-        + Wait
-        + Clock
-        + Sync
-        + Drop
-        + Copy,
->(rt: &R, found: &mut String, line: &str, words: &str, given: Given) -> io::Result<()> {
+fn push_block<R: Runtime + AllocGlobal>(
+    rt: &R,
+    found: &mut String,
+    line: &str,
+    words: &str,
+    given: Given,
+) -> io::Result<()> {
     push_line(found, line)?;
     let words: Vec<&str> = words.split_ascii_whitespace().collect(rt.alloc())?;
     let ended = run_given(rt, words.as_slice(), given)?;
@@ -191,16 +176,11 @@ fn head_of(line: &str) -> Option<(&str, &str)> {
 }
 
 /// What the words do that a case has.
-fn blocks_found<
-    R: AllocGlobal
-        + Net<Stream = std::net::TcpStream, Listener = std::net::TcpListener>
-        + std::thread::Threads
-        + Wait
-        + Clock
-        + Sync
-        + Drop
-        + Copy,
->(rt: &R, given: Given, expected: &str) -> io::Result<String> {
+fn blocks_found<R: Runtime + AllocGlobal>(
+    rt: &R,
+    given: Given,
+    expected: &str,
+) -> io::Result<String> {
     let mut found = String::new(rt.alloc());
     for line in expected.lines() {
         if let Some((before, words)) = head_of(line) {
@@ -225,16 +205,12 @@ fn files_of(alloc: Global, inputs: &[Input]) -> io::Result<Vec<(&str, &[u8])>> {
 }
 
 /// What a case shows, with these files.
-fn found_of<
-    R: AllocGlobal
-        + Net<Stream = std::net::TcpStream, Listener = std::net::TcpListener>
-        + std::thread::Threads
-        + Wait
-        + Clock
-        + Sync
-        + Drop
-        + Copy,
->(rt: &R, standard: &[u8], inputs: &[Input], expected: &str) -> io::Result<String> {
+fn found_of<R: Runtime + AllocGlobal>(
+    rt: &R,
+    standard: &[u8],
+    inputs: &[Input],
+    expected: &str,
+) -> io::Result<String> {
     let files = files_of(rt.alloc(), inputs)?;
     let given = Given {
         standard,
@@ -246,37 +222,21 @@ fn found_of<
 }
 
 /// What the case at a path shows.
-fn found_at<
-    R: Files
-        + AllocGlobal
-        + Net<Stream = std::net::TcpStream, Listener = std::net::TcpListener>
-        + std::thread::Threads
-        + Wait
-        + Clock
-        + Sync
-        + Clone
-        + Drop
-        + Copy,
->(rt: &R, stem: &str, expected: &str) -> io::Result<String> {
+fn found_at<R: Runtime + Files + AllocGlobal + Clone>(
+    rt: &R,
+    stem: &str,
+    expected: &str,
+) -> io::Result<String> {
     let inputs = inputs_of(rt, stem)?;
     let standard = file_of(rt, stem, ".toml")?;
     found_of(rt, &standard, &inputs, expected)
 }
 
 /// Runs the case of words at a path, which is without its end.
-pub fn run_called_case<
-    R: Files
-        + AllocGlobal
-        + Print
-        + Net<Stream = std::net::TcpStream, Listener = std::net::TcpListener>
-        + std::thread::Threads
-        + Wait
-        + Clock
-        + Sync
-        + Clone
-        + Drop
-        + Copy,
->(rt: &R, stem: &str) -> io::Result<Tally> {
+pub fn run_called_case<R: Runtime + Files + AllocGlobal + Print + Clone>(
+    rt: &R,
+    stem: &str,
+) -> io::Result<Tally> {
     let expected = expected_of(rt, stem)?;
     let found = found_at(rt, stem, expected.as_str())?;
     let differs = differs(rt, stem, expected.as_str(), found.as_str())?;

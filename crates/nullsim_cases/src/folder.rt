@@ -5,6 +5,7 @@ use crate::pair::run_pair;
 use crate::reported::report_differs;
 use crate::table::run_table;
 use crate::tally::Tally;
+use nm_program::Runtime;
 use std::alloc::Global;
 use std::fs::DirEntry;
 use std::net::Net;
@@ -56,19 +57,10 @@ fn is_of_words(stem: &str) -> bool {
 }
 
 /// Runs the case of the topology text at a path, which is without its end.
-fn run_text<
-    R: Files
-        + AllocGlobal
-        + Print
-        + Net<Stream = std::net::TcpStream, Listener = std::net::TcpListener>
-        + std::thread::Threads
-        + Wait
-        + Clock
-        + Sync
-        + Clone
-        + Drop
-        + Copy,
->(rt: &R, stem: &str) -> io::Result<Tally> {
+fn run_text<R: Runtime + Files + AllocGlobal + Print + Clone>(
+    rt: &R,
+    stem: &str,
+) -> io::Result<Tally> {
     if is_of_words(stem) {
         return run_called_case(rt, stem);
     }
@@ -80,19 +72,10 @@ fn run_text<
 }
 
 /// Runs the cases of the file at a path.
-fn run_file<
-    R: Files
-        + AllocGlobal
-        + Print
-        + Net<Stream = std::net::TcpStream, Listener = std::net::TcpListener>
-        + std::thread::Threads
-        + Wait
-        + Clock
-        + Sync
-        + Clone
-        + Drop
-        + Copy,
->(rt: &R, path: &str) -> io::Result<Tally> {
+fn run_file<R: Runtime + Files + AllocGlobal + Print + Clone>(
+    rt: &R,
+    path: &str,
+) -> io::Result<Tally> {
     if path.ends_with(".cases") {
         return run_table(rt, path);
     }
@@ -109,19 +92,11 @@ fn run_file<
 }
 
 /// Runs the cases of a file of a folder, and prints what is wrong with the file.
-fn run_named<
-    R: Files
-        + AllocGlobal
-        + Print
-        + Net<Stream = std::net::TcpStream, Listener = std::net::TcpListener>
-        + std::thread::Threads
-        + Wait
-        + Clock
-        + Sync
-        + Clone
-        + Drop
-        + Copy,
->(rt: &R, folder: &str, name: &str) -> io::Result<Tally> {
+fn run_named<R: Runtime + Files + AllocGlobal + Print + Clone>(
+    rt: &R,
+    folder: &str,
+    name: &str,
+) -> io::Result<Tally> {
     let path = format!(in rt.alloc(); "cases/{folder}/{name}")?;
     let tally = run_file(rt, path.as_str());
     if let Err(error) = &tally {
@@ -131,19 +106,11 @@ fn run_named<
 }
 
 /// Runs the cases of these files of a folder.
-fn run_all<
-    R: Files
-        + AllocGlobal
-        + Print
-        + Net<Stream = std::net::TcpStream, Listener = std::net::TcpListener>
-        + std::thread::Threads
-        + Wait
-        + Clock
-        + Sync
-        + Clone
-        + Drop
-        + Copy,
->(rt: &R, folder: &str, names: &[String]) -> io::Result<Tally> {
+fn run_all<R: Runtime + Files + AllocGlobal + Print + Clone>(
+    rt: &R,
+    folder: &str,
+    names: &[String],
+) -> io::Result<Tally> {
     let mut tally = Tally::new();
     for name in names {
         tally.add(run_named(rt, folder, name.as_str())?);

@@ -3,12 +3,10 @@
 
 use crate::compare::{differs, push_line};
 use crate::words::{expected_of, file_of, run_words, text_in};
+use nm_program::Runtime;
 use std::alloc::Global;
 use std::io;
-use std::net::Net;
 use std::rt::Files;
-use std::sync::Wait;
-use std::time::Clock;
 
 /// Appends the line that a case has for a line of a report, if it has one: of a counter or of drops
 /// above 0.
@@ -54,17 +52,7 @@ fn counted(alloc: Global, expected: &str) -> io::Result<String> {
 }
 
 /// The counters and drops that the report of the network at a path has.
-fn reported_at<
-    R: Files
-        + AllocGlobal
-        + Net<Stream = std::net::TcpStream, Listener = std::net::TcpListener>
-        + std::thread::Threads
-        + Wait
-        + Clock
-        + Sync
-        + Drop
-        + Copy,
->(rt: &R, stem: &str) -> io::Result<String> {
+fn reported_at<R: Runtime + Files + AllocGlobal>(rt: &R, stem: &str) -> io::Result<String> {
     let topology = file_of(rt, stem, ".toml")?;
     let ended = run_words(rt, &["report", "-", "csv"], topology.as_slice())?;
     reported(rt.alloc(), text_in(&ended.out)?)
@@ -77,18 +65,10 @@ fn counted_at<R: Files + AllocGlobal>(rt: &R, stem: &str) -> io::Result<String> 
 }
 
 /// Whether the report of the network at a path, which is without its end, differs from what it has.
-pub fn report_differs<
-    R: Files
-        + AllocGlobal
-        + Print
-        + Net<Stream = std::net::TcpStream, Listener = std::net::TcpListener>
-        + std::thread::Threads
-        + Wait
-        + Clock
-        + Sync
-        + Drop
-        + Copy,
->(rt: &R, stem: &str) -> io::Result<bool> {
+pub fn report_differs<R: Runtime + Files + AllocGlobal + Print>(
+    rt: &R,
+    stem: &str,
+) -> io::Result<bool> {
     let found = reported_at(rt, stem)?;
     let expected = counted_at(rt, stem)?;
     differs(rt, stem, expected.as_str(), found.as_str())

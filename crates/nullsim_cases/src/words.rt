@@ -3,13 +3,10 @@
 use nm_base::MemSink;
 use nm_files::MemOutputs;
 use nm_files::mem_outputs::MemFile;
-use nm_program::{Means, MemInputs, NamedInputs, run};
+use nm_program::{Means, MemInputs, NamedInputs, Runtime, run};
 use nm_progress::Progress;
 use std::alloc::Global;
-use std::net::Net;
 use std::rt::Files;
-use std::sync::Wait;
-use std::time::Clock;
 use std::{fs, io};
 
 /// The greatest number of octets that a case writes.
@@ -61,16 +58,7 @@ fn owned(alloc: Global, words: &[&str]) -> io::Result<Vec<String>> {
 }
 
 /// Runs the program with these words: its exit status, and standard output.
-fn run_program<
-    R: AllocGlobal
-        + Net<Stream = std::net::TcpStream, Listener = std::net::TcpListener>
-        + std::thread::Threads
-        + Wait
-        + Clock
-        + Sync
-        + Drop
-        + Copy,
->(
+fn run_program<R: Runtime + AllocGlobal>(
     rt: &R,
     words: &[String],
     given: Given,
@@ -93,16 +81,11 @@ fn run_program<
 }
 
 /// Runs the program with these words.
-pub fn run_given<
-    R: AllocGlobal
-        + Net<Stream = std::net::TcpStream, Listener = std::net::TcpListener>
-        + std::thread::Threads
-        + Wait
-        + Clock
-        + Sync
-        + Drop
-        + Copy,
->(rt: &R, words: &[&str], given: Given) -> io::Result<Ended> {
+pub fn run_given<R: Runtime + AllocGlobal>(
+    rt: &R,
+    words: &[&str],
+    given: Given,
+) -> io::Result<Ended> {
     let alloc = rt.alloc();
     let words = owned(alloc, words)?;
     let out = MemSink::new(alloc, given.room)?;
@@ -124,16 +107,11 @@ pub fn run_given<
 }
 
 /// Runs the program with these words. Standard input has the topology; there is no file.
-pub fn run_words<
-    R: AllocGlobal
-        + Net<Stream = std::net::TcpStream, Listener = std::net::TcpListener>
-        + std::thread::Threads
-        + Wait
-        + Clock
-        + Sync
-        + Drop
-        + Copy,
->(rt: &R, words: &[&str], topology: &[u8]) -> io::Result<Ended> {
+pub fn run_words<R: Runtime + AllocGlobal>(
+    rt: &R,
+    words: &[&str],
+    topology: &[u8],
+) -> io::Result<Ended> {
     let given = Given {
         standard: topology,
         files: NO_FILES,

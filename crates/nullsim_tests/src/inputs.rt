@@ -105,33 +105,21 @@ fn script_of(alloc: Global, steps: u64) -> Result<Vec<u8>, AllocError> {
 /// A network of nothing.
 const NOTHING: &str = "format = 1\nstop = 1\nmtu = 576\n";
 
-/// The program ends with this status, of a script of so many steps.
-fn ends_with_steps(
-    rt: &(impl Abort
-        + AllocGlobal
-        + Net<Stream = std::net::TcpStream, Listener = std::net::TcpListener>
-        + std::thread::Threads
-        + Wait
-        + Clock
-        + Sync
-        + Drop
-        + Copy),
-    steps: u64,
-    status: Status,
-) -> Result<(), Fail> {
-    let script = script_of(rt.alloc(), steps)?;
-    let files = [("steps", script.as_slice())];
-    let inputs = MemInputs {
-        standard: NOTHING.as_bytes(),
-        files: &files,
-    };
-    ends(rt, "script - steps", inputs, status)
-}
-
 /// A million steps are read, and the first names nothing; one more is a bad line. Comments are no
 /// steps.
 #[test]
 fn a_million_steps(rt: HostRuntime) -> Result<(), Fail> {
-    ends_with_steps(&rt, 1_000_000, Status::Step(0))?;
-    ends_with_steps(&rt, 1_000_001, Status::ScriptLine(2_000_002))
+    for (steps, status) in [
+        (1_000_000, Status::Step(0)),
+        (1_000_001, Status::ScriptLine(2_000_002)),
+    ] {
+        let script = script_of(rt.alloc(), steps)?;
+        let files = [("steps", script.as_slice())];
+        let inputs = MemInputs {
+            standard: NOTHING.as_bytes(),
+            files: &files,
+        };
+        ends(&rt, "script - steps", inputs, status)?;
+    }
+    Ok(())
 }

@@ -31,7 +31,6 @@ fn files_of(alloc: Global, room: usize, file_octets: usize) -> MemOutputs {
 /// Runs the network of a text.
 fn run_text<R>(
     rt: &R,
-    alloc: Global,
     text: &str,
     replicas: u8,
     outputs: &mut MemOutputs,
@@ -43,10 +42,12 @@ where
         + Threads
         + Wait
         + Clock
+        + AllocGlobal
         + Sync
         + Drop
         + Copy,
 {
+    let alloc = rt.alloc();
     let Ok(topology) = Topology::read(alloc, text.as_bytes()) else {
         return Err(io::ErrorKind::Other.into());
     };
@@ -90,15 +91,7 @@ fn a_ring_is_certified(rt: HostRuntime) -> Result<(), Fail> {
     for replicas in 1..3 {
         let gate = Watching::new(true, false);
         let mut outputs = files_of(rt.alloc(), 6, 1_000);
-        let outcome = run_text(
-            &rt,
-            rt.alloc(),
-            RING,
-            replicas,
-            &mut outputs,
-            &gate,
-            &Progress::new(),
-        )?;
+        let outcome = run_text(&rt, RING, replicas, &mut outputs, &gate, &Progress::new())?;
         is_whole(&rt, &outcome, &outputs);
         assert!(rt; gate.most.load(Ordering::SeqCst) >= 48);
         // the first job of each book: what is left is short, and stays on its thread
@@ -114,15 +107,7 @@ fn a_partition_alone_has_no_job(rt: HostRuntime) -> Result<(), Fail> {
         let gate = Watching::new(true, false);
         let mut outputs = files_of(rt.alloc(), 2, 1_000);
         let progress = Progress::new();
-        let outcome = run_text(
-            &rt,
-            rt.alloc(),
-            DUO,
-            replicas,
-            &mut outputs,
-            &gate,
-            &progress,
-        )?;
+        let outcome = run_text(&rt, DUO, replicas, &mut outputs, &gate, &progress)?;
         assert!(rt; outcome.is_ok());
         assert!(rt; gate.jobs.load(Ordering::SeqCst) == 0);
         // a file header, a record header and the packet
@@ -149,7 +134,7 @@ fn what_replicas_do_is_counted(rt: HostRuntime) -> Result<(), Fail> {
     let progress = Progress::with_figures(rt.alloc())?;
     let mut outputs = files_of(rt.alloc(), 6, 1_000);
     let gate = Watching::new(true, false);
-    let outcome = run_text(&rt, rt.alloc(), RING, 1, &mut outputs, &gate, &progress)?;
+    let outcome = run_text(&rt, RING, 1, &mut outputs, &gate, &progress)?;
     is_whole(&rt, &outcome, &outputs);
     let Some(figures) = progress.figures() else {
         return Err("figures were asked for".into());
@@ -167,15 +152,7 @@ fn what_replicas_do_is_counted(rt: HostRuntime) -> Result<(), Fail> {
 fn run_two_at_once(rt: HostRuntime) -> Result<(), Fail> {
     let gate = Watching::new(true, true);
     let mut outputs = files_of(rt.alloc(), 6, 1_000);
-    let outcome = run_text(
-        &rt,
-        rt.alloc(),
-        RING,
-        1,
-        &mut outputs,
-        &gate,
-        &Progress::new(),
-    )?;
+    let outcome = run_text(&rt, RING, 1, &mut outputs, &gate, &Progress::new())?;
     is_whole(&rt, &outcome, &outputs);
     assert!(rt; gate.first.load(Ordering::SeqCst) && gate.second.load(Ordering::SeqCst));
     assert!(rt; !gate.was_alone.load(Ordering::SeqCst));
@@ -187,15 +164,7 @@ fn run_two_at_once(rt: HostRuntime) -> Result<(), Fail> {
 fn run_asks_its_polls(rt: HostRuntime) -> Result<(), Fail> {
     let gate = Watching::new(false, false);
     let mut outputs = files_of(rt.alloc(), 6, 1_000);
-    let outcome = run_text(
-        &rt,
-        rt.alloc(),
-        RING,
-        1,
-        &mut outputs,
-        &gate,
-        &Progress::new(),
-    )?;
+    let outcome = run_text(&rt, RING, 1, &mut outputs, &gate, &Progress::new())?;
     assert!(rt; outcome.err() == Some(RunFault::Net));
     Ok(())
 }
@@ -222,16 +191,7 @@ fn files_that_fail(rt: HostRuntime) -> Result<(), Fail> {
     ] {
         let gate = Watching::new(true, false);
         let mut outputs = files_of(rt.alloc(), room, octets);
-        let fault = run_text(
-            &rt,
-            rt.alloc(),
-            RING,
-            1,
-            &mut outputs,
-            &gate,
-            &Progress::new(),
-        )?
-        .err();
+        let fault = run_text(&rt, RING, 1, &mut outputs, &gate, &Progress::new())?.err();
         assert!(rt; has_failed(&fault, &ifaces, written));
         assert!(rt; outputs.files.is_empty());
     }
@@ -244,16 +204,7 @@ fn a_file_that_is_not_named(rt: HostRuntime) -> Result<(), Fail> {
     let gate = Watching::new(true, false);
     let mut outputs = files_of(rt.alloc(), 6, 1_000);
     outputs.places = 3;
-    let fault = run_text(
-        &rt,
-        rt.alloc(),
-        RING,
-        1,
-        &mut outputs,
-        &gate,
-        &Progress::new(),
-    )?
-    .err();
+    let fault = run_text(&rt, RING, 1, &mut outputs, &gate, &Progress::new())?.err();
     assert!(rt; has_failed(&fault, &[0, 1, 2, 3], 256) || has_failed(&fault, &[4, 5, 4, 5], 24));
     assert!(rt; outputs.files.len() == 3);
     Ok(())

@@ -1,12 +1,25 @@
-use Rattle.std.proofs.Common.{◌≡◌, ◌+◌, Ok, Some, true, arith, sym, ◌∙◌, ap, subst}
+use Rattle.std.proofs.Common.{◌≡◌, ℕ, List, ◌+◌, Ok, Some, true, arith, sym, ◌∙◌, ap, subst}
 use Rattle.nm_model.specs.Replica.{IsWithin, from_scratch, safe_time}
+use Rattle.nm_model.specs.Knowledge.{Know}
 use Rattle.nm_model.specs.Run.{pends_before}
+use Rattle.nm_model.specs.World.{advance}
 use Rattle.nm_sim.specs.Network.{net_of}
 use Rattle.nm_sim.specs.Part.{Advanced, events_counted}
 use Rattle.nm_book.specs.Book.{knowledge_of, pending_in}
 use Rattle.nm_book.proofs.Incoming.{stop_is}
 use Rattle.nm_book.proofs.Runnings.{one_more, ran_whole, still_book}
 use Rattle.nm_book.proofs.running.run_part.Goals as goal
+use Rattle.nm_book.proofs.running.run_part.Goals.{After-a_run_goes_to_what_is_safe}
+
+-- a run of so many events of a replica with this knowledge that ends within what is safe
+ran : (c : After-a_run_goes_to_what_is_safe) (p : ℕ) (knows : List (Know (List ℕ))) (k m n : ℕ) → m ≡ k + n
+    → IsWithin (net_of c.args.topology.now) p (knowledge_of c.args.topology.now knows) m
+    → m ≡ advance (net_of c.args.topology.now) p (knowledge_of c.args.topology.now knows) n k
+ran c p knows =
+    let t = c.args.topology.now in
+    let pass = c.times_pass.ensures (net_of t) c.every_topology_is_a_network.ensures.network in
+    ran_whole t p (knowledge_of t knows) (pass.count p (knowledge_of t knows)) (λ j k. pass.within_only p (knowledge_of t knows) j k)
+    (λ n m k. c.a_run_goes_to_what_is_safe.ensures (net_of t) c.every_topology_is_a_network.ensures.network p (knowledge_of t knows) n m k)
 
 pub advance-requires-clause-before : goal.advance-requires-clause-before
 advance-requires-clause-before c =
@@ -35,7 +48,6 @@ returns-in-Err-clause-run c = λ p knows book safe.
     let t = c.args.topology.now in
     let net = net_of t in
     let K = knowledge_of t knows in
-    let ok = c.every_topology_is_a_network.ensures.network in
     let now = c.loop-done.invariant.book p knows book safe in
     let steps = c.in-Err.ensures.steps in
     let before = c.loop-done.invariant.steps in
@@ -44,8 +56,7 @@ returns-in-Err-clause-run c = λ p knows book safe.
     let due : pends_before c.args.safe (from_scratch net p K c.loop-done.part.steps) ≡ true
     = (c.in-Err.ensures.advance (Some p) (from_scratch net p K c.loop-done.part.steps) now.represents).1 in (
       total,
-      ran_whole t p K ((c.times_pass.ensures net ok).count p K) (λ j k. (c.times_pass.ensures net ok).within_only p K j k) (λ n m k. c.a_run_goes_to_what_is_safe.ensures net ok p K n m k)
-          c.args.part.now.steps c.advance.new.self.steps c.loop-done.done total (subst (IsWithin net p K) same now.within),
+      ran (goal.at.returns-in-Err-clause-run c).After-a_run_goes_to_what_is_safe p knows c.args.part.now.steps c.advance.new.self.steps c.loop-done.done total (subst (IsWithin net p K) same now.within),
       c.loop-done-test.true,
       subst (λ n. pends_before (safe_time net p K) (from_scratch net p K n) ≡ true) same
           (subst (λ b. pends_before b (from_scratch net p K c.loop-done.part.steps) ≡ true) safe due),
@@ -73,18 +84,14 @@ loop-done-preserved c =
 pub returns-then-is_left-clause-run : goal.returns-then-is_left-clause-run
 returns-then-is_left-clause-run c = λ p knows book safe.
     let t = c.args.topology.now in
-    let net = net_of t in
-    let K = knowledge_of t knows in
-    let ok = c.every_topology_is_a_network.ensures.network in
     let now = c.loop-done.invariant.book p knows book safe in
     let most = c.loop-done.invariant.most in
     let high = c.loop-done-test.false in
     let all : c.loop-done.done ≡ c.args.limit = omega (arith, most, high) in
-    let s = from_scratch net p K c.loop-done.part.steps in
+    let s = from_scratch (net_of t) p (knowledge_of t knows) c.loop-done.part.steps in
     let left : pends_before c.args.safe s ≡ true = sym (c.is_left.ensures t p s now.represents) ∙ c.if-is_left.true in (
       c.loop-done.invariant.steps,
-      ran_whole t p K ((c.times_pass.ensures net ok).count p K) (λ j k. (c.times_pass.ensures net ok).within_only p K j k) (λ n m k. c.a_run_goes_to_what_is_safe.ensures net ok p K n m k)
-          c.args.part.now.steps c.loop-done.part.steps c.args.limit (c.loop-done.invariant.steps ∙ ap (λ n. c.args.part.now.steps + n) all) now.within,
+      ran (goal.at.returns-then-is_left-clause-run c).After-a_run_goes_to_what_is_safe p knows c.args.part.now.steps c.loop-done.part.steps c.args.limit (c.loop-done.invariant.steps ∙ ap (λ n. c.args.part.now.steps + n) all) now.within,
       all,
       subst (λ b. pends_before b s ≡ true) safe left,
     )

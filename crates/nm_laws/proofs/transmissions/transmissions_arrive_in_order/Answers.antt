@@ -11,11 +11,10 @@ use Rattle.nm_laws.proofs.transmissions.transmissions_arrive_in_order.Goals as g
 
 pub returns-clause-events : goal.returns-clause-events
 returns-clause-events c = λ n.
-    let t = c.args.topology.now in
     let net = net_of c.args.topology.now in
     let ok = c.every_topology_is_a_network.ensures.network in
     record {
-      first = λ i. subst (IsPrefix (passed In i (one_list net n).records)) (due_is t (one_list net n).records (c.packets_have_octets.ensures.events n) i)
+      first = λ i. subst (IsPrefix (passed In i (one_list net n).records)) (due_is c.args.topology.now (one_list net n).records (c.packets_have_octets.ensures.events n) i)
           (arrivals_begin net ok n ((c.what_starts_arrives.ensures net ok).transmitting n) i);
     }
 

@@ -1,8 +1,9 @@
 use Rattle.std.specs.Arc.{arc_value}
+use Rattle.nm_shared.specs.Known.{home_at}
 use Rattle.nm_net_tests.proofs.callers.hands.Given as goal
 
 abbrev pub ghosts-handed_by_many-M-Naming : goal.ghosts-handed_by_many-M-Naming
-ghosts-handed_by_many-M-Naming g a = record { home = record { topology = arc_value a.topology; partition = 1; replica = 0 } }
+ghosts-handed_by_many-M-Naming g a = record { home = home_at (arc_value a.topology) 1 0 }
 
 abbrev pub ghosts-handed_by_many-M-Ledger : goal.ghosts-handed_by_many-M-Ledger
 ghosts-handed_by_many-M-Ledger g a = record { name = a.messages.name; parts = a.messages.parts }

@@ -1,8 +1,9 @@
 use Rattle.std.specs.Arc.{arc_value}
+use Rattle.nm_shared.specs.Known.{home_at}
 use Rattle.nm_net_tests.proofs.latecomers.second.Given as goal
 
 abbrev pub ghosts-second_of-M-Naming : goal.ghosts-second_of-M-Naming
-ghosts-second_of-M-Naming g a = record { home = record { topology = arc_value a.topology; partition = 1; replica = 1 } }
+ghosts-second_of-M-Naming g a = record { home = home_at (arc_value a.topology) 1 1 }
 
 abbrev pub ghosts-second_of-M-Ledger : goal.ghosts-second_of-M-Ledger
 ghosts-second_of-M-Ledger g a = record { name = a.messages.name; parts = a.messages.parts }

@@ -13,15 +13,13 @@ returns-in_err-second-clause-only c = λ a fits e.
 pub returns-in_err-partition-clause-only : goal.returns-in_err-partition-clause-only
 returns-in_err-partition-clause-only c = λ a fits e.
     let one = first_cut c.args.partitions c.args.line.now c.in_ok-first.first.now c.in_ok-first.rest.now a (omega arith) fits e c.in_ok-first.ensures.0 c.in_ok-first.ensures.1 in
-    let within = fits.partition in
-    let not = c.in_err-partition.ensures.only a.partition (omega arith) one.0 in
+    let not = c.in_err-partition.ensures.only a.partition (omega (arith, fits.partition)) one.0 in
     absurd (cc)
 
 pub returns-in_err-replica-clause-only : goal.returns-in_err-replica-clause-only
 returns-in_err-replica-clause-only c = λ a fits e.
     let cut = both_cut c.args.partitions c.args.line.now c.in_ok-first.first.now c.in_ok-first.rest.now c.in_ok-second.second.now c.in_ok-second.third.now a (omega arith) fits e c.in_ok-first.ensures c.in_ok-second.ensures in
-    let within = fits.replica in
-    let not = c.in_err-replica.ensures.only a.replica (omega arith) cut.1 in
+    let not = c.in_err-replica.ensures.only a.replica (omega (arith, fits.replica)) cut.1 in
     absurd (cc)
 
 pub returns-in_err-address-clause-only : goal.returns-in_err-address-clause-only

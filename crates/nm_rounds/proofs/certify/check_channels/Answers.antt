@@ -11,8 +11,7 @@ use Rattle.nm_rounds.proofs.certify.check_channels.Goals as goal
 
 pub check_book-requires-clause-here : goal.check_book-requires-clause-here
 check_book-requires-clause-here c =
-    let there : c.loop-receiver.receiver-index < length c.args.books.now = search rules in
-    all_at (λ b. b.now) c.args.books.now c.loop-receiver.receiver-index c.receiver-item.result there c.receiver-item.is (λ b. SaysSame b.topology c.args.topology.now) c.requires
+    all_at (λ b. b.now) c.args.books.now c.loop-receiver.receiver-index c.receiver-item.result (search rules) c.receiver-item.is (λ b. SaysSame b.topology c.args.topology.now) c.requires
 
 pub returns-in_err-check_book : goal.returns-in_err-check_book
 returns-in_err-check_book c =

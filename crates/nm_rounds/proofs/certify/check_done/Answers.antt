@@ -11,13 +11,11 @@ use Rattle.nm_rounds.proofs.certify.check_done.Goals as goal
 
 pub within_safe_time-requires : goal.within_safe_time-requires
 within_safe_time-requires c =
-    let there : c.loop-book.book-index < length c.args.books.now = search rules in
-    all_at (λ b. b.now) c.args.books.now c.loop-book.book-index c.book-item.result there c.book-item.is (λ b. SaysSame b.topology c.args.topology.now) c.requires
+    all_at (λ b. b.now) c.args.books.now c.loop-book.book-index c.book-item.result (search rules) c.book-item.is (λ b. SaysSame b.topology c.args.topology.now) c.requires
 
 pub is_finished-requires : goal.is_finished-requires
 is_finished-requires c =
-    let there : c.loop-book.book-index < length c.args.books.now = search rules in
-    all_at (λ b. b.now) c.args.books.now c.loop-book.book-index c.book-item.result there c.book-item.is (λ b. SaysSame b.topology c.args.topology.now) c.requires
+    all_at (λ b. b.now) c.args.books.now c.loop-book.book-index c.book-item.result (search rules) c.book-item.is (λ b. SaysSame b.topology c.args.topology.now) c.requires
 
 pub loop-book-preserved : goal.loop-book-preserved
 loop-book-preserved c =

@@ -3,6 +3,13 @@ use Rattle.nm_sim.specs.Network.{net_of}
 use Rattle.nm_rounds.specs.Rounds.{AreAllNews, AreBooks, AllAreFinished, after_runs}
 use Rattle.nm_rounds.proofs.RoundEnds.{all_heard, all_ran, one_left}
 use Rattle.nm_rounds.proofs.round.do_round.Goals as goal
+use Rattle.nm_rounds.proofs.round.do_round.Goals.{In_ok-run_all}
+
+-- the books when all have run
+ran : (c : In_ok-run_all)
+    → AreBooks c.args.topology.now c.args.topology.now.partitions (after_runs c.requires.1 c.requires.0) c.run_all.new.books.items
+ran c = all_ran c.args.topology.now c.requires.1 c.requires.2 c.requires.0 c.args.books.now.items c.run_all.new.books.items
+    (λ p. (c.times_pass.ensures (net_of c.args.topology.now) c.every_topology_is_a_network.ensures.network).count_once p (c.requires.1 c.requires.0 p).knowledge) c.in_ok-run_all.ensures c.requires.3
 
 pub returns-then-all_done : goal.returns-then-all_done
 returns-then-all_done c j by_round are stand = (
@@ -14,19 +21,15 @@ returns-then-all_done c j by_round are stand = (
 pub all_news-requires : goal.all_news-requires
 all_news-requires c =
     let t = c.args.topology.now in
-    let by_round = c.requires.1 in
-    let x = after_runs by_round c.requires.0 in
-    let run = all_ran t by_round c.requires.2 c.requires.0 c.args.books.now.items c.run_all.new.books.items
-    (λ p. (c.times_pass.ensures (net_of t) c.every_topology_is_a_network.ensures.network).count_once p (by_round c.requires.0 p).knowledge) c.in_ok-run_all.ensures c.requires.3 in
+    let x = after_runs c.requires.1 c.requires.0 in
+    let run = ran (goal.at.all_news-requires c).In_ok-run_all in
     record { books = (x, subst (AreBooks t t.partitions x) (sym c.deref-2.ensures.value) run) }
 
 pub hear_all-requires : goal.hear_all-requires
 hear_all-requires c =
     let t = c.args.topology.now in
-    let by_round = c.requires.1 in
-    let x = after_runs by_round c.requires.0 in
-    let run = all_ran t by_round c.requires.2 c.requires.0 c.args.books.now.items c.run_all.new.books.items
-    (λ p. (c.times_pass.ensures (net_of t) c.every_topology_is_a_network.ensures.network).count_once p (by_round c.requires.0 p).knowledge) c.in_ok-run_all.ensures c.requires.3 in (
+    let x = after_runs c.requires.1 c.requires.0 in
+    let run = ran (goal.at.hear_all-requires c).In_ok-run_all in (
       x,
       run,
       subst (λ z. AreAllNews t x (length t.receivers) (map (λ messages. messages.items) z)) (sym c.deref-3.ensures.value)

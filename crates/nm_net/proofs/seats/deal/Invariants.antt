@@ -1,6 +1,6 @@
 use Rattle.std.proofs.Common.{All}
 use Rattle.nm_shared.specs.Board.{IsOwnerOf}
-use Rattle.nm_run.proofs.seats.deal.Given as goal
+use Rattle.nm_net.proofs.seats.deal.Given as goal
 
 abbrev pub invariant-loop-seat : goal.invariant-loop-seat
 invariant-loop-seat l = record {

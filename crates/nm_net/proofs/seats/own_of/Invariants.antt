@@ -1,9 +1,0 @@
-use Rattle.std.proofs.Common.{All}
-use Rattle.nm_shared.specs.Board.{IsOwnerOf}
-use Rattle.nm_net.proofs.seats.own_of.Given as goal
-
-abbrev pub invariant-loop-seat : goal.invariant-loop-seat
-invariant-loop-seat l = record {
-  own : All (IsOwnerOf l.board) l.own.items;
-  rest : All (IsOwnerOf l.board) l.seat-iterator.rest.items;
-}
