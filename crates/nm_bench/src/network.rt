@@ -85,12 +85,13 @@ fn start_twice(alloc: Global, topology: &Topology) -> Result<Vec<Part<SortedList
     Ok(parts)
 }
 
-/// Runs the whole network to its stop, and lets each record go as it is made: how many there are.
+/// Runs the whole network to its stop, and lets each record go once it was shown: how many there
+/// were.
 fn let_go(alloc: Global, topology: &Topology) -> Result<u64, AllocError> {
     let mut tracer = Tracer::start(alloc, topology)?;
-    for count in 0..u64::MAX {
-        if tracer.next(alloc, topology)?.is_none() {
-            return Ok(count);
+    for event in 0..u64::MAX {
+        if !tracer.go_on(alloc, topology)? {
+            return Ok(tracer.let_go());
         }
     }
     Ok(u64::MAX)

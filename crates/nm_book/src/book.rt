@@ -1,7 +1,7 @@
 //! A replica of a partition.
 
-ghost use Rattle.std.specs.Prelude.{◌≡◌, ◌+◌, true, false, Err, IfOk, drop, if◌then◌else◌, is_some};
-ghost use Rattle.std.specs.Prelude.{length, replicate, slice_get, slice_index_or};
+ghost use Rattle.std.specs.Prelude.{[], ◌≡◌, ◌+◌, true, false, Err, IfOk, drop, if◌then◌else◌};
+ghost use Rattle.std.specs.Prelude.{is_some, length, replicate, slice_get, slice_index_or};
 ghost use Rattle.std.specs.Arc.{arc_value};
 ghost use Rattle.std.specs.Option.{option_and_then, option_map};
 ghost use Rattle.nm_model.specs.Certificate.{is_done};
@@ -451,6 +451,18 @@ impl Book {
         } }
     {
         self.part.hand_out()
+    }
+
+    /// Takes all records of the trace out that are kept. Those to come are kept in the list that
+    /// comes in, which is empty. It takes no memory.
+    pub fn hand_out_all(&mut self, room: Vec<Record>) -> Vec<Record>
+        requires { room.items ≡ [] }
+        ensures all { result.items ≡ drop self.old.handed (state_of self.old).records }
+        ensures same { self.new ≡ record self.old {
+          handed = self.old.handed + length result.items;
+        } }
+    {
+        self.part.hand_out_all(room)
     }
 
     /// How many records were handed out. It takes no memory.

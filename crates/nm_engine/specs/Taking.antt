@@ -5,7 +5,7 @@ use Rattle.nm_frames.specs.declared.frame.Frame.{Frame}
 use Rattle.nm_frames.specs.declared.session_fault.SessionFault.{SessionFault}
 use Rattle.nm_frames.specs.declared.taken.Taken.TheVariants.{ForBook}
 use Rattle.nm_frames.specs.Lives.{Took}
-use Rattle.nm_frames.specs.Session.{SessionValue, purpose, taken}
+use Rattle.nm_frames.specs.Session.{SessionValue, purpose}
 use Rattle.nm_engine.specs.declared.answer.Cause.{Cause}
 use Rattle.nm_engine.specs.declared.answer.Cause.TheVariants.{Session as BadSession, Book, Memory}
 use Rattle.nm_engine.specs.Acceptor.{AcceptorValue, IsFromBelow, first_taken, taken_at}

@@ -57,27 +57,27 @@ module _ (pick : List (Record (List ℕ)) → List (Record (List ℕ))) (none : 
         subst (WroteOn seen old old)
         (sym (ap (λ k. written_at old.form iface (pick (take k records))) zero ∙ ap (written_at old.form iface) none ∙ written-nil old.form)) (WroteOn-nil seen old sound)
 
-    -- after the first n records one more was dealt with, whatever came of it
-    after_record : (old mid new : Writer S) (outcome : Result Unit TraceFault) (n m : ℕ) (r : Record (List ℕ)) → slice_get records n ≡ Some r → m ≡ n + 1
-        → WroteOn seen old mid (written_at old.form iface (pick (take n records))) → WritesOn seen mid new outcome (written_at mid.form iface (pick (r ∷ [])))
+    -- after the first n records some more were dealt with, whatever came of it
+    after_records : (old mid new : Writer S) (outcome : Result Unit TraceFault) (n m : ℕ) (some : List (Record (List ℕ))) → take m records ≡ take n records ++ some
+        → WroteOn seen old mid (written_at old.form iface (pick (take n records))) → WritesOn seen mid new outcome (written_at mid.form iface (pick some))
         → WritesOn seen old new outcome (written_at old.form iface (pick (take m records)))
-    after_record old mid new outcome n m r is next v w =
+    after_records old mid new outcome n m some next v w =
         subst (WritesOn seen old new outcome)
-        (sym (ap (λ l. written_at old.form iface (pick l)) (one_more records n m r is next) ∙ picked_both old.form iface (take n records) (r ∷ [])))
-        (WritesOn-after seen old mid new outcome (written_at old.form iface (pick (take n records))) (written_at old.form iface (pick (r ∷ []))) v
-        (subst (λ f. WritesOn seen mid new outcome (written_at f iface (pick (r ∷ [])))) v.same_form w))
+        (sym (ap (λ l. written_at old.form iface (pick l)) next ∙ picked_both old.form iface (take n records) some))
+        (WritesOn-after seen old mid new outcome (written_at old.form iface (pick (take n records))) (written_at old.form iface (pick some)) v
+        (subst (λ f. WritesOn seen mid new outcome (written_at f iface (pick some))) v.same_form w))
 
-    pub next_record : (old mid new : Writer S) (n m : ℕ) (r : Record (List ℕ)) → slice_get records n ≡ Some r → m ≡ n + 1
-        → WroteOn seen old mid (written_at old.form iface (pick (take n records))) → WroteOn seen mid new (written_at mid.form iface (pick (r ∷ [])))
+    pub next_records : (old mid new : Writer S) (n m : ℕ) (some : List (Record (List ℕ))) → take m records ≡ take n records ++ some
+        → WroteOn seen old mid (written_at old.form iface (pick (take n records))) → WroteOn seen mid new (written_at mid.form iface (pick some))
         → WroteOn seen old new (written_at old.form iface (pick (take m records)))
-    next_record old mid new n m r is next v w = after_record old mid new (Ok tt) n m r is next v w
+    next_records old mid new n m some next v w = after_records old mid new (Ok tt) n m some next v w
 
-    pub last_record : (old mid new : Writer S) (e : TraceFault) (n m : ℕ) (r : Record (List ℕ)) → slice_get records n ≡ Some r → m ≡ n + 1
-        → WroteOn seen old mid (written_at old.form iface (pick (take n records))) → WritesOn seen mid new (Err e) (written_at mid.form iface (pick (r ∷ [])))
+    pub last_records : (old mid new : Writer S) (e : TraceFault) (n m : ℕ) (some : List (Record (List ℕ))) → take m records ≡ take n records ++ some
+        → WroteOn seen old mid (written_at old.form iface (pick (take n records))) → WritesOn seen mid new (Err e) (written_at mid.form iface (pick some))
         → WritesOn seen old new (Err e) (written_at old.form iface (pick records))
-    last_record old mid new e n m r is next v w =
+    last_records old mid new e n m some next v w =
         subst (WritesOn seen old new (Err e)) (sym (parts_at old.form iface records m))
-        (WritesOn-more seen old new e _ _ (after_record old mid new (Err e) n m r is next v w))
+        (WritesOn-more seen old new e _ _ (after_records old mid new (Err e) n m some next v w))
 
     -- the records are all, or they are some
     pub all_records : (old new : Writer S) (n : ℕ) → n ≡ length records → WroteOn seen old new (written_at old.form iface (pick (take n records)))

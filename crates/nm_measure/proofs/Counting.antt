@@ -1,8 +1,8 @@
 -- Traffic as records come, one after another.
-use Rattle.std.proofs.Common.{◌≡◌, ℕ, zero, suc, ◌+◌, ◌≤◌, ◌==◌, ◌&&◌, Bool, true, false, not, cond, List, [], ◌∷◌, ◌++◌, take, length, replicate, sum_by, Option, Some, None, slice_get, refl, sym, ap, subst, ◌∙◌, arith, ⊎_elim, length-append, option_map}
+use Rattle.std.proofs.Common.{◌≡◌, ℕ, zero, suc, ◌+◌, ◌==◌, ◌&&◌, Bool, true, false, not, cond, List, [], ◌∷◌, ◌++◌, drop, take, length, replicate, sum_by, Option, Some, None, slice_get, refl, sym, ap, subst, ◌∙◌, arith, ⊎_elim, length-append, option_map}
 use Rattle.std.proofs.Math.Seq.{take-append_seam, take-length}
 use Rattle.std.proofs.lemmas.Bool.Decides.{nat_tests}
-use Rattle.std.proofs.lemmas.List.{length-replicate}
+use Rattle.std.proofs.lemmas.List.{length-replicate, take-append-drop}
 use Rattle.std.proofs.lemmas.List.Sums.{sum_by_push}
 use Rattle.std.proofs.lemmas.Option.{slice_get_cases, slice_get_past}
 use Rattle.nm_base.specs.Count.{saturated}
@@ -25,15 +25,10 @@ use Rattle.nm_measure.specs.Amounts.{AreTraffic, amount_after, amount_of, came_t
 use Rattle.nm_measure.specs.Measured.{IsCounted}
 
 -- one more of a list
-take_one_more : {X : Type 0} (xs : List X) (i : ℕ) (x : X) → slice_get xs i ≡ Some x → take (i + 1) xs ≡ take i xs ++ x ∷ []
+pub take_one_more : {X : Type 0} (xs : List X) (i : ℕ) (x : X) → slice_get xs i ≡ Some x → take (i + 1) xs ≡ take i xs ++ x ∷ []
 take_one_more [] i x h = absurd cc
 take_one_more (y ∷ xs) zero x h = ap (λ z. z ∷ []) (some_inj y x h)
 take_one_more (y ∷ xs) (suc i) x h = let e : suc i + 1 ≡ suc (i + 1) = omega arith in ap (λ n. take n (y ∷ xs)) e ∙ ap (λ l. y ∷ l) (take_one_more xs i x h)
-
-past_the_end : {X : Type 0} (xs : List X) (i : ℕ) → slice_get xs i ≡ None → length xs ≤ i
-past_the_end [] i h = omega arith
-past_the_end (x ∷ xs) zero h = let e : Some x ≡ None = h in cc
-past_the_end (x ∷ xs) (suc i) h = let l = past_the_end xs i h in omega (arith, l)
 
 -- what was recorded before an event stays at the front
 stays_in_step : {P N : Type 0} (net : Net P N) (s : State P N) (o : Option (Key × Event P)) → take (length s.records) (step_at net (λ x. true) s o).records ≡ s.records
@@ -109,23 +104,16 @@ module _ (t : TopologyValue) where
         ((slice_get_cases old i).1);
   }
 
-  -- one record more is handed out and counted
-  pub counted_on : (s : State (List ℕ) NodeStateValue) (p q : PartValue Held) (old new : List IfaceTraffic) (r : Record (List ℕ)) → IsCounted t s p old
-      → Represents pending_of t None q s → slice_get s.records p.records.handed ≡ Some r → q.records.handed ≡ p.records.handed + 1 → length new ≡ length old
-      → ((i : ℕ) → slice_get new i ≡ option_map (λ x. cond (i == r.iface) (traffic_after x r) x) (slice_get old i)) → IsCounted t s q new
-  counted_on s p q old new r h represents got handed count each = record {
-    represents = represents;
-    counted = subst (λ l. AreTraffic t new l) (sym (ap (λ n. take n s.records) handed ∙ take_one_more s.records p.records.handed r got))
-        (traffic_on old new (take p.records.handed s.records) r count each h.counted);
-  }
-
-  -- no record is left: all were handed out and counted
-  pub counted_all : (s : State (List ℕ) NodeStateValue) (p q : PartValue Held) (all : List IfaceTraffic) → IsCounted t s p all
-      → Represents pending_of t None q s → slice_get s.records p.records.handed ≡ None → q.records.handed ≡ p.records.handed
-      → IsCounted t s q all × (q.records.handed ≡ length s.records)
-  counted_all s p q all h represents got handed = (
-    record { represents = represents; counted = subst (λ n. AreTraffic t all (take n s.records)) (sym handed) h.counted },
-    let past = past_the_end s.records p.records.handed got in let few = h.represents.records.few in omega (arith, past, few, handed),
+  -- those that were left are counted, and let go
+  pub counted_all : (s : State (List ℕ) NodeStateValue) (p q : PartValue Held) (old new : List IfaceTraffic) → IsCounted t s p old → Represents pending_of t None q s
+      → q.records.handed ≡ length s.records → AreTraffic t new (take p.records.handed s.records ++ drop p.records.handed s.records)
+      → IsCounted t s q new × (q.records.handed ≡ length s.records)
+  counted_all s p q old new h represents handed counted = (
+    record {
+      represents = represents;
+      counted = subst (AreTraffic t new) (take-append-drop p.records.handed s.records ∙ sym (ap (λ n. take n s.records) handed ∙ take-length s.records)) counted;
+    },
+    handed,
   )
 
   pub counted_whole : (s : State (List ℕ) NodeStateValue) (p : PartValue Held) (all : List IfaceTraffic) → IsCounted t s p all

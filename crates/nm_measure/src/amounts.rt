@@ -1,8 +1,9 @@
 //! How many packets came to an interface and how many it transmitted, with their octets.
 
-ghost use Rattle.std.specs.Prelude.{◌≡◌, ◌≤◌, ◌^◌, ◌==◌, IfOk, OnOk, List, [], ℕ};
+ghost use Rattle.std.specs.Prelude.{◌≡◌, ◌≤◌, ◌^◌, ◌==◌, ◌++◌, IfOk, List, [], ℕ};
 ghost use Rattle.std.specs.Prelude.{if◌then◌else◌, length, slice_get};
 ghost use Rattle.std.specs.Option.{option_map};
+ghost use Rattle.nm_base.specs.declared.record.Record.{Record as TraceRecord};
 ghost use Rattle.nm_forward.specs.State.{NodeStateValue};
 ghost use Rattle.nm_model.specs.Run.{State};
 ghost use Rattle.nm_measure.specs.Amounts.{AreTraffic, amount_after, traffic_after};
@@ -90,27 +91,25 @@ pub(crate) fn no_traffic(
     vec![in alloc; none; topology.ifaces().len()]
 }
 
-/// Counts the records of a part of the trace that it still has, and lets go of them: how many there
-/// were.
-///
-/// # Errors
-///
-/// After 2^64 - 1 records.
-pub(crate) fn count_all(
-    part: &mut Part<SortedList>,
-    all: &mut Vec<IfaceTraffic>,
-) -> Result<u64, AllocError>
+/// Counts records at their interfaces.
+fn count_each(all: &mut Vec<IfaceTraffic>, records: &[Record])
+    ensures { (t : TopologyValue) (before : List (TraceRecord (List ℕ)))
+        → AreTraffic t all.old.items before
+        → AreTraffic t all.new.items (before ++ records.now) }
+{
+    for number in 0..records.len() {
+        count(all, &records[number]);
+    }
+}
+
+/// Counts the records of a part of the trace that it still has, and lets them go.
+pub(crate) fn count_all(part: &mut Part<SortedList>, all: &mut Vec<IfaceTraffic>)
     requires { (t : TopologyValue) × (s : State (List ℕ) NodeStateValue)
         × IsCounted t s part.old all.old.items }
-    ensures { OnOk result ((t : TopologyValue) (s : State (List ℕ) NodeStateValue)
+    ensures { (t : TopologyValue) (s : State (List ℕ) NodeStateValue)
         → IsCounted t s part.old all.old.items → IsCounted t s part.new all.new.items
-        × (part.new.records.handed ≡ length s.records)) }
+        × (part.new.records.handed ≡ length s.records) }
 {
-    for records in 0..u64::MAX {
-        let Some(record) = part.hand_out() else {
-            return Ok(records);
-        };
-        count(all, &record);
-    }
-    Err(AllocError)
+    count_each(all, part.trace());
+    part.let_go();
 }

@@ -87,10 +87,10 @@ impl Measured {
             let Some(key) = self.part.step(alloc, topology, until)? else {
                 return Ok(());
             };
-            progress.note_record(self.part.handed(), key.time);
+            progress.note_records(self.part.handed(), self.part.trace().len(), key.time);
             self.watched
                 .see(topology, &self.part, key.time, &key.place)?;
-            count_all(&mut self.part, &mut self.traffic)?;
+            count_all(&mut self.part, &mut self.traffic);
         }
         Err(AllocError)
     }

@@ -19,7 +19,7 @@ use Rattle.nm_model.specs.Before.{IsBefore, trace}
 use Rattle.nm_model.specs.World.{Replica, fresh, state_of, outgoing}
 use Rattle.nm_model.specs.Rounds.{given}
 use Rattle.nm_model.specs.Certificate.{Book, CertificateFault, MissingPart, UnfinishedPart, PrefixFault, ClockFault, PromiseFault, is_done, AreFinished, Matches, IsCertified, first_of, first_below, has_part, prefix_fault, clock_fault, channel_fault, book_fault, certify}
-use Rattle.nm_model.proofs.ListLemmas.{not_some, number_is, bool_cases, number_tied, number_apart, same_number}
+use Rattle.nm_model.proofs.ListLemmas.{no_less, not_some, number_is, bool_cases, number_tied, number_apart, same_number}
 use Rattle.nm_model.proofs.Scheduling.{IsAmong, put_from, put_elsewhere, among-append}
 use Rattle.nm_model.proofs.Cut.{and_both, not_true, channel_inside}
 use Rattle.nm_model.proofs.Begin.{messages_only}

@@ -60,8 +60,8 @@ impl Act for Stand {
     ghost grows = { λ a b r c h. same_grows b c h.0 };
 }
 
-/// Takes the first records out that are kept, as many as the list has room for.
-fn take_out(book: &mut Book, room: &mut Vec<Record>)
+/// Takes the first records out that are kept, one after another, as many as the list has room for.
+fn take_some(book: &mut Book, room: &mut Vec<Record>)
     ensures { TakesOut book.old room.old.items book.new room.new.items }
 {
     for _ in 0..MAX_HANDED {
@@ -73,6 +73,19 @@ fn take_out(book: &mut Book, room: &mut Vec<Record>)
         };
         room.push_reserved(handed);
     }
+}
+
+/// Takes the first records out that are kept, as many as the list has room for: all in one go where
+/// it has room for all.
+fn take_out(book: &mut Book, room: Vec<Record>) -> Vec<Record>
+    ensures { TakesOut book.old room.items book.new result.items }
+{
+    let mut room = room;
+    if room.is_empty() && book.trace().len() <= room.capacity() {
+        return book.hand_out_all(room);
+    }
+    take_some(book, &mut room);
+    room
 }
 
 /// Whether nothing is left to do, and no record to hand out.
@@ -107,10 +120,9 @@ impl Act for HandOutSome {
 
     fn act(self, book: &mut Book) -> HandedOut {
         records_have_times_of_a_file(book); // law: a trace file can say their times
-        let HandOutSome { mut room } = self;
-        take_out(book, &mut room);
+        let records = take_out(book, self.room);
         HandedOut {
-            records: room,
+            records,
             is_last: is_handed_out(book),
         }
     }

@@ -5,7 +5,7 @@ use nm_base::{PartNo, Time};
 use std::alloc::{AllocError, Global};
 use std::sync::atomic::{AtomicU64, Ordering};
 
-/// A run by one event list notes each record of this many.
+/// A run by one event list notes each record whose number, counted from 0, is a multiple of this.
 const RECORDS_A_NOTE: u64 = 1_024;
 
 /// Where no partition is furthest behind.
@@ -82,10 +82,11 @@ impl Progress {
         self.records.store(records, Ordering::SeqCst);
     }
 
-    /// A run by one event list has made its record of this number, counted from 0, at this time.
-    pub fn note_record(&self, number: u64, time: Time) {
-        if number % RECORDS_A_NOTE == 0 {
-            self.note(time, number);
+    /// A run by one event list has made so many records behind so many others, all at this time.
+    pub fn note_records(&self, others: u64, made: usize, time: Time) {
+        let before_next = (RECORDS_A_NOTE - others % RECORDS_A_NOTE) % RECORDS_A_NOTE;
+        if before_next < made as u64 {
+            self.note(time, others.saturating_add(before_next));
         }
     }
 

@@ -268,20 +268,20 @@ waiting_is t part d s represented i =
     table_value (is_iface_here t part) (λ i w. IsPortOf t i w (s.port i)) d.ports (λ w. length (waiting_of w.busy)) (length (waiting_of (s.port i).busy)) i (length t.ifaces)
     represented.ports represented.port_count (λ w p. ap (λ b. length (waiting_of b)) p.busy)
 
--- a record is handed out
-pub represents_handed : {L : Type 0} (pending : L → FinMap key_cmp (Event (List ℕ))) (t : TopologyValue) (part : Option ℕ) (p q : PartValue L) → Kept p q → (s : State (List ℕ) NodeStateValue)
-    → Represents pending t part p s → q.devices ≡ p.devices → pending q.timeline.events ≡ pending p.timeline.events → RecordsRepresent t q.records s.records → Represents pending t part q s
-represents_handed pending t part p q kept s h devices events records = record {
-  is_part = kept.is_part ∙ h.is_part;
+-- the same state is represented with other records that represent its trace
+pub represents_records : {L : Type 0} (pending : L → FinMap key_cmp (Event (List ℕ))) (t : TopologyValue) (part : Option ℕ) {p : PartValue L} (r : RecordsValue) (s : State (List ℕ) NodeStateValue)
+    → Represents pending t part p s → RecordsRepresent t r s.records → Represents pending t part (record p { records = r }) s
+represents_records pending t part r s h records = record {
+  is_part = h.is_part;
   orderly = h.orderly;
-  devices = subst (λ d. DevicesRepresent t part d s.node s.port) (sym devices) h.devices;
-  numbered = numbered_same t p.timeline q.timeline s.sent kept.sent h.numbered;
-  outgoing = subst (λ o. OutgoingRepresents t part o s.sent) (sym kept.outgoing) h.outgoing;
-  few = λ c. let l = h.few c in omega (arith, l, kept.steps);
-  events = events ∙ h.events;
+  devices = h.devices;
+  numbered = h.numbered;
+  outgoing = h.outgoing;
+  few = h.few;
+  events = h.events;
   placed = h.placed;
   records = records;
-  few_records = let l = h.few_records in omega (arith, l, kept.steps);
+  few_records = h.few_records;
 }
 
 -- an interface that isn't there is its own far end

@@ -2,7 +2,7 @@
 use Rattle.std.proofs.Common.{◌≡◌, ℕ, zero, suc, ◌+◌, ◌≤◌, ◌==◌, Bool, true, false, cond, List, [], ◌∷◌, ◌++◌, drop, flat_map, length, replicate, Some, slice_get, refl, sym, ap, ◌∙◌, arith, ⊎_elim, length-append, option_map}
 use Rattle.std.proofs.lemmas.Bool.Decides.{nat_tests}
 use Rattle.std.proofs.lemmas.Grind.{flat_map-append}
-use Rattle.std.proofs.lemmas.List.{drop-append-le, length-drop, length-replicate}
+use Rattle.std.proofs.lemmas.List.{drop-append-le, drop_all, length-drop, length-replicate}
 use Rattle.std.specs.List.{swap_remove}
 use Rattle.std.proofs.lemmas.Option.{slice_get_cases, slice_get_past}
 use Rattle.nm_base.specs.Count.{saturated}
@@ -50,6 +50,10 @@ totals_more i trace r false h = ap (λ l. (saturated (length l), saturated (leng
     append_nil [] = refl
     append_nil (x ∷ l) = ap (λ k. x ∷ k) (append_nil l)
 
+-- the number of those that are left, beside those that are not
+pub rest_is_all : (n : ℕ) (trace : List (Record (List ℕ))) → n ≤ length trace → n + length (drop n trace) ≡ length trace
+rest_is_all n trace few = let l = length-drop n trace in omega (arith, l, few)
+
 module _ (t : TopologyValue) (a b : RecordsValue) (trace : List (Record (List ℕ))) where
   pub records_more : (r : Record (List ℕ)) → b.kept ≡ a.kept ++ r ∷ [] → b.handed ≡ a.handed → length b.totals ≡ length a.totals
       → ((i : ℕ) → slice_get b.totals i ≡ option_map (λ x. cond (i == r.iface) (total_after x (length r.packet)) x) (slice_get a.totals i))
@@ -78,6 +82,16 @@ module _ (t : TopologyValue) (a b : RecordsValue) (trace : List (Record (List �
       drop_more zero l = refl
       drop_more (suc n) [] = let e : suc (n + 1) ≡ suc n + 1 = omega arith in ap (λ k. drop k []) e
       drop_more (suc n) (x ∷ l) = let e : suc (n + 1) ≡ suc n + 1 = omega arith in drop_more n l ∙ ap (λ k. drop k (x ∷ l)) e
+
+  -- all that were kept are handed out
+  pub all_handed : b.kept ≡ [] → b.handed ≡ a.handed + length a.kept → b.totals ≡ a.totals → RecordsRepresent t a trace → RecordsRepresent t b trace
+  all_handed kept handed totals h =
+      let all = handed ∙ ap (λ n. a.handed + n) (ap length h.kept) ∙ rest_is_all a.handed trace h.few in record {
+        kept = kept ∙ sym (drop_all b.handed trace (omega (arith, all)));
+        few = omega (arith, all);
+        count = ap length totals ∙ h.count;
+        totals = λ i y e. h.totals i y (ap (λ l. slice_get l i) (sym totals) ∙ e);
+      }
 
   pub records_same : b ≡ record a { spare = b.spare } → RecordsRepresent t a trace → RecordsRepresent t b trace
   records_same e h = record {

@@ -1,42 +1,37 @@
--- A run whose records are handed on: what it has recorded stays, at its place, in the whole trace.
-use Rattle.std.proofs.Common.{◌≡◌, ℕ, zero, suc, ◌<◌, ◌≤◌, true, false, List, [], ◌∷◌, ◌++◌, length, slice_get, Option, Some, None, Ok, sym, ◌∙◌, ap, subst, arith, ⊎_elim}
+-- A run whose records are shown: what it has recorded stays at the front of the whole trace.
+use Rattle.std.proofs.Common.{◌≡◌, ℕ, zero, suc, ◌+◌, ◌<◌, ◌≤◌, Bool, true, false, List, [], ◌++◌, drop, length, take, Option, Some, None, Result, Ok, Err, refl, sym, ◌∙◌, ap, subst, arith, ⊎_elim, append-nil, append_assoc}
+use Rattle.std.proofs.Math.Seq.{take-append_seam}
 use Rattle.std.proofs.lemmas.Bool.{cases_lt}
+use Rattle.std.proofs.lemmas.List.{drop-append-le, drop_all}
 use Rattle.std.specs.FinMap.{FinMap}
 use Rattle.nm_base.specs.declared.event.Event.{Event}
 use Rattle.nm_base.specs.declared.key.Key.{Key}
 use Rattle.nm_base.specs.declared.record.Record.{Record}
 use Rattle.nm_base.specs.Key.{key_cmp}
+use Rattle.std.specs.declared.alloc.AllocError.{AllocError}
 use Rattle.nm_topology.specs.TopologyValue.{TopologyValue}
 use Rattle.nm_model.specs.Before.{IsBefore}
 use Rattle.nm_model.specs.EventList.{least}
 use Rattle.nm_model.specs.Network.{Net}
 use Rattle.nm_model.specs.Run.{State, one_list, pends_before, step_at}
 use Rattle.nm_sim.specs.Network.{net_of}
-use Rattle.nm_sim.specs.Part.{Advanced, PartValue}
-use Rattle.nm_sim.specs.Trace.{IsTraceBefore, IsTracing}
-
--- what stands in a list stands in a longer one
-there_in_more : {X : Type 0} (xs ys : List X) (i : ℕ) (x : X) → slice_get xs i ≡ Some x → slice_get (xs ++ ys) i ≡ Some x
-there_in_more [] ys i x h = let e : None ≡ Some x = h in cc
-there_in_more (y ∷ xs) ys zero x h = h
-there_in_more (y ∷ xs) ys (suc i) x h = there_in_more xs ys i x h
-
-past_the_end : {X : Type 0} (xs : List X) (i : ℕ) → slice_get xs i ≡ None → length xs ≤ i
-past_the_end [] i h = omega arith
-past_the_end (x ∷ xs) zero h = let e : Some x ≡ None = h in cc
-past_the_end (x ∷ xs) (suc i) h = let l = past_the_end xs i h in omega (arith, l)
+use Rattle.nm_sim.specs.Part.{Advanced, PartValue, Represents}
+use Rattle.nm_sim.specs.Trace.{IsTraceBefore, IsTracing, ShowsAt}
 
 module _ {P N : Type 0} (net : Net P N) where
-  stays_in_step : (s : State P N) (o : Option (Key × Event P)) (i : ℕ) (r : Record P) → slice_get s.records i ≡ Some r → slice_get (step_at net (λ q. true) s o).records i ≡ Some r
-  stays_in_step s None i r h = h
-  stays_in_step s (Some e) i r h = there_in_more s.records _ i r h
+  stays_in_step : (s : State P N) (o : Option (Key × Event P)) → (more : List (Record P)) × ((step_at net (λ q. true) s o).records ≡ s.records ++ more)
+  stays_in_step s None = ([], sym (append-nil s.records))
+  stays_in_step s (Some e) = (_, refl)
 
-  -- a record of the first n events is that of more events, at the same place
-  record_stays : (n m i : ℕ) (r : Record P) → n ≤ m → slice_get (one_list net n).records i ≡ Some r → slice_get (one_list net m).records i ≡ Some r
-  record_stays n zero i r h g = let same : n ≡ zero = omega (arith, h) in subst (λ k. slice_get (one_list net k).records i ≡ Some r) same g
-  record_stays n (suc m) i r h g = ⊎_elim
-      (λ (l : m < n). let same : n ≡ suc m = omega (arith, l, h) in subst (λ k. slice_get (one_list net k).records i ≡ Some r) same g)
-      (λ (l : n ≤ m). stays_in_step (one_list net m) (least (one_list net m).pending) i r (record_stays n m i r l g))
+  -- the records of the first n events are the first of those of more events
+  records_stay : (n m : ℕ) → n ≤ m → (more : List (Record P)) × ((one_list net m).records ≡ (one_list net n).records ++ more)
+  records_stay n zero h = let same : n ≡ zero = omega (arith, h) in subst (λ k. (more : List (Record P)) × ((one_list net zero).records ≡ (one_list net k).records ++ more)) (sym same) ([], sym (append-nil (one_list net zero).records))
+  records_stay n (suc m) h = ⊎_elim
+      (λ (l : m < n). let same : n ≡ suc m = omega (arith, l, h) in subst (λ k. (more : List (Record P)) × ((one_list net (suc m)).records ≡ (one_list net k).records ++ more)) (sym same) ([], sym (append-nil (one_list net (suc m)).records)))
+      (λ (l : n ≤ m).
+      let before = records_stay n m l in
+      let after = stays_in_step (one_list net m) (least (one_list net m).pending) in
+      (before.0 ++ after.0, after.1 ∙ ap (λ r. r ++ after.0) before.1 ∙ append_assoc (one_list net n).records before.0 after.0))
       (cases_lt m n)
 
 module _ {L : Type 0} (pending : L → FinMap key_cmp (Event (List ℕ))) (t : TopologyValue) (p : PartValue L) (tracing : IsTracing pending t p) where
@@ -50,12 +45,22 @@ module _ {L : Type 0} (pending : L → FinMap key_cmp (Event (List ℕ))) (t : T
   whole : (records : List (Record (List ℕ))) → IsTraceBefore t t.stop records → (m : ℕ) × IsBefore (net_of t) t.stop m × (records ≡ (one_list (net_of t) m).records)
   whole records trace = (trace.0, subst (λ b. IsBefore (net_of t) b trace.0) (omega arith) trace.1, trace.2)
 
-  -- what is handed on is the next record of the trace
-  pub handed_is_next : (records : List (Record (List ℕ))) (i : ℕ) (r : Record (List ℕ)) → IsTraceBefore t t.stop records
-      → slice_get (one_list (net_of t) tracing.events).records i ≡ Some r → slice_get records i ≡ Some r
-  handed_is_next records i r trace h =
+  -- what was recorded stands at the front of the trace
+  pub front : (records : List (Record (List ℕ))) → IsTraceBefore t t.stop records → (rest : List (Record (List ℕ))) × (records ≡ (one_list (net_of t) tracing.events).records ++ rest)
+  front records trace =
       let w = whole records trace in
-      ap (λ l. slice_get l i) w.2 ∙ record_stays (net_of t) tracing.events w.0 i r (no_more w.0 w.1) h
+      let more = records_stay (net_of t) tracing.events w.0 (no_more w.0 w.1) in
+      (more.0, w.2 ∙ more.1)
+
+  -- what is kept comes next in it
+  pub shown : (records : List (Record (List ℕ))) → IsTraceBefore t t.stop records → p.records.kept ≡ take (length p.records.kept) (drop p.records.handed records)
+  shown records trace =
+      let made = (one_list (net_of t) tracing.events).records in
+      let f = front records trace in
+      let few = tracing.represents.records.few in
+      let kept = tracing.represents.records.kept in
+      let left : drop p.records.handed records ≡ drop p.records.handed made ++ f.0 = ap (drop p.records.handed) f.1 ∙ drop-append-le p.records.handed made f.0 few in
+      kept ∙ sym (take-append_seam (drop p.records.handed made) f.0) ∙ ap (λ l. take (length l) (drop p.records.handed made ++ f.0)) (sym kept) ∙ ap (take (length p.records.kept)) (sym left)
 
   -- one more event
   pub tracing_on : (q : PartValue L) → Advanced pending t None t.stop (one_list (net_of t) tracing.events) p q (Ok true) → IsTracing pending t q
@@ -68,13 +73,34 @@ module _ {L : Type 0} (pending : L → FinMap key_cmp (Event (List ℕ))) (t : T
     represents = done.0;
   }
 
-  -- where all that was recorded is handed on and nothing is to come before stop, the trace is at its end
-  pub all_handed : ((m n : ℕ) → IsBefore (net_of t) t.stop m → IsBefore (net_of t) t.stop n → m ≡ n) → pends_before t.stop (one_list (net_of t) tracing.events) ≡ false
-      → slice_get (one_list (net_of t) tracing.events).records p.records.handed ≡ None → (records : List (Record (List ℕ))) → IsTraceBefore t t.stop records → p.records.handed ≡ length records
-  all_handed once over none records trace =
+  -- where nothing is to come before stop, what was recorded is the trace
+  pub all_made : ((m n : ℕ) → IsBefore (net_of t) t.stop m → IsBefore (net_of t) t.stop n → m ≡ n) → pends_before t.stop (one_list (net_of t) tracing.events) ≡ false
+      → (records : List (Record (List ℕ))) → IsTraceBefore t t.stop records → (one_list (net_of t) tracing.events).records ≡ records
+  all_made once over records trace =
       let w = whole records trace in
       let same : w.0 ≡ tracing.events = once w.0 tracing.events w.1 (record { over = over; first = tracing.early }) in
-      let past = past_the_end (one_list (net_of t) tracing.events).records p.records.handed none in
-      let few = tracing.represents.records.few in
-      let all : p.records.handed ≡ length (one_list (net_of t) tracing.events).records = omega (arith, past, few) in
-      all ∙ ap length (ap (λ n. (one_list (net_of t) n).records) (sym same) ∙ sym w.2)
+      ap (λ n. (one_list (net_of t) n).records) (sym same) ∙ sym w.2
+
+-- the run after one event, if there was one
+module _ {L : Type 0} (pending : L → FinMap key_cmp (Event (List ℕ))) (t : TopologyValue) (p q : PartValue L) (tracing : IsTracing pending t p) where
+  nothing_kept : (q : PartValue L) (n : ℕ) → p.records.handed ≡ length (one_list (net_of t) n).records → q.records.handed ≡ p.records.handed
+      → Represents pending t None q (one_list (net_of t) n) → q.records.kept ≡ []
+  nothing_kept q n all same h =
+      let made = (one_list (net_of t) n).records in
+      h.records.kept ∙ ap (λ k. drop k made) (same ∙ all) ∙ drop_all (length made) made (omega arith)
+
+  pub tracing_after : (outcome : Result Bool AllocError) → Advanced pending t None t.stop (one_list (net_of t) tracing.events) p q outcome → IsTracing pending t q
+  tracing_after (Ok false) done = subst (IsTracing pending t) (sym done.0) tracing
+  tracing_after (Ok true) done = tracing_on pending t p tracing q done
+  tracing_after (Err e) done = record { events = tracing.events; early = tracing.early; represents = done.0 }
+
+  -- what it shows then, where all that it had recorded was let go
+  pub shows_after : ((m n : ℕ) → IsBefore (net_of t) t.stop m → IsBefore (net_of t) t.stop n → m ≡ n) → p.records.handed ≡ length (one_list (net_of t) tracing.events).records
+      → q.records.handed ≡ p.records.handed → (outcome : Result Bool AllocError) → Advanced pending t None t.stop (one_list (net_of t) tracing.events) p q outcome
+      → (records : List (Record (List ℕ))) → IsTraceBefore t t.stop records → ShowsAt records outcome q.records
+  shows_after once all same (Ok true) done records trace = shown pending t q (tracing_after (Ok true) done) records trace
+  shows_after once all same (Ok false) done records trace = (
+    nothing_kept q tracing.events all same (subst (λ x. Represents pending t None x (one_list (net_of t) tracing.events)) (sym done.0) tracing.represents),
+    same ∙ all ∙ ap length (all_made pending t p tracing once done.1 records trace),
+  )
+  shows_after once all same (Err e) done records trace = nothing_kept q tracing.events all same done.0

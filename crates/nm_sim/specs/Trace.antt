@@ -1,5 +1,5 @@
 -- The trace of a network's run, at once and record by record.
-use Rattle.std.specs.Prelude.{◌≡◌, ℕ, ◌+◌, ◌<◌, min, true, List, length, Option, Some, None, Result, Ok, Err, slice_get}
+use Rattle.std.specs.Prelude.{◌≡◌, ℕ, ◌+◌, ◌<◌, min, Bool, true, false, List, [], drop, length, take, None, Result, Ok, Err}
 use Rattle.std.specs.FinMap.{FinMap}
 use Rattle.std.specs.declared.alloc.AllocError.{AllocError}
 use Rattle.nm_base.specs.declared.event.Event.{Event}
@@ -10,6 +10,7 @@ use Rattle.nm_model.specs.Before.{IsBefore}
 use Rattle.nm_model.specs.Run.{one_list, pends_before}
 use Rattle.nm_sim.specs.Network.{net_of}
 use Rattle.nm_sim.specs.Part.{PartValue, Represents}
+use Rattle.nm_sim.specs.Records.{RecordsValue}
 
 -- all records before a time, and before stop
 abbrev pub IsTraceBefore : TopologyValue → ℕ → List (Record (List ℕ)) → Type 0
@@ -23,11 +24,15 @@ pub record IsTracing {L : Type 0} (pending : L → FinMap key_cmp (Event (List �
   pub early : (m : ℕ) → m < events → pends_before t.stop (one_list (net_of t) m) ≡ true
   pub represents : Represents pending t None p (one_list (net_of t) events)
 
--- of these records the first so many were handed on: what comes next, and how many were handed
--- on after it
-abbrev pub Hands : List (Record (List ℕ)) → ℕ → Result (Option (Record (List ℕ))) AllocError → ℕ
+-- what is shown of this trace, of which the first records were let go: those that come next; at the
+-- end and where memory was refused nothing, and at the end all were let go
+abbrev pub ShowsAt : List (Record (List ℕ)) → Result Bool AllocError → RecordsValue → Type 0
+ShowsAt trace (Ok true) now = now.kept ≡ take (length now.kept) (drop now.handed trace)
+ShowsAt trace (Ok false) now = (now.kept ≡ []) × (now.handed ≡ length trace)
+ShowsAt trace (Err e) now = now.kept ≡ []
+
+-- a run goes on: what it showed of this trace is let go, and it shows what comes next
+abbrev pub ShowsNext : List (Record (List ℕ)) → RecordsValue → Result Bool AllocError → RecordsValue
     → Type 0
-Hands records before (Ok (Some r)) after =
-    (slice_get records before ≡ Some r) × (after ≡ before + 1)
-Hands records before (Ok None) after = (before ≡ length records) × (after ≡ before)
-Hands records before (Err e) after = after ≡ before
+ShowsNext trace before outcome after = (after.handed ≡ before.handed + length before.kept)
+    × ShowsAt trace outcome after

@@ -334,7 +334,8 @@ impl<L: EventList> Part<L> {
 
     /// The trace so far, in the order of events, without the records that were handed out.
     pub fn trace(&self) -> &[Record]
-        ensures { OfTheRun L.pending self.now
+        ensures kept { result.now ≡ self.now.records.kept }
+        ensures trace { OfTheRun L.pending self.now
             (λ t part s. result.now ≡ drop self.now.records.handed s.records) }
     {
         self.records.kept()
@@ -364,6 +365,35 @@ impl<L: EventList> Part<L> {
         ensures steps { self.new.steps ≡ self.old.steps }
     {
         self.records.hand_out()
+    }
+
+    /// Takes all records of the trace out that are kept. Those to come are kept in the list that
+    /// comes in, which is empty. It takes no memory, and gives that of the records to the caller.
+    pub fn hand_out_all(&mut self, room: Vec<Record>) -> Vec<Record>
+        requires empty { room.items ≡ [] }
+        requires represents { IsOfARun L.pending self.old }
+        ensures represents { OfTheRun L.pending self.old
+            (λ t part s. Represents L.pending t part self.new s
+            × (result.items ≡ drop self.old.records.handed s.records)) }
+        ensures handed { self.new.records.handed
+            ≡ self.old.records.handed + length result.items }
+        ensures timeline { self.new.timeline ≡ self.old.timeline }
+        ensures steps { self.new.steps ≡ self.old.steps }
+    {
+        self.records.hand_out_all(room)
+    }
+
+    /// Lets all records of the trace go that are kept: they count as handed out.
+    #[inline(always)]
+    pub fn let_go(&mut self)
+        requires { IsOfARun L.pending self.old }
+        ensures represents { OfTheRun L.pending self.old
+            (λ t part s. Represents L.pending t part self.new s
+            × (self.new.records.handed ≡ length s.records)) }
+        ensures timeline { self.new.timeline ≡ self.old.timeline }
+        ensures steps { self.new.steps ≡ self.old.steps }
+    {
+        self.records.let_go()
     }
 
     /// How many records were handed out.

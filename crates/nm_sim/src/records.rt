@@ -180,6 +180,38 @@ impl Records {
         Some(first)
     }
 
+    /// Takes all records out that are kept. Those to come are kept in the list that comes in, which
+    /// is empty. It takes no memory, and gives that of the records to the caller.
+    pub fn hand_out_all(&mut self, room: Vec<Record>) -> Vec<Record>
+        requires few { self.old.handed + length self.old.kept < 2 ^ 64 }
+        requires empty { room.items ≡ [] }
+        ensures all { result.items ≡ self.old.kept }
+        ensures represents { (t : TopologyValue) (trace : List (TraceRecord (List ℕ)))
+            → RecordsRepresent t self.old trace → RecordsRepresent t self.new trace }
+        ensures handed { self.new.handed ≡ self.old.handed + length self.old.kept }
+    {
+        let count = self.list.len() - self.blanks;
+        let mut all = std::mem::replace(&mut self.list, room);
+        all.rotate_left(self.blanks);
+        all.truncate(count);
+        self.blanks = 0;
+        self.handed += count as u64;
+        all
+    }
+
+    /// Lets all records go that are kept: they count as handed out. It gives their memory back.
+    #[inline(always)]
+    pub fn let_go(&mut self)
+        requires { self.old.handed + length self.old.kept < 2 ^ 64 }
+        ensures represents { (t : TopologyValue) (trace : List (TraceRecord (List ℕ)))
+            → RecordsRepresent t self.old trace → RecordsRepresent t self.new trace }
+        ensures handed { self.new.handed ≡ self.old.handed + length self.old.kept }
+    {
+        self.handed = self.count();
+        self.list.clear();
+        self.blanks = 0;
+    }
+
     /// Takes the first record out. Of at most two records the other moves up; else a blank stands
     /// in its place.
     #[inline(always)]

@@ -1,13 +1,12 @@
 //! The trace of a network, record by record.
 
-ghost use Rattle.std.specs.Prelude.{◌≡◌, List, ℕ, IfOk};
+ghost use Rattle.std.specs.Prelude.{◌≡◌, List, [], ℕ, IfOk};
 ghost use Rattle.nm_base.specs.declared.record.Record.{Record as TraceRecord};
 ghost use Rattle.nm_events.specs.Held.{pending_of};
-ghost use Rattle.nm_sim.specs.Trace.{Hands, IsTraceBefore, IsTracing};
+ghost use Rattle.nm_sim.specs.Trace.{ShowsNext, IsTraceBefore, IsTracing};
 
 use crate::network::every_topology_is_a_network;
 use crate::part::Part;
-use nm_base::limits::MAX_PART_STEPS;
 use nm_base::{Packet, Record};
 use nm_events::SortedList;
 use nm_forward::NodeState;
@@ -16,8 +15,9 @@ use nm_topology::Topology;
 use std::alloc::{AllocError, Global};
 use std::marker::Model;
 
-/// A run of a whole network by one event list (J. Misra, 1986, section 1), whose records are handed
-/// on as they are made. It keeps the network and what is to come, however long the run is.
+/// A run of a whole network by one event list (J. Misra, 1986, section 1), which shows the records
+/// of one event after another. It keeps the network, what is to come and the records of the last
+/// event, however long the run is.
 #[derive(Drop)]
 pub struct Tracer {
     part: Part<SortedList>,
@@ -33,7 +33,7 @@ impl Model for Tracer {
 }
 
 impl Tracer {
-    /// The network at the start of its run.
+    /// The network at the start of its run, before its first event.
     ///
     /// # Errors
     ///
@@ -41,35 +41,43 @@ impl Tracer {
     pub fn start(alloc: Global, topology: &Topology) -> Result<Self, AllocError>
         ensures tracing { IfOk result (λ r. IsTracing pending_of topology.now r) }
         ensures none { IfOk result (λ r. r.records.handed ≡ 0) }
+        ensures nothing { IfOk result (λ r. r.records.kept ≡ []) }
     {
         let part = Part::<SortedList>::start(alloc, topology, None)?;
         Ok(Tracer { part })
     }
 
-    /// Hands on the next record of the trace, or `None` where it has no more. The network goes on
-    /// by as many events as that takes.
+    /// Does the next event, and shows its records: whether there was one. The records that were
+    /// shown are let go.
     ///
     /// # Errors
     ///
-    /// `AllocError` where memory was refused, or after 2^62 events: no record was handed on, and
-    /// the call may be made again.
-    pub fn next(&mut self, alloc: Global, topology: &Topology) -> Result<Option<Record>, AllocError>
+    /// `AllocError` where memory was refused, or after 2^62 events: no event was done, and the call
+    /// may be made again.
+    pub fn go_on(&mut self, alloc: Global, topology: &Topology) -> Result<bool, AllocError>
         requires { IsTracing pending_of topology.now self.old }
         ensures tracing { IsTracing pending_of topology.now self.new }
         ensures next { (records : List (TraceRecord (List ℕ)))
             → IsTraceBefore topology.now topology.now.stop records
-            → Hands records self.old.records.handed result self.new.records.handed }
+            → ShowsNext records self.old.records result self.new.records }
     {
         every_topology_is_a_network(topology); // law: `net_of` is a network of the model
         times_pass::<Packet, NodeState>(); // law: a time is passed after one number of events
-        for done in 0..MAX_PART_STEPS + 1 {
-            if let Some(record) = self.part.hand_out() {
-                return Ok(Some(record));
-            }
-            if !self.part.advance(alloc, topology, topology.stop())? {
-                return Ok(None);
-            }
-        }
-        Err(AllocError)
+        self.part.let_go();
+        self.part.advance(alloc, topology, topology.stop())
+    }
+
+    /// The records of the last event, which come next in the trace behind those that were let go.
+    pub fn records(&self) -> &[Record]
+        ensures { result.now ≡ self.now.records.kept }
+    {
+        self.part.trace()
+    }
+
+    /// How many records were let go.
+    pub fn let_go(&self) -> u64
+        ensures { result ≡ self.now.records.handed }
+    {
+        self.part.handed()
     }
 }

@@ -4,7 +4,7 @@ use crate::same::{eq_number, eq_text};
 use crate::texts::PARTITIONS;
 use nm_base::{ChanNo, IfaceNo, NodeNo};
 use nm_fixtures::DUO;
-use nm_topology::Topology;
+use nm_topology::{Topology, fault_number};
 use std::alloc::Global;
 use std::process::Abort;
 
@@ -12,7 +12,7 @@ use std::process::Abort;
 fn answer(alloc: Global, text: &[u8]) -> u64 {
     match Topology::read(alloc, text) {
         Ok(_) => 0,
-        Err(fault) => u64::from(fault.number()),
+        Err(fault) => u64::from(fault_number(fault)),
     }
 }
 

@@ -5,4 +5,5 @@ pub mod Endings
 pub mod Ways
 mod Faults
 mod Held
+mod Showings
 mod Stepping

@@ -22,7 +22,7 @@ use crate::closed::push_some;
 use crate::input::NamedInputs;
 use crate::inputs::Inputs;
 use crate::reading::read_topology;
-use crate::trace_file::next_record;
+use crate::trace_file::go_on;
 use crate::traces::named_iface;
 use nm_base::{IfaceNo, Sink};
 use nm_command::{AllWords, Status};
@@ -142,6 +142,7 @@ fn record_all<S: Sink>(
 ) -> Result<(), Status>
     requires tracing { IsTracing pending_of network.now tracer.old }
     requires none { tracer.old.records.handed ≡ 0 }
+    requires nothing { tracer.old.records.kept ≡ [] }
     requires sound { All IsSound files.old.files.items }
     ensures took { (records : List (TraceRecord (List ℕ)))
         → IsTraceBefore network.now network.now.stop records
@@ -149,12 +150,12 @@ fn record_all<S: Sink>(
         files.old.files.items files.new.files.items) }
     ensures fault { IfErr result (λ s. (s ≡ File) ⊎ (s ≡ Memory)) }
 {
-    for number in 0..u64::MAX {
-        let Some(record) = next_record(alloc, network, tracer)? else {
+    for event in 0..u64::MAX {
+        let is_there = go_on(alloc, network, tracer, progress)?;
+        if !is_there {
             return Ok(());
-        };
-        progress.note_record(number, record.time);
-        files.put(&record)?;
+        }
+        files.put_all(tracer.records())?;
     }
     Err(Status::Memory)
 }

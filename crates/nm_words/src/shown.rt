@@ -79,15 +79,17 @@ pub fn say_view<I: Inputs, O: Sink + Drop>(
     end(view_said(alloc, topology, view, inputs, progress), out)
 }
 
-/// Appends the line of a record that is at the interface.
-fn push_at(iface: IfaceNo, record: &Record, text: &mut Vec<u8>) -> Result<(), AllocError>
+/// Appends the lines of those records that are at the interface, in order.
+fn push_at(iface: IfaceNo, records: &[Record], text: &mut Vec<u8>) -> Result<(), AllocError>
     requires { ArePacketLines text.old.items }
     ensures { OnOk result (ArePacketLines text.new.items) }
 {
-    if record.iface != iface {
-        return Ok(());
+    for record in records {
+        if record.iface == iface {
+            push_packet_line(text, record)?;
+        }
     }
-    push_packet_line(text, record)
+    Ok(())
 }
 
 /// The packets that passed an interface, a line each, in the order of the one event list.
@@ -97,10 +99,10 @@ fn packets_text(alloc: Global, network: &Topology, iface: IfaceNo) -> Result<Vec
     let mut text = Vec::new(alloc);
     let mut tracer = Tracer::start(alloc, network)?;
     for _ in 0..u64::MAX {
-        let Some(record) = tracer.next(alloc, network)? else {
+        if !tracer.go_on(alloc, network)? {
             return Ok(text);
-        };
-        push_at(iface, &record, &mut text)?;
+        }
+        push_at(iface, tracer.records(), &mut text)?;
     }
     Err(AllocError)
 }

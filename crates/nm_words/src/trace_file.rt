@@ -1,12 +1,12 @@
 //! The trace file of one interface, written as the network makes its records.
 
-ghost use Rattle.std.specs.Prelude.{◌≡◌, ◌≤◌, ℕ, List, [], ◌∷◌, false, IfOk, IfSome};
+ghost use Rattle.std.specs.Prelude.{◌≡◌, ◌≤◌, ℕ, All, List, [], ◌∷◌, false};
 ghost use Rattle.nm_base.specs.declared.limits.TheConstants.{MAX_TIME};
 ghost use Rattle.nm_base.specs.declared.record.Record.{Record as TraceRecord};
 ghost use Rattle.nm_events.specs.Held.{pending_of};
 ghost use Rattle.nm_pcap.specs.Format.{file_header};
 ghost use Rattle.nm_pcap.specs.Writing.{ending, written};
-ghost use Rattle.nm_sim.specs.Trace.{Hands, IsTraceBefore, IsTracing};
+ghost use Rattle.nm_sim.specs.Trace.{ShowsNext, IsTraceBefore, IsTracing};
 ghost use Rattle.nm_files.specs.Writing.{Writes, WritesOn};
 ghost use Rattle.nm_files.specs.TraceFile.{trace_file, written_at};
 ghost use Rattle.nm_words.specs.Traces.{goes, going};
@@ -102,6 +102,23 @@ fn write_file<S: Sink>(
     sink_outcome(file.end())
 }
 
+/// Writes those of the records that the file has, in order.
+fn write_some<S: Sink>(
+    traced: &Traced,
+    records: &[Record],
+    file: &mut PcapOut<S>,
+) -> Result<(), TraceFault>
+    requires times { All (λ r. r.time ≤ MAX_TIME) records.now }
+    requires sound { file.old.failed ≡ false }
+    ensures { WritesOn S.seen file.old file.new result
+        (written_at file.old.form traced.now.iface (going traced.now.ways records.now)) }
+{
+    for number in 0..records.len() {
+        write_one(traced, &records[number], file)?;
+    }
+    Ok(())
+}
+
 /// Runs a network from its start, and writes those of its records that are at the interface.
 fn write_all_of<S: Sink>(
     alloc: Global,
@@ -113,37 +130,49 @@ fn write_all_of<S: Sink>(
 ) -> Result<(), TraceFault>
     requires tracing { IsTracing pending_of topology.now tracer.old }
     requires none { tracer.old.records.handed ≡ 0 }
+    requires nothing { tracer.old.records.kept ≡ [] }
     requires sound { file.old.failed ≡ false }
     ensures { (records : List (TraceRecord (List ℕ)))
         → IsTraceBefore topology.now topology.now.stop records
         → WritesOn S.seen file.old file.new result
         (written_at file.old.form traced.now.iface (going traced.now.ways records)) }
 {
-    for number in 0..u64::MAX {
-        let next = next_record(alloc, topology, tracer).or(Err(TraceFault::Memory))?;
-        let Some(record) = next else {
+    for event in 0..u64::MAX {
+        let is_there = go_on(alloc, topology, tracer, progress).or(Err(TraceFault::Memory))?;
+        if !is_there {
             return Ok(());
-        };
-        progress.note_record(number, record.time);
-        write_one(traced, &record, file)?;
+        }
+        write_some(traced, tracer.records(), file)?;
     }
     Err(TraceFault::Memory)
 }
 
-/// The next record of the trace, whose time a trace file can say.
-pub(crate) fn next_record(
+/// Goes on to the next records of the trace, whose times a trace file can say. Now and then it is
+/// noted how far the run is.
+pub(crate) fn go_on(
     alloc: Global,
     topology: &Topology,
     tracer: &mut Tracer,
-) -> Result<Option<Record>, AllocError>
+    progress: &Progress,
+) -> Result<bool, AllocError>
     requires { IsTracing pending_of topology.now tracer.old }
     ensures tracing { IsTracing pending_of topology.now tracer.new }
     ensures next { (records : List (TraceRecord (List ℕ)))
         → IsTraceBefore topology.now topology.now.stop records
-        → Hands records tracer.old.records.handed result tracer.new.records.handed }
-    ensures time { IfOk result (λ o. IfSome o (λ r. r.time ≤ MAX_TIME)) }
+        → ShowsNext records tracer.old.records result tracer.new.records }
+    ensures times { All (λ r. r.time ≤ MAX_TIME) tracer.new.records.kept }
 {
     accepted_topologies_are_in_order(topology); // law: `stop` is within its limit
-    every_topology_has_a_trace(topology); // law: the record is one of a trace
-    tracer.next(alloc, topology)
+    every_topology_has_a_trace(topology); // law: the records are those of a trace
+    let outcome = tracer.go_on(alloc, topology);
+    note_shown(tracer, progress);
+    outcome
+}
+
+/// Notes how far the run is, where a record is shown that is to be noted.
+fn note_shown(tracer: &Tracer, progress: &Progress) {
+    let records = tracer.records();
+    if let Some(record) = records.first() {
+        progress.note_records(tracer.let_go(), records.len(), record.time);
+    }
 }

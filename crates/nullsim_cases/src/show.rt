@@ -18,7 +18,7 @@ use crate::trace_file::push_files;
 use nm_base::Time;
 use nm_events::SortedList;
 use nm_sim::{Part, one_list};
-use nm_topology::Topology;
+use nm_topology::{Topology, fault_number};
 use std::alloc::{AllocError, Global};
 use std::io;
 
@@ -69,7 +69,7 @@ impl Show {
         match Topology::read(alloc, text) {
             Ok(topology) => self.text_of(alloc, &topology, before),
             Err(fault) => {
-                let number = fault.number();
+                let number = fault_number(fault);
                 Ok(format!(in alloc; "fault {number}\n")?)
             }
         }

@@ -1,7 +1,7 @@
-use Rattle.std.proofs.Common.{◌<◌, ◌+◌, length, Some, refl, sym, ap, ◌∙◌, arith, rules}
+use Rattle.std.proofs.Common.{◌<◌, ◌+◌, [], ◌∷◌, length, Some, refl, sym, ap, ◌∙◌, arith, rules}
 use Rattle.std.proofs.lemmas.Result.{err_from_is_err_and}
 use Rattle.std.proofs.lemmas.Option.{slice_get-get_or}
-use Rattle.nm_files.proofs.Records.{last_record, next_record, no_record}
+use Rattle.nm_files.proofs.Records.{last_records, next_records, no_record, one_more}
 use Rattle.nm_files.proofs.making.write_list.Goals as goal
 
 pub loop-number-init : goal.loop-number-init
@@ -17,7 +17,7 @@ returns-in_err-write_at g c =
     let n = c.loop-number.number in
     let low : n < length c.args.records.now = search rules in
     let is = slice_get-get_or c.args.records.now n c.index-records-number.result low ∙ ap (λ r. Some r) (sym c.index-records-number.is) in
-    rw (p.1, p.2) (last_record (λ records. records) refl (λ a b. refl) g.S.Sink.seen c.args.iface c.args.records.now c.args.file.now c.loop-number.file c.write_at.new.file _ n (n + 1) c.index-records-number.result is refl
+    rw (p.1, p.2) (last_records (λ records. records) refl (λ a b. refl) g.S.Sink.seen c.args.iface c.args.records.now c.args.file.now c.loop-number.file c.write_at.new.file _ n (n + 1) (c.index-records-number.result ∷ []) (one_more c.args.records.now n (n + 1) c.index-records-number.result is refl)
     c.loop-number.invariant.front c.in_err-write_at.ensures)
 
 pub loop-number-preserved : goal.loop-number-preserved
@@ -28,6 +28,6 @@ loop-number-preserved g c =
     record {
       within = omega (arith, low);
       sound = c.in_ok-write_at.ensures.sound;
-      front = next_record (λ records. records) refl (λ a b. refl) g.S.Sink.seen c.args.iface c.args.records.now c.args.file.now c.loop-number.file c.write_at.new.file n (n + 1) c.index-records-number.result is refl
+      front = next_records (λ records. records) refl (λ a b. refl) g.S.Sink.seen c.args.iface c.args.records.now c.args.file.now c.loop-number.file c.write_at.new.file n (n + 1) (c.index-records-number.result ∷ []) (one_more c.args.records.now n (n + 1) c.index-records-number.result is refl)
           c.loop-number.invariant.front c.in_ok-write_at.ensures;
     }

@@ -1,36 +1,41 @@
-use Rattle.std.proofs.Common.{ℕ, List, Option, Ok, take, sym, subst, arith}
+use Rattle.std.proofs.Common.{◌≡◌, length, Ok, take, ap, sym, subst, arith}
 use Rattle.std.proofs.lemmas.List.{take_all}
-use Rattle.nm_base.specs.declared.record.Record.{Record}
 use Rattle.nm_files.specs.Files.{FilesTook}
-use Rattle.nm_files.proofs.Files.{next_record, no_records}
-use Rattle.nm_sim.specs.Trace.{Hands}
+use Rattle.nm_files.proofs.Files.{more_records, no_records}
+use Rattle.nm_sim.specs.Trace.{ShowsNext}
+use Rattle.nm_words.proofs.Showings.{all_shown, next_shown, shown}
 use Rattle.nm_words.proofs.all.record_all.Goals as goal
 
-pub loop-number-init : goal.loop-number-init
-loop-number-init g c = record {
-  tracing = c.requires.tracing;
-  sound = c.requires.sound;
-  took = λ records trace. subst (λ k. FilesTook g.S.Sink.seen (take k records) c.args.files.now.files.items c.args.files.now.files.items) (sym c.requires.none)
-      (no_records g.S.Sink.seen c.args.files.now.files.items);
-}
-
-pub loop-number-preserved : goal.loop-number-preserved
-loop-number-preserved g c =
-    let n = c.loop-number.tracer.records.handed in
-    let m = c.next_record.new.tracer.records.handed in
+pub loop-event-init : goal.loop-event-init
+loop-event-init g c =
+    let none = c.requires.none in
+    let nothing = ap length c.requires.nothing in
+    let zero : 0 ≡ shown c.args.tracer.now.records = omega (arith, none, nothing) in
     record {
-      tracing = c.next_record.ensures.tracing;
-      sound = c.in_ok-put.ensures.sound;
-      took = λ records trace.
-          let handed = subst (λ (o : Option (Record (List ℕ))). Hands records n (Ok o) m) c.in-Some.is (c.in_ok-record.ensures.next records trace) in
-          subst (λ k. FilesTook g.S.Sink.seen (take k records) c.args.files.now.files.items c.put.new.self.files.items) (sym handed.1)
-          (next_record g.S.Sink.seen records n c.in-Some.record c.args.files.now.files.items c.loop-number.files.files.items c.put.new.self.files.items handed.0
-          (c.loop-number.invariant.took records trace) c.in_ok-put.ensures.took);
+      tracing = c.requires.tracing;
+      sound = c.requires.sound;
+      took = λ records trace. subst (λ k. FilesTook g.S.Sink.seen (take k records) c.args.files.now.files.items c.args.files.now.files.items) zero
+          (no_records g.S.Sink.seen c.args.files.now.files.items);
     }
 
-pub returns-in_default-clause-took : goal.returns-in_default-clause-took
-returns-in_default-clause-took g c = λ records trace.
-    let n = c.loop-number.tracer.records.handed in
-    let handed = subst (λ (o : Option (Record (List ℕ))). Hands records n (Ok o) c.next_record.new.tracer.records.handed) c.in_default.is (c.in_ok-record.ensures.next records trace) in
-    let all = handed.0 in
-    subst (λ l. FilesTook g.S.Sink.seen l c.args.files.now.files.items c.loop-number.files.files.items) (take_all n records (omega (arith, all))) (c.loop-number.invariant.took records trace)
+pub loop-event-preserved : goal.loop-event-preserved
+loop-event-preserved g c =
+    let before = c.loop-event.tracer.records in
+    let after = c.go_on.new.tracer.records in
+    record {
+      tracing = c.in_ok-is_there.ensures.tracing;
+      sound = c.in_ok-put_all.ensures.sound;
+      took = λ records trace.
+          let on = subst (λ b. ShowsNext records before (Ok b) after) c.if-not-is_there.false (c.in_ok-is_there.ensures.next records trace) in
+          subst (λ l. FilesTook g.S.Sink.seen l c.args.files.now.files.items c.put_all.new.self.files.items) (sym (next_shown records before after on))
+          (more_records g.S.Sink.seen (take (shown before) records) after.kept c.args.files.now.files.items c.loop-event.files.files.items c.put_all.new.self.files.items
+          (c.loop-event.invariant.took records trace)
+          (subst (λ l. FilesTook g.S.Sink.seen l c.loop-event.files.files.items c.put_all.new.self.files.items) c.records.ensures c.in_ok-put_all.ensures.took));
+    }
+
+pub returns-then-not-is_there-clause-took : goal.returns-then-not-is_there-clause-took
+returns-then-not-is_there-clause-took g c = λ records trace.
+    let before = c.loop-event.tracer.records in
+    let on = subst (λ b. ShowsNext records before (Ok b) c.go_on.new.tracer.records) c.if-not-is_there.true (c.in_ok-is_there.ensures.next records trace) in
+    let all = all_shown records before c.go_on.new.tracer.records on in
+    subst (λ l. FilesTook g.S.Sink.seen l c.args.files.now.files.items c.loop-event.files.files.items) (take_all (shown before) records (omega (arith, all))) (c.loop-event.invariant.took records trace)

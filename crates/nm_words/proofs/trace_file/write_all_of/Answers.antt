@@ -1,57 +1,65 @@
-use Rattle.std.proofs.Common.{ℕ, List, Option, Ok, refl, subst}
+use Rattle.std.proofs.Common.{length, Err, Ok, refl, ap, subst, arith}
 use Rattle.std.proofs.lemmas.Result.{err_from_is_err_and}
-use Rattle.nm_base.specs.declared.record.Record.{Record}
-use Rattle.nm_sim.specs.Trace.{Hands}
-use Rattle.nm_files.proofs.Records.{all_records, last_record, next_record, no_record, some_records}
+use Rattle.nm_sim.specs.Trace.{ShowsNext}
+use Rattle.nm_files.proofs.Records.{all_records, last_records, next_records, no_record, some_records}
+use Rattle.nm_files.specs.TraceFile.{written_at}
+use Rattle.nm_files.specs.Writing.{WritesOn, WroteOn}
 use Rattle.nm_words.specs.Traces.{going}
 use Rattle.nm_words.proofs.Faults.{is_fault, was_ok}
+use Rattle.nm_words.proofs.Showings.{all_shown, next_shown, shown}
 use Rattle.nm_words.proofs.Ways.{going_both}
 use Rattle.nm_words.proofs.trace_file.write_all_of.Goals as goal
 
-pub loop-number-init : goal.loop-number-init
-loop-number-init g c = record {
-  tracing = c.requires.tracing;
-  sound = c.requires.sound;
-  front = λ records trace. no_record (going c.args.traced.now.ways) refl (going_both c.args.traced.now.ways) g.S.Sink.seen c.args.traced.now.iface records c.args.file.now c.args.tracer.now.records.handed c.requires.none c.requires.sound;
-}
-
-pub returns-in_err-write_one : goal.returns-in_err-write_one
-returns-in_err-write_one g c records trace =
-    let n = c.loop-number.tracer.records.handed in
-    let m = c.next_record.new.tracer.records.handed in
-    let handed = subst (λ (o : Option (Record (List ℕ))). Hands records n (Ok o) m) c.in-Some.is
-    (subst (λ r. Hands records n r m) (was_ok c.next_record.result _ c.in_ok-next.next c.in_ok-next.ensures) (c.next_record.ensures.next records trace)) in
-    let p = err_from_is_err_and c.from_residual-in_err-write_one.result c.from_residual-in_err-write_one.ensures.1 in
-    rw (p.1, p.2) (last_record (going c.args.traced.now.ways) refl (going_both c.args.traced.now.ways) g.S.Sink.seen c.args.traced.now.iface records c.args.file.now c.loop-number.file c.write_one.new.file _ n m c.in-Some.record handed.0 handed.1
-    (c.loop-number.invariant.front records trace) c.in_err-write_one.ensures)
-
-pub returns-in_default : goal.returns-in_default
-returns-in_default g c records trace =
-    let n = c.loop-number.tracer.records.handed in
-    let handed = subst (λ (o : Option (Record (List ℕ))). Hands records n (Ok o) c.next_record.new.tracer.records.handed) c.in_default.is
-    (subst (λ r. Hands records n r c.next_record.new.tracer.records.handed) (was_ok c.next_record.result _ c.in_ok-next.next c.in_ok-next.ensures) (c.next_record.ensures.next records trace)) in
-    all_records (going c.args.traced.now.ways) refl (going_both c.args.traced.now.ways) g.S.Sink.seen c.args.traced.now.iface records c.args.file.now c.loop-number.file n handed.0 (c.loop-number.invariant.front records trace)
-
-pub returns-in_err-next : goal.returns-in_err-next
-returns-in_err-next g c records trace =
-    let p = err_from_is_err_and c.from_residual.result c.from_residual.ensures.1 in
-    let e = is_fault c.next_record.result _ c.in_err-next.field-0.0 c.in_err-next.ensures in
-    rw (p.1, p.2, e) (some_records (going c.args.traced.now.ways) refl (going_both c.args.traced.now.ways) g.S.Sink.seen c.args.traced.now.iface records c.args.file.now c.loop-number.file c.loop-number.tracer.records.handed (c.loop-number.invariant.front records trace))
-
-pub loop-number-preserved : goal.loop-number-preserved
-loop-number-preserved g c =
-    let n = c.loop-number.tracer.records.handed in
-    let m = c.next_record.new.tracer.records.handed in
+pub loop-event-init : goal.loop-event-init
+loop-event-init g c =
+    let none = c.requires.none in
+    let nothing = ap length c.requires.nothing in
     record {
-      tracing = c.next_record.ensures.tracing;
-      sound = c.in_ok-write_one.ensures.sound;
+      tracing = c.requires.tracing;
+      sound = c.requires.sound;
+      front = λ records trace. no_record (going c.args.traced.now.ways) refl (going_both c.args.traced.now.ways) g.S.Sink.seen c.args.traced.now.iface records c.args.file.now (shown c.args.tracer.now.records) (omega (arith, none, nothing)) c.requires.sound;
+    }
+
+pub returns-in_err-is_there : goal.returns-in_err-is_there
+returns-in_err-is_there g c records trace =
+    let p = err_from_is_err_and c.from_residual.result c.from_residual.ensures.1 in
+    let e = is_fault c.go_on.result _ c.in_err-is_there.field-0.0 c.in_err-is_there.ensures in
+    rw (p.1, p.2, e) (some_records (going c.args.traced.now.ways) refl (going_both c.args.traced.now.ways) g.S.Sink.seen c.args.traced.now.iface records c.args.file.now c.loop-event.file (shown c.loop-event.tracer.records) (c.loop-event.invariant.front records trace))
+
+pub returns-then-not-is_there : goal.returns-then-not-is_there
+returns-then-not-is_there g c records trace =
+    let before = c.loop-event.tracer.records in
+    let after = c.go_on.new.tracer.records in
+    let on = subst (λ b. ShowsNext records before (Ok b) after) c.if-not-is_there.true
+    (subst (λ r. ShowsNext records before r after) (was_ok c.go_on.result _ c.in_ok-is_there.is_there c.in_ok-is_there.ensures) (c.go_on.ensures.next records trace)) in
+    all_records (going c.args.traced.now.ways) refl (going_both c.args.traced.now.ways) g.S.Sink.seen c.args.traced.now.iface records c.args.file.now c.loop-event.file (shown before) (all_shown records before after on) (c.loop-event.invariant.front records trace)
+
+pub returns-in_err-write_some : goal.returns-in_err-write_some
+returns-in_err-write_some g c records trace =
+    let before = c.loop-event.tracer.records in
+    let after = c.go_on.new.tracer.records in
+    let on = subst (λ b. ShowsNext records before (Ok b) after) c.if-not-is_there.false
+    (subst (λ r. ShowsNext records before r after) (was_ok c.go_on.result _ c.in_ok-is_there.is_there c.in_ok-is_there.ensures) (c.go_on.ensures.next records trace)) in
+    let p = err_from_is_err_and c.from_residual-in_err-write_some.result c.from_residual-in_err-write_some.ensures.1 in
+    rw (p.1, p.2) (last_records (going c.args.traced.now.ways) refl (going_both c.args.traced.now.ways) g.S.Sink.seen c.args.traced.now.iface records c.args.file.now c.loop-event.file c.write_some.new.file c.in_err-write_some.field-0.0 (shown before) (shown after) after.kept
+    (next_shown records before after on) (c.loop-event.invariant.front records trace)
+    (subst (λ l. WritesOn g.S.Sink.seen c.loop-event.file c.write_some.new.file (Err c.in_err-write_some.field-0.0) (written_at c.loop-event.file.form c.args.traced.now.iface (going c.args.traced.now.ways l))) c.records.ensures c.in_err-write_some.ensures))
+
+pub loop-event-preserved : goal.loop-event-preserved
+loop-event-preserved g c =
+    let before = c.loop-event.tracer.records in
+    let after = c.go_on.new.tracer.records in
+    record {
+      tracing = c.go_on.ensures.tracing;
+      sound = c.in_ok-write_some.ensures.sound;
       front = λ records trace.
-          let handed = subst (λ (o : Option (Record (List ℕ))). Hands records n (Ok o) m) c.in-Some.is
-          (subst (λ r. Hands records n r m) (was_ok c.next_record.result _ c.in_ok-next.next c.in_ok-next.ensures) (c.next_record.ensures.next records trace)) in
-          next_record (going c.args.traced.now.ways) refl (going_both c.args.traced.now.ways) g.S.Sink.seen c.args.traced.now.iface records c.args.file.now c.loop-number.file c.write_one.new.file n m c.in-Some.record handed.0 handed.1
-          (c.loop-number.invariant.front records trace) c.in_ok-write_one.ensures;
+          let on = subst (λ b. ShowsNext records before (Ok b) after) c.if-not-is_there.false
+          (subst (λ r. ShowsNext records before r after) (was_ok c.go_on.result _ c.in_ok-is_there.is_there c.in_ok-is_there.ensures) (c.go_on.ensures.next records trace)) in
+          next_records (going c.args.traced.now.ways) refl (going_both c.args.traced.now.ways) g.S.Sink.seen c.args.traced.now.iface records c.args.file.now c.loop-event.file c.write_some.new.file (shown before) (shown after) after.kept
+          (next_shown records before after on) (c.loop-event.invariant.front records trace)
+          (subst (λ l. WroteOn g.S.Sink.seen c.loop-event.file c.write_some.new.file (written_at c.loop-event.file.form c.args.traced.now.iface (going c.args.traced.now.ways l))) c.records.ensures c.in_ok-write_some.ensures);
     }
 
 pub returns : goal.returns
 returns g c records trace =
-    some_records (going c.args.traced.now.ways) refl (going_both c.args.traced.now.ways) g.S.Sink.seen c.args.traced.now.iface records c.args.file.now c.loop-number.file c.loop-number.tracer.records.handed (c.loop-number.invariant.front records trace)
+    some_records (going c.args.traced.now.ways) refl (going_both c.args.traced.now.ways) g.S.Sink.seen c.args.traced.now.iface records c.args.file.now c.loop-event.file (shown c.loop-event.tracer.records) (c.loop-event.invariant.front records trace)

@@ -5,12 +5,13 @@ use Rattle.nm_sim.specs.Trace.{IsTraceBefore, IsTracing}
 use Rattle.nm_files.specs.Writing.{WroteOn}
 use Rattle.nm_files.specs.TraceFile.{written_at}
 use Rattle.nm_words.specs.Traces.{going}
+use Rattle.nm_words.proofs.Showings.{shown}
 use Rattle.nm_words.proofs.trace_file.write_all_of.Given as goal
 
-abbrev pub invariant-loop-number : goal.invariant-loop-number
-invariant-loop-number g l = record {
+abbrev pub invariant-loop-event : goal.invariant-loop-event
+invariant-loop-event g l = record {
   tracing : IsTracing pending_of l.topology l.tracer;
   sound : l.file.failed ≡ false;
   front : (records : List (Record (List ℕ))) → IsTraceBefore l.topology l.topology.stop records
-      → WroteOn g.S.Sink.seen l.initial.file l.file (written_at l.initial.file.form l.traced.iface (going l.traced.ways (take l.tracer.records.handed records)));
+      → WroteOn g.S.Sink.seen l.initial.file l.file (written_at l.initial.file.form l.traced.iface (going l.traced.ways (take (shown l.tracer.records) records)));
 }

@@ -1,5 +1,5 @@
 use Rattle.nm_net.proofs.Recordings.{none_out, one_out}
-use Rattle.nm_net.proofs.acts.take_out.Goals as goal
+use Rattle.nm_net.proofs.acts.take_some.Goals as goal
 
 pub loop-init : goal.loop-init
 loop-init c = none_out c.args.book.now c.args.room.now.items
