@@ -1,40 +1,77 @@
 //! Packets.
 
-ghost use Rattle.std.specs.Prelude.{◌≡◌, ℕ, ◌≤◌, ◌↔◌, List, length, IsSome, IfSome, IfOk};
+ghost use Rattle.std.specs.Prelude.{◌≡◌, ℕ, ◌≤◌, ◌↔◌, List, length, IsSome, IfSome, IfOk, nat_eq};
+ghost use Rattle.std.specs.Cmp.{partial_equiv_from_equiv};
+ghost use Rattle.std.specs.Cmp.Lexicographic.{pointwise, nat_list_eq_equiv};
 ghost use Rattle.nm_base.specs.declared.limits.TheConstants.{MAX_PACKET_OCTETS};
 
 use crate::limits::MAX_PACKET_OCTETS;
 use bytes::Bytes;
-use std::alloc::AllocError;
+use std::alloc::{AllocError, Global};
 use std::marker::Model;
+use std::sync::Arc;
 
 /// The octets of a packet, from 1 to 65,535 of them. A clause sees the list of octets. Copies share
 /// their octets.
-#[derive(Clone, Debug, Drop, PartialEq, Eq)]
+///
+/// It is as small as a pointer, since events, queues and records hold packets and move them often.
+#[derive(Drop)]
 pub struct Packet {
-    octets: Bytes,
+    octets: Arc<Bytes>,
 }
 
 impl Model for Packet {
+    ghost use Rattle.std.specs.Prelude.{ℕ, ◌≤◌, List, length};
+    ghost use Rattle.std.specs.Arc.{arc_value};
+    ghost use Rattle.nm_base.specs.declared.limits.TheConstants.{MAX_PACKET_OCTETS};
+
     ghost Value = { List ℕ };
 
-    ghost view = { λ p. p.octets };
+    ghost view = { λ p. arc_value p.octets };
 
-    ghost invariant = { λ p. (1 ≤ length p.octets) × (length p.octets ≤ MAX_PACKET_OCTETS) };
+    ghost invariant = { λ p. (1 ≤ length (arc_value p.octets))
+        × (length (arc_value p.octets) ≤ MAX_PACKET_OCTETS) };
+}
 
-    ghost inverse = { λ l. record { octets = l } };
+impl Clone for Packet {
+    ghost is_clone = { λ packet copy. copy ≡ packet };
+
+    fn clone(&self) -> Result<Self, AllocError> {
+        let octets = Arc::try_clone(&self.octets)?;
+        Ok(Packet { octets })
+    }
+}
+
+impl PartialEq for Packet {
+    ghost eq = { pointwise nat_eq };
+
+    ghost laws = { partial_equiv_from_equiv nat_list_eq_equiv };
+
+    fn eq(&self, other: &Self) -> bool {
+        self.octets() == other.octets()
+    }
+}
+
+impl Eq for Packet {
+    ghost laws = { nat_list_eq_equiv };
 }
 
 impl Packet {
     /// The packet of these octets, or `None` where they are none or more than 65,535.
-    pub fn new(octets: Bytes) -> Option<Self>
-        ensures fits { IsSome result ↔ ((1 ≤ length octets) × (length octets ≤ MAX_PACKET_OCTETS)) }
-        ensures value { IfSome result (λ packet. packet ≡ octets) }
+    ///
+    /// # Errors
+    ///
+    /// `AllocError` where memory for the count of owners was refused.
+    pub fn new(alloc: Global, octets: Bytes) -> Result<Option<Self>, AllocError>
+        ensures fits { IfOk result
+            (λ p. IsSome p ↔ ((1 ≤ length octets) × (length octets ≤ MAX_PACKET_OCTETS))) }
+        ensures value { IfOk result (λ p. IfSome p (λ packet. packet ≡ octets)) }
     {
         if octets.is_empty() || octets.len() > MAX_PACKET_OCTETS {
-            return None;
+            return Ok(None);
         }
-        Some(Packet { octets })
+        let octets = Arc::new(alloc, octets)?;
+        Ok(Some(Packet { octets }))
     }
 
     /// How many octets the packet has.
@@ -53,20 +90,6 @@ impl Packet {
         ensures greatest { length self.now ≤ MAX_PACKET_OCTETS }
     {
         self.octets.as_slice()
-    }
-
-    /// The shared octets, which can be cut with no copy.
-    pub fn as_bytes(&self) -> &Bytes
-        ensures { result.now ≡ self.now }
-    {
-        &self.octets
-    }
-
-    /// The shared octets.
-    pub fn into_bytes(self) -> Bytes
-        ensures { result ≡ self }
-    {
-        self.octets
     }
 }
 

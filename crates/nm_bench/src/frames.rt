@@ -15,7 +15,7 @@ const MESSAGES: u64 = 200_000;
 /// Octets of many messages.
 fn written(alloc: Global) -> Result<Vec<u8>, Error> {
     let octets = Bytes::copy_from_slice(alloc, &[69; 100])?;
-    let packet = Packet::new(octets).ok_or(ErrorKind::InvalidData)?;
+    let packet = Packet::new(alloc, octets)?.ok_or(ErrorKind::InvalidData)?;
     let mut stream = Vec::new(alloc);
     for number in 0..MESSAGES {
         let frame = Frame::Data(Data {

@@ -65,7 +65,7 @@ fn work<L: EventList + Drop>(alloc: Global, order: Order) -> Result<u64, AllocEr
 /// Knowledge of a million messages, copied so many times.
 fn copy(alloc: Global, copies: u64) -> Result<u64, Error> {
     let octets = Bytes::copy_from_slice(alloc, &[1, 2, 3])?;
-    let packet = Packet::new(octets).ok_or(ErrorKind::InvalidData)?;
+    let packet = Packet::new(alloc, octets)?.ok_or(ErrorKind::InvalidData)?;
     let mut know = Know::new(alloc);
     for number in 0..1_000_000 {
         if know.accept_data(number, Time::from_nanoseconds(number + 1), &packet)

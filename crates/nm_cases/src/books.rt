@@ -50,7 +50,7 @@ pub fn null(channel: u32, count: u64, clock: u64) -> ChannelMessage {
 fn packet_of(alloc: Global, count: usize, value: u8) -> io::Result<Packet> {
     let mut octets = Vec::new(alloc);
     octets.resize(count, value)?;
-    match Packet::new(Bytes::copy_from_slice(alloc, &octets)?) {
+    match Packet::new(alloc, Bytes::copy_from_slice(alloc, &octets)?)? {
         Some(packet) => Ok(packet),
         None => Err(io::Error::other("that is no packet")),
     }

@@ -113,11 +113,12 @@ fn data_of(alloc: Global, body: &[u8]) -> Result<Data, AllocError>
     ensures fits { IfOk result (λ d. IsFrame (Frame.Data d)) }
 {
     let octets = Bytes::copy_from_slice(alloc, &body[field::PACKET..])?;
+    let packet = Packet::new(alloc, octets)?;
     Ok(Data {
         channel: ChanNo::new(u32_at(body, field::CHANNEL)),
         number: u64_at(body, field::COUNT),
         time: Time::from_nanoseconds(u64_at(body, field::TIME)),
-        packet: Packet::new(octets).unwrap(),
+        packet: packet.unwrap(),
     })
 }
 

@@ -28,11 +28,12 @@ pub fn message<R: Abort>(
     time: u64,
 ) -> ChannelMessage {
     let octets = Bytes::copy_from_slice(alloc, &number.to_be_bytes()).expect(rt, "memory");
+    let packet = Packet::new(alloc, octets).expect(rt, "memory");
     ChannelMessage::Data(Data {
         channel: ChanNo::new(channel),
         number,
         time: Time::from_nanoseconds(time),
-        packet: Packet::new(octets).expect(rt, "eight octets fit"),
+        packet: packet.expect(rt, "eight octets fit"),
     })
 }
 

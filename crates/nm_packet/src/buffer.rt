@@ -50,14 +50,15 @@ impl PacketBuffer {
     ///
     /// # Errors
     ///
-    /// `AllocError` where memory for the block's owners was refused.
-    pub(crate) fn cut(&mut self) -> Result<Packet, AllocError>
+    /// `AllocError` where memory for a count of owners, the block's or the packet's, was refused.
+    pub(crate) fn cut(&mut self, alloc: Global) -> Result<Packet, AllocError>
         requires least { 1 ≤ length self.old.block.items }
         requires greatest { length self.old.block.items ≤ MAX_PACKET_OCTETS }
         ensures { IfOk result (λ p. p ≡ self.old.block.items) }
     {
         let count = self.block.len();
         let octets = self.block.freeze_to(count)?;
-        Ok(Packet::new(octets).unwrap())
+        let packet = Packet::new(alloc, octets)?;
+        Ok(packet.unwrap())
     }
 }

@@ -318,17 +318,18 @@ pub(crate) fn write_in_parts(
     octets.extend_from_slice(&header.octets(size as u16))?;
     octets.extend_from_slice(front)?;
     octets.extend_from_slice(back)?;
-    packet_from(octets)
+    packet_from(alloc, octets)
 }
 
 /// The packet of these octets.
-fn packet_from(octets: Vec<u8>) -> Result<Packet, AllocError>
+fn packet_from(alloc: Global, octets: Vec<u8>) -> Result<Packet, AllocError>
     requires least { 1 ≤ length octets.items }
     requires greatest { length octets.items ≤ MAX_PACKET_OCTETS }
     ensures { IfOk result (λ p. p ≡ octets.items) }
 {
     let octets = Bytes::from_vec(octets)?;
-    Ok(Packet::new(octets).unwrap())
+    let packet = Packet::new(alloc, octets)?;
+    Ok(packet.unwrap())
 }
 
 /// What an error message quotes of a packet (RFC 792): its header as it came, with its options, and
@@ -385,7 +386,7 @@ fn lowered_alone(
 {
     let mut copy = Vec::from_slice(alloc, octets)?;
     lower(copy.as_mut_slice(), time_to_live, checksum);
-    packet_from(copy)
+    packet_from(alloc, copy)
 }
 
 /// The packet with this time to live and this header checksum, cut from the buffer.
@@ -405,7 +406,7 @@ fn lowered_in(
 {
     buffer.fill(alloc, octets)?;
     lower(buffer.block.as_mut_slice(), time_to_live, checksum);
-    buffer.cut()
+    buffer.cut(alloc)
 }
 
 /// The header checksum of the packet one hop on, by the one word that changes.

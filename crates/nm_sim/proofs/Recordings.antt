@@ -3,7 +3,6 @@ use Rattle.std.proofs.Common.{◌≡◌, ℕ, zero, suc, ◌+◌, ◌≤◌, ◌
 use Rattle.std.proofs.lemmas.Bool.Decides.{nat_tests}
 use Rattle.std.proofs.lemmas.Grind.{flat_map-append}
 use Rattle.std.proofs.lemmas.List.{drop-append-le, drop_all, length-drop, length-replicate}
-use Rattle.std.specs.List.{swap_remove}
 use Rattle.std.proofs.lemmas.Option.{slice_get_cases, slice_get_past}
 use Rattle.nm_base.specs.Count.{saturated}
 use Rattle.nm_base.specs.declared.record.Record.{Record}
@@ -106,13 +105,6 @@ pub first_left : (n : ℕ) (l : List (Record (List ℕ))) → slice_get (drop n 
 first_left zero l = refl
 first_left (suc n) [] = refl
 first_left (suc n) (x ∷ l) = first_left n l
-
--- of at most two, the last takes the first's place: what is left is in order
-pub few_left : (l : List (Record (List ℕ))) (d : Record (List ℕ)) → 1 ≤ length l → length l ≤ 2 → swap_remove l 0 d ≡ drop 1 l
-few_left [] d there few = absurd (omega (arith, there))
-few_left (x ∷ []) d there few = refl
-few_left (x ∷ y ∷ []) d there few = refl
-few_left (x ∷ y ∷ z ∷ l) d there few = absurd (omega (arith, few))
 
 -- at the start
 pub records_first : (t : TopologyValue) (r : RecordsValue) → r.kept ≡ [] → r.handed ≡ 0 → r.totals ≡ replicate (length t.ifaces) (0, FILE_HEADER_OCTETS) → RecordsRepresent t r []

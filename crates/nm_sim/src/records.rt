@@ -16,7 +16,7 @@ use nm_pcap::format::{FILE_HEADER_OCTETS, RECORD_HEADER_OCTETS};
 use std::alloc::{AllocError, Global};
 use std::marker::Model;
 
-/// Of so many records at most, those of one event, the last moves up when the first is taken.
+/// Of so many records at most, those of one event, the others move up when the first is taken.
 const FEW_RECORDS: usize = 2;
 
 /// The records of a trace, in the order of events. Those that were handed out, from the first on,
@@ -30,6 +30,8 @@ pub struct Records {
     handed: u64,
     /// How many records each interface has, and the octets of their trace file.
     totals: Vec<(u64, u64)>,
+    /// The packet of a blank.
+    nothing: Packet,
 }
 
 impl Model for Records {
@@ -48,15 +50,10 @@ impl Model for Records {
     ghost invariant = { λ r. r.blanks ≤ vec_len r.list };
 }
 
-/// What stands for a record that was handed out. It takes no memory.
-fn blank() -> Record {
-    let octets = Bytes::from_static(b"\0");
-    Record {
-        time: Time::from_nanoseconds(0),
-        iface: IfaceNo::new(0),
-        dir: Dir::In,
-        packet: Packet::new(octets).unwrap(),
-    }
+/// A packet that nobody sent.
+fn no_packet(alloc: Global) -> Result<Packet, AllocError> {
+    let packet = Packet::new(alloc, Bytes::from_static(b"\0"))?;
+    Ok(packet.unwrap())
 }
 
 /// The totals after one more record, of a packet of so many octets.
@@ -66,6 +63,20 @@ fn after_one_more(total: (u64, u64), octets: usize) -> (u64, u64)
 {
     let more = (RECORD_HEADER_OCTETS + octets) as u64;
     (total.0.saturating_add(1), total.1.saturating_add(more))
+}
+
+/// Counts one more record at an interface, of a packet of so many octets.
+#[inline(always)]
+fn count_one(totals: &mut [(u64, u64)], iface: IfaceNo, octets: usize)
+    requires { octets ≤ 2 ^ 16 }
+    ensures { (i : ℕ) → slice_get totals.new i
+        ≡ option_map (λ a. if i == iface then total_after a octets else a)
+        (slice_get totals.old i) }
+{
+    let place = iface.index();
+    if place < totals.len() {
+        totals[place] = after_one_more(totals[place], octets);
+    }
 }
 
 impl Records {
@@ -80,6 +91,7 @@ impl Records {
             blanks: 0,
             handed: 0,
             totals: vec![in alloc; (0, FILE_HEADER_OCTETS as u64); ifaces]?,
+            nothing: no_packet(alloc)?,
         })
     }
 
@@ -114,11 +126,7 @@ impl Records {
         // It takes one place.
         ensures spare { self.old.spare ≤ self.new.spare + 1 }
     {
-        let place = record.iface.index();
-        if place < self.totals.len() {
-            let octets = record.packet.octet_count();
-            self.totals[place] = after_one_more(self.totals[place], octets);
-        }
+        count_one(&mut self.totals, record.iface, record.packet.octet_count());
         self.list.push(record).unwrap();
     }
 
@@ -212,6 +220,17 @@ impl Records {
         self.blanks = 0;
     }
 
+    /// What stands for a record that was handed out. It takes no memory, and is refused only where
+    /// its packet has no room for one owner more.
+    fn blank(&self) -> Result<Record, AllocError> {
+        Ok(Record {
+            time: Time::from_nanoseconds(0),
+            iface: IfaceNo::new(0),
+            dir: Dir::In,
+            packet: self.nothing.clone()?,
+        })
+    }
+
     /// Takes the first record out. Of at most two records the other moves up; else a blank stands
     /// in its place.
     #[inline(always)]
@@ -230,12 +249,15 @@ impl Records {
         ensures spare { self.old.spare ≤ self.new.spare }
     {
         self.handed += 1;
-        if self.blanks == 0 && self.list.len() <= FEW_RECORDS {
-            return self.list.swap_remove(0);
+        let kept = self.list.len() - self.blanks;
+        if kept > FEW_RECORDS
+            && let Ok(blank) = self.blank()
+        {
+            let first = std::mem::replace(&mut self.list[self.blanks], blank);
+            self.blanks += 1;
+            return first;
         }
-        let first = std::mem::replace(&mut self.list[self.blanks], blank());
-        self.blanks += 1;
-        first
+        self.list.remove(self.blanks)
     }
 
     /// Gives the places of blanks back to the list where they are half of it at least, so that a

@@ -52,7 +52,7 @@ fn keys_stand_in_their_order(rt: HostRuntime) {
 fn is_packet(rt: &(impl Abort + AllocGlobal), count: usize) -> bool {
     let octets = vec![in rt.alloc(); 7u8; count].expect(rt, "it succeeds");
     let bytes = Bytes::copy_from_slice(rt.alloc(), octets.as_slice()).expect(rt, "it succeeds");
-    let Some(packet) = Packet::new(bytes) else {
+    let Some(packet) = Packet::new(rt.alloc(), bytes).expect(rt, "it succeeds") else {
         return false;
     };
     eq_number(rt, "octets", packet.octet_count() as u64, count as u64);
@@ -79,12 +79,10 @@ fn packets_have_a_range_of_sizes(rt: HostRuntime) {
 #[test]
 fn packets_are_twins(rt: HostRuntime) {
     let bytes = Bytes::copy_from_slice(rt.alloc(), b"two").expect(&rt, "it succeeds");
-    let twin = Twin::new(Packet::new(bytes).expect(&rt, "three octets fit")).expect(
-        &rt,
-        "it succeeds",
-    );
+    let packet = Packet::new(rt.alloc(), bytes).expect(&rt, "it succeeds");
+    let twin = Twin::new(packet.expect(&rt, "three octets fit")).expect(&rt, "it succeeds");
     holds(&rt, "they are equal", twin.packet == twin.copy);
-    eq_octets(&rt, "a copy", twin.copy.into_bytes().as_slice(), b"two");
+    eq_octets(&rt, "a copy", twin.copy.octets(), b"two");
 }
 
 /// A sink of this budget takes so much of a text, and says so.

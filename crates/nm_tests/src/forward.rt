@@ -272,7 +272,8 @@ fn node_of_trio(rt: &(impl Abort + AllocGlobal), node: u32) -> Bench {
 /// A packet of one octet.
 fn one_octet(rt: &(impl Abort + AllocGlobal)) -> Packet {
     let octets = Bytes::copy_from_slice(rt.alloc(), b"\0").expect(rt, "it succeeds");
-    Packet::new(octets).expect(rt, "one octet fits")
+    let packet = Packet::new(rt.alloc(), octets).expect(rt, "it succeeds");
+    packet.expect(rt, "one octet fits")
 }
 
 /// A node sends nothing of what a source hands over, and counts nothing.
@@ -315,7 +316,8 @@ const FORWARDED: &[u8] =
 
 fn packet_of(rt: &(impl Abort + AllocGlobal), octets: &[u8]) -> Packet {
     let octets = Bytes::copy_from_slice(rt.alloc(), octets).expect(rt, "there is memory");
-    Packet::new(octets).expect(rt, "it fits")
+    let packet = Packet::new(rt.alloc(), octets).expect(rt, "there is memory");
+    packet.expect(rt, "it fits")
 }
 
 /// A port behind which so many packets may wait, to which so many datagrams were offered.

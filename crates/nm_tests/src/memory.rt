@@ -29,7 +29,10 @@ fn packet_of(rt: &(impl Abort + AllocGlobal), octets: &[u8]) -> Packet {
     let first = Bytes::copy_from_slice(rt.alloc(), octets);
     let second = Bytes::copy_from_slice(rt.alloc(), octets);
     let octets = first.or(second).expect(rt, "there is memory");
-    Packet::new(octets).expect(rt, "from 1 to 65,535 octets")
+    let first = Packet::new(rt.alloc(), octets.clone().expect(rt, "it has one owner"));
+    let second = Packet::new(rt.alloc(), octets);
+    let packet = first.or(second).expect(rt, "there is memory");
+    packet.expect(rt, "from 1 to 65,535 octets")
 }
 
 /// A text whose fault is the last that is looked for.

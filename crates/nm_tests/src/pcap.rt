@@ -29,7 +29,8 @@ const PACKET_HEADERS: [u8; 28] = [
 fn record_of(rt: &(impl Abort + AllocGlobal), nanoseconds: u64, octets: &[u8]) -> Record
     ensures { result.time ≡ nanoseconds }
 {
-    let packet = Packet::new(Bytes::copy_from_slice(rt.alloc(), octets).expect(rt, "it succeeds"));
+    let octets = Bytes::copy_from_slice(rt.alloc(), octets).expect(rt, "it succeeds");
+    let packet = Packet::new(rt.alloc(), octets).expect(rt, "it succeeds");
     Record {
         time: Time::from_nanoseconds(nanoseconds),
         iface: IfaceNo::new(0),

@@ -28,7 +28,7 @@ fn data_packet(alloc: Global, flow: &Flow) -> Result<SourcePacket, AllocError>
     } else {
         vec![in alloc; flow.fill; flow.size as usize]?
     };
-    SourcePacket::of_octets(octets)
+    SourcePacket::of_octets(alloc, octets)
 }
 
 impl CbrSource {

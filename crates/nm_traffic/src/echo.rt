@@ -57,7 +57,7 @@ impl EchoSource {
             code: ECHO_CODE,
         };
         let message = Icmp::write(alloc, kind, rest, &self.octets)?;
-        SourcePacket::of_octets(message)
+        SourcePacket::of_octets(alloc, message)
     }
 
     /// Request `number` and its time, if it comes before `stop`.

@@ -4,7 +4,7 @@ ghost use Rattle.std.specs.Prelude.{◌≡◌, ℕ, ◌≤◌, List, length, IfO
 
 use bytes::Bytes;
 use nm_base::{Packet, Time};
-use std::alloc::AllocError;
+use std::alloc::{AllocError, Global};
 use std::marker::Model;
 
 /// The data of a UDP datagram, or one zero octet for none; an ICMP message; or the octets of a raw
@@ -34,14 +34,15 @@ impl SourcePacket {
     }
 
     /// The packet of 1 to 65,535 octets.
-    pub(crate) fn of_octets(octets: Vec<u8>) -> Result<Self, AllocError>
+    pub(crate) fn of_octets(alloc: Global, octets: Vec<u8>) -> Result<Self, AllocError>
         requires least { 1 ≤ length octets.items }
         requires greatest { length octets.items ≤ 65535 }
         ensures { IfOk result (λ p. p ≡ octets.items) }
     {
         let octets = Bytes::from_vec(octets)?;
+        let packet = Packet::new(alloc, octets)?;
         Ok(SourcePacket {
-            packet: Packet::new(octets).unwrap(),
+            packet: packet.unwrap(),
         })
     }
 

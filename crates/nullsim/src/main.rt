@@ -36,6 +36,11 @@ use watching::{Over, watch};
 /// The octets of the lines that are said of errors, at most.
 const MAX_ERROR_OCTETS: usize = 8_192;
 
+/// The C library gives memory back to the system when 128 KiB at the end of its heap are free, and
+/// takes it anew for the next packets. A block of this size that was given back once has it wait
+/// for twice as much (mallopt(3), `M_MMAP_THRESHOLD`). Its pages are never touched.
+const FREED_OCTETS: usize = 16_777_216;
+
 /// The words after the program's name.
 fn words<R: Env + Alloc>(rt: &R) -> io::Result<Vec<String<R::A>, R::A>> {
     let mut words = Vec::new(rt.alloc());
@@ -229,6 +234,12 @@ where
     }
 }
 
+/// Has the C library keep memory that is free for the next packets.
+fn keep_freed_memory(rt: &HostRuntime) {
+    let _ = Vec::<u8>::with_capacity(rt.alloc(), FREED_OCTETS);
+}
+
 fn main(rt: HostRuntime) -> ExitCode {
+    keep_freed_memory(&rt);
     ExitCode::from(status(&rt, &rt).code())
 }

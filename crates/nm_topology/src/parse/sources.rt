@@ -90,7 +90,7 @@ pub fn required_octets(
     if octets.is_empty() || octets.len() > mtu as usize {
         return Err(TopoFault::Refused(Refusal::Range));
     }
-    match Packet::new(Bytes::from_vec(octets)?) {
+    match Packet::new(alloc, Bytes::from_vec(octets)?)? {
         Some(packet) => Ok(packet),
         None => Err(TopoFault::Refused(Refusal::Range)),
     }
