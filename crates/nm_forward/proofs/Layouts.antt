@@ -1,34 +1,30 @@
 -- Routes laid out by the keys of their prefixes.
 use Rattle.std.proofs.Common.{◌≡◌, ℕ, ◌+◌, ◌-◌, ◌^◌, ◌<◌, ◌≤◌, ◌++◌, ◌≢◌, Bool, true, false, List, [], ◌∷◌, length, set, refl, sym, ap, ◌∙◌, subst, arith, add-one, ⊎_elim, Some, None, Option, cond}
-use Rattle.std.specs.Prelude.{nat_eq, find, slice_index_or}
+use Rattle.std.specs.Prelude.{find, slice_index_or}
 use Rattle.std.specs.Option.{option_map, option_or}
 use Rattle.std.specs.HashMap.{get}
 use Rattle.std.proofs.lemmas.Bool.Decides.{nat_tests}
-use Rattle.std.proofs.lemmas.Bool.{cases_eq, cases_Bool, eqb-true}
+use Rattle.std.proofs.lemmas.Bool.{cases_eq, cases_Bool}
 use Rattle.std.proofs.lemmas.List.Folds.{find-append}
 use Rattle.std.proofs.lemmas.List.{get_or-set_same, get_or-set_other}
-use Rattle.std.proofs.Math.Nat.{div-le_self}
 use Rattle.nm_topology.specs.declared.parts.Route.{Route}
-use Rattle.nm_forward.specs.Routes.{network, leads, longest_below, prefix_key, route_of, IsLaidOut, Vias}
+use Rattle.nm_forward.specs.declared.routes.PrefixKey.{PrefixKey}
+use Rattle.nm_forward.specs.Routes.{network, leads, longest_below, prefix_key, route_of, same_key, IsLaidOut, Vias}
 
--- a key tells the length and the network
-pub same_prefix : (n m a b : ℕ) → n < 33 → m < 33 → a < 2 ^ 32 → b < 2 ^ 32
-    → prefix_key n a ≡ prefix_key m b → (n ≡ m) × (network n a ≡ network m b)
-same_prefix n m a b hn hm ha hb e =
-    let x : network n a ≤ a = div-le_self a (2 ^ (32 - n)) in
-    let y : network m b ≤ b = div-le_self b (2 ^ (32 - m)) in
-    (omega (arith, e), omega (arith, e))
+-- keys that are the same in both numbers are one
+pub one_key : (k q : PrefixKey) → same_key k q ≡ true → k ≡ q
+one_key k q e =
+    let both : (k.length ≡ q.length) × (k.network ≡ q.network) = grind (arith, nat_tests, e) in
+    λ i. record { length = both.0 i; network = both.1 i }
 
 -- the key of a route's prefix is that of the prefix of n bits that holds the address exactly where
 -- the route leads there
-pub leads-key : (n a : ℕ) (r : Route) → n < 33 → a < 2 ^ 32 → r.to.length < 33
-    → r.to.address < 2 ^ 32
-    → leads n a r ≡ nat_eq (prefix_key r.to.length r.to.address) (prefix_key n a)
-leads-key n a r hn ha hm hb =
+pub leads-key : (n a : ℕ) (r : Route)
+    → leads n a r ≡ same_key (prefix_key r.to.length r.to.address) (prefix_key n a)
+leads-key n a r =
     ⊎_elim
     (λ (e : r.to.length ≡ n). grind (arith, nat_tests, e))
-    (λ (d : r.to.length ≢ n). grind
-    (arith, nat_tests, d, same_prefix r.to.length n r.to.address a hm hn hb ha))
+    (λ (d : r.to.length ≢ n). grind (arith, nat_tests, d))
     (cases_eq r.to.length n)
 
 pub longest-zero : (routes : List Route) (a : ℕ) → longest_below 0 routes a ≡ None
@@ -79,13 +75,13 @@ module _ (routes : List Route) (occurs : List Bool) (vias : Vias) (r : Route)
   pub laid_out-long : 33 ≤ r.to.length → IsLaidOut (routes ++ r ∷ []) occurs vias
   laid_out-long h = record {
     lengths = λ n a hn e. off n a (other n a (omega arith)) ∙ laid.lengths n a hn e;
-    leading = λ n a hn ha. laid.leading n a hn ha
+    leading = λ n a hn. laid.leading n a hn
         ∙ ap (option_map (λ r. r.via)) (sym (off n a (other n a (omega arith))));
   }
 
-  module _ (k : ℕ) (is : k ≡ r.to.length) (full : length occurs ≡ 33) (h : r.to.length < 33)
-      (b : r.to.address < 2 ^ 32) where
-    abbrev key : ℕ
+  module _ (k : ℕ) (is : k ≡ r.to.length) (full : length occurs ≡ 33)
+      (h : r.to.length < 33) where
+    abbrev key : PrefixKey
     key = prefix_key r.to.length r.to.address
 
     lengths : (n a : ℕ) → n < 33 → slice_index_or (set occurs k true) n false ≡ false
@@ -106,54 +102,54 @@ module _ (routes : List Route) (occurs : List Bool) (vias : Vias) (r : Route)
         (cases_eq k n)
 
     -- a route to a prefix to which another leads already
-    pub laid_out-known : (get nat_eq vias key ≡ None → ⊥)
+    pub laid_out-known : (get same_key vias key ≡ None → ⊥)
         → IsLaidOut (routes ++ r ∷ []) (set occurs k true) vias
     laid_out-known known = record {
       lengths = lengths;
-      leading = λ n a hn ha.
+      leading = λ n a hn.
           ⊎_elim
-          (λ (e : nat_eq key (prefix_key n a) ≡ true).
-          let same : key ≡ prefix_key n a = eqb-true key (prefix_key n a) e in
+          (λ (e : same_key key (prefix_key n a) ≡ true).
+          let same : key ≡ prefix_key n a = one_key key (prefix_key n a) e in
           let there : option_map (λ r. r.via) (find (leads n a) routes) ≡ None → ⊥ =
-          λ e. known (ap (get nat_eq vias) same ∙ laid.leading n a hn ha ∙ e) in
-          laid.leading n a hn ha ∙ sym (mapped-or (find (leads n a) routes) r there)
-          ∙ ap (option_map (λ r. r.via)) (sym (on n a (leads-key n a r hn ha h b ∙ e))))
-          (λ (e : nat_eq key (prefix_key n a) ≡ false).
-          laid.leading n a hn ha
-          ∙ ap (option_map (λ r. r.via)) (sym (off n a (leads-key n a r hn ha h b ∙ e))))
-          (cases_Bool (nat_eq key (prefix_key n a)));
+          λ e. known (ap (get same_key vias) same ∙ laid.leading n a hn ∙ e) in
+          laid.leading n a hn ∙ sym (mapped-or (find (leads n a) routes) r there)
+          ∙ ap (option_map (λ r. r.via)) (sym (on n a (leads-key n a r ∙ e))))
+          (λ (e : same_key key (prefix_key n a) ≡ false).
+          laid.leading n a hn
+          ∙ ap (option_map (λ r. r.via)) (sym (off n a (leads-key n a r ∙ e))))
+          (cases_Bool (same_key key (prefix_key n a)));
     }
 
     -- the first route to a prefix
-    pub laid_out-first : (more : Vias) → get nat_eq vias key ≡ None
-        → ((q : ℕ) → get nat_eq more q ≡ cond (nat_eq key q) (Some r.via) (get nat_eq vias q))
+    pub laid_out-first : (more : Vias) → get same_key vias key ≡ None
+        → ((q : PrefixKey) → get same_key more q ≡ cond (same_key key q) (Some r.via) (get same_key vias q))
         → IsLaidOut (routes ++ r ∷ []) (set occurs k true) more
     laid_out-first more fresh puts = record {
       lengths = lengths;
-      leading = λ n a hn ha.
+      leading = λ n a hn.
           ⊎_elim
-          (λ (e : nat_eq key (prefix_key n a) ≡ true).
-          let same : key ≡ prefix_key n a = eqb-true key (prefix_key n a) e in
+          (λ (e : same_key key (prefix_key n a) ≡ true).
+          let same : key ≡ prefix_key n a = one_key key (prefix_key n a) e in
           let none : find (leads n a) routes ≡ None =
           mapped-none (find (leads n a) routes)
-          (sym (laid.leading n a hn ha) ∙ ap (get nat_eq vias) (sym same) ∙ fresh) in
+          (sym (laid.leading n a hn) ∙ ap (get same_key vias) (sym same) ∙ fresh) in
           puts (prefix_key n a)
-          ∙ ap (λ t. cond t (Some r.via) (get nat_eq vias (prefix_key n a))) e
+          ∙ ap (λ t. cond t (Some r.via) (get same_key vias (prefix_key n a))) e
           ∙ ap (λ o. option_map (λ r. r.via) (option_or o (Some r))) (sym none)
-          ∙ ap (option_map (λ r. r.via)) (sym (on n a (leads-key n a r hn ha h b ∙ e))))
-          (λ (e : nat_eq key (prefix_key n a) ≡ false).
+          ∙ ap (option_map (λ r. r.via)) (sym (on n a (leads-key n a r ∙ e))))
+          (λ (e : same_key key (prefix_key n a) ≡ false).
           puts (prefix_key n a)
-          ∙ ap (λ t. cond t (Some r.via) (get nat_eq vias (prefix_key n a))) e
-          ∙ laid.leading n a hn ha
-          ∙ ap (option_map (λ r. r.via)) (sym (off n a (leads-key n a r hn ha h b ∙ e))))
-          (cases_Bool (nat_eq key (prefix_key n a)));
+          ∙ ap (λ t. cond t (Some r.via) (get same_key vias (prefix_key n a))) e
+          ∙ laid.leading n a hn
+          ∙ ap (option_map (λ r. r.via)) (sym (off n a (leads-key n a r ∙ e))))
+          (cases_Bool (same_key key (prefix_key n a)));
     }
 
 -- no routes
-pub laid_out-none : (vias : Vias) → ((q : ℕ) → get nat_eq vias q ≡ None) → (occurs : List Bool)
+pub laid_out-none : (vias : Vias) → ((q : PrefixKey) → get same_key vias q ≡ None) → (occurs : List Bool)
     → IsLaidOut [] occurs vias
 laid_out-none vias e occurs =
-    record { lengths = λ n a hn e. refl; leading = λ n a hn ha. e (prefix_key n a) }
+    record { lengths = λ n a hn e. refl; leading = λ n a hn. e (prefix_key n a) }
 
 -- a look-up that goes down the lengths, at the length m
 module _ (routes : List Route) (occurs : List Bool) (vias : Vias)
@@ -171,18 +167,18 @@ module _ (routes : List Route) (occurs : List Bool) (vias : Vias)
   found (Some r) v e = e
 
   -- a prefix of this length leads there
-  pub look-found : a < 2 ^ 32 → (v : ℕ) → get nat_eq vias (prefix_key m a) ≡ Some v
+  pub look-found : (v : ℕ) → get same_key vias (prefix_key m a) ≡ Some v
       → Some v ≡ route_of routes a
-  look-found b v e = sym (step ∙ found (find (leads m a) routes) v (sym (laid.leading m a h b) ∙ e))
+  look-found v e = sym (step ∙ found (find (leads m a) routes) v (sym (laid.leading m a h) ∙ e))
 
   past : find (leads m a) routes ≡ None
       → route_of routes a ≡ option_map (λ r. r.via) (longest_below m routes a)
   past e = step ∙ ap (λ o. option_map (λ r. r.via) (option_or o (longest_below m routes a))) e
 
   -- none of this length does
-  pub look-past : a < 2 ^ 32 → get nat_eq vias (prefix_key m a) ≡ None
+  pub look-past : get same_key vias (prefix_key m a) ≡ None
       → route_of routes a ≡ option_map (λ r. r.via) (longest_below m routes a)
-  look-past b e = past (mapped-none (find (leads m a) routes) (sym (laid.leading m a h b) ∙ e))
+  look-past e = past (mapped-none (find (leads m a) routes) (sym (laid.leading m a h) ∙ e))
 
   -- none has this length
   pub look-absent : slice_index_or occurs m false ≡ false

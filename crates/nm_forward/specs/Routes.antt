@@ -1,10 +1,11 @@
 -- The route to an address (RFC 1812, section 5.2.4.3).
-use Rattle.std.specs.Prelude.{◌≡◌, ℕ, zero, suc, ◌+◌, ◌-◌, ◌*◌, ◌/◌, ◌^◌, ◌<◌, ◌≤◌, Bool, false, ◌&&◌, ◌==◌, nat_eq, List, find, slice_index_or, Option, None}
+use Rattle.std.specs.Prelude.{◌≡◌, ℕ, zero, suc, ◌-◌, ◌/◌, ◌^◌, ◌<◌, ◌≤◌, Bool, false, ◌&&◌, ◌==◌, List, find, slice_index_or, Option, None}
 use Rattle.std.specs.Option.{option_map, option_or}
 use Rattle.std.specs.HashMap.{get, HashMap}
 use Rattle.std.specs.declared.hash.FoldHasher.{FoldHasher}
 use Rattle.std.specs.declared.hash.BuildHasherDefault.{BuildHasherDefault}
 use Rattle.nm_topology.specs.declared.parts.Route.{Route}
+use Rattle.nm_forward.specs.declared.routes.PrefixKey.{PrefixKey}
 
 -- the first n bits of an address
 abbrev pub network : ℕ → ℕ → ℕ
@@ -34,18 +35,21 @@ abbrev pub route_of : List Route → ℕ → Option ℕ
 route_of routes address = option_map (λ r. r.via) (longest_route routes address)
 
 -- the key of the prefix that has n bits and holds the address
-abbrev pub prefix_key : ℕ → ℕ → ℕ
-prefix_key n address = n * 2 ^ 32 + network n address
+abbrev pub prefix_key : ℕ → ℕ → PrefixKey
+prefix_key n address = record { length = n; network = network n address }
+
+-- two keys are the same
+abbrev pub same_key : PrefixKey → PrefixKey → Bool
+same_key a b = (a.length == b.length) && (a.network == b.network)
 
 -- where a prefix leads, by its key
 abbrev pub Vias : Type 0
-Vias = HashMap ℕ ℕ (BuildHasherDefault FoldHasher)
+Vias = HashMap PrefixKey ℕ (BuildHasherDefault FoldHasher)
 
 -- how routes are laid out: whether a prefix has so many bits, and where the first route to a prefix
 -- leads
 pub record IsLaidOut (routes : List Route) (occurs : List Bool) (vias : Vias) : Type 0 where
   pub lengths : (n address : ℕ) → n < 33 → slice_index_or occurs n false ≡ false
       → find (leads n address) routes ≡ None
-  pub leading : (n address : ℕ) → n < 33 → address < 2 ^ 32
-      → get nat_eq vias (prefix_key n address)
+  pub leading : (n address : ℕ) → n < 33 → get same_key vias (prefix_key n address)
       ≡ option_map (λ r. r.via) (find (leads n address) routes)

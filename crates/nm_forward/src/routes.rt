@@ -1,6 +1,6 @@
 //! The routes of a node.
 
-ghost use Rattle.std.specs.Prelude.{◌≡◌, ◌≤◌, ◌<◌, ◌^◌, ◌++◌, ◌∷◌, [], List, length, OnOk, IfOk};
+ghost use Rattle.std.specs.Prelude.{◌≡◌, ◌≤◌, ◌<◌, ◌++◌, ◌∷◌, [], List, length, OnOk, IfOk};
 ghost use Rattle.nm_topology.specs.declared.parts.Route.{Route};
 ghost use Rattle.nm_forward.specs.Routes.{IsLaidOut, prefix_key, route_of};
 ghost use Rattle.nm_forward.specs.State.{table_of};
@@ -16,6 +16,14 @@ use std::marker::Model;
 /// How many lengths a prefix may have: 0 to 32 bits.
 const LENGTHS: usize = 33;
 
+/// The first bits of an address, and how many they are: the key of each prefix that has so many
+/// bits and holds the address.
+#[derive(Clone, Copy, PartialEq, Eq, Hash)]
+struct PrefixKey {
+    length: u8,
+    network: u32,
+}
+
 /// The routes of a node, laid out so that a look-up goes over lengths of prefixes and not over
 /// routes. A clause sees the list of routes.
 #[derive(Drop)]
@@ -25,7 +33,7 @@ pub struct Routes {
     /// Whether a prefix has so many bits.
     occurs: [bool; LENGTHS],
     /// Where the first route to a prefix leads, by the prefix's key.
-    vias: HashMap<u64, IfaceNo>,
+    vias: HashMap<PrefixKey, IfaceNo>,
 }
 
 impl Model for Routes {
@@ -40,21 +48,22 @@ impl Model for Routes {
     ghost invariant = { λ t. IsLaidOut t.routes.items t.occurs t.vias };
 }
 
-/// The key of the prefix that has so many bits and holds the address: both numbers, one above the
-/// other.
-fn prefix_key(length: u8, address: Address) -> u64
+/// The key of the prefix that has so many bits and holds the address.
+fn prefix_key(length: u8, address: Address) -> PrefixKey
     requires { length ≤ 32 }
-    ensures value { result ≡ prefix_key length address }
-    ensures fits { address < 2 ^ 32 }
+    ensures { result ≡ prefix_key length address }
 {
     let network = u64::from(address.bits()) >> (32 - length);
-    (u64::from(length) << 32) + network
+    PrefixKey {
+        length,
+        network: network as u32,
+    }
 }
 
 /// Lays out one more route.
 fn lay_out(
     occurs: &mut [bool],
-    vias: &mut HashMap<u64, IfaceNo>,
+    vias: &mut HashMap<PrefixKey, IfaceNo>,
     route: &Route,
 ) -> Result<(), AllocError>
     requires { length occurs.old ≡ 33 }

@@ -4,7 +4,7 @@ ghost use Rattle.std.specs.Prelude.{◌≡◌};
 ghost use Rattle.nm_knowledge.specs.Answers.{know_fault_number};
 ghost use Rattle.nm_knowledge.specs.declared.answer.KnowFault.TheVariants.{Memory};
 
-use std::alloc::{AllocError, AllocFailed};
+use std::alloc::AllocError;
 use thiserror::Error;
 
 /// A message or a null message was accepted.
@@ -62,14 +62,6 @@ impl From<AllocError> for KnowFault {
     ghost from_gives = { λ _ f. f ≡ Memory };
 
     fn from(_: AllocError) -> Self {
-        KnowFault::Memory
-    }
-}
-
-impl<T: Drop> From<AllocFailed<T>> for KnowFault {
-    ghost from_gives = { λ _ f. f ≡ Memory };
-
-    fn from(_: AllocFailed<T>) -> Self {
         KnowFault::Memory
     }
 }

@@ -6,6 +6,7 @@ use Rattle.nm_packet.specs.Octets.{word}
 use Rattle.nm_packet.specs.declared.icmp.MessageKind.{MessageKind}
 use Rattle.nm_packet.specs.declared.icmp.TheConstants.{ECHO_REQUEST, ECHO_CODE}
 use Rattle.nm_packet.specs.Icmp.{icmp_header, message_octets}
+use Rattle.nm_traffic.specs.declared.cbr.TheConstants.{NO_DATA}
 
 -- when packet n comes, in nanoseconds
 abbrev pub flow_time : Flow → ℕ → ℕ
@@ -15,9 +16,9 @@ flow_time f n = f.start + n * f.interval
 abbrev pub flow_data : Flow → List ℕ
 flow_data f = replicate f.size f.fill
 
--- what a UDP source hands over: its data, or one zero octet, which stands for no data
+-- what a UDP source hands over: its data, or the octet that stands for none
 abbrev pub cbr_octets : Flow → List ℕ
-cbr_octets f = if f.size == 0 then 0 ∷ [] else flow_data f
+cbr_octets f = if f.size == 0 then NO_DATA ∷ [] else flow_data f
 
 -- echo request n (RFC 792): type 8, code 0, the identifier, and n modulo 65,536 as the sequence
 -- number

@@ -11,6 +11,10 @@ use nm_base::Time;
 use nm_topology::traffic::{Cbr, Flow};
 use std::alloc::{AllocError, Global};
 
+/// The octet that a source hands over where it has no data: a packet has at least one octet. The
+/// node sends no data then.
+pub(crate) const NO_DATA: u8 = 0;
+
 /// A source, and the packet that it hands over each time.
 #[derive(Drop)]
 pub struct CbrSource {
@@ -19,12 +23,12 @@ pub struct CbrSource {
     ghost made: { packet ≡ cbr_octets cbr.flow },
 }
 
-/// The data of the flow, or one zero octet where there are none.
+/// The data of the flow, or the octet that stands for none.
 fn data_packet(alloc: Global, flow: &Flow) -> Result<SourcePacket, AllocError>
     ensures { IfOk result (λ p. p ≡ cbr_octets flow.now) }
 {
     let octets = if flow.size == 0 {
-        vec![in alloc; 0; 1]?
+        vec![in alloc; NO_DATA; 1]?
     } else {
         vec![in alloc; flow.fill; flow.size as usize]?
     };

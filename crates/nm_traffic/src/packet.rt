@@ -7,7 +7,7 @@ use nm_base::{Packet, Time};
 use std::alloc::{AllocError, Global};
 use std::marker::Model;
 
-/// The data of a UDP datagram, or one zero octet for none; an ICMP message; or the octets of a raw
+/// The data of a UDP datagram, or `NO_DATA` for none; an ICMP message; or the octets of a raw
 /// packet: which of them it is the source says. A clause sees the octets.
 #[derive(Clone, Drop)]
 pub struct SourcePacket {
