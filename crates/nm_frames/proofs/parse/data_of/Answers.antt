@@ -9,4 +9,4 @@ same_packet o p octets value e = subst (λ (x : Option (List ℕ)). IfSome x (λ
 pub returns-clause-packet : goal.returns-clause-packet
 returns-clause-packet c =
     let whole = c.in_ok-octets.ensures ∙ tail_is c.args.body.now 21 in
-    same_packet c.new-2.result c.unwrap.result c.in_ok-octets.octets (c.new-2.ensures.value) c.unwrap.ensures ∙ whole
+    same_packet c.in_ok-packet.packet c.unwrap.result c.in_ok-octets.octets (c.in_ok-packet.ensures.value) c.unwrap.ensures ∙ whole
