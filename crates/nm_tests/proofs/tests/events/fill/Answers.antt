@@ -2,7 +2,7 @@ use Rattle.std.proofs.Common.{ap, ◌∙◌, arith}
 use Rattle.std.specs.FinMap.{get, get-empty}
 use Rattle.nm_base.specs.Key.{key_cmp}
 use Rattle.nm_events.proofs.Fresh.{not_yet}
-use Rattle.nm_tests.proofs.events.fill.Goals as goal
+use Rattle.nm_tests.proofs.tests.events.fill.Goals as goal
 
 pub loop-number-init : goal.loop-number-init
 loop-number-init g c =

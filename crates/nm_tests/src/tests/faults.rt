@@ -1,6 +1,6 @@
 //! The texts of faults: no contract has them.
 
-use crate::same::{eq_number, eq_shown};
+use crate::tests::same::{eq_number, eq_shown};
 use nm_knowledge::KnowFault;
 use nm_packet::{HeaderFault, IcmpFault, UdpFault};
 use nm_topology::{Refusal, TopoFault, fault_number};

@@ -3,7 +3,7 @@
 
 ghost use Rattle.std.specs.Prelude.{◌≡◌, ◌≤◌};
 
-use crate::same::{eq_octets, holds};
+use crate::tests::same::{eq_octets, holds};
 use bytes::Bytes;
 use nm_base::{Dir, IfaceNo, MemSink, Packet, Record, StdSink, Time};
 use nm_pcap::{PcapFault, PcapOut};

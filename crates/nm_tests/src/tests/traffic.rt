@@ -1,18 +1,18 @@
 //! `nm_traffic`: worked sources of each kind, and the ends of their ranges.
 
-use crate::same::eq_octets;
+use crate::tests::same::eq_octets;
 use nm_base::{SourceNo, Time};
 use nm_topology::Topology;
 use nm_traffic::{Source, SourcePacket};
 use std::process::Abort;
 
-/// Two hosts and one link; the run stops at this time. What follows in a text are tables of
-/// sources.
+/// Two hosts and one link, with these sources; the run stops at this time.
 fn network(rt: &(impl Abort + AllocGlobal), stop: u64, sources: &str) -> String {
     format!(in rt.alloc();
         r#"format = 1
 stop = {stop}
 mtu = 1500
+source = [{sources}]
 [[node]]
 name = "a"
 kind = "host"
@@ -36,7 +36,6 @@ a = "a0"
 b = "b0"
 rate = 8000000
 delay = 1000000
-{sources}
 "#
     )
     .expect(rt, "it succeeds")
@@ -89,30 +88,31 @@ fn packets_are(rt: &(impl Abort + AllocGlobal), source: &Source, rows: &[(u64, u
     }
 }
 
+/// The packets of a source of a text: those of these rows, and at these numbers behind them none.
+fn gives(
+    rt: &(impl Abort + AllocGlobal),
+    stop: u64,
+    sources: &str,
+    number: u32,
+    rows: &[(u64, u64, &str)],
+    past: &[u64],
+) {
+    let source = source_of(rt, stop, sources, number);
+    packets_are(rt, &source, rows);
+    for none in past {
+        come_at(rt, &source, &[(*none, None)]);
+    }
+}
+
 /// Three packets of three octets.
 const THREE: &str = r#"
-[[source]]
-kind = "cbr"
-node = "a"
-to = "10.0.0.2"
-sport = 1000
-dport = 9
-size = 3
-fill = 7
-start = 5
-interval = 10
-count = 3
+  {kind = "cbr", node = "a", to = "10.0.0.2", sport = 1000, dport = 9, size = 3, fill = 7, start = 5, interval = 10, count = 3}
 "#;
 
 #[test]
 fn datagrams(rt: HostRuntime) {
-    let source = source_of(&rt, 1_000, THREE, 0);
-    packets_are(
-        &rt,
-        &source,
-        &[(0, 5, "070707"), (1, 15, "070707"), (2, 25, "070707")],
-    );
-    come_at(&rt, &source, &[(3, None), (4, None), (u64::MAX, None)])
+    let rows = [(0, 5, "070707"), (1, 15, "070707"), (2, 25, "070707")];
+    gives(&rt, 1_000, THREE, 0, &rows, &[3, 4, u64::MAX]);
 }
 
 /// Rows of a `stop`, and of what the first source of this text sends before it.
@@ -144,40 +144,19 @@ fn datagrams_when_the_run_stops(rt: HostRuntime) {
 
 /// No data, and a packet that comes as the run stops.
 const NO_DATA: &str = r#"
-[[source]]
-kind = "cbr"
-node = "b"
-to = "10.0.0.1"
-sport = 0
-dport = 0
-size = 0
-fill = 255
-start = 0
-interval = 1
-count = 2
+  {kind = "cbr", node = "b", to = "10.0.0.1", sport = 0, dport = 0, size = 0, fill = 255, start = 0, interval = 1, count = 2}
 "#;
 
 #[test]
 fn datagrams_without_data(rt: HostRuntime) {
-    let source = source_of(&rt, 1, NO_DATA, 0);
-    packets_are(&rt, &source, &[(0, 0, "00")]);
-    come_at(&rt, &source, &[(1, None)])
+    gives(&rt, 1, NO_DATA, 0, &[(0, 0, "00")], &[1]);
 }
 
 /// The longest interval and the most packets. Packet 18,446,745 would be at
 /// 18,446,745,000,000,000,000 nanoseconds, which is 926,290,448,384 more than 2^64, a time at which
 /// packets still come.
 const FAR: &str = r#"
-[[source]]
-kind = "cbr"
-node = "a"
-to = "10.0.0.2"
-sport = 1
-dport = 1
-size = 1472
-start = 0
-interval = 1000000000000
-count = 1000000000
+  {kind = "cbr", node = "a", to = "10.0.0.2", sport = 1, dport = 1, size = 1472, start = 0, interval = 1000000000000, count = 1000000000}
 "#;
 
 #[test]
@@ -199,84 +178,43 @@ fn datagrams_past_64_bits(rt: HostRuntime) {
 
 /// A source of another kind, and then one of echo requests with the identifier 1234 in hexadecimal.
 const REQUESTS: &str = r#"
-[[source]]
-kind = "raw"
-node = "a"
-via = "a0"
-[[source.packet]]
-at = 0
-data = "45"
-[[source]]
-kind = "echo"
-node = "a"
-to = "10.0.0.2"
-ident = 4660
-size = 3
-fill = 171
-start = 100
-interval = 1
-count = 65538
+  {kind = "raw", node = "a", via = "a0", packet = [ {at = 0, data = "45"} ]},
+  {kind = "echo", node = "a", to = "10.0.0.2", ident = 4660, size = 3, fill = 171, start = 100, interval = 1, count = 65538}
 "#;
 
 /// The sequence number begins anew after 65,536 requests.
 #[test]
 fn requests(rt: HostRuntime) {
-    let source = source_of(&rt, 1_000_000, REQUESTS, 1);
-    packets_are(
-        &rt,
-        &source,
-        &[
-            (0, 100, "08008f1f12340000ababab"),
-            (1, 101, "08008f1e12340001ababab"),
-            (65_535, 65_635, "08008f1f1234ffffababab"),
-            (65_536, 65_636, "08008f1f12340000ababab"),
-            (65_537, 65_637, "08008f1e12340001ababab"),
-        ],
-    );
-    come_at(
-        &rt,
-        &source,
-        &[(65_538, None), (65_539, None), (u64::MAX, None)],
-    )
+    let rows = [
+        (0, 100, "08008f1f12340000ababab"),
+        (1, 101, "08008f1e12340001ababab"),
+        (65_535, 65_635, "08008f1f1234ffffababab"),
+        (65_536, 65_636, "08008f1f12340000ababab"),
+        (65_537, 65_637, "08008f1e12340001ababab"),
+    ];
+    let past = [65_538, 65_539, u64::MAX];
+    gives(&rt, 1_000_000, REQUESTS, 1, &rows, &past);
 }
 
 /// Requests with no data.
 const EMPTY: &str = r#"
-[[source]]
-kind = "echo"
-node = "b"
-to = "10.0.0.1"
-ident = 1
-size = 0
-start = 0
-interval = 1
-count = 1
+  {kind = "echo", node = "b", to = "10.0.0.1", ident = 1, size = 0, start = 0, interval = 1, count = 1}
 "#;
 
 #[test]
 fn requests_without_data(rt: HostRuntime) {
-    let source = source_of(&rt, 1, EMPTY, 0);
-    packets_are(&rt, &source, &[(0, 0, "0800f7fe00010000")])
+    gives(&rt, 1, EMPTY, 0, &[(0, 0, "0800f7fe00010000")], &[]);
 }
 
 /// Three packets, the last of which comes as the run stops at 9.
 const RAW: &str = r#"
-[[source]]
-kind = "raw"
-node = "b"
-via = "b0"
-packet = [ {at = 0, data = "45"}, {at = 3, data = "00ff"}, {at = 9, data = "0102"} ]
+  {kind = "raw", node = "b", via = "b0", packet = [ {at = 0, data = "45"}, {at = 3, data = "00ff"}, {at = 9, data = "0102"} ]}
 "#;
 
 #[test]
 fn raw_packets(rt: HostRuntime) {
-    let source = source_of(&rt, 10, RAW, 0);
-    packets_are(
-        &rt,
-        &source,
-        &[(0, 0, "45"), (1, 3, "00ff"), (2, 9, "0102")],
-    );
-    come_at(&rt, &source, &[(3, None), (u64::MAX, None)])
+    let rows = [(0, 0, "45"), (1, 3, "00ff"), (2, 9, "0102")];
+    gives(&rt, 10, RAW, 0, &rows, &[3, u64::MAX]);
 }
 
 #[test]

@@ -4,9 +4,9 @@
 //!
 //! What a test only needs is asked for twice, so that it is there even where memory was refused.
 
-use crate::forward::Bench;
-use crate::same::{eq_number, eq_numbers, eq_octets, holds};
-use crate::texts::TRIO;
+use crate::tests::forward::Bench;
+use crate::tests::same::{eq_number, eq_numbers, eq_octets, holds};
+use crate::tests::texts::TRIO;
 use bytes::Bytes;
 use nm_base::{IfaceNo, Packet, SourceNo, Time};
 use nm_fixtures::DUO;

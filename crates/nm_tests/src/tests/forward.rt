@@ -4,8 +4,8 @@
 ghost use Rattle.std.specs.Prelude.{◌≡◌};
 ghost use Rattle.nm_forward.specs.State.{table_of};
 
-use crate::same::{eq_number, eq_octets, eq_text, holds};
-use crate::texts::TRIO;
+use crate::tests::same::{eq_number, eq_octets, eq_text, holds};
+use crate::tests::texts::TRIO;
 use bytes::Bytes;
 use nm_base::{IfaceNo, NodeNo, Packet, SourceNo, Time, Twin};
 use nm_forward::{Counter, NodeState, Origin, Reaction, Routes, react};

@@ -1,7 +1,7 @@
 //! `nm_packet`: packets, datagrams and messages at worked values, the text of addresses and faults,
 //! and that each writer succeeds where there is memory.
 
-use crate::same::{eq_number, eq_numbers, eq_octets, eq_shown, holds};
+use crate::tests::same::{eq_number, eq_numbers, eq_octets, eq_shown, holds};
 use nm_packet::{
     Address, HeaderFault, Icmp, IcmpFault, Ipv4, Ipv4Header, MessageKind, PacketBuffer, Ports, Udp,
     UdpFault, lower_ttl, quote, write_ipv4,

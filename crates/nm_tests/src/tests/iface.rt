@@ -1,6 +1,6 @@
 //! `nm_iface`: how long transmissions take.
 
-use crate::same::eq_number;
+use crate::tests::same::eq_number;
 use nm_base::limits::{MAX_PACKET_OCTETS, MAX_RATE};
 use nm_iface::transmission_time;
 use std::process::Abort;

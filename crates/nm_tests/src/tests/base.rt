@@ -1,7 +1,7 @@
 //! `nm_base`: keys stand in their order, packets have a range of sizes, sinks take up to their
 //! budget.
 
-use crate::same::{eq_number, eq_octets, holds};
+use crate::tests::same::{eq_number, eq_octets, holds};
 use bytes::Bytes;
 use nm_base::limits::MAX_PACKET_OCTETS;
 use nm_base::sink::{CutShort, write_all};

@@ -1,7 +1,7 @@
 //! `nm_topology`: parts by their numbers, limits in octets, and texts of the greatest length.
 
-use crate::same::{eq_number, eq_text};
-use crate::texts::PARTITIONS;
+use crate::tests::same::{eq_number, eq_text};
+use crate::tests::texts::PARTITIONS;
 use nm_base::{ChanNo, IfaceNo, NodeNo};
 use nm_fixtures::DUO;
 use nm_topology::{Topology, fault_number};

@@ -1,7 +1,7 @@
 use Rattle.std.proofs.Common.{◌≡◌, ◌+◌, ◌≤◌, ◌<◌, ◌^◌, None}
 use Rattle.std.specs.FinMap.{get}
 use Rattle.nm_base.specs.declared.key.Key.{Key}
-use Rattle.nm_tests.proofs.events.fill.Given as goal
+use Rattle.nm_tests.proofs.tests.events.fill.Given as goal
 
 abbrev pub invariant-loop-number : goal.invariant-loop-number
 invariant-loop-number g l = record {
