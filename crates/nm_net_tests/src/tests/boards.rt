@@ -1,7 +1,7 @@
 //! The clock board.
 
-use crate::messages::null;
-use crate::sides::topology_of;
+use crate::tests::messages::null;
+use crate::tests::sides::topology_of;
 use nm_fixtures::SPLIT;
 use nm_shared::ClockBoard;
 use std::process::Abort;

@@ -1,7 +1,7 @@
 //! Two replicas in two threads, over loopback.
 
-use crate::cut_transport::CutTransport;
-use crate::sides::{ANY, Closed, Company, Noting, listen, over_tcp, serve, topology_of};
+use crate::tests::cut_transport::CutTransport;
+use crate::tests::sides::{ANY, Closed, Company, Noting, listen, over_tcp, serve, topology_of};
 use mio::Poll;
 use nm_fixtures::{SHIFT, SPLIT};
 use nm_net::Served;

@@ -5,15 +5,15 @@ ghost use Rattle.std.specs.Arc.{arc_value};
 ghost use Rattle.nm_shared.specs.Counted.{IsBlankOf};
 ghost use Rattle.nm_shared.specs.Known.{home_at};
 
-use crate::callers::shared_of;
-use crate::messages::{message, null};
-use crate::sides::topology_of;
+use crate::tests::callers::shared_of;
+use crate::tests::messages::{message, null};
+use crate::tests::sides::topology_of;
 use nm_base::Record;
 use nm_book::{Book, ChannelMessage, Knowledge, Null, Ran};
 use nm_fixtures::SPLIT;
 use nm_shared::acts::{CopyKnowledge, MakeNull, Merge};
 use nm_shared::counts::PARTS;
-use nm_shared::{Ledgers, Naming, Pass, SharedBook};
+use nm_shared::{Counts, Ledgers, Naming, Pass, SharedBook};
 use nm_topology::Topology;
 use std::alloc::Global;
 use std::marker::Brand;
@@ -58,26 +58,45 @@ fn finish<M: Naming + Send + Sync, E: Ledger + Send + Sync, R: Wait + Abort>(
     }
 }
 
-/// Replica 0 is told all and does its event: what it came to, and what it knows.
-fn first_of<M: Naming + Send + Sync, E: Ledger + Send + Sync, R: Wait + Abort>(
+/// Tells a replica all messages of its channel.
+fn tell_all<C: Counts, R: Wait + Abort>(
     rt: &R,
     alloc: Global,
-    topology: Arc<Topology>,
-    messages: Blank,
-    events: Blank,
-) -> (Finished, Knowledge)
-    requires messages { IsBlankOf M.name M.parts messages.name messages.parts }
-    requires events { IsBlankOf E.name E.parts events.name events.parts }
-    requires home { M.home ≡ home_at (arc_value topology) 1 0 }
-{
-    let shared = shared_of::<M, E, R>(rt, alloc, topology, 0, messages, events);
-    let mut pass = shared.pass(rt).expect(rt, "memory");
+    shared: &SharedBook<C>,
+    pass: &mut Pass<C>,
+) {
     let told = [
         message(rt, alloc, 1, 0, 1_100_000),
         ChannelMessage::Null(null(1, 1, 2_000_000)),
     ];
     for one in &told {
-        assert!(rt; shared.accept(rt, &mut pass, one).is_ok(), "it is taken");
+        assert!(rt; shared.accept(rt, pass, one).is_ok(), "it is taken");
+    }
+}
+
+/// A replica is told all, or merges what its sister knows, and does its event: what it came to, and
+/// what it knew before.
+fn made_of<M: Naming + Send + Sync, E: Ledger + Send + Sync, R: Wait + Abort>(
+    rt: &R,
+    alloc: Global,
+    topology: Arc<Topology>,
+    replica: u8,
+    sister: Option<&Knowledge>,
+    messages: Blank,
+    events: Blank,
+) -> (Finished, Knowledge)
+    requires messages { IsBlankOf M.name M.parts messages.name messages.parts }
+    requires events { IsBlankOf E.name E.parts events.name events.parts }
+    requires home { M.home ≡ home_at (arc_value topology) 1 replica }
+{
+    let shared = shared_of::<M, E, R>(rt, alloc, topology, replica, messages, events);
+    let mut pass = shared.pass(rt).expect(rt, "memory");
+    match sister {
+        None => tell_all(rt, alloc, &shared, &mut pass),
+        Some(knowledge) => {
+            let merge = Merge { alloc, knowledge };
+            assert!(rt; shared.act(rt, &mut pass, merge).is_ok(), "it is merged");
+        }
     }
     let knowledge = shared
         .act(rt, &mut pass, CopyKnowledge { alloc })
@@ -85,41 +104,28 @@ fn first_of<M: Naming + Send + Sync, E: Ledger + Send + Sync, R: Wait + Abort>(
     (finish(rt, alloc, shared, pass), knowledge)
 }
 
-/// Replica 1 is made, merges what its sister knows, and does its event: what it came to.
-fn second_of<M: Naming + Send + Sync, E: Ledger + Send + Sync, R: Wait + Abort>(
+/// The same of a replica of SPLIT's partition 1, with a name of its own.
+fn made<R: Wait + Abort>(
     rt: &R,
     alloc: Global,
-    topology: Arc<Topology>,
-    messages: Blank,
-    events: Blank,
-    knowledge: &Knowledge,
-) -> Finished
-    requires messages { IsBlankOf M.name M.parts messages.name messages.parts }
-    requires events { IsBlankOf E.name E.parts events.name events.parts }
-    requires home { M.home ≡ home_at (arc_value topology) 1 1 }
-{
-    let shared = shared_of::<M, E, R>(rt, alloc, topology, 1, messages, events);
-    let mut pass = shared.pass(rt).expect(rt, "memory");
-    let merge = Merge { alloc, knowledge };
-    assert!(rt; shared.act(rt, &mut pass, merge).is_ok(), "it is merged");
-    finish(rt, alloc, shared, pass)
-}
-
-/// Replica 0 of SPLIT's partition 1, with a name of its own.
-fn first<R: Wait + Abort>(rt: &R, alloc: Global, topology: Arc<Topology>) -> (Finished, Knowledge) {
+    topology: &Arc<Topology>,
+    replica: u8,
+    sister: Option<&Knowledge>,
+) -> (Finished, Knowledge) {
+    let topology = topology.clone().expect(rt, "memory");
     let (messages, events) = (Blank::new(PARTS), Blank::new(PARTS));
-    first_of::<Brand, Brand, R>(rt, alloc, topology, messages, events)
+    made_of::<Brand, Brand, R>(rt, alloc, topology, replica, sister, messages, events)
 }
 
-/// Replica 1 of it, with a name of its own.
-fn second<R: Wait + Abort>(
+/// Replica 1, made anew of what its sister knows: what it came to.
+fn made_anew<R: Wait + Abort>(
     rt: &R,
     alloc: Global,
-    topology: Arc<Topology>,
-    knowledge: &Knowledge,
+    topology: &Arc<Topology>,
+    sister: &Knowledge,
 ) -> Finished {
-    let (messages, events) = (Blank::new(PARTS), Blank::new(PARTS));
-    second_of::<Brand, Brand, R>(rt, alloc, topology, messages, events, knowledge)
+    let (finished, _) = made(rt, alloc, topology, 1, Some(sister));
+    finished
 }
 
 /// Whether two records are the same.
@@ -156,15 +162,10 @@ fn are_alike<R: Abort>(rt: &R, one: &Finished, other: &Finished) {
 fn a_replica_made_anew_does_what_its_sister_did(rt: HostRuntime) {
     let alloc = rt.alloc();
     let topology = topology_of(&rt, alloc, SPLIT);
-    let (one, knowledge) = first(&rt, alloc, topology.clone().expect(&rt, "memory"));
-    let early = second(
-        &rt,
-        alloc,
-        topology.clone().expect(&rt, "memory"),
-        &knowledge,
-    );
+    let (one, knowledge) = made(&rt, alloc, &topology, 0, None);
+    let early = made_anew(&rt, alloc, &topology, &knowledge);
     are_alike(&rt, &one, &early);
     drop(early);
-    let anew = second(&rt, alloc, topology, &knowledge);
+    let anew = made_anew(&rt, alloc, &topology, &knowledge);
     are_alike(&rt, &one, &anew);
 }

@@ -110,6 +110,19 @@ pub fn book_of<R: Abort>(
     SharedBook::new(alloc, topology, partition, replica, counts, whole).expect(rt, "a replica")
 }
 
+/// The replicas with these numbers of these partitions.
+pub fn books_of<R: Abort>(
+    rt: &R,
+    alloc: Global,
+    topology: &Arc<Topology>,
+    [one, other]: [(u32, u8); 2],
+) -> [SharedBook<Plain>; 2] {
+    [
+        book_of(rt, alloc, topology, one.0, one.1),
+        book_of(rt, alloc, topology, other.0, other.1),
+    ]
+}
+
 /// Serves a replica with what it holds. It does its events itself.
 fn serve_held<'x, N: Transport, R: Wait>(
     rt: &R,

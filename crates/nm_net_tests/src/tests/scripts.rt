@@ -1,8 +1,8 @@
 //! Replicas over transports that do what a script says: who speaks with them, and which calls fail.
 
-use crate::scripted::{Fails, NEVER, Scripted};
-use crate::sides::{Company, Noting, STAYS, serve, topology_of};
-use crate::talks::{Voice, digest_of, said_by};
+use crate::tests::scripted::{Fails, NEVER, Scripted};
+use crate::tests::sides::{Company, Noting, STAYS, serve, topology_of};
+use crate::tests::talks::{Voice, digest_of, said_by};
 use nm_fixtures::SPLIT;
 use nm_net::Served;
 use nm_net::limits::{LINGER_PERIODS, MAX_STRANGERS, SHORT_PERIODS, STRANGER_PERIODS};

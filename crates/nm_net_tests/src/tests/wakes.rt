@@ -1,6 +1,6 @@
 //! What ends the waits of a transport.
 
-use crate::sides::{ANY, listen, over_tcp};
+use crate::tests::sides::{ANY, listen, over_tcp};
 use mio::{Poll, Token, Waker};
 use nm_net::limits::PERIOD_MILLISECONDS;
 use nm_net::{TcpTransport, Transport, Waited};

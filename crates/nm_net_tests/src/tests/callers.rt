@@ -1,18 +1,18 @@
 //! Threads that tell one shared book the same.
 
-ghost use Rattle.std.specs.Prelude.{◌≡◌};
+ghost use Rattle.std.specs.Prelude.{◌≡◌, ◌^◌};
 ghost use Rattle.std.specs.Arc.{arc_value};
 ghost use Rattle.nm_shared.specs.Counted.{IsBlankOf};
 ghost use Rattle.nm_shared.specs.Known.{home_at};
 
-use crate::messages::{message, messages, null};
-use crate::sides::topology_of;
+use crate::tests::messages::{message, messages, null};
+use crate::tests::sides::topology_of;
 use nm_base::PartNo;
 use nm_book::ChannelMessage;
 use nm_fixtures::SPLIT;
 use nm_knowledge::Accepted;
 use nm_shared::counts::PARTS;
-use nm_shared::{Counts, Ledgers, Naming, Pass, PassesOut, SharedBook};
+use nm_shared::{Closed, Counts, Ledgers, Naming, Pass, PassesOut, SharedBook};
 use nm_topology::Topology;
 use std::alloc::Global;
 use std::marker::Brand;
@@ -121,6 +121,29 @@ fn hand_at_once<M: Naming + Send + Sync, E: Ledger + Send + Sync, R: Threads + W
     .expect(rt, "memory")
 }
 
+/// Closes a book with all its passes, of which the last comes late. It does not close without that
+/// one: all comes back, and nothing is lost.
+fn close_at_last<M: Naming + Send + Sync, E: Ledger + Send + Sync, R: Abort>(
+    rt: &R,
+    shared: SharedBook<Ledgers<M, E>>,
+    passes: Vec<Pass<Ledgers<M, E>>>,
+) -> Closed
+    requires { (M.parts ≡ 2 ^ 32) × (E.parts ≡ 2 ^ 32) }
+{
+    let mut passes = passes;
+    let late = passes.pop().expect(rt, "a pass");
+    let held_back = passes.len();
+    let Err(PassesOut { held, mut passes }) = shared.close(passes) else {
+        panic!(rt; "a pass is missing");
+    };
+    assert!(rt; passes.len() == held_back, "the others come back");
+    passes.push(late).expect(rt, "memory");
+    match SharedBook::again(held).close(passes) {
+        Ok(closed) => closed,
+        Err(_) => panic!(rt; "no pass is missing"),
+    }
+}
+
 /// So many threads hand one book the same messages.
 fn handed_by_many<
     M: Naming + Send + Sync,
@@ -143,13 +166,11 @@ fn handed_by_many<
     let told = hand_at_once(rt, alloc, &shared, threads, all);
     let mut passes = Vec::new(alloc);
     let handed = gather(rt, told, &mut passes);
-    match shared.close(passes) {
-        Ok(closed) => Handed {
-            messages: closed.messages,
-            events: closed.events,
-            ..handed
-        },
-        Err(_) => panic!(rt; "no pass is missing"),
+    let closed = close_at_last(rt, shared, passes);
+    Handed {
+        messages: closed.messages,
+        events: closed.events,
+        ..handed
     }
 }
 
@@ -182,52 +203,4 @@ fn each_message_is_new_once(rt: HostRuntime) {
     let handed = hands(&rt, rt.alloc(), 8, &all);
     assert!(rt; handed.new == 1_000 && handed.known == 7_000);
     assert!(rt; handed.messages == 1_000 && handed.events == 0);
-}
-
-/// A book with a message, whose second pass is held back: it does not close. Then the pass comes,
-/// and it closes: how many passes came back, and the book's totals.
-fn held_back_of<M: Naming + Send + Sync, E: Ledger + Send + Sync, R: Wait + Abort>(
-    rt: &R,
-    alloc: Global,
-    topology: Arc<Topology>,
-    messages: Blank,
-    events: Blank,
-    message: &ChannelMessage,
-) -> (usize, u64, u64)
-    requires messages { IsBlankOf M.name M.parts messages.name messages.parts }
-    requires events { IsBlankOf E.name E.parts events.name events.parts }
-    requires home { M.home ≡ home_at (arc_value topology) 1 0 }
-{
-    let shared = shared_of::<M, E, R>(rt, alloc, topology, 0, messages, events);
-    let mut one = shared.pass(rt).expect(rt, "memory");
-    let two = shared.pass(rt).expect(rt, "memory");
-    let told = shared.accept(rt, &mut one, message);
-    assert!(rt; told.is_ok(), "the message is the first");
-    let mut passes = Vec::new(alloc);
-    passes.push(one).expect(rt, "memory");
-    let Err(PassesOut { held, mut passes }) = shared.close(passes) else {
-        panic!(rt; "a pass is missing");
-    };
-    let back = passes.len();
-    passes.push(two).expect(rt, "memory");
-    match SharedBook::again(held).close(passes) {
-        Ok(closed) => (back, closed.messages, closed.events),
-        Err(_) => panic!(rt; "no pass is missing"),
-    }
-}
-
-/// Where a pass is missing all comes back, and nothing is lost.
-#[test]
-fn a_pass_held_back_is_missed(rt: HostRuntime) {
-    let topology = topology_of(&rt, rt.alloc(), SPLIT);
-    let message = message(&rt, rt.alloc(), 1, 0, 1_100_000);
-    let found = held_back_of::<Brand, Brand, _>(
-        &rt,
-        rt.alloc(),
-        topology,
-        Blank::new(PARTS),
-        Blank::new(PARTS),
-        &message,
-    );
-    assert!(rt; found == (1, 1, 0));
 }

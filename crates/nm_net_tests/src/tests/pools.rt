@@ -1,7 +1,7 @@
 //! The pool.
 
-use crate::messages::null;
-use crate::sides::{book_of, topology_of};
+use crate::tests::messages::null;
+use crate::tests::sides::{books_of, topology_of};
 use nm_book::{ChannelMessage, Ran};
 use nm_fixtures::RING;
 use nm_shared::{Gate, Job, OpenGate, Pass, Plain, SharedBook, pool};
@@ -83,10 +83,7 @@ fn is_limit(answer: &Ran, count: u64) -> bool {
 fn each_job_runs_its_book(rt: HostRuntime) {
     let alloc = rt.alloc();
     let topology = topology_of(&rt, alloc, RING);
-    let books = [
-        book_of(&rt, alloc, &topology, 0, 0),
-        book_of(&rt, alloc, &topology, 0, 1),
-    ];
+    let books = books_of(&rt, alloc, &topology, [(0, 0), (0, 1)]);
     for book in &books {
         let mut pass = book.pass(&rt).expect(&rt, "memory");
         tell_both(&rt, book, &mut pass);
@@ -107,10 +104,7 @@ fn each_job_runs_its_book(rt: HostRuntime) {
 fn pool_two_at_once(rt: HostRuntime) {
     let alloc = rt.alloc();
     let topology = topology_of(&rt, alloc, RING);
-    let books = [
-        book_of(&rt, alloc, &topology, 0, 0),
-        book_of(&rt, alloc, &topology, 1, 0),
-    ];
+    let books = books_of(&rt, alloc, &topology, [(0, 0), (1, 0)]);
     let mut pass = books[0].pass(&rt).expect(&rt, "memory");
     tell_both(&rt, &books[0], &mut pass);
     run_at_once(&rt, alloc, &books);

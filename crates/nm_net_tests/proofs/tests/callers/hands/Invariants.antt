@@ -1,6 +1,6 @@
 use Rattle.std.specs.Arc.{arc_value}
 use Rattle.nm_shared.specs.Known.{home_at}
-use Rattle.nm_net_tests.proofs.callers.hands.Given as goal
+use Rattle.nm_net_tests.proofs.tests.callers.hands.Given as goal
 
 abbrev pub ghosts-handed_by_many-M-Naming : goal.ghosts-handed_by_many-M-Naming
 ghosts-handed_by_many-M-Naming g a = record { home = home_at (arc_value a.topology) 1 0 }

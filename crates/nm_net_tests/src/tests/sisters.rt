@@ -4,9 +4,9 @@ ghost use Rattle.std.specs.Prelude.{All};
 ghost use Rattle.nm_files.specs.Files.{IsSound};
 ghost use Rattle.nm_shared.specs.Board.{IsOwnerOf};
 
-use crate::messages::{message, null};
-use crate::scripted::{NEVER, Scripted};
-use crate::sides::{Noting, book_of, caller, topology_of};
+use crate::tests::messages::{message, null};
+use crate::tests::scripted::{NEVER, Scripted};
+use crate::tests::sides::{Noting, books_of, caller, topology_of};
 use nm_base::{MemSink, PartNo};
 use nm_book::ChannelMessage;
 use nm_files::TraceFiles;
@@ -128,10 +128,7 @@ fn serve_both<R: Wait + Abort>(
 fn a_sister_is_merged(rt: HostRuntime) {
     let alloc = rt.alloc();
     let topology = topology_of(&rt, alloc, SPLIT);
-    let books = [
-        book_of(&rt, alloc, &topology, 1, 0),
-        book_of(&rt, alloc, &topology, 1, 1),
-    ];
+    let books = books_of(&rt, alloc, &topology, [(1, 0), (1, 1)]);
     assert!(rt; serve_both(&rt, alloc, &topology, &books) == Served::Ended);
     let mut pass = books[1].pass(&rt).expect(&rt, "memory");
     let standing = books[1].act(&rt, &mut pass, Stand);
