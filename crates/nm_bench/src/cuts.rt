@@ -4,13 +4,13 @@
 use crate::chance::Chance;
 use crate::cut_wire::{CutWire, cut_pipe};
 use crate::network::topology_at;
+use crate::shared::{Replica, replica_of};
 use nm_base::PartNo;
 use nm_book::Book;
 use nm_engine::{Acceptor, Link, ReadBuffer, Turn};
 use nm_frames::Session;
 use nm_rounds::CertFault;
 use nm_rounds::certify::certify;
-use nm_shared::{Pass, Plain, SharedBook};
 use nm_topology::Topology;
 use std::alloc::Global;
 use std::io::{Error, ErrorKind};
@@ -21,13 +21,6 @@ use std::sync::{Arc, Wait};
 const MAX_CONNECTIONS: u64 = 1_000;
 
 const MAX_TURNS: u64 = 500;
-
-/// A shared replica of one of two partitions.
-#[derive(Drop)]
-struct Replica {
-    book: SharedBook<Plain>,
-    pass: Pass<Plain>,
-}
 
 /// The links of a connection: that of partition 0, which connects, and that of partition 1.
 #[derive(Drop)]
@@ -53,20 +46,12 @@ struct Outcome {
     fault: Option<CertFault>,
 }
 
-/// Replica 0 of a partition.
-fn replica_of<R: Wait>(
-    rt: &R,
-    alloc: Global,
-    topology: &Arc<Topology>,
-    me: u32,
-) -> Result<Replica, Error> {
-    let (counts, whole) = Plain::open();
-    let shared = Arc::try_clone(topology)?;
-    let Ok(book) = SharedBook::new(alloc, shared, PartNo::new(me), 0, counts, whole) else {
-        return Err(ErrorKind::InvalidInput.into());
-    };
-    let pass = book.pass(rt)?;
-    Ok(Replica { book, pass })
+/// The replicas of both partitions of a topology.
+#[derive(Drop)]
+struct Pair {
+    topology: Arc<Topology>,
+    zero: Replica,
+    one: Replica,
 }
 
 impl Replica {
@@ -120,8 +105,7 @@ fn talk<R: Wait>(
     rt: &R,
     alloc: Global,
     chance: &mut Chance,
-    zero: &mut Replica,
-    one: &mut Replica,
+    pair: &mut Pair,
     links: &mut Links,
     buffer: &mut ReadBuffer,
 ) -> bool {
@@ -129,9 +113,9 @@ fn talk<R: Wait>(
     let mut second = Turn::Idle;
     for _ in 0..MAX_TURNS {
         if chance.once_in(2) {
-            first = zero.turn(rt, alloc, chance, &mut links.zero, buffer);
+            first = pair.zero.turn(rt, alloc, chance, &mut links.zero, buffer);
         } else {
-            second = one.turn(rt, alloc, chance, &mut links.one, buffer);
+            second = pair.one.turn(rt, alloc, chance, &mut links.one, buffer);
         }
         if first == Turn::Ended && second == Turn::Ended {
             return true;
@@ -152,15 +136,13 @@ fn is_over(turn: Turn) -> bool {
 fn connection<R: Wait>(
     rt: &R,
     alloc: Global,
-    topology: &Arc<Topology>,
     chance: &mut Chance,
-    zero: &mut Replica,
-    one: &mut Replica,
+    pair: &mut Pair,
     session: Session,
     buffer: &mut ReadBuffer,
 ) -> Result<Came, Error> {
-    let mut links = connect(alloc, topology, chance, session)?;
-    let ended = talk(rt, alloc, chance, zero, one, &mut links, buffer);
+    let mut links = connect(alloc, &pair.topology, chance, session)?;
+    let ended = talk(rt, alloc, chance, pair, &mut links, buffer);
     let Links { zero: link, one: _ } = links;
     let (_wire, session) = link.back();
     Ok(Came { session, ended })
@@ -179,15 +161,13 @@ fn broken(session: Option<Session>) -> Result<Session, Error> {
 fn converse<R: Wait>(
     rt: &R,
     alloc: Global,
-    topology: &Arc<Topology>,
     chance: &mut Chance,
-    zero: &mut Replica,
-    one: &mut Replica,
+    pair: &mut Pair,
     buffer: &mut ReadBuffer,
 ) -> Result<u64, Error> {
-    let mut session = Session::new(alloc, topology, PartNo::new(0), 0, PartNo::new(1))?;
+    let mut session = Session::new(alloc, &pair.topology, PartNo::new(0), 0, PartNo::new(1))?;
     for count in 0..MAX_CONNECTIONS {
-        let came = connection(rt, alloc, topology, chance, zero, one, session, buffer)?;
+        let came = connection(rt, alloc, chance, pair, session, buffer)?;
         if came.ended {
             return Ok(count + 1);
         }
@@ -205,31 +185,26 @@ fn outcome_of<R: Wait>(
     buffer: &mut ReadBuffer,
 ) -> Result<Outcome, Error> {
     let mut chance = Chance::new(seed);
-    let mut zero = replica_of(rt, alloc, topology, 0)?;
-    let mut one = replica_of(rt, alloc, topology, 1)?;
-    let connections = converse(
-        rt,
-        alloc,
-        topology,
-        &mut chance,
-        &mut zero,
-        &mut one,
-        buffer,
-    )?;
-    let fault = fault_of(alloc, topology, zero, one)?;
+    let mut pair = Pair {
+        topology: Arc::try_clone(topology)?,
+        zero: replica_of(rt, alloc, topology, 0)?,
+        one: replica_of(rt, alloc, topology, 1)?,
+    };
+    let connections = converse(rt, alloc, &mut chance, &mut pair, buffer)?;
+    let fault = fault_of(alloc, pair)?;
     Ok(Outcome { connections, fault })
 }
 
 /// Why the books of two replicas are not certified, if they are not.
-fn fault_of(
-    alloc: Global,
-    topology: &Topology,
-    zero: Replica,
-    one: Replica,
-) -> Result<Option<CertFault>, Error> {
+fn fault_of(alloc: Global, pair: Pair) -> Result<Option<CertFault>, Error> {
+    let Pair {
+        topology,
+        zero,
+        one,
+    } = pair;
     let zero = zero.into_book(alloc)?;
     let one = one.into_book(alloc)?;
-    Ok(certify(topology, &[&zero, &one]).err())
+    Ok(certify(&topology, &[&zero, &one]).err())
 }
 
 /// Does so with so many seeds, from one on, over the topology of a file with two partitions, and

@@ -1,40 +1,25 @@
 //! Two links of one thread: a replica tells another all its messages.
 
 use crate::pipes::{PipeWire, pipe};
+use crate::shared::{Replica, replica_of};
 use nm_base::{ChanNo, PartNo, Time};
 use nm_book::{ChannelMessage, Null};
 use nm_engine::{Link, ReadBuffer, Turn};
+use nm_fixtures::SPLIT;
 use nm_frames::Session;
-use nm_shared::{Pass, Plain, SharedBook};
 use nm_topology::Topology;
-use std::alloc::Global;
+use std::alloc::{AllocError, Global};
 use std::io::{Error, ErrorKind};
 use std::sync::{Arc, Wait};
-
-/// Two hosts in two partitions: the first sends 50,000 datagrams, of SIZE octets of data, to the
-/// second.
-const NETWORK: &str = r#"format = 1
-stop = 110000000000
-mtu = 1500
-node = [ {name = "a", kind = "host", partition = 0},
-  {name = "b", kind = "host", partition = 1, ports = [9]} ]
-iface = [ {name = "a0", node = "a", address = "10.0.0.1", queue = 4},
-  {name = "b0", node = "b", address = "10.0.0.2", queue = 4} ]
-link = [ {a = "a0", b = "b0", rate = 8000000, delay = 1000000} ]
-route = [ {node = "a", to = "10.0.0.0/24", via = "a0"} ]
-source = [
-  {kind = "cbr", node = "a", to = "10.0.0.2", sport = 1000, dport = 9, size = SIZE, start = 0, interval = 2000000, count = 50000} ]
-"#;
 
 /// A shared replica and a link of it.
 #[derive(Drop)]
 struct End {
-    book: SharedBook<Plain>,
-    pass: Pass<Plain>,
+    replica: Replica,
     link: Link<PipeWire>,
 }
 
-/// Replica 0 of one of the two partitions.
+/// Replica 0 of one of the two partitions, and its link.
 fn end_of<R: Wait>(
     rt: &R,
     alloc: Global,
@@ -44,14 +29,9 @@ fn end_of<R: Wait>(
 ) -> Result<End, Error> {
     let peer = PartNo::new(if me == 0 { 1 } else { 0 });
     let session = Session::new(alloc, topology, PartNo::new(me), 0, peer)?;
-    let (counts, whole) = Plain::open();
-    let shared = Arc::try_clone(topology)?;
-    let Ok(book) = SharedBook::new(alloc, shared, PartNo::new(me), 0, counts, whole) else {
-        return Err(ErrorKind::InvalidInput.into());
-    };
-    let pass = book.pass(rt)?;
+    let replica = replica_of(rt, alloc, topology, me)?;
     let link = Link::connected(alloc, wire, session);
-    Ok(End { book, pass, link })
+    Ok(End { replica, link })
 }
 
 impl End {
@@ -62,17 +42,16 @@ impl End {
             count: 0,
             clock: stop,
         });
-        let told = self.book.accept(rt, &mut self.pass, &null).is_ok();
-        let _ran = self.book.run(rt, &mut self.pass, alloc, u64::MAX);
+        let Replica { book, pass } = &mut self.replica;
+        let told = book.accept(rt, pass, &null).is_ok();
+        let _ran = book.run(rt, pass, alloc, u64::MAX);
         told
     }
 
     /// A turn: whether octets moved.
     fn turn<R: Wait>(&mut self, rt: &R, alloc: Global, buffer: &mut ReadBuffer) -> bool {
-        let turn = self
-            .link
-            .turn(rt, alloc, &self.book, &mut self.pass, buffer);
-        turn == Turn::Progress
+        let Replica { book, pass } = &mut self.replica;
+        self.link.turn(rt, alloc, book, pass, buffer) == Turn::Progress
     }
 }
 
@@ -86,7 +65,19 @@ fn talk<R: Wait>(rt: &R, alloc: Global, zero: &mut End, one: &mut End) -> Result
             break;
         }
     }
-    Ok(one.book.look(rt, &mut one.pass).messages)
+    let Replica { book, pass } = &mut one.replica;
+    Ok(book.look(rt, pass).messages)
+}
+
+/// The text of SPLIT, but that its source sends 50,000 datagrams, of so many octets of data.
+fn network_text(alloc: Global, size: &str) -> Result<String, AllocError> {
+    let sized = format!(in alloc; "size = {size}, start = 0, interval = 2000000, count = 50000")?;
+    let longer = SPLIT.replace(alloc, "stop = 10000000", "stop = 110000000000")?;
+    longer.as_str().replace(
+        alloc,
+        "size = 72, start = 0, interval = 1000000, count = 1",
+        sized.as_str(),
+    )
 }
 
 /// A replica of partition 0 is done, and tells one of partition 1 its messages, if it is to: how
@@ -97,7 +88,7 @@ pub(crate) fn messages_told<R: Wait>(
     size: &str,
     tells: bool,
 ) -> Result<u64, Error> {
-    let text = NETWORK.replace(alloc, "SIZE", size)?;
+    let text = network_text(alloc, size)?;
     let Ok(topology) = Topology::read(alloc, text.as_bytes()) else {
         return Err(ErrorKind::InvalidData.into());
     };

@@ -37,6 +37,7 @@ mod network;
 mod pipes;
 mod replica;
 mod rounds;
+mod shared;
 mod streams;
 mod turns;
 

@@ -58,6 +58,12 @@ outcome-bind (Ok x) c = refl
 outcome-bind (Err e) c = refl
 
 -- readings one after another, behind a test: the outcome of each but the last, and then the last
+pub two : {A B C : Type 0} (b : Bool) (p : Result A Refusal) (q : Result B Refusal) (c : A → B → C) (o : Result Unit Refusal) → outcome q ≡ o
+    → outcome (demand b UnknownKey >>= λ u. p >>= λ x. q >>= λ y. Ok (c x y)) ≡ (if b then (outcome p >>= λ u. o) else Err UnknownKey)
+two false p q c o e = refl
+two true (Err f) q c o e = refl
+two true (Ok x) q c o e = outcome-bind q (c x) ∙ e
+
 pub three : {A B C D : Type 0} (b : Bool) (p : Result A Refusal) (q : Result B Refusal) (r : Result C Refusal) (c : A → B → C → D) (o : Result Unit Refusal) → outcome r ≡ o
     → outcome (demand b UnknownKey >>= λ u. p >>= λ x. q >>= λ y. r >>= λ z. Ok (c x y z)) ≡ (if b then (outcome p >>= λ u. outcome q >>= λ u. o) else Err UnknownKey)
 three false p q r c o e = refl
@@ -99,6 +105,15 @@ six (Ok x) (Ok y) (Err f) s t v c o e = refl
 six (Ok x) (Ok y) (Ok z) (Err f) t v c o e = refl
 six (Ok x) (Ok y) (Ok z) (Ok w) (Err f) v c o e = refl
 six (Ok x) (Ok y) (Ok z) (Ok w) (Ok m) v c o e = outcome-bind v (c x y z w m) ∙ e
+
+-- the fields of a table, each of which is looked at for itself
+pub three-fields : {A B C D : Type 0} (b : Bool) (p : Result A Refusal) (q : Result B Refusal) (r : Result C Refusal) (c : A → B → C → D)
+    → outcome (demand b UnknownKey >>= λ u. p >>= λ x. q >>= λ y. r >>= λ z. Ok (c x y z)) ≡ (if b then (outcome p >>= λ u. outcome q >>= λ u. outcome r >>= λ u. Ok tt) else Err UnknownKey)
+three-fields b p q r c = three b p q r c (outcome r >>= λ u. Ok tt) (sym (bind-unit (outcome r)))
+
+pub four-fields : {A B C D E : Type 0} (b : Bool) (p : Result A Refusal) (q : Result B Refusal) (r : Result C Refusal) (s : Result D Refusal) (c : A → B → C → D → E)
+    → outcome (demand b UnknownKey >>= λ u. p >>= λ x. q >>= λ y. r >>= λ z. s >>= λ w. Ok (c x y z w)) ≡ (if b then (outcome p >>= λ u. outcome q >>= λ u. outcome r >>= λ u. outcome s >>= λ u. Ok tt) else Err UnknownKey)
+four-fields b p q r s c = four b p q r s c (outcome s >>= λ u. Ok tt) (sym (bind-unit (outcome s)))
 
 -- a number that may be absent
 pub outcome-optional : (absent least greatest : ℕ) (v : Option Data) → outcome (optional absent (number_in least greatest) v) ≡ outcome (optional 0 (number_in least greatest) v)

@@ -24,7 +24,8 @@ use Rattle.nm_topology.specs.Parse.Fields.{all_among, number_at, number_in, numb
 use Rattle.nm_topology.specs.Parse.Fields.{optional, required}
 use Rattle.nm_topology.specs.Parse.Fields.{some_number_at, some_number_in, text_at, value_at}
 use Rattle.nm_topology.specs.Parse.Forms.{name_of, node_kind_of, prefix_of, usable_address_of}
-use Rattle.nm_topology.specs.Parse.Sources.{cbr_of, echo_of, flow_of, packets_of, raw_of, source_by}
+use Rattle.nm_topology.specs.Parse.Sources.{cbr_of, echo_of, fields_of_kind, flow_of, packets_of}
+use Rattle.nm_topology.specs.Parse.Sources.{raw_of, source_by, named_traffic_of}
 use Rattle.nm_topology.specs.Parse.Sources.{source_kind_of, source_table_of}
 use Rattle.nm_topology.specs.Parse.SourceTableValue.{SourceTableValue}
 use Rattle.nm_topology.specs.Parse.Tables.{iface_fields, iface_keys, iface_table_of, link_table_of}
@@ -35,44 +36,39 @@ use Rattle.nm_topology.specs.declared.keys.array.Array.{Array}
 use Rattle.nm_topology.specs.declared.keys.array.Array.TheVariants as array
 use Rattle.nm_topology.specs.declared.keys.field.Field.{Field}
 use Rattle.nm_topology.specs.declared.keys.field.Form.TheVariants as form
-use Rattle.nm_topology.specs.declared.keys.fields.TheConstants.{CBR_TABLE, COUNT, DELAY, ECHO_TABLE}
+use Rattle.nm_topology.specs.declared.keys.fields.TheConstants.{CBR_TABLE, COUNT, DELAY}
 use Rattle.nm_topology.specs.declared.keys.fields.TheConstants.{FILL, IDENTIFIER, IFACE_TABLE_ONE}
 use Rattle.nm_topology.specs.declared.keys.fields.TheConstants.{IFACE_TABLE_TWO, INTERVAL, LINK_TABLE}
 use Rattle.nm_topology.specs.declared.keys.fields.TheConstants.{NODE_TABLE, PARTITION, PORT, QUEUE}
-use Rattle.nm_topology.specs.declared.keys.fields.TheConstants.{QUEUE_OCTETS, RATE, RAW_TABLE}
+use Rattle.nm_topology.specs.declared.keys.fields.TheConstants.{QUEUE_OCTETS, RATE}
 use Rattle.nm_topology.specs.declared.keys.fields.TheConstants.{ROUTE_TABLE, START, TTL}
 use Rattle.nm_topology.specs.declared.keys.key.TableKey.TheVariants as key
 use Rattle.nm_check.specs.Place.{fields_by_kind, item_of, or_spot, source_spot}
 use Rattle.nm_check.specs.Place.{spot_of}
 use Rattle.nm_check.specs.Reading.{or_else, outcome, refused_at, spot_in}
-use Rattle.nm_check.proofs.Steps.{absent, bind-unit, chain, five, four, outcome-optional}
-use Rattle.nm_check.proofs.Steps.{outcome-some_number, six, spot-chain, three}
+use Rattle.nm_check.proofs.Steps.{absent, bind-unit, chain, five, four, four-fields, outcome-optional}
+use Rattle.nm_check.proofs.Steps.{outcome-some_number, six, spot-chain, three, three-fields, two}
 
 pub node_table : (head : Head) (t : Members) → outcome (node_table_of t) ≡ refused_at (spot_in head NODE_TABLE t)
 unfolding node_table_of
 node_table head t =
     let ports = optional [] (array_of is_integer MAX_PORTS_OF_NODE (number_in PORT.least PORT.greatest)) (value_at key.Ports t) in
-    four (all_among (keys_of NODE_TABLE) t) (text_at name_of key.Name t) (text_at node_kind_of key.Kind t) (number_at key.Partition PARTITION t) ports
+    four-fields (all_among (keys_of NODE_TABLE) t) (text_at name_of key.Name t) (text_at node_kind_of key.Kind t) (number_at key.Partition PARTITION t) ports
     (λ name kind partition ports. let n : NodeTableValue = record { name = name; kind = kind; partition = partition; ports = ports } in n)
-    (outcome ports >>= λ u. Ok tt) (sym (bind-unit (outcome ports)))
     ∙ spot-chain head t NODE_TABLE
 
 pub link_table : (head : Head) (t : Members) → outcome (link_table_of t) ≡ refused_at (spot_in head LINK_TABLE t)
 unfolding link_table_of
 link_table head t =
-    let delay = number_at key.Delay DELAY t in
-    four (all_among (keys_of LINK_TABLE) t) (text_at name_of key.A t) (text_at name_of key.B t) (number_at key.Rate RATE t) delay
+    four-fields (all_among (keys_of LINK_TABLE) t) (text_at name_of key.A t) (text_at name_of key.B t) (number_at key.Rate RATE t) (number_at key.Delay DELAY t)
     (λ a b rate delay. let l : LinkTableValue = record { a = a; b = b; rate = rate; delay = delay } in l)
-    (outcome delay >>= λ u. Ok tt) (sym (bind-unit (outcome delay)))
     ∙ spot-chain head t LINK_TABLE
 
 pub route_table : (head : Head) (t : Members) → outcome (route_table_of t) ≡ refused_at (spot_in head ROUTE_TABLE t)
 unfolding route_table_of
 route_table head t =
-    let via = text_at name_of key.Via t in
-    three (all_among (keys_of ROUTE_TABLE) t) (text_at name_of key.Node t) (text_at prefix_of key.To t) via
+    three-fields (all_among (keys_of ROUTE_TABLE) t) (text_at name_of key.Node t) (text_at prefix_of key.To t) (text_at name_of key.Via t)
     (λ node to via. let r : RouteTableValue = record { node = node; to = to; via = via } in r)
-    (outcome via >>= λ u. Ok tt) (sym (bind-unit (outcome via)))
     ∙ spot-chain head t ROUTE_TABLE
 
 -- a table of `iface`, whose last field has this outcome where its keys are known
@@ -109,59 +105,42 @@ flow head t =
     (λ size fill start interval count ttl. let f : Flow = record { size = size; fill = fill; start = start; interval = interval; count = count; ttl = ttl } in f)
     (ttl >>= λ u. Ok tt) (outcome-optional 64 TTL.least TTL.greatest (value_at key.Ttl t) ∙ sym (bind-unit ttl))
 
--- the kind of a source that is read, and then its other fields
-kind-read : (head : Head) (t : Members) (known : Bool) (rest : Result Unit Refusal) → outcome (text_at source_kind_of key.Kind t) ≡ Ok tt
-    → (if known then rest else Err UnknownKey) ≡ (if known then (outcome (text_at source_kind_of key.Kind t) >>= λ u. rest) else Err UnknownKey)
-kind-read head t known rest e = ap (λ o. if known then (o >>= λ u. rest) else Err UnknownKey) (sym e)
-
-cbr_table : (head : Head) (t : Members) → outcome (text_at source_kind_of key.Kind t) ≡ Ok tt → outcome (cbr_of head.mtu t) ≡ refused_at (spot_in head CBR_TABLE t)
-unfolding cbr_of
-cbr_table head t kind =
-    let known = all_among (keys_of CBR_TABLE) t in
-    let node = text_at name_of key.Node t in
-    let to = text_at usable_address_of key.To t in
-    let source = number_at key.SourcePort PORT t in
-    let destination = number_at key.DestinationPort PORT t in
-    let rest = chain head t flow_fields in
-    five known node to source destination (flow_of head.mtu t)
-    (λ node to source destination flow. let s : SourceTableValue = record { node = node; traffic = NamedCbr (record { to = to; source_port = source; destination_port = destination; flow = flow }) } in s)
-    rest (λ among. flow head t)
-    ∙ kind-read head t known (outcome node >>= λ u. outcome to >>= λ u. outcome source >>= λ u. outcome destination >>= λ u. rest) kind
-    ∙ spot-chain head t CBR_TABLE
-
-echo_table : (head : Head) (t : Members) → outcome (text_at source_kind_of key.Kind t) ≡ Ok tt → outcome (echo_of head.mtu t) ≡ refused_at (spot_in head ECHO_TABLE t)
-unfolding echo_of
-echo_table head t kind =
-    let known = all_among (keys_of ECHO_TABLE) t in
-    let node = text_at name_of key.Node t in
-    let to = text_at usable_address_of key.To t in
-    let identifier = number_at key.Identifier IDENTIFIER t in
-    let rest = chain head t flow_fields in
-    four known node to identifier (flow_of head.mtu t)
-    (λ node to identifier flow. let s : SourceTableValue = record { node = node; traffic = NamedEcho (record { to = to; identifier = identifier; flow = flow }) } in s)
-    rest (flow head t)
-    ∙ kind-read head t known (outcome node >>= λ u. outcome to >>= λ u. outcome identifier >>= λ u. rest) kind
-    ∙ spot-chain head t ECHO_TABLE
-
-raw_table : (head : Head) (t : Members) → outcome (text_at source_kind_of key.Kind t) ≡ Ok tt → outcome (raw_of head.mtu t) ≡ refused_at (spot_in head RAW_TABLE t)
-unfolding raw_of
-raw_table head t kind =
-    let known = all_among (keys_of RAW_TABLE) t in
-    let node = text_at name_of key.Node t in
-    let via = text_at name_of key.Via t in
+-- what is read of a source behind its kind and its node
+traffic : (head : Head) (t : Members) (kind : SourceKind) → outcome (named_traffic_of kind head.mtu t) ≡ chain head t (drop 2 (fields_of_kind kind))
+unfolding cbr_of echo_of raw_of
+traffic head t CbrKind =
+    four true (text_at usable_address_of key.To t) (number_at key.SourcePort PORT t) (number_at key.DestinationPort PORT t) (flow_of head.mtu t)
+    (λ to source destination flow. NamedCbr (record { to = to; source_port = source; destination_port = destination; flow = flow }))
+    (chain head t flow_fields) (flow head t)
+traffic head t EchoKind =
+    three true (text_at usable_address_of key.To t) (number_at key.Identifier IDENTIFIER t) (flow_of head.mtu t)
+    (λ to identifier flow. NamedEcho (record { to = to; identifier = identifier; flow = flow }))
+    (chain head t flow_fields) (flow head t)
+traffic head t RawKind =
     let packets = required (packets_of head.mtu) (value_at key.Packet t) in
-    let rest = outcome packets >>= λ u. Ok tt in
-    three known node via packets
-    (λ node via packets. let s : SourceTableValue = record { node = node; traffic = NamedRaw (record { via = via; packets = packets }) } in s)
-    rest (sym (bind-unit (outcome packets)))
-    ∙ kind-read head t known (outcome node >>= λ u. outcome via >>= λ u. rest) kind
-    ∙ spot-chain head t RAW_TABLE
+    two true (text_at name_of key.Via t) packets (λ via packets. NamedRaw (record { via = via; packets = packets }))
+    (outcome packets >>= λ u. Ok tt) (sym (bind-unit (outcome packets)))
+
+-- the fields of a source: its kind, its node, and the others
+source_chain : (head : Head) (t : Members) (kind : SourceKind) → chain head t (fields_of_kind kind)
+    ≡ (outcome (text_at source_kind_of key.Kind t) >>= λ u. outcome (text_at name_of key.Node t) >>= λ u. chain head t (drop 2 (fields_of_kind kind)))
+source_chain head t CbrKind = refl
+source_chain head t EchoKind = refl
+source_chain head t RawKind = refl
 
 -- a source, by what stands at its kind
 by_kind : (head : Head) (t : Members) (r : Result SourceKind Refusal) → text_at source_kind_of key.Kind t ≡ r → outcome (r >>= λ kind. source_by kind head.mtu t) ≡ refused_at (or_spot (or_else source_kind (outcome r) None) (spot_in head (fields_by_kind r) t))
-by_kind head t (Ok CbrKind) e = cbr_table head t (ap outcome e)
-by_kind head t (Ok EchoKind) e = echo_table head t (ap outcome e)
-by_kind head t (Ok RawKind) e = raw_table head t (ap outcome e)
+by_kind head t (Ok kind) e =
+    let known = all_among (keys_of (fields_of_kind kind)) t in
+    let node = text_at name_of key.Node t in
+    let rest = chain head t (drop 2 (fields_of_kind kind)) in
+    let read : (outcome node >>= λ u. rest) ≡ chain head t (fields_of_kind kind) =
+    ap (λ o. o >>= λ u. outcome node >>= λ u. rest) (sym (ap outcome e)) ∙ sym (source_chain head t kind) in
+    two known node (named_traffic_of kind head.mtu t)
+    (λ node traffic. let s : SourceTableValue = record { node = node; traffic = traffic } in s)
+    rest (traffic head t kind)
+    ∙ ap (λ o. if known then o else Err UnknownKey) read
+    ∙ spot-chain head t (fields_of_kind kind)
 by_kind head t (Err r) e = refl
 
 pub source_table : (head : Head) (t : Members) → outcome (source_table_of head.mtu t) ≡ refused_at (source_spot head t)

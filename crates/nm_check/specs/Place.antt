@@ -9,19 +9,16 @@ use Rattle.nm_topology.specs.declared.parse.head.Format.{Format}
 use Rattle.nm_topology.specs.declared.parse.head.Format.TheVariants.{One, Two}
 use Rattle.nm_topology.specs.declared.parse.head.Head.{Head}
 use Rattle.nm_topology.specs.declared.parse.sources.SourceKind.{SourceKind}
-use Rattle.nm_topology.specs.declared.parse.sources.SourceKind.TheVariants.{Cbr as CbrKind}
-use Rattle.nm_topology.specs.declared.parse.sources.SourceKind.TheVariants.{Echo as EchoKind}
-use Rattle.nm_topology.specs.declared.parse.sources.SourceKind.TheVariants.{Raw as RawKind}
 use Rattle.nm_topology.specs.Parse.Arrays.{all_fit, count, in_table, is_table}
 use Rattle.nm_topology.specs.Parse.Fields.{all_among, number_at, text_at, value_at}
-use Rattle.nm_topology.specs.Parse.Sources.{source_kind_of, source_table_of}
+use Rattle.nm_topology.specs.Parse.Sources.{fields_of_kind, source_kind_of, source_table_of}
 use Rattle.nm_topology.specs.Parse.Tables.{iface_fields, iface_table_of, link_table_of}
 use Rattle.nm_topology.specs.Parse.Tables.{node_table_of}
 use Rattle.nm_topology.specs.Parse.Tables.{route_table_of}
 use Rattle.nm_topology.specs.declared.keys.array.Array.{Array}
 use Rattle.nm_topology.specs.declared.keys.array.Array.TheVariants as array
 use Rattle.nm_topology.specs.declared.keys.field.Field.{Field}
-use Rattle.nm_topology.specs.declared.keys.fields.TheConstants.{ARRAYS, CBR_TABLE, ECHO_TABLE, FORMAT}
+use Rattle.nm_topology.specs.declared.keys.fields.TheConstants.{ARRAYS, FORMAT}
 use Rattle.nm_topology.specs.declared.keys.fields.TheConstants.{HEAD, KIND_OF_SOURCE, LINK_TABLE}
 use Rattle.nm_topology.specs.declared.keys.fields.TheConstants.{MTU, NODE_TABLE, RAW_TABLE}
 use Rattle.nm_topology.specs.declared.keys.fields.TheConstants.{ROUTE_TABLE, TOP_TABLE}
@@ -41,9 +38,7 @@ use Rattle.nm_check.specs.Reading.{first_fault, outcome, spot_in, spot_refusal}
 
 -- the fields of a table of `source`, by its kind
 abbrev pub fields_by_kind : Result SourceKind Refusal → List Field
-fields_by_kind (Ok CbrKind) = CBR_TABLE
-fields_by_kind (Ok EchoKind) = ECHO_TABLE
-fields_by_kind (Ok RawKind) = RAW_TABLE
+fields_by_kind (Ok kind) = fields_of_kind kind
 fields_by_kind (Err r) = RAW_TABLE
 
 abbrev pub source_fields : Members → List Field

@@ -27,132 +27,110 @@ pub struct Lacking {
     pub lack: Lack,
 }
 
-/// What a table of `iface` lacks.
-fn iface_lack(nodes: &Names, table: &IfaceTable) -> Option<Lack> {
-    match nodes.number(table.node.as_str()) {
-        Ok(_) => None,
-        Err(_) => Some(Lack::Node),
+/// The number of the node of this name.
+fn node_number(nodes: &Names, name: &str) -> Result<u32, Lack> {
+    match nodes.number(name) {
+        Ok(node) => Ok(node),
+        Err(_) => Err(Lack::Node),
     }
 }
 
-/// What a table of `link` lacks.
-fn link_lack(ifaces: &Names, table: &LinkTable) -> Option<Lack> {
-    if ifaces.number(table.a.as_str()).is_err() {
-        return Some(Lack::Iface(TableKey::A));
+/// The number of the interface of the name at this key.
+fn iface_number(ifaces: &Names, key: TableKey, name: &str) -> Result<u32, Lack> {
+    match ifaces.number(name) {
+        Ok(iface) => Ok(iface),
+        Err(_) => Err(Lack::Iface(key)),
     }
-    if ifaces.number(table.b.as_str()).is_err() {
-        return Some(Lack::Iface(TableKey::B));
-    }
-    None
 }
 
-/// What a node lacks, from which packets leave by an interface.
-fn via_lack(ifaces: &Names, owners: &[NodeNo], node: u32, via: &str) -> Option<Lack> {
-    let Ok(iface) = ifaces.number(via) else {
-        return Some(Lack::Iface(TableKey::Via));
-    };
+/// The interface of this name, by which packets leave this node, is one of its own.
+fn look_up_via(ifaces: &Names, owners: &[NodeNo], node: u32, name: &str) -> Result<(), Lack> {
+    let iface = iface_number(ifaces, TableKey::Via, name)?;
     match owners.get(iface as usize) {
-        Some(owner) if owner.number() == node => None,
-        _ => Some(Lack::Own),
+        Some(owner) if owner.number() == node => Ok(()),
+        _ => Err(Lack::Own),
     }
 }
 
-/// What a table of `route` lacks.
-fn route_lack(
-    nodes: &Names,
-    ifaces: &Names,
-    owners: &[NodeNo],
-    table: &RouteTable,
-) -> Option<Lack> {
-    let Ok(node) = nodes.number(table.node.as_str()) else {
-        return Some(Lack::Node);
-    };
-    via_lack(ifaces, owners, node, table.via.as_str())
+/// A table that names others.
+pub trait LooksUp {
+    /// The array that the table is a member of.
+    fn array() -> Array;
+
+    /// All that the table names is there, among these nodes and interfaces; and the interface by
+    /// which packets leave a node is its own, as their owners say.
+    ///
+    /// # Errors
+    ///
+    /// The first that is not.
+    fn look_up(&self, nodes: &Names, ifaces: &Names, owners: &[NodeNo]) -> Result<(), Lack>;
 }
 
-/// What a table of `source` lacks.
-fn source_lack(
-    nodes: &Names,
-    ifaces: &Names,
-    owners: &[NodeNo],
-    table: &SourceTable,
-) -> Option<Lack> {
-    let Ok(node) = nodes.number(table.node.as_str()) else {
-        return Some(Lack::Node);
-    };
-    match &table.traffic {
-        NamedTraffic::Raw(raw) => via_lack(ifaces, owners, node, raw.via.as_str()),
-        _ => None,
+impl LooksUp for IfaceTable {
+    fn array() -> Array {
+        Array::Iface
+    }
+
+    fn look_up(&self, nodes: &Names, _ifaces: &Names, _owners: &[NodeNo]) -> Result<(), Lack> {
+        let _node = node_number(nodes, self.node.as_str())?;
+        Ok(())
     }
 }
 
-/// Appends the table of this number, if it lacks something.
-fn push_lacking(
-    all: &mut Vec<Lacking>,
-    array: Array,
-    number: usize,
-    lack: Option<Lack>,
-) -> Appended {
-    if let Some(lack) = lack {
-        all.push(Lacking {
-            array,
-            number,
-            lack,
-        })?;
+impl LooksUp for LinkTable {
+    fn array() -> Array {
+        Array::Link
     }
-    Ok(())
+
+    fn look_up(&self, _nodes: &Names, ifaces: &Names, _owners: &[NodeNo]) -> Result<(), Lack> {
+        let _a = iface_number(ifaces, TableKey::A, self.a.as_str())?;
+        let _b = iface_number(ifaces, TableKey::B, self.b.as_str())?;
+        Ok(())
+    }
 }
 
-/// Appends the tables of `iface` that lack something.
-pub fn push_ifaces(all: &mut Vec<Lacking>, nodes: &Names, tables: &[IfaceTable]) -> Appended {
-    for (number, table) in tables.iter().enumerate() {
-        push_lacking(all, Array::Iface, number, iface_lack(nodes, table))?;
+impl LooksUp for RouteTable {
+    fn array() -> Array {
+        Array::Route
     }
-    Ok(())
+
+    fn look_up(&self, nodes: &Names, ifaces: &Names, owners: &[NodeNo]) -> Result<(), Lack> {
+        let node = node_number(nodes, self.node.as_str())?;
+        look_up_via(ifaces, owners, node, self.via.as_str())
+    }
 }
 
-/// Appends the tables of `link` that lack something.
-pub fn push_links(all: &mut Vec<Lacking>, ifaces: &Names, tables: &[LinkTable]) -> Appended {
-    for (number, table) in tables.iter().enumerate() {
-        push_lacking(all, Array::Link, number, link_lack(ifaces, table))?;
+impl LooksUp for SourceTable {
+    fn array() -> Array {
+        Array::Source
     }
-    Ok(())
+
+    fn look_up(&self, nodes: &Names, ifaces: &Names, owners: &[NodeNo]) -> Result<(), Lack> {
+        let node = node_number(nodes, self.node.as_str())?;
+        match &self.traffic {
+            NamedTraffic::Raw(raw) => look_up_via(ifaces, owners, node, raw.via.as_str()),
+            _ => Ok(()),
+        }
+    }
 }
 
-/// Appends the tables of `route` that lack something.
-pub fn push_routes(
-    all: &mut Vec<Lacking>,
-    nodes: &Names,
-    ifaces: &Names,
-    owners: &[NodeNo],
-    tables: &[RouteTable],
-) -> Appended {
-    for (number, table) in tables.iter().enumerate() {
-        push_lacking(
-            all,
-            Array::Route,
-            number,
-            route_lack(nodes, ifaces, owners, table),
-        )?;
-    }
-    Ok(())
-}
-
-/// Appends the tables of `source` that lack something.
-pub fn push_sources(
+/// Appends the tables of an array that lack something.
+pub fn push_lacking<T: LooksUp>(
     all: &mut Vec<Lacking>,
     nodes: &Names,
     ifaces: &Names,
     owners: &[NodeNo],
-    tables: &[SourceTable],
+    tables: &[T],
 ) -> Appended {
     for (number, table) in tables.iter().enumerate() {
-        push_lacking(
-            all,
-            Array::Source,
-            number,
-            source_lack(nodes, ifaces, owners, table),
-        )?;
+        if let Err(lack) = table.look_up(nodes, ifaces, owners) {
+            let array = T::array();
+            all.push(Lacking {
+                array,
+                number,
+                lack,
+            })?;
+        }
     }
     Ok(())
 }

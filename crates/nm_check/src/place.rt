@@ -22,14 +22,14 @@ use nm_topology::TopoFault;
 use nm_topology::keys::array::Array;
 use nm_topology::keys::field::{Bounds, Field, Form};
 use nm_topology::keys::fields::{
-    ARRAYS, CBR_TABLE, ECHO_TABLE, FORMAT, HEAD, IFACE_TABLE_ONE, IFACE_TABLE_TWO, KIND_OF_SOURCE,
-    LINK_TABLE, MTU, NODE_TABLE, RAW_TABLE, ROUTE_TABLE, TOP_TABLE,
+    ARRAYS, FORMAT, HEAD, IFACE_TABLE_ONE, IFACE_TABLE_TWO, KIND_OF_SOURCE, LINK_TABLE, MTU,
+    NODE_TABLE, RAW_TABLE, ROUTE_TABLE, TOP_TABLE,
 };
 use nm_topology::keys::key::TableKey;
 use nm_topology::parse::arrays::all_fit;
 use nm_topology::parse::fields::{field, required_number};
 use nm_topology::parse::head::{Format, Head};
-use nm_topology::parse::sources::{SourceKind, SourceTable, required_source_kind};
+use nm_topology::parse::sources::{SourceTable, required_source_kind};
 use nm_topology::parse::tables::{IfaceTable, LinkTable, NodeTable, RouteTable};
 use std::alloc::{AllocError, Global};
 use toml::{Table, Value};
@@ -114,10 +114,9 @@ fn source_fields(table: &Table) -> Result<&'static [Field], AllocError>
     ensures { IfOk result (λ fields. fields.now ≡ source_fields (table_view table.now)) }
 {
     match required_source_kind(table, TableKey::Kind) {
-        Ok(SourceKind::Cbr) => Ok(&CBR_TABLE),
-        Ok(SourceKind::Echo) => Ok(&ECHO_TABLE),
+        Ok(kind) => Ok(kind.fields()),
         Err(TopoFault::Memory) => Err(AllocError),
-        _ => Ok(&RAW_TABLE),
+        Err(TopoFault::Refused(_)) => Ok(&RAW_TABLE),
     }
 }
 

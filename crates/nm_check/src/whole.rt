@@ -8,7 +8,7 @@ ghost use Rattle.nm_topology.specs.Validate.{route_key};
 ghost use Rattle.nm_check.specs.Doubles.{IsFirstDouble, same_key};
 
 use crate::doubles::{Double, first_double};
-use crate::lack::{Lacking, push_ifaces, push_links, push_routes, push_sources};
+use crate::lack::{Lacking, push_lacking};
 use crate::names::double_name;
 use nm_base::limits::{MAX_CHANNELS, MAX_ROUTES_OF_NODE};
 use nm_base::{IfaceNo, NodeNo, PartNo};
@@ -81,17 +81,6 @@ fn names_fault(alloc: Global, document: &Document) -> Looked {
     Ok(None)
 }
 
-/// The interfaces whose node is not there.
-fn ifaces_lacking(
-    alloc: Global,
-    nodes: &Names,
-    document: &Document,
-) -> Result<Vec<Lacking>, AllocError> {
-    let mut all = Vec::new(alloc);
-    push_ifaces(&mut all, nodes, &document.ifaces)?;
-    Ok(all)
-}
-
 /// The links, routes and sources that name what is not there.
 fn others_lacking(
     alloc: Global,
@@ -101,9 +90,9 @@ fn others_lacking(
     document: &Document,
 ) -> Result<Vec<Lacking>, AllocError> {
     let mut all = Vec::new(alloc);
-    push_links(&mut all, ifaces, &document.links)?;
-    push_routes(&mut all, nodes, ifaces, owners, &document.routes)?;
-    push_sources(&mut all, nodes, ifaces, owners, &document.sources)?;
+    push_lacking(&mut all, nodes, ifaces, owners, &document.links)?;
+    push_lacking(&mut all, nodes, ifaces, owners, &document.routes)?;
+    push_lacking(&mut all, nodes, ifaces, owners, &document.sources)?;
     Ok(all)
 }
 
@@ -122,7 +111,8 @@ fn named_fault(alloc: Global, nodes: &Names, ifaces: &Names, document: &Document
     requires nodes { length nodes.now ≡ length document.now.nodes }
     requires ifaces { length ifaces.now ≡ length document.now.ifaces }
 {
-    let lacking = ifaces_lacking(alloc, nodes, document)?;
+    let mut lacking = Vec::new(alloc);
+    push_lacking(&mut lacking, nodes, ifaces, &[], &document.ifaces)?;
     if !lacking.is_empty() {
         return Ok(Some(WholeFault::NoSuch(lacking)));
     }

@@ -1,6 +1,6 @@
 //! What each step does.
 
-ghost use Rattle.std.specs.Prelude.{◌≡◌, List};
+ghost use Rattle.std.specs.Prelude.{◌≡◌, ◌++◌, ◌∷◌, [], List, OnErr, OnOk};
 ghost use Rattle.std.specs.Arc.{arc_value};
 ghost use Rattle.nm_book.specs.Book.{is_outgoing, null_on, only_if};
 ghost use Rattle.nm_book.specs.declared.message.ChannelMessage.{ChannelMessage as Message};
@@ -23,7 +23,7 @@ use nm_topology::Topology;
 use nm_topology::topology::{
     accepted_topologies_are_in_order, channels_are_numbered_by_their_receivers,
 };
-use std::alloc::Global;
+use std::alloc::{AllocError, Global};
 use std::sync::Arc;
 
 /// A replica runs.
@@ -49,6 +49,15 @@ pub(crate) fn run(
     }
 }
 
+/// Puts a frame behind all that were sent.
+fn put(bag: &mut Vec<ChannelMessage>, frame: ChannelMessage) -> Result<(), AllocError>
+    ensures ok { OnOk result (bag.new.items ≡ bag.old.items ++ frame ∷ []) }
+    ensures err { OnErr result (bag.new.items ≡ bag.old.items) }
+{
+    bag.push(frame)?;
+    Ok(())
+}
+
 /// A replica sends one message.
 pub(crate) fn send(
     topology: &Topology,
@@ -69,7 +78,7 @@ pub(crate) fn send(
     let Some(message) = books[place].data(channel, number)? else {
         return Err(Stop::NoSuch);
     };
-    bag.push(ChannelMessage::Data(message))?;
+    put(bag, ChannelMessage::Data(message))?;
     Ok(StepAnswer::Frames(1))
 }
 
@@ -143,7 +152,7 @@ pub(crate) fn send_null(
     let Some(null) = null_with(&books[place], promise, channel) else {
         return Err(Stop::NoSuch);
     };
-    bag.push(ChannelMessage::Null(null))?;
+    put(bag, ChannelMessage::Null(null))?;
     Ok(StepAnswer::Frames(1))
 }
 

@@ -15,7 +15,7 @@ use nm_base::limits::MAX_REPLICAS;
 use nm_book::{Book, BookFault, ChannelMessage};
 use nm_topology::Topology;
 use nm_topology::topology::accepted_topologies_are_in_order;
-use std::alloc::{AllocError, AllocFailed, Global};
+use std::alloc::{AllocError, Global};
 use std::sync::Arc;
 
 /// Why a step was not done.
@@ -31,14 +31,6 @@ impl From<AllocError> for Stop {
     ghost from_gives = { λ _ f. f ≡ Memory };
 
     fn from(_: AllocError) -> Self {
-        Stop::Memory
-    }
-}
-
-impl<T: Drop> From<AllocFailed<T>> for Stop {
-    ghost from_gives = { λ _ f. f ≡ Memory };
-
-    fn from(_: AllocFailed<T>) -> Self {
         Stop::Memory
     }
 }

@@ -6,26 +6,4 @@
 #![tactic(auto)]
 
 #[cfg(test)]
-mod base;
-#[cfg(test)]
-mod events;
-#[cfg(test)]
-mod faults;
-#[cfg(test)]
-mod forward;
-#[cfg(test)]
-mod iface;
-#[cfg(test)]
-mod memory;
-#[cfg(test)]
-mod packet;
-#[cfg(test)]
-mod pcap;
-#[cfg(test)]
-mod same;
-#[cfg(test)]
-mod texts;
-#[cfg(test)]
-mod topology;
-#[cfg(test)]
-mod traffic;
+mod tests;

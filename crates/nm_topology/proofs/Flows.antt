@@ -10,12 +10,13 @@ use Rattle.toml.specs.Data.{Data, string, array, Items, no_items, item, Members}
 use Rattle.nm_base.specs.declared.limits.TheConstants.{MAX_RAW_PACKETS, MAX_TIME}
 use Rattle.nm_topology.specs.declared.fault.Refusal.{Refusal}
 use Rattle.nm_topology.specs.declared.fault.Refusal.TheVariants.{Kind, TooMany}
-use Rattle.nm_topology.specs.declared.keys.fields.TheConstants.{CBR_TABLE, COUNT, ECHO_TABLE, FILL}
+use Rattle.nm_topology.specs.declared.keys.fields.TheConstants.{COUNT, FILL}
 use Rattle.nm_topology.specs.declared.keys.fields.TheConstants.{IDENTIFIER, INTERVAL, PORT}
-use Rattle.nm_topology.specs.declared.keys.fields.TheConstants.{RAW_TABLE, START, TTL}
+use Rattle.nm_topology.specs.declared.keys.fields.TheConstants.{START, TTL}
 use Rattle.nm_topology.specs.declared.keys.key.TableKey.TheVariants as key
 use Rattle.nm_topology.specs.declared.traffic.Flow.{Flow}
 use Rattle.nm_topology.specs.declared.traffic.RawPacket.{RawPacket}
+use Rattle.nm_topology.specs.declared.parse.sources.NamedTraffic.{NamedTraffic}
 use Rattle.nm_topology.specs.declared.parse.sources.NamedTraffic.TheVariants.{Cbr as NamedCbr}
 use Rattle.nm_topology.specs.declared.parse.sources.NamedTraffic.TheVariants.{Echo as NamedEcho}
 use Rattle.nm_topology.specs.declared.parse.sources.NamedTraffic.TheVariants.{Raw as NamedRaw}
@@ -31,7 +32,7 @@ use Rattle.nm_topology.specs.Parse.Forms.{name_of, usable_address_of}
 use Rattle.nm_topology.specs.Parse.SourceTableValue.{SourceTableValue}
 use Rattle.nm_topology.specs.Parse.Sources.{decoded, octets_of, packet_of, packets_from, packets_of}
 use Rattle.nm_topology.specs.Parse.Sources.{flow_of, cbr_of, echo_of, raw_of}
-use Rattle.nm_topology.specs.Parse.Sources.{source_kind_of, source_by, source_table_of}
+use Rattle.nm_topology.specs.Parse.Sources.{fields_of_kind, source_kind_of, source_by, source_table_of, named_traffic_of}
 use Rattle.nm_topology.specs.Limits.{FitsFlow, AreRising, FitsPackets}
 use Rattle.nm_topology.specs.Parse.Ranges.{FitsNamedTraffic}
 use Rattle.nm_topology.proofs.Steps.{step, required-within, optional-within, required-holds}
@@ -108,59 +109,57 @@ flow-fits mtu t f room e =
     let ttl = optional-within 64 TTL.least TTL.greatest f.ttl (value_at key.Ttl t) (omega arith) (omega arith) read.4 in
     (omega (arith, size.1, room), start.1, interval.0, interval.1, count.1, ttl.0)
 
-cbr-read : (mtu : ℕ) (known : Result Unit Refusal) (node : Result (List ℕ) Refusal) (to source destination : Result ℕ Refusal) (flow : Result Flow Refusal) (s : SourceTableValue) → ((f : Flow) → flow ≡ Ok f → FitsFlow mtu f) → (known >>= λ k. node >>= λ n. to >>= λ a. source >>= λ b. destination >>= λ c. flow >>= λ f. Ok (record { node = n; traffic = NamedCbr (record { to = a; source_port = b; destination_port = c; flow = f }) })) ≡ Ok s → FitsNamedTraffic mtu s.traffic
+cbr-read : (mtu : ℕ) (to source destination : Result ℕ Refusal) (flow : Result Flow Refusal) (n : NamedTraffic) → ((f : Flow) → flow ≡ Ok f → FitsFlow mtu f) → (to >>= λ a. source >>= λ b. destination >>= λ c. flow >>= λ f. Ok (NamedCbr (record { to = a; source_port = b; destination_port = c; flow = f }))) ≡ Ok n → FitsNamedTraffic mtu n
 unfolding FitsNamedTraffic
-cbr-read mtu (Ok k) (Ok n) (Ok a) (Ok b) (Ok c) (Ok f) s h e =
-    let table : NamedCbr (record { to = a; source_port = b; destination_port = c; flow = f }) ≡ s.traffic = cc in
-    subst (FitsNamedTraffic mtu) table (h f refl)
-cbr-read mtu (Ok k) (Ok n) (Ok a) (Ok b) (Ok c) (Err r) s h e = cc
-cbr-read mtu (Ok k) (Ok n) (Ok a) (Ok b) (Err r) flow s h e = cc
-cbr-read mtu (Ok k) (Ok n) (Ok a) (Err r) destination flow s h e = cc
-cbr-read mtu (Ok k) (Ok n) (Err r) source destination flow s h e = cc
-cbr-read mtu (Ok k) (Err r) to source destination flow s h e = cc
-cbr-read mtu (Err r) node to source destination flow s h e = cc
+cbr-read mtu (Ok a) (Ok b) (Ok c) (Ok f) n h e =
+    let traffic : NamedCbr (record { to = a; source_port = b; destination_port = c; flow = f }) ≡ n = cc in
+    subst (FitsNamedTraffic mtu) traffic (h f refl)
+cbr-read mtu (Ok a) (Ok b) (Ok c) (Err r) n h e = cc
+cbr-read mtu (Ok a) (Ok b) (Err r) flow n h e = cc
+cbr-read mtu (Ok a) (Err r) destination flow n h e = cc
+cbr-read mtu (Err r) source destination flow n h e = cc
 
-echo-read : (mtu : ℕ) (known : Result Unit Refusal) (node : Result (List ℕ) Refusal) (to identifier : Result ℕ Refusal) (flow : Result Flow Refusal) (s : SourceTableValue) → ((f : Flow) → flow ≡ Ok f → FitsFlow mtu f) → (known >>= λ k. node >>= λ n. to >>= λ a. identifier >>= λ b. flow >>= λ f. Ok (record { node = n; traffic = NamedEcho (record { to = a; identifier = b; flow = f }) })) ≡ Ok s → FitsNamedTraffic mtu s.traffic
+echo-read : (mtu : ℕ) (to identifier : Result ℕ Refusal) (flow : Result Flow Refusal) (n : NamedTraffic) → ((f : Flow) → flow ≡ Ok f → FitsFlow mtu f) → (to >>= λ a. identifier >>= λ b. flow >>= λ f. Ok (NamedEcho (record { to = a; identifier = b; flow = f }))) ≡ Ok n → FitsNamedTraffic mtu n
 unfolding FitsNamedTraffic
-echo-read mtu (Ok k) (Ok n) (Ok a) (Ok b) (Ok f) s h e =
-    let table : NamedEcho (record { to = a; identifier = b; flow = f }) ≡ s.traffic = cc in
-    subst (FitsNamedTraffic mtu) table (h f refl)
-echo-read mtu (Ok k) (Ok n) (Ok a) (Ok b) (Err r) s h e = cc
-echo-read mtu (Ok k) (Ok n) (Ok a) (Err r) flow s h e = cc
-echo-read mtu (Ok k) (Ok n) (Err r) identifier flow s h e = cc
-echo-read mtu (Ok k) (Err r) to identifier flow s h e = cc
-echo-read mtu (Err r) node to identifier flow s h e = cc
+echo-read mtu (Ok a) (Ok b) (Ok f) n h e =
+    let traffic : NamedEcho (record { to = a; identifier = b; flow = f }) ≡ n = cc in
+    subst (FitsNamedTraffic mtu) traffic (h f refl)
+echo-read mtu (Ok a) (Ok b) (Err r) n h e = cc
+echo-read mtu (Ok a) (Err r) flow n h e = cc
+echo-read mtu (Err r) identifier flow n h e = cc
 
-raw-read : (mtu : ℕ) (known : Result Unit Refusal) (node via : Result (List ℕ) Refusal) (packets : Result (List RawPacket) Refusal) (s : SourceTableValue) → ((ps : List RawPacket) → packets ≡ Ok ps → FitsPackets mtu ps × All (λ p. 1 ≤ length p.packet) ps) → (known >>= λ k. node >>= λ n. via >>= λ v. packets >>= λ ps. Ok (record { node = n; traffic = NamedRaw (record { via = v; packets = ps }) })) ≡ Ok s → FitsNamedTraffic mtu s.traffic
+raw-read : (mtu : ℕ) (via : Result (List ℕ) Refusal) (packets : Result (List RawPacket) Refusal) (n : NamedTraffic) → ((ps : List RawPacket) → packets ≡ Ok ps → FitsPackets mtu ps × All (λ p. 1 ≤ length p.packet) ps) → (via >>= λ v. packets >>= λ ps. Ok (NamedRaw (record { via = v; packets = ps }))) ≡ Ok n → FitsNamedTraffic mtu n
 unfolding FitsNamedTraffic
-raw-read mtu (Ok k) (Ok n) (Ok v) (Ok ps) s h e =
-    let table : NamedRaw (record { via = v; packets = ps }) ≡ s.traffic = cc in
-    subst (FitsNamedTraffic mtu) table (h ps refl)
-raw-read mtu (Ok k) (Ok n) (Ok v) (Err r) s h e = cc
-raw-read mtu (Ok k) (Ok n) (Err r) packets s h e = cc
-raw-read mtu (Ok k) (Err r) via packets s h e = cc
-raw-read mtu (Err r) node via packets s h e = cc
+raw-read mtu (Ok v) (Ok ps) n h e =
+    let traffic : NamedRaw (record { via = v; packets = ps }) ≡ n = cc in
+    subst (FitsNamedTraffic mtu) traffic (h ps refl)
+raw-read mtu (Ok v) (Err r) n h e = cc
+raw-read mtu (Err r) packets n h e = cc
 
-kind-fits : (kind : SourceKind) (mtu : ℕ) (t : Members) (s : SourceTableValue) → 28 ≤ mtu → source_by kind mtu t ≡ Ok s → FitsNamedTraffic mtu s.traffic
+traffic-fits : (kind : SourceKind) (mtu : ℕ) (t : Members) (n : NamedTraffic) → 28 ≤ mtu → named_traffic_of kind mtu t ≡ Ok n → FitsNamedTraffic mtu n
 unfolding cbr_of echo_of raw_of
-kind-fits CbrKind mtu t s room e =
-    cbr-read mtu (only (keys_of CBR_TABLE) t)
-    (text_at name_of key.Node t) (text_at usable_address_of key.To t)
+traffic-fits CbrKind mtu t n room e =
+    cbr-read mtu (text_at usable_address_of key.To t)
     (number_at key.SourcePort PORT t) (number_at key.DestinationPort PORT t)
-    (flow_of mtu t) s (λ f h. flow-fits mtu t f room h) e
-kind-fits EchoKind mtu t s room e =
-    echo-read mtu (only (keys_of ECHO_TABLE) t)
-    (text_at name_of key.Node t) (text_at usable_address_of key.To t)
-    (number_at key.Identifier IDENTIFIER t) (flow_of mtu t) s (λ f h. flow-fits mtu t f room h) e
-kind-fits RawKind mtu t s room e =
-    raw-read mtu (only (keys_of RAW_TABLE) t)
-    (text_at name_of key.Node t) (text_at name_of key.Via t)
-    (required (packets_of mtu) (value_at key.Packet t)) s
+    (flow_of mtu t) n (λ f h. flow-fits mtu t f room h) e
+traffic-fits EchoKind mtu t n room e =
+    echo-read mtu (text_at usable_address_of key.To t)
+    (number_at key.Identifier IDENTIFIER t) (flow_of mtu t) n (λ f h. flow-fits mtu t f room h) e
+traffic-fits RawKind mtu t n room e =
+    raw-read mtu (text_at name_of key.Via t)
+    (required (packets_of mtu) (value_at key.Packet t)) n
     (λ ps h. required-holds (λ qs. FitsPackets mtu qs × All (λ p. 1 ≤ length p.packet) qs) (packets_of mtu) (value_at key.Packet t) ps
     (λ d g. packets-fit mtu d ps g) h) e
+
+table-read : (known : Result Unit Refusal) (node : Result (List ℕ) Refusal) (traffic : Result NamedTraffic Refusal) (s : SourceTableValue) → (known >>= λ k. node >>= λ n. traffic >>= λ x. Ok (record { node = n; traffic = x })) ≡ Ok s → traffic ≡ Ok s.traffic
+table-read (Ok k) (Ok n) (Ok x) s e = cc
+table-read (Ok k) (Ok n) (Err r) s e = cc
+table-read (Ok k) (Err r) traffic s e = cc
+table-read (Err r) node traffic s e = cc
 
 pub source-fits : (mtu : ℕ) → 28 ≤ mtu → (t : Members) (s : SourceTableValue) → source_table_of mtu t ≡ Ok s → FitsNamedTraffic mtu s.traffic
 unfolding source_table_of
 source-fits mtu room t s e =
     let kind = step (text_at source_kind_of key.Kind t) (λ k. source_by k mtu t) s e in
-    kind-fits kind.0 mtu t s room kind.2
+    traffic-fits kind.0 mtu t s.traffic room
+    (table-read (only (keys_of (fields_of_kind kind.0)) t) (text_at name_of key.Node t) (named_traffic_of kind.0 mtu t) s kind.2)

@@ -1,10 +1,7 @@
 //! Parts of a network.
 
-ghost use Rattle.std.specs.Prelude.{ℕ, List, None, IfOk};
-ghost use Rattle.nm_events.specs.Held.{pending_of};
-ghost use Rattle.nm_forward.specs.State.{NodeStateValue};
-ghost use Rattle.nm_model.specs.Run.{State};
-ghost use Rattle.nm_sim.specs.Part.{Represents};
+ghost use Rattle.std.specs.Prelude.{IfOk};
+ghost use Rattle.nm_memory_tests.specs.Whole.{IsWhole};
 
 use crate::same::{eq_number, holds};
 use crate::split::network;
@@ -54,10 +51,8 @@ fn step(
     topology: &Topology,
     part: &mut Part<SortedList>,
 ) -> Result<Option<Key>, AllocError>
-    requires { (s : State (List ℕ) NodeStateValue)
-        × Represents pending_of topology.now None part.old s }
-    ensures { (s : State (List ℕ) NodeStateValue)
-        × Represents pending_of topology.now None part.new s }
+    requires { IsWhole topology.now part.old }
+    ensures { IsWhole topology.now part.new }
 {
     part.step(alloc, topology, topology.stop())
 }
@@ -69,10 +64,8 @@ fn step_at_last(
     topology: &Topology,
     part: &mut Part<SortedList>,
 ) -> Result<Option<Key>, AllocError>
-    requires { (s : State (List ℕ) NodeStateValue)
-        × Represents pending_of topology.now None part.old s }
-    ensures { (s : State (List ℕ) NodeStateValue)
-        × Represents pending_of topology.now None part.new s }
+    requires { IsWhole topology.now part.old }
+    ensures { IsWhole topology.now part.new }
 {
     let before = seen(part);
     match step(rt.alloc(), topology, part) {
@@ -90,8 +83,7 @@ fn run(
     topology: &Topology,
     part: &mut Part<SortedList>,
 ) -> Result<(), AllocError>
-    requires { (s : State (List ℕ) NodeStateValue)
-        × Represents pending_of topology.now None part.old s }
+    requires { IsWhole topology.now part.old }
 {
     for _ in 0..100 {
         if step_at_last(rt, topology, part)?.is_none() {
@@ -103,8 +95,7 @@ fn run(
 
 /// The whole network at its start, asked for again where memory was refused.
 fn started(alloc: Global, topology: &Topology) -> Result<Part<SortedList>, AllocError>
-    ensures { IfOk result (λ p. (s : State (List ℕ) NodeStateValue)
-        × Represents pending_of topology.now None p s) }
+    ensures { IfOk result (λ p. IsWhole topology.now p) }
 {
     match Part::start(alloc, topology, None) {
         Ok(part) => Ok(part),

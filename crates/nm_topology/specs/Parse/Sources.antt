@@ -8,6 +8,7 @@ use Rattle.hex.specs.declared.error.FromHexError.{FromHexError}
 use Rattle.nm_base.specs.declared.limits.TheConstants.{MAX_RAW_PACKETS}
 use Rattle.nm_topology.specs.declared.fault.Refusal.{Refusal}
 use Rattle.nm_topology.specs.declared.fault.Refusal.TheVariants.{Hex, Kind, Range, TooMany}
+use Rattle.nm_topology.specs.declared.keys.field.Field.{Field}
 use Rattle.nm_topology.specs.declared.keys.fields.TheConstants.{CBR_TABLE, COUNT, ECHO_TABLE, FILL}
 use Rattle.nm_topology.specs.declared.keys.fields.TheConstants.{IDENTIFIER, INTERVAL, PORT}
 use Rattle.nm_topology.specs.declared.keys.fields.TheConstants.{RAW_TABLE, START, TTL}
@@ -20,6 +21,7 @@ use Rattle.nm_topology.specs.Parse.Fields.{number_at, number_or, only, plain_tex
 use Rattle.nm_topology.specs.Parse.Fields.{value_at}
 use Rattle.nm_topology.specs.Parse.Arrays.{is_table, all_fit, count, in_table}
 use Rattle.nm_topology.specs.Parse.Forms.{name_of, usable_address_of}
+use Rattle.nm_topology.specs.declared.parse.sources.NamedTraffic.{NamedTraffic}
 use Rattle.nm_topology.specs.declared.parse.sources.NamedTraffic.TheVariants.{Cbr as NamedCbr}
 use Rattle.nm_topology.specs.declared.parse.sources.NamedTraffic.TheVariants.{Echo as NamedEcho}
 use Rattle.nm_topology.specs.declared.parse.sources.NamedTraffic.TheVariants.{Raw as NamedRaw}
@@ -78,43 +80,43 @@ flow_of mtu t = do
     ttl = ttl;
   })
 
-unfoldable pub cbr_of : ℕ → Members → Result SourceTableValue Refusal
+-- what the keys of a kind say of its packets
+unfoldable pub cbr_of : ℕ → Members → Result NamedTraffic Refusal
 cbr_of mtu t = do
-  known ← only (keys_of CBR_TABLE) t
-  node ← text_at name_of key.Node t
   to ← text_at usable_address_of key.To t
   source ← number_at key.SourcePort PORT t
   destination ← number_at key.DestinationPort PORT t
   flow ← flow_of mtu t
-  Ok (record {
-    node = node;
-    traffic = NamedCbr (record {
-      to = to;
-      source_port = source;
-      destination_port = destination;
-      flow = flow;
-    });
-  })
+  Ok (NamedCbr (record {
+    to = to;
+    source_port = source;
+    destination_port = destination;
+    flow = flow;
+  }))
 
-unfoldable pub echo_of : ℕ → Members → Result SourceTableValue Refusal
+unfoldable pub echo_of : ℕ → Members → Result NamedTraffic Refusal
 echo_of mtu t = do
-  known ← only (keys_of ECHO_TABLE) t
-  node ← text_at name_of key.Node t
   to ← text_at usable_address_of key.To t
   identifier ← number_at key.Identifier IDENTIFIER t
   flow ← flow_of mtu t
-  Ok (record {
-    node = node;
-    traffic = NamedEcho (record { to = to; identifier = identifier; flow = flow });
-  })
+  Ok (NamedEcho (record { to = to; identifier = identifier; flow = flow }))
 
-unfoldable pub raw_of : ℕ → Members → Result SourceTableValue Refusal
+unfoldable pub raw_of : ℕ → Members → Result NamedTraffic Refusal
 raw_of mtu t = do
-  known ← only (keys_of RAW_TABLE) t
-  node ← text_at name_of key.Node t
   via ← text_at name_of key.Via t
   packets ← required (packets_of mtu) (value_at key.Packet t)
-  Ok (record { node = node; traffic = NamedRaw (record { via = via; packets = packets }) })
+  Ok (NamedRaw (record { via = via; packets = packets }))
+
+abbrev pub named_traffic_of : SourceKind → ℕ → Members → Result NamedTraffic Refusal
+named_traffic_of CbrKind mtu t = cbr_of mtu t
+named_traffic_of EchoKind mtu t = echo_of mtu t
+named_traffic_of RawKind mtu t = raw_of mtu t
+
+-- the fields of a table, by its kind
+abbrev pub fields_of_kind : SourceKind → List Field
+fields_of_kind CbrKind = CBR_TABLE
+fields_of_kind EchoKind = ECHO_TABLE
+fields_of_kind RawKind = RAW_TABLE
 
 abbrev pub source_kind_of : List ℕ → Option SourceKind
 source_kind_of text =
@@ -123,9 +125,11 @@ source_kind_of text =
     else (if bytes_eq text (codes "raw") then Some RawKind else None))
 
 abbrev pub source_by : SourceKind → ℕ → Members → Result SourceTableValue Refusal
-source_by CbrKind mtu t = cbr_of mtu t
-source_by EchoKind mtu t = echo_of mtu t
-source_by RawKind mtu t = raw_of mtu t
+source_by kind mtu t = do
+  known ← only (keys_of (fields_of_kind kind)) t
+  node ← text_at name_of key.Node t
+  traffic ← named_traffic_of kind mtu t
+  Ok (record { node = node; traffic = traffic })
 
 -- the kind is read before all else
 unfoldable pub source_table_of : ℕ → Members → Result SourceTableValue Refusal

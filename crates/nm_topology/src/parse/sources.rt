@@ -9,9 +9,10 @@ ghost use Rattle.nm_topology.specs.Fault.{Gives};
 ghost use Rattle.nm_topology.specs.Parse.Fields.{required, text_at, value_at};
 ghost use Rattle.nm_topology.specs.Parse.Sources.{octets_of, packet_of, packets_from, packets_of};
 ghost use Rattle.nm_topology.specs.Parse.Sources.{flow_of, cbr_of, echo_of, raw_of, source_kind_of};
-ghost use Rattle.nm_topology.specs.Parse.Sources.{source_table_of};
+ghost use Rattle.nm_topology.specs.Parse.Sources.{fields_of_kind, source_table_of, named_traffic_of};
 
 use crate::fault::{Refusal, TopoFault};
+use crate::keys::field::Field;
 use crate::keys::fields::{
     CBR_TABLE, COUNT, ECHO_TABLE, FILL, IDENTIFIER, INTERVAL, PORT, RAW_TABLE, START, TTL,
     packet_table, size_under, time_from,
@@ -197,58 +198,46 @@ fn flow(mtu: u16, table: &Table) -> Result<Flow, TopoFault>
     })
 }
 
+/// What a table of kind "cbr" says of its packets.
 #[tactic(auto, unfolding(crate::specs::Parse::Sources::cbr_of))]
-fn cbr_table(alloc: Global, mtu: u16, table: &Table) -> Result<SourceTable, TopoFault>
+fn cbr_traffic(mtu: u16, table: &Table) -> Result<NamedTraffic, TopoFault>
     ensures { Gives (λ x. x) result (cbr_of mtu (table_view table.now)) }
 {
-    only(table, &CBR_TABLE)?;
-    let node = required_name(alloc, table, TableKey::Node)?;
     let to = required_address(table, TableKey::To)?;
     let source_port = required_number(table, TableKey::SourcePort, PORT)?;
     let destination_port = required_number(table, TableKey::DestinationPort, PORT)?;
     let flow = flow(mtu, table)?;
-    Ok(SourceTable {
-        node,
-        traffic: NamedTraffic::Cbr(Cbr {
-            to,
-            source_port: source_port as u16,
-            destination_port: destination_port as u16,
-            flow,
-        }),
-    })
+    Ok(NamedTraffic::Cbr(Cbr {
+        to,
+        source_port: source_port as u16,
+        destination_port: destination_port as u16,
+        flow,
+    }))
 }
 
+/// What a table of kind "echo" says of its packets.
 #[tactic(auto, unfolding(crate::specs::Parse::Sources::echo_of))]
-fn echo_table(alloc: Global, mtu: u16, table: &Table) -> Result<SourceTable, TopoFault>
+fn echo_traffic(mtu: u16, table: &Table) -> Result<NamedTraffic, TopoFault>
     ensures { Gives (λ x. x) result (echo_of mtu (table_view table.now)) }
 {
-    only(table, &ECHO_TABLE)?;
-    let node = required_name(alloc, table, TableKey::Node)?;
     let to = required_address(table, TableKey::To)?;
     let identifier = required_number(table, TableKey::Identifier, IDENTIFIER)?;
     let flow = flow(mtu, table)?;
-    Ok(SourceTable {
-        node,
-        traffic: NamedTraffic::Echo(Echo {
-            to,
-            identifier: identifier as u16,
-            flow,
-        }),
-    })
+    Ok(NamedTraffic::Echo(Echo {
+        to,
+        identifier: identifier as u16,
+        flow,
+    }))
 }
 
+/// What a table of kind "raw" says of its packets.
 #[tactic(auto, unfolding(crate::specs::Parse::Sources::raw_of))]
-fn raw_table(alloc: Global, mtu: u16, table: &Table) -> Result<SourceTable, TopoFault>
+fn raw_traffic(alloc: Global, mtu: u16, table: &Table) -> Result<NamedTraffic, TopoFault>
     ensures { Gives (λ x. x) result (raw_of mtu (table_view table.now)) }
 {
-    only(table, &RAW_TABLE)?;
-    let node = required_name(alloc, table, TableKey::Node)?;
     let via = required_name(alloc, table, TableKey::Via)?;
     let packets = required_packets(alloc, mtu, table, TableKey::Packet)?;
-    Ok(SourceTable {
-        node,
-        traffic: NamedTraffic::Raw(NamedRaw { via, packets }),
-    })
+    Ok(NamedTraffic::Raw(NamedRaw { via, packets }))
 }
 
 /// The kinds of sources.
@@ -257,6 +246,19 @@ pub enum SourceKind {
     Cbr,
     Echo,
     Raw,
+}
+
+impl SourceKind {
+    /// The fields of a table of `source` of this kind.
+    pub fn fields(self) -> &'static [Field]
+        ensures { result.now ≡ fields_of_kind self }
+    {
+        match self {
+            SourceKind::Cbr => &CBR_TABLE,
+            SourceKind::Echo => &ECHO_TABLE,
+            SourceKind::Raw => &RAW_TABLE,
+        }
+    }
 }
 
 /// What stands at the kind of a source.
@@ -271,16 +273,32 @@ pub fn required_source_kind(table: &Table, key: TableKey) -> Result<SourceKind, 
     }
 }
 
+/// What a table of this kind says of its packets.
+fn traffic(
+    alloc: Global,
+    mtu: u16,
+    table: &Table,
+    kind: SourceKind,
+) -> Result<NamedTraffic, TopoFault>
+    ensures { Gives (λ x. x) result (named_traffic_of kind mtu (table_view table.now)) }
+{
+    match kind {
+        SourceKind::Cbr => cbr_traffic(mtu, table),
+        SourceKind::Echo => echo_traffic(mtu, table),
+        SourceKind::Raw => raw_traffic(alloc, mtu, table),
+    }
+}
+
 /// A table of `source`.
 #[tactic(auto, unfolding(crate::specs::Parse::Sources::source_table_of))]
 fn source_table(alloc: Global, mtu: u16, table: &Table) -> Result<SourceTable, TopoFault>
     ensures { Gives (λ x. x) result (source_table_of mtu (table_view table.now)) }
 {
-    match required_source_kind(table, TableKey::Kind)? {
-        SourceKind::Cbr => cbr_table(alloc, mtu, table),
-        SourceKind::Echo => echo_table(alloc, mtu, table),
-        SourceKind::Raw => raw_table(alloc, mtu, table),
-    }
+    let kind = required_source_kind(table, TableKey::Kind)?;
+    only(table, kind.fields())?;
+    let node = required_name(alloc, table, TableKey::Node)?;
+    let traffic = traffic(alloc, mtu, table, kind)?;
+    Ok(SourceTable { node, traffic })
 }
 
 impl FromTable for SourceTable {

@@ -15,6 +15,6 @@ returns-in_default-2 c w stands =
 
 pub returns : goal.returns
 returns c w stands =
-    subst (λ z. Steps c.args.topology.now w (Data c.args.partition c.args.replica c.args.channel c.args.number) (Ok (Frames 1)) c.args.books.now z) (sym c.in_ok-push.ensures.items)
+    subst (λ z. Steps c.args.topology.now w (Data c.args.partition c.args.replica c.args.channel c.args.number) (Ok (Frames 1)) c.args.books.now z) (sym c.in_ok-put.ensures.ok)
     (data_sent c.args.topology.now c.args.books.now c.args.bag.now.items w stands c.args.partition c.args.replica c.args.channel c.in-Some.place (sym c.in-Some.ensures.value) (c.in-Some.ensures.there refl)
     c.index-books-place.result c.index-books-place.is c.args.number c.in-Some-2.message (sym c.in-Some-2.is ∙ c.in_ok-message.ensures))
