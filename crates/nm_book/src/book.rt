@@ -17,10 +17,11 @@ ghost use Rattle.nm_book.specs.Book.{data_from, knowledge, is_incoming, is_outgo
 ghost use Rattle.nm_book.specs.Book.{only_if, promise_on, replica_of, safe_of, sent_over, state_of};
 ghost use Rattle.nm_book.specs.Merging.{BookMerges};
 ghost use Rattle.nm_book.specs.Running.{Runs};
-ghost use Rattle.nm_book.specs.declared.fault.BookFault.TheVariants.{NoSuch};
+ghost use Rattle.nm_base.specs.declared.fault.Fault.TheVariants.{Refused};
+ghost use Rattle.nm_book.specs.declared.fault.BookRefusal.TheVariants.{NoSuch};
 
 use crate::channels::{comes_in, goes_out};
-use crate::fault::{AcceptFault, BookFault, MergeFault};
+use crate::fault::{AcceptFault, BookFault, BookRefusal, MergeFault};
 use crate::knowledge::{Knowledge, copy_all};
 use crate::learning::{take_data, take_null};
 use crate::merging::merge_all;
@@ -128,13 +129,13 @@ impl Book {
         }) }
         ensures there { IfOk result
             (λ b. is_replica (arc_value topology) partition replica ≡ true) }
-        ensures no_such { result ≡ Err NoSuch
+        ensures no_such { result ≡ Err (Refused NoSuch)
             → is_replica (arc_value topology) partition replica ≡ false }
         ensures refused { is_replica (arc_value topology) partition replica ≡ false
-            → result ≡ Err NoSuch }
+            → result ≡ Err (Refused NoSuch) }
     {
         if partition.index() >= topology.partitions() as usize || replica >= MAX_REPLICAS {
-            return Err(BookFault::NoSuch);
+            return Err(BookFault::Refused(BookRefusal::NoSuch));
         }
         let knows = nothing_known(alloc, topology.receivers().len())?;
         let safe = safe_time(&topology, partition, &knows);

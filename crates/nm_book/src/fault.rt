@@ -3,47 +3,23 @@
 ghost use Rattle.std.specs.Prelude.{◌≡◌};
 ghost use Rattle.nm_book.specs.Book.{accept_fault_number};
 ghost use Rattle.nm_book.specs.declared.fault.AcceptFault.TheVariants.{Known};
-ghost use Rattle.nm_book.specs.declared.fault.BookFault.TheVariants.{Memory};
-ghost use Rattle.nm_book.specs.declared.fault.MergeFault.TheVariants.{Memory as NoMemory};
+ghost use Rattle.nm_book.specs.declared.fault.MergeFault.TheVariants.{Memory};
 
-use nm_base::ChanNo;
+use nm_base::{ChanNo, Fault};
 use nm_knowledge::KnowFault;
 use std::alloc::AllocError;
-use std::fmt;
 use thiserror::Error;
 
-/// Why there is no book.
+/// What a book is refused for.
 #[derive(Clone, Copy, Debug, PartialEq, Eq, Error)]
-pub enum BookFault {
+pub enum BookRefusal {
     /// The topology has no such partition, or there is no such replica of it.
+    #[error("there is no such partition or replica")]
     NoSuch,
-    /// Memory was refused.
-    Memory,
 }
 
-impl BookFault {
-    /// The fault in words.
-    fn message(self) -> &'static str {
-        match self {
-            BookFault::NoSuch => "there is no such partition or replica",
-            BookFault::Memory => "out of memory",
-        }
-    }
-}
-
-impl fmt::Display for BookFault {
-    fn fmt<W: fmt::Write>(&self, f: &mut fmt::Formatter<W>) -> fmt::Result {
-        f.write_str(self.message())
-    }
-}
-
-impl From<AllocError> for BookFault {
-    ghost from_gives = { λ _ f. f ≡ Memory };
-
-    fn from(_: AllocError) -> Self {
-        BookFault::Memory
-    }
-}
+/// Why there is no book: it is refused, or memory was.
+pub type BookFault = Fault<BookRefusal>;
 
 /// Why a book refused a message or a null message. It is unchanged then.
 #[derive(Clone, Copy, Debug, PartialEq, Eq, Error)]
@@ -91,7 +67,7 @@ pub enum MergeFault {
 }
 
 impl From<AllocError> for MergeFault {
-    ghost from_gives = { λ _ f. f ≡ NoMemory };
+    ghost from_gives = { λ _ f. f ≡ Memory };
 
     fn from(_: AllocError) -> Self {
         MergeFault::Memory

@@ -1,5 +1,5 @@
 -- Trace files that are written side by side.
-use Rattle.std.proofs.Common.{◌≡◌, ℕ, ◌==◌, ◌<◌, ◌≤◌, true, false, Bool, Option, Some, None, List, [], ◌∷◌, length, get_or, set, length-set, take, ◌+◌, ◌++◌, slice_get, slice_set, Result, Ok, Err, OnOk, refl, sym, ◌∙◌, ap, subst, arith, length-append}
+use Rattle.std.proofs.Common.{◌≡◌, ◌⊎◌, inl, inr, ℕ, ◌==◌, ◌<◌, ◌≤◌, true, false, Bool, Option, Some, None, List, [], ◌∷◌, length, get_or, set, length-set, take, ◌+◌, ◌++◌, slice_get, slice_set, Result, Ok, Err, OnOk, refl, sym, ◌∙◌, ap, subst, arith, length-append}
 use Rattle.std.proofs.lemmas.List.{get_or-set_same, get_or-set_other}
 use Rattle.std.proofs.lemmas.List.Elements.{All-from_get_or, All-get_or}
 use Rattle.std.proofs.lemmas.Option.{slice_get_within, get_or_from_slice_get, slice_get-get_or}
@@ -10,8 +10,10 @@ use Rattle.nm_base.proofs.Sinks.{Appends-append}
 use Rattle.nm_base.specs.Count.{saturated}
 use Rattle.nm_base.specs.declared.record.Record.{Record}
 use Rattle.nm_pcap.specs.Format.{file_header, record_octets}
-use Rattle.nm_pcap.specs.Outcome.{AddedAll}
+use Rattle.nm_pcap.specs.Outcome.{AddedAll, AddedNothing, AddedPart, Adds}
 use Rattle.nm_pcap.specs.Writer.{Writer}
+use Rattle.nm_pcap.specs.declared.writer.PcapFault.{PcapFault}
+use Rattle.nm_pcap.specs.declared.writer.PcapFault.TheVariants.{File, Failed}
 use Rattle.nm_pcap.specs.Writing.{written}
 use Rattle.nm_files.specs.Files.{AreCounted, FileTook, FilesTook, IsBegun, IsCounted, Took}
 use Rattle.nm_files.specs.Outputs.{Files, IsEmpty}
@@ -20,6 +22,22 @@ use Rattle.nm_files.proofs.Made.{appended}
 use Rattle.nm_files.proofs.Pieces.{WroteAll-nil}
 use Rattle.nm_files.proofs.Records.{one_more, written_at-append, written_elsewhere, written_there}
 use Rattle.nm_pcap.proofs.Forms.{written-nil}
+
+-- a record that is not written to its file is written in part, or not at all
+pub not_written : {S : Type 0} (seen : S → SinkSeen) (old new : Writer S) (e : PcapFault) (octets : List ℕ) (n : ℕ) → n ≡ new.written → Adds seen old new (Err e) octets
+    → AddedPart seen old new octets n ⊎ AddedNothing seen old new × (n ≡ new.written)
+not_written seen old new (File m) octets n is w = inl (record {
+  sound = w.sound;
+  part = w.part;
+  short = w.short;
+  front = w.front;
+  fault = w.fault;
+  count = w.count;
+  told = is;
+  over = w.over;
+  same_form = w.same_form;
+})
+not_written seen old new Failed octets n is w = inr (w, is)
 
 pub on_ok : {T E : Type 0} {A B : Type 0} (r : Result T E) → (A → B) → OnOk r A → OnOk r B
 on_ok (Ok x) f a = f a
@@ -34,6 +52,7 @@ module _ {S : Type 0} (seen : S → SinkSeen) (r : Record (List ℕ)) where
         whole = subst (Appends (seen old.sink).taken (seen new.sink).taken) (sym (written_there old.form n r same)) w.whole;
         no_fault = w.no_fault;
         same_form = w.same_form;
+        as_sound = w.still_sound ∙ sym w.sound;
         counted = λ before is. let more = w.count in let all = ap length (written_there old.form n r same) in omega (arith, is, more, all);
       }
 
@@ -44,6 +63,7 @@ module _ {S : Type 0} (seen : S → SinkSeen) (r : Record (List ℕ)) where
     whole = subst (Appends (seen file.sink).taken (seen file.sink).taken) (sym (written_elsewhere file.form n r other)) (WroteAll-nil (seen file.sink)).whole;
     no_fault = refl;
     same_form = refl;
+    as_sound = refl;
     counted = λ before is. let none = ap length (written_elsewhere file.form n r other) in omega (arith, is, none);
   }
 
@@ -92,6 +112,7 @@ module _ {S : Type 0} (seen : S → SinkSeen) where
     whole = subst (Appends (seen file.sink).taken (seen file.sink).taken) (sym (written-nil file.form)) (WroteAll-nil (seen file.sink)).whole;
     no_fault = refl;
     same_form = refl;
+    as_sound = refl;
     counted = λ before is. let none = ap length (written-nil file.form) in omega (arith, is, none);
   })
 
@@ -114,6 +135,7 @@ module _ {S : Type 0} (seen : S → SinkSeen) where
         (subst (λ f. Appends (seen m.sink).taken (seen p.sink).taken (written_at f n ys)) v.same_form w.whole));
     no_fault = w.no_fault ∙ v.no_fault;
     same_form = w.same_form ∙ v.same_form;
+    as_sound = w.as_sound ∙ v.as_sound;
     counted = λ before is.
         let first = written_at o.form n xs in
         let more = subst (λ f. p.written ≡ saturated ((before + length first) + length (written_at f n ys))) v.same_form (w.counted (before + length first) (v.counted before is)) in

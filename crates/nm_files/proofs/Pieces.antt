@@ -9,9 +9,8 @@ use Rattle.nm_pcap.specs.declared.writer.PcapFault.{PcapFault}
 use Rattle.nm_pcap.specs.declared.writer.PcapFault.TheVariants.{File, Failed}
 use Rattle.nm_pcap.specs.Outcome.{Adds}
 use Rattle.nm_pcap.specs.Writer.{Writer}
-use Rattle.nm_files.specs.declared.trace_file.TraceFault.{TraceFault}
-use Rattle.nm_files.specs.declared.trace_file.TraceFault.TheVariants.{Sink, Memory}
-use Rattle.nm_files.specs.Writing.{WroteAll, WrotePrefix, WrotePart, Writes, WroteOn, WritesOn, sink_outcome}
+use Rattle.nm_base.specs.declared.fault.Fault.TheVariants.{Refused, Memory}
+use Rattle.nm_files.specs.Writing.{TraceFault, WroteAll, WrotePrefix, WrotePart, Writes, WroteOn, WritesOn, sink_outcome}
 
 pub WroteAll-nil : (s : SinkSeen) → WroteAll s s []
 WroteAll-nil s = record { whole = nothing s.taken; no_fault = refl }
@@ -54,7 +53,7 @@ WroteAll-part old new a b w = record {
 
 -- what was not written whole is the front of more
 pub Writes-more : (old new : SinkSeen) (e : TraceFault) (a b : List ℕ) → Writes old new (Err e) a → Writes old new (Err e) (a ++ b)
-Writes-more old new Sink a b w = record {
+Writes-more old new (Refused _) a b w = record {
   part = w.part;
   short = let h = w.short in let l = length-append a b in omega (arith, h, l);
   front = subst (λ l. Appends old.taken new.taken l) (sym (take-append-le w.part a b (let h = w.short in omega (arith, h)))) w.front;
@@ -71,11 +70,11 @@ module _ {S : Type 0} (seen : S → SinkSeen) where
   -- the sink's part of what was done in a file
   pub Writes-of : (old new : Writer S) (r : Result Unit TraceFault) (a : List ℕ) → WritesOn seen old new r a → Writes (seen old.sink) (seen new.sink) r a
   Writes-of old new (Ok _) a w = w.all
-  Writes-of old new (Err Sink) a w = w
+  Writes-of old new (Err (Refused _)) a w = w
   Writes-of old new (Err Memory) a w = w
 
   pub WritesOn-more : (old new : Writer S) (e : TraceFault) (a b : List ℕ) → WritesOn seen old new (Err e) a → WritesOn seen old new (Err e) (a ++ b)
-  WritesOn-more old new Sink a b w = Writes-more (seen old.sink) (seen new.sink) Sink a b w
+  WritesOn-more old new (Refused r) a b w = Writes-more (seen old.sink) (seen new.sink) (Refused r) a b w
   WritesOn-more old new Memory a b w = Writes-more (seen old.sink) (seen new.sink) Memory a b w
 
   pub WritesOn-after : (old mid new : Writer S) (r : Result Unit TraceFault) (a b : List ℕ) → WroteOn seen old mid a → WritesOn seen mid new r b → WritesOn seen old new r (a ++ b)
@@ -84,7 +83,7 @@ module _ {S : Type 0} (seen : S → SinkSeen) where
     sound = w.sound;
     same_form = w.same_form ∙ v.same_form;
   }
-  WritesOn-after old mid new (Err Sink) a b v w = WrotePrefix-after (seen old.sink) (seen mid.sink) (seen new.sink) a b v.all w
+  WritesOn-after old mid new (Err (Refused _)) a b v w = WrotePrefix-after (seen old.sink) (seen mid.sink) (seen new.sink) a b v.all w
   WritesOn-after old mid new (Err Memory) a b v w = WrotePart-after (seen old.sink) (seen mid.sink) (seen new.sink) a b v.all w
 
   -- what the writer of trace files did

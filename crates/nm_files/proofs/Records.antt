@@ -12,9 +12,8 @@ use Rattle.nm_pcap.specs.Format.{file_header, record_octets}
 use Rattle.nm_pcap.specs.Writer.{Writer}
 use Rattle.nm_pcap.specs.Writing.{ending, written}
 use Rattle.nm_pcap.proofs.Forms.{written-append, written-nil}
-use Rattle.nm_files.specs.declared.trace_file.TraceFault.{TraceFault}
 use Rattle.nm_files.specs.TraceFile.{records_at, trace_file, written_at}
-use Rattle.nm_files.specs.Writing.{WrotePart, WroteOn, WritesOn}
+use Rattle.nm_files.specs.Writing.{TraceFault, WrotePart, WroteOn, WritesOn}
 use Rattle.nm_files.proofs.Pieces.{WroteAll-part, WroteOn-nil, WritesOn-after, WritesOn-more}
 
 pub written_at-append : (form : Form) (iface : ℕ) (a b : List (Record (List ℕ))) → written_at form iface (a ++ b) ≡ written_at form iface a ++ written_at form iface b

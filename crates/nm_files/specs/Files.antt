@@ -1,21 +1,16 @@
 -- Trace files that are written side by side. File n is that of interface n.
-use Rattle.std.specs.Prelude.{◌≡◌, ◌≢◌, ℕ, ◌+◌, false, All, List, [], ◌∷◌, ◌++◌, length, slice_get, slice_index_or, take, Option, Some, None}
+use Rattle.std.specs.Prelude.{◌≡◌, ◌≢◌, ◌⊎◌, ℕ, ◌+◌, false, All, List, [], ◌∷◌, ◌++◌, length, slice_get, slice_index_or, take, Option, Some, None}
 use Rattle.nm_base.specs.Sink.{HasNotFailed, HasTaken, SinkSeen}
 use Rattle.nm_base.specs.Count.{saturated}
 use Rattle.nm_base.specs.declared.record.Record.{Record}
 use Rattle.nm_pcap.specs.declared.form.Form.TheVariants.{Octets}
 use Rattle.nm_pcap.specs.Format.{file_header, record_octets}
-use Rattle.nm_pcap.specs.Outcome.{AddedPart}
+use Rattle.nm_pcap.specs.Outcome.{AddedNothing, AddedPart}
 use Rattle.nm_pcap.specs.Writer.{Writer}
 use Rattle.nm_pcap.specs.Writing.{written}
 use Rattle.nm_files.specs.Outputs.{Files}
 use Rattle.nm_files.specs.TraceFile.{written_at}
 use Rattle.nm_files.specs.declared.trace_files.FileFault.{FileFault}
-
--- a file may be written on, if there is one
-abbrev pub IsSound : {S : Type 0} → Option (Writer S) → Type 0
-IsSound None = Unit {0}
-IsSound (Some file) = file.failed ≡ false
 
 -- of a file, if there is one: where it is told which files were placed, its sink tells what it
 -- took, and as many octets are counted
@@ -30,10 +25,11 @@ abbrev pub AreCounted : {S : Type 0} → (S → SinkSeen) → Option Files → L
 AreCounted seen made files = All (IsCounted seen made) files
 
 module _ {S : Type 0} (seen : S → SinkSeen) (sink : S) where
-  -- the file of this sink, which took the header, as it is
+  -- the file of this sink, which took the header, as it is, and may be written on
   pub record IsBegun (file : Writer S) : Type 0 where
     pub header : HasTaken (seen sink) (seen file.sink) file_header
     pub form : file.form ≡ Octets
+    pub sound : file.failed ≡ false
     pub counted : file.written ≡ saturated (length file_header)
 
   -- it stands behind the others
@@ -43,11 +39,13 @@ module _ {S : Type 0} (seen : S → SinkSeen) (sink : S) where
     pub last : new ≡ old ++ Some file ∷ []
 
 module _ {S : Type 0} (seen : S → SinkSeen) (records : List (Record (List ℕ))) where
-  -- of these records the file took those that are at interface n, and did not fail
+  -- of these records the file took those that are at interface n, and did not fail: it may be
+  -- written on if it might before
   pub record Took (n : ℕ) (old new : Writer S) : Type 0 where
     pub whole : HasTaken (seen old.sink) (seen new.sink) (written_at old.form n records)
     pub no_fault : HasNotFailed (seen old.sink) (seen new.sink)
     pub same_form : new.form ≡ old.form
+    pub as_sound : new.failed ≡ old.failed
     -- if so many octets were counted before, as many more are as were written, up to 2 ^ 64 - 1
     pub counted : (before : ℕ) → old.written ≡ saturated before
         → new.written ≡ saturated (before + length (written_at old.form n records))
@@ -64,14 +62,16 @@ module _ {S : Type 0} (seen : S → SinkSeen) (records : List (Record (List ℕ)
         → slice_get new n ≡ Some p → FileTook n o p
 
 module _ {S : Type 0} (seen : S → SinkSeen) where
-  -- The sink of the file failed: it took a part of what is written of the record, from the
-  -- front, and so many octets of the file in all.
+  -- The record was not written: the sink of the file failed, when it had taken a part of what is
+  -- written of the record, from the front; or it had failed before. It took so many octets of
+  -- the file in all.
   abbrev pub FileFailed : (r : Record (List ℕ)) → (written : ℕ) → Option (Writer S)
       → Option (Writer S) → Type 0
   FileFailed r n None new = ⊥
   FileFailed r n (Some old) None = ⊥
   FileFailed r n (Some old) (Some new) =
       AddedPart seen old new (written old.form (record_octets r)) n
+      ⊎ AddedNothing seen old new × (n ≡ new.written)
 
   -- that of the record's interface did, and the others are as they were
   pub record OwnFileFailed (r : Record (List ℕ)) (old new : List (Option (Writer S)))

@@ -1,10 +1,15 @@
 -- What a call that writes to a sink did, and what a call that writes on in a trace file did.
 use Rattle.std.specs.Prelude.{◌≡◌, ℕ, ◌<◌, ◌≤◌, List, take, length, false, Result, Ok, Err}
 use Rattle.nm_base.specs.Sink.{HasFailedOnce, HasNotFailed, HasTaken, SinkSeen}
+use Rattle.nm_base.specs.declared.fault.Fault.{Fault}
+use Rattle.nm_base.specs.declared.fault.Fault.TheVariants.{Refused, Memory}
+use Rattle.nm_base.specs.declared.sink.SinkFault.{SinkFault}
 use Rattle.nm_pcap.specs.declared.writer.PcapFault.{PcapFault}
 use Rattle.nm_pcap.specs.Writer.{Writer}
-use Rattle.nm_files.specs.declared.trace_file.TraceFault.{TraceFault}
-use Rattle.nm_files.specs.declared.trace_file.TraceFault.TheVariants.{Sink, Memory}
+
+-- why a trace file was not written to its end: its sink failed, or memory was refused
+abbrev pub TraceFault : Type 0
+TraceFault = Fault SinkFault
 
 module _ (old new : SinkSeen) where
   -- all the octets were taken
@@ -28,7 +33,7 @@ module _ (old new : SinkSeen) where
 
   abbrev pub Writes : Result Unit TraceFault → List ℕ → Type 0
   Writes (Ok _) octets = WroteAll octets
-  Writes (Err Sink) octets = WrotePrefix octets
+  Writes (Err (Refused _)) octets = WrotePrefix octets
   Writes (Err Memory) octets = WrotePart octets
 
 module _ {S : Type 0} (seen : S → SinkSeen) (old new : Writer S) where
@@ -40,10 +45,10 @@ module _ {S : Type 0} (seen : S → SinkSeen) (old new : Writer S) where
 
   abbrev pub WritesOn : Result Unit TraceFault → List ℕ → Type 0
   WritesOn (Ok _) octets = WroteOn octets
-  WritesOn (Err Sink) octets = WrotePrefix (seen old.sink) (seen new.sink) octets
+  WritesOn (Err (Refused _)) octets = WrotePrefix (seen old.sink) (seen new.sink) octets
   WritesOn (Err Memory) octets = WrotePart (seen old.sink) (seen new.sink) octets
 
 -- a fault of a trace file is one of its sink
 abbrev pub sink_outcome : Result Unit PcapFault → Result Unit TraceFault
 sink_outcome (Ok u) = Ok u
-sink_outcome (Err e) = Err Sink
+sink_outcome (Err e) = Err (Refused (record {}))

@@ -5,20 +5,12 @@ ghost use Rattle.nm_base.specs.declared.limits.TheConstants.{MAX_TIME};
 ghost use Rattle.nm_files.specs.TraceFile.{written_at};
 ghost use Rattle.nm_files.specs.Writing.{WritesOn, sink_outcome};
 
-use nm_base::{IfaceNo, Record, Sink};
+use nm_base::{Fault, IfaceNo, Record, Sink, SinkFault};
 use nm_pcap::{PcapFault, PcapOut};
-use thiserror::Error;
 
-/// Why a trace file was not written to its end.
-#[derive(Clone, Copy, Debug, PartialEq, Eq, Error)]
-pub enum TraceFault {
-    /// The sink failed. It took a prefix of the file.
-    #[error("the sink failed")]
-    Sink,
-    /// Memory was refused. The sink took a prefix of the file, and did not fail.
-    #[error("out of memory")]
-    Memory,
-}
+/// Why a trace file was not written to its end: its sink failed, or memory was refused. The sink
+/// took a prefix of the file, and did not fail where memory was refused.
+pub type TraceFault = Fault<SinkFault>;
 
 /// Writes a record if it is at the interface.
 pub fn write_at<S: Sink>(
@@ -43,6 +35,6 @@ pub fn sink_outcome(outcome: Result<(), PcapFault>) -> Result<(), TraceFault>
 {
     match outcome {
         Ok(()) => Ok(()),
-        Err(_) => Err(TraceFault::Sink),
+        Err(_) => Err(TraceFault::Refused(SinkFault)),
     }
 }

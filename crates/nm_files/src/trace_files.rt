@@ -1,16 +1,16 @@
 //! The trace files of a replica, written as its records are handed out.
 
-ghost use Rattle.std.specs.Prelude.{◌≡◌, ℕ, ◌<◌, ◌≤◌, ◌∷◌, [], ◌++◌, false, All, IfErr, IfOk};
+ghost use Rattle.std.specs.Prelude.{◌≡◌, ℕ, ◌<◌, ◌≤◌, ◌∷◌, [], ◌++◌, All, IfErr, IfOk};
 ghost use Rattle.std.specs.Prelude.{None, OnOk, Option, get_or};
 ghost use Rattle.nm_base.specs.Sink.{SinkSeen};
 ghost use Rattle.nm_base.specs.declared.fault.Fault.TheVariants.{Refused};
 ghost use Rattle.nm_base.specs.declared.limits.TheConstants.{MAX_TIME};
 ghost use Rattle.nm_files.specs.Files.{AreCounted, FileFailed, FileTook, FilesTook, HasBegun};
-ghost use Rattle.nm_files.specs.Files.{OwnFileFailed, FailedAt, IsBegun, IsSound};
+ghost use Rattle.nm_files.specs.Files.{OwnFileFailed, FailedAt, IsBegun};
 ghost use Rattle.nm_files.specs.Outputs.{Files};
 
 use nm_base::{Fault, IfaceNo, Record, Sink};
-use nm_pcap::{PcapFault, PcapOut};
+use nm_pcap::PcapOut;
 use std::alloc::{AllocError, Global};
 use thiserror::Error;
 
@@ -41,16 +41,24 @@ pub struct TraceFiles<S> {
     files: Vec<Option<PcapOut<S>>>,
 }
 
+/// What is said of the file of an interface that failed.
+fn fault_of<S>(iface: IfaceNo, file: &PcapOut<S>) -> FileFault
+    ensures { result ≡ record { iface = iface; written = file.now.written } }
+{
+    FileFault {
+        iface,
+        written: file.written_octets(),
+    }
+}
+
 /// A file whose header is written.
 fn begun<S: Sink + Drop>(iface: IfaceNo, sink: S) -> Result<PcapOut<S>, FilesFault>
-    ensures sound { IfOk result (λ f. f.failed ≡ false) }
-    ensures begun { IfOk result (IsBegun S.seen sink) }
+    ensures { IfOk result (IsBegun S.seen sink) }
 {
     let mut file = PcapOut::new(sink);
     match file.start() {
         Ok(()) => Ok(file),
-        Err(PcapFault::File { written }) => Err(FilesFault::Refused(FileFault { iface, written })),
-        Err(PcapFault::Failed) => unreachable!(),
+        Err(_) => Err(FilesFault::Refused(fault_of(iface, &file))),
     }
 }
 
@@ -63,14 +71,12 @@ fn put_in<S: Sink>(
     // The record is of this interface, and its time fits a file.
     requires time { «record».now.time ≤ MAX_TIME }
     requires here { «record».now.iface ≡ iface }
-    requires sound { IsSound file.old }
 
-    // The file took the record, and is sound.
+    // The file took the record.
     ensures took { OnOk result
         (FileTook S.seen («record».now ∷ []) iface file.old file.new) }
-    ensures sound { OnOk result (IsSound file.new) }
 
-    // Or its sink failed, which is said with how much the file has.
+    // Or its sink failed, now or before, which is said with how much the file has.
     ensures iface { IfErr result (λ f. f.iface ≡ iface) }
     ensures failed { IfErr result
         (λ f. FileFailed S.seen «record».now f.written file.old file.new) }
@@ -80,8 +86,7 @@ fn put_in<S: Sink>(
     };
     match file.put(record) {
         Ok(()) => Ok(()),
-        Err(PcapFault::File { written }) => Err(FileFault { iface, written }),
-        Err(PcapFault::Failed) => unreachable!(),
+        Err(_) => Err(fault_of(iface, file)),
     }
 }
 
@@ -124,9 +129,8 @@ impl<S: Sink + Drop> TraceFiles<S> {
     ///
     /// Where memory was refused. No interface was added then.
     pub fn skip(&mut self) -> Result<(), AllocError>
-        requires { All IsSound self.old.files.items }
-        ensures sound { All IsSound self.new.files.items }
         ensures none { OnOk result (self.new.files.items ≡ self.old.files.items ++ None ∷ []) }
+        ensures same { IfErr result (λ _. self.new.files.items ≡ self.old.files.items) }
     {
         self.files.push(None)?;
         Ok(())
@@ -139,10 +143,9 @@ impl<S: Sink + Drop> TraceFiles<S> {
     /// `Refused` where the file failed: it has a prefix of the header. `Memory` where memory was
     /// refused. No interface was added then.
     pub fn open(&mut self, iface: IfaceNo, sink: S) -> Result<(), FilesFault>
-        requires { All IsSound self.old.files.items }
-        ensures sound { All IsSound self.new.files.items }
         ensures begun { OnOk result (HasBegun S.seen sink
             self.old.files.items self.new.files.items) }
+        ensures same { IfErr result (λ _. self.new.files.items ≡ self.old.files.items) }
     {
         let file = begun(iface, sink)?;
         self.files.push(Some(file))?;
@@ -155,13 +158,12 @@ impl<S: Sink> TraceFiles<S> {
     ///
     /// # Errors
     ///
-    /// Where that file failed. It has a prefix of what it was to have, and is not written on.
+    /// Where that file failed, now or before. It has a prefix of what it was to have, and is not
+    /// written on.
     pub fn put(&mut self, record: &Record) -> Result<(), FileFault>
-        requires time { «record».now.time ≤ MAX_TIME }
-        requires sound { All IsSound self.old.files.items }
+        requires { «record».now.time ≤ MAX_TIME }
         ensures took { OnOk result (FilesTook S.seen («record».now ∷ [])
             self.old.files.items self.new.files.items) }
-        ensures sound { OnOk result (All IsSound self.new.files.items) }
         ensures failed { IfErr result (OwnFileFailed S.seen «record».now
             self.old.files.items self.new.files.items) }
     {
@@ -176,13 +178,12 @@ impl<S: Sink> TraceFiles<S> {
     ///
     /// # Errors
     ///
-    /// Where a file failed: it has a prefix of what it was to have, and no file is written on.
+    /// Where a file failed, now or before: it has a prefix of what it was to have, and no file is
+    /// written on.
     pub fn put_all(&mut self, records: &[Record]) -> Result<(), FileFault>
-        requires time { All (λ r. r.time ≤ MAX_TIME) records.now }
-        requires sound { All IsSound self.old.files.items }
+        requires { All (λ r. r.time ≤ MAX_TIME) records.now }
         ensures took { OnOk result (FilesTook S.seen records.now
             self.old.files.items self.new.files.items) }
-        ensures sound { OnOk result (All IsSound self.new.files.items) }
         ensures failed { IfErr result (FailedAt S.seen records.now
             self.old.files.items self.new.files.items) }
     {

@@ -8,7 +8,6 @@ use Rattle.nm_base.specs.Sink.{SinkSeen}
 use Rattle.nm_base.specs.declared.limits.TheConstants.{MAX_TIME}
 use Rattle.nm_base.specs.declared.record.Record.{Record}
 use Rattle.nm_pcap.specs.Writer.{Writer}
-use Rattle.nm_files.specs.Files.{IsSound}
 use Rattle.nm_files.proofs.Files.{more_records, no_records}
 use Rattle.nm_files.proofs.Records.{one_more}
 use Rattle.nm_book.specs.Book.{BookValue, state_of}
@@ -73,9 +72,9 @@ module _ (exact : Bool) (own : Home) where
   )
 
   module _ {S : Type 0} (seen : S → SinkSeen) where
-    pub streams_none : (files : List (Option (Writer S))) → All IsSound files → Streams seen exact own files files
-    streams_none files sound =
-        (0, record { records = []; count = refl; handed = ([], (λ k d low. absurd (omega (arith, low))), refl); took = no_records seen files; sound = sound })
+    pub streams_none : (files : List (Option (Writer S))) → Streams seen exact own files files
+    streams_none files =
+        (0, record { records = []; count = refl; handed = ([], (λ k d low. absurd (omega (arith, low))), refl); took = no_records seen files })
 
     pub streams_more : (old mid new : List (Option (Writer S))) → Streams seen exact own old mid → Streams seen exact own mid new
         → Streams seen exact own old new
@@ -88,6 +87,5 @@ module _ (exact : Bool) (own : Home) where
             count = refl;
             handed = handed_more a.records b.records a.handed b.handed;
             took = more_records seen a.records b.records old mid new a.took b.took;
-            sound = b.sound;
           },
         )

@@ -7,6 +7,7 @@ pub mod Links
 pub mod Period
 pub mod Polls
 pub mod Recording
+pub mod Seats
 pub mod Served
 pub mod Shortage
 pub mod Stays

@@ -4,7 +4,7 @@ use Rattle.nm_base.specs.Sink.{SinkSeen}
 use Rattle.nm_base.specs.declared.limits.TheConstants.{MAX_TIME}
 use Rattle.nm_base.specs.declared.record.Record.{Record}
 use Rattle.nm_pcap.specs.Writer.{Writer}
-use Rattle.nm_files.specs.Files.{FilesTook, IsSound}
+use Rattle.nm_files.specs.Files.{FilesTook}
 use Rattle.nm_book.specs.Book.{BookValue, state_of}
 use Rattle.nm_shared.specs.Known.{Home, home_of}
 
@@ -33,14 +33,13 @@ AreHandedOut exact own records =
     × (records ≡ flat_map out_of outs)
 
 -- the files took the parts of so many records that were handed out, each those at its own
--- interface, and may be written on
+-- interface
 pub record Wrote {S : Type 0} (seen : S → SinkSeen) (exact : Bool) (own : Home) (written : ℕ)
     (old new : List (Option (Writer S))) : Type 0 where
   pub records : List (Record (List ℕ))
   pub count : length records ≡ written
   pub handed : AreHandedOut exact own records
   pub took : FilesTook seen records old new
-  pub sound : All IsSound new
 
 -- however many
 abbrev pub Streams : {S : Type 0} → (S → SinkSeen) → Bool → Home

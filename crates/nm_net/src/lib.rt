@@ -30,6 +30,7 @@ mod written;
 
 pub use lending::Lending;
 pub use replica::{Holdings, Service, run_replica};
+pub use seats::OwnSeats;
 pub use served::Served;
 pub use tcp_transport::TcpTransport;
 pub use tcp_wire::TcpWire;

@@ -1,7 +1,6 @@
 //! The records of a replica, written to its trace files while it runs.
 
-ghost use Rattle.std.specs.Prelude.{◌≡◌, All, IfOk, OnOk, false, true};
-ghost use Rattle.nm_files.specs.Files.{IsSound};
+ghost use Rattle.std.specs.Prelude.{◌≡◌, IfOk, OnOk, false, true};
 ghost use Rattle.nm_net.specs.Recording.{Streams, Wrote};
 ghost use Rattle.nm_net.specs.Served.{WasFinished};
 
@@ -33,7 +32,6 @@ fn write_some<C: Counts, S: Sink, R: Wait>(
     pass: &mut Pass<C>,
     files: &mut TraceFiles<S>,
 ) -> Result<Recorded, FilesFault>
-    requires { All IsSound files.old.files.items }
     ensures wrote { IfOk result (λ r. Wrote S.seen C.exact C.home r.written
         files.old.files.items files.new.files.items) }
     ensures last { IfOk result (λ r. r.is_last ≡ true → WasFinished C.exact C.home false) }
@@ -62,7 +60,6 @@ pub(crate) fn write_records<C: Counts, S: Sink, R: Wait>(
     files: &mut TraceFiles<S>,
     is_left: bool,
 ) -> Result<Recorded, FilesFault>
-    requires { All IsSound files.old.files.items }
     ensures streams { OnOk result (Streams S.seen C.exact C.home
         files.old.files.items files.new.files.items) }
     ensures last { IfOk result (λ r. r.is_last ≡ true → WasFinished C.exact C.home false) }

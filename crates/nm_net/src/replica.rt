@@ -1,15 +1,15 @@
 //! A replica over a transport, until it ends.
 
-ghost use Rattle.std.specs.Prelude.{◌≡◌, All, length};
-ghost use Rattle.nm_shared.specs.Board.{IsOwnerOf};
-ghost use Rattle.nm_files.specs.Files.{IsSound};
+ghost use Rattle.std.specs.Prelude.{◌≡◌, length};
 ghost use Rattle.nm_net.specs.Polls.{ending_of, idle_after};
 ghost use Rattle.nm_net.specs.Recording.{Streams};
+ghost use Rattle.nm_net.specs.Seats.{AreKept};
 ghost use Rattle.nm_net.specs.Served.{EndsWith};
 ghost use Rattle.nm_net.specs.declared.served.Served.TheVariants.{Ended};
 
 use crate::lending::Lending;
 use crate::limits::MAX_POLLS;
+use crate::seats::OwnSeats;
 use crate::served::Served;
 use crate::serving::{Polled, Serving, poll};
 use crate::transport::Transport;
@@ -17,7 +17,7 @@ use nm_base::{PartNo, Sink};
 use nm_files::TraceFiles;
 use nm_frames::ReplicaName;
 use nm_progress::Progress;
-use nm_shared::{ClockBoard, Counts, Gate, OwnerSeat, Pass, SharedBook};
+use nm_shared::{Counts, Gate, Pass, SharedBook};
 use nm_topology::Topology;
 use std::alloc::Global;
 use std::sync::{Arc, Wait};
@@ -30,7 +30,6 @@ pub struct Service<'a, C: Counts> {
     /// 0 or 1.
     pub replica: u8,
     pub book: &'a SharedBook<C>,
-    pub board: &'a ClockBoard,
     /// The partitions of the peers to which it connects, by their numbers in the network: one for
     /// each replica of a partition above its own with which it shares a channel.
     pub peers: &'a [PartNo],
@@ -58,13 +57,13 @@ pub struct Service<'a, C: Counts> {
 
 /// What a replica holds while it runs, and has still when it has ended.
 #[derive(Drop)]
-pub struct Holdings<C: Counts, S> {
+pub struct Holdings<'a, C: Counts, S> {
     /// The pass of its book.
     pub pass: Pass<C>,
     /// A pass of each book of the run, in the order of the books.
     pub passes: Vec<Pass<C>>,
     /// The seats of its outgoing channels on the board.
-    pub seats: Vec<OwnerSeat>,
+    pub seats: OwnSeats<'a>,
     /// The trace files to which its records go while it runs, unless its book keeps them.
     pub files: TraceFiles<S>,
 }
@@ -113,14 +112,10 @@ pub fn run_replica<C: Counts, S: Sink, T: Transport, G: Gate, R: Wait>(
     rt: &R,
     alloc: Global,
     service: &Service<'_, C>,
-    holdings: &mut Holdings<C, S>,
+    holdings: &mut Holdings<'_, C, S>,
     transport: &mut T,
     gate: &G,
 ) -> Served
-    // The seats are those of the board, and the trace files are sound.
-    requires owners { All (IsOwnerOf service.now.board.now) holdings.old.seats.items }
-    requires files { All IsSound holdings.old.files.files.items }
-
     // Where serving ended, each file took those at its interface of the records handed out.
     ensures streams { result ≡ Ended → Streams S.seen C.exact C.home
         holdings.old.files.files.items holdings.new.files.files.items }
@@ -130,8 +125,7 @@ pub fn run_replica<C: Counts, S: Sink, T: Transport, G: Gate, R: Wait>(
         (T.elapsed_periods transport.old) (T.elapsed_periods transport.new) result }
 
     // The seats and the passes go back.
-    ensures owners { All (IsOwnerOf service.now.board.now) holdings.new.seats.items }
-    ensures seats { length holdings.new.seats.items ≡ length holdings.old.seats.items }
+    ensures seats { AreKept holdings.old.seats holdings.new.seats }
     ensures passes { length holdings.new.passes.items ≡ length holdings.old.passes.items }
 {
     let Ok(mut serving) = Serving::new(alloc, service) else {

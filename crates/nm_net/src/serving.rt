@@ -1,12 +1,11 @@
 //! One poll of a replica, and what follows it.
 
 ghost use Rattle.std.specs.Prelude.{◌&&◌, ◌==◌, ◌||◌, ◌≡◌, ◌≤◌, true, length};
-ghost use Rattle.std.specs.Prelude.{All, IfErr, IfOk, OnOk};
-ghost use Rattle.nm_shared.specs.Board.{IsOwnerOf};
-ghost use Rattle.nm_files.specs.Files.{IsSound};
+ghost use Rattle.std.specs.Prelude.{IfErr, IfOk, OnOk};
 ghost use Rattle.nm_net.specs.Lasting.{has_lasted, lasted_after};
 ghost use Rattle.nm_net.specs.Leaving.{LeavesAfter};
 ghost use Rattle.nm_net.specs.Recording.{Streams};
+ghost use Rattle.nm_net.specs.Seats.{AreKept};
 ghost use Rattle.nm_net.specs.Served.{EndsEarly, WasFinished, WasSeen};
 ghost use Rattle.nm_net.specs.Transport.{elapsed_after};
 
@@ -339,7 +338,7 @@ fn act_alone<C: Counts, S, R: Wait>(
     rt: &R,
     alloc: Global,
     service: &Service<'_, C>,
-    holdings: &mut Holdings<C, S>,
+    holdings: &mut Holdings<'_, C, S>,
     polls: u64,
 ) -> Result<(Standing, bool), AllocError>
     ensures seen { IfOk result (λ s. WasSeen C.exact C.home s.0) }
@@ -375,7 +374,7 @@ fn serve_and_act<C: Counts, S, T: Transport, R: Wait>(
     rt: &R,
     alloc: Global,
     service: &Service<'_, C>,
-    holdings: &mut Holdings<C, S>,
+    holdings: &mut Holdings<'_, C, S>,
     transport: &mut T,
     serving: &mut Serving<T::Connection>,
 ) -> Result<Acted, Served>
@@ -444,17 +443,12 @@ pub(crate) fn poll<C: Counts, S: Sink, T: Transport, R: Wait>(
     rt: &R,
     alloc: Global,
     service: &Service<'_, C>,
-    holdings: &mut Holdings<C, S>,
+    holdings: &mut Holdings<'_, C, S>,
     transport: &mut T,
     serving: &mut Serving<T::Connection>,
 ) -> Result<Polled, Served>
-    // The seats are those of the board, and the trace files are sound.
-    requires owners { All (IsOwnerOf service.now.board.now) holdings.old.seats.items }
-    requires files { All IsSound holdings.old.files.files.items }
-
     // The seats and the passes stay.
-    ensures owners { All (IsOwnerOf service.now.board.now) holdings.new.seats.items }
-    ensures seats { length holdings.new.seats.items ≡ length holdings.old.seats.items }
+    ensures seats { AreKept holdings.old.seats holdings.new.seats }
     ensures passes { length holdings.new.passes.items ≡ length holdings.old.passes.items }
 
     // Each file took those at its interface of the records that were handed out.
@@ -474,13 +468,7 @@ pub(crate) fn poll<C: Counts, S: Sink, T: Transport, R: Wait>(
         was_run,
         moves,
     } = serve_and_act(rt, alloc, service, holdings, transport, serving)?;
-    tell_all(
-        rt,
-        service.book,
-        &mut holdings.pass,
-        service.board,
-        &mut holdings.seats,
-    );
+    tell_all(rt, service.book, &mut holdings.pass, &mut holdings.seats);
     let may_end = standing.is_done
         && (serving.may_leave(ran_out) || all_are_done(rt, service, &mut holdings.passes));
     // A replica that is done makes no records any more: those that it has are written now.

@@ -20,7 +20,7 @@ pub(crate) fn merge_sister<C: Counts, S, R: Wait>(
     rt: &R,
     alloc: Global,
     service: &Service<'_, C>,
-    holdings: &mut Holdings<C, S>,
+    holdings: &mut Holdings<'_, C, S>,
 ) -> Result<(), AllocError>
     ensures { (holdings.new.seats ≡ holdings.old.seats)
         × (holdings.new.files ≡ holdings.old.files)

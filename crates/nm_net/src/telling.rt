@@ -1,8 +1,10 @@
 //! What the board is told.
 
-ghost use Rattle.std.specs.Prelude.{◌≡◌, All, length};
+ghost use Rattle.std.specs.Prelude.{◌≡◌};
+ghost use Rattle.nm_net.specs.Seats.{AreKept};
 ghost use Rattle.nm_shared.specs.Board.{IsOwnerOf, owned_word};
 
+use crate::seats::OwnSeats;
 use nm_shared::acts::MakeNull;
 use nm_shared::{ClockBoard, Counts, OwnerSeat, Pass, SharedBook};
 use std::sync::Wait;
@@ -30,14 +32,11 @@ pub(crate) fn tell_all<C: Counts, R: Wait>(
     rt: &R,
     book: &SharedBook<C>,
     pass: &mut Pass<C>,
-    board: &ClockBoard,
-    seats: &mut Vec<OwnerSeat>,
+    own: &mut OwnSeats<'_>,
 )
-    requires { All (IsOwnerOf board.now) seats.old.items }
-    ensures owners { All (IsOwnerOf board.now) seats.new.items }
-    ensures count { length seats.new.items ≡ length seats.old.items }
+    ensures { AreKept own.old own.new }
 {
-    for number in 0..seats.len() {
-        tell(rt, book, pass, board, &mut seats[number]);
+    for number in 0..own.seats.len() {
+        tell(rt, book, pass, own.board, &mut own.seats[number]);
     }
 }

@@ -1,11 +1,9 @@
 //! One replica over TCP, until it is done.
 
-ghost use Rattle.std.specs.Prelude.{◌≡◌, ◌^◌, All, IfOk};
+ghost use Rattle.std.specs.Prelude.{◌≡◌, ◌^◌, IfOk};
 ghost use Rattle.std.specs.Arc.{arc_value};
-ghost use Rattle.nm_files.specs.Files.{IsSound};
 ghost use Rattle.nm_net.specs.Served.{IsFinished};
 ghost use Rattle.nm_process.specs.Process.{IsDoneReplica};
-ghost use Rattle.nm_shared.specs.Board.{IsOwnerOf};
 ghost use Rattle.nm_shared.specs.Counted.{IsBlankOf};
 ghost use Rattle.nm_shared.specs.Known.{home_at, home_of};
 
@@ -15,8 +13,7 @@ use mio::net::TcpListener;
 use nm_base::{MemSink, PartNo};
 use nm_book::{Book, BookFault};
 use nm_files::TraceFiles;
-use nm_net::seats::own_seats;
-use nm_net::{Holdings, Lending, Served, Service, TcpTransport, run_replica};
+use nm_net::{Holdings, Lending, OwnSeats, Served, Service, TcpTransport, run_replica};
 use nm_peers::peers::own_address;
 use nm_peers::{Listener, Peers, peers_of};
 use nm_progress::Progress;
@@ -79,12 +76,8 @@ fn serve<C: Counts, R: Net + Wait + Clock + Drop + Copy>(
     alloc: Global,
     process: &Process<'_>,
     book: &SharedBook<C>,
-    board: &ClockBoard,
-    holdings: &mut Holdings<C, MemSink>,
-) -> Result<bool, ProcessFault>
-    requires owners { All (IsOwnerOf board.now) holdings.old.seats.items }
-    requires files { All IsSound holdings.old.files.files.items }
-{
+    holdings: &mut Holdings<'_, C, MemSink>,
+) -> Result<bool, ProcessFault> {
     let peers = peers_of(
         alloc,
         process.topology,
@@ -98,7 +91,6 @@ fn serve<C: Counts, R: Net + Wait + Clock + Drop + Copy>(
         partition: process.partition,
         replica: process.replica,
         book,
-        board,
         peers: peers.partitions.as_slice(),
         callers: peers.callers.as_slice(),
         books: &[],
@@ -138,7 +130,7 @@ fn shared_of<M: Naming + Send + Sync, E: Ledger + Send + Sync>(
     match SharedBook::new(alloc, topology, partition, replica, counts, whole) {
         Ok(book) => Ok(book),
         Err(BookFault::Memory) => Err(ProcessFault::Memory),
-        Err(BookFault::NoSuch) => Err(ProcessFault::IMPOSSIBLE),
+        Err(BookFault::Refused(_)) => Err(ProcessFault::IMPOSSIBLE),
     }
 }
 
@@ -151,14 +143,8 @@ fn serve_with<C: Counts, R: Net + Wait + Clock + Drop + Copy>(
     pass: Pass<C>,
 ) -> Result<(Pass<C>, bool), ProcessFault> {
     let (board, owners, _) = ClockBoard::new(alloc, process.topology)?;
-    let seats = own_seats(
-        alloc,
-        process.topology,
-        &board,
-        process.partition,
-        process.replica,
-        owners,
-    )?;
+    let (partition, replica) = (process.partition, process.replica);
+    let seats = OwnSeats::of_replica(alloc, process.topology, &board, partition, replica, owners)?;
     let mut holdings = Holdings {
         pass,
         passes: Vec::new(alloc),
@@ -166,7 +152,7 @@ fn serve_with<C: Counts, R: Net + Wait + Clock + Drop + Copy>(
         // The book keeps its trace: files are made of it once it is done.
         files: TraceFiles::new(alloc),
     };
-    let has_stalled = serve(rt, alloc, process, book, &board, &mut holdings)?;
+    let has_stalled = serve(rt, alloc, process, book, &mut holdings)?;
     Ok((holdings.pass, has_stalled))
 }
 

@@ -251,7 +251,7 @@ pub(crate) fn restart(
             books[place] = book;
             Ok(StepAnswer::Emptied)
         }
-        Err(BookFault::NoSuch) => Err(Stop::NoSuch),
+        Err(BookFault::Refused(_)) => Err(Stop::NoSuch),
         Err(BookFault::Memory) => Err(Stop::Memory),
     }
 }

@@ -82,7 +82,7 @@ module _ (ends : List Served) (n : ℕ) where
 
 -- where all replicas were done, the files of all are counted
 pub all_counted : {S : Type 0} (seen : S → SinkSeen) (made : Option Files) (ends : List (SideEnd S)) → All (λ s. s ≡ served.Ended) (map (λ e. e.served) ends)
-    → All (StillCounts seen made) ends → All (λ e. AreCounted seen made e.holdings.files.files.items) ends
+    → All (StillCounts seen made) ends → All (λ e. AreCounted seen made e.files.files.items) ends
 all_counted seen made ends ended still k d low =
     let same = length-map ends (λ e. e.served) in
     still k d low (sym (get_or-map (λ e. e.served) ends k d d.served low) ∙ ended k d.served (omega (arith, low, same)))

@@ -9,4 +9,4 @@ use Rattle.nm_run.specs.declared.sides.SideEnd.{SideEnd}
 -- the trace files of one that was done are counted
 abbrev pub StillCounts : {S : Type 0} → (S → SinkSeen) → Option Files → SideEnd S → Type 0
 StillCounts seen made end =
-    end.served ≡ Ended → AreCounted seen made end.holdings.files.files.items
+    end.served ≡ Ended → AreCounted seen made end.files.files.items

@@ -14,7 +14,6 @@ use crate::stop::Stop;
 use nm_base::Sink;
 use nm_book::Book;
 use nm_files::TraceFiles;
-use nm_net::Holdings;
 use nm_rounds::certify::certify;
 use nm_shared::{Pass, Plain, SharedBook};
 use nm_topology::Topology;
@@ -69,22 +68,18 @@ fn gather_sides<S: Sink + Drop>(
     ends: Vec<SideEnd<S>>,
 ) -> Result<Vec<TraceFiles<S>>, AllocError>
     ensures { (made : Option Files)
-        → All (λ end. AreCounted S.seen made end.holdings.files.files.items) ends.items
+        → All (λ end. AreCounted S.seen made end.files.files.items) ends.items
         → IfOk result (λ files. All (λ own. AreCounted S.seen made own.files.items) files.items) }
 {
     let mut files = Vec::new(alloc);
     for end in ends {
         let SideEnd {
             index,
-            holdings,
-            ..
-        } = end;
-        let Holdings {
             pass,
             passes: others,
             files: own,
             ..
-        } = holdings;
+        } = end;
         passes.add(index, pass)?;
         passes.add_each(others)?;
         files.push(own)?;
@@ -171,7 +166,7 @@ pub(crate) fn close_run<S: Sink + Drop>(
     ensures books { IfOk result
         (λ run. AreOfRun (arc_value plan.now.topology.now) plan.now.replicas run.0.items) }
     ensures files { (made : Option Files)
-        → All (λ end. AreCounted S.seen made end.holdings.files.files.items) ends.items
+        → All (λ end. AreCounted S.seen made end.files.files.items) ends.items
         → IfOk result (λ run. All (λ own. AreCounted S.seen made own.files.items) run.1.items) }
 {
     let mut passes = Passes::new(alloc, books.len())?;

@@ -2,7 +2,7 @@
 
 ghost use Rattle.std.specs.Prelude.{◌≡◌, ℕ, ◌<◌, All, IfErr, IfOk, List, OnOk, Option, Some};
 ghost use Rattle.std.specs.Prelude.{length, map, slice_get};
-ghost use Rattle.nm_files.specs.Files.{AreCounted, IsCounted, IsSound};
+ghost use Rattle.nm_files.specs.Files.{AreCounted, IsCounted};
 ghost use Rattle.nm_files.specs.Outputs.{AreWhole, Files, HasMade};
 ghost use Rattle.nm_run.specs.Faults.{IsOfFiles, run_fault};
 ghost use Rattle.nm_run.specs.Files.{AreClosed, IsFileOf};
@@ -35,13 +35,11 @@ fn open_own<F: Outputs>(
     outputs: &mut F,
     files: &mut TraceFiles<F::File>,
 ) -> Result<(), Stop>
-    // The interface is there, and the files that are open are sound and counted.
+    // The interface is there, and the files that are open are counted.
     requires there { iface < length folder.topology.now.ifaces }
-    requires sound { All IsSound files.old.files.items }
     requires counted { AreCounted F.File.seen (F.made outputs.old) files.old.files.items }
 
     // So are they with this one, and none was placed.
-    ensures sound { All IsSound files.new.files.items }
     ensures counted { OnOk result
         (AreCounted F.File.seen (F.made outputs.old) files.new.files.items) }
     ensures same { F.made outputs.new ≡ F.made outputs.old }
@@ -65,7 +63,6 @@ pub(crate) fn open_files<F: Outputs>(
     partition: PartNo,
     outputs: &mut F,
 ) -> Result<TraceFiles<F::File>, Stop>
-    ensures sound { IfOk result (λ f. All IsSound f.files.items) }
     ensures counted { IfOk result
         (λ f. AreCounted F.File.seen (F.made outputs.old) f.files.items) }
     ensures same { F.made outputs.new ≡ F.made outputs.old }

@@ -3,11 +3,11 @@
 ghost use Rattle.std.specs.Prelude.{◌≡◌, ◌⊎◌, ℕ, ◌+◌, ◌-◌, ◌^◌, ◌<◌, ◌≤◌, All, IfErr, IfOk, None};
 ghost use Rattle.std.specs.Prelude.{Some, length};
 ghost use Rattle.std.specs.Arc.{arc_value};
-ghost use Rattle.nm_files.specs.Files.{AreCounted, IsSound};
+ghost use Rattle.nm_files.specs.Files.{AreCounted};
 ghost use Rattle.nm_run.specs.Faults.{HasReason, IsOfFiles};
+ghost use Rattle.nm_net.specs.Seats.{board_of};
 ghost use Rattle.nm_run.specs.Files.{AreClosed, HaveFiles};
 ghost use Rattle.nm_run.specs.Report.{AreOfRun, IsCertifiedRun};
-ghost use Rattle.nm_shared.specs.Board.{IsOwnerOf};
 
 use crate::closing::{certify_all, close_run};
 use crate::dispatching::Dispatcher;
@@ -26,11 +26,11 @@ use nm_base::PartNo;
 use nm_book::{Book, BookFault};
 use nm_files::{Outputs, TraceFiles};
 use nm_frames::ReplicaName;
-use nm_net::seats::{Dealt, deal};
-use nm_net::{Holdings, Lending};
+use nm_net::seats::Dealt;
+use nm_net::{Holdings, Lending, OwnSeats};
 use nm_peers::{Listener, peers_of};
 use nm_progress::Progress;
-use nm_shared::{ClockBoard, Gate, OwnerSeat, Pass, Plain, Seat, SharedBook};
+use nm_shared::{ClockBoard, Gate, Pass, Plain, Seat, SharedBook};
 use nm_topology::Topology;
 use std::alloc::{AllocError, Global};
 use std::net::Net;
@@ -62,7 +62,7 @@ fn share_one(
     let topology = Arc::try_clone(topology)?;
     match SharedBook::new(alloc, topology, partition, replica, counts, whole) {
         Ok(book) => Ok(book),
-        Err(BookFault::NoSuch) => Err(Stop::IMPOSSIBLE),
+        Err(BookFault::Refused(_)) => Err(Stop::IMPOSSIBLE),
         Err(BookFault::Memory) => Err(Stop::Memory),
     }
 }
@@ -99,20 +99,18 @@ struct Opened<'a> {
     /// By partition and replica.
     books: &'a [SharedBook<Plain>],
     listeners: &'a [Listener],
-    board: &'a ClockBoard,
 }
 
 /// What the replica that listens here holds.
-fn holdings_of<F: Outputs, R: Wait>(
+fn holdings_of<'a, F: Outputs, R: Wait>(
     rt: &R,
     opened: &Opened<'_>,
     book: &SharedBook<Plain>,
     listener: &Listener,
-    seats: Vec<OwnerSeat>,
+    seats: OwnSeats<'a>,
     outputs: &mut F,
-) -> Result<Holdings<Plain, F::File>, Stop>
-    ensures seats { IfOk result (λ h. h.seats ≡ seats) }
-    ensures files { IfOk result (λ h. All IsSound h.files.files.items) }
+) -> Result<Holdings<'a, Plain, F::File>, Stop>
+    ensures seats { IfOk result (λ h. h.seats ≡ seats.entry) }
     ensures counted { IfOk result
         (λ h. AreCounted F.File.seen (F.made outputs.old) h.files.files.items) }
     ensures same { F.made outputs.new ≡ F.made outputs.old }
@@ -161,16 +159,15 @@ fn role_of(plan: &RunPlan<'_>, index: usize, listener: &Listener) -> Role {
 }
 
 /// The replica whose book stands at this index.
-fn side_of<F: Outputs, R: Wait>(
+fn side_of<'a, F: Outputs, R: Wait>(
     rt: &R,
     opened: &Opened<'_>,
     index: usize,
     post: Post,
-    seats: Vec<OwnerSeat>,
+    seats: OwnSeats<'a>,
     outputs: &mut F,
-) -> Result<Side<F::File>, Stop>
-    ensures seats { IfOk result (λ s. s.holdings.seats ≡ seats) }
-    ensures files { IfOk result (λ s. All IsSound s.holdings.files.files.items) }
+) -> Result<Side<'a, F::File>, Stop>
+    ensures seats { IfOk result (λ s. s.holdings.seats ≡ seats.entry) }
     ensures counted { IfOk result
         (λ s. AreCounted F.File.seen (F.made outputs.old) s.holdings.files.files.items) }
     ensures same { F.made outputs.new ≡ F.made outputs.old }
@@ -193,24 +190,23 @@ fn side_of<F: Outputs, R: Wait>(
 }
 
 /// All replicas.
-fn sides_of<F: Outputs, R: Wait>(
+fn sides_of<'a, F: Outputs, R: Wait>(
     rt: &R,
     opened: &Opened<'_>,
-    owners: Vec<OwnerSeat>,
+    seats: OwnSeats<'a>,
     posts: Vec<Post>,
     outputs: &mut F,
-) -> Result<Vec<Side<F::File>>, Stop>
-    requires { All (IsOwnerOf opened.now.board.now) owners.items }
-    ensures sides { IfOk result (λ sides. All (λ s. All (IsOwnerOf opened.now.board.now)
-        s.holdings.seats.items × All IsSound s.holdings.files.files.items) sides.items) }
+) -> Result<Vec<Side<'a, F::File>>, Stop>
+    ensures board { IfOk result
+        (λ sides. All (λ s. board_of s.holdings.seats ≡ board_of seats.entry) sides.items) }
     ensures counted { IfOk result (λ sides. All (λ s. AreCounted F.File.seen
         (F.made outputs.old) s.holdings.files.files.items) sides.items) }
     ensures same { F.made outputs.new ≡ F.made outputs.old }
 {
     let mut sides = Vec::new(opened.alloc);
-    let mut rest = owners;
+    let mut rest = seats;
     for (index, post) in posts.into_iter().enumerate() {
-        let (own, others) = own_and_others(opened, index, rest)?;
+        let Dealt { own, others } = own_and_others(opened, index, rest)?;
         rest = others;
         sides.push(side_of(rt, opened, index, post, own, outputs)?)?;
     }
@@ -218,14 +214,13 @@ fn sides_of<F: Outputs, R: Wait>(
 }
 
 /// The seats of the replica whose book stands at this index, and the others.
-fn own_and_others(
+fn own_and_others<'a>(
     opened: &Opened<'_>,
     index: usize,
-    owners: Vec<OwnerSeat>,
-) -> Result<(Vec<OwnerSeat>, Vec<OwnerSeat>), Stop>
-    requires { All (IsOwnerOf opened.now.board.now) owners.items }
-    ensures own { IfOk result (λ d. All (IsOwnerOf opened.now.board.now) d.0.items) }
-    ensures others { IfOk result (λ d. All (IsOwnerOf opened.now.board.now) d.1.items) }
+    seats: OwnSeats<'a>,
+) -> Result<Dealt<'a>, Stop>
+    ensures { IfOk result (λ d. (board_of d.own ≡ board_of seats.entry)
+        × (board_of d.others ≡ board_of seats.entry)) }
 {
     let Some(listener) = opened.listeners.get(index) else {
         return Err(Stop::IMPOSSIBLE);
@@ -235,8 +230,7 @@ fn own_and_others(
         replica: listener.replica,
     };
     let topology = opened.plan.topology;
-    let Dealt { own, others } = deal(opened.alloc, topology, opened.board, replica, owners)?;
-    Ok((own, others))
+    Ok(seats.deal(opened.alloc, topology, replica)?)
 }
 
 /// Each book is lent to the pool at first. A partition that is alone has no messages to wait for:
@@ -304,7 +298,7 @@ where
     R: Runtime,
     requires { (1 ≤ plan.now.workers) × (plan.now.workers ≤ 64) }
     ensures counted { IfOk result (λ run. All (λ end. AreCounted F.File.seen
-        (F.made outputs.old) end.holdings.files.files.items) run.0.items) }
+        (F.made outputs.old) end.files.files.items) run.0.items) }
     ensures same { F.made outputs.new ≡ F.made outputs.old }
 {
     let (board, owners, mut seats) = ClockBoard::new(alloc, plan.topology)?;
@@ -321,9 +315,9 @@ where
         plan: &*plan,
         books: &*books,
         listeners: listeners.as_slice(),
-        board: &board,
     };
-    let sides = sides_of(rt, &opened, owners, posts, outputs)?;
+    let seats = OwnSeats::all(&board, owners);
+    let sides = sides_of(rt, &opened, seats, posts, outputs)?;
     let (dispatcher, waker) = dispatcher_of(rt, &opened, seat)?;
     let (ended, has_failed) = (AtomicUsize::new(0), AtomicBool::new(false));
     let lendings = lendings_for(alloc, plan.topology, books)?;

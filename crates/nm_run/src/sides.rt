@@ -2,11 +2,11 @@
 
 ghost use Rattle.std.specs.Prelude.{◌≡◌, ◌⊎◌, ◌≤◌, All, IfOk, Option};
 ghost use Rattle.nm_net.specs.declared.served.Served.TheVariants.{Ended, Memory, Net};
-ghost use Rattle.nm_files.specs.Files.{AreCounted, IsSound};
+ghost use Rattle.nm_files.specs.Files.{AreCounted};
 ghost use Rattle.nm_files.specs.Outputs.{Files};
 ghost use Rattle.nm_run.specs.Sides.{StillCounts};
 ghost use Rattle.nm_run.specs.Took.{TookSome};
-ghost use Rattle.nm_shared.specs.Board.{IsOwnerOf, IsSeatOf};
+ghost use Rattle.nm_shared.specs.Board.{IsSeatOf};
 
 use crate::dispatching::{Dispatcher, dispatch};
 use crate::gates::SideGate;
@@ -20,7 +20,7 @@ use nm_frames::ReplicaName;
 use nm_net::limits::MAX_IDLE_PERIODS;
 use nm_net::{Holdings, Served, Service, TcpTransport, run_replica};
 use nm_peers::Peers;
-use nm_shared::{Gate, Plain};
+use nm_shared::{Gate, Pass, Plain};
 use std::alloc::Global;
 use std::io::{self, ErrorKind};
 use std::net::Net;
@@ -48,9 +48,9 @@ pub(crate) struct Role {
 
 /// A replica that is to run.
 #[derive(Drop)]
-pub(crate) struct Side<S> {
+pub(crate) struct Side<'a, S> {
     pub role: Role,
-    pub holdings: Holdings<Plain, S>,
+    pub holdings: Holdings<'a, Plain, S>,
     pub post: Post,
     pub peers: Peers,
 }
@@ -61,7 +61,11 @@ pub(crate) struct SideEnd<S> {
     /// Where its book stands among those of the run.
     pub index: usize,
     pub served: Served,
-    pub holdings: Holdings<Plain, S>,
+    /// The pass of its book.
+    pub pass: Pass<Plain>,
+    /// A pass of each book of the run, in the order of the books.
+    pub passes: Vec<Pass<Plain>>,
+    pub files: TraceFiles<S>,
 }
 
 /// What became of the trace files with which the thread of a replica began, if the replica was
@@ -74,7 +78,7 @@ impl<S: Sink> Promise<SideEnd<S>> for TookRecords<S> {
     ghost use Rattle.nm_run.specs.Took.{TookSome};
 
     ghost kept_by = { λ p end. end.served ≡ Ended → TookSome S.seen
-        p.0.value.files.items end.holdings.files.files.items };
+        p.0.value.files.items end.files.files.items };
 }
 
 /// Serves a replica over its connections until it ends. It calls these partitions, and these
@@ -84,11 +88,9 @@ fn serve<S: Sink, G: Gate, R: Net + Wait + Clock + Drop + Copy>(
     threaded: &Threaded<'_, G>,
     role: Role,
     peers: (&[PartNo], &[ReplicaName]),
-    holdings: &mut Holdings<Plain, S>,
+    holdings: &mut Holdings<'_, Plain, S>,
     transport: &mut TcpTransport<R>,
 ) -> Served
-    requires owners { All (IsOwnerOf threaded.now.board.now) holdings.old.seats.items }
-    requires files { All IsSound holdings.old.files.files.items }
     ensures took { result ≡ Ended → TookSome S.seen
         holdings.old.files.files.items holdings.new.files.files.items }
 {
@@ -101,7 +103,6 @@ fn serve<S: Sink, G: Gate, R: Net + Wait + Clock + Drop + Copy>(
         partition: role.partition,
         replica: role.replica,
         book: own.book,
-        board: threaded.board,
         peers: peers.0,
         callers: peers.1,
         books: threaded.books,
@@ -139,12 +140,10 @@ pub(crate) fn run_side<S: Sink, G: Gate, R: Net + Wait + Clock + Drop + Copy>(
     rt: &R,
     alloc: Global,
     threaded: &Threaded<'_, G>,
-    side: Side<S>,
+    side: Side<'_, S>,
 ) -> SideEnd<S>
-    requires owners { All (IsOwnerOf threaded.now.board.now) side.holdings.seats.items }
-    requires files { All IsSound side.holdings.files.files.items }
     ensures took { result.served ≡ Ended → TookSome S.seen
-        side.holdings.files.files.items result.holdings.files.files.items }
+        side.entry.holdings.files.files.items result.files.files.items }
 {
     let Side {
         role,
@@ -170,10 +169,18 @@ pub(crate) fn run_side<S: Sink, G: Gate, R: Net + Wait + Clock + Drop + Copy>(
         threaded.fail();
     }
     threaded.count_end();
+    let Holdings {
+        pass,
+        passes,
+        files,
+        ..
+    } = holdings;
     SideEnd {
         index,
         served,
-        holdings,
+        pass,
+        passes,
+        files,
     }
 }
 
@@ -190,15 +197,13 @@ pub(crate) fn run_threads<S: Sink + Drop + Send, G: Gate + Sync, R: Runtime>(
     alloc: Global,
     threaded: &Threaded<'_, G>,
     workers: usize,
-    sides: Vec<Side<S>>,
+    sides: Vec<Side<'_, S>>,
     dispatcher: Dispatcher,
 ) -> Result<(Vec<SideEnd<S>>, Dispatcher), Stop>
     requires workers { (1 ≤ workers) × (workers ≤ 64) }
     requires seat { IsSeatOf threaded.now.board.now dispatcher.seat }
-    requires sides { All (λ s. All (IsOwnerOf threaded.now.board.now) s.holdings.seats.items
-        × All IsSound s.holdings.files.files.items) sides.items }
     ensures counted { (made : Option Files)
-        → All (λ s. AreCounted S.seen made s.holdings.files.files.items) sides.items
+        → All (λ s. AreCounted S.seen made s.holdings.files.files.items) sides.entry.items
         → IfOk result (λ run. All (StillCounts S.seen made) run.0.items) }
 {
     thread::scope(
@@ -207,10 +212,8 @@ pub(crate) fn run_threads<S: Sink + Drop + Send, G: Gate + Sync, R: Runtime>(
         move |scope| -> Result<(Vec<SideEnd<S>>, Dispatcher), Stop>
             requires workers { (1 ≤ workers) × (workers ≤ 64) }
             requires seat { IsSeatOf threaded.now.board.now dispatcher.seat }
-            requires sides { All (λ s. All (IsOwnerOf threaded.now.board.now)
-                s.holdings.seats.items × All IsSound s.holdings.files.files.items) sides.items }
             ensures counted { (made : Option Files)
-                → All (λ s. AreCounted S.seen made s.holdings.files.files.items) sides.items
+                → All (λ s. AreCounted S.seen made s.holdings.files.files.items) sides.entry.items
                 → IfOk result (λ run. All (StillCounts S.seen made) run.0.items) }
         {
             let mut dispatcher = dispatcher;
@@ -220,10 +223,8 @@ pub(crate) fn run_threads<S: Sink + Drop + Send, G: Gate + Sync, R: Runtime>(
                 let begun = scope.spawn_with(
                     promise,
                     move || -> SideEnd<S>
-                        requires { All (IsOwnerOf threaded.now.board.now) side.holdings.seats.items
-                            × All IsSound side.holdings.files.files.items }
                         ensures { result.served ≡ Ended → TookSome S.seen
-                            side.holdings.files.files.items result.holdings.files.files.items }
+                            side.entry.holdings.files.files.items result.files.files.items }
                     { run_side(rt, alloc, threaded, side) },
                 );
                 let Ok(thread) = begun else {

@@ -5,7 +5,8 @@ ghost use Rattle.std.specs.Prelude.{vec_len, IfOk, IfErr, IfSome};
 ghost use Rattle.std.specs.Arc.{arc_value};
 ghost use Rattle.std.specs.List.{sum_by};
 ghost use Rattle.nm_book.specs.Book.{BookValue, is_replica};
-ghost use Rattle.nm_book.specs.declared.fault.BookFault.TheVariants.{NoSuch};
+ghost use Rattle.nm_base.specs.declared.fault.Fault.TheVariants.{Refused};
+ghost use Rattle.nm_book.specs.declared.fault.BookRefusal.TheVariants.{NoSuch};
 ghost use Rattle.nm_shared.specs.Counted.{Meets, Rises};
 ghost use Rattle.nm_shared.specs.Known.{Grows, HasAllChannels, home_of, messages_known};
 
@@ -200,10 +201,10 @@ impl<C: Counts> SharedBook<C> {
         // There is a book where the partition has such a replica, and only there.
         ensures there { IfOk result
             (λ _. is_replica (arc_value topology) partition replica ≡ true) }
-        ensures no_such { result ≡ Err NoSuch
+        ensures no_such { result ≡ Err (Refused NoSuch)
             → is_replica (arc_value topology) partition replica ≡ false }
         ensures refused { is_replica (arc_value topology) partition replica ≡ false
-            → result ≡ Err NoSuch }
+            → result ≡ Err (Refused NoSuch) }
     {
         let book = Book::new(alloc, topology, partition, replica)?;
         Ok(SharedBook {

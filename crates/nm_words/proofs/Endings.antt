@@ -5,12 +5,11 @@ use Rattle.nm_base.specs.Sink.{SinkSeen}
 use Rattle.nm_pcap.specs.declared.form.Form.{Form}
 use Rattle.nm_command.specs.declared.status.Status.{Status}
 use Rattle.nm_command.specs.declared.ways.Ways.{Ways}
-use Rattle.nm_files.specs.declared.trace_file.TraceFault.{TraceFault}
-use Rattle.nm_files.specs.declared.trace_file.TraceFault.TheVariants.{Sink, Memory}
+use Rattle.nm_base.specs.declared.fault.Fault.TheVariants.{Refused, Memory}
 use Rattle.nm_words.specs.Input.{InputsSeen, IsInput}
 use Rattle.nm_words.specs.Output.{EndsWord, IsPut, output_seen}
 use Rattle.nm_words.specs.Traces.{EndsTrace, IsAnswer, outcome_status}
-use Rattle.nm_files.specs.Writing.{Writes}
+use Rattle.nm_files.specs.Writing.{TraceFault, Writes}
 
 -- what is said was written, or was not, or nothing is said
 module _ {S : Type 0} (seen : S → SinkSeen) (before after : InputsSeen) (old new : S) {V : Type 0} (text : V → List ℕ) (asked : V → Status) where
@@ -35,5 +34,5 @@ module _ {S : Type 0} (seen : S → SinkSeen) (before after : InputsSeen) (old n
       → EndsTrace (record { inputs = before; output = output_seen seen old }) (record { inputs = after; output = output_seen seen new })
       form ways topology name (outcome_status outcome)
   ends_written form ways topology name text octets (Ok _) input answer w = inl (inl (octets, (text, input, (refl, answer)), w))
-  ends_written form ways topology name text octets (Err Sink) input answer w = inl (inr (inl (refl, (_, octets, (text, input, (refl, answer)), w))))
+  ends_written form ways topology name text octets (Err (Refused _)) input answer w = inl (inr (inl (refl, (_, octets, (text, input, (refl, answer)), w))))
   ends_written form ways topology name text octets (Err Memory) input answer w = inr (refl, (octets, (text, input, (refl, answer)), w))

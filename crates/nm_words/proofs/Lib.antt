@@ -3,7 +3,6 @@ pub mod Texts
 pub mod Times
 pub mod Endings
 pub mod Ways
-mod Faults
 mod Held
 mod Showings
 mod Stepping

@@ -4,6 +4,7 @@ use Rattle.std.specs.Str.{bytes_eq}
 use Rattle.nm_base.specs.declared.record.Dir.{Dir}
 use Rattle.nm_base.specs.declared.record.Dir.TheVariants.{In, Out}
 use Rattle.nm_base.specs.declared.record.Record.{Record}
+use Rattle.nm_base.specs.declared.fault.Fault.TheVariants.{Refused, Memory as NoMemory}
 use Rattle.nm_pcap.specs.declared.form.Form.{Form}
 use Rattle.nm_topology.specs.Topology.{topology_of}
 use Rattle.nm_topology.specs.PartValues.{IfaceValue}
@@ -13,11 +14,10 @@ use Rattle.nm_command.specs.declared.status.Status.{Status}
 use Rattle.nm_command.specs.declared.status.Status.TheVariants.{Done, NoInterface, File, Memory}
 use Rattle.nm_command.specs.declared.ways.Ways.{Ways}
 use Rattle.nm_command.specs.declared.ways.Ways.TheVariants.{Both, Sent, Received}
-use Rattle.nm_files.specs.declared.trace_file.TraceFault.{TraceFault}
-use Rattle.nm_files.specs.declared.trace_file.TraceFault.TheVariants.{Sink, Memory as NoMemory}
 use Rattle.nm_words.specs.Input.{IsRefused}
 use Rattle.nm_words.specs.Output.{EndsWord, Exchange, FailsOfInput, IsPartWritten, SaysOfInput}
 use Rattle.nm_files.specs.TraceFile.{trace_file}
+use Rattle.nm_files.specs.Writing.{TraceFault}
 
 -- the number of the interface that a command names, which is 0 where it names none
 abbrev pub iface_named : List IfaceValue → Option (List ℕ) → Option ℕ
@@ -73,5 +73,5 @@ module _ {S : Type 0} (before after : Exchange S) where
 -- the status of a command whose trace file was written, or was not
 abbrev pub outcome_status : Result Unit TraceFault → Status
 outcome_status (Ok _) = Done
-outcome_status (Err Sink) = File
+outcome_status (Err (Refused _)) = File
 outcome_status (Err NoMemory) = Memory

@@ -8,7 +8,7 @@ ghost use Rattle.nm_base.specs.declared.record.Record.{Record as TraceRecord};
 ghost use Rattle.nm_command.specs.Status.{ended};
 ghost use Rattle.nm_command.specs.declared.status.Status.TheVariants.{File, Memory, NoInterface};
 ghost use Rattle.nm_events.specs.Held.{pending_of};
-ghost use Rattle.nm_files.specs.Files.{FilesTook, IsSound};
+ghost use Rattle.nm_files.specs.Files.{FilesTook};
 ghost use Rattle.nm_files.specs.Names.{file_name};
 ghost use Rattle.nm_files.specs.Outputs.{AreWhole, HasMade, HasMadeSome};
 ghost use Rattle.nm_sim.specs.Trace.{IsTraceBefore, IsTracing};
@@ -84,9 +84,8 @@ fn open_wanted<F: Outputs>(
     outputs: &mut F,
     files: &mut TraceFiles<F::File>,
 ) -> Result<(), Status>
-    // The interface is there, and the files that are open are sound.
+    // The interface is there.
     requires there { number < length wanted.now.network.now.ifaces }
-    requires sound { All IsSound files.old.files.items }
 
     // Where its file is asked for, it stands behind the others, and was begun.
     ensures opened { (iface : IfaceValue)
@@ -94,7 +93,6 @@ fn open_wanted<F: Outputs>(
         → OnOk result (HasOpened F.File.seen (F.made outputs.old)
         (is_wanted (map (λ n. string_bytes n) wanted.now.names.now) iface)
         files.old.files.items files.new.files.items) }
-    ensures sound { All IsSound files.new.files.items }
 
     // No file was placed, and the faults are these.
     ensures same { F.made outputs.new ≡ F.made outputs.old }
@@ -121,7 +119,6 @@ fn open_all<F: Outputs>(
         [] files.files.items) }
     ensures count { IfOk result (λ files.
         length files.files.items ≡ length wanted.now.network.now.ifaces) }
-    ensures sound { IfOk result (λ files. All IsSound files.files.items) }
     ensures same { F.made outputs.new ≡ F.made outputs.old }
     ensures fault { IfErr result (λ s. (s ≡ File) ⊎ (s ≡ Memory)) }
 {
@@ -143,7 +140,6 @@ fn record_all<S: Sink>(
     requires tracing { IsTracing pending_of network.now tracer.old }
     requires none { tracer.old.records.handed ≡ 0 }
     requires nothing { tracer.old.records.kept ≡ [] }
-    requires sound { All IsSound files.old.files.items }
     ensures took { (records : List (TraceRecord (List ℕ)))
         → IsTraceBefore network.now network.now.stop records
         → OnOk result (FilesTook S.seen records

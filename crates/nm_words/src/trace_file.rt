@@ -62,8 +62,8 @@ fn write_one<S: Sink>(
 ///
 /// # Errors
 ///
-/// `Sink` where the sink failed: it took a prefix of the file. `Memory` where memory was refused:
-/// it took a prefix of the file then too.
+/// `Refused` where the sink failed: it took a prefix of the file. `Memory` where memory was
+/// refused: it took a prefix of the file then too.
 pub fn write_trace_file<S: Sink + Drop>(
     alloc: Global,
     topology: &Topology,
@@ -97,7 +97,7 @@ fn write_file<S: Sink>(
         (trace_file file.old.form traced.now.iface (going traced.now.ways records)) }
 {
     sink_outcome(file.start())?;
-    let mut tracer = Tracer::start(alloc, topology).or(Err(TraceFault::Memory))?;
+    let mut tracer = Tracer::start(alloc, topology)?;
     write_all_of(alloc, topology, &mut tracer, traced, file, progress)?;
     sink_outcome(file.end())
 }
@@ -138,7 +138,7 @@ fn write_all_of<S: Sink>(
         (written_at file.old.form traced.now.iface (going traced.now.ways records)) }
 {
     for event in 0..u64::MAX {
-        let is_there = go_on(alloc, topology, tracer, progress).or(Err(TraceFault::Memory))?;
+        let is_there = go_on(alloc, topology, tracer, progress)?;
         if !is_there {
             return Ok(());
         }

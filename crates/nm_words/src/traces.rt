@@ -78,7 +78,7 @@ fn status_of(outcome: Result<(), TraceFault>) -> Status
 {
     match outcome {
         Ok(()) => Status::Done,
-        Err(TraceFault::Sink) => Status::File,
+        Err(TraceFault::Refused(_)) => Status::File,
         Err(TraceFault::Memory) => Status::Memory,
     }
 }

@@ -1,8 +1,6 @@
 //! Replicas that are served.
 
-ghost use Rattle.std.specs.Prelude.{◌≤◌, All};
-ghost use Rattle.nm_files.specs.Files.{IsSound};
-ghost use Rattle.nm_shared.specs.Board.{IsOwnerOf};
+ghost use Rattle.std.specs.Prelude.{◌≤◌};
 
 use mio::Poll;
 use mio::net::TcpListener;
@@ -11,8 +9,7 @@ use nm_book::Book;
 use nm_files::TraceFiles;
 use nm_frames::ReplicaName;
 use nm_net::limits::LINGER_PERIODS;
-use nm_net::seats::own_seats;
-use nm_net::{Holdings, Lending, Served, Service, TcpTransport, Transport, run_replica};
+use nm_net::{Holdings, Lending, OwnSeats, Served, Service, TcpTransport, Transport, run_replica};
 use nm_progress::{Figure, Progress};
 use nm_shared::{ClockBoard, Gate, Pass, Plain, SharedBook};
 use nm_topology::Topology;
@@ -129,25 +126,20 @@ fn serve_held<'x, N: Transport, R: Wait>(
     alloc: Global,
     topology: &'x Arc<Topology>,
     book: &'x SharedBook<Plain>,
-    board: &'x ClockBoard,
     peers: &'x [PartNo],
     callers: &'x [ReplicaName],
     lending: &'x Lending,
-    holdings: &mut Holdings<Plain, MemSink>,
+    holdings: &mut Holdings<'_, Plain, MemSink>,
     company: Company,
     transport: &mut N,
     gate: &Noting,
     progress: &'x Progress,
-) -> Served
-    requires owners { All (IsOwnerOf board.now) holdings.old.seats.items }
-    requires files { All IsSound holdings.old.files.files.items }
-{
+) -> Served {
     let replica = Service {
         topology,
         partition: PartNo::new(if company.is_called { 1 } else { 0 }),
         replica: 0,
         book,
-        board,
         peers,
         callers,
         books: &[],
@@ -176,7 +168,9 @@ fn serve_with<N: Transport, R: Wait + Abort>(
 ) -> (Served, Pass<Plain>, u64) {
     let partition = PartNo::new(if company.is_called { 1 } else { 0 });
     let (board, owners, _) = ClockBoard::new(alloc, topology).expect(rt, "memory");
-    let seats = own_seats(alloc, topology, &board, partition, 0, owners).expect(rt, "memory");
+    let seats = OwnSeats::of_replica(alloc, topology, &board, partition, 0, owners).expect(
+        rt, "memory",
+    );
     let mut holdings = Holdings {
         pass,
         passes: Vec::new(alloc),
@@ -191,7 +185,6 @@ fn serve_with<N: Transport, R: Wait + Abort>(
         alloc,
         topology,
         book,
-        &board,
         &peers[..peer_count],
         &callers[..caller_count],
         &Lending::alone(),

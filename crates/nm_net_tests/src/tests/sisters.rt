@@ -1,9 +1,5 @@
 //! A replica whose sister knows all.
 
-ghost use Rattle.std.specs.Prelude.{All};
-ghost use Rattle.nm_files.specs.Files.{IsSound};
-ghost use Rattle.nm_shared.specs.Board.{IsOwnerOf};
-
 use crate::tests::messages::{message, null};
 use crate::tests::scripted::{NEVER, Scripted};
 use crate::tests::sides::{Noting, books_of, caller, topology_of};
@@ -13,8 +9,7 @@ use nm_files::TraceFiles;
 use nm_fixtures::SPLIT;
 use nm_frames::ReplicaName;
 use nm_net::acts::Stand;
-use nm_net::seats::own_seats;
-use nm_net::{Holdings, Lending, Served, Service, run_replica};
+use nm_net::{Holdings, Lending, OwnSeats, Served, Service, run_replica};
 use nm_shared::{ClockBoard, Pass, Plain, SharedBook};
 use nm_topology::Topology;
 use std::alloc::Global;
@@ -39,21 +34,16 @@ fn serve_sister<'x, R: Wait>(
     topology: &'x Arc<Topology>,
     books: &'x [SharedBook<Plain>],
     own: &'x SharedBook<Plain>,
-    board: &'x ClockBoard,
     callers: &'x [ReplicaName],
     lending: &'x Lending,
-    holdings: &mut Holdings<Plain, MemSink>,
-) -> Served
-    requires owners { All (IsOwnerOf board.now) holdings.old.seats.items }
-    requires files { All IsSound holdings.old.files.files.items }
-{
+    holdings: &mut Holdings<'_, Plain, MemSink>,
+) -> Served {
     let mut transport = Scripted::new(alloc, Vec::new(alloc), true, NEVER);
     let replica = Service {
         topology,
         partition: PartNo::new(1),
         replica: 1,
         book: own,
-        board,
         peers: &[],
         callers,
         books,
@@ -86,7 +76,9 @@ fn serve_beside<R: Wait + Abort>(
 ) -> Served {
     let (board, owners, _) = ClockBoard::new(alloc, topology).expect(rt, "memory");
     let partition = PartNo::new(1);
-    let seats = own_seats(alloc, topology, &board, partition, 1, owners).expect(rt, "memory");
+    let seats = OwnSeats::of_replica(alloc, topology, &board, partition, 1, owners).expect(
+        rt, "memory",
+    );
     let mut holdings = Holdings {
         pass: own.pass(rt).expect(rt, "memory"),
         passes,
@@ -100,7 +92,6 @@ fn serve_beside<R: Wait + Abort>(
         topology,
         books,
         own,
-        &board,
         &callers,
         &Lending::alone(),
         &mut holdings,

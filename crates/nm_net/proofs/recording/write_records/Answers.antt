@@ -2,11 +2,11 @@ use Rattle.nm_net.proofs.Recordings.{streams_more, streams_none}
 use Rattle.nm_net.proofs.recording.write_records.Goals as goal
 
 pub returns-then-service-clause-streams : goal.returns-then-service-clause-streams
-returns-then-service-clause-streams g c = streams_none g.C.Counts.exact g.C.Counts.home g.S.Sink.seen c.args.files.now.files.items c.requires
+returns-then-service-clause-streams g c = streams_none g.C.Counts.exact g.C.Counts.home g.S.Sink.seen c.args.files.now.files.items
 
 pub loop-init : goal.loop-init
 loop-init g c = record {
-  streams = streams_none g.C.Counts.exact g.C.Counts.home g.S.Sink.seen c.args.files.now.files.items c.requires;
+  streams = streams_none g.C.Counts.exact g.C.Counts.home g.S.Sink.seen c.args.files.now.files.items;
   last = λ is. absurd cc;
 }
 

@@ -21,8 +21,7 @@ returns-clause-wrote g c =
       handed = subst (AreHandedOut g.C.Counts.exact g.C.Counts.home) (sym c.as_slice.ensures.value)
           (handed_out g.C.Counts.exact g.C.Counts.home did.0 did.1 c.in_ok-room.room.items c.act-records.result.records.items c.in_ok-room.ensures.items
           did.3.home did.2.0.takes);
-      took = took.took;
-      sound = took.sound;
+      took = took;
     }
 
 pub returns-clause-last : goal.returns-clause-last

@@ -14,11 +14,10 @@ returns-in-Err-clause-streams g c is = not_ended c.in-Err.served is c.in-Err.ens
 
 pub loop-polls-init : goal.loop-polls-init
 loop-polls-init g c = record {
-  owners = c.requires.owners;
-  seats = refl;
+  seats = (refl, refl);
   passes = refl;
   idle = search rules;
-  streams = streams_none g.C.Counts.exact g.C.Counts.home g.S.Sink.seen c.args.holdings.now.files.files.items c.requires.files;
+  streams = streams_none g.C.Counts.exact g.C.Counts.home g.S.Sink.seen c.args.holdings.now.files.files.items;
 }
 
 pub returns-in-Some-clause-streams : goal.returns-in-Some-clause-streams
@@ -45,8 +44,7 @@ loop-polls-preserved g c =
     let polled = c.in-Ok-poll.polled in
     let many = idles_wait c.loop-polls.idle polled.was_active polled.ran_out start before after c.loop-polls.invariant.idle c.in-Ok-poll.ensures.idle in
     record {
-      owners = c.in-Ok-poll.ensures.owners;
-      seats = c.in-Ok-poll.ensures.seats ∙ c.loop-polls.invariant.seats;
+      seats = (c.in-Ok-poll.ensures.seats.0 ∙ c.loop-polls.invariant.seats.0, c.in-Ok-poll.ensures.seats.1 ∙ c.loop-polls.invariant.seats.1);
       passes = c.in-Ok-poll.ensures.passes ∙ c.loop-polls.invariant.passes;
       idle = subst (λ idle. start + idle ≤ after) (sym c.idle_periods-idle.ensures) many;
       streams = streams_more g.C.Counts.exact g.C.Counts.home g.S.Sink.seen c.args.holdings.now.files.files.items c.loop-polls.holdings.files.files.items

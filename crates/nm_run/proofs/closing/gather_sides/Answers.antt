@@ -11,10 +11,10 @@ loop-end-preserved g c = λ made all.
     let seen = g.S.Sink.seen in
     let end = c.in-Some.end in
     let more = into_iter_items c.next.new.self in (
-      All-rest (λ e. AreCounted seen made e.holdings.files.files.items) end more (into_iter_items c.loop-end.end-iterator) next was.0,
+      All-rest (λ e. AreCounted seen made e.files.files.items) end more (into_iter_items c.loop-end.end-iterator) next was.0,
       subst (All (λ own. AreCounted seen made own.files.items)) (sym c.in_ok-push.ensures.items)
-          (All-push (λ own. AreCounted seen made own.files.items) c.loop-end.files.items end.holdings.files was.1
-          (All-head (λ e. AreCounted seen made e.holdings.files.files.items) end more (subst (All (λ e. AreCounted seen made e.holdings.files.files.items)) next was.0))),
+          (All-push (λ own. AreCounted seen made own.files.items) c.loop-end.files.items end.files was.1
+          (All-head (λ e. AreCounted seen made e.files.files.items) end more (subst (All (λ e. AreCounted seen made e.files.files.items)) next was.0))),
     )
 
 pub returns : goal.returns

@@ -5,6 +5,6 @@ use Rattle.nm_files.specs.Outputs.{Files}
 use Rattle.nm_run.proofs.closing.gather_sides.Given as goal
 
 abbrev pub invariant-loop-end : goal.invariant-loop-end
-invariant-loop-end g l = (made : Option Files) → All (λ e. AreCounted g.S.Sink.seen made e.holdings.files.files.items) l.fn.ends.items
-    → All (λ e. AreCounted g.S.Sink.seen made e.holdings.files.files.items) (into_iter_items l.end-iterator)
+invariant-loop-end g l = (made : Option Files) → All (λ e. AreCounted g.S.Sink.seen made e.files.files.items) l.fn.ends.items
+    → All (λ e. AreCounted g.S.Sink.seen made e.files.files.items) (into_iter_items l.end-iterator)
     × All (λ own. AreCounted g.S.Sink.seen made own.files.items) l.files.items

@@ -1,13 +1,9 @@
 use Rattle.std.proofs.Common.{◌≡◌, ◌∷◌, [], ◌++◌, All, map, sym, subst, rules}
-use Rattle.nm_net.proofs.Owners.{first_are_owners}
 use Rattle.nm_shared.specs.Board.{IsSeatOf}
 use Rattle.nm_shared.proofs.Closings.{each_back}
 use Rattle.nm_net.specs.declared.served.Served.TheVariants as served
 use Rattle.nm_run.proofs.ReplicaEndings.{all_counted}
 use Rattle.nm_run.proofs.run.run_books.Goals as goal
-
-pub sides_of-requires : goal.sides_of-requires
-sides_of-requires g c = first_are_owners c.in_ok-board.board c.in_ok-board.owners.items c.in_ok-board.ensures.owners
 
 pub run_threads-requires-clause-seat : goal.run_threads-requires-clause-seat
 run_threads-requires-clause-seat g c = λ κs bounds.

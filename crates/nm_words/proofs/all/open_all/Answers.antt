@@ -9,7 +9,6 @@ pub loop-number-init : goal.loop-number-init
 loop-number-init g c = record {
   within = omega arith;
   count = ap length c.new-files.ensures;
-  sound = search rules;
   held = none_held g.F.File.Sink.seen (g.F.Outputs.made c.args.outputs.now) c.args.wanted.now.network.now (map (λ n. string_bytes n) c.args.wanted.now.names.now) [] c.new-files.result.files.items c.new-files.ensures;
   same = refl;
 }
@@ -27,7 +26,6 @@ loop-number-preserved g c =
     record {
       within = omega (arith, low);
       count = let long = ap length opened.1 ∙ length-append files (opened.0 ∷ []) in let was = c.loop-number.invariant.count in omega (arith, long, was);
-      sound = c.in_ok-open_wanted.ensures.sound;
       held = one_held g.F.File.Sink.seen made t names files c.open_wanted.new.files.files.items n is.0 c.loop-number.invariant.count is.1 c.loop-number.invariant.held opened;
       same = c.in_ok-open_wanted.ensures.same ∙ c.loop-number.invariant.same;
     }

@@ -13,7 +13,6 @@ loop-event-init g c =
     let zero : 0 ≡ shown c.args.tracer.now.records = omega (arith, none, nothing) in
     record {
       tracing = c.requires.tracing;
-      sound = c.requires.sound;
       took = λ records trace. subst (λ k. FilesTook g.S.Sink.seen (take k records) c.args.files.now.files.items c.args.files.now.files.items) zero
           (no_records g.S.Sink.seen c.args.files.now.files.items);
     }
@@ -24,7 +23,6 @@ loop-event-preserved g c =
     let after = c.go_on.new.tracer.records in
     record {
       tracing = c.in_ok-is_there.ensures.tracing;
-      sound = c.in_ok-put_all.ensures.sound;
       took = λ records trace.
           let on = subst (λ b. ShowsNext records before (Ok b) after) c.if-not-is_there.false (c.in_ok-is_there.ensures.next records trace) in
           subst (λ l. FilesTook g.S.Sink.seen l c.args.files.now.files.items c.put_all.new.self.files.items) (sym (next_shown records before after on))

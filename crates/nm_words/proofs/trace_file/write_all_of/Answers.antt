@@ -5,7 +5,6 @@ use Rattle.nm_files.proofs.Records.{all_records, last_records, next_records, no_
 use Rattle.nm_files.specs.TraceFile.{written_at}
 use Rattle.nm_files.specs.Writing.{WritesOn, WroteOn}
 use Rattle.nm_words.specs.Traces.{going}
-use Rattle.nm_words.proofs.Faults.{is_fault, was_ok}
 use Rattle.nm_words.proofs.Showings.{all_shown, next_shown, shown}
 use Rattle.nm_words.proofs.Ways.{going_both}
 use Rattle.nm_words.proofs.trace_file.write_all_of.Goals as goal
@@ -23,23 +22,20 @@ loop-event-init g c =
 pub returns-in_err-is_there : goal.returns-in_err-is_there
 returns-in_err-is_there g c records trace =
     let p = err_from_is_err_and c.from_residual.result c.from_residual.ensures.1 in
-    let e = is_fault c.go_on.result _ c.in_err-is_there.field-0.0 c.in_err-is_there.ensures in
-    rw (p.1, p.2, e) (some_records (going c.args.traced.now.ways) refl (going_both c.args.traced.now.ways) g.S.Sink.seen c.args.traced.now.iface records c.args.file.now c.loop-event.file (shown c.loop-event.tracer.records) (c.loop-event.invariant.front records trace))
+    rw (p.1, p.2) (some_records (going c.args.traced.now.ways) refl (going_both c.args.traced.now.ways) g.S.Sink.seen c.args.traced.now.iface records c.args.file.now c.loop-event.file (shown c.loop-event.tracer.records) (c.loop-event.invariant.front records trace))
 
 pub returns-then-not-is_there : goal.returns-then-not-is_there
 returns-then-not-is_there g c records trace =
     let before = c.loop-event.tracer.records in
     let after = c.go_on.new.tracer.records in
-    let on = subst (λ b. ShowsNext records before (Ok b) after) c.if-not-is_there.true
-    (subst (λ r. ShowsNext records before r after) (was_ok c.go_on.result _ c.in_ok-is_there.is_there c.in_ok-is_there.ensures) (c.go_on.ensures.next records trace)) in
+    let on = subst (λ b. ShowsNext records before (Ok b) after) c.if-not-is_there.true (c.in_ok-is_there.ensures.next records trace) in
     all_records (going c.args.traced.now.ways) refl (going_both c.args.traced.now.ways) g.S.Sink.seen c.args.traced.now.iface records c.args.file.now c.loop-event.file (shown before) (all_shown records before after on) (c.loop-event.invariant.front records trace)
 
 pub returns-in_err-write_some : goal.returns-in_err-write_some
 returns-in_err-write_some g c records trace =
     let before = c.loop-event.tracer.records in
     let after = c.go_on.new.tracer.records in
-    let on = subst (λ b. ShowsNext records before (Ok b) after) c.if-not-is_there.false
-    (subst (λ r. ShowsNext records before r after) (was_ok c.go_on.result _ c.in_ok-is_there.is_there c.in_ok-is_there.ensures) (c.go_on.ensures.next records trace)) in
+    let on = subst (λ b. ShowsNext records before (Ok b) after) c.if-not-is_there.false (c.in_ok-is_there.ensures.next records trace) in
     let p = err_from_is_err_and c.from_residual-in_err-write_some.result c.from_residual-in_err-write_some.ensures.1 in
     rw (p.1, p.2) (last_records (going c.args.traced.now.ways) refl (going_both c.args.traced.now.ways) g.S.Sink.seen c.args.traced.now.iface records c.args.file.now c.loop-event.file c.write_some.new.file c.in_err-write_some.field-0.0 (shown before) (shown after) after.kept
     (next_shown records before after on) (c.loop-event.invariant.front records trace)
@@ -50,11 +46,10 @@ loop-event-preserved g c =
     let before = c.loop-event.tracer.records in
     let after = c.go_on.new.tracer.records in
     record {
-      tracing = c.go_on.ensures.tracing;
+      tracing = c.in_ok-is_there.ensures.tracing;
       sound = c.in_ok-write_some.ensures.sound;
       front = λ records trace.
-          let on = subst (λ b. ShowsNext records before (Ok b) after) c.if-not-is_there.false
-          (subst (λ r. ShowsNext records before r after) (was_ok c.go_on.result _ c.in_ok-is_there.is_there c.in_ok-is_there.ensures) (c.go_on.ensures.next records trace)) in
+          let on = subst (λ b. ShowsNext records before (Ok b) after) c.if-not-is_there.false (c.in_ok-is_there.ensures.next records trace) in
           next_records (going c.args.traced.now.ways) refl (going_both c.args.traced.now.ways) g.S.Sink.seen c.args.traced.now.iface records c.args.file.now c.loop-event.file c.write_some.new.file (shown before) (shown after) after.kept
           (next_shown records before after on) (c.loop-event.invariant.front records trace)
           (subst (λ l. WroteOn g.S.Sink.seen c.loop-event.file c.write_some.new.file (written_at c.loop-event.file.form c.args.traced.now.iface (going c.args.traced.now.ways l))) c.records.ensures c.in_ok-write_some.ensures);

@@ -6,9 +6,8 @@ use Rattle.nm_files.specs.Writing.{WroteOn}
 use Rattle.nm_files.proofs.Pieces.{WritesOn-put, WroteAll-nil, WroteAll-part}
 use Rattle.nm_files.proofs.Records.{cut_in_header, cut_in_records, to_the_end}
 use Rattle.nm_files.specs.TraceFile.{written_at}
-use Rattle.nm_files.specs.declared.trace_file.TraceFault.TheVariants.{Memory}
+use Rattle.nm_base.specs.declared.fault.Fault.TheVariants.{Memory}
 use Rattle.nm_words.specs.Traces.{going}
-use Rattle.nm_words.proofs.Faults.{is_fault}
 use Rattle.nm_words.proofs.trace_file.write_file.Goals as goal
 
 pub returns-in_err-sink_outcome : goal.returns-in_err-sink_outcome
@@ -20,11 +19,10 @@ returns-in_err-sink_outcome g c records trace =
 pub returns-in_err-tracer : goal.returns-in_err-tracer
 returns-in_err-tracer g c records trace =
     let p = err_from_is_err_and c.from_residual-in_err-tracer.result c.from_residual-in_err-tracer.ensures.1 in
-    let e = is_fault c.start-2.result _ c.in_err-tracer.field-0.0 c.in_err-tracer.ensures in
     let begun : WroteOn g.S.Sink.seen c.args.file.now c.start.new.self (written c.args.file.now.form file_header) =
     WritesOn-put g.S.Sink.seen c.args.file.now c.start.new.self c.start.result (Ok tt) (written c.args.file.now.form file_header) c.in_ok-sink_outcome.ensures c.requires c.start.ensures in
     let file = c.start.new.self in
-    rw (p.1, p.2, e) (cut_in_records g.S.Sink.seen c.args.traced.now.iface (going c.args.traced.now.ways records) c.args.file.now file file Memory begun
+    rw (p.1, p.2) (cut_in_records g.S.Sink.seen c.args.traced.now.iface (going c.args.traced.now.ways records) c.args.file.now file file Memory begun
     (WroteAll-part (g.S.Sink.seen file.sink) (g.S.Sink.seen file.sink) [] (written_at file.form c.args.traced.now.iface (going c.args.traced.now.ways records)) (WroteAll-nil (g.S.Sink.seen file.sink))))
 
 pub returns-in_err-write_all_of : goal.returns-in_err-write_all_of

@@ -6,7 +6,6 @@ use Rattle.nm_files.proofs.trace_files.TraceFiles.put_all.Goals as goal
 pub loop-number-init : goal.loop-number-init
 loop-number-init g c = record {
   within = omega arith;
-  sound = c.requires.sound;
   took = no_records g.S.Sink.seen c.args.self.now.files.items;
 }
 
@@ -17,7 +16,6 @@ loop-number-preserved g c =
     let low : n < length records = search rules in
     record {
       within = omega (arith, low);
-      sound = c.in_ok-put.ensures.sound;
       took = next_record g.S.Sink.seen records n c.index-records-number.result c.args.self.now.files.items c.loop-number.self.files.items c.put.new.self.files.items
           (slice_get-get_or records n c.index-records-number.result low ∙ ap (λ r. Some r) (sym c.index-records-number.is)) c.loop-number.invariant.took c.in_ok-put.ensures.took;
     }

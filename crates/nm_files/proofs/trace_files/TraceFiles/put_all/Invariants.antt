@@ -1,10 +1,9 @@
-use Rattle.std.proofs.Common.{◌≤◌, All, length, take}
-use Rattle.nm_files.specs.Files.{FilesTook, IsSound}
+use Rattle.std.proofs.Common.{◌≤◌, length, take}
+use Rattle.nm_files.specs.Files.{FilesTook}
 use Rattle.nm_files.proofs.trace_files.TraceFiles.put_all.Given as goal
 
 abbrev pub invariant-loop-number : goal.invariant-loop-number
 invariant-loop-number g l = record {
   within : l.number ≤ length l.records;
-  sound : All IsSound l.self.files.items;
   took : FilesTook g.S.Sink.seen (take l.number l.records) l.fn.self.files.items l.self.files.items;
 }

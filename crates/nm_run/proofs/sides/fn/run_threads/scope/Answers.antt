@@ -1,27 +1,15 @@
 use Rattle.std.proofs.Common.{◌≡◌, ◌∷◌, [], ◌++◌, All, sym, subst, rules}
 use Rattle.std.proofs.lemmas.List.Elements.{All-head, All-push, All-rest}
 use Rattle.std.specs.Vec.Iter.{into_iter_items}
-use Rattle.nm_files.specs.Files.{AreCounted, IsSound}
+use Rattle.nm_files.specs.Files.{AreCounted}
 use Rattle.nm_files.proofs.Files.{files_counted}
-use Rattle.nm_shared.specs.Board.{IsOwnerOf}
 use Rattle.nm_run.specs.Sides.{StillCounts}
 use Rattle.nm_run.proofs.sides.fn.run_threads.scope.Goals as goal
 
 pub loop-side-init : goal.loop-side-init
-loop-side-init g c =
-    let items : into_iter_items c.into_iter-side-iterator.result ≡ c.captures.sides.items = search rules in
-    record {
-      rest = subst (All (λ s. All (IsOwnerOf c.captures.threaded.now.board.now) s.holdings.seats.items × All IsSound s.holdings.files.files.items)) (sym items)
-          c.requires.sides;
-      counted = λ made all. (all, search rules);
-    }
-
-pub spawn_with-begun-requires-clause-runs : goal.spawn_with-begun-requires-clause-runs
-spawn_with-begun-requires-clause-runs g c = λ κs bounds.
-    All-head (λ s. All (IsOwnerOf c.captures.threaded.now.board.now) s.holdings.seats.items × All IsSound s.holdings.files.files.items) c.in-Some.side
-    (into_iter_items c.next.new.self)
-    (subst (All (λ s. All (IsOwnerOf c.captures.threaded.now.board.now) s.holdings.seats.items × All IsSound s.holdings.files.files.items))
-    c.in-Some.ensures.steps.0 c.loop-side.invariant.rest)
+loop-side-init g c = record {
+  counted = λ made all. (all, search rules);
+}
 
 pub loop-side-preserved : goal.loop-side-preserved
 loop-side-preserved g c =
@@ -32,8 +20,6 @@ loop-side-preserved g c =
     let last : c.push.new.self.items ≡ c.loop-side.threads.items ++ c.in-Ok.thread ∷ [] = search rules in
     let promised : c.in-Ok.thread.promise.0.value ≡ side.holdings.files = search rules in
     record {
-      rest = All-rest (λ s. All (IsOwnerOf c.captures.threaded.now.board.now) s.holdings.seats.items × All IsSound s.holdings.files.files.items) side more
-          (into_iter_items c.loop-side.side-iterator) next c.loop-side.invariant.rest;
       counted = λ made all.
           let was = c.loop-side.invariant.counted made all in (
             All-rest (λ s. AreCounted seen made s.holdings.files.files.items) side more (into_iter_items c.loop-side.side-iterator) next was.0,
@@ -62,7 +48,7 @@ loop-thread-preserved g c =
             subst (All (StillCounts seen made)) (sym c.in_ok-push.ensures.items)
                 (All-push (StillCounts seen made) c.loop-thread.ends.items c.join.result was.1 (λ ended.
                 let took = c.join.ensures ended in
-                files_counted seen made took.0 thread.promise.0.value.files.items c.join.result.holdings.files.files.items took.1
+                files_counted seen made took.0 thread.promise.0.value.files.items c.join.result.files.files.items took.1
                 (All-head (λ h. AreCounted seen made h.promise.0.value.files.items) thread more
                 (subst (All (λ h. AreCounted seen made h.promise.0.value.files.items)) next was.0)))),
           );

@@ -1,17 +1,13 @@
 use Rattle.std.proofs.Common.{All, Option}
 use Rattle.std.specs.Vec.Iter.{into_iter_items}
-use Rattle.nm_files.specs.Files.{AreCounted, IsSound}
+use Rattle.nm_files.specs.Files.{AreCounted}
 use Rattle.nm_files.specs.Outputs.{Files}
-use Rattle.nm_shared.specs.Board.{IsOwnerOf}
 use Rattle.nm_run.specs.Sides.{StillCounts}
 use Rattle.nm_run.proofs.sides.fn.run_threads.scope.Given as goal
 
--- The replicas whose threads have not begun own their words, and their files are sound. If the files of all were counted at first, those are, and those
--- with which the threads began.
+-- If the files of all replicas were counted at first, those of the replicas whose threads have not begun are, and those with which the threads began.
 abbrev pub invariant-loop-side : goal.invariant-loop-side
 invariant-loop-side g l = record {
-  rest : All (λ s. All (IsOwnerOf l.threaded.board.now) s.holdings.seats.items × All IsSound s.holdings.files.files.items)
-      (into_iter_items l.side-iterator);
   counted : (made : Option Files) → All (λ s. AreCounted g.S.Sink.seen made s.holdings.files.files.items) (into_iter_items l.initial.side-iterator)
       → All (λ s. AreCounted g.S.Sink.seen made s.holdings.files.files.items) (into_iter_items l.side-iterator)
       × All (λ h. AreCounted g.S.Sink.seen made h.promise.0.value.files.items) l.threads.items;
