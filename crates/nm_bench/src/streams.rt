@@ -30,7 +30,7 @@ fn show(rt: &(impl Print + AllocGlobal), frame: &Frame) -> io::Result<()> {
         }
         Frame::Have(have) => println!(rt; "have {} {}", have.channel.index(), have.count)?,
         Frame::Data(data) => {
-            let packet = hex::encode(rt.alloc(), data.packet.as_bytes())?;
+            let packet = hex::encode(rt.alloc(), data.packet.octets())?;
             let time = data.time.nanoseconds();
             println!(rt;
                 "data {} {} {time} {packet}",

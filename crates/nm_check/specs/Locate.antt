@@ -1,13 +1,24 @@
 -- Where a topology text is refused, and that this is what is refused of the text.
 use Rattle.std.specs.Prelude.{◌≡◌, ℕ, ◌≤◌, List, Ok, Err}
 use Rattle.sha2.specs.Sha256.{sha256}
+use Rattle.toml.specs.Data.{Members}
 use Rattle.toml.specs.View.{table_view}
 use Rattle.nm_topology.specs.declared.fault.Refusal.TheVariants.{Range, Text}
 use Rattle.nm_topology.specs.Parse.{top_table_of}
+use Rattle.nm_topology.specs.Parse.Document.{document_of}
 use Rattle.nm_topology.specs.Topology.{network_of, topology_of}
 use Rattle.nm_check.specs.declared.locate.Located.{Located}
 use Rattle.nm_check.specs.declared.locate.Located.TheVariants as located
 use Rattle.nm_check.specs.Place.{IsFirstPlace, place_refusal}
+
+-- where a document is refused, if it is
+abbrev pub IsLocatedIn : Members → Located → Type 0
+IsLocatedIn t located.Length = ⊥
+IsLocatedIn t located.Letters = ⊥
+IsLocatedIn t (located.Tables table f) =
+    (28 ≤ f.head.mtu) × (table_view table ≡ t) × (document_of t ≡ Err (place_refusal f.place))
+    × IsFirstPlace t f.head f.place
+IsLocatedIn t (located.Whole d) = document_of t ≡ Ok d
 
 -- where a text is refused, if it is, and that the text is refused for what is refused there; where
 -- its tables are all read, only the tests of the whole are left

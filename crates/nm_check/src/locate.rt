@@ -1,10 +1,8 @@
 //! Where in a topology text its first fault lies, and what it is the fault of.
 
-ghost use Rattle.std.specs.Prelude.{◌≡◌, ◌≤◌, ℕ, IfOk, List, Ok, length};
+ghost use Rattle.std.specs.Prelude.{IfOk};
 ghost use Rattle.toml.specs.View.{table_view};
-ghost use Rattle.nm_base.specs.declared.limits.TheConstants.{MAX_TEXT_OCTETS};
-ghost use Rattle.nm_check.specs.Locate.{IsLocated};
-ghost use Rattle.nm_topology.specs.Parse.{top_table_of};
+ghost use Rattle.nm_check.specs.Locate.{IsLocated, IsLocatedIn};
 
 use crate::place::{Found, find};
 use nm_base::limits::MAX_TEXT_OCTETS;
@@ -27,12 +25,9 @@ pub enum Located {
     Whole(Document),
 }
 
-/// Where a text with this top table is refused, if it is not too long.
-#[tactic(auto, unfolding(nm_topology::specs::Topology::topology_of))]
+/// Where a text with this top table is refused.
 fn locate_in(alloc: Global, table: Table) -> Result<Located, AllocError>
-    ensures { (text : List ℕ) → length text ≤ MAX_TEXT_OCTETS
-        → top_table_of text ≡ Ok (table_view table)
-        → IfOk result (λ located. IsLocated text located) }
+    ensures { IfOk result (λ located. IsLocatedIn (table_view table) located) }
 {
     if let Some(found) = find(alloc, &table)? {
         return Ok(Located::Tables(table, found));
