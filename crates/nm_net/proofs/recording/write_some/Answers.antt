@@ -5,8 +5,8 @@ use Rattle.nm_net.proofs.Finishing.{was_last}
 use Rattle.nm_net.proofs.Recordings.{handed_out, handed_times}
 use Rattle.nm_net.proofs.recording.write_some.Goals as goal
 
-pub put_all-requires-clause-time : goal.put_all-requires-clause-time
-put_all-requires-clause-time g c =
+pub put_all-requires : goal.put_all-requires
+put_all-requires g c =
     let did = c.act-records.ensures in
     subst (All (λ r. r.time ≤ MAX_TIME)) (sym c.as_slice.ensures.value)
     (handed_times did.0 did.1 c.in_ok-room.room.items c.act-records.result.records.items c.in_ok-room.ensures.items did.2.0)
@@ -21,7 +21,7 @@ returns-clause-wrote g c =
       handed = subst (AreHandedOut g.C.Counts.exact g.C.Counts.home) (sym c.as_slice.ensures.value)
           (handed_out g.C.Counts.exact g.C.Counts.home did.0 did.1 c.in_ok-room.room.items c.act-records.result.records.items c.in_ok-room.ensures.items
           did.3.home did.2.0.takes);
-      took = took;
+      took = took.took;
     }
 
 pub returns-clause-last : goal.returns-clause-last
