@@ -1,4 +1,5 @@
 use Rattle.std.proofs.Common.{IfOk, map, string_bytes, sym, ◌∙◌, subst}
+use Rattle.std.proofs.lemmas.Result.{err_from_is_err_and}
 use Rattle.nm_files.specs.Outputs.{AreWhole}
 use Rattle.nm_words.specs.All.{wanted_files}
 use Rattle.nm_words.specs.Held.{AreHeld}
@@ -21,3 +22,8 @@ returns-clause-whole g c = λ records trace.
     c.in_ok-files.ensures.held (c.in_ok-record_all.ensures.took records trace) in
     subst (λ m. IfOk c.close_all.result (λ closed. AreWhole m (map g.F.Outputs.closed closed.items) (wanted_files t names c.args.wanted.now.folder.now records))) same
     (c.close_all.ensures.whole records (subst (λ m. AreHeld seen m t names records c.record_all.new.files.files.items) (sym same) held))
+
+pub returns-in_err-record_all-clause-fault : goal.returns-in_err-record_all-clause-fault
+returns-in_err-record_all-clause-fault g c =
+    let p = err_from_is_err_and c.from_residual-in_err-record_all.result c.from_residual-in_err-record_all.ensures.1 in
+    rw (p.1, p.2) c.in_err-record_all.ensures.fault
