@@ -26,17 +26,7 @@ use Rattle.nm_pcap.proofs.Forms.{written-nil}
 -- a record that is not written to its file is written in part, or not at all
 pub not_written : {S : Type 0} (seen : S → SinkSeen) (old new : Writer S) (e : PcapFault) (octets : List ℕ) (n : ℕ) → n ≡ new.written → Adds seen old new (Err e) octets
     → AddedPart seen old new octets n ⊎ AddedNothing seen old new × (n ≡ new.written)
-not_written seen old new (File m) octets n is w = inl (record {
-  sound = w.sound;
-  part = w.part;
-  short = w.short;
-  front = w.front;
-  fault = w.fault;
-  count = w.count;
-  told = is;
-  over = w.over;
-  same_form = w.same_form;
-})
+not_written seen old new (File m) octets n is w = inl (subst (AddedPart seen old new octets) (w.told ∙ sym is) w)
 not_written seen old new Failed octets n is w = inr (w, is)
 
 pub on_ok : {T E : Type 0} {A B : Type 0} (r : Result T E) → (A → B) → OnOk r A → OnOk r B
