@@ -1,5 +1,5 @@
 -- What contracts see of the sinks.
-use Rattle.std.specs.Prelude.{◌≡◌, ℕ, ◌+◌, List, Option}
+use Rattle.std.specs.Prelude.{◌≡◌, ℕ, ◌+◌, ◌<◌, List, Option, length, take}
 use Rattle.std.specs.Io.KnownBytes.{Appends}
 
 -- what is seen of a sink
@@ -21,6 +21,19 @@ HasNotFailed old new = new.failures ≡ old.failures
 -- it failed once
 abbrev pub HasFailedOnce : (old new : SinkSeen) → Type 0
 HasFailedOnce old new = new.failures ≡ old.failures + 1
+
+module _ (old new : SinkSeen) where
+  -- all the octets were taken
+  pub record WroteAll (octets : List ℕ) : Type 0 where
+    pub whole : HasTaken old new octets
+    pub no_fault : HasNotFailed old new
+
+  -- the sink failed when it had taken a part of the octets, from the front
+  pub record WrotePrefix (octets : List ℕ) : Type 0 where
+    pub part : ℕ
+    pub short : part < length octets
+    pub front : HasTaken old new (take part octets)
+    pub fault : HasFailedOnce old new
 
 -- a sink over a writer: the writer, and how often it has failed
 pub record WriterSink (W : Type 0) : Type 0 where

@@ -1,9 +1,10 @@
 //! Sinks: where octets go. A sink may take a part of what it is given, and may fail.
 
 ghost use Rattle.std.specs.Prelude.{◌≡◌, ◌+◌, ◌<◌, ◌≤◌, length, take, is_ok};
-ghost use Rattle.std.specs.Prelude.{if◌then◌else◌, OnOk, IfOk, IfErr};
+ghost use Rattle.std.specs.Prelude.{if◌then◌else◌, OnErr, OnOk, IfOk};
 ghost use Rattle.std.specs.Io.KnownBytes.{WriteAppends};
 ghost use Rattle.nm_base.specs.Sink.{HasFailedOnce, HasNotFailed, HasTaken, SinkSeen};
+ghost use Rattle.nm_base.specs.Sink.{WroteAll, WrotePrefix};
 
 use thiserror::Error;
 
@@ -33,33 +34,39 @@ pub trait Sink {
             ≡ (seen self.old).failures + (if is_ok result then 0 else 1) };
 }
 
-/// A sink failed before it had taken a whole list: it took only so many of the list's octets, from
-/// the front.
-#[derive(Clone, Copy, Debug, PartialEq, Eq, Error)]
-#[error("the sink failed after {taken} octets")]
-pub struct CutShort {
-    pub taken: usize,
+/// Gives a sink a whole list, in as many calls as it needs, and stops at its first fault. Answers
+/// how many octets it took, and whether it failed before it had taken all.
+pub fn write_counted<S: Sink>(sink: &mut S, octets: &[u8]) -> (usize, Result<(), SinkFault>)
+    // It took all, and did not fail.
+    ensures all { OnOk result.1 (result.0 ≡ length octets.now) }
+    ensures whole { OnOk result.1 (HasTaken (S.seen sink.old) (S.seen sink.new) octets.now) }
+    ensures no_fault { OnOk result.1 (HasNotFailed (S.seen sink.old) (S.seen sink.new)) }
+
+    // Or it took less, from the front, and then failed once.
+    ensures less { OnErr result.1 (result.0 < length octets.now) }
+    ensures front { OnErr result.1 (HasTaken (S.seen sink.old) (S.seen sink.new)
+        (take result.0 octets.now)) }
+    ensures fault { OnErr result.1 (HasFailedOnce (S.seen sink.old) (S.seen sink.new)) }
+{
+    let mut taken = 0;
+    while taken < octets.len() {
+        match sink.write_some(&octets[taken..]) {
+            Ok(count) => taken += count,
+            Err(fault) => return (taken, Err(fault)),
+        }
+    }
+    (taken, Ok(()))
 }
 
 /// Gives a sink a whole list, in as many calls as it needs, and stops at its first fault.
 ///
 /// # Errors
 ///
-/// `CutShort` where the sink failed, with the number of octets that it took before.
-pub fn write_all<S: Sink>(sink: &mut S, octets: &[u8]) -> Result<(), CutShort>
-    ensures whole { OnOk result (HasTaken (S.seen sink.old) (S.seen sink.new) octets.now) }
-    ensures no_fault { OnOk result (HasNotFailed (S.seen sink.old) (S.seen sink.new)) }
-    ensures part { IfErr result (λ e. e.taken < length octets.now) }
-    ensures front { IfErr result (λ e. HasTaken (S.seen sink.old) (S.seen sink.new)
-        (take e.taken octets.now)) }
-    ensures fault { IfErr result (λ e. HasFailedOnce (S.seen sink.old) (S.seen sink.new)) }
+/// `SinkFault` where the sink failed. It had taken a part of the list then, from the front.
+pub fn write_all<S: Sink>(sink: &mut S, octets: &[u8]) -> Result<(), SinkFault>
+    ensures ok { OnOk result (WroteAll (S.seen sink.old) (S.seen sink.new) octets.now) }
+    ensures err { OnErr result (WrotePrefix (S.seen sink.old) (S.seen sink.new) octets.now) }
 {
-    let mut taken = 0;
-    while taken < octets.len() {
-        match sink.write_some(&octets[taken..]) {
-            Ok(count) => taken += count,
-            Err(SinkFault) => return Err(CutShort { taken }),
-        }
-    }
-    Ok(())
+    let (_, outcome) = write_counted(sink, octets);
+    outcome
 }

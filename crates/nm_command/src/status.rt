@@ -126,34 +126,22 @@ impl Status {
         ensures failed { IfErr result (λ _. HasFailedOnce (S.seen sink.old) (S.seen sink.new)) }
     {
         match self {
-            Status::Done => put(sink, b""),
-            Status::Usage => put(sink, b"nullsim: usage\n"),
-            Status::NoInterface => put(sink, b"nullsim: no interface\n"),
+            Status::Done => write_all(sink, b""),
+            Status::Usage => write_all(sink, b"nullsim: usage\n"),
+            Status::NoInterface => write_all(sink, b"nullsim: no interface\n"),
             Status::ScriptLine(line) => put_number(sink, b"nullsim: script line ", line),
             Status::Step(step) => put_number(sink, b"nullsim: step ", step),
             Status::Rows(rows) => put_number(sink, b"nullsim: rows ", rows),
             Status::Topology(refusal) => {
                 put_number(sink, b"nullsim: topology ", refusal.number() as u64)
             }
-            Status::File => put(sink, b"nullsim: file\n"),
-            Status::Memory => put(sink, b"nullsim: memory\n"),
+            Status::File => write_all(sink, b"nullsim: file\n"),
+            Status::Memory => write_all(sink, b"nullsim: memory\n"),
             Status::NotCertified(fault) => {
                 put_number(sink, b"nullsim: not certified ", fault as u64)
             }
-            Status::Stalled => put(sink, b"nullsim: stalled\n"),
+            Status::Stalled => write_all(sink, b"nullsim: stalled\n"),
         }
-    }
-}
-
-/// Gives a sink all octets.
-fn put<S: Sink>(sink: &mut S, octets: &[u8]) -> Result<(), SinkFault>
-    ensures said { OnOk result (HasTaken (S.seen sink.old) (S.seen sink.new) octets.now) }
-    ensures no_fault { OnOk result (HasNotFailed (S.seen sink.old) (S.seen sink.new)) }
-    ensures failed { IfErr result (λ _. HasFailedOnce (S.seen sink.old) (S.seen sink.new)) }
-{
-    match write_all(sink, octets) {
-        Ok(()) => Ok(()),
-        Err(_) => Err(SinkFault),
     }
 }
 
@@ -164,7 +152,7 @@ fn put_number<S: Sink>(sink: &mut S, text: &[u8], number: u64) -> Result<(), Sin
     ensures failed { IfErr result (λ _. HasFailedOnce (S.seen sink.old) (S.seen sink.new)) }
 {
     let mut buffer = Buffer::new();
-    put(sink, text)?;
-    put(sink, buffer.format(number).as_bytes())?;
-    put(sink, b"\n")
+    write_all(sink, text)?;
+    write_all(sink, buffer.format(number).as_bytes())?;
+    write_all(sink, b"\n")
 }

@@ -3,14 +3,14 @@ use Rattle.std.proofs.Common.{◌≡◌, ℕ, ◌+◌, take, length, List, [], �
 use Rattle.std.proofs.Math.Seq.{take-append-add}
 use Rattle.std.proofs.lemmas.List.{take-append-le, take_all}
 use Rattle.std.specs.Io.KnownBytes.{Appends}
-use Rattle.nm_base.specs.Sink.{SinkSeen}
+use Rattle.nm_base.specs.Sink.{SinkSeen, WroteAll, WrotePrefix}
 use Rattle.nm_base.proofs.Sinks.{Appends-append}
 use Rattle.nm_pcap.specs.declared.writer.PcapFault.{PcapFault}
 use Rattle.nm_pcap.specs.declared.writer.PcapFault.TheVariants.{File, Failed}
 use Rattle.nm_pcap.specs.Outcome.{Adds}
 use Rattle.nm_pcap.specs.Writer.{Writer}
 use Rattle.nm_base.specs.declared.fault.Fault.TheVariants.{Refused, Memory}
-use Rattle.nm_files.specs.Writing.{TraceFault, WroteAll, WrotePrefix, WrotePart, Writes, WroteOn, WritesOn, sink_outcome}
+use Rattle.nm_files.specs.Writing.{TraceFault, WrotePart, Writes, WroteOn, WritesOn, sink_outcome}
 
 pub WroteAll-nil : (s : SinkSeen) → WroteAll s s []
 WroteAll-nil s = record { whole = nothing s.taken; no_fault = refl }

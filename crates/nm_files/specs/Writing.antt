@@ -1,6 +1,6 @@
 -- What a call that writes to a sink did, and what a call that writes on in a trace file did.
-use Rattle.std.specs.Prelude.{◌≡◌, ℕ, ◌<◌, ◌≤◌, List, take, length, false, Result, Ok, Err}
-use Rattle.nm_base.specs.Sink.{HasFailedOnce, HasNotFailed, HasTaken, SinkSeen}
+use Rattle.std.specs.Prelude.{◌≡◌, ℕ, ◌≤◌, List, take, length, false, Result, Ok, Err}
+use Rattle.nm_base.specs.Sink.{HasNotFailed, HasTaken, SinkSeen, WroteAll, WrotePrefix}
 use Rattle.nm_base.specs.declared.fault.Fault.{Fault}
 use Rattle.nm_base.specs.declared.fault.Fault.TheVariants.{Refused, Memory}
 use Rattle.nm_base.specs.declared.sink.SinkFault.{SinkFault}
@@ -12,18 +12,6 @@ abbrev pub TraceFault : Type 0
 TraceFault = Fault SinkFault
 
 module _ (old new : SinkSeen) where
-  -- all the octets were taken
-  pub record WroteAll (octets : List ℕ) : Type 0 where
-    pub whole : HasTaken old new octets
-    pub no_fault : HasNotFailed old new
-
-  -- the sink failed when it had taken a part of the octets, from the front
-  pub record WrotePrefix (octets : List ℕ) : Type 0 where
-    pub part : ℕ
-    pub short : part < length octets
-    pub front : HasTaken old new (take part octets)
-    pub fault : HasFailedOnce old new
-
   -- the sink took a part of the octets, from the front, and did not fail
   pub record WrotePart (octets : List ℕ) : Type 0 where
     pub part : ℕ
@@ -32,8 +20,8 @@ module _ (old new : SinkSeen) where
     pub no_fault : HasNotFailed old new
 
   abbrev pub Writes : Result Unit TraceFault → List ℕ → Type 0
-  Writes (Ok _) octets = WroteAll octets
-  Writes (Err (Refused _)) octets = WrotePrefix octets
+  Writes (Ok _) octets = WroteAll old new octets
+  Writes (Err (Refused _)) octets = WrotePrefix old new octets
   Writes (Err Memory) octets = WrotePart octets
 
 module _ {S : Type 0} (seen : S → SinkSeen) (old new : Writer S) where

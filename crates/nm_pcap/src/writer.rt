@@ -12,7 +12,7 @@ ghost use Rattle.nm_pcap.specs.Writing.{ending, written};
 
 use crate::form::Form;
 use crate::format::{file_header_octets, record_header_octets};
-use nm_base::sink::{CutShort, write_all};
+use nm_base::sink::{SinkFault, write_counted};
 use nm_base::{Record, Sink};
 use std::marker::Model;
 use thiserror::Error;
@@ -214,14 +214,12 @@ impl<W: Sink> PcapOut<W> {
         ensures { Adds W.seen self.old self.new result octets.now }
     {
         self.check()?;
-        match write_all(&mut self.sink, octets) {
-            Ok(()) => {
-                self.written = self.written.saturating_add(octets.len() as u64);
-                Ok(())
-            }
-            Err(CutShort { taken }) => {
+        let (taken, outcome) = write_counted(&mut self.sink, octets);
+        self.written = self.written.saturating_add(taken as u64);
+        match outcome {
+            Ok(()) => Ok(()),
+            Err(SinkFault) => {
                 self.failed = true;
-                self.written = self.written.saturating_add(taken as u64);
                 Err(PcapFault::File {
                     written: self.written,
                 })

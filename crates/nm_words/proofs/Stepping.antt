@@ -5,7 +5,7 @@ use Rattle.std.proofs.lemmas.Bool.{cases_lt}
 use Rattle.std.specs.Io.KnownBytes.{Appends}
 use Rattle.nm_base.specs.Sink.{SinkSeen}
 use Rattle.nm_base.proofs.Sinks.{Appends-append}
-use Rattle.nm_files.specs.Writing.{WroteAll, WrotePrefix}
+use Rattle.nm_base.specs.Sink.{WroteAll, WrotePrefix}
 use Rattle.nm_series.specs.Steps.{AreAllSteps, AreSteps, step_time}
 
 module _ (Is : (from until : ℕ) → List ℕ → Type 0) (head : List ℕ) (step stop : ℕ) where

@@ -1,9 +1,9 @@
 -- What a word says, and how the program ends with it.
 use Rattle.std.specs.Prelude.{◌≡◌, ◌⊎◌, ℕ, List}
-use Rattle.nm_base.specs.Sink.{SinkSeen}
+use Rattle.nm_base.specs.Sink.{SinkSeen, WroteAll, WrotePrefix}
 use Rattle.nm_command.specs.declared.status.Status.{Status}
 use Rattle.nm_command.specs.declared.status.Status.TheVariants.{File}
-use Rattle.nm_files.specs.Writing.{WroteAll, WrotePart, WrotePrefix}
+use Rattle.nm_files.specs.Writing.{WrotePart}
 use Rattle.nm_words.specs.Input.{CountedInputs, InputTexts, InputsSeen, IsInput, IsUnread, inputs_seen}
 
 -- the sink for what a word says, and what is seen of it

@@ -1,10 +1,10 @@
 //! The word `series`: what interfaces or sources do over time, written step by step.
 
 ghost use Rattle.std.specs.Prelude.{◌≡◌, ◌*◌, ◌≤◌, ◌<◌, IfErr, IfOk, OnOk, Ok, length};
+ghost use Rattle.nm_base.specs.Sink.{WroteAll, WrotePrefix};
 ghost use Rattle.nm_base.specs.declared.limits.TheConstants.{MAX_IFACES, MAX_TIME};
 ghost use Rattle.nm_command.specs.Status.{ended};
 ghost use Rattle.nm_command.specs.declared.status.Status.TheVariants.{File};
-ghost use Rattle.nm_files.specs.Writing.{WroteAll, WrotePrefix};
 ghost use Rattle.nm_series.specs.Series.{IsSeries};
 ghost use Rattle.nm_series.specs.Steps.{steps_in};
 ghost use Rattle.nm_series.specs.declared.steps.TheConstants.{MAX_ROWS};

@@ -4,7 +4,7 @@
 use crate::tests::same::{eq_number, eq_octets, holds};
 use bytes::Bytes;
 use nm_base::limits::MAX_PACKET_OCTETS;
-use nm_base::sink::{CutShort, write_all};
+use nm_base::sink::{write_all, write_counted};
 use nm_base::{
     IfaceNo, Key, MemSink, Packet, Place, Sink, SinkFault, SourceNo, StdSink, Time, Twin,
 };
@@ -88,14 +88,15 @@ fn packets_are_twins(rt: HostRuntime) {
 /// A sink of this budget takes so much of a text, and says so.
 fn takes(rt: &(impl Abort + AllocGlobal), budget: usize, text: &[u8]) {
     let mut sink = MemSink::new(rt.alloc(), budget).expect(rt, "it succeeds");
-    let written = write_all(&mut sink, text);
+    let (written, outcome) = write_counted(&mut sink, text);
     let taken = budget.min(text.len());
     let want = if budget < text.len() {
-        Err(CutShort { taken })
+        Err(SinkFault)
     } else {
         Ok(())
     };
-    assert!(rt; written == want, "budget {budget}");
+    assert!(rt; outcome == want, "budget {budget}");
+    eq_number(rt, "counted", written as u64, taken as u64);
     eq_octets(rt, "taken", sink.octets(), &text[..taken]);
     eq_number(rt, "room", sink.room() as u64, (budget - taken) as u64);
 }
@@ -139,8 +140,9 @@ impl Write for Tired {
 #[test]
 fn sinks_fail_with_their_writer(rt: HostRuntime) {
     let mut sink = StdSink::new(Tired { calls: 0 });
-    let cut = Err(CutShort { taken: 4 });
-    holds(&rt, "a prefix", write_all(&mut sink, b"abcdef") == cut);
+    let (taken, outcome) = write_counted(&mut sink, b"abcdef");
+    eq_number(&rt, "a prefix", taken as u64, 4);
+    holds(&rt, "cut short", outcome == Err(SinkFault));
     holds(&rt, "a fault", sink.write_some(b"abcdef") == Err(SinkFault));
     eq_number(&rt, "calls", u64::from(sink.writer().calls), 4);
 }

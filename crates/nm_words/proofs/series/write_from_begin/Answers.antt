@@ -1,5 +1,5 @@
 use Rattle.std.proofs.Common.{◌+◌, min, inl, inr, refl, ap, subst, ◌∙◌}
-use Rattle.nm_files.specs.Writing.{WroteAll, WrotePrefix}
+use Rattle.nm_base.specs.Sink.{WroteAll, WrotePrefix}
 use Rattle.std.proofs.lemmas.Result.{err_from_is_err_and}
 use Rattle.nm_words.specs.Series.{IsStepOf, columns_of}
 use Rattle.nm_words.proofs.Stepping.{begins, goes_on, is_cut}

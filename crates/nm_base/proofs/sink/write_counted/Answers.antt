@@ -2,7 +2,7 @@ use Rattle.std.proofs.Common.{arith}
 use Rattle.std.proofs.lemmas.Grind.{common_steps}
 use Rattle.std.proofs.lemmas.List.{take_rest}
 use Rattle.nm_base.proofs.Sinks.{Appends-take}
-use Rattle.nm_base.proofs.sink.write_all.Goals as goal
+use Rattle.nm_base.proofs.sink.write_counted.Goals as goal
 
 pub loop-taken-preserved : goal.loop-taken-preserved
 loop-taken-preserved g c = record {

@@ -1,6 +1,6 @@
 use Rattle.std.proofs.Common.{◌-◌, ◌≤◌, length, take}
 use Rattle.nm_base.specs.Sink.{HasNotFailed, HasTaken}
-use Rattle.nm_base.proofs.sink.write_all.Given as goal
+use Rattle.nm_base.proofs.sink.write_counted.Given as goal
 
 abbrev pub invariant-loop-taken : goal.invariant-loop-taken
 invariant-loop-taken g l = record {
