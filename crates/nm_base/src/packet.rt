@@ -6,7 +6,6 @@ ghost use Rattle.std.specs.Cmp.Lexicographic.{pointwise, nat_list_eq_equiv};
 ghost use Rattle.nm_base.specs.declared.limits.TheConstants.{MAX_PACKET_OCTETS};
 
 use crate::limits::MAX_PACKET_OCTETS;
-use bytes::Bytes;
 use std::alloc::{AllocError, Global};
 use std::marker::Model;
 use std::sync::Arc;
@@ -17,7 +16,7 @@ use std::sync::Arc;
 /// It is as small as a pointer, since events, queues and records hold packets and move them often.
 #[derive(Drop)]
 pub struct Packet {
-    octets: Arc<Bytes>,
+    octets: Arc<Vec<u8>>,
 }
 
 impl Model for Packet {
@@ -27,10 +26,10 @@ impl Model for Packet {
 
     ghost Value = { List ℕ };
 
-    ghost view = { λ p. arc_value p.octets };
+    ghost view = { λ p. (arc_value p.octets).items };
 
-    ghost invariant = { λ p. (1 ≤ length (arc_value p.octets))
-        × (length (arc_value p.octets) ≤ MAX_PACKET_OCTETS) };
+    ghost invariant = { λ p. (1 ≤ length (arc_value p.octets).items)
+        × (length (arc_value p.octets).items ≤ MAX_PACKET_OCTETS) };
 }
 
 impl Clone for Packet {
@@ -62,16 +61,29 @@ impl Packet {
     /// # Errors
     ///
     /// `AllocError` where memory for the count of owners was refused.
-    pub fn new(alloc: Global, octets: Bytes) -> Result<Option<Self>, AllocError>
-        ensures fits { IfOk result
-            (λ p. IsSome p ↔ ((1 ≤ length octets) × (length octets ≤ MAX_PACKET_OCTETS))) }
-        ensures value { IfOk result (λ p. IfSome p (λ packet. packet ≡ octets)) }
+    pub fn new(alloc: Global, octets: Vec<u8>) -> Result<Option<Self>, AllocError>
+        ensures fits { IfOk result (λ p. IsSome p
+            ↔ ((1 ≤ length octets.items) × (length octets.items ≤ MAX_PACKET_OCTETS))) }
+        ensures value { IfOk result (λ p. IfSome p (λ packet. packet ≡ octets.items)) }
     {
         if octets.is_empty() || octets.len() > MAX_PACKET_OCTETS {
             return Ok(None);
         }
+        Ok(Some(Packet::from_octets(alloc, octets)?))
+    }
+
+    /// The packet of these octets, which fit one.
+    ///
+    /// # Errors
+    ///
+    /// `AllocError` where memory for the count of owners was refused.
+    pub fn from_octets(alloc: Global, octets: Vec<u8>) -> Result<Self, AllocError>
+        requires least { 1 ≤ length octets.items }
+        requires greatest { length octets.items ≤ MAX_PACKET_OCTETS }
+        ensures { IfOk result (λ packet. packet ≡ octets.items) }
+    {
         let octets = Arc::new(alloc, octets)?;
-        Ok(Some(Packet { octets }))
+        Ok(Packet { octets })
     }
 
     /// How many octets the packet has.

@@ -24,7 +24,7 @@ use std::alloc::{AllocError, Global};
 /// The time to live of errors and replies.
 const TIME_TO_LIVE: u8 = 64;
 
-/// The packet with this header and this payload, in one buffer.
+/// The packet with this header and this payload.
 fn write(alloc: Global, header: &Ipv4Header, body: &Body<'_>) -> Result<Packet, AllocError>
     requires { FitsPacket (body_of body.now) }
     ensures { IfOk result (λ p. p ≡ packet_written header.now (body_of body.now)) }

@@ -26,7 +26,7 @@ use nm_packet::icmp::{
     DESTINATION_UNREACHABLE, IN_TRANSIT, NETWORK_UNREACHABLE, PORT_UNREACHABLE,
     PROTOCOL_UNREACHABLE, TIME_EXCEEDED,
 };
-use nm_packet::{Ipv4, Ipv4View, MessageKind, PacketBuffer, Ports, lower_ttl};
+use nm_packet::{Ipv4, Ipv4View, MessageKind, Ports, lower_ttl};
 use nm_topology::Topology;
 use nm_topology::traffic::{Cbr, Traffic};
 use std::alloc::{AllocError, Global};
@@ -67,9 +67,9 @@ pub enum Reaction {
 
 /// What the node does with a packet from this origin, as docs/RULES.md says. A packet that arrives
 /// is looked at row by row; what a source hands over is originated, or goes by the source's
-/// interface as it is. The octets of a packet that is sent on are copied once, into the buffer, and
-/// not at all where its port would drop it now. `ports` are those of the interfaces by their
-/// numbers, as far as they are here: they decide nothing else.
+/// interface as it is. The octets of a packet that is sent on are copied once, and not at all where
+/// its port would drop it now. `ports` are those of the interfaces by their numbers, as far as they
+/// are here: they decide nothing else.
 ///
 /// The state is that of a node of this topology. A `cbr` source hands over its data, or one octet,
 /// which is not sent, where it has none; an `echo` source its whole ICMP message; a `raw` source a
@@ -82,7 +82,6 @@ pub enum Reaction {
 #[inline(always)]
 pub fn react(
     alloc: Global,
-    buffer: &mut PacketBuffer,
     topology: &Topology,
     ports: &[Option<Port>],
     state: &mut NodeState,
@@ -97,7 +96,7 @@ pub fn react(
     ensures err { OnErr result (state.new ≡ state.old) }
 {
     match origin {
-        Origin::Arrival(_) => receive(alloc, buffer, topology, ports, state, packet),
+        Origin::Arrival(_) => receive(alloc, topology, ports, state, packet),
         Origin::Source(source) => {
             let sent = hand_over(alloc, topology, state, source, packet)?;
             Ok(reaction_of(sent))
@@ -121,7 +120,6 @@ fn reaction_of(sent: Option<(IfaceNo, Twin)>) -> Reaction
 #[inline(always)]
 fn receive(
     alloc: Global,
-    buffer: &mut PacketBuffer,
     topology: &Topology,
     ports: &[Option<Port>],
     state: &mut NodeState,
@@ -141,7 +139,7 @@ fn receive(
         state.count(row.counter());
         return Ok(Reaction::Refused(via));
     }
-    let prepared = prepare_consequence(alloc, buffer, topology, state, &view, &row)?;
+    let prepared = prepare_consequence(alloc, topology, state, &view, &row)?;
     state.count(row.counter());
     let sent = carry_out(state, prepared);
     Ok(reaction_of(sent))
@@ -168,7 +166,6 @@ fn refused_at(ports: &[Option<Port>], row: &Row<'_>, octets: usize) -> Option<If
 #[inline(always)]
 fn prepare_consequence(
     alloc: Global,
-    buffer: &mut PacketBuffer,
     topology: &Topology,
     state: &NodeState,
     packet: &Ipv4View<'_>,
@@ -183,7 +180,7 @@ fn prepare_consequence(
         Row::Unreachable => error(alloc, topology, state, packet, NO_NETWORK),
         Row::Expired => error(alloc, topology, state, packet, EXPIRED),
         Row::Forward(via) => {
-            let lowered = lower_ttl(alloc, buffer, packet)?;
+            let lowered = lower_ttl(alloc, packet)?;
             Ok(Prepared::Sends(*via, Twin::new(lowered)?))
         }
         Row::EchoRequest(request) => reply(alloc, topology, state, packet, request),

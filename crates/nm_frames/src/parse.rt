@@ -16,7 +16,6 @@ use crate::format::{
     LENGTH_OCTETS, NULL_OCTETS, field, kind,
 };
 use crate::frame::{Frame, Have, Hello};
-use bytes::Bytes;
 use nm_base::limits::MAX_BODY_OCTETS;
 use nm_base::{ChanNo, Packet, PartNo, Time};
 use nm_book::message::{Data, Null};
@@ -112,13 +111,13 @@ fn data_of(alloc: Global, body: &[u8]) -> Result<Data, AllocError>
     // What is read is a frame.
     ensures fits { IfOk result (λ d. IsFrame (Frame.Data d)) }
 {
-    let octets = Bytes::copy_from_slice(alloc, &body[field::PACKET..])?;
-    let packet = Packet::new(alloc, octets)?;
+    let octets = Vec::from_slice(alloc, &body[field::PACKET..])?;
+    let packet = Packet::from_octets(alloc, octets)?;
     Ok(Data {
         channel: ChanNo::new(u32_at(body, field::CHANNEL)),
         number: u64_at(body, field::COUNT),
         time: Time::from_nanoseconds(u64_at(body, field::TIME)),
-        packet: packet.unwrap(),
+        packet,
     })
 }
 

@@ -159,7 +159,7 @@ impl Icmp {
         Ok(octets)
     }
 
-    /// A packet with such a message as its payload, in one buffer. The header's protocol should be
+    /// A packet with such a message as its payload. The header's protocol should be
     /// [`PROTOCOL`].
     pub fn write_packet(
         alloc: Global,

@@ -11,11 +11,9 @@ ghost use Rattle.nm_packet.specs.Ipv4.{header_of, lowered, packet_octets, payloa
 ghost use Rattle.nm_packet.specs.Ipv4.{quote_of};
 
 use crate::Address;
-use crate::buffer::{MAX_CUT_OCTETS, PacketBuffer};
 use crate::checksum::{checksum_of, sum_header, updated_checksum};
 use crate::fault::HeaderFault;
 use crate::octets::{long_word_at, set_long_word, set_word, word_at};
-use bytes::Bytes;
 use nm_base::Packet;
 use std::alloc::{AllocError, Global};
 use std::marker::Model;
@@ -299,7 +297,7 @@ pub fn write_ipv4(alloc: Global, header: &Ipv4Header, payload: &[u8]) -> Result<
     write_in_parts(alloc, header, &[], payload)
 }
 
-/// The packet with this header and a payload that is given in two parts, in one buffer.
+/// The packet with this header and a payload that is given in two parts.
 pub(crate) fn write_in_parts(
     alloc: Global,
     header: &Ipv4Header,
@@ -318,18 +316,7 @@ pub(crate) fn write_in_parts(
     octets.extend_from_slice(&header.octets(size as u16))?;
     octets.extend_from_slice(front)?;
     octets.extend_from_slice(back)?;
-    packet_from(alloc, octets)
-}
-
-/// The packet of these octets.
-fn packet_from(alloc: Global, octets: Vec<u8>) -> Result<Packet, AllocError>
-    requires least { 1 ≤ length octets.items }
-    requires greatest { length octets.items ≤ MAX_PACKET_OCTETS }
-    ensures { IfOk result (λ p. p ≡ octets.items) }
-{
-    let octets = Bytes::from_vec(octets)?;
-    let packet = Packet::new(alloc, octets)?;
-    Ok(packet.unwrap())
+    Packet::from_octets(alloc, octets)
 }
 
 /// What an error message quotes of a packet (RFC 792): its header as it came, with its options, and
@@ -350,11 +337,7 @@ pub fn quote(alloc: Global, packet: &Ipv4View<'_>) -> Result<Vec<u8>, AllocError
 /// # Errors
 ///
 /// `AllocError` where memory was refused.
-pub fn lower_ttl(
-    alloc: Global,
-    buffer: &mut PacketBuffer,
-    packet: &Ipv4View<'_>,
-) -> Result<Packet, AllocError>
+pub fn lower_ttl(alloc: Global, packet: &Ipv4View<'_>) -> Result<Packet, AllocError>
     requires { 1 ≤ (fields_of packet.now).time_to_live }
     ensures value { IfOk result
         (λ p. p ≡ packet_octets (lowered (fields_of packet.now)) (payload_of packet.now)) }
@@ -363,15 +346,11 @@ pub fn lower_ttl(
 {
     let time_to_live = packet.time_to_live() - 1;
     let checksum = lowered_checksum(packet);
-    let octets = packet.octets();
-    if octets.len() > MAX_CUT_OCTETS {
-        return lowered_alone(alloc, octets, time_to_live, checksum);
-    }
-    lowered_in(alloc, buffer, octets, time_to_live, checksum)
+    lowered_packet(alloc, packet.octets(), time_to_live, checksum)
 }
 
-/// The packet with this time to live and this header checksum, in memory of its own.
-fn lowered_alone(
+/// The packet with this time to live and this header checksum.
+fn lowered_packet(
     alloc: Global,
     octets: &[u8],
     time_to_live: u8,
@@ -386,27 +365,7 @@ fn lowered_alone(
 {
     let mut copy = Vec::from_slice(alloc, octets)?;
     lower(copy.as_mut_slice(), time_to_live, checksum);
-    packet_from(alloc, copy)
-}
-
-/// The packet with this time to live and this header checksum, cut from the buffer.
-fn lowered_in(
-    alloc: Global,
-    buffer: &mut PacketBuffer,
-    octets: &[u8],
-    time_to_live: u8,
-    checksum: u16,
-) -> Result<Packet, AllocError>
-    requires packet { IsPacket octets.now }
-    requires small { IsOctets octets.now }
-    requires live { time_to_live + 1 ≡ (fields_of octets.now).time_to_live }
-    requires checksum { checksum ≡ (checked (lowered (fields_of octets.now))).header_checksum }
-    ensures { IfOk result
-        (λ p. p ≡ packet_octets (lowered (fields_of octets.now)) (payload_of octets.now)) }
-{
-    buffer.fill(alloc, octets)?;
-    lower(buffer.block.as_mut_slice(), time_to_live, checksum);
-    buffer.cut(alloc)
+    Packet::from_octets(alloc, copy)
 }
 
 /// The header checksum of the packet one hop on, by the one word that changes.

@@ -2,7 +2,6 @@
 #![tactic(auto)]
 
 pub mod address;
-pub mod buffer;
 mod checksum;
 pub mod fault;
 pub mod icmp;
@@ -13,7 +12,6 @@ mod octets;
 pub mod udp;
 
 pub use address::Address;
-pub use buffer::PacketBuffer;
 pub use fault::{HeaderFault, IcmpFault, UdpFault};
 pub use icmp::{Icmp, IcmpView, MessageKind};
 pub use ipv4::{Ipv4, Ipv4Header, Ipv4View, lower_ttl, quote, write_ipv4};

@@ -157,7 +157,7 @@ impl Udp {
         Ok(octets)
     }
 
-    /// A packet with such a datagram as its payload, in one buffer. The header's protocol should be
+    /// A packet with such a datagram as its payload. The header's protocol should be
     /// [`PROTOCOL`].
     pub fn write_packet(
         alloc: Global,

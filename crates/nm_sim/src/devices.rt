@@ -30,7 +30,6 @@ use nm_forward::laws::a_node_sends_by_its_own_interfaces;
 use nm_forward::{Counter, NodeState, Reaction, react};
 use nm_iface::port::Offered;
 use nm_iface::{Port, Start};
-use nm_packet::PacketBuffer;
 use nm_topology::Topology;
 use nm_topology::topology::accepted_topologies_are_in_order;
 use nm_traffic::{Source, SourcePacket};
@@ -45,9 +44,6 @@ pub struct Devices {
     sources: Vec<Option<Source>>,
     /// The port that may have no memory for one more packet.
     used: Option<IfaceNo>,
-    /// What nodes send on is cut from this, whichever node it is, so that what is written next is
-    /// near the processor. No clause sees it.
-    buffer: PacketBuffer,
 }
 
 impl Model for Devices {
@@ -235,7 +231,6 @@ impl Devices {
             ports: first_ports(alloc, topology, part)?,
             sources: first_sources(alloc, topology, part)?,
             used: None,
-            buffer: PacketBuffer::new(alloc),
         })
     }
 
@@ -429,15 +424,7 @@ impl Devices {
             return Ok(Reaction::Nothing);
         };
         let ports = &self.ports[..];
-        react(
-            alloc,
-            &mut self.buffer,
-            topology,
-            ports,
-            state,
-            origin,
-            packet,
-        )
+        react(alloc, topology, ports, state, origin, packet)
     }
 
     /// What the node of an interface does with a packet that arrives there. An `Err` changes

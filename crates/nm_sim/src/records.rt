@@ -10,7 +10,6 @@ ghost use Rattle.nm_pcap.specs.declared.format.TheConstants.{FILE_HEADER_OCTETS}
 ghost use Rattle.nm_topology.specs.TopologyValue.{TopologyValue};
 ghost use Rattle.nm_sim.specs.Records.{RecordsRepresent, total_after, totals_at};
 
-use bytes::Bytes;
 use nm_base::{Dir, IfaceNo, Packet, Record, Time};
 use nm_pcap::format::{FILE_HEADER_OCTETS, RECORD_HEADER_OCTETS};
 use std::alloc::{AllocError, Global};
@@ -52,8 +51,7 @@ impl Model for Records {
 
 /// A packet that nobody sent.
 fn no_packet(alloc: Global) -> Result<Packet, AllocError> {
-    let packet = Packet::new(alloc, Bytes::from_static(b"\0"))?;
-    Ok(packet.unwrap())
+    Packet::from_octets(alloc, vec![in alloc; 0; 1]?)
 }
 
 /// The totals after one more record, of a packet of so many octets.

@@ -2,7 +2,6 @@
 
 ghost use Rattle.std.specs.Prelude.{◌≡◌, ℕ, ◌≤◌, List, length, IfOk};
 
-use bytes::Bytes;
 use nm_base::{Packet, Time};
 use std::alloc::{AllocError, Global};
 use std::marker::Model;
@@ -39,11 +38,8 @@ impl SourcePacket {
         requires greatest { length octets.items ≤ 65535 }
         ensures { IfOk result (λ p. p ≡ octets.items) }
     {
-        let octets = Bytes::from_vec(octets)?;
-        let packet = Packet::new(alloc, octets)?;
-        Ok(SourcePacket {
-            packet: packet.unwrap(),
-        })
+        let packet = Packet::from_octets(alloc, octets)?;
+        Ok(SourcePacket { packet })
     }
 
     /// The octets.

@@ -6,11 +6,10 @@ ghost use Rattle.nm_forward.specs.State.{table_of};
 
 use crate::tests::same::{eq_number, eq_octets, eq_text, holds};
 use crate::tests::texts::TRIO;
-use bytes::Bytes;
 use nm_base::{IfaceNo, NodeNo, Packet, SourceNo, Time, Twin};
 use nm_forward::{Counter, NodeState, Origin, Reaction, Routes, react};
 use nm_iface::Port;
-use nm_packet::{Address, PacketBuffer};
+use nm_packet::Address;
 use nm_topology::parts::Route;
 use nm_topology::{Prefix, Topology};
 use std::alloc::{AllocError, Global};
@@ -205,7 +204,6 @@ fn routes_are_those_of_a_scan(rt: HostRuntime) {
 pub struct Bench {
     topology: Topology,
     state: NodeState,
-    buffer: PacketBuffer,
     ghost table: { state.table ≡ table_of topology state.table.node },
 }
 
@@ -219,12 +217,7 @@ impl Bench {
         let node = NodeNo::new(node);
         assert!(rt; node.index() < topology.nodes().len());
         let state = NodeState::new(rt.alloc(), &topology, node)?;
-        let buffer = PacketBuffer::new(rt.alloc());
-        Ok(Bench {
-            topology,
-            state,
-            buffer,
-        })
+        Ok(Bench { topology, state })
     }
 
     /// What the node does with a packet, which has at most 65,507 octets, where no port is known.
@@ -248,7 +241,6 @@ impl Bench {
         assert!(rt; packet.octet_count() <= 65_507);
         react(
             rt.alloc(),
-            &mut self.buffer,
             &self.topology,
             ports,
             &mut self.state,
@@ -271,7 +263,7 @@ fn node_of_trio(rt: &(impl Abort + AllocGlobal), node: u32) -> Bench {
 
 /// A packet of one octet.
 fn one_octet(rt: &(impl Abort + AllocGlobal)) -> Packet {
-    let octets = Bytes::copy_from_slice(rt.alloc(), b"\0").expect(rt, "it succeeds");
+    let octets = Vec::from_slice(rt.alloc(), b"\0").expect(rt, "it succeeds");
     let packet = Packet::new(rt.alloc(), octets).expect(rt, "it succeeds");
     packet.expect(rt, "one octet fits")
 }
@@ -315,7 +307,7 @@ const FORWARDED: &[u8] =
 \x03\xe8\x00\x09\x00\x0a\xfe\xff\xe7\xe6";
 
 fn packet_of(rt: &(impl Abort + AllocGlobal), octets: &[u8]) -> Packet {
-    let octets = Bytes::copy_from_slice(rt.alloc(), octets).expect(rt, "there is memory");
+    let octets = Vec::from_slice(rt.alloc(), octets).expect(rt, "there is memory");
     let packet = Packet::new(rt.alloc(), octets).expect(rt, "there is memory");
     packet.expect(rt, "it fits")
 }

@@ -7,14 +7,13 @@
 use crate::tests::forward::Bench;
 use crate::tests::same::{eq_number, eq_numbers, eq_octets, holds};
 use crate::tests::texts::TRIO;
-use bytes::Bytes;
 use nm_base::{IfaceNo, Packet, SourceNo, Time};
 use nm_fixtures::DUO;
 use nm_forward::{Counter, Origin, Reaction};
 use nm_packet::{Icmp, MessageKind};
 use nm_topology::{Refusal, TopoFault, Topology};
 use nm_traffic::{Source, SourcePacket};
-use std::alloc::AllocError;
+use std::alloc::{AllocError, Global};
 use std::process::Abort;
 
 /// A network, which has to be accepted.
@@ -24,13 +23,15 @@ fn network(rt: &(impl Abort + AllocGlobal), text: &str) -> Topology {
     first.or(second).expect(rt, "a network")
 }
 
+/// The packet of these octets, if they are one.
+fn made(alloc: Global, octets: &[u8]) -> Result<Option<Packet>, AllocError> {
+    Packet::new(alloc, Vec::from_slice(alloc, octets)?)
+}
+
 /// A packet of from 1 to 65,535 octets.
 fn packet_of(rt: &(impl Abort + AllocGlobal), octets: &[u8]) -> Packet {
-    let first = Bytes::copy_from_slice(rt.alloc(), octets);
-    let second = Bytes::copy_from_slice(rt.alloc(), octets);
-    let octets = first.or(second).expect(rt, "there is memory");
-    let first = Packet::new(rt.alloc(), octets.clone().expect(rt, "it has one owner"));
-    let second = Packet::new(rt.alloc(), octets);
+    let first = made(rt.alloc(), octets);
+    let second = made(rt.alloc(), octets);
     let packet = first.or(second).expect(rt, "there is memory");
     packet.expect(rt, "from 1 to 65,535 octets")
 }

@@ -3,8 +3,8 @@
 
 use crate::tests::same::{eq_number, eq_numbers, eq_octets, eq_shown, holds};
 use nm_packet::{
-    Address, HeaderFault, Icmp, IcmpFault, Ipv4, Ipv4Header, MessageKind, PacketBuffer, Ports, Udp,
-    UdpFault, lower_ttl, quote, write_ipv4,
+    Address, HeaderFault, Icmp, IcmpFault, Ipv4, Ipv4Header, MessageKind, Ports, Udp, UdpFault,
+    lower_ttl, quote, write_ipv4,
 };
 use std::process::Abort;
 
@@ -273,8 +273,7 @@ fn is_lowered_to(rt: &(impl Abort + AllocGlobal), text: &str, zeros: usize, want
     let want = padded(rt, want, zeros);
     let view = Ipv4::read(octets.as_slice()).expect(rt, "it succeeds");
     assert!(rt; view.time_to_live() >= 1);
-    let mut buffer = PacketBuffer::new(rt.alloc());
-    let lowered = lower_ttl(rt.alloc(), &mut buffer, &view).expect(rt, "it succeeds");
+    let lowered = lower_ttl(rt.alloc(), &view).expect(rt, "it succeeds");
     eq_octets(rt, text, lowered.octets(), want.as_slice());
 }
 

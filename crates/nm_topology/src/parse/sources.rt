@@ -25,7 +25,6 @@ use crate::parse::fields::{
 };
 use crate::parse::head::Head;
 use crate::traffic::{Cbr, Echo, Flow, RawPacket};
-use bytes::Bytes;
 use hex::FromHexError;
 use nm_base::limits::MAX_RAW_PACKETS;
 use nm_base::{Packet, Time};
@@ -91,10 +90,7 @@ pub fn required_octets(
     if octets.is_empty() || octets.len() > mtu as usize {
         return Err(TopoFault::Refused(Refusal::Range));
     }
-    match Packet::new(alloc, Bytes::from_vec(octets)?)? {
-        Some(packet) => Ok(packet),
-        None => Err(TopoFault::Refused(Refusal::Range)),
-    }
+    Ok(Packet::from_octets(alloc, octets)?)
 }
 
 /// A table of `packet`, whose time is at least `least` nanoseconds.

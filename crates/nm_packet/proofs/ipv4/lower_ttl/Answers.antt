@@ -9,10 +9,6 @@ written : {E : Type 0} (r : Result (List ℕ) E) (xs ys : List ℕ) → IsOctets
 written r xs ys small packet same is =
     lowered_written r xs small packet (subst (λ (l : List ℕ). IfOk r (λ p. p ≡ packet_octets (lowered (fields_of l)) (payload_of l))) same is)
 
-pub returns-then-octets-gt-MAX_CUT_OCTETS-clause-grammar : goal.returns-then-octets-gt-MAX_CUT_OCTETS-clause-grammar
-returns-then-octets-gt-MAX_CUT_OCTETS-clause-grammar c =
-    written c.lowered_alone.result c.args.packet.now _ c.octets-octets.ensures.small c.octets-octets.ensures.packet c.octets-octets.ensures.value c.lowered_alone.ensures
-
 pub returns-clause-grammar : goal.returns-clause-grammar
 returns-clause-grammar c =
-    written c.lowered_in.result c.args.packet.now _ c.octets-octets.ensures.small c.octets-octets.ensures.packet c.octets-octets.ensures.value c.lowered_in.ensures
+    written c.lowered_packet.result c.args.packet.now _ c.octets.ensures.small c.octets.ensures.packet c.octets.ensures.value c.lowered_packet.ensures

@@ -1,9 +1,9 @@
 use Rattle.std.proofs.Common.{◌≡◌, length, arith}
 use Rattle.nm_packet.proofs.Writing.{length-written_back, lowered_copy}
-use Rattle.nm_packet.proofs.ipv4.lowered_alone.Goals as goal
+use Rattle.nm_packet.proofs.ipv4.lowered_packet.Goals as goal
 
-pub packet_from-requires-clause-greatest : goal.packet_from-requires-clause-greatest
-packet_from-requires-clause-greatest c =
+pub from_octets-requires-clause-greatest : goal.from_octets-requires-clause-greatest
+from_octets-requires-clause-greatest c =
     let items = c.in_ok-copy.copy.items in
     let all : c.in_ok-copy.copy.len ≡ length items = omega arith in
     let same : length c.lower.new.octets ≡ length items = omega arith in
@@ -15,4 +15,4 @@ returns c =
     let items = c.in_ok-copy.copy.items in
     let all : c.in_ok-copy.copy.len ≡ length items = omega arith in
     let same : length c.lower.new.octets ≡ length items = omega arith in
-    lowered_copy c.packet_from.result _ _ c.as_mut_slice.result.now items c.args.octets.now all same c.as_mut_slice.ensures.value c.in_ok-copy.ensures.items c.lower.ensures c.packet_from.ensures
+    lowered_copy c.from_octets.result _ _ c.as_mut_slice.result.now items c.args.octets.now all same c.as_mut_slice.ensures.value c.in_ok-copy.ensures.items c.lower.ensures c.from_octets.ensures
