@@ -5,6 +5,7 @@ mod addresses;
 pub mod counter;
 mod counters;
 pub mod laws;
+mod node;
 mod originate;
 mod prepared;
 pub mod reaction;

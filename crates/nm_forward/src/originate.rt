@@ -3,21 +3,19 @@
 ghost use Rattle.std.specs.Prelude.{◌≡◌, ◌≤◌, IfOk, length};
 ghost use Rattle.nm_packet.specs.declared.limits.TheConstants.{MAX_PAYLOAD};
 ghost use Rattle.nm_packet.specs.Ipv4.{fields_of};
-ghost use Rattle.nm_forward.specs.State.{Knows};
 ghost use Rattle.nm_forward.specs.Originate.{FitsPacket, error_of, is_error_message, is_quiet};
 ghost use Rattle.nm_forward.specs.Originate.{originate, packet_written, protocol_of, reply_of};
 ghost use Rattle.nm_forward.specs.Prepared.{body_of, consequence, draft_of};
 
 use crate::counter::Counter;
+use crate::node::NodeView;
 use crate::prepared::{Body, Draft, Prepared};
-use crate::state::NodeState;
 use nm_base::{Packet, Twin};
 use nm_packet::icmp::{
     DESTINATION_UNREACHABLE, ECHO_CODE, ECHO_REPLY, PARAMETER_PROBLEM, REDIRECT, SOURCE_QUENCH,
     TIME_EXCEEDED,
 };
 use nm_packet::{Icmp, IcmpView, Ipv4Header, Ipv4View, MessageKind, Udp, icmp, quote, write_ipv4};
-use nm_topology::Topology;
 use nm_topology::topology::accepted_topologies_are_in_order;
 use std::alloc::{AllocError, Global};
 
@@ -43,15 +41,15 @@ fn write(alloc: Global, header: &Ipv4Header, body: &Body<'_>) -> Result<Packet, 
 #[tactic(auto, unfolding(crate::specs::Originate::originate))]
 pub fn originate(
     alloc: Global,
-    topology: &Topology,
-    state: &NodeState,
+    node: NodeView<'_>,
     draft: &Draft<'_>,
 ) -> Result<Prepared, AllocError>
-    requires table { Knows topology.now state.now }
-    requires fits { FitsPacket (body_of draft.now.body) }
-    ensures { IfOk result (λ p. consequence p ≡ originate topology.now.ifaces state.now.table
-        state.now.identification (draft_of draft.now)) }
+    requires { FitsPacket (body_of draft.now.body) }
+    ensures { let state = node.entry.state.now in IfOk result (λ p. consequence p
+        ≡ originate node.entry.topology.now.ifaces state.table state.identification
+        (draft_of draft.now)) }
 {
+    let NodeView { topology, state } = node;
     if state.is_own(draft.destination) {
         return Ok(Prepared::Counts(Counter::ToSelf));
     }
@@ -101,14 +99,13 @@ fn is_quiet(packet: &Ipv4View<'_>) -> bool
 #[tactic(auto, unfolding(crate::specs::Originate::error_of))]
 pub fn error(
     alloc: Global,
-    topology: &Topology,
-    state: &NodeState,
+    node: NodeView<'_>,
     packet: &Ipv4View<'_>,
     kind: MessageKind,
 ) -> Result<Prepared, AllocError>
-    requires { Knows topology.now state.now }
-    ensures { IfOk result (λ p. consequence p ≡ error_of topology.now.ifaces state.now.table
-        state.now.identification packet.now kind) }
+    ensures { let state = node.entry.state.now in IfOk result (λ p. consequence p
+        ≡ error_of node.entry.topology.now.ifaces state.table state.identification packet.now
+        kind) }
 {
     if is_quiet(packet) {
         return Ok(Prepared::Counts(Counter::Quiet));
@@ -124,22 +121,21 @@ pub fn error(
             data: &quoted,
         },
     };
-    originate(alloc, topology, state, &error)
+    originate(alloc, node, &error)
 }
 
 /// Prepares the reply to an echo request (RFC 792), or to stay quiet.
 #[tactic(auto, unfolding(crate::specs::Originate::reply_of))]
 pub fn reply(
     alloc: Global,
-    topology: &Topology,
-    state: &NodeState,
+    node: NodeView<'_>,
     packet: &Ipv4View<'_>,
     request: &IcmpView<'_>,
 ) -> Result<Prepared, AllocError>
-    requires table { Knows topology.now state.now }
-    requires fits { length request.now ≤ MAX_PAYLOAD }
-    ensures { IfOk result (λ p. consequence p ≡ reply_of topology.now.ifaces state.now.table
-        state.now.identification (fields_of packet.now) request.now) }
+    requires { length request.now ≤ MAX_PAYLOAD }
+    ensures { let state = node.entry.state.now in IfOk result (λ p. consequence p
+        ≡ reply_of node.entry.topology.now.ifaces state.table state.identification
+        (fields_of packet.now) request.now) }
 {
     if packet.source().is_martian() {
         return Ok(Prepared::Counts(Counter::Quiet));
@@ -157,5 +153,5 @@ pub fn reply(
             data: request.data(),
         },
     };
-    originate(alloc, topology, state, &reply)
+    originate(alloc, node, &reply)
 }

@@ -20,6 +20,15 @@ pub enum Prepared {
     Originates(IfaceNo, Twin),
 }
 
+/// What follows a packet that a source hands over, with its memory taken.
+#[derive(Drop)]
+pub enum Handed {
+    /// It goes by this interface as it is.
+    AsItIs(IfaceNo, Twin),
+    /// A packet with it is originated, or is not.
+    InPacket(Prepared),
+}
+
 /// The payload of a packet that is to be originated.
 #[derive(Clone, Copy)]
 pub enum Body<'a> {

@@ -8,16 +8,17 @@ ghost use Rattle.nm_packet.specs.declared.limits.TheConstants.{MAX_PACKET_DATA};
 ghost use Rattle.nm_packet.specs.Ipv4.{fields_of};
 ghost use Rattle.nm_forward.specs.State.{Knows};
 ghost use Rattle.nm_forward.specs.Row.{IsPossible};
-ghost use Rattle.nm_forward.specs.Originate.{FitsPacket, concluded, consequence_of, originate};
-ghost use Rattle.nm_forward.specs.Prepared.{body_of, consequence, draft_of};
+ghost use Rattle.nm_forward.specs.Originate.{FitsPacket, concluded, consequence_of};
+ghost use Rattle.nm_forward.specs.Prepared.{body_of, consequence, handed_on};
 ghost use Rattle.nm_forward.specs.Reaction.{FitsOrigin, FitsSource, FitsHeaders, IsReaction};
 ghost use Rattle.nm_forward.specs.Reaction.{IsSent, arrived, datagram_of, handed, handed_by};
 ghost use Rattle.nm_forward.specs.Reaction.{reaction, sent_of};
 ghost use Rattle.nm_forward.specs.declared.row.Row.TheVariants.{Forward};
 
 use crate::counter::Counter;
+use crate::node::NodeView;
 use crate::originate::{error, originate, reply};
-use crate::prepared::{Body, Draft, Prepared};
+use crate::prepared::{Body, Draft, Handed, Prepared};
 use crate::row::{Row, packet_row};
 use crate::state::NodeState;
 use nm_base::{IfaceNo, Origin, Packet, SourceNo, Twin};
@@ -139,7 +140,8 @@ fn receive(
         state.count(row.counter());
         return Ok(Reaction::Refused(via));
     }
-    let prepared = prepare_consequence(alloc, topology, state, &view, &row)?;
+    let node = NodeView { topology, state };
+    let prepared = prepare_consequence(alloc, node, &view, &row)?;
     state.count(row.counter());
     let sent = carry_out(state, prepared);
     Ok(reaction_of(sent))
@@ -166,26 +168,25 @@ fn refused_at(ports: &[Option<Port>], row: &Row<'_>, octets: usize) -> Option<If
 #[inline(always)]
 fn prepare_consequence(
     alloc: Global,
-    topology: &Topology,
-    state: &NodeState,
+    node: NodeView<'_>,
     packet: &Ipv4View<'_>,
     row: &Row<'_>,
 ) -> Result<Prepared, AllocError>
-    requires table { Knows topology.now state.now }
-    requires possible { IsPossible row.now (fields_of packet.now).time_to_live }
-    ensures { IfOk result (λ p. consequence p ≡ consequence_of topology.now.ifaces
-        state.now.table state.now.identification packet.now row.now) }
+    requires { IsPossible row.now (fields_of packet.now).time_to_live }
+    ensures { let state = node.entry.state.now in IfOk result (λ p. consequence p
+        ≡ consequence_of node.entry.topology.now.ifaces state.table state.identification
+        packet.now row.now) }
 {
     match row {
-        Row::Unreachable => error(alloc, topology, state, packet, NO_NETWORK),
-        Row::Expired => error(alloc, topology, state, packet, EXPIRED),
+        Row::Unreachable => error(alloc, node, packet, NO_NETWORK),
+        Row::Expired => error(alloc, node, packet, EXPIRED),
         Row::Forward(via) => {
             let lowered = lower_ttl(alloc, packet)?;
             Ok(Prepared::Sends(*via, Twin::new(lowered)?))
         }
-        Row::EchoRequest(request) => reply(alloc, topology, state, packet, request),
-        Row::ClosedPort => error(alloc, topology, state, packet, NO_PORT),
-        Row::UnknownProtocol => error(alloc, topology, state, packet, NO_PROTOCOL),
+        Row::EchoRequest(request) => reply(alloc, node, packet, request),
+        Row::ClosedPort => error(alloc, node, packet, NO_PORT),
+        Row::UnknownProtocol => error(alloc, node, packet, NO_PROTOCOL),
         Row::BadHeader
         | Row::BadDestination
         | Row::NotMine
@@ -234,32 +235,27 @@ fn hand_over(
 {
     match topology.sources().get(source.index()) {
         Some(source) if source.node == state.node() => {
-            accept_from_source(alloc, topology, state, &source.traffic, packet)
+            let node = NodeView { topology, state };
+            let handed = accept_from_source(alloc, node, &source.traffic, packet)?;
+            Ok(count_handed(state, handed))
         }
         _ => Ok(None),
     }
 }
 
-/// What the node does with a packet of traffic of its own.
+/// What follows a packet of traffic of the node's own.
 fn accept_from_source(
     alloc: Global,
-    topology: &Topology,
-    state: &mut NodeState,
+    node: NodeView<'_>,
     traffic: &Traffic,
     packet: &Packet,
-) -> Result<Option<(IfaceNo, Twin)>, AllocError>
-    requires table { Knows topology.now state.old }
-    requires fits { FitsHeaders traffic.now packet.now }
-    ensures ok { IfOk result (λ r. (state.new, sent_of r)
-        ≡ handed topology.now.ifaces state.old.table state.old traffic.now packet.now) }
-    ensures err { OnErr result (state.new ≡ state.old) }
+) -> Result<Handed, AllocError>
+    requires { FitsHeaders traffic.now packet.now }
+    ensures { let state = node.entry.state.now in IfOk result (λ h. handed_on h state
+        ≡ handed node.entry.topology.now.ifaces state.table state traffic.now packet.now) }
 {
     match traffic {
-        Traffic::Raw(raw) => {
-            let twin = Twin::new(packet.clone()?)?;
-            state.count(Counter::Raw);
-            Ok(Some((raw.via(), twin)))
-        }
+        Traffic::Raw(raw) => Ok(Handed::AsItIs(raw.via(), Twin::new(packet.clone()?)?)),
         Traffic::Cbr(cbr) => {
             let datagram = Draft {
                 source: None,
@@ -267,7 +263,7 @@ fn accept_from_source(
                 time_to_live: cbr.flow.ttl,
                 body: datagram_body(cbr, packet),
             };
-            send_originated(alloc, topology, state, &datagram)
+            Ok(Handed::InPacket(originate(alloc, node, &datagram)?))
         }
         Traffic::Echo(echo) => {
             let request = Draft {
@@ -276,8 +272,21 @@ fn accept_from_source(
                 time_to_live: echo.flow.ttl,
                 body: Body::Whole(packet.octets()),
             };
-            send_originated(alloc, topology, state, &request)
+            Ok(Handed::InPacket(originate(alloc, node, &request)?))
         }
+    }
+}
+
+/// Counts what a source handed over, and hands over what is sent.
+fn count_handed(state: &mut NodeState, handed: Handed) -> Option<(IfaceNo, Twin)>
+    ensures { (state.new, sent_of result) ≡ handed_on handed state.old }
+{
+    match handed {
+        Handed::AsItIs(via, twin) => {
+            state.count(Counter::Raw);
+            Some((via, twin))
+        }
+        Handed::InPacket(prepared) => carry_out(state, prepared),
     }
 }
 
@@ -299,21 +308,4 @@ fn datagram_body<'a>(cbr: &Cbr, packet: &'a Packet) -> Body<'a>
         },
         data,
     }
-}
-
-/// Originates what a source hands over.
-fn send_originated(
-    alloc: Global,
-    topology: &Topology,
-    state: &mut NodeState,
-    draft: &Draft<'_>,
-) -> Result<Option<(IfaceNo, Twin)>, AllocError>
-    requires table { Knows topology.now state.old }
-    requires fits { FitsPacket (body_of draft.now.body) }
-    ensures ok { IfOk result (λ r. (state.new, sent_of r) ≡ concluded (originate topology.now.ifaces
-        state.old.table state.old.identification (draft_of draft.now)) state.old) }
-    ensures err { OnErr result (state.new ≡ state.old) }
-{
-    let prepared = originate(alloc, topology, state, draft)?;
-    Ok(carry_out(state, prepared))
 }

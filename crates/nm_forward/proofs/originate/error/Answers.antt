@@ -9,12 +9,12 @@ use Rattle.nm_forward.proofs.originate.error.Goals as goal
 pub returns : goal.returns
 returns c =
     let p = c.args.packet.now in
-    let state = c.args.state.now in
+    let state = c.args.node.state.now in
     let quoted : c.deref.result.now ≡ quote_of p =
     c.deref.ensures.value ∙ c.in_ok-quoted.ensures.value in
     let loud : is_quiet p ≡ false = cc in
     subst (λ (x : Consequence). IfOk c.originate.result (λ p. consequence p ≡ x))
-    (error_of-loud c.args.topology.now.ifaces state.table state.identification p
+    (error_of-loud c.args.node.topology.now.ifaces state.table state.identification p
     c.args.kind c.source.result c.deref.result.now
     loud c.source.ensures quoted)
     c.originate.ensures
