@@ -4,3 +4,4 @@ pub mod Lines
 pub mod Locate
 pub mod Place
 pub mod Reading
+pub mod TableLaws

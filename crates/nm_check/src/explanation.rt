@@ -6,7 +6,7 @@ ghost use Rattle.nm_check.specs.Lines.{EndsLine};
 ghost use Rattle.nm_check.specs.Locate.{IsLocated};
 
 use crate::faults::push_faults;
-use crate::locate::{Located, locate};
+use crate::locate::{Located, Reading, locate};
 use crate::whole_sentence::push_whole_fault;
 use crate::words::{Appended, Piece, push};
 use nm_base::limits::MAX_TEXT_OCTETS;
@@ -100,8 +100,10 @@ fn push_located(
     match located {
         Located::Length => push_length_fault(out, text.len()),
         Located::Letters => push_text_fault(alloc, out, text),
-        Located::Tables(table, found) => push_faults(alloc, out, written(text), table, *found),
-        Located::Whole(document) => {
+        Located::Read(Reading::Tables(table, found)) => {
+            push_faults(alloc, out, written(text), table, *found)
+        }
+        Located::Read(Reading::Whole(document)) => {
             push_whole_fault(alloc, out, written(text), document, refusal)
         }
     }

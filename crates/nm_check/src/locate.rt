@@ -19,6 +19,13 @@ pub enum Located {
     Length,
     /// It is not UTF-8, or no TOML document.
     Letters,
+    /// It has a top table: what comes of reading that.
+    Read(Reading),
+}
+
+/// Where a text that has a top table is refused, if it is.
+#[derive(Drop)]
+pub enum Reading {
     /// In its tables.
     Tables(Table, Found),
     /// Its tables are all read: in the tests of the whole, if it is refused at all.
@@ -26,14 +33,14 @@ pub enum Located {
 }
 
 /// Where a text with this top table is refused.
-fn locate_in(alloc: Global, table: Table) -> Result<Located, AllocError>
-    ensures { IfOk result (λ located. IsLocatedIn (table_view table) located) }
+fn locate_in(alloc: Global, table: Table) -> Result<Reading, AllocError>
+    ensures { IfOk result (λ reading. IsLocatedIn (table_view table) reading) }
 {
     if let Some(found) = find(alloc, &table)? {
-        return Ok(Located::Tables(table, found));
+        return Ok(Reading::Tables(table, found));
     }
     match read_document(alloc, &table) {
-        Ok(document) => Ok(Located::Whole(document)),
+        Ok(document) => Ok(Reading::Whole(document)),
         Err(TopoFault::Memory) => Err(AllocError),
         // The document is refused only where a place was found.
         Err(TopoFault::Refused(_)) => unreachable!(),
@@ -49,7 +56,7 @@ pub fn locate(alloc: Global, text: &[u8]) -> Result<Located, AllocError>
         return Ok(Located::Length);
     }
     match top_table(alloc, text) {
-        Ok(table) => locate_in(alloc, table),
+        Ok(table) => Ok(Located::Read(locate_in(alloc, table)?)),
         Err(TopoFault::Memory) => Err(AllocError),
         Err(TopoFault::Refused(_)) => Ok(Located::Letters),
     }

@@ -9,7 +9,7 @@ use Rattle.nm_topology.specs.declared.parts.Route.{Route}
 use Rattle.nm_topology.specs.PartValues.{NodeValue}
 use Rattle.nm_topology.specs.TopologyValue.{TopologyValue}
 use Rattle.nm_topology.specs.Accepted.{IsInOrder}
-use Rattle.nm_forward.specs.Routes.{Holds, network, leads, longest_below, longest_route, route_of}
+use Rattle.nm_forward.specs.Routes.{Holds, IsRouteTo, network, leads, longest_below, longest_route, route_of}
 use Rattle.nm_forward.specs.State.{IsIfaceOf, NodeConfiguration, table_from, table_of}
 
 -- what is found is of the list
@@ -163,3 +163,11 @@ module _ (routes : List Route) (a : ℕ) where
       let g = longest-greatest 33 routes a k d h (omega arith) holds.1 in
       let none : None ≡ Some g.0 = sym e ∙ g.1 in
       cc
+
+  pub route-longest_route : IsRouteTo routes a (longest_route routes a)
+  route-longest_route = at (longest_route routes a) refl where
+    at : (o : Option Route) → longest_route routes a ≡ o → IsRouteTo routes a o
+    at None e = route-none e
+    at (Some r) e =
+        let f = route-found r e in
+        record { listed = f.0; holds = f.1; longest = route-longest r e }

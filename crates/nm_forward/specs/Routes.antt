@@ -1,5 +1,5 @@
 -- The route to an address (RFC 1812, section 5.2.4.3).
-use Rattle.std.specs.Prelude.{◌≡◌, ℕ, zero, suc, ◌-◌, ◌/◌, ◌^◌, ◌<◌, ◌≤◌, Bool, false, ◌&&◌, ◌==◌, List, find, slice_index_or, Option, None}
+use Rattle.std.specs.Prelude.{◌≡◌, ℕ, zero, suc, ◌-◌, ◌/◌, ◌^◌, ◌<◌, ◌≤◌, All, Bool, Contains, false, ◌&&◌, ◌==◌, List, find, slice_index_or, Option, None, Some}
 use Rattle.std.specs.Option.{option_map, option_or}
 use Rattle.std.specs.HashMap.{get, HashMap}
 use Rattle.std.specs.declared.hash.FoldHasher.{FoldHasher}
@@ -29,6 +29,17 @@ longest_below (suc n) routes address =
 -- the route with the longest prefix that holds the address
 abbrev pub longest_route : List Route → ℕ → Option Route
 longest_route routes address = longest_below 33 routes address
+
+-- one of the routes, whose prefix holds the address and is the longest that does
+pub record IsLongest (routes : List Route) (address : ℕ) (r : Route) : Type 0 where
+  pub listed : Contains routes r
+  pub holds : Holds address r
+  pub longest : All (λ q. Holds address q → q.to.length ≤ r.to.length) routes
+
+-- the route to an address, if there is one: there is one where any prefix holds the address
+abbrev pub IsRouteTo : List Route → ℕ → Option Route → Type 0
+IsRouteTo routes address (Some r) = IsLongest routes address r
+IsRouteTo routes address None = All (λ q. ¬ Holds address q) routes
 
 -- the interface to which that route leads
 abbrev pub route_of : List Route → ℕ → Option ℕ

@@ -1,7 +1,6 @@
 //! Laws of the definitions: each function does nothing, and its contract is the law.
 
-ghost use Rattle.std.specs.Prelude.{◌≡◌, ℕ, ◌≤◌, All, Contains, List, None, Some, length};
-ghost use Rattle.std.specs.Prelude.{slice_get};
+ghost use Rattle.std.specs.Prelude.{◌≡◌, ℕ, ◌≤◌, List, Some, length, slice_get};
 ghost use Rattle.nm_base.specs.declared.limits.TheConstants.{MAX_PACKET_OCTETS};
 ghost use Rattle.nm_base.specs.declared.event.Origin.{Origin};
 ghost use Rattle.nm_topology.specs.declared.parts.Route.{Route};
@@ -9,7 +8,7 @@ ghost use Rattle.nm_topology.specs.TopologyValue.{TopologyValue};
 ghost use Rattle.nm_forward.specs.declared.counter.Counter.{Counter};
 ghost use Rattle.nm_forward.specs.declared.counter.TheConstants.Counter.{ALL};
 ghost use Rattle.nm_forward.specs.Counter.{counter_number};
-ghost use Rattle.nm_forward.specs.Routes.{Holds, longest_route};
+ghost use Rattle.nm_forward.specs.Routes.{IsRouteTo, longest_route};
 ghost use Rattle.nm_forward.specs.State.{IsIfaceOf, NodeStateValue};
 ghost use Rattle.nm_forward.specs.Reaction.{FitsOrigin, reaction};
 
@@ -19,13 +18,8 @@ use nm_topology::topology::accepted_topologies_are_in_order;
 /// The route to an address is one of the routes, and its prefix holds the address and is the
 /// longest that does. There is one where any prefix holds the address.
 pub fn routes_are_longest()
-    ensures found { (routes : List Route) (address : ℕ) (r : Route)
-        → longest_route routes address ≡ Some r → Contains routes r × Holds address r }
-    ensures longest { (routes : List Route) (address : ℕ) (r : Route)
-        → longest_route routes address ≡ Some r
-        → All (λ q. Holds address q → q.to.length ≤ r.to.length) routes }
-    ensures none { (routes : List Route) (address : ℕ) → longest_route routes address ≡ None
-        → All (λ q. Holds address q → ⊥) routes }
+    ensures { (routes : List Route) (address : ℕ)
+        → IsRouteTo routes address (longest_route routes address) }
 {}
 
 /// What a node knows of itself stays as it is.

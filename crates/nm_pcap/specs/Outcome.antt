@@ -5,7 +5,7 @@ use Rattle.nm_base.specs.Count.{saturated}
 use Rattle.nm_base.specs.declared.record.Record.{Record}
 use Rattle.nm_pcap.specs.declared.writer.PcapFault.{PcapFault}
 use Rattle.nm_pcap.specs.declared.writer.PcapFault.TheVariants.{File, Failed}
-use Rattle.nm_pcap.specs.Format.{record_octets}
+use Rattle.nm_pcap.specs.Format.{file_header, record_octets}
 use Rattle.nm_pcap.specs.Writer.{Writer}
 use Rattle.nm_pcap.specs.Writing.{written}
 
@@ -57,3 +57,11 @@ Puts seen old [] new = new ≡ old
 Puts {W = W} seen old (p ∷ ps) new =
     (mid : Writer W) × Adds seen old mid p.1 (written old.form (record_octets p.0))
     × Puts seen mid ps new
+
+-- a file was started, and records were put, each call with its answer
+pub record StartsAndPuts {W : Type 0} (seen : W → SinkSeen) (fresh new : Writer W)
+    (puts : List (Record (List ℕ) × Result Unit PcapFault)) : Type 0 where
+  pub started : Writer W
+  pub first : Result Unit PcapFault
+  pub starts : Adds seen fresh started first (written fresh.form file_header)
+  pub puts_on : Puts seen started puts new

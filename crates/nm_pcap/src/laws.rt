@@ -5,7 +5,7 @@ ghost use Rattle.nm_base.specs.declared.record.Record.{Record};
 ghost use Rattle.nm_base.specs.Sink.{SinkSeen};
 ghost use Rattle.nm_pcap.specs.declared.writer.PcapFault.{PcapFault};
 ghost use Rattle.nm_pcap.specs.Format.{file_header, record_octets, pcap};
-ghost use Rattle.nm_pcap.specs.Outcome.{HoldsPrefix, Puts, Adds};
+ghost use Rattle.nm_pcap.specs.Outcome.{HoldsPrefix, StartsAndPuts};
 ghost use Rattle.nm_pcap.specs.Writer.{Writer};
 ghost use Rattle.nm_pcap.specs.Writing.{written};
 
@@ -19,10 +19,7 @@ pub fn file_grows()
 /// After `start` and any `put`s, whatever they answered, the octets that the sink took are a prefix
 /// of the file of the records put, in its form, and all of it as long as the sink has not failed.
 pub fn file_is_a_prefix<W>()
-    ensures { (seen : W → SinkSeen) (fresh started new : Writer W)
-        (first : Result Unit PcapFault) (puts : List (Record (List ℕ) × Result Unit PcapFault))
-        → Adds seen fresh started first (written fresh.form file_header)
-        → Puts seen started puts new
-        → HoldsPrefix seen fresh new
-        (written fresh.form (pcap (map (λ p. p.0) puts))) }
+    ensures { (seen : W → SinkSeen) (fresh new : Writer W)
+        (puts : List (Record (List ℕ) × Result Unit PcapFault)) → StartsAndPuts seen fresh new puts
+        → HoldsPrefix seen fresh new (written fresh.form (pcap (map (λ p. p.0) puts))) }
 {}

@@ -42,3 +42,12 @@ module _ (t : TopologyValue) (events : ℕ → ℕ) where
   -- for each interface and each last step
   abbrev pub AllAddUp : (Had → ℕ) → Type 0
   AllAddUp amount = (i last : ℕ) → AddUp amount i last
+
+  -- so do the packets and the octets that came to an interface and went from it, and the packets
+  -- that it dropped
+  pub record HadAddsUp : Type 0 where
+    pub came : AllAddUp packets_in
+    pub octets_came : AllAddUp octets_in
+    pub went : AllAddUp packets_out
+    pub octets_went : AllAddUp octets_out
+    pub dropped : AllAddUp drops

@@ -1,9 +1,7 @@
 //! The steps of a series add up to the run.
 
 ghost use Rattle.std.specs.Prelude.{ℕ};
-ghost use Rattle.nm_series_laws.specs.Adding.{AllAddUp, BeginAt};
-ghost use Rattle.nm_series_laws.specs.Adding.{drops, octets_in, octets_out};
-ghost use Rattle.nm_series_laws.specs.Adding.{packets_in, packets_out};
+ghost use Rattle.nm_series_laws.specs.Adding.{BeginAt, HadAddsUp};
 
 use nm_topology::Topology;
 
@@ -11,14 +9,6 @@ use nm_topology::Topology;
 /// it has at the end of the last of them: packets and octets that came and went, and packets
 /// dropped. So the rows of a whole series add up to what a report says of the interface.
 pub fn steps_add_up(topology: &Topology)
-    ensures came { (step : ℕ) (events : ℕ → ℕ) → BeginAt topology.now events step
-        → AllAddUp topology.now events packets_in }
-    ensures octets_came { (step : ℕ) (events : ℕ → ℕ) → BeginAt topology.now events step
-        → AllAddUp topology.now events octets_in }
-    ensures went { (step : ℕ) (events : ℕ → ℕ) → BeginAt topology.now events step
-        → AllAddUp topology.now events packets_out }
-    ensures octets_went { (step : ℕ) (events : ℕ → ℕ) → BeginAt topology.now events step
-        → AllAddUp topology.now events octets_out }
-    ensures dropped { (step : ℕ) (events : ℕ → ℕ) → BeginAt topology.now events step
-        → AllAddUp topology.now events drops }
+    ensures { (step : ℕ) (events : ℕ → ℕ) → BeginAt topology.now events step
+        → HadAddsUp topology.now events }
 {}

@@ -1,6 +1,7 @@
 pub mod Accepted
 pub mod Build
 pub mod Fault
+pub mod FormatLaws
 pub mod Formats
 pub mod Keys
 pub mod Limits

@@ -1,9 +1,10 @@
 -- What the sources of a topology within the limits have in common.
-use Rattle.std.specs.Prelude.{◌≡◌, ℕ, suc, ◌+◌, ◌<◌, ◌≤◌, List, length, slice_get, Some, None}
+use Rattle.std.specs.Prelude.{◌≡◌, ℕ, suc, ◌+◌, ◌<◌, ◌≤◌, All, List, length, slice_get, Some, None}
 use Rattle.nm_base.specs.declared.limits.TheConstants.{MAX_PACKET_OCTETS}
 use Rattle.nm_topology.specs.declared.traffic.Source.{Source}
 use Rattle.nm_topology.specs.declared.traffic.Traffic.{Traffic}
 use Rattle.nm_topology.specs.declared.traffic.Traffic.TheVariants.{Cbr, Echo, Raw}
+use Rattle.nm_topology.specs.Limits.{HasOctets, IsWithinLimits}
 use Rattle.nm_topology.specs.TopologyValue.{TopologyValue}
 use Rattle.nm_traffic.specs.Source.{source_at}
 
@@ -36,3 +37,16 @@ FitsMtu mtu (Raw r) octets = octets ≤ mtu
 abbrev pub FitTheMtu : TopologyValue → Type 0
 FitTheMtu t = (j n : ℕ) (s : Source) (a : ℕ × List ℕ) → slice_get t.sources j ≡ Some s
     → source_at t j n ≡ Some a → FitsMtu t.mtu s.traffic (length a.1)
+
+-- how the sources of a network within the limits send
+pub record SendsWithinLimits (t : TopologyValue) : Type 0 where
+  pub rise : TimesRise t
+  pub end : EndForGood t
+  pub fit : FitTheMtu t
+  pub greatest : ArePackets t
+
+-- how the sources of any network send: where no raw packet is empty, no packet is
+pub record SendsOrderly (t : TopologyValue) : Type 0 where
+  pub before : ComeBeforeStop t
+  pub limits : IsWithinLimits t → SendsWithinLimits t
+  pub least : All (λ s. HasOctets s.traffic) t.sources → HaveOctets t

@@ -1,11 +1,9 @@
 //! Laws of the definitions: each function has an empty body or calls other laws, and its contract
 //! is the law.
 
-ghost use Rattle.std.specs.Prelude.{◌≡◌, All};
-ghost use Rattle.nm_topology.specs.Limits.{HasOctets, IsWithinLimits};
 ghost use Rattle.nm_topology.specs.TopologyValue.{TopologyValue};
 ghost use Rattle.nm_traffic.specs.Orderly.{ArePackets, ComeBeforeStop, EndForGood};
-ghost use Rattle.nm_traffic.specs.Orderly.{FitTheMtu, HaveOctets, TimesRise};
+ghost use Rattle.nm_traffic.specs.Orderly.{FitTheMtu, HaveOctets, SendsOrderly, TimesRise};
 
 use nm_topology::Topology;
 use nm_topology::topology::accepted_topologies_are_in_order;
@@ -14,15 +12,7 @@ use nm_topology::topology::accepted_topologies_are_in_order;
 /// stops, with no gap in their numbers; they fit the mtu with the headers that they get, and are no
 /// longer than a packet may be. Where no raw packet is empty, no packet is.
 pub fn times_rise_within_limits()
-    // When the packets come.
-    ensures rise { (t : TopologyValue) → IsWithinLimits t → TimesRise t }
-    ensures end { (t : TopologyValue) → IsWithinLimits t → EndForGood t }
-    ensures before { (t : TopologyValue) → ComeBeforeStop t }
-
-    // How long they are.
-    ensures fit { (t : TopologyValue) → IsWithinLimits t → FitTheMtu t }
-    ensures greatest { (t : TopologyValue) → IsWithinLimits t → ArePackets t }
-    ensures least { (t : TopologyValue) → All (λ s. HasOctets s.traffic) t.sources → HaveOctets t }
+    ensures { (t : TopologyValue) → SendsOrderly t }
 {}
 
 /// The same of an accepted topology.

@@ -2,10 +2,10 @@ use Rattle.nm_check.proofs.Tables.{iface_table, link_table, node_table, route_ta
 use Rattle.nm_check.proofs.laws.tables_are_refused_at_their_fields.Goals as goal
 
 pub returns : goal.returns
-returns c = record {
-  nodes = node_table;
-  ifaces = λ head. iface_table head.format head;
-  links = link_table;
-  routes = route_table;
-  sources = source_table;
+returns c = λ head t. record {
+  node = node_table head t;
+  iface = iface_table head.format head t;
+  link = link_table head t;
+  route = route_table head t;
+  source = source_table head t;
 }
