@@ -1,5 +1,7 @@
 -- What a merge with another replica's knowledge does.
 use Rattle.std.specs.Prelude.{◌≡◌, ◌≢◌, ℕ, ◌<◌, ◌≤◌, ◌==◌, ◌&&◌, Bool, true, false, if◌then◌else◌, List, length, max, slice_get, slice_index_or, slice_set, take, Option, Some, None, Result, Ok, Err}
+use Rattle.nm_base.specs.declared.fault.Fault.{Fault}
+use Rattle.nm_base.specs.declared.fault.Fault.TheVariants.{Refused, Memory}
 use Rattle.nm_topology.specs.Topology.{receiving_iface}
 use Rattle.nm_topology.specs.TopologyValue.{TopologyValue}
 use Rattle.nm_model.specs.Join.{join, join_fault}
@@ -14,8 +16,8 @@ use Rattle.nm_sim.specs.Network.{net_of}
 use Rattle.nm_book.specs.Book.{BookValue}
 use Rattle.nm_book.specs.Telling.{Follow, told_each}
 use Rattle.nm_book.specs.declared.message.Data.{Data}
-use Rattle.nm_book.specs.declared.fault.MergeFault.{MergeFault}
-use Rattle.nm_book.specs.declared.fault.MergeFault.TheVariants.{Stranger, Channel, Memory}
+use Rattle.nm_book.specs.declared.fault.MergeRefusal.{MergeRefusal}
+use Rattle.nm_book.specs.declared.fault.MergeRefusal.TheVariants.{Stranger, Channel}
 
 -- the topology's digest, the partition, and what is known of each channel by the channel's number
 pub record KnowledgeValue : Type 0 where
@@ -64,11 +66,12 @@ module _ (t : TopologyValue) (p : ℕ) (knows others : List (Know (List ℕ))) w
 
   -- The answer of a merge. A refusal changes nothing: the knowledge of another partition or
   -- topology; else the first channel by number that can't be joined; else memory.
-  abbrev pub MergesChannels : Bool → List (Know (List ℕ)) → Result Unit MergeFault → Type 0
+  abbrev pub MergesChannels : Bool → List (Know (List ℕ)) → Result Unit (Fault MergeRefusal)
+      → Type 0
   MergesChannels is_ours after (Ok u) =
       (is_ours ≡ true) × AreJoinable (length knows) × AreJoined after
-  MergesChannels is_ours after (Err Stranger) = (is_ours ≡ false) × (after ≡ knows)
-  MergesChannels is_ours after (Err (Channel c fault)) =
+  MergesChannels is_ours after (Err (Refused Stranger)) = (is_ours ≡ false) × (after ≡ knows)
+  MergesChannels is_ours after (Err (Refused (Channel c fault))) =
       (is_ours ≡ true) × IsFirstMergeFault c fault × (after ≡ knows)
   MergesChannels is_ours after (Err Memory) =
       (is_ours ≡ true) × AreJoinable (length knows) × (after ≡ knows)
@@ -85,7 +88,7 @@ with_gain a (Some g) = gained a g
 -- How a merge goes.
 module _ (t : TopologyValue) (p : ℕ) (knows others : List (Know (List ℕ))) where
   -- all channels that come in can be joined, or this is the first that can't
-  abbrev pub Checks : Result Unit MergeFault → Type 0
+  abbrev pub Checks : Result Unit MergeRefusal → Type 0
   Checks (Ok u) = AreJoinable t p knows others (length knows)
   Checks (Err e) = (c : ℕ) × (fault : KnowFault) × (e ≡ Channel c fault)
       × IsFirstMergeFault t p knows others c fault
@@ -134,7 +137,7 @@ pub record IsGrown (t : TopologyValue) (p : ℕ) (knows before : List (Know (Lis
 
 -- a book merges another's knowledge: nothing but what it knows changes
 pub record BookMerges (old new : BookValue) (other : KnowledgeValue)
-    (result : Result Unit MergeFault) : Type 0 where
+    (result : Result Unit (Fault MergeRefusal)) : Type 0 where
   pub merges : MergesChannels old.topology old.partition old.knows other.knows
       (is_of old.topology old.partition other) new.knows result
   pub same : new ≡ record old { knows = new.knows }

@@ -21,7 +21,7 @@ ghost use Rattle.nm_base.specs.declared.fault.Fault.TheVariants.{Refused};
 ghost use Rattle.nm_book.specs.declared.fault.BookRefusal.TheVariants.{NoSuch};
 
 use crate::channels::{comes_in, goes_out};
-use crate::fault::{AcceptFault, BookFault, BookRefusal, MergeFault};
+use crate::fault::{AcceptFault, BookFault, BookRefusal, MergeFault, MergeRefusal};
 use crate::knowledge::{Knowledge, copy_all};
 use crate::learning::{take_data, take_null};
 use crate::merging::merge_all;
@@ -270,7 +270,7 @@ impl Book {
         ensures { BookMerges self.old self.new other.now result }
     {
         if !other.is_of(&self.topology, self.partition) {
-            return Err(MergeFault::Stranger);
+            return Err(MergeFault::Refused(MergeRefusal::Stranger));
         }
         merge_all(
             alloc,

@@ -1,13 +1,12 @@
 //! Why a book refuses.
 
 ghost use Rattle.std.specs.Prelude.{◌≡◌};
+ghost use Rattle.nm_base.specs.declared.fault.Fault.TheVariants.{Refused};
 ghost use Rattle.nm_book.specs.Book.{accept_fault_number};
 ghost use Rattle.nm_book.specs.declared.fault.AcceptFault.TheVariants.{Known};
-ghost use Rattle.nm_book.specs.declared.fault.MergeFault.TheVariants.{Memory};
 
 use nm_base::{ChanNo, Fault};
 use nm_knowledge::KnowFault;
-use std::alloc::AllocError;
 use thiserror::Error;
 
 /// What a book is refused for.
@@ -52,24 +51,24 @@ impl From<KnowFault> for AcceptFault {
     }
 }
 
-/// Why a book refused to merge what another replica knows. It is unchanged then.
+/// Why a book refuses to merge what another replica knows.
 #[derive(Clone, Copy, Debug, PartialEq, Eq, Error)]
-pub enum MergeFault {
+pub enum MergeRefusal {
     /// It is what a replica of another partition or topology knows.
     #[error("the knowledge of another partition or topology")]
     Stranger,
     /// What is known of this channel cannot be joined; it is the first such channel.
     #[error("channel {channel:?}: {fault}")]
     Channel { channel: ChanNo, fault: KnowFault },
-    /// Memory was refused.
-    #[error("out of memory")]
-    Memory,
 }
 
-impl From<AllocError> for MergeFault {
-    ghost from_gives = { λ _ f. f ≡ Memory };
+/// Why a book merged nothing: it refuses, or memory was refused. It is unchanged then.
+pub type MergeFault = Fault<MergeRefusal>;
 
-    fn from(_: AllocError) -> Self {
-        MergeFault::Memory
+impl From<MergeRefusal> for MergeFault {
+    ghost from_gives = { λ refusal fault. fault ≡ Refused refusal };
+
+    fn from(refusal: MergeRefusal) -> Self {
+        MergeFault::Refused(refusal)
     }
 }

@@ -1,16 +1,13 @@
 //! Laws of replicas, whoever told them what they know.
 
-ghost use Rattle.std.specs.Prelude.{◌≡◌, ℕ, ◌<◌, ◌≤◌, true, All, Some, length};
+ghost use Rattle.std.specs.Prelude.{◌≡◌, ℕ, ◌≤◌, All};
 ghost use Rattle.nm_base.specs.declared.limits.TheConstants.{MAX_TIME};
-ghost use Rattle.nm_model.specs.Lists.{IsPrefix};
-ghost use Rattle.nm_model.specs.Network.{IsNet};
-ghost use Rattle.nm_model.specs.Partition.{comes_in};
-ghost use Rattle.nm_model.specs.Promise.{Plain, Promising, Tight};
-ghost use Rattle.nm_model.specs.Replica.{IsWithin, with_new};
+ghost use Rattle.nm_model.specs.Promise.{Plain, Tight};
+ghost use Rattle.nm_model.specs.Replica.{IsWithin};
 ghost use Rattle.nm_sim.specs.Network.{net_of};
-ghost use Rattle.nm_topology.specs.Topology.{channel_from, receiving_iface};
-ghost use Rattle.nm_book.specs.Book.{knowledge, promise_on, safe_of, sent_over, state_of};
-ghost use Rattle.nm_book.specs.Laws.{IsUnderOf, KnowTheSame};
+ghost use Rattle.nm_book.specs.Book.{knowledge, promise_on, state_of};
+ghost use Rattle.nm_book.specs.Laws.{AreAlike, IsNetOfChannels, IsUnderOf, KeepsWhatIsDone};
+ghost use Rattle.nm_book.specs.Laws.{KnowTheSame};
 
 use crate::book::Book;
 use nm_base::Packet;
@@ -25,11 +22,7 @@ use nm_topology::topology::{
 
 /// What the laws rely on of a topology.
 fn network_of(topology: &Topology)
-    ensures network { IsNet (net_of topology.now) }
-    ensures here { (c : ℕ) → c < length topology.now.receivers
-        → channel_from 0 topology.now.receivers (receiving_iface topology.now c) ≡ Some c }
-    ensures numbered { (p i : ℕ) → comes_in (net_of topology.now) p i ≡ true
-        → (c : ℕ) × (c < length topology.now.receivers) × (receiving_iface topology.now c ≡ i) }
+    ensures { IsNetOfChannels topology.now }
 {
     every_topology_is_a_network(topology); // law: `net_of` is a network of the model
     channels_are_numbered_by_their_receivers(topology); // law: channels have numbers
@@ -38,13 +31,7 @@ fn network_of(topology: &Topology)
 
 /// What they rely on of a replica.
 fn replica_of(book: &Book)
-    ensures network { IsNet (net_of book.now.topology) }
-    ensures here { (c : ℕ) → c < length book.now.topology.receivers
-        → channel_from 0 book.now.topology.receivers (receiving_iface book.now.topology c)
-        ≡ Some c }
-    ensures numbered { (p i : ℕ) → comes_in (net_of book.now.topology) p i ≡ true
-        → (c : ℕ) × (c < length book.now.topology.receivers)
-        × (receiving_iface book.now.topology c ≡ i) }
+    ensures topology { IsNetOfChannels book.now.topology }
     ensures within { IsWithin (net_of book.now.topology) book.now.partition (knowledge book.now)
         book.now.events }
 {
@@ -55,11 +42,8 @@ fn replica_of(book: &Book)
 /// Replicas of one partition that know the same of each channel that comes in and did as many
 /// events are in equal states, and so have equal traces and sent the same, and promise the same.
 pub fn equal_knowledge_gives_equal_replicas(first: &Book, second: &Book)
-    ensures states { KnowTheSame first.now second.now → first.now.events ≡ second.now.events
-        → state_of second.now ≡ state_of first.now }
-    ensures promises { KnowTheSame first.now second.now → first.now.events ≡ second.now.events
-        → (kind : Promising) (c : ℕ)
-        → promise_on kind second.now c ≡ promise_on kind first.now c }
+    ensures { KnowTheSame first.now second.now → first.now.events ≡ second.now.events
+        → AreAlike first.now second.now }
 {
     replica_of(first);
     equal_knowledge_gives_equal_states::<Packet, NodeState>();
@@ -69,16 +53,7 @@ pub fn equal_knowledge_gives_equal_replicas(first: &Book, second: &Book)
 /// recorded begins what one sent and recorded that knows more and did as much or more, and that
 /// one's safe time and promises are no earlier.
 pub fn more_knowledge_changes_nothing_done(less: &Book, more: &Book)
-    ensures same { IsUnderOf less.now more.now → less.now.events ≡ more.now.events
-        → state_of more.now ≡ with_new (net_of less.now.topology) less.now.partition
-        (knowledge less.now) (knowledge more.now) (state_of less.now) }
-    ensures sent { IsUnderOf less.now more.now → less.now.events ≤ more.now.events
-        → (c : ℕ) → IsPrefix (sent_over less.now c) (sent_over more.now c) }
-    ensures records { IsUnderOf less.now more.now → less.now.events ≤ more.now.events
-        → IsPrefix (state_of less.now).records (state_of more.now).records }
-    ensures safe { IsUnderOf less.now more.now → safe_of less.now ≤ safe_of more.now }
-    ensures promises { IsUnderOf less.now more.now → less.now.events ≤ more.now.events
-        → (kind : Promising) (c : ℕ) → promise_on kind less.now c ≤ promise_on kind more.now c }
+    ensures { IsUnderOf less.now more.now → KeepsWhatIsDone less.now more.now }
 {
     replica_of(less);
     replica_of(more);

@@ -14,7 +14,7 @@ pub mod running;
 mod safe;
 
 pub use book::Book;
-pub use fault::{AcceptFault, BookFault, BookRefusal, MergeFault};
+pub use fault::{AcceptFault, BookFault, BookRefusal, MergeFault, MergeRefusal};
 pub use knowledge::Knowledge;
 pub use message::{ChannelMessage, Data, Null};
 pub use running::Ran;

@@ -15,7 +15,7 @@ ghost use Rattle.nm_book.specs.Merging.{IsGainOf, IsGrown, IsTurnOf, MergesChann
 ghost use Rattle.nm_book.specs.Telling.{Follow, told_each};
 
 use crate::channels::comes_in;
-use crate::fault::MergeFault;
+use crate::fault::{MergeFault, MergeRefusal};
 use crate::learning::put_messages;
 use crate::message::Data;
 use nm_base::{ChanNo, Packet, PartNo};
@@ -39,7 +39,7 @@ fn check_all(
     partition: PartNo,
     knows: &[Know],
     others: &[Know],
-) -> Result<(), MergeFault>
+) -> Result<(), MergeRefusal>
     requires count { length knows.now ≡ length topology.now.receivers }
     requires others { length others.now ≡ length topology.now.receivers }
     ensures { Checks topology.now partition knows.now others.now result }
@@ -51,7 +51,7 @@ fn check_all(
             continue;
         }
         if let Err(fault) = knows[number].check_merge(&others[number]) {
-            return Err(MergeFault::Channel { channel, fault });
+            return Err(MergeRefusal::Channel { channel, fault });
         }
     }
     Ok(())

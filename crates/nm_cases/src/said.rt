@@ -1,6 +1,6 @@
 //! Answers as words.
 
-use nm_book::{AcceptFault, MergeFault, Ran};
+use nm_book::{AcceptFault, MergeFault, MergeRefusal, Ran};
 use nm_knowledge::{Accepted, KnowFault};
 use nm_rounds::CertFault;
 use std::alloc::{AllocError, Global};
@@ -44,8 +44,8 @@ pub fn refused(fault: &KnowFault) -> Word {
 pub fn merged(answer: &Result<(), MergeFault>) -> Word {
     match answer {
         Ok(()) => ("merged", None),
-        Err(MergeFault::Stranger) => ("stranger", None),
-        Err(MergeFault::Channel { fault, .. }) => refused(fault),
+        Err(MergeFault::Refused(MergeRefusal::Stranger)) => ("stranger", None),
+        Err(MergeFault::Refused(MergeRefusal::Channel { fault, .. })) => refused(fault),
         Err(MergeFault::Memory) => ("memory", None),
     }
 }

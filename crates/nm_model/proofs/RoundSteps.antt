@@ -1,5 +1,5 @@
 -- A round is a list of steps of the world: each partition runs, all is put into the bag, and then each frame is delivered once.
-use Rattle.std.proofs.Common.{◌≡◌, ◌≢◌, inl, ℕ, zero, suc, ◌+◌, ◌<◌, ◌≤◌, ◌&&◌, ◌==◌, ◌-◌, not, min, ltb, leb, Bool, true, false, cond, List, [], ◌∷◌, ◌++◌, length, drop, Some, refl, sym, ap, ap₂, ◌∙◌, subst, arith, true≢false, ⊎_elim, append_assoc, append-nil}
+use Rattle.std.proofs.Common.{◌≡◌, ◌≢◌, inl, ℕ, zero, suc, ◌+◌, ◌<◌, ◌≤◌, ◌&&◌, ◌==◌, ◌-◌, not, ltb, leb, Bool, true, false, cond, List, [], ◌∷◌, ◌++◌, length, drop, Some, refl, sym, ap, ap₂, ◌∙◌, subst, arith, true≢false, ⊎_elim, append_assoc, append-nil}
 use Rattle.std.proofs.lemmas.Bool.{cases_lt}
 use Rattle.std.proofs.lemmas.Bool.Decides.{nat_tests}
 use Rattle.std.proofs.Math.ListN.{drop_of_length-le}
@@ -14,7 +14,7 @@ use Rattle.nm_model.specs.Rounds.{IsRounds, hear_list, hear, given, promised, he
 use Rattle.nm_model.specs.World.{World, Replica, Frame, DataFrame, NullFrame, Step, Run, Resend, Null, Deliver, Outcome, Frames, NoSuch, opening, put_replica, put_frames, is_replica, outgoing, data_frames, told, delivers, happens, world}
 use Rattle.nm_model.proofs.ListLemmas.{bool_cases, same_number, set_here, set_there, number_is, number_tied, number_apart, nth_front, prefix_self, prefix_trans}
 use Rattle.nm_model.proofs.Cut.{and_both, not_true, channel_inside}
-use Rattle.nm_model.proofs.StepLaws.{here, others, run_is, resend_is}
+use Rattle.nm_model.proofs.StepLaws.{here, others, run_over, resend_is}
 use Rattle.nm_model.proofs.RoundLemmas.{ran_on_there}
 
 module _ {A : Type 0} where
@@ -81,8 +81,7 @@ module _ {P N : Type 0} (net : Net P N) (ok : IsNet net) (parted : IsParted net)
 
     run_to : (w : World P) (p : ℕ) → p < net.parts → (x : Replica P) → w.replica p 0 ≡ x → (n : ℕ) → IsCount net p x.knowledge n → x.ran ≤ n → (happens net same w (Run p 0 n)).0 ≡ put_replica w p 0 (record { knowledge = x.knowledge; ran = n })
     run_to w p lt x h n = subst (λ y. IsCount net p y.knowledge n → y.ran ≤ n → (happens net same w (Run p 0 n)).0 ≡ put_replica w p 0 (record { knowledge = y.knowledge; ran = n })) h
-        (λ c le. let e : min ((w.replica p 0).ran + n) n ≡ n = omega arith in
-        ap (λ o. o.0) (run_is net same w p 0 n n (is_there p lt) c le) ∙ ap (λ k. put_replica w p 0 (record { knowledge = (w.replica p 0).knowledge; ran = k })) e)
+        (λ c le. ap (λ o. o.0) (run_over net same w p 0 n n (is_there p lt) c le (omega arith)))
 
     record Ran (n : ℕ) (w : World P) : Type 0 where
       done : (p : ℕ) → p < n → w.replica p 0 ≡ have_run p

@@ -1,6 +1,5 @@
 -- What each step of the world does, and what it answers.
-use Rattle.std.proofs.Common.{◌≡◌, ◌≢◌, ◌⊎◌, inl, inr, ℕ, zero, suc, ◌+◌, ◌-◌, ◌≤◌, ◌&&◌, min, ltb, leb, Bool, true, false, cond, List, [], ◌∷◌, length, drop, Some, refl, sym, ap, ap₂, ◌∙◌, arith, ⊎_elim}
-use Rattle.std.proofs.lemmas.Bool.{cases_lt}
+use Rattle.std.proofs.Common.{◌≡◌, ◌≢◌, ◌⊎◌, inl, inr, ℕ, zero, suc, ◌+◌, ◌-◌, ◌<◌, ◌≤◌, ◌&&◌, min, leb, Bool, true, false, cond, List, [], ◌∷◌, length, drop, Some, refl, sym, ap, ap₂, ◌∙◌, arith, ⊎_elim}
 use Rattle.std.proofs.lemmas.Bool.Decides.{nat_tests}
 use Rattle.nm_model.specs.Lists.{nth, set_at}
 use Rattle.nm_model.specs.Network.{Net}
@@ -9,6 +8,7 @@ use Rattle.nm_model.specs.Replica.{from_scratch, safe_time}
 use Rattle.nm_model.specs.Before.{IsCount}
 use Rattle.nm_model.specs.Run.{pends_before}
 use Rattle.nm_model.specs.World.{World, Replica, DataFrame, Run, Resend, All, Limit, Frames, NoSuch, put_replica, put_frames, is_replica, outgoing, data_frames, advance, runs, happens}
+use Rattle.nm_model.specs.StepLaws.{HasDone}
 use Rattle.nm_model.proofs.ListLemmas.{not_some, same_number, set_here, set_there}
 use Rattle.nm_model.proofs.Worlds.{advance_is}
 
@@ -35,26 +35,21 @@ module _ {P N : Type 0} (net : Net P N) (same : P → P → Bool) (w : World P) 
     abbrev left : ℕ → Bool
     left k = pends_before (safe_time net p x.knowledge) (from_scratch net p x.knowledge k)
 
-    said : cond (left (min (x.ran + n) count)) (Limit (min (x.ran + n) count - x.ran)) (All (min (x.ran + n) count - x.ran)) ≡ cond (ltb (x.ran + n) count) (Limit n) (All (count - x.ran))
-    said = ⊎_elim
-        (λ lt.
-        let e : min (x.ran + n) count ≡ x.ran + n = omega arith in
-        let f : ltb (x.ran + n) count ≡ true = grind (arith, nat_tests) in
-        let d : min (x.ran + n) count - x.ran ≡ n = omega arith in
-        ap (λ z. cond z (Limit (min (x.ran + n) count - x.ran)) (All (min (x.ran + n) count - x.ran))) (ap left e ∙ c.first (x.ran + n) lt)
-        ∙ ap Limit d ∙ sym (ap (λ z. cond z (Limit n) (All (count - x.ran))) f))
-        (λ ge.
-        let e : min (x.ran + n) count ≡ count = omega arith in
-        let f : ltb (x.ran + n) count ≡ false = grind (arith, nat_tests) in
-        ap (λ z. cond z (Limit (min (x.ran + n) count - x.ran)) (All (min (x.ran + n) count - x.ran))) (ap left e ∙ c.over)
-        ∙ ap (λ k. All (k - x.ran)) e ∙ sym (ap (λ z. cond z (Limit n) (All (count - x.ran))) f))
-        (cases_lt (x.ran + n) count)
-
-    pub run_is : happens net same w (Run p r n) ≡ (put_replica w p r (record { knowledge = x.knowledge; ran = min (x.ran + n) count }), cond (ltb (x.ran + n) count) (Limit n) (All (count - x.ran)))
-    run_is =
+    -- the run goes to event k, where this is left, and so answers this
+    goes : (k : ℕ) (b : Bool) → min (x.ran + n) count ≡ k → left k ≡ b → happens net same w (Run p r n) ≡ (put_replica w p r (record { knowledge = x.knowledge; ran = k }), cond b (Limit (k - x.ran)) (All (k - x.ran)))
+    goes k b e f =
         ap (λ z. cond z (runs net w p r x (advance net p x.knowledge n x.ran)) (w, NoSuch)) is
-        ∙ ap (runs net w p r x) (advance_is net p x.knowledge count c n x.ran le)
-        ∙ ap (λ o. (put_replica w p r (record { knowledge = x.knowledge; ran = min (x.ran + n) count }), o)) said
+        ∙ ap (runs net w p r x) (advance_is net p x.knowledge count c n x.ran le ∙ e)
+        ∙ ap (λ z. (put_replica w p r (record { knowledge = x.knowledge; ran = k }), cond z (Limit (k - x.ran)) (All (k - x.ran)))) f
+
+    pub run_within : x.ran + n < count → HasDone net same w (Run p r n) p r (x.ran + n) (Limit n)
+    run_within lt =
+        let d : x.ran + n - x.ran ≡ n = omega arith in
+        goes (x.ran + n) true (omega arith) (c.first (x.ran + n) lt)
+        ∙ ap (λ m. (put_replica w p r (record { knowledge = x.knowledge; ran = x.ran + n }), Limit m)) d
+
+    pub run_over : count ≤ x.ran + n → HasDone net same w (Run p r n) p r count (All (count - x.ran))
+    run_over ge = goes count false (omega arith) c.over
 
   module _ (p r c : ℕ) (is : is_replica net p r ≡ true) (goes : goes_out net p c ≡ true) where
     abbrev lines : List (ℕ × P)

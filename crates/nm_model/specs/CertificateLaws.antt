@@ -1,13 +1,13 @@
 -- What holds of the certificate.
-use Rattle.std.specs.Prelude.{◌≡◌, ◌⊎◌, ℕ, ◌≤◌, true, List, Some}
+use Rattle.std.specs.Prelude.{◌≡◌, ◌⊎◌, ℕ, ◌≤◌, true, Bool, List, Some, None}
 use Rattle.nm_model.specs.Lists.{nth}
-use Rattle.nm_model.specs.Network.{Net}
+use Rattle.nm_model.specs.Network.{Net, IsNet}
 use Rattle.nm_model.specs.Accept.{last_from}
 use Rattle.nm_model.specs.Partition.{comes_in, sender_of}
 use Rattle.nm_model.specs.Replica.{IsWithin}
 use Rattle.nm_model.specs.Promise.{Promising, promise}
 use Rattle.nm_model.specs.WorldLaws.{HasWholeTrace}
-use Rattle.nm_model.specs.Certificate.{Book}
+use Rattle.nm_model.specs.Certificate.{Book, IsCertified, certify}
 
 module _ {P N : Type 0} (net : Net P N) where
   module _ (books : List (Book P)) where
@@ -29,3 +29,8 @@ module _ {P N : Type 0} (net : Net P N) where
         → ((r.replica.knowledge c).clock
         ≤ promise net kind s.part s.replica.knowledge s.replica.ran c)
         ⊎ (last_from (r.replica.knowledge c).clock (r.replica.knowledge c).list ≡ true)
+
+    -- the certificate finds no fault exactly where the books are certified
+    pub record CertifiesExactly (same : P → P → Bool) (kind : Promising) : Type 0 where
+      pub sound : IsNet net → certify net same kind books ≡ None → IsCertified net kind books
+      pub complete : IsCertified net kind books → certify net same kind books ≡ None

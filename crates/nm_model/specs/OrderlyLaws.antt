@@ -3,13 +3,15 @@ use Rattle.std.specs.Prelude.{◌≡◌, ◌≢◌, ℕ, ◌<◌, Bool, true, []
 use Rattle.std.specs.FinMap.{get, remove}
 use Rattle.nm_base.specs.declared.key.Key.{Key}
 use Rattle.nm_base.specs.declared.key.Place.{Place}
+use Rattle.nm_base.specs.declared.key.Place.TheVariants.{Arrive}
+use Rattle.nm_base.specs.Key.{key_of}
 use Rattle.nm_base.specs.declared.event.Event.{Event}
 use Rattle.nm_model.specs.Lists.{nth}
 use Rattle.nm_model.specs.EventList.{least}
-use Rattle.nm_model.specs.Network.{Net}
+use Rattle.nm_model.specs.Network.{Net, IsNet}
 use Rattle.nm_model.specs.Run.{State, one_list, made, step, start}
 use Rattle.nm_model.specs.Knowledge.{Knowledge}
-use Rattle.nm_model.specs.Partition.{in_part}
+use Rattle.nm_model.specs.Partition.{comes_in, in_part}
 use Rattle.nm_model.specs.Replica.{from_scratch}
 use Rattle.nm_model.specs.Orderly.{IsByNode, IsOrderly}
 
@@ -31,3 +33,13 @@ module _ {P N : Type 0} (net : Net P N) where
         → nth (made net s e) m ≡ Some f → get (remove s.pending e.0) f.0 ≡ None
     pub apart : (s : State P N) (e : Key × Event P) (m n : ℕ) (f g : Key × Event P) → m < n
         → nth (made net s e) m ≡ Some f → nth (made net s e) n ≡ Some g → f.0 ≢ g.0
+
+  -- nothing arrives on a channel that no message brought
+  pub record OnlyToldArrives : Type 0 where
+    -- at the start no arrival is pending
+    pub opens : (here : Place → Bool) (c t n : ℕ)
+        → get (start net here []).pending (key_of t (Arrive c) n) ≡ None
+    -- and a step of a partition makes none on a channel that comes in
+    pub steps : IsNet net → (p : ℕ) (s : State P N) → IsOrderly net (in_part net p) s
+        → (c t n : ℕ) → comes_in net p c ≡ true → get s.pending (key_of t (Arrive c) n) ≡ None
+        → get (step net (in_part net p) s).pending (key_of t (Arrive c) n) ≡ None

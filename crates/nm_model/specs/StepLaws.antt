@@ -7,8 +7,9 @@ use Rattle.nm_model.specs.Join.{join, join_faults}
 use Rattle.nm_model.specs.Partition.{comes_in, goes_out, sender_of, receiver_of}
 use Rattle.nm_model.specs.Promise.{Promising, promise}
 use Rattle.nm_model.specs.World.{World, Replica, Step, Frame, DataFrame, NullFrame, Run, Data, Resend}
-use Rattle.nm_model.specs.World.{Null, Deliver, Merge, Restart, Frames, Merged, MergeRefused, NoSuch}
-use Rattle.nm_model.specs.World.{Answered, put_replica, is_replica, outgoing, happens}
+use Rattle.nm_model.specs.World.{Null, Deliver, Merge, Restart, All, Limit, Frames, Merged}
+use Rattle.nm_model.specs.World.{MergeRefused, Emptied, NoSuch}
+use Rattle.nm_model.specs.World.{Outcome, Answered, put_replica, is_replica, outgoing, happens}
 
 -- channel c goes out of the partition of its sender, comes into that of its receiver, and these are
 -- two
@@ -26,6 +27,20 @@ pub record OneChanges {P : Type 0} (w : World P) (p r : ℕ) (x : Replica P) : T
   pub bag : (put_replica w p r x).bag ≡ w.bag
 
 module _ {P N : Type 0} (net : Net P N) (same : P → P → Bool) (w : World P) where
+  -- the step changes replica r of partition p alone, which has done k events then
+  abbrev pub HasDone : Step → ℕ → ℕ → ℕ → Outcome → Type 0
+  HasDone step p r k outcome = let x = w.replica p r in
+      happens net same w step
+      ≡ (put_replica w p r (record { knowledge = x.knowledge; ran = k }), outcome)
+
+  -- replica r of partition p does at most n further events, where count of all its events are safe:
+  -- it does n, and more are left, or it does all that are safe
+  pub record DoesWhatIsSafe (p r n count : ℕ) : Type 0 where
+    pub limit : let k = (w.replica p r).ran + n in k < count
+        → HasDone (Run p r n) p r k (Limit n)
+    pub all : let k = (w.replica p r).ran in count ≤ k + n
+        → HasDone (Run p r n) p r count (All (count - k))
+
   -- the step puts these frames behind those that were sent before, and nothing else changes
   abbrev pub Puts : Step → List (Frame P) → ℕ → Type 0
   Puts step frames count = happens net same w step
@@ -81,6 +96,15 @@ module _ {P N : Type 0} (net : Net P N) (same : P → P → Bool) (w : World P) 
         → join_faults same (w.replica p r).knowledge (w.replica p s).knowledge net.ifaces
         ≡ Some (c, f)
         → happens net same w (Merge p r) ≡ (w, MergeRefused c f)
+
+  -- a restart leaves a replica that knows nothing and has done nothing, and changes nothing else
+  abbrev pub BeginsAnew : ℕ → ℕ → Type 0
+  BeginsAnew p r = happens net same w (Restart p r)
+      ≡ (
+        put_replica w p r
+            (record { knowledge = λ c. record { list = []; clock = 0 }; ran = 0 }),
+        Emptied,
+      )
 
   -- the step changes nothing, and says so
   abbrev pub DoesNothing : Step → Type 0

@@ -2,6 +2,8 @@
 use Rattle.std.specs.Prelude.{◌≡◌, ℕ, ◌≤◌, Bool, true, length, List, Some}
 use Rattle.nm_model.specs.Lists.{nth, IsPrefix}
 use Rattle.nm_model.specs.Network.{Net}
+use Rattle.nm_model.specs.Accept.{IsReflexive}
+use Rattle.nm_model.specs.Knowledge.{Knowledge}
 use Rattle.nm_model.specs.Run.{one_list}
 use Rattle.nm_model.specs.Partition.{in_part, comes_in, goes_out}
 use Rattle.nm_model.specs.Promise.{Promising, promise}
@@ -49,6 +51,17 @@ module _ {P N : Type 0} (net : Net P N) where
   abbrev pub KnowAlike : ℕ → Replica P → Replica P → Type 0
   KnowAlike p x y =
       ((c : ℕ) → comes_in net p c ≡ true → x.knowledge c ≡ y.knowledge c) × (x.ran ≡ y.ran)
+
+  -- what replicas of a partition know of the channels that come in decides what they are
+  pub record KnowledgeDecides : Type 0 where
+    -- those that know alike and did as many events are equal, in one world or in two
+    pub replicas : (same : P → P → Bool) → IsReflexive same
+        → (steps others : List Step) (p r s : ℕ)
+        → let x = replica_after net same steps p r in let y = replica_after net same others p s in
+        KnowAlike p x y → AreEqualReplicas p x y
+    -- and where both have run all that is safe, they did as many
+    pub counts : (p : ℕ) (K J : Knowledge P) → ((c : ℕ) → comes_in net p c ≡ true → K c ≡ J c)
+        → (j k : ℕ) → IsCount net p K j → IsCount net p J k → j ≡ k
 
 module _ {P N : Type 0} (net : Net P N) (same : P → P → Bool) where
   pub record PrefixTheorem (steps : List Step) : Type 0 where

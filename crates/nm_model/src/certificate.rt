@@ -10,7 +10,8 @@ ghost use Rattle.nm_model.specs.Certificate.{AreFinished, Book, CertificateFault
 ghost use Rattle.nm_model.specs.Certificate.{IsCertified};
 ghost use Rattle.nm_model.specs.Certificate.{is_done, certify};
 ghost use Rattle.nm_model.specs.WorldLaws.{HasWholeTrace};
-ghost use Rattle.nm_model.specs.CertificateLaws.{AreWithin, ClocksArePromised, HaveWholeTraces};
+ghost use Rattle.nm_model.specs.CertificateLaws.{AreWithin, CertifiesExactly, ClocksArePromised};
+ghost use Rattle.nm_model.specs.CertificateLaws.{HaveWholeTraces};
 
 /// Finished books whose lists and clocks agree have the whole network's traces, whatever told them
 /// what they know. Nothing is asked of who sent what: the argument goes by time, since a message up
@@ -26,12 +27,8 @@ pub fn certificate<P, N>()
 /// The certificate finds no fault exactly where each partition has a book, each book is done and
 /// all match.
 pub fn certify_is_exact<P, N>()
-    ensures sound { (net : Net P N) → IsNet net → (same : P → P → Bool) → IsReflexive same
-        → TellsApart same → (kind : Promising) (books : List (Book P))
-        → certify net same kind books ≡ None → IsCertified net kind books }
-    ensures complete { (net : Net P N) (same : P → P → Bool) → IsReflexive same → TellsApart same
-        → (kind : Promising) (books : List (Book P))
-        → IsCertified net kind books → certify net same kind books ≡ None }
+    ensures { (net : Net P N) (same : P → P → Bool) → IsReflexive same → TellsApart same
+        → (kind : Promising) (books : List (Book P)) → CertifiesExactly net books same kind }
 {}
 
 /// Then no receiver's clock is past its sender's promise, but where its last message raised it.

@@ -1,18 +1,18 @@
 //! Laws of every state of a run, of the whole network or of a part, whatever the part is told: what
 //! a program that does the steps relies on.
 
-ghost use Rattle.std.specs.Prelude.{◌≡◌, ℕ, ◌<◌, Bool, true, false, [], None};
-ghost use Rattle.std.specs.FinMap.{get, insert};
+ghost use Rattle.std.specs.Prelude.{◌≡◌, ℕ, Bool, true, false};
+ghost use Rattle.std.specs.FinMap.{insert};
 ghost use Rattle.nm_base.specs.declared.key.Place.{Place};
 ghost use Rattle.nm_base.specs.declared.key.Place.TheVariants.{Arrive};
 ghost use Rattle.nm_base.specs.declared.event.Event.TheVariants.{Delivery};
 ghost use Rattle.nm_base.specs.declared.event.Origin.TheVariants.{Arrival};
 ghost use Rattle.nm_base.specs.Key.{key_of};
 ghost use Rattle.nm_model.specs.Network.{Net, IsNet};
-ghost use Rattle.nm_model.specs.Run.{State, step, start};
-ghost use Rattle.nm_model.specs.Partition.{comes_in, in_part};
+ghost use Rattle.nm_model.specs.Run.{State};
+ghost use Rattle.nm_model.specs.Partition.{in_part};
 ghost use Rattle.nm_model.specs.Orderly.{IsByNode, IsOrderly};
-ghost use Rattle.nm_model.specs.OrderlyLaws.{NewKeysAreNew, StatesAreOrderly};
+ghost use Rattle.nm_model.specs.OrderlyLaws.{NewKeysAreNew, OnlyToldArrives, StatesAreOrderly};
 
 /// Every state is orderly: at the start and after each event; so of the whole network, and of a
 /// replica over anything that it was told, true or not.
@@ -41,10 +41,5 @@ pub fn new_keys_are_new<P, N>()
 /// Only messages bring arrivals on channels: at the start none is pending at all, and what a
 /// partition was not told is not pending after a step either.
 pub fn only_messages_bring_arrivals<P, N>()
-    ensures opens { (net : Net P N) (here : Place → Bool) (c t n : ℕ)
-        → get (start net here []).pending (key_of t (Arrive c) n) ≡ None }
-    ensures steps { (net : Net P N) → IsNet net → (p : ℕ) (s : State P N)
-        → IsOrderly net (in_part net p) s → (c t n : ℕ) → comes_in net p c ≡ true
-        → get s.pending (key_of t (Arrive c) n) ≡ None
-        → get (step net (in_part net p) s).pending (key_of t (Arrive c) n) ≡ None }
+    ensures { (net : Net P N) → OnlyToldArrives net }
 {}

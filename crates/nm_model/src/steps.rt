@@ -1,16 +1,13 @@
 //! Laws of the single steps of the world: what each does, what it answers, and when it names
 //! nothing.
 
-ghost use Rattle.std.specs.Prelude.{◌≡◌, ◌≢◌, ◌⊎◌, ℕ, ◌+◌, ◌-◌, ◌<◌, ◌≤◌, min, ltb, cond, Bool};
-ghost use Rattle.std.specs.Prelude.{true, []};
+ghost use Rattle.std.specs.Prelude.{◌≡◌, ◌≢◌, ◌⊎◌, ℕ, ◌<◌, ◌≤◌, Bool, true};
 ghost use Rattle.nm_model.specs.Network.{Net};
-ghost use Rattle.nm_model.specs.Knowledge.{Knowledge, Know};
 ghost use Rattle.nm_model.specs.Partition.{goes_out, receiver_of};
 ghost use Rattle.nm_model.specs.Before.{IsCount};
-ghost use Rattle.nm_model.specs.World.{World, Replica, Run, Restart, All, Limit, Emptied};
-ghost use Rattle.nm_model.specs.World.{put_replica, is_replica, happens};
-ghost use Rattle.nm_model.specs.StepLaws.{Delivers, HasTwoEnds, JoinsSisters, MayNameNothing};
-ghost use Rattle.nm_model.specs.StepLaws.{OneChanges, PutsFrames};
+ghost use Rattle.nm_model.specs.World.{World, Replica, is_replica};
+ghost use Rattle.nm_model.specs.StepLaws.{BeginsAnew, Delivers, DoesWhatIsSafe, HasTwoEnds};
+ghost use Rattle.nm_model.specs.StepLaws.{JoinsSisters, MayNameNothing, OneChanges, PutsFrames};
 
 /// Each partition that is there has replicas 0 and 1, and no others.
 pub fn two_replicas<P, N>()
@@ -31,17 +28,12 @@ pub fn one_replica_changes<P>()
     ensures { (w : World P) (p r : ℕ) (x : Replica P) → OneChanges w p r x }
 {}
 
-/// A run of at most n events goes to the lesser of k + n and the count of what is safe. It answers
-/// Limit n where more is safe, and else All with how many it did.
+/// A run does n further events and answers Limit n where more are safe; else it does all that are
+/// safe and answers All with how many it did. Nothing else changes.
 pub fn a_run_answers<P, N>()
     ensures { (net : Net P N) (same : P → P → Bool) (w : World P) (p r n count : ℕ)
         → is_replica net p r ≡ true → IsCount net p (w.replica p r).knowledge count
-        → (w.replica p r).ran ≤ count
-        → let x = w.replica p r in happens net same w (Run p r n)
-        ≡ (
-          put_replica w p r (record { knowledge = x.knowledge; ran = min (x.ran + n) count }),
-          cond (ltb (x.ran + n) count) (Limit n) (All (count - x.ran)),
-        ) }
+        → (w.replica p r).ran ≤ count → DoesWhatIsSafe net same w p r n count }
 {}
 
 /// What a replica sends is put behind the frames that were sent before, and nothing else changes: a
@@ -70,13 +62,7 @@ pub fn a_merge_joins_the_sisters<P, N>()
 /// A restart leaves a replica that knows nothing and has done nothing.
 pub fn a_restart_begins_anew<P, N>()
     ensures { (net : Net P N) (same : P → P → Bool) (w : World P) (p r : ℕ)
-        → is_replica net p r ≡ true
-        → happens net same w (Restart p r)
-        ≡ (
-          put_replica w p r
-              (record { knowledge = λ c. record { list = []; clock = 0 }; ran = 0 }),
-          Emptied,
-        ) }
+        → is_replica net p r ≡ true → BeginsAnew net same w p r }
 {}
 
 /// A step that names a partition, replica, channel, frame or message that isn't there changes

@@ -1,13 +1,12 @@
 //! Laws over every list of steps of the world.
 
-ghost use Rattle.std.specs.Prelude.{◌≡◌, ℕ, ◌+◌, ◌≤◌, min, Bool, true, List};
+ghost use Rattle.std.specs.Prelude.{◌≡◌, ℕ, ◌+◌, ◌≤◌, min, Bool, List};
 ghost use Rattle.nm_model.specs.Network.{Net, IsNet};
-ghost use Rattle.nm_model.specs.Knowledge.{Knowledge, Know};
+ghost use Rattle.nm_model.specs.Knowledge.{Knowledge};
 ghost use Rattle.nm_model.specs.Accept.{IsReflexive};
-ghost use Rattle.nm_model.specs.Partition.{comes_in};
 ghost use Rattle.nm_model.specs.Before.{IsCount};
-ghost use Rattle.nm_model.specs.World.{Step, advance, replica_after};
-ghost use Rattle.nm_model.specs.WorldLaws.{AreEqualReplicas, KnowAlike, PrefixTheorem};
+ghost use Rattle.nm_model.specs.World.{Step, advance};
+ghost use Rattle.nm_model.specs.WorldLaws.{KnowledgeDecides, PrefixTheorem};
 
 /// The prefix theorem. Whatever replicas run, send, hear, merge and restart, whichever promises
 /// they make, and whatever frames are lost, repeated or late: all knowledge is true of the network
@@ -30,11 +29,5 @@ pub fn a_run_goes_to_what_is_safe<P, N>()
 /// have done as many events have equal states, so equal traces, outgoing lists and ports, and make
 /// equal promises; and where both have run all that is safe, they have done as many.
 pub fn equal_knowledge_gives_equal_replicas<P, N>()
-    ensures replicas { (net : Net P N) → IsNet net → (same : P → P → Bool) → IsReflexive same
-        → (steps others : List Step) (p r s : ℕ)
-        → let x = replica_after net same steps p r in let y = replica_after net same others p s in
-        KnowAlike net p x y → AreEqualReplicas net p x y }
-    ensures counts { (net : Net P N) → IsNet net → (p : ℕ) (K J : Knowledge P)
-        → ((c : ℕ) → comes_in net p c ≡ true → K c ≡ J c)
-        → (j k : ℕ) → IsCount net p K j → IsCount net p J k → j ≡ k }
+    ensures { (net : Net P N) → IsNet net → KnowledgeDecides net }
 {}

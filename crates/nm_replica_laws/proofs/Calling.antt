@@ -17,8 +17,10 @@ use Rattle.nm_book.specs.Laws.{AreSisters}
 use Rattle.nm_book.specs.Merging.{MergesChannels}
 use Rattle.nm_book.specs.Running.{Runs}
 use Rattle.nm_book.specs.declared.fault.AcceptFault.{AcceptFault}
-use Rattle.nm_book.specs.declared.fault.MergeFault.{MergeFault}
-use Rattle.nm_book.specs.declared.fault.MergeFault.TheVariants.{Stranger as NotMine, Channel, Memory as NoRoom}
+use Rattle.nm_book.specs.declared.fault.MergeRefusal.{MergeRefusal}
+use Rattle.nm_book.specs.declared.fault.MergeRefusal.TheVariants.{Stranger as NotMine, Channel}
+use Rattle.nm_base.specs.declared.fault.Fault.{Fault}
+use Rattle.nm_base.specs.declared.fault.Fault.TheVariants.{Refused as Unmerged, Memory as NoRoom}
 use Rattle.nm_book.specs.declared.message.ChannelMessage.{ChannelMessage}
 use Rattle.nm_book.specs.declared.message.ChannelMessage.TheVariants.{Data, Null}
 use Rattle.nm_book.specs.declared.running.Ran.{Ran}
@@ -98,7 +100,7 @@ module _ (reflexive : (a : Know (List ℕ)) → IsUnder a a)
   joined_pair true a d after ka kd none e = (subst (IsUnder a) (sym e) (joined a d ka kd (none refl)), subst IsKnow (sym e) (join_keeps a d ka kd))
   joined_pair false a d after ka kd none e = (subst (IsUnder a) (sym e) (reflexive a), subst IsKnow (sym e) ka)
 
-  merged : (t : TopologyValue) (p : ℕ) (ours : Bool) (ks os js : List (Know (List ℕ))) (r : Result Unit MergeFault) → AreInOrder ks → AreInOrder os → MergesChannels t p ks os ours js r → Adds ks js
+  merged : (t : TopologyValue) (p : ℕ) (ours : Bool) (ks os js : List (Know (List ℕ))) (r : Result Unit (Fault MergeRefusal)) → AreInOrder ks → AreInOrder os → MergesChannels t p ks os ours js r → Adds ks js
   merged t p ours ks os js (Ok u) order fit h = record { under = λ c. (each c).0; order = λ c. (each c).1 }
     where
       each : (c : ℕ) → IsUnder (at ks c) (at js c) × IsKnow (at js c)
@@ -110,8 +112,8 @@ module _ (reflexive : (a : Know (List ℕ)) → IsUnder a a)
           let same : at js c ≡ at ks c = also ∙ sym none in
           (subst (IsUnder (at ks c)) (sym same) (reflexive (at ks c)), subst IsKnow (sym same) (order c)))
           (cases_lt c (length ks))
-  merged t p ours ks os js (Err NotMine) order fit h = same_adds reflexive ks js order h.1
-  merged t p ours ks os js (Err (Channel c f)) order fit h = same_adds reflexive ks js order h.2
+  merged t p ours ks os js (Err (Unmerged NotMine)) order fit h = same_adds reflexive ks js order h.1
+  merged t p ours ks os js (Err (Unmerged (Channel c f))) order fit h = same_adds reflexive ks js order h.2
   merged t p ours ks os js (Err NoRoom) order fit h = same_adds reflexive ks js order h.2
 
   ran_on : (limit : ℕ) (b c : BookValue) (r : Ran) → Runs b c limit r → b.events ≤ c.events

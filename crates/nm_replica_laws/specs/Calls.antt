@@ -1,12 +1,13 @@
 -- The calls that are made of a replica, one after another, by whomever.
 use Rattle.std.specs.Prelude.{◌≡◌, ℕ, ◌≤◌, List, [], ◌∷◌, slice_index_or, Result}
+use Rattle.nm_base.specs.declared.fault.Fault.{Fault}
 use Rattle.nm_knowledge.specs.declared.answer.Accepted.{Accepted}
 use Rattle.nm_model.specs.Knowledge.{IsKnow, Know, nothing_known}
 use Rattle.nm_book.specs.Book.{BookValue, Takes, message_channel, message_taken}
 use Rattle.nm_book.specs.Merging.{BookMerges, KnowledgeValue}
 use Rattle.nm_book.specs.Running.{Runs}
 use Rattle.nm_book.specs.declared.fault.AcceptFault.{AcceptFault}
-use Rattle.nm_book.specs.declared.fault.MergeFault.{MergeFault}
+use Rattle.nm_book.specs.declared.fault.MergeRefusal.{MergeRefusal}
 use Rattle.nm_book.specs.declared.message.ChannelMessage.{ChannelMessage}
 use Rattle.nm_book.specs.declared.running.Ran.{Ran}
 
@@ -14,7 +15,7 @@ use Rattle.nm_book.specs.declared.running.Ran.{Ran}
 -- limit, or has handed out so many records; and what it answers
 pub data Call : Type 0 where
   Accepts : ChannelMessage → Result Accepted AcceptFault → Call
-  Merges : KnowledgeValue → Result Unit MergeFault → Call
+  Merges : KnowledgeValue → Result Unit (Fault MergeRefusal) → Call
   RunsFor : ℕ → Ran → Call
   HandsOut : ℕ → Call
 

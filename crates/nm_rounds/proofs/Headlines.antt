@@ -19,7 +19,6 @@ use Rattle.nm_model.specs.World as model
 use Rattle.nm_sim.specs.Network.{net_of}
 use Rattle.nm_book.specs.Book.{BookValue, is_incoming, is_outgoing, knowledge, knowledge_of, promise_on, replica_of, safe_of, sent_over, state_of}
 use Rattle.nm_book.specs.Laws.{KnowTheSame}
-use Rattle.nm_book.specs.declared.fault.MergeFault.TheVariants as refusal
 use Rattle.nm_book.proofs.Incoming.{stop_is}
 use Rattle.nm_book.proofs.Sisters.{back, over, same_at}
 use Rattle.nm_book.proofs.Tellings.{known_here}
@@ -73,13 +72,11 @@ fine_is t (told.Refused fault.NotRising) o e fine = let g : model.Answered accep
 fine_is t (told.Refused fault.Memory) o e fine = absurd (let g : None ≡ Some o = e in cc)
 fine_is t (told.Refused (fault.Contrary n)) o e fine = let g : model.Answered (accept.Contrary n) ≡ o = cc in not_fine (accept.Contrary n) refl (subst model.IsFineOutcome (sym g) fine)
 fine_is t told.Merged o e fine = tt
-fine_is t (told.MergeRefused (refusal.Channel c f)) o e fine = by_reason (reason f) e
+fine_is t (told.MergeRefused c f) o e fine = by_reason (reason f) e
   where
     by_reason : (r : Option accept.Answer) → option_map (model.MergeRefused (receiving_iface t c)) r ≡ Some o → ⊥
     by_reason None g = absurd (let h : None ≡ Some o = g in cc)
     by_reason (Some a) g = let h : model.MergeRefused (receiving_iface t c) a ≡ o = cc in subst model.IsFineOutcome (sym h) fine
-fine_is t (told.MergeRefused refusal.Stranger) o e fine = absurd (let g : None ≡ Some o = e in cc)
-fine_is t (told.MergeRefused refusal.Memory) o e fine = absurd (let g : None ≡ Some o = e in cc)
 fine_is t told.Emptied o e fine = tt
 
 pub fine_at : (t : TopologyValue) (answers : List StepAnswer) (outcomes : List model.Outcome) → map (outcome_of t) answers ≡ map Some outcomes → model.AllFine outcomes

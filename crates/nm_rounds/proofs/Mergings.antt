@@ -22,8 +22,10 @@ use Rattle.nm_model.specs.World as model
 use Rattle.nm_sim.specs.Network.{net_of}
 use Rattle.nm_book.specs.Book.{BookValue, is_incoming, is_replica, knowledge_of, known_at}
 use Rattle.nm_book.specs.Merging.{AreJoined, BookMerges, KnowledgeValue, is_of}
-use Rattle.nm_book.specs.declared.fault.MergeFault.{MergeFault}
-use Rattle.nm_book.specs.declared.fault.MergeFault.TheVariants as refusal
+use Rattle.nm_base.specs.declared.fault.Fault.{Fault}
+use Rattle.nm_base.specs.declared.fault.Fault.TheVariants as unmerged
+use Rattle.nm_book.specs.declared.fault.MergeRefusal.{MergeRefusal}
+use Rattle.nm_book.specs.declared.fault.MergeRefusal.TheVariants as refusal
 use Rattle.nm_book.proofs.Beginnings.{is_nothing, nothing_at}
 use Rattle.nm_book.proofs.Incoming.{ifaces_are}
 use Rattle.nm_book.proofs.Tellings.{comes_at, known_here}
@@ -233,15 +235,15 @@ module _ (t : TopologyValue) (books : List BookValue) (bag : List ChannelMessage
   as_before : c ≡ b → IsWorld t (slice_set books place c) bag w
   as_before same = unchanged_at t books bag w stands p r there place at b c read same
 
-  pub merge_steps : (result : Result Unit MergeFault) → BookMerges b c told_her result → Steps t w (step.Merge p r) (merge_answer_of result) (slice_set books place c) bag
+  pub merge_steps : (result : Result Unit (Fault MergeRefusal)) → BookMerges b c told_her result → Steps t w (step.Merge p r) (merge_answer_of result) (slice_set books place c) bag
   merge_steps (Ok u) h =
       let none : join_faults same_octets (knowledge_of t b.knows) (knowledge_of t e.knows) (net_of t).ifaces ≡ None =
       no_faults t b.knows e.knows here (net_of t).ifaces (λ i low. no_fault_at i (λ d at_i comes below. h.merges.1 d below comes)) in
       step_done t w (step.Merge p r) (slice_set books place c) bag _ model.Merged told.Merged (merge_is None none) refl
       (with_book t books bag w stands p r there place at b c read _ (merged_book c.knows h.merges.2 h.same))
-  merge_steps (Err refusal.Stranger) h = absurd (let z : true ≡ false = sym ours ∙ h.merges.0 in cc)
-  merge_steps (Err refusal.Memory) h = as_before (h.same ∙ ap (λ z. record b { knows = z }) h.merges.2)
-  merge_steps (Err (refusal.Channel d f)) h =
+  merge_steps (Err (unmerged.Refused refusal.Stranger)) h = absurd (let z : true ≡ false = sym ours ∙ h.merges.0 in cc)
+  merge_steps (Err unmerged.Memory) h = as_before (h.same ∙ ap (λ z. record b { knows = z }) h.merges.2)
+  merge_steps (Err (unmerged.Refused (refusal.Channel d f))) h =
       let first = h.merges.1 in
       let within : d < length t.receivers = let n = is.count in let l = first.there in omega (arith, n, l) in
       let some = some_fault f (λ none. first.refused (first.shown ∙ none)) in
@@ -252,7 +254,7 @@ module _ (t : TopologyValue) (books : List BookValue) (bag : List ChannelMessage
       let low : i < (net_of t).ifaces = let n = ifaces_are t in let l = there_iface d within in omega (arith, n, l) in
       let fault_is = one_fault t b.knows e.knows here (net_of t).ifaces i some.0 low shown (λ j less. no_fault_at j (λ k at_j comes below.
       first.before k (earlier t.receivers rising d k (length t.ifaces) within (let n = is.count in omega (arith, n, below)) (let l = at_j in omega (arith, l, less))) comes)) in
-      step_done t w (step.Merge p r) (slice_set books place c) bag w (model.MergeRefused i some.0) (told.MergeRefused (refusal.Channel d f)) (merge_is (Some (i, some.0)) fault_is)
+      step_done t w (step.Merge p r) (slice_set books place c) bag w (model.MergeRefused i some.0) (told.MergeRefused d f) (merge_is (Some (i, some.0)) fault_is)
       (ap (option_map (model.MergeRefused i)) some.1)
       (as_before (h.same ∙ ap (λ z. record b { knows = z }) h.merges.2))
 

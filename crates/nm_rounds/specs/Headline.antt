@@ -46,7 +46,7 @@ IsNoRefusal (Frames n) = Unit {0}
 IsNoRefusal (Accepted a) = Unit {0}
 IsNoRefusal (Refused f) = IsGap f
 IsNoRefusal Merged = Unit {0}
-IsNoRefusal (MergeRefused f) = ⊥
+IsNoRefusal (MergeRefused c f) = ⊥
 IsNoRefusal Emptied = Unit {0}
 
 module _ (t : TopologyValue) where

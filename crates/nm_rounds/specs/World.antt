@@ -13,8 +13,10 @@ use Rattle.nm_model.specs.Promise.{Plain, Tight}
 use Rattle.nm_model.specs.World as model
 use Rattle.nm_sim.specs.Network.{net_of}
 use Rattle.nm_book.specs.Book.{BookValue, is_incoming, message_channel, replica_of, sent_over}
-use Rattle.nm_book.specs.declared.fault.MergeFault.{MergeFault}
-use Rattle.nm_book.specs.declared.fault.MergeFault.TheVariants.{Stranger, Channel, Memory as NoMemoryLeft}
+use Rattle.nm_base.specs.declared.fault.Fault.{Fault}
+use Rattle.nm_base.specs.declared.fault.Fault.TheVariants as unmerged
+use Rattle.nm_book.specs.declared.fault.MergeRefusal.{MergeRefusal}
+use Rattle.nm_book.specs.declared.fault.MergeRefusal.TheVariants.{Stranger, Channel}
 use Rattle.nm_book.specs.declared.message.ChannelMessage.{ChannelMessage}
 use Rattle.nm_book.specs.declared.message.Data.{Data as DataValue}
 use Rattle.nm_book.specs.declared.message.ChannelMessage.TheVariants.{Data as DataMessage, Null as NullMessage}
@@ -44,10 +46,7 @@ outcome_of t (Frames n) = Some (model.Frames n)
 outcome_of t (Accepted a) = option_map model.Answered (answer (Ok a))
 outcome_of t (Refused f) = option_map model.Answered (reason f)
 outcome_of t Merged = Some model.Merged
-outcome_of t (MergeRefused (Channel c f)) =
-    option_map (model.MergeRefused (receiving_iface t c)) (reason f)
-outcome_of t (MergeRefused Stranger) = None
-outcome_of t (MergeRefused NoMemoryLeft) = None
+outcome_of t (MergeRefused c f) = option_map (model.MergeRefused (receiving_iface t c)) (reason f)
 outcome_of t Emptied = Some model.Emptied
 
 abbrev pub frame_of : TopologyValue → ChannelMessage → model.Frame (List ℕ)
@@ -61,11 +60,11 @@ refusal_of NoMemory = Err Memory
 refusal_of f = Ok (Refused f)
 
 -- and what a merge answers
-abbrev pub merge_answer_of : Result Unit MergeFault → Result StepAnswer Stop
+abbrev pub merge_answer_of : Result Unit (Fault MergeRefusal) → Result StepAnswer Stop
 merge_answer_of (Ok u) = Ok Merged
-merge_answer_of (Err Stranger) = Err NoSuch
-merge_answer_of (Err (Channel c f)) = Ok (MergeRefused (Channel c f))
-merge_answer_of (Err NoMemoryLeft) = Err Memory
+merge_answer_of (Err (unmerged.Refused Stranger)) = Err NoSuch
+merge_answer_of (Err (unmerged.Refused (Channel c f))) = Ok (MergeRefused c f)
+merge_answer_of (Err unmerged.Memory) = Err Memory
 
 -- the book is the model's replica r of partition p: it handed no record out, and of channels that
 -- do not come in it knows nothing

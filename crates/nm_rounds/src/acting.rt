@@ -15,7 +15,7 @@ use crate::world::Stop;
 use nm_base::{ChanNo, PartNo};
 use nm_book::channels::receiver_of;
 use nm_book::message::Null;
-use nm_book::{AcceptFault, Book, BookFault, ChannelMessage, MergeFault, Ran};
+use nm_book::{AcceptFault, Book, BookFault, ChannelMessage, MergeFault, MergeRefusal, Ran};
 use nm_knowledge::KnowFault;
 use nm_knowledge::laws::packets_are_told_apart;
 use nm_sim::network::channels_are_those_of_the_network;
@@ -198,11 +198,16 @@ pub(crate) fn deliver(
 fn merge_answer(merged: Result<(), MergeFault>) -> Result<StepAnswer, Stop>
     ensures { result ≡ merge_answer_of merged }
 {
-    match merged {
+    match &merged {
         Ok(()) => Ok(StepAnswer::Merged),
         Err(MergeFault::Memory) => Err(Stop::Memory),
-        Err(MergeFault::Stranger) => Err(Stop::NoSuch),
-        Err(fault) => Ok(StepAnswer::MergeRefused(fault)),
+        Err(MergeFault::Refused(MergeRefusal::Stranger)) => Err(Stop::NoSuch),
+        Err(MergeFault::Refused(MergeRefusal::Channel { channel, fault })) => {
+            Ok(StepAnswer::MergeRefused {
+                channel: *channel,
+                fault: *fault,
+            })
+        }
     }
 }
 

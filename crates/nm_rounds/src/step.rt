@@ -1,7 +1,6 @@
 //! What replicas may do, and what each step answers.
 
 use nm_base::{ChanNo, PartNo};
-use nm_book::MergeFault;
 use nm_knowledge::{Accepted, KnowFault};
 
 /// A step of the world. Partitions, replicas (0 and 1), channels, messages of a channel and frames
@@ -73,9 +72,9 @@ pub enum StepAnswer {
     Refused(KnowFault),
     /// The replica knows what both knew.
     Merged,
-    /// What both know of a channel cannot be joined (`MergeFault::Channel`): it is the first such
-    /// channel. The replica is unchanged.
-    MergeRefused(MergeFault),
+    /// What both know of this channel cannot be joined; it is the first such channel. The replica
+    /// is unchanged. It is never for want of memory.
+    MergeRefused { channel: ChanNo, fault: KnowFault },
     /// The replica was made anew.
     Emptied,
 }

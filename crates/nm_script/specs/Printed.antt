@@ -6,8 +6,6 @@ use Rattle.nm_knowledge.specs.declared.answer.Accepted.TheVariants.{New, Known, 
 use Rattle.nm_knowledge.specs.declared.answer.KnowFault.{KnowFault}
 use Rattle.nm_knowledge.specs.declared.answer.KnowFault.TheVariants.{Gap, Differs, Late, NotRising, Memory, Contrary}
 use Rattle.nm_book.specs.Book.{BookValue, safe_of, state_of}
-use Rattle.nm_book.specs.declared.fault.MergeFault.{MergeFault}
-use Rattle.nm_book.specs.declared.fault.MergeFault.TheVariants as unmerged
 use Rattle.nm_rounds.specs.declared.step.StepAnswer.{StepAnswer}
 use Rattle.nm_rounds.specs.declared.step.StepAnswer.TheVariants.{All, Limit, Frames, Accepted as TakenIn, Refused, Merged, MergeRefused, Emptied}
 
@@ -25,12 +23,7 @@ fault_text NotRising = codes "notrising"
 fault_text Memory = codes "memory"
 fault_text (Contrary count) = codes "contrary " ++ decimal count
 
--- the same of a merge, of which the channel is not told; the other two are no answers
-abbrev pub merge_fault_text : MergeFault → List ℕ
-merge_fault_text (unmerged.Channel c f) = fault_text f
-merge_fault_text unmerged.Stranger = codes "stranger"
-merge_fault_text unmerged.Memory = codes "memory"
-
+-- of a merge that is refused the channel is not told
 abbrev pub answer_text : StepAnswer → List ℕ
 answer_text (All n) = codes "all " ++ decimal n
 answer_text (Limit n) = codes "limit " ++ decimal n
@@ -38,7 +31,7 @@ answer_text (Frames n) = codes "frames " ++ decimal n
 answer_text (TakenIn a) = accepted_text a
 answer_text (Refused f) = fault_text f
 answer_text Merged = codes "merged"
-answer_text (MergeRefused f) = merge_fault_text f
+answer_text (MergeRefused c f) = fault_text f
 answer_text Emptied = codes "empty"
 
 -- the line of the answer of this number

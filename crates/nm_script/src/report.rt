@@ -5,9 +5,9 @@ ghost use Rattle.std.specs.List.{flat_map};
 ghost use Rattle.std.specs.String.{string_bytes};
 ghost use Rattle.nm_script.specs.Printed.{accepted_text, answer_line, answer_lines, answer_text};
 ghost use Rattle.nm_script.specs.Printed.{book_line, fault_text};
-ghost use Rattle.nm_script.specs.Printed.{merge_fault_text, report_text};
+ghost use Rattle.nm_script.specs.Printed.{report_text};
 
-use nm_book::{Book, MergeFault};
+use nm_book::Book;
 use nm_knowledge::{Accepted, KnowFault};
 use nm_rounds::{StepAnswer, WorldReport};
 use std::alloc::{AllocError, Global};
@@ -37,18 +37,6 @@ fn push_fault(text: &mut String, fault: KnowFault) -> Result<(), AllocError>
     }
 }
 
-/// Appends why a replica refused to merge.
-fn push_merge_fault(text: &mut String, fault: &MergeFault) -> Result<(), AllocError>
-    ensures { OnOk result (string_bytes text.new
-        ≡ string_bytes text.old ++ merge_fault_text fault.now) }
-{
-    match fault {
-        MergeFault::Stranger => text.push_str("stranger"),
-        MergeFault::Channel { fault, .. } => push_fault(text, *fault),
-        MergeFault::Memory => text.push_str("memory"),
-    }
-}
-
 /// Appends what a step answered.
 fn push_answer(text: &mut String, answer: &StepAnswer) -> Result<(), AllocError>
     ensures { OnOk result (string_bytes text.new
@@ -61,7 +49,7 @@ fn push_answer(text: &mut String, answer: &StepAnswer) -> Result<(), AllocError>
         StepAnswer::Accepted(accepted) => text.push_str(accepted_text(*accepted)),
         StepAnswer::Refused(fault) => push_fault(text, *fault),
         StepAnswer::Merged => text.push_str("merged"),
-        StepAnswer::MergeRefused(fault) => push_merge_fault(text, fault),
+        StepAnswer::MergeRefused { fault, .. } => push_fault(text, *fault),
         StepAnswer::Emptied => text.push_str("empty"),
     }
 }

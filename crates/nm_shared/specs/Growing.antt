@@ -2,6 +2,8 @@
 use Rattle.std.specs.Prelude.{◌≡◌, ℕ, zero, suc, ◌+◌, ◌≤◌, Bool, true, false, cond, if◌then◌else◌, List, [], ◌∷◌, ◌++◌, length, slice_index_or, slice_set, Option, Some, None, Result, Ok, Err, refl}
 use Rattle.std.proofs.Common.{⊎_elim, ◌<◌, leb, sym, subst, ap, arith, length-append}
 use Rattle.std.proofs.lemmas.Bool.{cases_lt, leb-true}
+use Rattle.nm_base.specs.declared.fault.Fault.{Fault}
+use Rattle.nm_base.specs.declared.fault.Fault.TheVariants.{Refused as Unmerged, Memory as NoRoom}
 use Rattle.nm_topology.specs.Topology.{receiving_iface}
 use Rattle.nm_topology.specs.TopologyValue.{TopologyValue}
 use Rattle.nm_model.specs.Accept as model
@@ -15,8 +17,8 @@ use Rattle.nm_book.specs.Book.{BookValue, Learns, LearnsIf, Takes, message_chann
 use Rattle.nm_book.specs.Merging.{AreJoined, BookMerges, KnowledgeValue, MergesChannels, joined_at}
 use Rattle.nm_book.specs.Running.{Runs}
 use Rattle.nm_book.specs.declared.fault.AcceptFault.{AcceptFault}
-use Rattle.nm_book.specs.declared.fault.MergeFault.{MergeFault}
-use Rattle.nm_book.specs.declared.fault.MergeFault.TheVariants.{Stranger as NotMine, Channel, Memory as NoRoom}
+use Rattle.nm_book.specs.declared.fault.MergeRefusal.{MergeRefusal}
+use Rattle.nm_book.specs.declared.fault.MergeRefusal.TheVariants.{Stranger as NotMine, Channel}
 use Rattle.nm_book.specs.declared.message.ChannelMessage.{ChannelMessage}
 use Rattle.nm_book.specs.declared.message.ChannelMessage.TheVariants.{Data, Null}
 use Rattle.nm_book.specs.declared.running.Ran.{Ran}
@@ -205,14 +207,14 @@ joined_learned t p ks os js h = (
         omega (arith, rises, same)
 
 merges_learned : (q : Bool) (t : TopologyValue) (p : ℕ) (ks os js : List (Know (List ℕ)))
-    (r : Result Unit MergeFault) → MergesChannels t p ks os q js r → Learned ks js
+    (r : Result Unit (Fault MergeRefusal)) → MergesChannels t p ks os q js r → Learned ks js
 merges_learned q t p ks os js (Ok u) h = joined_learned t p ks os js h.2
-merges_learned q t p ks os js (Err NotMine) h = same_learned ks js h.1
-merges_learned q t p ks os js (Err (Channel c f)) h = same_learned ks js h.2
+merges_learned q t p ks os js (Err (Unmerged NotMine)) h = same_learned ks js h.1
+merges_learned q t p ks os js (Err (Unmerged (Channel c f))) h = same_learned ks js h.2
 merges_learned q t p ks os js (Err NoRoom) h = same_learned ks js h.2
 
-pub merge_grows : (o : KnowledgeValue) (b : BookValue) (r : Result Unit MergeFault) (c : BookValue)
-    → BookMerges b c o r → Grows b c
+pub merge_grows : (o : KnowledgeValue) (b : BookValue) (r : Result Unit (Fault MergeRefusal))
+    (c : BookValue) → BookMerges b c o r → Grows b c
 merge_grows o b r c h =
     let l = merges_learned _ b.topology b.partition b.knows o.knows c.knows r h.merges in
     told_grows b c h.same l.0 l.1

@@ -3,7 +3,6 @@
 use crate::same::eq_answer;
 use crate::words::refused;
 use nm_base::{ChanNo, PartNo};
-use nm_book::MergeFault;
 use nm_fixtures::SPLIT;
 use nm_knowledge::Accepted;
 use nm_rounds::replay::replay;
@@ -61,8 +60,7 @@ fn answered(answer: &StepAnswer) -> (&'static str, u64) {
         StepAnswer::Accepted(Accepted::Raised) => ("raised", 0),
         StepAnswer::Refused(fault) => refused(fault),
         StepAnswer::Merged => ("merged", 0),
-        StepAnswer::MergeRefused(MergeFault::Channel { fault, .. }) => refused(fault),
-        StepAnswer::MergeRefused(_) => ("stranger", 0),
+        StepAnswer::MergeRefused { fault, .. } => refused(fault),
         StepAnswer::Emptied => ("empty", 0),
     }
 }

@@ -20,5 +20,5 @@ returns c = λ a b same know first second over_a over_b.
     (λ i comes. let n = c.channels_are_those_of_the_network.ensures.numbered a.partition i comes in (n.0, n.1, n.2))) know in
     let one : IsCount (net_of a.topology) a.partition (knowledge a) a.events = record { over = over_a; first = first } in
     let other : IsCount (net_of b.topology) b.partition (knowledge b) b.events = record { over = over_b; first = second } in
-    c.equal_knowledge_gives_equal_replicas.ensures.counts (net_of a.topology) network a.partition (knowledge a) (knowledge_of a.topology b.knows) alike a.events b.events
+    (c.equal_knowledge_gives_equal_replicas.ensures (net_of a.topology) network).counts a.partition (knowledge a) (knowledge_of a.topology b.knows) alike a.events b.events
     one (back a b (λ z p. IsCount (net_of z) p (knowledge_of z b.knows) b.events) know.sisters other)

@@ -27,7 +27,7 @@ returns-in_err-check_partitions c =
     let fault = c.in_err-check_partitions.field-0.0 in
     let here = subst (λ n. FindsFault t (first_below (missing books) n) (Err fault)) (sym (parts_are t)) c.in_err-check_partitions.ensures in
     let rest = or_else (first_of (unfinished t) (books_of books)) (first_of (book_fault net same_octets Tight (books_of books)) (books_of books)) in
-    let both = refuses t books (c.are_of.ensures.all (search rules)) (c.certify_is_exact.ensures.complete net same_octets packets.same packets.apart Tight (books_of books))
+    let both = refuses t books (c.are_of.ensures.all (search rules)) (c.certify_is_exact.ensures net same_octets packets.same packets.apart Tight (books_of books)).complete
     (c.certify_faults_are_right.ensures net c.every_topology_is_a_network.ensures.network same_octets packets.same packets.apart Tight (books_of books)) fault c.from_residual.result (search rules)
     (first_step t (first_below (missing books) net.parts) rest fault here) in
     record { answer = both.0; exact = both.1 }
@@ -42,7 +42,7 @@ returns-in_err-check_done c =
     let there : first_below (missing books) net.parts ≡ None = ap (first_below (missing books)) (parts_are t) ∙ c.in_ok-check_partitions.ensures in
     let matches = first_of (book_fault net same_octets Tight (books_of books)) (books_of books) in
     let done = first_of (unfinished t) (books_of books) in
-    let both = refuses t books (c.are_of.ensures.all (search rules)) (c.certify_is_exact.ensures.complete net same_octets packets.same packets.apart Tight (books_of books))
+    let both = refuses t books (c.are_of.ensures.all (search rules)) (c.certify_is_exact.ensures net same_octets packets.same packets.apart Tight (books_of books)).complete
     (c.certify_faults_are_right.ensures net c.every_topology_is_a_network.ensures.network same_octets packets.same packets.apart Tight (books_of books)) fault c.from_residual-in_err-check_done.result (search rules)
     (next_step t (first_below (missing books) net.parts) (or_else done matches) (Err fault) there (first_step t done matches fault c.in_err-check_done.ensures.finds)) in
     record { answer = both.0; exact = both.1 }
@@ -60,7 +60,7 @@ returns c =
     let ours = c.are_of.ensures.all (search rules) in
     let finds = next_step t (first_below (missing books) net.parts) (or_else done matches) c.check_channels.result there
     (next_step t done matches c.check_channels.result c.in_ok-check_done.ensures.finds c.check_channels.ensures) in
-    let sound = c.certify_is_exact.ensures.sound net ok.network same_octets packets.same packets.apart Tight (books_of books) in
+    let sound = (c.certify_is_exact.ensures net same_octets packets.same packets.apart Tight (books_of books)).sound ok.network in
     let answer = answered t books ours
     (λ h. all_certified t books ours c.the_digest_is_no_part_of_the_network.ensures c.in_ok-check_done.ensures.within
     (λ safe i b at last before. c.certificate.ensures.listed net ok.network ok.parted Tight (books_of books) safe (sound h) i b at last before)
@@ -70,5 +70,5 @@ returns c =
     in
     record {
       answer = answer;
-      exact = exactly t books ours (c.certify_is_exact.ensures.complete net same_octets packets.same packets.apart Tight (books_of books)) c.check_channels.result finds answer;
+      exact = exactly t books ours (c.certify_is_exact.ensures net same_octets packets.same packets.apart Tight (books_of books)).complete c.check_channels.result finds answer;
     }

@@ -55,7 +55,7 @@ returns c = λ steps answers books ending h.
           (λ i comes. let n = c.channels_are_those_of_the_network.ensures.numbered a.partition i comes in (n.0, n.1, n.2)))
           (within i a e) (within j b f)
           (λ K J e. (c.equal_knowledge_gives_equal_states.ensures (net_of a.topology) ok_a a.partition K J e).states) (λ K J e. (c.equal_knowledge_gives_equal_states.ensures (net_of a.topology) ok_a a.partition K J e).promises)
-          (c.equal_knowledge_gives_equal_replicas.ensures.counts (net_of a.topology) ok_a a.partition);
+          ((c.equal_knowledge_gives_equal_replicas.ensures (net_of a.topology) ok_a).counts a.partition);
       joins = λ i j d a b e f sisters comes.
           let u = slice_index_or a.knows d nothing_known in
           let v = slice_index_or b.knows d nothing_known in
