@@ -1,5 +1,5 @@
 -- Where a topology text is refused, and that this is what is refused of the text.
-use Rattle.std.specs.Prelude.{◌≡◌, ℕ, List, Ok, Err}
+use Rattle.std.specs.Prelude.{◌≡◌, ℕ, ◌≤◌, List, Ok, Err}
 use Rattle.sha2.specs.Sha256.{sha256}
 use Rattle.toml.specs.Data.{Members}
 use Rattle.toml.specs.View.{table_view}
@@ -16,7 +16,7 @@ use Rattle.nm_check.specs.Place.{IsFirstPlace, place_refusal}
 -- where a document is refused, if it is
 abbrev pub IsLocatedIn : Members → Reading → Type 0
 IsLocatedIn t (reading.Tables table f) =
-    (table_view table ≡ t) × (document_of t ≡ Err (place_refusal f.place))
+    (28 ≤ f.head.mtu) × (table_view table ≡ t) × (document_of t ≡ Err (place_refusal f.place))
     × IsFirstPlace t f.head f.place
 IsLocatedIn t (reading.Whole d) = document_of t ≡ Ok d
 
@@ -26,6 +26,7 @@ abbrev pub IsLocated : List ℕ → Located → Type 0
 IsLocated text located.Length = topology_of text ≡ Err Range
 IsLocated text located.Letters = topology_of text ≡ Err Text
 IsLocated text (located.Read (reading.Tables table f)) =
-    (topology_of text ≡ Err (place_refusal f.place)) × (top_table_of text ≡ Ok (table_view table))
+    (28 ≤ f.head.mtu) × (topology_of text ≡ Err (place_refusal f.place))
+    × (top_table_of text ≡ Ok (table_view table))
     × IsFirstPlace (table_view table) f.head f.place
 IsLocated text (located.Read (reading.Whole d)) = topology_of text ≡ network_of (sha256 text) d
