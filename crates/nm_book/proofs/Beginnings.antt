@@ -10,7 +10,8 @@ use Rattle.nm_model.specs.Run.{start}
 use Rattle.nm_events.specs.Held.{Held}
 use Rattle.nm_sim.specs.Network.{here_of, net_of}
 use Rattle.nm_sim.specs.Part.{PartValue, Represents}
-use Rattle.nm_book.specs.Book.{IsBook, known_at, knowledge_of, pending_in}
+use Rattle.nm_book.specs.Book.{known_at, knowledge_of}
+use Rattle.nm_book.specs.BookPart.{IsBook, pending_in}
 
 pub nothing_at : (n c : ℕ) → slice_index_or (replicate n (nothing_known {P = List ℕ})) c nothing_known ≡ nothing_known
 nothing_at zero c = refl

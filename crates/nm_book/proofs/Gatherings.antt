@@ -14,7 +14,8 @@ use Rattle.nm_events.specs.Held.{Held}
 use Rattle.nm_knowledge.specs.Gain.{Gain, IsGain}
 use Rattle.nm_sim.specs.Network.{net_of}
 use Rattle.nm_sim.specs.Part.{PartValue, Represents}
-use Rattle.nm_book.specs.Book.{IsBook, knowledge_of, pending_in}
+use Rattle.nm_book.specs.Book.{knowledge_of}
+use Rattle.nm_book.specs.BookPart.{IsBook, pending_in}
 use Rattle.nm_book.specs.Merging.{AreJoined, AreTold, IsGainOf, IsGrown, IsTurnOf, is_incoming, joined_at, known, other, with_gain}
 use Rattle.nm_book.specs.Telling.{Follow, IsNext, known_of, told_each, told_one, with_message}
 use Rattle.nm_book.specs.declared.message.Data.{Data}

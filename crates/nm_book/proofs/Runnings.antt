@@ -11,7 +11,8 @@ use Rattle.nm_model.proofs.ListLemmas.{below_or_at}
 use Rattle.nm_events.specs.Held.{Held}
 use Rattle.nm_sim.specs.Network.{here_of, net_of}
 use Rattle.nm_sim.specs.Part.{PartValue, Represents}
-use Rattle.nm_book.specs.Book.{IsBook, knowledge_of, pending_in}
+use Rattle.nm_book.specs.Book.{knowledge_of}
+use Rattle.nm_book.specs.BookPart.{IsBook, pending_in}
 
 module _ (t : TopologyValue) (p : ℕ) (knows : List (Know (List ℕ))) (part new : PartValue Held) where
   -- a part that represents the same stands for the same replica

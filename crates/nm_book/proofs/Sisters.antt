@@ -7,7 +7,7 @@ use Rattle.nm_model.specs.Partition.{comes_in}
 use Rattle.nm_model.specs.Replica.{IsUnderAll}
 use Rattle.nm_sim.specs.Network.{net_of}
 use Rattle.nm_book.specs.Book.{BookValue, knowledge, knowledge_of}
-use Rattle.nm_book.specs.Laws.{AreSisters, IsUnderOf, KnowTheSame}
+use Rattle.nm_book.specs.Sisters.{AreSisters, IsUnderOf, KnowTheSame}
 use Rattle.nm_book.proofs.Tellings.{known_here}
 
 -- what holds of the one's topology and partition holds of the other's

@@ -19,7 +19,8 @@ use Rattle.nm_model.specs.Replica.{IsUnderAll, IsWithin, from_scratch}
 use Rattle.nm_events.specs.Held.{Held}
 use Rattle.nm_sim.specs.Network.{net_of}
 use Rattle.nm_sim.specs.Part.{PartValue, Represents, with_arrival}
-use Rattle.nm_book.specs.Book.{IsBook, known_at, knowledge_of, pending_in}
+use Rattle.nm_book.specs.Book.{known_at, knowledge_of}
+use Rattle.nm_book.specs.BookPart.{IsBook, pending_in}
 
 is_same : (a b : ℕ) → (a == b) ≡ true → a ≡ b
 is_same a b h = grind (arith, nat_tests, h)

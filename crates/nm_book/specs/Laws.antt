@@ -1,15 +1,14 @@
--- Two replicas of one partition.
-use Rattle.std.specs.Prelude.{◌≡◌, ℕ, ◌<◌, ◌≤◌, true, Some, length, slice_index_or}
+-- What holds of two replicas of one partition.
+use Rattle.std.specs.Prelude.{◌≡◌, ℕ, ◌<◌, ◌≤◌, true, Some, length}
 use Rattle.nm_topology.specs.Topology.{channel_from, receiving_iface}
 use Rattle.nm_topology.specs.TopologyValue.{TopologyValue}
-use Rattle.nm_model.specs.Knowledge.{IsUnder, nothing_known}
 use Rattle.nm_model.specs.Lists.{IsPrefix}
 use Rattle.nm_model.specs.Network.{IsNet}
 use Rattle.nm_model.specs.Partition.{comes_in}
 use Rattle.nm_model.specs.Promise.{Promising}
 use Rattle.nm_model.specs.Replica.{with_new}
 use Rattle.nm_sim.specs.Network.{net_of}
-use Rattle.nm_book.specs.Book.{BookValue, is_incoming, knowledge, promise_on, safe_of}
+use Rattle.nm_book.specs.Book.{BookValue, knowledge, promise_on, safe_of}
 use Rattle.nm_book.specs.Book.{sent_over, state_of}
 
 -- What the laws rely on: a topology is a network of the model, in which each channel has its own
@@ -20,23 +19,6 @@ pub record IsNetOfChannels (t : TopologyValue) : Type 0 where
       → channel_from 0 t.receivers (receiving_iface t c) ≡ Some c
   pub numbered : (p i : ℕ) → comes_in (net_of t) p i ≡ true
       → (c : ℕ) × (c < length t.receivers) × (receiving_iface t c ≡ i)
-
--- they are replicas of one partition
-pub record AreSisters (a b : BookValue) : Type 0 where
-  pub topology : a.topology ≡ b.topology
-  pub partition : a.partition ≡ b.partition
-
--- and know the same of each channel that comes in
-pub record KnowTheSame (a b : BookValue) : Type 0 where
-  pub sisters : AreSisters a b
-  pub same : (c : ℕ) → is_incoming a c ≡ true
-      → slice_index_or a.knows c nothing_known ≡ slice_index_or b.knows c nothing_known
-
--- and what the first knows of each is under what the second knows
-pub record IsUnderOf (a b : BookValue) : Type 0 where
-  pub sisters : AreSisters a b
-  pub under : (c : ℕ) → is_incoming a c ≡ true
-      → IsUnder (slice_index_or a.knows c nothing_known) (slice_index_or b.knows c nothing_known)
 
 -- the first and the second are in equal states, and so have equal traces and sent the same, and
 -- they promise the same

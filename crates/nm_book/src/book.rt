@@ -10,9 +10,10 @@ ghost use Rattle.nm_model.specs.Lists.{nth};
 ghost use Rattle.nm_model.specs.Promise.{Plain, Tight};
 ghost use Rattle.nm_model.specs.Replica.{IsWithin};
 ghost use Rattle.nm_sim.specs.Network.{net_of};
-ghost use Rattle.nm_sim.specs.Records.{totals_at};
-ghost use Rattle.nm_book.specs.Book.{IsBook, Takes, data_taken, is_replica, message_channel};
-ghost use Rattle.nm_book.specs.Book.{message_taken, null_taken};
+ghost use Rattle.nm_sim.specs.Totals.{totals_at};
+ghost use Rattle.nm_book.specs.Book.{is_replica, message_channel};
+ghost use Rattle.nm_book.specs.Accepting.{Takes, data_taken, message_taken, null_taken};
+ghost use Rattle.nm_book.specs.BookPart.{IsBook};
 ghost use Rattle.nm_book.specs.Book.{data_from, knowledge, is_incoming, is_outgoing, null_on};
 ghost use Rattle.nm_book.specs.Book.{only_if, promise_on, replica_of, safe_of, sent_over, state_of};
 ghost use Rattle.nm_book.specs.Merging.{BookMerges};
@@ -61,7 +62,8 @@ impl Model for Book {
     ghost use Rattle.std.specs.Arc.{arc_value};
     ghost use Rattle.nm_model.specs.Replica.{safe_time as safe_time_of};
     ghost use Rattle.nm_sim.specs.Network.{net_of};
-    ghost use Rattle.nm_book.specs.Book.{BookValue, IsBook, knowledge_of};
+    ghost use Rattle.nm_book.specs.Book.{BookValue, knowledge_of};
+    ghost use Rattle.nm_book.specs.BookPart.{IsBook};
 
     ghost Value = { BookValue };
 

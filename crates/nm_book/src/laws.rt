@@ -6,8 +6,8 @@ ghost use Rattle.nm_model.specs.Promise.{Plain, Tight};
 ghost use Rattle.nm_model.specs.Replica.{IsWithin};
 ghost use Rattle.nm_sim.specs.Network.{net_of};
 ghost use Rattle.nm_book.specs.Book.{knowledge, promise_on, state_of};
-ghost use Rattle.nm_book.specs.Laws.{AreAlike, IsNetOfChannels, IsUnderOf, KeepsWhatIsDone};
-ghost use Rattle.nm_book.specs.Laws.{KnowTheSame};
+ghost use Rattle.nm_book.specs.Laws.{AreAlike, IsNetOfChannels, KeepsWhatIsDone};
+ghost use Rattle.nm_book.specs.Sisters.{IsUnderOf, KnowTheSame};
 
 use crate::book::Book;
 use nm_base::Packet;

@@ -8,7 +8,8 @@ ghost use Rattle.nm_model.specs.Partition.{comes_in};
 ghost use Rattle.nm_knowledge.specs.declared.answer.KnowFault.TheVariants.{Memory};
 ghost use Rattle.nm_sim.specs.Network.{net_of};
 ghost use Rattle.nm_topology.specs.Topology.{receiving_iface};
-ghost use Rattle.nm_book.specs.Book.{IsBook, Learns, data_taken, null_taken, room_in};
+ghost use Rattle.nm_book.specs.Accepting.{Learns, data_taken, null_taken};
+ghost use Rattle.nm_book.specs.BookPart.{IsBook, room_in};
 ghost use Rattle.nm_book.specs.Telling.{Follow, IsNext, told_each, told_one};
 ghost use Rattle.nm_book.specs.declared.fault.AcceptFault.TheVariants.{Known};
 

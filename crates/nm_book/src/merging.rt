@@ -9,7 +9,7 @@ ghost use Rattle.nm_knowledge.specs.Octets.{same_octets};
 ghost use Rattle.nm_sim.specs.Network.{net_of};
 ghost use Rattle.nm_topology.specs.Topology.{receiving_iface};
 ghost use Rattle.nm_topology.specs.TopologyValue.{TopologyValue};
-ghost use Rattle.nm_book.specs.Book.{IsBook};
+ghost use Rattle.nm_book.specs.BookPart.{IsBook};
 ghost use Rattle.nm_book.specs.Merging.{AreGains, AreJoinable, AreJoined, AreTold, Checks};
 ghost use Rattle.nm_book.specs.Merging.{IsGainOf, IsGrown, IsTurnOf, MergesChannels, with_gain};
 ghost use Rattle.nm_book.specs.Telling.{Follow, told_each};

@@ -13,7 +13,8 @@ ghost use Rattle.nm_model.specs.Run.{State};
 ghost use Rattle.nm_sim.specs.Network.{net_of};
 ghost use Rattle.nm_sim.specs.Part.{Represents};
 ghost use Rattle.nm_topology.specs.Topology.{receiving_iface};
-ghost use Rattle.nm_book.specs.Book.{IsBook, knowledge_of, pending_in};
+ghost use Rattle.nm_book.specs.Book.{knowledge_of};
+ghost use Rattle.nm_book.specs.BookPart.{IsBook, pending_in};
 
 use nm_base::{ChanNo, IfaceNo, Time};
 use nm_events::SortedList;

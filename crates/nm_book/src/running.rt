@@ -9,7 +9,8 @@ ghost use Rattle.nm_model.specs.Run.{State, pends_before};
 ghost use Rattle.nm_sim.specs.Network.{net_of};
 ghost use Rattle.nm_sim.specs.Part.{Represents};
 ghost use Rattle.nm_topology.specs.TopologyValue.{TopologyValue};
-ghost use Rattle.nm_book.specs.Book.{IsBook, knowledge_of, pending_in};
+ghost use Rattle.nm_book.specs.Book.{knowledge_of};
+ghost use Rattle.nm_book.specs.BookPart.{IsBook, pending_in};
 ghost use Rattle.nm_book.specs.Running.{HasRun};
 
 use nm_base::{Packet, Time};

@@ -2,7 +2,8 @@
 use Rattle.std.specs.Prelude.{◌≡◌, ℕ, Bool, true, false, List, [], ◌∷◌, ◌++◌, Option, Some, None, Ok, Err}
 use Rattle.nm_knowledge.specs.declared.answer.Accepted.{Accepted}
 use Rattle.nm_knowledge.specs.declared.answer.KnowFault.TheVariants.{Memory}
-use Rattle.nm_book.specs.Book.{BookValue, Takes, message_channel, message_taken}
+use Rattle.nm_book.specs.Book.{BookValue, message_channel}
+use Rattle.nm_book.specs.Accepting.{Takes, message_taken}
 use Rattle.nm_book.specs.declared.fault.AcceptFault.{AcceptFault}
 use Rattle.nm_book.specs.declared.fault.AcceptFault.TheVariants.{Known}
 use Rattle.nm_book.specs.declared.message.ChannelMessage.{ChannelMessage}

@@ -14,7 +14,8 @@ use Rattle.nm_topology.specs.TopologyValue.{TopologyValue}
 use Rattle.nm_forward.specs.State.{NodeConfiguration, NodeStateValue, table_of, state_counted}
 use Rattle.nm_forward.specs.Row.{arrival_row, row_counter}
 use Rattle.nm_forward.specs.Originate.{consequence_of, Consequence, Nothing, Counts, Sends, Originates, originate, concluded}
-use Rattle.nm_forward.specs.Reaction.{IsReaction, handed, handed_by, reaction, arrived}
+use Rattle.nm_forward.specs.Reaction.{handed, handed_by, reaction, arrived}
+use Rattle.nm_forward.specs.Reacting.{IsReaction}
 
 concluded-table : (c : Consequence) (n : NodeStateValue) → (concluded c n).0.table ≡ n.table
 concluded-table Nothing n = refl

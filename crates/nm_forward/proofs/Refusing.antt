@@ -12,7 +12,8 @@ use Rattle.nm_forward.specs.declared.row.Row.TheVariants.{BadHeader, Forward}
 use Rattle.nm_forward.specs.State.{NodeConfiguration, NodeStateValue, state_counted}
 use Rattle.nm_forward.specs.Row.{arrival_row, packet_row, row_counter}
 use Rattle.nm_forward.specs.Originate.{concluded, consequence_of}
-use Rattle.nm_forward.specs.Reaction.{IsReaction, arrived}
+use Rattle.nm_forward.specs.Reaction.{arrived}
+use Rattle.nm_forward.specs.Reacting.{IsReaction}
 use Rattle.nm_forward.proofs.Sizes.{length-packet}
 
 -- a packet one hop on is as long as before

@@ -1,9 +1,7 @@
 -- What a node does with a packet that arrives, or that one of its sources hands over.
-use Rattle.std.specs.Prelude.{◌≡◌, ℕ, ◌==◌, ◌≤◌, if◌then◌else◌, List, [], length, Option, Some, None, slice_get}
+use Rattle.std.specs.Prelude.{ℕ, ◌==◌, ◌≤◌, if◌then◌else◌, List, [], length, Option, Some, None, slice_get}
 use Rattle.nm_base.specs.declared.event.Origin.{Origin}
 use Rattle.nm_base.specs.declared.event.Origin.TheVariants.{Arrival, Source as FromSource}
-use Rattle.nm_base.specs.declared.packet.Twin.{Twin}
-use Rattle.nm_iface.specs.PortValue.{IsRefusedAt, PortValue}
 use Rattle.nm_packet.specs.declared.limits.TheConstants.{MAX_PACKET_DATA, MAX_PAYLOAD}
 use Rattle.nm_packet.specs.Ipv4.{cut_of}
 use Rattle.nm_topology.specs.declared.traffic.Source.{Source}
@@ -15,8 +13,6 @@ use Rattle.nm_topology.specs.PartValues.{IfaceValue}
 use Rattle.nm_topology.specs.TopologyValue.{TopologyValue}
 use Rattle.nm_forward.specs.declared.row.Row.{Row}
 use Rattle.nm_forward.specs.declared.counter.Counter.TheVariants as count
-use Rattle.nm_forward.specs.declared.reaction.Reaction.{Reaction}
-use Rattle.nm_forward.specs.declared.reaction.Reaction.TheVariants as sent
 use Rattle.nm_forward.specs.State.{NodeConfiguration, NodeStateValue, table_of, state_counted}
 use Rattle.nm_forward.specs.Row.{arrival_row, row_counter}
 use Rattle.nm_forward.specs.Originate.{Sends, Datagram, Whole, Draft, originate, consequence_of, Reacted, concluded}
@@ -81,26 +77,3 @@ FitsSource (Some s) x = FitsHeaders s.traffic x
 abbrev pub FitsOrigin : TopologyValue → Origin → List ℕ → Type 0
 FitsOrigin t (Arrival i) x = Unit {0}
 FitsOrigin t (FromSource j) x = FitsSource (slice_get t.sources j) x
-
--- a packet that is sent: the interface, and its octets
-abbrev pub sent_of : Option (ℕ × Twin) → Option (ℕ × List ℕ)
-sent_of None = None
-sent_of (Some s) = Some (s.0, s.1.packet)
-
--- what a reaction sends, at a node with these ports, is this; or its port drops this where it is
--- offered now
-abbrev pub IsSent : List (Option PortValue) → Reaction → Option (ℕ × List ℕ) → Type 0
-IsSent ports sent.Nothing s = s ≡ None
-IsSent ports (sent.Send via twin) s = s ≡ Some (via, twin.packet)
-IsSent ports (sent.Refused via) s =
-    (x : List ℕ) × (s ≡ Some (via, x)) × IsRefusedAt ports via x
-
--- a reaction, and the state after it, are these
-abbrev pub IsReaction : List (Option PortValue) → Reaction → NodeStateValue → Reacted → Type 0
-IsReaction ports r state after = (state ≡ after.0) × IsSent ports r after.1
-
--- the interface by which a reaction sends
-abbrev pub iface_of : Reaction → Option ℕ
-iface_of sent.Nothing = None
-iface_of (sent.Send via twin) = Some via
-iface_of (sent.Refused via) = Some via

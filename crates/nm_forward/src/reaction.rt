@@ -10,9 +10,10 @@ ghost use Rattle.nm_forward.specs.State.{Knows};
 ghost use Rattle.nm_forward.specs.Row.{IsPossible};
 ghost use Rattle.nm_forward.specs.Originate.{FitsPacket, concluded, consequence_of};
 ghost use Rattle.nm_forward.specs.Prepared.{body_of, consequence, handed_on};
-ghost use Rattle.nm_forward.specs.Reaction.{FitsOrigin, FitsSource, FitsHeaders, IsReaction};
-ghost use Rattle.nm_forward.specs.Reaction.{IsSent, arrived, datagram_of, handed, handed_by};
-ghost use Rattle.nm_forward.specs.Reaction.{reaction, sent_of};
+ghost use Rattle.nm_forward.specs.Reaction.{FitsOrigin, FitsSource, FitsHeaders};
+ghost use Rattle.nm_forward.specs.Reacting.{IsReaction, IsSent, sent_of};
+ghost use Rattle.nm_forward.specs.Reaction.{arrived, datagram_of, handed, handed_by};
+ghost use Rattle.nm_forward.specs.Reaction.{reaction};
 ghost use Rattle.nm_forward.specs.declared.row.Row.TheVariants.{Forward};
 
 use crate::counter::Counter;

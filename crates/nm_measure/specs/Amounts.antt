@@ -1,10 +1,13 @@
--- How many packets came to an interface and how many it transmitted, with their octets.
+-- How many packets came to an interface and how many it transmitted, with their octets, and how many
+-- were dropped at its queue.
 use Rattle.std.specs.Prelude.{◌≡◌, ℕ, ◌+◌, ◌==◌, ◌&&◌, Bool, true, false, not, cond, List, length, sum_by, slice_get, Some}
 use Rattle.nm_base.specs.Count.{saturated}
 use Rattle.nm_base.specs.declared.record.Dir.{Dir}
 use Rattle.nm_base.specs.declared.record.Dir.TheVariants.{In, Out}
 use Rattle.nm_base.specs.declared.record.Record.{Record}
+use Rattle.nm_forward.specs.State.{NodeStateValue}
 use Rattle.nm_model.specs.Lists.{keep_where}
+use Rattle.nm_model.specs.Run.{State}
 use Rattle.nm_topology.specs.TopologyValue.{TopologyValue}
 use Rattle.nm_measure.specs.declared.amounts.Amount.{Amount}
 use Rattle.nm_measure.specs.declared.amounts.IfaceTraffic.{IfaceTraffic}
@@ -51,3 +54,7 @@ pub record AreTraffic (t : TopologyValue) (found : List IfaceTraffic)
     (records : List (Record (List ℕ))) : Type 0 where
   pub count : length found ≡ length t.ifaces
   pub each : (i : ℕ) (x : IfaceTraffic) → slice_get found i ≡ Some x → x ≡ traffic_of i records
+
+-- how many packets were dropped at the queue of an interface
+abbrev pub drops_of : ℕ → State (List ℕ) NodeStateValue → ℕ
+drops_of i s = saturated (s.port i).dropped

@@ -1,6 +1,5 @@
 -- A network at a time of its run, and what was measured of it.
 use Rattle.std.specs.Prelude.{◌≡◌, ◌<◌, ℕ, true, List, length, None, take}
-use Rattle.nm_base.specs.Count.{saturated}
 use Rattle.nm_events.specs.Held.{Held, pending_of}
 use Rattle.nm_model.specs.Before.{IsBefore}
 use Rattle.nm_forward.specs.State.{NodeStateValue}
@@ -41,7 +40,3 @@ pub record IsMeasuredBefore (t : TopologyValue) (until : ℕ) (m : MeasuredValue
 -- the run is over
 abbrev pub IsMeasured : TopologyValue → MeasuredValue → Type 0
 IsMeasured t m = IsMeasuredBefore t t.stop m
-
--- how many packets were dropped at the queue of an interface
-abbrev pub drops_of : ℕ → State (List ℕ) NodeStateValue → ℕ
-drops_of i s = saturated (s.port i).dropped

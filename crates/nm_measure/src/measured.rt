@@ -2,9 +2,9 @@
 
 ghost use Rattle.std.specs.Prelude.{◌≡◌, ℕ, ◌<◌, ◌≤◌, None, Some, IfOk, IfSome, OnOk, length};
 ghost use Rattle.nm_model.specs.Run.{one_list};
-ghost use Rattle.nm_measure.specs.Amounts.{traffic_of};
+ghost use Rattle.nm_measure.specs.Amounts.{traffic_of, drops_of};
 ghost use Rattle.nm_measure.specs.Flows.{Balances};
-ghost use Rattle.nm_measure.specs.Measured.{IsMeasuredBefore, drops_of};
+ghost use Rattle.nm_measure.specs.Measured.{IsMeasuredBefore};
 ghost use Rattle.nm_sim.specs.Network.{net_of};
 ghost use Rattle.nm_sim.specs.Part.{count_at, drops_at};
 ghost use Rattle.nm_topology.specs.TopologyValue.{TopologyValue};

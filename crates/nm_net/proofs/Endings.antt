@@ -1,6 +1,6 @@
 -- Why serving ends.
 use Rattle.std.proofs.Common.{◌≡◌, inl, inr, ℕ, Bool, sym, ◌∙◌, subst}
-use Rattle.nm_shared.specs.Known.{Home}
+use Rattle.nm_shared.specs.Home.{Home}
 use Rattle.nm_net.specs.declared.served.Served.{Served}
 use Rattle.nm_net.specs.declared.served.Served.TheVariants.{Ended, Net, Memory, File}
 use Rattle.nm_net.specs.Served.{EndsEarly, EndsWith}

@@ -8,8 +8,9 @@ use Rattle.nm_model.specs.Certificate.{is_done}
 use Rattle.nm_sim.specs.Network.{net_of}
 use Rattle.nm_book.specs.Book.{BookValue, replica_of, state_of}
 use Rattle.nm_shared.specs.Counted.{Meets}
-use Rattle.nm_shared.specs.Known.{Home, home_of}
-use Rattle.nm_net.specs.Served.{IsFinished, WasFinished, WasSeen, WereFinished, is_handed_out}
+use Rattle.nm_shared.specs.Home.{Home, home_of}
+use Rattle.nm_net.specs.Served.{WasFinished, WasSeen, WereFinished, is_handed_out}
+use Rattle.nm_net.specs.Finished.{IsFinished}
 use Rattle.nm_net.specs.declared.acts.Standing.{Standing}
 
 -- one replica more

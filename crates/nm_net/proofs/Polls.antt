@@ -2,7 +2,7 @@
 use Rattle.std.proofs.Common.{◌≡◌, ◌≤◌, ◌+◌, inl, ℕ, Bool, true, false, if◌then◌else◌, Some, None, refl, subst, arith}
 use Rattle.std.proofs.lemmas.Bool.Decides.{nat_tests}
 use Rattle.std.specs.Prelude.{nat_le}
-use Rattle.nm_shared.specs.Known.{Home}
+use Rattle.nm_shared.specs.Home.{Home}
 use Rattle.nm_net.specs.Polls.{ending_of, idle_after}
 use Rattle.nm_net.specs.Transport.{elapsed_after}
 use Rattle.nm_net.specs.Served.{EndsWith, WasFinished}

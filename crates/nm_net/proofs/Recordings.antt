@@ -11,7 +11,7 @@ use Rattle.nm_pcap.specs.Writer.{Writer}
 use Rattle.nm_files.proofs.Files.{more_records, no_records}
 use Rattle.nm_files.proofs.Records.{one_more}
 use Rattle.nm_book.specs.Book.{BookValue, state_of}
-use Rattle.nm_shared.specs.Known.{Home, home_of}
+use Rattle.nm_shared.specs.Home.{Home, home_of}
 use Rattle.nm_net.specs.Recording.{AreHandedOut, HandsOut, Streams, TakesOut, out_of}
 
 pub none_out : (b : BookValue) (room : List (Record (List ℕ))) → TakesOut b room b room

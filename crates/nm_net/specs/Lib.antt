@@ -1,6 +1,7 @@
 pub mod Breaks
 pub mod Dialing
 pub mod Ends
+pub mod Finished
 pub mod Lasting
 pub mod Leaving
 pub mod Links

@@ -6,7 +6,7 @@ use Rattle.nm_base.specs.declared.record.Record.{Record}
 use Rattle.nm_pcap.specs.Writer.{Writer}
 use Rattle.nm_files.specs.Files.{FilesTook}
 use Rattle.nm_book.specs.Book.{BookValue, state_of}
-use Rattle.nm_shared.specs.Known.{Home, home_of}
+use Rattle.nm_shared.specs.Home.{Home, home_of}
 
 -- book b hands out the first n of the records that it keeps, behind those of a list, and is c then
 abbrev pub TakesOut : BookValue → List (Record (List ℕ)) → BookValue → List (Record (List ℕ))

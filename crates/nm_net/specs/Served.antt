@@ -7,11 +7,12 @@ use Rattle.nm_base.specs.declared.fault.Fault.TheVariants as fault
 use Rattle.nm_files.specs.declared.trace_files.FileFault.{FileFault}
 use Rattle.nm_book.specs.Book.{BookValue, replica_of, state_of}
 use Rattle.nm_model.specs.Certificate.{is_done}
-use Rattle.nm_shared.specs.Known.{Home, home_of}
+use Rattle.nm_shared.specs.Home.{Home, home_of}
 use Rattle.nm_sim.specs.Network.{net_of}
 use Rattle.nm_net.specs.declared.acts.Standing.{Standing}
 use Rattle.nm_net.specs.declared.served.Served.{Served}
 use Rattle.nm_net.specs.declared.served.Served.TheVariants.{Ended, Net, Memory, File, Stalled}
+use Rattle.nm_net.specs.Finished.{IsFinished}
 use Rattle.nm_net.specs.declared.limits.TheConstants.{MAX_POLLS}
 
 -- how serving ends because a link broke: not, where its wire did, or where who said no Hello spoke
@@ -29,11 +30,7 @@ abbrev pub file_served : Fault FileFault → Served
 file_served (fault.Refused f) = File f.iface f.written
 file_served fault.Memory = Memory
 
--- nothing is left to do for the replica
-abbrev pub IsFinished : BookValue → Type 0
-IsFinished b = is_done (net_of b.topology) b.partition (replica_of b) ≡ true
-
--- and no record to hand out
+-- nothing is left to do for the replica, and no record to hand out
 abbrev pub is_handed_out : BookValue → Bool
 is_handed_out b =
     is_done (net_of b.topology) b.partition (replica_of b)

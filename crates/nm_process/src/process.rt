@@ -2,10 +2,10 @@
 
 ghost use Rattle.std.specs.Prelude.{◌≡◌, ◌^◌, IfOk};
 ghost use Rattle.std.specs.Arc.{arc_value};
-ghost use Rattle.nm_net.specs.Served.{IsFinished};
+ghost use Rattle.nm_net.specs.Finished.{IsFinished};
 ghost use Rattle.nm_process.specs.Process.{IsDoneReplica};
 ghost use Rattle.nm_shared.specs.Counted.{IsBlankOf};
-ghost use Rattle.nm_shared.specs.Known.{home_at, home_of};
+ghost use Rattle.nm_shared.specs.Home.{home_at, home_of};
 
 use crate::fault::ProcessFault;
 use mio::Poll;

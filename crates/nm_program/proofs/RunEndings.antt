@@ -3,7 +3,7 @@ use Rattle.std.proofs.Common.{◌≡◌, ℕ, List, ◌++◌, Result, Ok, Err, I
 use Rattle.nm_base.specs.declared.record.Record.{Record}
 use Rattle.nm_topology.specs.Topology.{topology_of}
 use Rattle.nm_topology.specs.TopologyValue.{TopologyValue}
-use Rattle.nm_sim.specs.Records.{totals_of}
+use Rattle.nm_sim.specs.Totals.{totals_of}
 use Rattle.nm_sim.specs.Trace.{IsTraceBefore}
 use Rattle.nm_run.specs.Report.{IsCertifiedRun}
 use Rattle.nm_run.specs.declared.report.IfaceTotals.{IfaceTotals}

@@ -8,7 +8,7 @@ use Rattle.nm_topology.specs.PartValues.{IfaceValue}
 use Rattle.nm_topology.specs.Topology.{topology_of}
 use Rattle.nm_topology.specs.TopologyValue.{TopologyValue}
 use Rattle.nm_sim.specs.Network.{net_of}
-use Rattle.nm_sim.specs.Records.{totals_of}
+use Rattle.nm_sim.specs.Totals.{totals_of}
 use Rattle.nm_book.specs.Book.{BookValue, state_of}
 use Rattle.nm_peers.specs.Listeners.{AreListeners}
 use Rattle.nm_peers.specs.declared.listener.Listener.{Listener}

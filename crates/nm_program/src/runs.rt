@@ -8,7 +8,7 @@ ghost use Rattle.nm_base.specs.declared.limits.TheConstants.{MAX_WORKERS};
 ghost use Rattle.nm_files.specs.Outputs.{Files};
 ghost use Rattle.nm_run.specs.Faults.{HasReason, IsOfFiles};
 ghost use Rattle.nm_run.specs.Report.{AreTotals, IsCertifiedRun};
-ghost use Rattle.nm_sim.specs.Records.{totals_of};
+ghost use Rattle.nm_sim.specs.Totals.{totals_of};
 ghost use Rattle.nm_sim.specs.Trace.{IsTraceBefore};
 ghost use Rattle.nm_topology.specs.PartValues.{IfaceValue};
 ghost use Rattle.nm_topology.specs.Topology.{topology_of};

@@ -12,8 +12,9 @@ use Rattle.nm_model.specs.Replica.{IsUnderAll, IsWithin, from_scratch}
 use Rattle.nm_sim.specs.Network.{net_of}
 use Rattle.nm_topology.specs.Topology.{channel_from, receiving_iface}
 use Rattle.nm_topology.specs.TopologyValue.{TopologyValue}
-use Rattle.nm_book.specs.Book.{BookValue, Learns, LearnsIf, knowledge, knowledge_of, known_at, message_channel, message_taken, sent_over, state_of}
-use Rattle.nm_book.specs.Laws.{AreSisters}
+use Rattle.nm_book.specs.Book.{BookValue, knowledge, knowledge_of, known_at, message_channel, sent_over, state_of}
+use Rattle.nm_book.specs.Accepting.{Learns, LearnsIf, message_taken}
+use Rattle.nm_book.specs.Sisters.{AreSisters}
 use Rattle.nm_book.specs.Merging.{MergesChannels}
 use Rattle.nm_book.specs.Running.{Runs}
 use Rattle.nm_book.specs.declared.fault.AcceptFault.{AcceptFault}

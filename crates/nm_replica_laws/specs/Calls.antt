@@ -3,7 +3,8 @@ use Rattle.std.specs.Prelude.{◌≡◌, ℕ, ◌≤◌, List, [], ◌∷◌, sl
 use Rattle.nm_base.specs.declared.fault.Fault.{Fault}
 use Rattle.nm_knowledge.specs.declared.answer.Accepted.{Accepted}
 use Rattle.nm_model.specs.Knowledge.{IsKnow, Know, nothing_known}
-use Rattle.nm_book.specs.Book.{BookValue, Takes, message_channel, message_taken}
+use Rattle.nm_book.specs.Book.{BookValue, message_channel}
+use Rattle.nm_book.specs.Accepting.{Takes, message_taken}
 use Rattle.nm_book.specs.Merging.{BookMerges, KnowledgeValue}
 use Rattle.nm_book.specs.Running.{Runs}
 use Rattle.nm_book.specs.declared.fault.AcceptFault.{AcceptFault}

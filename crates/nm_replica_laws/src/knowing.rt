@@ -5,7 +5,7 @@ ghost use Rattle.nm_model.specs.Replica.{IsWithin};
 ghost use Rattle.nm_model.specs.Run.{pends_before};
 ghost use Rattle.nm_sim.specs.Network.{net_of};
 ghost use Rattle.nm_book.specs.Book.{BookValue, knowledge, safe_of, state_of};
-ghost use Rattle.nm_book.specs.Laws.{KnowTheSame};
+ghost use Rattle.nm_book.specs.Sisters.{KnowTheSame};
 
 use nm_base::Packet;
 use nm_forward::NodeState;

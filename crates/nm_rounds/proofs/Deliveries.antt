@@ -16,7 +16,8 @@ use Rattle.nm_model.specs.Lists.{nth, set_at}
 use Rattle.nm_model.specs.Partition.{comes_in, receiver_of}
 use Rattle.nm_model.specs.World as model
 use Rattle.nm_sim.specs.Network.{net_of}
-use Rattle.nm_book.specs.Book.{BookValue, IsNotLearned, LearnsIf, Learns, Takes, is_incoming, is_replica, knowledge_of, message_channel, message_taken, only_if}
+use Rattle.nm_book.specs.Book.{BookValue, is_incoming, is_replica, knowledge_of, message_channel, only_if}
+use Rattle.nm_book.specs.Accepting.{IsNotLearned, LearnsIf, Learns, Takes, message_taken}
 use Rattle.nm_book.specs.declared.message.ChannelMessage.{ChannelMessage}
 use Rattle.nm_book.specs.declared.message.ChannelMessage.TheVariants.{Data as DataMessage, Null as NullMessage}
 use Rattle.nm_book.specs.declared.fault.AcceptFault.TheVariants.{Known, Stranger}

@@ -18,7 +18,7 @@ use Rattle.nm_model.specs.Run.{one_list, pends_before}
 use Rattle.nm_model.specs.World as model
 use Rattle.nm_sim.specs.Network.{net_of}
 use Rattle.nm_book.specs.Book.{BookValue, is_incoming, is_outgoing, knowledge, knowledge_of, promise_on, replica_of, safe_of, sent_over, state_of}
-use Rattle.nm_book.specs.Laws.{KnowTheSame}
+use Rattle.nm_book.specs.Sisters.{KnowTheSame}
 use Rattle.nm_book.proofs.Incoming.{stop_is}
 use Rattle.nm_book.proofs.Sisters.{back, over, same_at}
 use Rattle.nm_book.proofs.Tellings.{known_here}

@@ -7,7 +7,8 @@ use Rattle.nm_knowledge.specs.declared.answer.KnowFault.TheVariants as fault
 use Rattle.nm_model.specs.Accept as accept
 use Rattle.nm_model.specs.Knowledge.{Know, nothing_known}
 use Rattle.nm_model.specs.Lists.{nth}
-use Rattle.nm_book.specs.Book.{message_channel, message_taken}
+use Rattle.nm_book.specs.Book.{message_channel}
+use Rattle.nm_book.specs.Accepting.{message_taken}
 use Rattle.nm_book.specs.declared.message.ChannelMessage.{ChannelMessage}
 use Rattle.nm_book.specs.declared.message.ChannelMessage.TheVariants.{Data as DataMessage, Null as NullMessage}
 

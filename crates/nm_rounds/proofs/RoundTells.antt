@@ -5,7 +5,8 @@ use Rattle.nm_knowledge.specs.declared.answer.Accepted.{Accepted}
 use Rattle.nm_knowledge.specs.declared.answer.KnowFault.{KnowFault}
 use Rattle.nm_knowledge.specs.declared.answer.KnowFault.TheVariants as fault
 use Rattle.nm_model.specs.Knowledge.{Know, nothing_known}
-use Rattle.nm_book.specs.Book.{BookValue, IsNotLearned, Learns, LearnsIf, Takes, is_incoming, message_channel, message_taken}
+use Rattle.nm_book.specs.Book.{BookValue, is_incoming, message_channel}
+use Rattle.nm_book.specs.Accepting.{IsNotLearned, Learns, LearnsIf, Takes, message_taken}
 use Rattle.nm_book.specs.declared.message.ChannelMessage.{ChannelMessage}
 use Rattle.nm_book.specs.declared.message.ChannelMessage.TheVariants.{Data as DataMessage, Null as NullMessage}
 use Rattle.nm_book.specs.declared.fault.AcceptFault.TheVariants.{Known, Stranger}

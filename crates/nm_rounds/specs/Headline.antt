@@ -16,7 +16,7 @@ use Rattle.nm_model.specs.Run.{one_list, pends_before}
 use Rattle.nm_sim.specs.Network.{net_of}
 use Rattle.nm_sim.specs.Trace.{IsTraceBefore}
 use Rattle.nm_book.specs.Book.{BookValue, is_incoming, is_outgoing, promise_on, safe_of, sent_over, state_of}
-use Rattle.nm_book.specs.Laws.{AreSisters, KnowTheSame}
+use Rattle.nm_book.specs.Sisters.{AreSisters, KnowTheSame}
 use Rattle.nm_rounds.specs.declared.step.StepAnswer.{StepAnswer}
 use Rattle.nm_rounds.specs.declared.step.StepAnswer.TheVariants.{All, Limit, Frames, Accepted, Refused, Merged, MergeRefused, Emptied}
 

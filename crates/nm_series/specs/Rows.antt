@@ -6,8 +6,7 @@ use Rattle.nm_model.specs.Run.{State, one_list}
 use Rattle.nm_topology.specs.PartValues.{IfaceValue}
 use Rattle.nm_topology.specs.TopologyValue.{TopologyValue}
 use Rattle.nm_sim.specs.Network.{net_of}
-use Rattle.nm_measure.specs.Amounts.{traffic_of}
-use Rattle.nm_measure.specs.Measured.{drops_of}
+use Rattle.nm_measure.specs.Amounts.{traffic_of, drops_of}
 use Rattle.nm_measure.specs.declared.amounts.IfaceTraffic.{IfaceTraffic}
 use Rattle.nm_measure.specs.declared.totals.IfaceTotals.{IfaceTotals}
 use Rattle.nm_series.specs.declared.iface_rows.IfaceSeen.{IfaceSeen}

@@ -16,7 +16,8 @@ use Rattle.nm_knowledge.specs.Octets.{same_octets}
 use Rattle.nm_knowledge.specs.declared.answer.Accepted.{Accepted}
 use Rattle.nm_knowledge.specs.declared.answer.Accepted.TheVariants.{New, Known as IsKnown, Raised}
 use Rattle.nm_sim.specs.Network.{far_from, net_of}
-use Rattle.nm_book.specs.Book.{BookValue, Learns, LearnsIf, Takes, message_channel, message_taken}
+use Rattle.nm_book.specs.Book.{BookValue, message_channel}
+use Rattle.nm_book.specs.Accepting.{Learns, LearnsIf, Takes, message_taken}
 use Rattle.nm_book.specs.declared.fault.AcceptFault.{AcceptFault}
 use Rattle.nm_book.specs.declared.fault.AcceptFault.TheVariants.{Known}
 use Rattle.nm_book.specs.declared.message.ChannelMessage.{ChannelMessage}
@@ -25,7 +26,8 @@ use Rattle.nm_book.specs.Running.{Runs}
 use Rattle.nm_book.specs.declared.running.Ran.{Ran}
 use Rattle.nm_book.specs.declared.running.Ran.TheVariants.{All, Limit, Memory}
 use Rattle.nm_shared.specs.Counted.{Meets, Rises}
-use Rattle.nm_shared.specs.Known.{HasAllChannels, Home, messages_below, messages_known, news}
+use Rattle.nm_shared.specs.Known.{HasAllChannels, messages_below, messages_known, news}
+use Rattle.nm_shared.specs.Home.{Home}
 
 abbrev count_at : List (Know (List ℕ)) → ℕ → ℕ
 count_at knows c = length (slice_index_or knows c nothing_known).list

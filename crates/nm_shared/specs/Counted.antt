@@ -3,7 +3,8 @@ use Rattle.std.specs.Prelude.{◌≡◌, ℕ, ◌+◌, ◌-◌, ◌^◌, ◌<◌
 use Rattle.nm_model.specs.Replica.{IsWithin}
 use Rattle.nm_sim.specs.Network.{net_of}
 use Rattle.nm_book.specs.Book.{BookValue, knowledge}
-use Rattle.nm_shared.specs.Known.{Grows, HasAllChannels, Home, home_of, messages_known}
+use Rattle.nm_shared.specs.Known.{Grows, HasAllChannels, messages_known}
+use Rattle.nm_shared.specs.Home.{Home, home_of}
 
 -- n is added to a; where counts aren't exact, only if the sum fits 64 bits
 abbrev pub Rises : Bool → ℕ → ℕ → ℕ → Type 0

@@ -13,7 +13,8 @@ use Rattle.nm_model.specs.Partition.{comes_in}
 use Rattle.nm_knowledge.specs.Octets.{same_octets}
 use Rattle.nm_knowledge.specs.declared.answer.Accepted.{Accepted}
 use Rattle.nm_sim.specs.Network.{net_of}
-use Rattle.nm_book.specs.Book.{BookValue, Learns, LearnsIf, Takes, message_channel, message_taken}
+use Rattle.nm_book.specs.Book.{BookValue, message_channel}
+use Rattle.nm_book.specs.Accepting.{Learns, LearnsIf, Takes, message_taken}
 use Rattle.nm_book.specs.Merging.{AreJoined, BookMerges, KnowledgeValue, MergesChannels, joined_at}
 use Rattle.nm_book.specs.Running.{Runs}
 use Rattle.nm_book.specs.declared.fault.AcceptFault.{AcceptFault}

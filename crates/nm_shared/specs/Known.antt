@@ -8,22 +8,10 @@ use Rattle.nm_knowledge.specs.declared.answer.Accepted.{Accepted}
 use Rattle.nm_knowledge.specs.declared.answer.Accepted.TheVariants.{New, Known, Raised}
 use Rattle.nm_sim.specs.Network.{net_of}
 use Rattle.nm_book.specs.Book.{BookValue}
+use Rattle.nm_shared.specs.Home.{home_of}
 use Rattle.nm_book.specs.declared.fault.AcceptFault.{AcceptFault}
 use Rattle.nm_book.specs.declared.running.Ran.{Ran}
 use Rattle.nm_book.specs.declared.running.Ran.TheVariants.{All, Limit, Memory}
-
--- which replica it is
-pub record Home : Type 0 where
-  pub topology : TopologyValue
-  pub partition : ℕ
-  pub replica : ℕ
-
--- of a network's partition the replica of this number
-abbrev pub home_at : TopologyValue → (partition replica : ℕ) → Home
-home_at t partition replica = record { topology = t; partition = partition; replica = replica }
-
-abbrev pub home_of : BookValue → Home
-home_of b = record { topology = b.topology; partition = b.partition; replica = b.replica }
 
 module _ (t : TopologyValue) (p : ℕ) (knows : List (Know (List ℕ))) where
   -- how many messages are known of channel c, if it comes into the partition

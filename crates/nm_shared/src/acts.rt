@@ -2,7 +2,8 @@
 
 ghost use Rattle.std.specs.Prelude.{◌≡◌, ◌+◌, IfOk, if◌then◌else◌, is_some, slice_get, None, Some};
 ghost use Rattle.nm_model.specs.Promise.{Plain, Tight};
-ghost use Rattle.nm_book.specs.Book.{Takes, is_outgoing, message_channel, message_taken, null_on};
+ghost use Rattle.nm_book.specs.Book.{is_outgoing, message_channel, null_on};
+ghost use Rattle.nm_book.specs.Accepting.{Takes, message_taken};
 ghost use Rattle.nm_book.specs.Book.{only_if, state_of};
 ghost use Rattle.nm_book.specs.Merging.{BookMerges};
 ghost use Rattle.nm_book.specs.Running.{Runs};

@@ -1,10 +1,12 @@
 //! The calls of a shared book that a pass counts, and what it counts of them.
 
 ghost use Rattle.std.specs.Prelude.{◌≡◌, ◌+◌, ◌≤◌, true};
-ghost use Rattle.nm_book.specs.Book.{BookValue, Takes, message_channel, message_taken};
+ghost use Rattle.nm_book.specs.Book.{BookValue, message_channel};
+ghost use Rattle.nm_book.specs.Accepting.{Takes, message_taken};
 ghost use Rattle.nm_book.specs.Running.{Runs};
 ghost use Rattle.nm_shared.specs.Counted.{Meets};
-ghost use Rattle.nm_shared.specs.Known.{home_of, messages_known, news, ran};
+ghost use Rattle.nm_shared.specs.Known.{messages_known, news, ran};
+ghost use Rattle.nm_shared.specs.Home.{home_of};
 
 use crate::acts::{Accept, Amounts, Look, Run};
 use crate::counts::Counts;

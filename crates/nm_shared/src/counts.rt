@@ -2,7 +2,7 @@
 
 ghost use Rattle.std.specs.Prelude.{◌≡◌, ℕ, ◌+◌, ◌^◌, ◌<◌, ◌≤◌, Bool, true};
 ghost use Rattle.nm_shared.specs.Counted.{Rises};
-ghost use Rattle.nm_shared.specs.Known.{Home};
+ghost use Rattle.nm_shared.specs.Home.{Home};
 
 /// Into how many parts the right to count is cut. Each pass has one.
 pub const PARTS: u64 = 1 << 32;

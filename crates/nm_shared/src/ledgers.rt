@@ -10,7 +10,7 @@ use std::sync::ledger::{Blank, Book as Account, Ledger, Share};
 /// Names one book: its ledger of messages, and which replica it is. A pass of another book is of
 /// another type.
 pub trait Naming: Ledger {
-    ghost use Rattle.nm_shared.specs.Known.{Home};
+    ghost use Rattle.nm_shared.specs.Home.{Home};
 
     ghost home: { Home };
 }

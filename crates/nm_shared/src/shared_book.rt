@@ -8,7 +8,8 @@ ghost use Rattle.nm_book.specs.Book.{BookValue, is_replica};
 ghost use Rattle.nm_base.specs.declared.fault.Fault.TheVariants.{Refused};
 ghost use Rattle.nm_book.specs.declared.fault.BookRefusal.TheVariants.{NoSuch};
 ghost use Rattle.nm_shared.specs.Counted.{Meets, Rises};
-ghost use Rattle.nm_shared.specs.Known.{Grows, HasAllChannels, home_of, messages_known};
+ghost use Rattle.nm_shared.specs.Known.{Grows, HasAllChannels, messages_known};
+ghost use Rattle.nm_shared.specs.Home.{home_of};
 
 use crate::act::Act;
 use crate::counts::{Counts, PARTS};

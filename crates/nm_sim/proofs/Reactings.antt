@@ -14,7 +14,8 @@ use Rattle.nm_forward.specs.State.{IsIfaceOf, NodeStateValue, table_of, table_fr
 use Rattle.nm_forward.specs.Originate.{Consequence, Nothing, Counts, Sends, Originates, concluded}
 use Rattle.nm_forward.specs.declared.reaction.Reaction.{Reaction}
 use Rattle.nm_forward.specs.declared.reaction.Reaction.TheVariants as sent
-use Rattle.nm_forward.specs.Reaction.{IsReaction, IsSent, arrived, handed, handed_by, iface_of, reaction}
+use Rattle.nm_forward.specs.Reaction.{arrived, handed, handed_by, reaction}
+use Rattle.nm_forward.specs.Reacting.{IsReaction, IsSent, iface_of}
 use Rattle.nm_sim.specs.Devices.{DevicesValue, DevicesRepresent, IsNodeOf, IsPortOf}
 use Rattle.nm_sim.specs.Network.{is_iface_here, is_node_here, net_of}
 use Rattle.nm_sim.specs.Tables.{IsMember}

@@ -11,7 +11,8 @@ use Rattle.nm_model.specs.Lists.{keep_where}
 use Rattle.nm_model.proofs.ListLemmas.{kept-append, not_some, some_inj}
 use Rattle.nm_pcap.specs.declared.format.TheConstants.{FILE_HEADER_OCTETS, RECORD_HEADER_OCTETS}
 use Rattle.nm_pcap.specs.Format.{file_header, pcap, record_header, record_octets}
-use Rattle.nm_sim.specs.Records.{RecordsRepresent, RecordsValue, total_after, totals_of}
+use Rattle.nm_sim.specs.Records.{RecordsRepresent, RecordsValue}
+use Rattle.nm_sim.specs.Totals.{total_after, totals_of}
 
 -- the trace file of one more record
 file_more : (own : List (Record (List ℕ))) (r : Record (List ℕ)) → length (pcap (own ++ r ∷ [])) ≡ length (pcap own) + (RECORD_HEADER_OCTETS + length r.packet)

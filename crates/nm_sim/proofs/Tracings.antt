@@ -16,7 +16,8 @@ use Rattle.nm_model.specs.Network.{Net}
 use Rattle.nm_model.specs.Run.{State, one_list, pends_before, step_at}
 use Rattle.nm_sim.specs.Network.{net_of}
 use Rattle.nm_sim.specs.Part.{Advanced, PartValue, Represents}
-use Rattle.nm_sim.specs.Trace.{IsTraceBefore, IsTracing, ShowsAt}
+use Rattle.nm_sim.specs.Trace.{IsTraceBefore}
+use Rattle.nm_sim.specs.Tracing.{IsTracing, ShowsAt}
 
 module _ {P N : Type 0} (net : Net P N) where
   stays_in_step : (s : State P N) (o : Option (Key × Event P)) → (more : List (Record P)) × ((step_at net (λ q. true) s o).records ≡ s.records ++ more)

@@ -15,7 +15,8 @@ use Rattle.nm_model.specs.Port.{Port}
 use Rattle.nm_model.specs.Run.{Effect, effect, sent_on, turned}
 use Rattle.nm_forward.specs.State.{NodeStateValue}
 use Rattle.nm_forward.specs.declared.reaction.Reaction.{Reaction}
-use Rattle.nm_forward.specs.Reaction.{FitsOrigin, IsSent, reaction}
+use Rattle.nm_forward.specs.Reaction.{FitsOrigin, reaction}
+use Rattle.nm_forward.specs.Reacting.{IsSent}
 use Rattle.nm_iface.specs.PortValue.{PortValue}
 use Rattle.nm_iface.specs.declared.port.Start.{Start}
 use Rattle.nm_iface.specs.Offers.{IsTransmission}

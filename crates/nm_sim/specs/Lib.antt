@@ -4,6 +4,8 @@ pub mod Tables
 pub mod Devices
 pub mod Effects
 pub mod Outgoing
+pub mod Totals
 pub mod Records
 pub mod Part
 pub mod Trace
+pub mod Tracing

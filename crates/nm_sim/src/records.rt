@@ -8,7 +8,8 @@ ghost use Rattle.nm_base.specs.declared.record.Record.{Record as TraceRecord};
 ghost use Rattle.nm_model.specs.Run.{in_record, out_record};
 ghost use Rattle.nm_pcap.specs.declared.format.TheConstants.{FILE_HEADER_OCTETS};
 ghost use Rattle.nm_topology.specs.TopologyValue.{TopologyValue};
-ghost use Rattle.nm_sim.specs.Records.{RecordsRepresent, total_after, totals_at};
+ghost use Rattle.nm_sim.specs.Records.{RecordsRepresent};
+ghost use Rattle.nm_sim.specs.Totals.{total_after, totals_at};
 
 use nm_base::{Dir, IfaceNo, Packet, Record, Time};
 use nm_pcap::format::{FILE_HEADER_OCTETS, RECORD_HEADER_OCTETS};

@@ -3,7 +3,8 @@
 ghost use Rattle.std.specs.Prelude.{◌≡◌, List, [], ℕ, IfOk};
 ghost use Rattle.nm_base.specs.declared.record.Record.{Record as TraceRecord};
 ghost use Rattle.nm_events.specs.Held.{pending_of};
-ghost use Rattle.nm_sim.specs.Trace.{ShowsNext, IsTraceBefore, IsTracing};
+ghost use Rattle.nm_sim.specs.Trace.{IsTraceBefore};
+ghost use Rattle.nm_sim.specs.Tracing.{ShowsNext, IsTracing};
 
 use crate::network::every_topology_is_a_network;
 use crate::part::Part;

@@ -16,7 +16,7 @@ use Rattle.nm_pcap.specs.declared.format.TheConstants.{FILE_HEADER_OCTETS}
 use Rattle.nm_topology.specs.PartValues.{IfaceValue}
 use Rattle.nm_topology.specs.TopologyValue.{TopologyValue}
 use Rattle.nm_sim.specs.Network.{net_of}
-use Rattle.nm_sim.specs.Records.{totals_at, totals_of}
+use Rattle.nm_sim.specs.Totals.{totals_at, totals_of}
 use Rattle.nm_sim.specs.Trace.{IsTraceBefore}
 use Rattle.nm_book.specs.Book.{BookValue, state_of}
 use Rattle.nm_book.proofs.Incoming.{ifaces_are}

@@ -5,7 +5,7 @@ use Rattle.std.proofs.Math.Seq.{take-add}
 use Rattle.std.proofs.lemmas.List.Elements.{All-drop, All-take}
 use Rattle.nm_base.specs.declared.record.Record.{Record}
 use Rattle.nm_sim.specs.Records.{RecordsValue}
-use Rattle.nm_sim.specs.Trace.{ShowsNext}
+use Rattle.nm_sim.specs.Tracing.{ShowsNext}
 
 -- how many records were shown
 abbrev pub shown : RecordsValue → ℕ

@@ -5,7 +5,7 @@ use Rattle.nm_model.specs.Partition.{receiver_of}
 use Rattle.nm_topology.specs.PartValues.{IfaceValue}
 use Rattle.nm_topology.specs.TopologyValue.{TopologyValue}
 use Rattle.nm_sim.specs.Network.{net_of}
-use Rattle.nm_sim.specs.Records.{totals_of}
+use Rattle.nm_sim.specs.Totals.{totals_of}
 use Rattle.nm_book.specs.Book.{BookValue, state_of}
 
 abbrev pub iface_line : IfaceValue → ℕ × ℕ → List ℕ

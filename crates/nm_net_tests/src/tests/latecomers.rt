@@ -3,7 +3,7 @@
 ghost use Rattle.std.specs.Prelude.{◌≡◌, ◌^◌};
 ghost use Rattle.std.specs.Arc.{arc_value};
 ghost use Rattle.nm_shared.specs.Counted.{IsBlankOf};
-ghost use Rattle.nm_shared.specs.Known.{home_at};
+ghost use Rattle.nm_shared.specs.Home.{home_at};
 
 use crate::tests::callers::shared_of;
 use crate::tests::messages::{message, null};

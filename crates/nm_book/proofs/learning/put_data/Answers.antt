@@ -3,7 +3,7 @@ use Rattle.std.proofs.lemmas.Bool.Decides.{nat_tests}
 use Rattle.nm_model.specs.Knowledge.{Know, nothing_known}
 use Rattle.nm_knowledge.specs.Octets.{same_octets}
 use Rattle.nm_knowledge.proofs.Nexts.{data_is_new, new_is_next}
-use Rattle.nm_book.specs.Book.{IsBook}
+use Rattle.nm_book.specs.BookPart.{IsBook}
 use Rattle.nm_book.specs.Telling.{told_one}
 use Rattle.nm_book.proofs.learning.put_data.Goals as goal
 

@@ -7,7 +7,8 @@ use Rattle.nm_model.specs.Knowledge.{Know}
 use Rattle.nm_model.specs.Replica.{from_scratch}
 use Rattle.nm_sim.specs.Network.{net_of}
 use Rattle.nm_sim.specs.Part.{Represents, with_arrival}
-use Rattle.nm_book.specs.Book.{knowledge_of, pending_in}
+use Rattle.nm_book.specs.Book.{knowledge_of}
+use Rattle.nm_book.specs.BookPart.{pending_in}
 use Rattle.nm_book.specs.Telling.{known_of}
 use Rattle.nm_book.proofs.Tellings.{known_here, more_is_over, told_data}
 use Rattle.nm_book.proofs.learning.put_message.Goals as goal

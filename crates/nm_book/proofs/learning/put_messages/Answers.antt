@@ -1,6 +1,6 @@
 use Rattle.std.proofs.Common.{◌≡◌, ◌∷◌, [], length, rules, arith, sym, ◌∙◌, ap, subst, refl}
 use Rattle.std.specs.Vec.Iter.{into_iter_items}
-use Rattle.nm_book.specs.Book.{IsBook}
+use Rattle.nm_book.specs.BookPart.{IsBook}
 use Rattle.nm_book.specs.Telling.{Follow, told_each, told_one}
 use Rattle.nm_book.proofs.Gatherings.{none_left}
 use Rattle.nm_book.proofs.learning.put_messages.Goals as goal

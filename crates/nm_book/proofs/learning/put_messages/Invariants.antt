@@ -1,7 +1,7 @@
 use Rattle.std.proofs.Common.{◌≡◌, ◌≤◌, ℕ, List, length}
 use Rattle.std.specs.Vec.Iter.{into_iter_items}
 use Rattle.nm_model.specs.Knowledge.{Know}
-use Rattle.nm_book.specs.Book.{IsBook, room_in}
+use Rattle.nm_book.specs.BookPart.{IsBook, room_in}
 use Rattle.nm_book.specs.Telling.{Follow, told_each}
 use Rattle.nm_book.proofs.learning.put_messages.Given as goal
 

@@ -3,7 +3,7 @@ use Rattle.nm_topology.specs.Topology.{channel_from, receiving_iface}
 use Rattle.nm_model.specs.Accept.{accept_null}
 use Rattle.nm_model.specs.Knowledge.{Know, nothing_known}
 use Rattle.nm_sim.specs.Network.{net_of}
-use Rattle.nm_book.specs.Book.{IsBook}
+use Rattle.nm_book.specs.BookPart.{IsBook}
 use Rattle.nm_book.proofs.Tellings.{read_known, told_clock, told_null}
 use Rattle.nm_book.proofs.learning.take_null.Goals as goal
 

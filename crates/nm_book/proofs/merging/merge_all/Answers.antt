@@ -1,7 +1,7 @@
 use Rattle.std.proofs.Common.{Some, length, subst, refl, rules}
 use Rattle.nm_topology.specs.Topology.{receiving_iface}
 use Rattle.nm_sim.specs.Network.{net_of}
-use Rattle.nm_book.specs.Book.{IsBook}
+use Rattle.nm_book.specs.BookPart.{IsBook}
 use Rattle.nm_book.specs.Merging.{AreGains, AreJoinable, AreJoined, AreTold}
 use Rattle.nm_book.specs.Telling.{Follow, told_each}
 use Rattle.nm_book.proofs.Gatherings.{joined_book}

@@ -5,7 +5,8 @@ use Rattle.nm_model.specs.Run.{pends_before}
 use Rattle.nm_model.specs.World.{advance}
 use Rattle.nm_sim.specs.Network.{net_of}
 use Rattle.nm_sim.specs.Part.{Advanced, events_counted}
-use Rattle.nm_book.specs.Book.{knowledge_of, pending_in}
+use Rattle.nm_book.specs.Book.{knowledge_of}
+use Rattle.nm_book.specs.BookPart.{pending_in}
 use Rattle.nm_book.proofs.Incoming.{stop_is}
 use Rattle.nm_book.proofs.Runnings.{one_more, ran_whole, still_book}
 use Rattle.nm_book.proofs.running.run_part.Goals as goal

@@ -2,7 +2,8 @@ use Rattle.std.proofs.Common.{◌≡◌, ◌+◌, ◌-◌, ◌≤◌, ℕ, List}
 use Rattle.nm_model.specs.Knowledge.{Know}
 use Rattle.nm_model.specs.Replica.{safe_time}
 use Rattle.nm_sim.specs.Network.{net_of}
-use Rattle.nm_book.specs.Book.{IsBook, knowledge_of}
+use Rattle.nm_book.specs.Book.{knowledge_of}
+use Rattle.nm_book.specs.BookPart.{IsBook}
 use Rattle.nm_book.proofs.running.run_part.Given as goal
 
 abbrev pub invariant-loop-done : goal.invariant-loop-done

@@ -5,7 +5,8 @@ use Rattle.nm_forward.specs.declared.reaction.Reaction.TheVariants.{Refused}
 use Rattle.nm_forward.specs.declared.row.Row.TheVariants.{Forward}
 use Rattle.nm_forward.specs.Row.{packet_row, row_counter}
 use Rattle.nm_forward.specs.State.{state_counted}
-use Rattle.nm_forward.specs.Reaction.{IsReaction, arrived}
+use Rattle.nm_forward.specs.Reaction.{arrived}
+use Rattle.nm_forward.specs.Reacting.{IsReaction}
 use Rattle.nm_forward.proofs.Refusing.{refused-is}
 use Rattle.nm_forward.proofs.reaction.receive.Goals as goal
 

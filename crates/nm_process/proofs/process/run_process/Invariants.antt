@@ -1,5 +1,5 @@
 use Rattle.std.specs.Arc.{arc_value}
-use Rattle.nm_shared.specs.Known.{home_at}
+use Rattle.nm_shared.specs.Home.{home_at}
 use Rattle.nm_process.proofs.process.run_process.Given as goal
 
 abbrev pub ghosts-run_named-M-Naming : goal.ghosts-run_named-M-Naming

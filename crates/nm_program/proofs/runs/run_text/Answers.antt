@@ -1,5 +1,5 @@
 use Rattle.std.proofs.Common.{◌<◌, ◌≤◌, length, codes, arith, rules}
-use Rattle.nm_sim.specs.Records.{totals_of}
+use Rattle.nm_sim.specs.Totals.{totals_of}
 use Rattle.nm_words.specs.Lines.{iface_line}
 use Rattle.nm_words.proofs.InterfaceLines.{all_given, one_given}
 use Rattle.nm_program.proofs.runs.run_text.Goals as goal

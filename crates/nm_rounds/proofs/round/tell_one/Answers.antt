@@ -1,5 +1,6 @@
 use Rattle.std.proofs.Common.{Err, subst}
-use Rattle.nm_book.specs.Book.{Takes, message_channel, message_taken}
+use Rattle.nm_book.specs.Book.{message_channel}
+use Rattle.nm_book.specs.Accepting.{Takes, message_taken}
 use Rattle.nm_rounds.proofs.RoundTells.{refused, where_ok}
 use Rattle.nm_rounds.proofs.round.tell_one.Goals as goal
 

@@ -2,7 +2,7 @@ use Rattle.std.proofs.Common.{◌≡◌, length, Ok, take, ap, sym, subst, arith
 use Rattle.std.proofs.lemmas.List.{take_all}
 use Rattle.nm_files.specs.Files.{FilesTook}
 use Rattle.nm_files.proofs.Files.{more_records, no_records}
-use Rattle.nm_sim.specs.Trace.{ShowsNext}
+use Rattle.nm_sim.specs.Tracing.{ShowsNext}
 use Rattle.nm_words.proofs.Showings.{all_shown, next_shown, shown}
 use Rattle.nm_words.proofs.all.record_all.Goals as goal
 

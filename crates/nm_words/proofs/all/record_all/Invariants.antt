@@ -2,7 +2,8 @@ use Rattle.std.proofs.Common.{ℕ, List, take}
 use Rattle.nm_base.specs.declared.record.Record.{Record}
 use Rattle.nm_events.specs.Held.{pending_of}
 use Rattle.nm_files.specs.Files.{FilesTook}
-use Rattle.nm_sim.specs.Trace.{IsTraceBefore, IsTracing}
+use Rattle.nm_sim.specs.Trace.{IsTraceBefore}
+use Rattle.nm_sim.specs.Tracing.{IsTracing}
 use Rattle.nm_words.proofs.Showings.{shown}
 use Rattle.nm_words.proofs.all.record_all.Given as goal
 

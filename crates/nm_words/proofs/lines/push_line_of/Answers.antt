@@ -2,7 +2,7 @@ use Rattle.std.proofs.Common.{◌≡◌, length, get_or, slice_get, Some, rules,
 use Rattle.std.proofs.lemmas.Option.{slice_get_read}
 use Rattle.nm_model.specs.Partition.{receiver_of}
 use Rattle.nm_sim.specs.Network.{net_of}
-use Rattle.nm_sim.specs.Records.{totals_at}
+use Rattle.nm_sim.specs.Totals.{totals_at}
 use Rattle.nm_book.specs.Book.{state_of}
 use Rattle.nm_words.proofs.InterfaceLines.{book_there, line_is, on_ok}
 use Rattle.nm_words.proofs.lines.push_line_of.Goals as goal

@@ -1,5 +1,5 @@
 use Rattle.nm_events.specs.Held.{pending_of}
-use Rattle.nm_sim.specs.Trace.{IsTracing}
+use Rattle.nm_sim.specs.Tracing.{IsTracing}
 use Rattle.nm_words.specs.Shown.{ArePacketLines}
 use Rattle.nm_words.proofs.shown.packets_text.Given as goal
 

@@ -1,6 +1,6 @@
 use Rattle.std.proofs.Common.{length, Err, Ok, refl, ap, subst, arith}
 use Rattle.std.proofs.lemmas.Result.{err_from_is_err_and}
-use Rattle.nm_sim.specs.Trace.{ShowsNext}
+use Rattle.nm_sim.specs.Tracing.{ShowsNext}
 use Rattle.nm_files.proofs.Records.{all_records, last_records, next_records, no_record, some_records}
 use Rattle.nm_files.specs.TraceFile.{written_at}
 use Rattle.nm_files.specs.Writing.{WritesOn, WroteOn}

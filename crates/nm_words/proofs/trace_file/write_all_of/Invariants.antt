@@ -1,7 +1,8 @@
 use Rattle.std.proofs.Common.{◌≡◌, ℕ, false, List, take}
 use Rattle.nm_base.specs.declared.record.Record.{Record}
 use Rattle.nm_events.specs.Held.{pending_of}
-use Rattle.nm_sim.specs.Trace.{IsTraceBefore, IsTracing}
+use Rattle.nm_sim.specs.Trace.{IsTraceBefore}
+use Rattle.nm_sim.specs.Tracing.{IsTracing}
 use Rattle.nm_files.specs.Writing.{WroteOn}
 use Rattle.nm_files.specs.TraceFile.{written_at}
 use Rattle.nm_words.specs.Traces.{going}

@@ -1,5 +1,5 @@
 use Rattle.std.specs.Arc.{arc_value}
-use Rattle.nm_shared.specs.Known.{home_at}
+use Rattle.nm_shared.specs.Home.{home_at}
 use Rattle.nm_net_tests.proofs.tests.latecomers.made.Given as goal
 
 abbrev pub ghosts-made_of-M-Naming : goal.ghosts-made_of-M-Naming

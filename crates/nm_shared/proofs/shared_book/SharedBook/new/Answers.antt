@@ -1,7 +1,7 @@
 use Rattle.std.proofs.Common.{rules, sym, ap, ◌∙◌}
 use Rattle.std.specs.Arc.{arc_value}
 use Rattle.nm_book.specs.Book.{BookValue}
-use Rattle.nm_shared.specs.Known.{home_of}
+use Rattle.nm_shared.specs.Home.{home_of}
 use Rattle.nm_shared.proofs.Fresh.{fresh_has_all, fresh_knows}
 use Rattle.nm_shared.proofs.shared_book.SharedBook.new.Goals as goal
 

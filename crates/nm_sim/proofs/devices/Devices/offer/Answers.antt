@@ -1,5 +1,5 @@
 use Rattle.std.proofs.Common.{None, sym, subst}
-use Rattle.nm_forward.specs.Reaction.{IsSent}
+use Rattle.nm_forward.specs.Reacting.{IsSent}
 use Rattle.nm_sim.specs.Effects.{Sends}
 use Rattle.nm_sim.proofs.devices.Devices.offer.Goals as goal
 

@@ -1,7 +1,8 @@
 use Rattle.std.proofs.Common.{◌≡◌, ◌<◌, length, Some, slice_get, slice_set, refl, sym, ap, ◌∙◌, subst, rules}
 use Rattle.std.proofs.lemmas.Option.{slice_get_read}
 use Rattle.std.proofs.lemmas.Result.{IfOk-weaker}
-use Rattle.nm_forward.specs.Reaction.{IsReaction, IsSent, reaction}
+use Rattle.nm_forward.specs.Reaction.{reaction}
+use Rattle.nm_forward.specs.Reacting.{IsReaction, IsSent}
 use Rattle.nm_sim.specs.contracts.devices.Devices.{the_view}
 use Rattle.nm_sim.specs.Devices.{DevicesValue, DevicesRepresentSome}
 use Rattle.nm_sim.specs.Tables.{IsMember}

@@ -1,5 +1,5 @@
 use Rattle.std.proofs.Common.{refl, sym, subst}
-use Rattle.nm_forward.specs.Reaction.{IsSent}
+use Rattle.nm_forward.specs.Reacting.{IsSent}
 use Rattle.nm_sim.specs.Part.{HasReacted, PartValue}
 use Rattle.nm_sim.proofs.Takings.{sends_on}
 use Rattle.nm_sim.proofs.part.Part.send.Goals as goal

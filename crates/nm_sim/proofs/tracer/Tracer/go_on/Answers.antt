@@ -3,7 +3,7 @@ use Rattle.nm_events.specs.Held.{Held, pending_of}
 use Rattle.nm_model.specs.Run.{one_list}
 use Rattle.nm_sim.specs.Network.{net_of}
 use Rattle.nm_sim.specs.Part.{Advanced, PartValue}
-use Rattle.nm_sim.specs.Trace.{IsTracing}
+use Rattle.nm_sim.specs.Tracing.{IsTracing}
 use Rattle.nm_sim.proofs.Recordings.{rest_is_all}
 use Rattle.nm_sim.proofs.Tracings.{shows_after, tracing_after}
 use Rattle.nm_sim.proofs.tracer.Tracer.go_on.Goals as goal
