@@ -134,11 +134,15 @@ impl EventList for SortedList {
         if count <= self.room {
             return Ok(());
         }
-        let total = self.len().checked_add(count).ok_or(AllocError)?;
+        let held = self.len();
+        let total = held.checked_add(count).ok_or(AllocError)?;
+        // And half as many again, since a queue that has few of the events would else be given a
+        // new block for each event by which the list grows.
+        let total = total.saturating_add(total / 2);
         self.completions.reserve_total(total)?;
         self.arrivals.reserve_total(total)?;
         self.sources.reserve_total(total)?;
-        self.room = count;
+        self.room = total - held;
         Ok(())
     }
 
