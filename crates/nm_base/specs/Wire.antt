@@ -1,11 +1,15 @@
 -- What one call of a wire did, by its answer; and what contracts see of a wire in memory.
-use Rattle.std.specs.Prelude.{◌≡◌, ℕ, ◌+◌, ◌-◌, ◌≤◌, if◌then◌else◌, nat_lt, min, List, ◌++◌, length, take, drop}
+use Rattle.std.specs.Prelude.{◌≡◌, ℕ, ◌+◌, ◌-◌, ◌≤◌, if◌then◌else◌, nat_lt, min, List, [], ◌∷◌, ◌++◌, length, take, drop}
 use Rattle.nm_base.specs.declared.wire.Read.{Read}
 use Rattle.nm_base.specs.declared.wire.Read.TheVariants as read
 use Rattle.nm_base.specs.declared.wire.Written.{Written}
 use Rattle.nm_base.specs.declared.wire.Written.TheVariants as written
 use Rattle.nm_base.specs.declared.mem_wire.Ending.{Ending}
 use Rattle.nm_base.specs.declared.mem_wire.Ending.TheVariants as ending
+use Rattle.nm_base.specs.declared.mem_wire.ScriptedRead.{ScriptedRead}
+use Rattle.nm_base.specs.declared.mem_wire.ScriptedRead.TheVariants.{Gives, Answers}
+use Rattle.nm_base.specs.declared.mem_wire.ScriptedWrite.{ScriptedWrite}
+use Rattle.nm_base.specs.declared.mem_wire.ScriptedWrite.TheVariants as scripted
 
 -- what is seen of a wire
 pub record WireSeen : Type 0 where
@@ -49,6 +53,9 @@ module _ (old new : WireSeen) where
 
 -- what contracts see of a wire in memory
 pub record MemoryWire : Type 0 where
+  -- what the next reads and writes do
+  pub reads : List ScriptedRead
+  pub writes : List ScriptedWrite
   -- the octets that it has for its reader, and how many of them it gave
   pub source : List ℕ
   pub at : ℕ
@@ -57,7 +64,7 @@ pub record MemoryWire : Type 0 where
   -- the octets that it took, and how many more it would take
   pub taken : List ℕ
   pub room : ℕ
-  -- the most octets that one call moves
+  -- the most octets that a call past the script moves
   pub piece : ℕ
   -- how often a read found the end, and how often it has failed
   pub ends : ℕ
@@ -76,20 +83,50 @@ memory_seen w = record {
 abbrev pub after_copy : List ℕ → List ℕ → List ℕ
 after_copy octets buffer = octets ++ drop (length octets) buffer
 
+abbrev pub first_or : {X : Type 0} → X → List X → X
+first_or d [] = d
+first_or d (x ∷ xs) = x
+
+abbrev pub tail : {X : Type 0} → List X → List X
+tail [] = []
+tail (x ∷ xs) = xs
+
+-- what the next read and the next write do: what the script says, and past it a piece moves
+abbrev pub next_read : MemoryWire → ScriptedRead
+next_read w = first_or (Gives w.piece) w.reads
+
+abbrev pub next_write : MemoryWire → ScriptedWrite
+next_write w = first_or (scripted.Takes w.piece) w.writes
+
+-- the most octets that these move
+abbrev pub most_given : ScriptedRead → ℕ
+most_given (Gives n) = n
+most_given (Answers e) = 0
+
+abbrev pub most_taken : ScriptedWrite → ℕ
+most_taken (scripted.Takes n) = n
+most_taken scripted.Later = 0
+most_taken scripted.Fault = 0
+
 -- how many octets a read into a buffer of this length moves
 abbrev pub read_count : MemoryWire → ℕ → ℕ
-read_count w buffer = min (min (length w.source - w.at) w.piece) buffer
+read_count w buffer = min (min (length w.source - w.at) (most_given (next_read w))) buffer
 
 -- how many octets a write of so many moves
 abbrev pub write_count : MemoryWire → ℕ → ℕ
-write_count w octets = min (min w.room w.piece) octets
+write_count w octets = min (min w.room (most_taken (next_write w))) octets
+
+-- how a read ends that moves none, on a wire that ends so once all is given
+abbrev pub ending_of : Ending → ScriptedRead → Ending
+ending_of e (Gives n) = e
+ending_of e (Answers said) = said
 
 abbrev pub ending_answer : Ending → Read
 ending_answer ending.End = read.End
 ending_answer ending.Later = read.Later
 ending_answer ending.Fault = read.Fault
 
--- the ends and the failures that a read adds once all is given
+-- the ends and the failures that such a read adds
 abbrev pub ending_ends : Ending → ℕ
 ending_ends ending.End = 1
 ending_ends ending.Later = 0
@@ -100,24 +137,44 @@ ending_failures ending.End = 0
 ending_failures ending.Later = 0
 ending_failures ending.Fault = 1
 
--- the answer of a call that moves n octets, and of a read that moves none: the ending
-abbrev pub read_answer : Ending → ℕ → Read
-read_answer e n = if nat_lt 0 n then read.Got n else ending_answer e
+-- what a write answers that moves none, and the failures that it adds
+abbrev pub refusal_of : ScriptedWrite → Written
+refusal_of (scripted.Takes n) = written.Fault
+refusal_of scripted.Later = written.Later
+refusal_of scripted.Fault = written.Fault
 
-abbrev pub write_answer : ℕ → Written
-write_answer n = if nat_lt 0 n then written.Took n else written.Fault
+abbrev pub refusal_failures : ScriptedWrite → ℕ
+refusal_failures (scripted.Takes n) = 1
+refusal_failures scripted.Later = 0
+refusal_failures scripted.Fault = 1
+
+-- the answer of a read, and of a write, that moves n octets
+abbrev pub read_answer : MemoryWire → ℕ → Read
+read_answer w n =
+    if nat_lt 0 n then read.Got n else ending_answer (ending_of w.ending (next_read w))
+
+abbrev pub write_answer : MemoryWire → ℕ → Written
+write_answer w n = if nat_lt 0 n then written.Took n else refusal_of (next_write w)
 
 -- the wire after a read that moves n octets
 abbrev pub after_read : MemoryWire → ℕ → MemoryWire
 after_read w n =
-    if nat_lt 0 n then record w { at = w.at + n }
+    if nat_lt 0 n then record w { reads = tail w.reads; at = w.at + n }
     else record w {
-      ends = w.ends + ending_ends w.ending;
-      failures = w.failures + ending_failures w.ending;
+      reads = tail w.reads;
+      ends = w.ends + ending_ends (ending_of w.ending (next_read w));
+      failures = w.failures + ending_failures (ending_of w.ending (next_read w));
     }
 
 -- the wire after a write of these octets that moves n of them
 abbrev pub after_write : MemoryWire → List ℕ → ℕ → MemoryWire
 after_write w octets n =
-    if nat_lt 0 n then record w { taken = w.taken ++ take n octets; room = w.room - n }
-    else record w { failures = w.failures + 1 }
+    if nat_lt 0 n then record w {
+      writes = tail w.writes;
+      taken = w.taken ++ take n octets;
+      room = w.room - n;
+    }
+    else record w {
+      writes = tail w.writes;
+      failures = w.failures + refusal_failures (next_write w);
+    }

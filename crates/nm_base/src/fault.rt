@@ -4,11 +4,11 @@ ghost use Rattle.std.specs.Prelude.{◌≡◌};
 ghost use Rattle.nm_base.specs.declared.fault.Fault.TheVariants.{Memory};
 
 use std::alloc::{AllocError, AllocFailed};
-use std::error::Error;
 use std::fmt;
+use thiserror::Error;
 
 /// What was asked for is refused, for this reason; or memory was. Nothing is left behind.
-#[derive(Clone, Copy, Debug, PartialEq, Eq)]
+#[derive(Clone, Copy, Debug, PartialEq, Eq, Error)]
 pub enum Fault<R> {
     /// It is refused. The same call is refused again.
     Refused(R),
@@ -24,8 +24,6 @@ impl<R: fmt::Display> fmt::Display for Fault<R> {
         }
     }
 }
-
-impl<R: fmt::Display + fmt::Debug + Drop> Error for Fault<R> {}
 
 impl<R> From<AllocError> for Fault<R> {
     ghost from_gives = { λ _ fault. fault ≡ Memory };

@@ -1,13 +1,16 @@
-//! A wire in memory: what it gives stands in a list, and what it takes has a budget.
+//! A wire in memory, which answers as a script says: what it gives stands in a list, and what it
+//! takes has a budget.
 
 ghost use Rattle.std.specs.Prelude.{◌≡◌, ◌<◌, ◌≤◌, [], IfOk, length};
+ghost use Rattle.nm_base.specs.Wire.{next_read, next_write, tail};
 
 use crate::failures::FailureCount;
 use crate::wire::{Read, Wire, Written};
 use std::alloc::{AllocError, Global};
+use std::collections::VecDeque;
 use std::marker::Model;
 
-/// What a read of a wire in memory answers once all is given.
+/// What a read of a wire in memory answers where it gives nothing.
 #[derive(Clone, Copy)]
 pub enum Ending {
     End,
@@ -15,10 +18,35 @@ pub enum Ending {
     Fault,
 }
 
-/// Gives a list in pieces, and takes up to a budget of octets, after which each write fails. A
-/// clause sees `MemoryWire`.
+/// What a script has one read do.
+#[derive(Clone, Copy)]
+pub enum ScriptedRead {
+    /// It gives so many octets, or as many as are left and the buffer takes. Where none is left, it
+    /// answers the wire's ending.
+    Gives(usize),
+    /// It gives nothing and answers so.
+    Answers(Ending),
+}
+
+/// What a script has one write do.
+#[derive(Clone, Copy)]
+pub enum ScriptedWrite {
+    /// It takes so many octets, or as many as there are and there is room for. Where there is no
+    /// room, it fails.
+    Takes(usize),
+    /// Nothing is taken now.
+    Later,
+    /// The wire fails.
+    Fault,
+}
+
+/// Answers as a script says, in its order. After the script it gives a list in pieces, and takes up
+/// to a budget of octets, after which each write fails. A clause sees `MemoryWire`.
 #[derive(Drop)]
 pub struct MemWire {
+    /// What the next reads and writes do.
+    reads: VecDeque<ScriptedRead>,
+    writes: VecDeque<ScriptedWrite>,
     source: Vec<u8>,
     at: usize,
     ending: Ending,
@@ -37,6 +65,8 @@ impl Model for MemWire {
     ghost Value = { MemoryWire };
 
     ghost view = { λ w. record {
+      reads = w.reads.items;
+      writes = w.writes.items;
       source = w.source.items;
       at = w.at;
       ending = w.ending;
@@ -53,9 +83,9 @@ impl Model for MemWire {
 }
 
 impl MemWire {
-    /// A wire that gives the octets of `source` and then answers with this ending, and that takes
-    /// `room` octets. No call moves more than `piece` octets. Its memory is taken here, so that no
-    /// later call takes any.
+    /// A wire without a script: it gives the octets of `source` and then answers with this ending,
+    /// and it takes `room` octets. No call moves more than `piece` octets. Its memory is taken here,
+    /// so that no later call takes any.
     pub fn new(
         alloc: Global,
         source: Vec<u8>,
@@ -65,6 +95,8 @@ impl MemWire {
     ) -> Result<Self, AllocError>
         requires { 1 ≤ piece }
         ensures { IfOk result (λ wire. wire ≡ record {
+          reads = [];
+          writes = [];
           source = source.items;
           at = 0;
           ending = ending;
@@ -76,6 +108,8 @@ impl MemWire {
         }) }
     {
         Ok(MemWire {
+            reads: VecDeque::new(alloc),
+            writes: VecDeque::new(alloc),
             source,
             at: 0,
             ending,
@@ -85,6 +119,44 @@ impl MemWire {
             ended: FailureCount::new(),
             failed: FailureCount::new(),
         })
+    }
+
+    /// The wire with a script: its next reads and writes do this, in this order, and those after
+    /// them what it did without.
+    pub fn with_script(
+        self,
+        reads: VecDeque<ScriptedRead>,
+        writes: VecDeque<ScriptedWrite>,
+    ) -> Self
+        ensures { result ≡ record self { reads = reads.items; writes = writes.items } }
+    {
+        MemWire {
+            reads,
+            writes,
+            ..self
+        }
+    }
+
+    /// What the next read does. A read of the script is over with it.
+    fn next_read(&mut self) -> ScriptedRead
+        ensures read { result ≡ next_read self.old }
+        ensures rest { self.new ≡ record self.old { reads = tail self.old.reads } }
+    {
+        match self.reads.pop_front() {
+            Some(read) => read,
+            None => ScriptedRead::Gives(self.piece),
+        }
+    }
+
+    /// What the next write does. A write of the script is over with it.
+    fn next_write(&mut self) -> ScriptedWrite
+        ensures write { result ≡ next_write self.old }
+        ensures rest { self.new ≡ record self.old { writes = tail self.old.writes } }
+    {
+        match self.writes.pop_front() {
+            Some(write) => write,
+            None => ScriptedWrite::Takes(self.piece),
+        }
     }
 
     /// The octets taken so far.
@@ -103,22 +175,25 @@ impl Wire for MemWire {
 
     ghost seen = { memory_seen };
 
-    /// Gives as many octets as are left, as the buffer takes and as a call moves; where none is
-    /// left, it answers the ending.
+    /// Does what the script says next, and past the script gives a piece.
     fn read_some(&mut self, buffer: &mut [u8]) -> Read
         requires { 0 < length buffer.old }
         ensures reads { ReadDoes (memory_seen self.old) (memory_seen self.new) result buffer.new }
         ensures answer { result
-            ≡ read_answer self.old.ending (read_count self.old (length buffer.old)) }
+            ≡ read_answer self.old (read_count self.old (length buffer.old)) }
         ensures wire { self.new ≡ after_read self.old (read_count self.old (length buffer.old)) }
         ensures buffer { buffer.new ≡ after_copy
             (take (read_count self.old (length buffer.old)) (drop self.old.at self.old.source))
             buffer.old }
     {
+        let (most, ending) = match self.next_read() {
+            ScriptedRead::Gives(most) => (most, self.ending),
+            ScriptedRead::Answers(ending) => (0, ending),
+        };
         let left = self.source.len() - self.at;
-        let count = left.min(self.piece).min(buffer.len());
+        let count = left.min(most).min(buffer.len());
         if count == 0 {
-            return match self.ending {
+            return match ending {
                 Ending::End => {
                     self.ended.rise();
                     Read::End
@@ -135,15 +210,19 @@ impl Wire for MemWire {
         Read::Got(count)
     }
 
-    /// Takes as many octets as there is room for and as a call moves, and fails where there is no
-    /// room.
+    /// Does what the script says next, and past the script takes a piece.
     fn write_some(&mut self, octets: &[u8]) -> Written
         requires { 0 < length octets.now }
-        ensures answer { result ≡ write_answer (write_count self.old (length octets.now)) }
+        ensures answer { result ≡ write_answer self.old (write_count self.old (length octets.now)) }
         ensures wire { self.new
             ≡ after_write self.old octets.now (write_count self.old (length octets.now)) }
     {
-        let count = self.room.min(self.piece).min(octets.len());
+        let most = match self.next_write() {
+            ScriptedWrite::Takes(most) => most,
+            ScriptedWrite::Later => return Written::Later,
+            ScriptedWrite::Fault => 0,
+        };
+        let count = self.room.min(most).min(octets.len());
         if count == 0 {
             self.failed.rise();
             return Written::Fault;

@@ -6,17 +6,18 @@ ghost use Rattle.std.specs.Cmp.Lexicographic.{pointwise, nat_list_eq_equiv};
 ghost use Rattle.nm_base.specs.declared.limits.TheConstants.{MAX_PACKET_OCTETS};
 
 use crate::limits::MAX_PACKET_OCTETS;
+use bytes::Bytes;
 use std::alloc::{AllocError, Global};
 use std::marker::Model;
 use std::sync::Arc;
 
 /// The octets of a packet, from 1 to 65,535 of them. A clause sees the list of octets. Copies share
-/// their octets.
+/// their octets, and a packet that was cut from a larger block shares that block.
 ///
 /// It is as small as a pointer, since events, queues and records hold packets and move them often.
 #[derive(Drop)]
 pub struct Packet {
-    octets: Arc<Vec<u8>>,
+    octets: Arc<Bytes>,
 }
 
 impl Model for Packet {
@@ -26,10 +27,10 @@ impl Model for Packet {
 
     ghost Value = { List ℕ };
 
-    ghost view = { λ p. (arc_value p.octets).items };
+    ghost view = { λ p. arc_value p.octets };
 
-    ghost invariant = { λ p. (1 ≤ length (arc_value p.octets).items)
-        × (length (arc_value p.octets).items ≤ MAX_PACKET_OCTETS) };
+    ghost invariant = { λ p. (1 ≤ length (arc_value p.octets))
+        × (length (arc_value p.octets) ≤ MAX_PACKET_OCTETS) };
 }
 
 impl Clone for Packet {
@@ -61,10 +62,10 @@ impl Packet {
     /// # Errors
     ///
     /// `AllocError` where memory for the count of owners was refused.
-    pub fn new(alloc: Global, octets: Vec<u8>) -> Result<Option<Self>, AllocError>
-        ensures fits { IfOk result (λ p. IsSome p
-            ↔ ((1 ≤ length octets.items) × (length octets.items ≤ MAX_PACKET_OCTETS))) }
-        ensures value { IfOk result (λ p. IfSome p (λ packet. packet ≡ octets.items)) }
+    pub fn new(alloc: Global, octets: Bytes) -> Result<Option<Self>, AllocError>
+        ensures fits { IfOk result
+            (λ p. IsSome p ↔ ((1 ≤ length octets) × (length octets ≤ MAX_PACKET_OCTETS))) }
+        ensures value { IfOk result (λ p. IfSome p (λ packet. packet ≡ octets)) }
     {
         if octets.is_empty() || octets.len() > MAX_PACKET_OCTETS {
             return Ok(None);
@@ -77,10 +78,10 @@ impl Packet {
     /// # Errors
     ///
     /// `AllocError` where memory for the count of owners was refused.
-    pub fn from_octets(alloc: Global, octets: Vec<u8>) -> Result<Self, AllocError>
-        requires least { 1 ≤ length octets.items }
-        requires greatest { length octets.items ≤ MAX_PACKET_OCTETS }
-        ensures { IfOk result (λ packet. packet ≡ octets.items) }
+    pub fn from_octets(alloc: Global, octets: Bytes) -> Result<Self, AllocError>
+        requires least { 1 ≤ length octets }
+        requires greatest { length octets ≤ MAX_PACKET_OCTETS }
+        ensures { IfOk result (λ packet. packet ≡ octets) }
     {
         let octets = Arc::new(alloc, octets)?;
         Ok(Packet { octets })
