@@ -5,7 +5,7 @@ ghost use Rattle.std.specs.Prelude.{◌≤◌};
 use crate::callers::{acts, pool_jobs};
 use crate::replica::replica_told;
 use nm_base::PartNo;
-use nm_events::SortedList;
+use nm_events::HeapList;
 use nm_sim::{Part, Tracer, one_list};
 use nm_topology::{TopoFault, Topology};
 use std::alloc::{AllocError, Global};
@@ -74,7 +74,7 @@ pub(crate) fn topology_at<R: Files + AllocGlobal>(rt: &R, path: &str) -> Result<
 }
 
 /// Two parts for each partition, at their start.
-fn start_twice(alloc: Global, topology: &Topology) -> Result<Vec<Part<SortedList>>, AllocError> {
+fn start_twice(alloc: Global, topology: &Topology) -> Result<Vec<Part<HeapList>>, AllocError> {
     let mut parts = Vec::new(alloc);
     for number in 0..topology.partitions() {
         for _ in 0..2 {

@@ -32,7 +32,7 @@ use crate::running::{Ran, is_finished, run_part};
 use crate::safe::{safe_time, safe_time_after};
 use nm_base::limits::MAX_REPLICAS;
 use nm_base::{ChanNo, IfaceNo, Packet, PartNo, Record, Time};
-use nm_events::SortedList;
+use nm_events::HeapList;
 use nm_forward::NodeState;
 use nm_knowledge::{Accepted, Know};
 use nm_model::replica::nothing_known_puts_nothing;
@@ -54,7 +54,7 @@ pub struct Book {
     knows: Vec<Know>,
     /// The safe time.
     safe: Time,
-    part: Part<SortedList>,
+    part: Part<HeapList>,
 }
 
 impl Model for Book {
@@ -97,7 +97,7 @@ fn first_part(
     alloc: Global,
     topology: &Topology,
     partition: PartNo,
-) -> Result<Part<SortedList>, AllocError>
+) -> Result<Part<HeapList>, AllocError>
     ensures book { IfOk result (λ part. IsBook topology.now partition
         (replicate (length topology.now.receivers) nothing_known) part) }
     ensures steps { IfOk result (λ part. part.steps ≡ 0) }

@@ -16,7 +16,7 @@ ghost use Rattle.nm_book.specs.declared.fault.AcceptFault.TheVariants.{Known};
 use crate::fault::AcceptFault;
 use crate::message::{Data, Null};
 use nm_base::{Packet, PartNo};
-use nm_events::SortedList;
+use nm_events::HeapList;
 use nm_forward::NodeState;
 use nm_knowledge::{Accepted, Know, KnowFault};
 use nm_model::knowledge::accept_laws;
@@ -48,7 +48,7 @@ pub(crate) fn take_data(
     topology: &Topology,
     partition: PartNo,
     knows: &mut Vec<Know>,
-    part: &mut Part<SortedList>,
+    part: &mut Part<HeapList>,
     message: &Data,
 ) -> Result<Accepted, AcceptFault>
     // The book is one of this partition, and the channel comes in.
@@ -83,7 +83,7 @@ pub(crate) fn take_data(
 }
 
 /// The next message of a channel that comes in: its arrival, for which there is room, is to come.
-fn put_message(topology: &Topology, partition: PartNo, part: &mut Part<SortedList>, message: Data)
+fn put_message(topology: &Topology, partition: PartNo, part: &mut Part<HeapList>, message: Data)
     // The message is the next of its channel, and there is room.
     requires next { (knows : List (Knowledge (List ℕ)))
         × IsBook topology.now partition knows part.old
@@ -120,7 +120,7 @@ fn put_message(topology: &Topology, partition: PartNo, part: &mut Part<SortedLis
 pub(crate) fn put_messages(
     topology: &Topology,
     partition: PartNo,
-    part: &mut Part<SortedList>,
+    part: &mut Part<HeapList>,
     messages: Vec<Data>,
 )
     requires next { (knows : List (Knowledge (List ℕ)))
@@ -144,7 +144,7 @@ fn put_data(
     topology: &Topology,
     partition: PartNo,
     knows: &mut Vec<Know>,
-    part: &mut Part<SortedList>,
+    part: &mut Part<HeapList>,
     message: &Data,
     packet: Packet,
 ) -> Result<(), AcceptFault>
@@ -199,7 +199,7 @@ pub(crate) fn take_null(
     topology: &Topology,
     partition: PartNo,
     knows: &mut Vec<Know>,
-    part: &Part<SortedList>,
+    part: &Part<HeapList>,
     null: &Null,
 ) -> Result<Accepted, AcceptFault>
     requires book { IsBook topology.now partition knows.old.items part.now }

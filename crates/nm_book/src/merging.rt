@@ -19,7 +19,7 @@ use crate::fault::{MergeFault, MergeRefusal};
 use crate::learning::put_messages;
 use crate::message::Data;
 use nm_base::{ChanNo, Packet, PartNo};
-use nm_events::SortedList;
+use nm_events::HeapList;
 use nm_forward::NodeState;
 use nm_knowledge::laws::{packets_are_told_apart, what_is_known};
 use nm_knowledge::{Gain, Know};
@@ -232,7 +232,7 @@ pub(crate) fn merge_all(
     topology: &Topology,
     partition: PartNo,
     knows: &mut Vec<Know>,
-    part: &mut Part<SortedList>,
+    part: &mut Part<HeapList>,
     others: &[Know],
 ) -> Result<(), MergeFault>
     // The book is one of this partition, and the other has as many channels.

@@ -17,7 +17,7 @@ ghost use Rattle.nm_book.specs.Book.{knowledge_of};
 ghost use Rattle.nm_book.specs.BookPart.{IsBook, pending_in};
 
 use nm_base::{ChanNo, IfaceNo, Time};
-use nm_events::SortedList;
+use nm_events::HeapList;
 use nm_iface::transmission_time;
 use nm_sim::Part;
 use nm_sim::network::every_topology_is_a_network;
@@ -29,7 +29,7 @@ use nm_topology::topology::{
 
 /// No further event of the part is before this time: the least of `stop`, of the safe time and of
 /// the times of events to come.
-fn next_cause(topology: &Topology, part: &Part<SortedList>, safe: Time) -> Time
+fn next_cause(topology: &Topology, part: &Part<HeapList>, safe: Time) -> Time
     ensures value { (p : ℕ) (s : State (List ℕ) NodeStateValue)
         → Represents pending_in topology.now (Some p) part.now s
         → result ≡ next_time (min topology.now.stop safe) (least s.pending) }
@@ -75,7 +75,7 @@ fn sender(topology: &Topology, channel: ChanNo) -> IfaceNo
 /// The promise that counts the link's delay alone, in nanoseconds.
 pub(crate) fn plain_promise(
     topology: &Topology,
-    part: &Part<SortedList>,
+    part: &Part<HeapList>,
     safe: Time,
     channel: ChanNo,
 ) -> Time
@@ -95,7 +95,7 @@ pub(crate) fn plain_promise(
 /// nanoseconds.
 pub(crate) fn tight_promise(
     topology: &Topology,
-    part: &Part<SortedList>,
+    part: &Part<HeapList>,
     safe: Time,
     channel: ChanNo,
 ) -> Time

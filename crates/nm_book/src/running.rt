@@ -14,7 +14,7 @@ ghost use Rattle.nm_book.specs.BookPart.{IsBook, pending_in};
 ghost use Rattle.nm_book.specs.Running.{HasRun};
 
 use nm_base::{Packet, Time};
-use nm_events::SortedList;
+use nm_events::HeapList;
 use nm_forward::NodeState;
 use nm_model::replica::safe_time_is_the_least;
 use nm_model::run::times_pass;
@@ -40,7 +40,7 @@ pub enum Ran {
 pub(crate) fn run_part(
     alloc: Global,
     topology: &Topology,
-    part: &mut Part<SortedList>,
+    part: &mut Part<HeapList>,
     safe: Time,
     limit: u64,
 ) -> Ran
@@ -75,7 +75,7 @@ pub(crate) fn run_part(
 }
 
 /// Whether an event before this time is to come.
-pub(crate) fn is_left(part: &Part<SortedList>, before: Time) -> bool
+pub(crate) fn is_left(part: &Part<HeapList>, before: Time) -> bool
     ensures { (t : TopologyValue) (p : ℕ) (s : State (List ℕ) NodeStateValue)
         → Represents pending_in t (Some p) part.now s → result ≡ pends_before before s }
 {
@@ -86,7 +86,7 @@ pub(crate) fn is_left(part: &Part<SortedList>, before: Time) -> bool
 }
 
 /// Whether nothing is left to do: the safe time is `stop`, and no event before it is to come.
-pub(crate) fn is_finished(topology: &Topology, part: &Part<SortedList>, safe: Time) -> bool
+pub(crate) fn is_finished(topology: &Topology, part: &Part<HeapList>, safe: Time) -> bool
     ensures { (p : ℕ) (knows : List (Known (List ℕ))) → IsBook topology.now p knows part.now
         → safe ≡ safe_time (net_of topology.now) p (knowledge_of topology.now knows)
         → result ≡ is_done (net_of topology.now) p

@@ -1,8 +1,6 @@
+mod AnyOrder
 pub mod Fresh
 mod Heaped
-mod Held
-mod InOrder
-mod Kept
-mod Placed
-mod Queued
-mod Runs
+mod Maps
+mod Orders
+mod Sorted

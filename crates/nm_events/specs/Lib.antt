@@ -1,3 +1,2 @@
+pub mod Entries
 pub mod Held
-pub mod Heaped
-pub mod Queued

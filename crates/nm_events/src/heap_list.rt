@@ -1,36 +1,53 @@
 //! An event list as a heap.
 
-ghost use Rattle.std.specs.Prelude.{◌≡◌, true};
-ghost use Rattle.std.specs.FinMap.{is_sorted};
-ghost use Rattle.std.proofs.Props.{props};
-ghost use Rattle.nm_base.specs.Key.{key_cmp};
-ghost use Rattle.nm_events.specs.Queued.{ArePlaced};
+ghost use Rattle.std.specs.Prelude.{◌≡◌};
+ghost use Rattle.nm_base.specs.Key.{key_of};
+ghost use Rattle.nm_base.specs.Event.{event_place};
 
+use crate::entry::Entry;
 use crate::event_list::EventList;
-use crate::key_heap::KeyHeap;
 use nm_base::{Event, Key, Time};
 use std::alloc::{AllocError, Global};
+use std::cmp::Reverse;
+use std::collections::BinaryHeap;
+use std::marker::Model;
 
-/// Keeps the events in a binary heap, so that an event is put, and the least is taken, in
+/// Keeps the events in one binary heap, so that an event is put, and the least is taken, in
 /// logarithmic time whatever the order in which their keys come.
+///
+/// Of two entries the one of the lesser key is the greater, and a heap has its greatest first.
 #[derive(Drop)]
 pub struct HeapList {
-    heap: KeyHeap<Event>,
-    ghost sorted: { is_sorted key_cmp heap.entries ≡ true },
-    ghost placed: { ArePlaced (λ e. e.1) heap.entries } by { Prim.hlevel props },
+    heap: BinaryHeap<Reverse<Entry>>,
+}
+
+impl Model for HeapList {
+    ghost use Rattle.std.specs.Prelude.{◌-◌};
+    ghost use Rattle.std.specs.BinaryHeap.{heap_items, heap_len, heap_capacity, IsHeap};
+    ghost use Rattle.nm_events.specs.Entries.{AreDistinct, heap_cmp, heap_pairs};
+    ghost use Rattle.nm_events.specs.Held.{Held};
+
+    ghost Value = { Held };
+
+    ghost view = { λ h. record {
+      entries = heap_pairs (heap_items h.heap);
+      room = heap_capacity h.heap - heap_len h.heap;
+    } };
+
+    ghost invariant = { λ h. IsHeap heap_cmp (heap_items h.heap)
+        × AreDistinct (heap_pairs (heap_items h.heap)) };
 }
 
 impl EventList for HeapList {
-    ghost use Rattle.std.specs.Prelude.{◌-◌, length};
-    ghost use Rattle.std.specs.FinMap.{from_entries};
+    ghost use Rattle.nm_events.specs.Held.{pending_of};
 
-    ghost pending = { λ s. from_entries s.heap.entries };
+    ghost pending = { pending_of };
 
-    ghost room = { λ s. s.heap.capacity - length s.heap.entries };
+    ghost room = { λ s. s.room };
 
     fn new(alloc: Global) -> Self {
         HeapList {
-            heap: KeyHeap::new(alloc),
+            heap: BinaryHeap::new(alloc),
         }
     }
 
@@ -39,40 +56,36 @@ impl EventList for HeapList {
     }
 
     fn put(&mut self, time: Time, number: u64, event: Event) {
-        let place = event.place();
-        let key = Key {
+        let entry = Entry {
             time,
-            place,
             number,
+            event,
         };
-        self.heap.put(key, event);
+        self.heap.push(Reverse(entry)).unwrap();
     }
 
-    #[tactic(auto, using(crate::proofs::InOrder::least_sorted))]
     fn least(&self) -> Option<Key> {
-        self.heap.first().copied()
+        let entry = self.heap.peek()?;
+        Some(entry.0.key())
     }
 
-    #[tactic(auto, using(crate::proofs::InOrder::least_sorted))]
     fn is_due(&self, before: Time) -> bool {
-        match self.heap.first() {
-            Some(key) => key.time < before,
+        match self.heap.peek() {
+            Some(entry) => entry.0.time < before,
             None => false,
         }
     }
 
-    #[tactic(auto, using(crate::proofs::InOrder::least_sorted, crate::proofs::InOrder::remove_first))]
     fn take_least(&mut self) -> Option<(Time, u64, Event)> {
-        let (key, event) = self.heap.take_first()?;
-        Some((key.time, key.number, event))
+        let Reverse(entry) = self.heap.pop()?;
+        Some((entry.time, entry.number, entry.event))
     }
 
-    #[tactic(auto, using(crate::proofs::InOrder::len_sorted))]
     fn len(&self) -> usize {
         self.heap.len()
     }
 
     fn is_empty(&self) -> bool {
-        self.len() == 0
+        self.heap.is_empty()
     }
 }

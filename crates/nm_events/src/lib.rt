@@ -1,10 +1,9 @@
 //! Event lists: the events of a simulation that are still to come, by key.
 #![tactic(auto)]
 
+mod entry;
 pub mod event_list;
 pub mod heap_list;
-mod key_heap;
-mod key_queue;
 pub mod sorted_list;
 
 pub use event_list::EventList;

@@ -11,7 +11,7 @@ ghost use Rattle.nm_measure.specs.Measured.{IsCounted};
 ghost use Rattle.nm_topology.specs.TopologyValue.{TopologyValue};
 
 use nm_base::{Dir, Record};
-use nm_events::SortedList;
+use nm_events::HeapList;
 use nm_sim::Part;
 use nm_topology::Topology;
 use std::alloc::{AllocError, Global};
@@ -103,7 +103,7 @@ fn count_each(all: &mut Vec<IfaceTraffic>, records: &[Record])
 }
 
 /// Counts the records of a part of the trace that it still has, and lets them go.
-pub(crate) fn count_all(part: &mut Part<SortedList>, all: &mut Vec<IfaceTraffic>)
+pub(crate) fn count_all(part: &mut Part<HeapList>, all: &mut Vec<IfaceTraffic>)
     requires { (t : TopologyValue) × (s : State (List ℕ) NodeStateValue)
         × IsCounted t s part.old all.old.items }
     ensures { (t : TopologyValue) (s : State (List ℕ) NodeStateValue)

@@ -2,7 +2,7 @@
 
 use crate::courses::Reason;
 use nm_base::NodeNo;
-use nm_events::SortedList;
+use nm_events::HeapList;
 use nm_forward::Counter;
 use nm_sim::Part;
 use std::alloc::{AllocError, Global};
@@ -94,7 +94,7 @@ impl Tallies {
     }
 
     /// What a node did with a packet that just arrived there.
-    pub(crate) fn fate(&mut self, part: &Part<SortedList>, node: NodeNo) -> Told {
+    pub(crate) fn fate(&mut self, part: &Part<HeapList>, node: NodeNo) -> Told {
         let Some(counts) = self.nodes.get_mut(node.index()) else {
             return UNTOLD;
         };
@@ -112,7 +112,7 @@ impl Tallies {
     }
 
     /// Why a node did not originate the packet that a source just handed over.
-    pub(crate) fn refusal(&mut self, part: &Part<SortedList>, node: NodeNo) -> Counter {
+    pub(crate) fn refusal(&mut self, part: &Part<HeapList>, node: NodeNo) -> Counter {
         let now = part.counter(node, Counter::ToSelf).unwrap_or(0);
         let is_to_self = match self.nodes.get_mut(node.index()) {
             Some(counts) => has_risen(&mut counts.to_self, now),
@@ -126,7 +126,7 @@ impl Tallies {
     }
 
     /// Whether a node just originated a packet.
-    pub(crate) fn has_originated(&mut self, part: &Part<SortedList>, node: NodeNo) -> bool {
+    pub(crate) fn has_originated(&mut self, part: &Part<HeapList>, node: NodeNo) -> bool {
         let now = part.counter(node, Counter::Originated).unwrap_or(0);
         match self.nodes.get_mut(node.index()) {
             Some(counts) => has_risen(&mut counts.originated, now),

@@ -17,7 +17,7 @@ use crate::totals::{FlowTotals, IfaceTotals};
 use crate::watched::Watched;
 use nm_base::limits::MAX_PART_STEPS;
 use nm_base::{IfaceNo, NodeNo, SourceNo, Time};
-use nm_events::SortedList;
+use nm_events::HeapList;
 use nm_forward::Counter;
 use nm_progress::Progress;
 use nm_sim::Part;
@@ -29,7 +29,7 @@ use std::marker::Model;
 /// are those of the one event list; flows, queues and busy times are what was seen event by event.
 #[derive(Drop)]
 pub struct Measured {
-    part: Part<SortedList>,
+    part: Part<HeapList>,
     traffic: Vec<IfaceTraffic>,
     watched: Watched,
 }
@@ -58,7 +58,7 @@ impl Measured {
     {
         let traffic = no_traffic(alloc, topology)?;
         let watched = Watched::new(alloc, topology, followed)?;
-        let part = Part::<SortedList>::start(alloc, topology, None)?;
+        let part = Part::<HeapList>::start(alloc, topology, None)?;
         Ok(Measured {
             part,
             traffic,

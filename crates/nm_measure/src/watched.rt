@@ -11,7 +11,7 @@ use crate::lane::Lane;
 use crate::tag::Tag;
 use crate::usage::Usage;
 use nm_base::{Dir, IfaceNo, NodeNo, Place, Record, SourceNo, Time};
-use nm_events::SortedList;
+use nm_events::HeapList;
 use nm_sim::Part;
 use nm_topology::Topology;
 use nm_topology::topology::accepted_topologies_are_in_order;
@@ -77,7 +77,7 @@ fn lanes_of(alloc: Global, topology: &Topology) -> Result<Vec<Lane>, AllocError>
 }
 
 /// The record of the transmission that the last event started, if it did. It is the event's last.
-fn start_in(part: &Part<SortedList>) -> Option<&Record> {
+fn start_in(part: &Part<HeapList>) -> Option<&Record> {
     let record = part.trace().last()?;
     match record.dir {
         Dir::In => None,
@@ -86,7 +86,7 @@ fn start_in(part: &Part<SortedList>) -> Option<&Record> {
 }
 
 /// The octets of the packet that arrived in the last event. Its record is the event's first.
-fn octets_of_arrival(part: &Part<SortedList>) -> u64 {
+fn octets_of_arrival(part: &Part<HeapList>) -> u64 {
     match part.trace().first() {
         Some(record) => record.packet.octet_count() as u64,
         None => 0,
@@ -95,7 +95,7 @@ fn octets_of_arrival(part: &Part<SortedList>) -> u64 {
 
 /// The octets of the ICMP error that answers the packet of the last event: its own headers, and
 /// what it quotes, which is the packet's header and at most eight octets behind it (RFC 792).
-fn octets_of_error(part: &Part<SortedList>) -> u64 {
+fn octets_of_error(part: &Part<HeapList>) -> u64 {
     let Some(record) = part.trace().first() else {
         return 0;
     };
@@ -276,7 +276,7 @@ impl Watched {
     pub(crate) fn see(
         &mut self,
         topology: &Topology,
-        part: &Part<SortedList>,
+        part: &Part<HeapList>,
         now: Time,
         place: &Place,
     ) -> Result<(), AllocError> {
@@ -291,7 +291,7 @@ impl Watched {
     fn see_completion(
         &mut self,
         topology: &Topology,
-        part: &Part<SortedList>,
+        part: &Part<HeapList>,
     ) -> Result<(), AllocError> {
         let Some(record) = start_in(part) else {
             return Ok(());
@@ -313,7 +313,7 @@ impl Watched {
     fn see_arrival(
         &mut self,
         topology: &Topology,
-        part: &Part<SortedList>,
+        part: &Part<HeapList>,
         number: IfaceNo,
         now: Time,
     ) -> Result<(), AllocError> {
@@ -393,7 +393,7 @@ impl Watched {
     fn see_answer(
         &mut self,
         topology: &Topology,
-        part: &Part<SortedList>,
+        part: &Part<HeapList>,
         answer: Offer,
     ) -> Result<(), AllocError> {
         if self.tallies.has_originated(part, answer.node) {
@@ -408,7 +408,7 @@ impl Watched {
     fn see_source(
         &mut self,
         topology: &Topology,
-        part: &Part<SortedList>,
+        part: &Part<HeapList>,
         source: SourceNo,
         now: Time,
     ) -> Result<(), AllocError> {
@@ -443,7 +443,7 @@ impl Watched {
     fn see_offer(
         &mut self,
         topology: &Topology,
-        part: &Part<SortedList>,
+        part: &Part<HeapList>,
         offer: Offer,
     ) -> Result<(), AllocError> {
         let Some(record) = start_in(part) else {
@@ -461,7 +461,7 @@ impl Watched {
 
     /// Sees a packet offered to an interface of a node whose transmission does not start: it waits,
     /// or is dropped.
-    fn see_no_start(&mut self, part: &Part<SortedList>, offer: Offer) -> Result<(), AllocError> {
+    fn see_no_start(&mut self, part: &Part<HeapList>, offer: Offer) -> Result<(), AllocError> {
         let guess = self.guesses.guess(offer.node, &offer.tag);
         let Some((iface, offered)) = self.offer_at(part, offer.node, guess) else {
             return self.see_drop(&offer.tag, EndPlace::Node(offer.node), offer.now);
@@ -493,7 +493,7 @@ impl Watched {
 
     /// What an interface did with the packet of the last event, if it was offered to this one and
     /// did not start: one more waits than before, or one more was dropped.
-    fn change_at(&self, part: &Part<SortedList>, iface: IfaceNo) -> Option<Unstarted> {
+    fn change_at(&self, part: &Part<HeapList>, iface: IfaceNo) -> Option<Unstarted> {
         let lane = self.lanes.get(iface.index())?;
         if part.waiting(iface)? > lane.waiting() {
             return Some(Unstarted::Waits);
@@ -508,7 +508,7 @@ impl Watched {
     /// start, and what it did with it. The guess is looked at first.
     fn offer_at(
         &self,
-        part: &Part<SortedList>,
+        part: &Part<HeapList>,
         node: NodeNo,
         guess: IfaceNo,
     ) -> Option<(IfaceNo, Unstarted)> {

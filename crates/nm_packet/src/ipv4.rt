@@ -14,6 +14,7 @@ use crate::Address;
 use crate::checksum::{checksum_of, sum_header, updated_checksum};
 use crate::fault::HeaderFault;
 use crate::octets::{long_word_at, set_long_word, set_word, word_at};
+use bytes::{Bytes, BytesMut};
 use nm_base::Packet;
 use std::alloc::{AllocError, Global};
 use std::marker::Model;
@@ -312,11 +313,11 @@ pub(crate) fn write_in_parts(
         (front.now ++ back.now)) }
 {
     let size = front.len() + back.len();
-    let mut octets = Vec::with_capacity(alloc, LEAST_HEADER_OCTETS + size)?;
+    let mut octets = BytesMut::with_capacity(alloc, LEAST_HEADER_OCTETS + size)?;
     octets.extend_from_slice(&header.octets(size as u16))?;
     octets.extend_from_slice(front)?;
     octets.extend_from_slice(back)?;
-    Packet::from_octets(alloc, octets)
+    Packet::from_octets(alloc, octets.freeze()?)
 }
 
 /// What an error message quotes of a packet (RFC 792): its header as it came, with its options, and
@@ -365,7 +366,7 @@ fn lowered_packet(
 {
     let mut copy = Vec::from_slice(alloc, octets)?;
     lower(copy.as_mut_slice(), time_to_live, checksum);
-    Packet::from_octets(alloc, copy)
+    Packet::from_octets(alloc, Bytes::from_vec(copy)?)
 }
 
 /// The header checksum of the packet one hop on, by the one word that changes.

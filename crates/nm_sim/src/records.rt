@@ -11,6 +11,7 @@ ghost use Rattle.nm_topology.specs.TopologyValue.{TopologyValue};
 ghost use Rattle.nm_sim.specs.Records.{RecordsRepresent};
 ghost use Rattle.nm_sim.specs.Totals.{total_after, totals_at};
 
+use bytes::Bytes;
 use nm_base::{Dir, IfaceNo, Packet, Record, Time};
 use nm_pcap::format::{FILE_HEADER_OCTETS, RECORD_HEADER_OCTETS};
 use std::alloc::{AllocError, Global};
@@ -52,7 +53,7 @@ impl Model for Records {
 
 /// A packet that nobody sent.
 fn no_packet(alloc: Global) -> Result<Packet, AllocError> {
-    Packet::from_octets(alloc, vec![in alloc; 0; 1]?)
+    Packet::from_octets(alloc, Bytes::from_static(&[0]))
 }
 
 /// The totals after one more record, of a packet of so many octets.

@@ -9,7 +9,7 @@ ghost use Rattle.nm_sim.specs.Tracing.{ShowsNext, IsTracing};
 use crate::network::every_topology_is_a_network;
 use crate::part::Part;
 use nm_base::{Packet, Record};
-use nm_events::SortedList;
+use nm_events::HeapList;
 use nm_forward::NodeState;
 use nm_model::run::times_pass;
 use nm_topology::Topology;
@@ -21,7 +21,7 @@ use std::marker::Model;
 /// event, however long the run is.
 #[derive(Drop)]
 pub struct Tracer {
-    part: Part<SortedList>,
+    part: Part<HeapList>,
 }
 
 impl Model for Tracer {
@@ -44,7 +44,7 @@ impl Tracer {
         ensures none { IfOk result (λ r. r.records.handed ≡ 0) }
         ensures nothing { IfOk result (λ r. r.records.kept ≡ []) }
     {
-        let part = Part::<SortedList>::start(alloc, topology, None)?;
+        let part = Part::<HeapList>::start(alloc, topology, None)?;
         Ok(Tracer { part })
     }
 

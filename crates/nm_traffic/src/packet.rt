@@ -2,6 +2,7 @@
 
 ghost use Rattle.std.specs.Prelude.{◌≡◌, ℕ, ◌≤◌, List, length, IfOk};
 
+use bytes::Bytes;
 use nm_base::{Packet, Time};
 use std::alloc::{AllocError, Global};
 use std::marker::Model;
@@ -38,7 +39,7 @@ impl SourcePacket {
         requires greatest { length octets.items ≤ 65535 }
         ensures { IfOk result (λ p. p ≡ octets.items) }
     {
-        let packet = Packet::from_octets(alloc, octets)?;
+        let packet = Packet::from_octets(alloc, Bytes::from_vec(octets)?)?;
         Ok(SourcePacket { packet })
     }
 

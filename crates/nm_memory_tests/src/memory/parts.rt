@@ -6,7 +6,7 @@ ghost use Rattle.nm_memory_tests.specs.Whole.{IsWhole};
 use crate::same::{eq_number, holds};
 use crate::split::network;
 use nm_base::{IfaceNo, Key, NodeNo, Time};
-use nm_events::SortedList;
+use nm_events::HeapList;
 use nm_forward::Counter;
 use nm_sim::{Part, one_list};
 use nm_topology::Topology;
@@ -26,7 +26,7 @@ struct Shown {
 }
 
 /// What is seen of a part.
-fn seen(part: &Part<SortedList>) -> Shown {
+fn seen(part: &Part<HeapList>) -> Shown {
     let mut shown = Shown {
         least: part.least(),
         events: part.steps(),
@@ -49,7 +49,7 @@ fn seen(part: &Part<SortedList>) -> Shown {
 fn step(
     alloc: Global,
     topology: &Topology,
-    part: &mut Part<SortedList>,
+    part: &mut Part<HeapList>,
 ) -> Result<Option<Key>, AllocError>
     requires { IsWhole topology.now part.old }
     ensures { IsWhole topology.now part.new }
@@ -62,7 +62,7 @@ fn step(
 fn step_at_last(
     rt: &(impl Abort + AllocGlobal),
     topology: &Topology,
-    part: &mut Part<SortedList>,
+    part: &mut Part<HeapList>,
 ) -> Result<Option<Key>, AllocError>
     requires { IsWhole topology.now part.old }
     ensures { IsWhole topology.now part.new }
@@ -81,7 +81,7 @@ fn step_at_last(
 fn run(
     rt: &(impl Abort + AllocGlobal),
     topology: &Topology,
-    part: &mut Part<SortedList>,
+    part: &mut Part<HeapList>,
 ) -> Result<(), AllocError>
     requires { IsWhole topology.now part.old }
 {
@@ -94,7 +94,7 @@ fn run(
 }
 
 /// The whole network at its start, asked for again where memory was refused.
-fn started(alloc: Global, topology: &Topology) -> Result<Part<SortedList>, AllocError>
+fn started(alloc: Global, topology: &Topology) -> Result<Part<HeapList>, AllocError>
     ensures { IfOk result (λ p. IsWhole topology.now p) }
 {
     match Part::start(alloc, topology, None) {
@@ -110,14 +110,14 @@ fn started(alloc: Global, topology: &Topology) -> Result<Part<SortedList>, Alloc
 fn ran(
     rt: &(impl Abort + AllocGlobal),
     topology: &Topology,
-) -> Result<Part<SortedList>, AllocError> {
+) -> Result<Part<HeapList>, AllocError> {
     let mut part = started(rt.alloc(), topology)?;
     run(rt, topology, &mut part)?;
     Ok(part)
 }
 
 /// The one packet of SPLIT is sent at 0 and arrives at 1,100,000 ns, in three events.
-fn is_over(rt: &impl Abort, part: &Part<SortedList>) {
+fn is_over(rt: &impl Abort, part: &Part<HeapList>) {
     eq_number(rt, "events", part.steps(), 3);
     eq_number(rt, "records", part.trace().len() as u64, 2);
     for (record, time) in part.trace().iter().zip([0, 1_100_000]) {

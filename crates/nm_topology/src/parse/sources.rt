@@ -25,6 +25,7 @@ use crate::parse::fields::{
 };
 use crate::parse::head::Head;
 use crate::traffic::{Cbr, Echo, Flow, RawPacket};
+use bytes::Bytes;
 use hex::FromHexError;
 use nm_base::limits::MAX_RAW_PACKETS;
 use nm_base::{Packet, Time};
@@ -90,7 +91,7 @@ pub fn required_octets(
     if octets.is_empty() || octets.len() > mtu as usize {
         return Err(TopoFault::Refused(Refusal::Range));
     }
-    Ok(Packet::from_octets(alloc, octets)?)
+    Ok(Packet::from_octets(alloc, Bytes::from_vec(octets)?)?)
 }
 
 /// A table of `packet`, whose time is at least `least` nanoseconds.

@@ -1,22 +1,25 @@
-use Rattle.std.proofs.Common.{◌∙◌, sym, ap}
-use Rattle.std.specs.FinMap.{from_entries, get, get-from_entries, insert}
-use Rattle.nm_base.specs.Key.{key_cmp_total, key_of}
-use Rattle.nm_events.proofs.InOrder.{insert_put}
-use Rattle.nm_events.proofs.Placed.{key_by_event, placed_put}
+use Rattle.std.proofs.Common.{◌≡◌, ◌∷◌, None, rules}
+use Rattle.std.specs.BinaryHeap.{heap_items, IsHeap}
+use Rattle.std.specs.FinMap.{from_entries, get, insert}
+use Rattle.std.specs.List.Sorted.{IsPermutation}
+use Rattle.nm_base.specs.Event.{event_place}
+use Rattle.nm_base.specs.Key.{key_cmp, key_of}
+use Rattle.nm_events.specs.Entries.{AreDistinct, heap_cmp, heap_pairs}
+use Rattle.nm_events.proofs.Heaped.{pushed}
 use Rattle.nm_events.proofs.heap_list.HeapListEventList.put.Goals as goal
 
-pub put-requires-clause-fresh : goal.put-requires-clause-fresh
-put-requires-clause-fresh c =
-    let key = key_of c.args.time c.place-place.result c.args.number in
-    let same = key_by_event key c.args.event c.place-place.ensures in
-    sym (get-from_entries key_cmp_total _ key) ∙ ap (get (from_entries c.args.self.now.heap.entries)) same ∙ c.requires.fresh
+joined : (c : goal.After-unwrap) → AreDistinct (heap_pairs (heap_items c.push.new.self))
+    × (from_entries {R = key_cmp} (heap_pairs (heap_items c.push.new.self))
+    ≡ insert (from_entries (heap_pairs (heap_items c.self.inside.heap))) (key_of c.args.time (event_place c.args.event) c.args.number) c.args.event)
+joined c =
+    let fresh : get (from_entries (heap_pairs (heap_items c.self.inside.heap))) (key_of c.args.time (event_place c.args.event) c.args.number) ≡ None = rw (← c.self.view_is) at c.requires.fresh in
+    let all : IsPermutation (record { 0 = record { time = c.args.time; number = c.args.number; event = c.args.event } } ∷ heap_items c.self.inside.heap) (heap_items c.push.new.self) = search rules in
+    pushed _ _ _ all fresh c.self.invariant.1
 
-pub invariant_of-self-clause-placed : goal.invariant_of-self-clause-placed
-invariant_of-self-clause-placed c =
-    placed_put (λ e. e.1) (key_of c.args.time c.place-place.result c.args.number) c.args.event _ _ c.place-place.ensures c.args.self.now.placed c.put.ensures.entries
+pub invariant_of-self : goal.invariant_of-self
+invariant_of-self c =
+    let heap : IsHeap heap_cmp (heap_items c.self.inside.heap) → IsHeap heap_cmp (heap_items c.push.new.self) = search rules in
+    (heap c.self.invariant.0, (joined c).0)
 
 pub returns-clause-pending : goal.returns-clause-pending
-returns-clause-pending c =
-    let key = key_of c.args.time c.place-place.result c.args.number in
-    ap (λ l. from_entries l) c.put.ensures.entries ∙ insert_put key c.args.event _
-    ∙ ap (λ k. insert (from_entries c.args.self.now.heap.entries) k c.args.event) (key_by_event key c.args.event c.place-place.ensures)
+returns-clause-pending c = rw (← c.self.view_is) (joined c).1

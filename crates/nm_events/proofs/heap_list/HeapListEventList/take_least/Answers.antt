@@ -1,18 +1,30 @@
-use Rattle.std.proofs.Common.{◌≡◌, ℕ, List, ◌∷◌, ◌∙◌, sym, ap, subst, rules}
-use Rattle.std.specs.FinMap.{from_entries, is_sorted, remove}
-use Rattle.nm_base.specs.declared.event.Event.{Event}
-use Rattle.nm_base.specs.declared.key.Key.{Key}
-use Rattle.nm_base.specs.Event.{event_place}
-use Rattle.nm_base.specs.Key.{key_cmp, key_of}
-use Rattle.nm_events.proofs.InOrder.{remove_first}
-use Rattle.nm_events.proofs.Placed.{key_by_event, placed_first}
+use Rattle.std.proofs.Common.{◌≡◌, ◌∙◌, Some, length, ap, sym, arith}
+use Rattle.std.proofs.lemmas.Grind.{common_steps}
+use Rattle.std.specs.BinaryHeap.{heap_items}
+use Rattle.std.specs.FinMap.{from_entries, remove}
+use Rattle.std.specs.Option.{option_map}
+use Rattle.nm_base.specs.Key.{key_cmp}
+use Rattle.nm_model.specs.EventList.{least}
+use Rattle.nm_model.specs.Run.{keyed}
+use Rattle.nm_events.specs.Entries.{AreDistinct, entry_key, heap_pairs, pair}
+use Rattle.nm_events.proofs.Heaped.{none_least, popped}
 use Rattle.nm_events.proofs.heap_list.HeapListEventList.take_least.Goals as goal
 
+pub returns-in_err-entry-clause-least : goal.returns-in_err-entry-clause-least
+returns-in_err-entry-clause-least c =
+    let none : length (heap_items c.self.inside.heap) ≡ 0 = grind (arith, common_steps, c.in_err-entry.ensures.none) in
+    rw (← c.self.view_is) (ap (option_map (λ e. keyed e.0 e.1 e.2)) c.from_residual.ensures ∙ sym (none_least _ none))
+
+taken : (c : goal.In_ok-entry) → AreDistinct (heap_pairs (heap_items c.pop.new.self))
+    × (Some (pair c.in_ok-entry.field-0.0) ≡ least (from_entries (heap_pairs (heap_items c.self.inside.heap))))
+    × (from_entries {R = key_cmp} (heap_pairs (heap_items c.pop.new.self)) ≡ remove (from_entries (heap_pairs (heap_items c.self.inside.heap))) (entry_key c.in_ok-entry.field-0.0))
+taken c = popped c.in_ok-entry.field-0 _ _ c.in_ok-entry.ensures.permutation (c.in_ok-entry.ensures.below_top c.self.invariant.0) c.self.invariant.1
+
+pub invariant_of-self-2 : goal.invariant_of-self-2
+invariant_of-self-2 c = ((c.in_ok-entry.ensures.heap_order c.self.invariant.0).0, (taken c).0)
+
+pub returns-clause-least : goal.returns-clause-least
+returns-clause-least c = rw (← c.self.view_is) (taken c).1
+
 pub returns-clause-rest : goal.returns-clause-rest
-returns-clause-rest c =
-    let e : Key × Event (List ℕ) = (c.in_ok-key.key, c.in_ok-key.event) in
-    let rest : c.args.self.now.heap.entries ≡ e ∷ c.take_first.new.self.entries = search rules in
-    let at = placed_first (λ e. e.1) e _ _ rest c.args.self.now.placed in
-    let sorted = ap (is_sorted key_cmp) (sym rest) ∙ c.args.self.now.sorted in
-    subst (λ l. from_entries {R = key_cmp} c.take_first.new.self.entries ≡ remove (from_entries l) (key_of e.0.time (event_place e.1) e.0.number)) (sym rest)
-    (remove_first e c.take_first.new.self.entries sorted ∙ ap (remove (from_entries (e ∷ c.take_first.new.self.entries))) (key_by_event e.0 e.1 at))
+returns-clause-rest c = rw (← c.self.view_is) (taken c).2

@@ -1,17 +1,19 @@
-use Rattle.std.proofs.Common.{◌≡◌, ◌<◌, ◌^◌, ◌||◌, ◌∙◌, ltb, rules}
-use Rattle.nm_events.specs.Queued.{first_key, time_of}
-use Rattle.nm_events.proofs.Held.{due, early_time}
+use Rattle.std.proofs.Common.{◌≡◌, ◌<◌, ◌∙◌, Some, length, ap, sym, arith, rules}
+use Rattle.std.proofs.lemmas.Grind.{common_steps}
+use Rattle.std.specs.List.{slice_index_or}
+use Rattle.nm_model.specs.EventList.{is_before}
+use Rattle.nm_events.specs.Entries.{pair}
+use Rattle.nm_events.proofs.Sorted.{front_least, none_least}
 use Rattle.nm_events.proofs.sorted_list.SortedListEventList.is_due.Goals as goal
 
-pub returns : goal.returns
-returns c =
-    let k = first_key c.self.inside.completions.entries in
-    let x = first_key c.self.inside.arrivals.entries in
-    let y = first_key c.self.inside.sources.entries in
-    let fits : c.args.before < 2 ^ 64 = search rules in
-    let completion : c.lt.result ≡ ltb (time_of k) c.args.before = search rules in
-    let arrival : c.lt-2.result ≡ ltb (time_of x) c.args.before = search rules in
-    let source : c.lt-3.result ≡ ltb (time_of y) c.args.before = search rules in
-    rw (← c.self.view_is) ((λ i. (completion i || arrival i) || source i)
-    ∙ (λ i. (early_time c.args.before k fits i || early_time c.args.before x fits i) || early_time c.args.before y fits i)
-    ∙ due c.args.before _ _ _ _ _ c.self.invariant)
+pub returns-in-None : goal.returns-in-None
+returns-in-None c =
+    let none : length c.self.inside.entries.items ≡ 0 = grind (arith, common_steps, c.in-None.ensures.item) in
+    rw (← c.self.view_is) (ap (is_before c.args.before) (sym (none_least _ none)))
+
+pub returns-in-Some : goal.returns-in-Some
+returns-in-Some c =
+    let some : 0 < length c.self.inside.entries.items = grind (arith, common_steps, c.in-Some.ensures.item) in
+    let is : c.in-Some.entry.now ≡ slice_index_or c.self.inside.entries.items 0 c.in-Some.entry.now = search rules in
+    let due : c.lt.result ≡ is_before c.args.before (Some (pair c.in-Some.entry.now)) = search rules in
+    rw (← c.self.view_is) (due ∙ ap (is_before c.args.before) (front_least c.in-Some.entry.now _ some is c.self.invariant))

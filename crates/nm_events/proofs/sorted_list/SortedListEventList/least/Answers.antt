@@ -1,27 +1,17 @@
-use Rattle.std.proofs.Common.{◌≡◌, ◌∙◌, rules}
-use Rattle.nm_events.specs.Held.{kind_of}
-use Rattle.nm_events.specs.Queued.{first_key}
-use Rattle.nm_events.specs.declared.sorted_list.Kind.TheVariants as kind
-use Rattle.nm_events.proofs.Held.{least_completion, least_arrival, least_source}
+use Rattle.std.proofs.Common.{◌≡◌, ◌<◌, length, ap, sym, arith, rules}
+use Rattle.std.proofs.lemmas.Grind.{common_steps}
+use Rattle.std.specs.List.{slice_index_or}
+use Rattle.std.specs.Option.{option_map}
+use Rattle.nm_events.proofs.Sorted.{front_least, none_least}
 use Rattle.nm_events.proofs.sorted_list.SortedListEventList.least.Goals as goal
 
-pub returns-in-Completion : goal.returns-in-Completion
-returns-in-Completion c =
-    let e : kind_of (first_key c.self.inside.completions.entries) (first_key c.self.inside.arrivals.entries) (first_key c.self.inside.sources.entries) ≡ kind.Completion
-    = search rules in
-    let first : c.copied.result ≡ first_key c.self.inside.completions.entries = search rules in
-    rw (← c.self.view_is) (first ∙ least_completion _ _ _ _ _ c.self.invariant e)
+pub returns-in_err-entry : goal.returns-in_err-entry
+returns-in_err-entry c =
+    let none : length c.self.inside.entries.items ≡ 0 = grind (arith, common_steps, c.in_err-entry.ensures.item) in
+    rw (c.from_residual.ensures, ← c.self.view_is) (ap (option_map (λ e. e.0)) (sym (none_least _ none)))
 
-pub returns-in-Arrival : goal.returns-in-Arrival
-returns-in-Arrival c =
-    let e : kind_of (first_key c.self.inside.completions.entries) (first_key c.self.inside.arrivals.entries) (first_key c.self.inside.sources.entries) ≡ kind.Arrival
-    = search rules in
-    let first : c.copied-in-Arrival.result ≡ first_key c.self.inside.arrivals.entries = search rules in
-    rw (← c.self.view_is) (first ∙ least_arrival _ _ _ _ _ c.self.invariant e)
-
-pub returns-in-Source : goal.returns-in-Source
-returns-in-Source c =
-    let e : kind_of (first_key c.self.inside.completions.entries) (first_key c.self.inside.arrivals.entries) (first_key c.self.inside.sources.entries) ≡ kind.Source
-    = search rules in
-    let first : c.copied-in-Source.result ≡ first_key c.self.inside.sources.entries = search rules in
-    rw (← c.self.view_is) (first ∙ least_source _ _ _ _ _ c.self.invariant e)
+pub returns : goal.returns
+returns c =
+    let some : 0 < length c.self.inside.entries.items = grind (arith, common_steps, c.in_ok-entry.ensures.item) in
+    let is : c.in_ok-entry.entry.now ≡ slice_index_or c.self.inside.entries.items 0 c.in_ok-entry.entry.now = search rules in
+    rw (c.key.ensures, ← c.self.view_is) (ap (option_map (λ e. e.0)) (front_least c.in_ok-entry.entry.now _ some is c.self.invariant))

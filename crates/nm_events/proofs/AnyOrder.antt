@@ -1,4 +1,4 @@
--- Entries that stand in any order, in the order of their keys.
+-- Entries in any order, as a finite map.
 use Rattle.std.proofs.Common.{◌≡◌, zero, suc, ◌+◌, Bool, true, false, cond, List, [], ◌∷◌, map, length, Option, Some, None, refl, sym, ap, ◌∙◌, arith}
 use Rattle.std.specs.List.{Contains, AllByRecursion, IsDistinct}
 use Rattle.std.proofs.lemmas.Map.Keys.{IsDistinct-head, IsDistinct-tail, IsDistinct-cons, IsDistinct-IsPermutation}
@@ -7,14 +7,17 @@ use Rattle.std.proofs.lemmas.List.Sorted.{Contains-permutation, list_any-IsPermu
 use Rattle.std.proofs.Common.{Ordering, Less, Equal, Greater}
 use Rattle.std.specs.Ordering.{is_eq, eq_by_cmp, ordering_reverse}
 use Rattle.std.specs.Option.{is_some}
-use Rattle.std.specs.FinMap.{entries, entries_sorted, entries-insert, same_map, from_entries, get-entries, get-from_entries, insert, remove, empty, len, len-empty, len-entries, find, put, is_sorted}
-use Rattle.std.specs.FinMap.Entries.{below_all, find-put, is_some-find, length-put}
+use Rattle.std.specs.FinMap.{entries, same_map, from_entries, get-from_entries, insert, remove, empty, len, len-empty, len-entries, find, put, is_sorted}
+use Rattle.std.specs.FinMap.Entries.{below_all, find-put, is_some-find}
 use Rattle.nm_base.specs.declared.key.Key.{Key}
 use Rattle.nm_base.specs.Key.{key_cmp, key_cmp_total, key_cmp-IsAntisymmetric}
 use Rattle.nm_model.specs.EventList.{first_of_list, least}
-use Rattle.nm_events.specs.Queued.{in_order, AreDistinct}
-use Rattle.nm_events.proofs.Queued.{truth, holds, equal, first, second}
-use Rattle.nm_events.proofs.Runs.{none_length, some_none, none_in_rest, below_entries, put_first, put_taken, ties_itself}
+use Rattle.nm_events.proofs.Orders.{equal, first, second}
+use Rattle.nm_events.proofs.Maps.{none_length, some_none, none_below, none_in_rest, below_entries, first_put, len_put, put_taken, ties_itself}
+
+-- no two have one key
+abbrev pub AreDistinct : {X : Type 0} → List (Key × X) → Type 0
+AreDistinct es = IsDistinct (eq_by_cmp key_cmp) (map (λ e. e.0) es)
 
 pub flips : (x y : Key) → eq_by_cmp key_cmp x y ≡ eq_by_cmp key_cmp y x
 flips x y = ap is_eq (key_cmp_total.antisymm x y) ∙ turned (key_cmp y x)
@@ -29,23 +32,6 @@ unfolding IsDistinct
 none_distinct X = tt
 
 module _ {X : Type 0} where
-  pub sorted_in_order : (es : List (Key × X)) → is_sorted key_cmp (in_order es) ≡ true
-  sorted_in_order es = holds _ (entries_sorted (from_entries {R = key_cmp} es))
-
-  pub none_in_order : in_order {X = X} [] ≡ []
-  none_in_order = none_length (entries (empty {X = X} {R = key_cmp})) (sym (len-entries (empty {X = X} {R = key_cmp})) ∙ len-empty key_cmp X)
-
-  pub find_in_order : (q : Key) (es : List (Key × X)) → find key_cmp q (in_order es) ≡ find key_cmp q es
-  find_in_order q es = sym (get-entries (from_entries {R = key_cmp} es) q) ∙ get-from_entries key_cmp_total es q
-
-  -- one more is put in its place
-  pub one_more : (e : Key × X) (es : List (Key × X)) → in_order (e ∷ es) ≡ put key_cmp e.0 e.1 (in_order es)
-  one_more e es = entries-insert key_cmp_total (from_entries es) e.0 e.1
-
-  -- or first, where it comes before the others
-  pub least_first : (e : Key × X) (es : List (Key × X)) → below_all key_cmp e.0 es ≡ true → in_order (e ∷ es) ≡ e ∷ in_order es
-  least_first e es h = one_more e es ∙ put_first key_cmp_total e.0 e.1 (in_order es) (below_entries key_cmp_total e.0 es h)
-
   -- a key that ties with none is not found, and the other way round
   pub none_from_all : (k : Key) (es : List (Key × X)) → AllByRecursion (λ y. eq_by_cmp key_cmp k y ≡ false) (map (λ e. e.0) es) → find key_cmp k es ≡ None
   none_from_all k [] h = refl
@@ -67,19 +53,6 @@ module _ {X : Type 0} where
 
   pub more_distinct : (e : Key × X) (es : List (Key × X)) → find key_cmp e.0 es ≡ None → AreDistinct es → AreDistinct (e ∷ es)
   more_distinct e es n d = IsDistinct-cons (eq_by_cmp key_cmp) e.0 (map (λ e. e.0) es) (all_from_none e.0 es n) d
-
-  pub length_in_order : (es : List (Key × X)) → AreDistinct es → length (in_order es) ≡ length es
-  length_in_order [] d = ap length none_in_order
-  length_in_order (e ∷ es) d =
-      ap length (one_more e es)
-      ∙ length-put key_cmp key_cmp_total e.0 e.1 (in_order es) (truth _ (sorted_in_order es))
-      ∙ ap (λ r. cond (is_some r) (length (in_order es)) (length (in_order es) + 1)) (find_in_order e.0 es ∙ head_none e es d)
-      ∙ ap (λ n. n + 1) (length_in_order es (tail_distinct e es d)) ∙ omega arith
-
-  -- entries that are found alike have one order
-  pub same_order : (es fs : List (Key × X)) → ((q : Key) → find key_cmp q es ≡ find key_cmp q fs) → in_order es ≡ in_order fs
-  same_order es fs h = ap entries (same_map key_cmp_total key_cmp-IsAntisymmetric (from_entries es) (from_entries fs)
-      (λ q. get-from_entries key_cmp_total es q ∙ h q ∙ sym (get-from_entries key_cmp_total fs q)))
 
   -- an entry that stands in a list is found, where no two have one key
   stands_found : (es : List (Key × X)) → AreDistinct es → (e : Key × X) → Contains es e → find key_cmp e.0 es ≡ Some e.1
@@ -124,25 +97,37 @@ module _ {X : Type 0} where
   pub permuted_distinct : (es fs : List (Key × X)) → IsPermutation es fs → AreDistinct es → AreDistinct fs
   permuted_distinct es fs p d = IsDistinct-IsPermutation (eq_by_cmp key_cmp) flips (map (λ e. e.0) es) (map (λ e. e.0) fs) (IsPermutation-map (λ e. e.0) es fs p) d
 
-  pub permuted_order : (es fs : List (Key × X)) → IsPermutation es fs → AreDistinct es → in_order fs ≡ in_order es
-  permuted_order es fs p d = sym (same_order es fs (permuted_found es fs p (permuted_distinct es fs p d)))
+  -- and the map is the same
+  pub permuted_map : (es fs : List (Key × X)) → IsPermutation es fs → AreDistinct fs → from_entries {R = key_cmp} es ≡ from_entries fs
+  permuted_map es fs p d = same_map key_cmp_total key_cmp-IsAntisymmetric (from_entries es) (from_entries fs)
+      (λ q. get-from_entries key_cmp_total es q ∙ permuted_found es fs p d q ∙ sym (get-from_entries key_cmp_total fs q))
 
-  -- entries in order stay as they stand
-  pub sorted_stays : (es : List (Key × X)) → is_sorted key_cmp es ≡ true → in_order es ≡ es
-  sorted_stays [] h = none_in_order
-  sorted_stays (e ∷ es) h = least_first e es (first _ _ h) ∙ ap (λ l. e ∷ l) (sorted_stays es (second _ _ h))
+  -- an entry that all others come behind is the least, and to take it out leaves them
+  module _ (e : Key × X) (es : List (Key × X)) (below : below_all key_cmp e.0 es ≡ true) where
+    pub least_in : least (from_entries (e ∷ es)) ≡ Some e
+    unfolding least
+    least_in = first_put key_cmp_total (from_entries es) e.0 e.1 (below_entries key_cmp_total e.0 es below)
 
-  pub len_sorted : (es : List (Key × X)) → is_sorted key_cmp es ≡ true → len (from_entries {R = key_cmp} es) ≡ length es
-  len_sorted es h = len-entries (from_entries {R = key_cmp} es) ∙ ap length (sorted_stays es h)
+    pub rest_in : from_entries {R = key_cmp} es ≡ remove (from_entries (e ∷ es)) e.0
+    rest_in = put_taken key_cmp_total key_cmp-IsAntisymmetric (from_entries es) e.0 e.1 (below_entries key_cmp_total e.0 es below)
 
-  pub least_sorted : (es : List (Key × X)) → is_sorted key_cmp es ≡ true → least (from_entries es) ≡ first_of_list es
+  pub least_none : least (from_entries {X = X} {R = key_cmp} []) ≡ None
   unfolding least
-  least_sorted es h = ap first_of_list (sorted_stays es h)
+  least_none = ap first_of_list (none_length (entries (empty {X = X} {R = key_cmp})) (sym (len-entries (empty {X = X} {R = key_cmp})) ∙ len-empty key_cmp X))
+
+  -- there are as many as stand in the list
+  pub count_distinct : (es : List (Key × X)) → AreDistinct es → len (from_entries {R = key_cmp} es) ≡ length es
+  count_distinct [] d = len-empty key_cmp X
+  count_distinct (e ∷ es) d =
+      len_put key_cmp_total (from_entries es) e.0 e.1 (get-from_entries key_cmp_total es e.0 ∙ head_none e es d)
+      ∙ ap (λ n. n + 1) (count_distinct es (tail_distinct e es d)) ∙ omega arith
+
+  -- a list in order has each key once
+  pub sorted_distinct : (es : List (Key × X)) → is_sorted key_cmp es ≡ true → AreDistinct es
+  sorted_distinct [] h = none_distinct X
+  sorted_distinct (e ∷ es) h = more_distinct e es (none_below key_cmp_total e.0 es (first _ _ h)) (sorted_distinct es (second _ _ h))
 
   pub insert_put : (k : Key) (v : X) (es : List (Key × X)) → from_entries {R = key_cmp} (put key_cmp k v es) ≡ insert (from_entries es) k v
   insert_put k v es = same_map key_cmp_total key_cmp-IsAntisymmetric _ _ (λ q. get-from_entries key_cmp_total (put key_cmp k v es) q
       ∙ find-put key_cmp key_cmp_total q k v es
       ∙ sym (get-from_entries key_cmp_total ((k, v) ∷ es) q))
-
-  pub remove_first : (e : Key × X) (es : List (Key × X)) → is_sorted key_cmp (e ∷ es) ≡ true → from_entries {R = key_cmp} es ≡ remove (from_entries (e ∷ es)) e.0
-  remove_first e es h = put_taken key_cmp_total key_cmp-IsAntisymmetric (from_entries es) e.0 e.1 (below_entries key_cmp_total e.0 es (first _ _ h))

@@ -1,13 +1,11 @@
 -- Entries in the order of their keys.
-use Rattle.std.proofs.Common.{◌≡◌, ℕ, zero, suc, ◌-◌, ◌<◌, Bool, true, false, T, List, [], ◌∷◌, ◌++◌, length, Option, Some, None, refl, sym, ap, ◌∙◌, arith, ◌&&◌, true≢false}
+use Rattle.std.proofs.Common.{◌≡◌, ℕ, zero, suc, ◌<◌, ◌≤◌, Bool, true, false, cond, T, List, [], ◌∷◌, length, Option, Some, None, refl, sym, ap, ◌∙◌, arith, ◌&&◌, true≢false}
 use Rattle.std.proofs.Common.{Ordering, Less, Equal, Greater}
-use Rattle.std.specs.List.{slice_index_or, All}
-use Rattle.std.proofs.lemmas.List.{get_or_default}
-use Rattle.std.specs.List.Sorted.{IsPartitionedBy}
-use Rattle.std.specs.Ordering.{is_lt, is_eq, ordering_reverse}
+use Rattle.std.specs.List.{slice_index_or, insert as insert_at}
+use Rattle.std.specs.List.Sorted.{IsPartitionPoint, IsPartitionedBy}
+use Rattle.std.specs.Ordering.{is_lt, is_eq, eq_by_cmp, ordering_reverse}
 use Rattle.std.specs.Cmp.{IsTotalOrder}
-use Rattle.std.specs.FinMap.{put, is_sorted}
-use Rattle.std.specs.Option.{option_to_list}
+use Rattle.std.specs.FinMap.{find, put, is_sorted}
 use Rattle.std.specs.FinMap.Entries.{below_all, is_sorted-put, by_order}
 
 pub truth : (b : Bool) → b ≡ true → T b
@@ -64,25 +62,31 @@ module _ {K X : Type 0} {R : K → K → Ordering} (o : IsTotalOrder R) where
   partitioned k (x ∷ es) h (suc i) zero d le lt e = absurd (omega arith)
   partitioned k (x ∷ es) h (suc i) (suc j) d le lt e = partitioned k es (second _ _ h) i j d (omega arith) (omega arith) e
 
-  -- an entry that all others come before is put behind them
-  pub put_last : (k : K) (v : X) (es : List (K × X)) → ((j : ℕ) (d : K × X) → j < length es → is_lt (R (slice_index_or es j d).0 k) ≡ true)
-      → put R k v es ≡ es ++ (k, v) ∷ []
-  put_last k v [] before = refl
-  put_last k v (x ∷ es) before =
-      ap (λ r. by_order r ((k, v) ∷ x ∷ es) ((x.0, v) ∷ es) (x ∷ put R k v es))
-      (o.antisymm k x.0 ∙ ap ordering_reverse (less (R x.0 k) (before 0 x (omega arith))))
-      ∙ ap (λ l. x ∷ l) (put_last k v es (λ j d l. before (suc j) d (omega arith)))
+  -- an entry put where the entries before its key end stands in its place
+  pub put_at : (k : K) (v : X) (es : List (K × X)) (i : ℕ) → is_sorted R es ≡ true → find R k es ≡ None → i ≤ length es
+      → IsPartitionPoint (λ e. is_lt (R e.0 k) ≡ true) (λ e. is_lt (R e.0 k) ≡ false) es i → put R k v es ≡ insert_at es i (k, v)
+  put_at k v [] zero h none le p = refl
+  put_at k v [] (suc i) h none le p = absurd (omega arith)
+  put_at k v (x ∷ es) zero h none le p =
+      let none_here : eq_by_cmp R k x.0 ≡ false = apart (eq_by_cmp R k x.0) x.1 (find R k es) none in
+      let same : is_eq (R x.0 k) ≡ false = ap is_eq (o.antisymm x.0 k) ∙ turned (R k x.0) none_here in
+      let g = greater (R x.0 k) (p.1 0 x (omega arith) (omega arith)) same in
+      ap (λ r. by_order r ((k, v) ∷ x ∷ es) ((x.0, v) ∷ es) (x ∷ put R k v es)) (o.antisymm k x.0 ∙ ap ordering_reverse g)
+    where
+      apart : (b : Bool) (w : X) (r : Option X) → cond b (Some w) r ≡ None → b ≡ false
+      apart true w r e = absurd cc
+      apart false w r e = refl
 
-  -- where the last entry comes before a key, all do
-  pub behind_all : (k : K) (es : List (K × X)) (last : K × X) → is_sorted R es ≡ true → 0 < length es
-      → last ≡ slice_index_or es (length es - 1) last → is_lt (R last.0 k) ≡ true → All (λ e. R e.0 k ≡ Less) es
-  behind_all k es last h some is before j d l = less (R (slice_index_or es j d).0 k)
-      (partitioned k es h j (length es - 1) d (omega arith) (omega arith)
-      (ap (λ z. is_lt (R z.0 k)) (get_or_default es (length es - 1) d last (omega arith) ∙ sym is) ∙ before))
+      turned : (r : Ordering) → is_eq r ≡ false → is_eq (ordering_reverse r) ≡ false
+      turned Less e = refl
+      turned Equal e = e
+      turned Greater e = refl
+  put_at k v (x ∷ es) (suc i) h none le p =
+      let l = less (R x.0 k) (p.0 0 x (omega arith) (omega arith)) in
+      let g = o.antisymm k x.0 ∙ ap ordering_reverse l in
+      let rest = put_at k v es i (second _ _ h) (sym (ap (λ r. cond (is_eq r) (Some x.1) (find R k es)) g) ∙ none) (omega arith)
+      ((λ j d a b. p.0 (suc j) d (omega arith) (omega arith)), (λ j d a b. p.1 (suc j) d (omega arith) (omega arith))) in
+      ap (λ r. by_order r ((k, v) ∷ x ∷ es) ((x.0, v) ∷ es) (x ∷ put R k v es)) g ∙ ap (λ l. x ∷ l) rest
 
   pub sorted_after : (k : K) (v : X) (es ys : List (K × X)) → is_sorted R es ≡ true → ys ≡ put R k v es → is_sorted R ys ≡ true
   sorted_after k v es ys h e = ap (is_sorted R) e ∙ holds _ (is_sorted-put R o k v es (truth _ h))
-
-  pub sorted_rest : (r : Option (K × X)) (es ys : List (K × X)) → es ≡ option_to_list r ++ ys → is_sorted R es ≡ true → is_sorted R ys ≡ true
-  sorted_rest None es ys e h = ap (is_sorted R) (sym e) ∙ h
-  sorted_rest (Some x) es ys e h = second _ _ (ap (is_sorted R) (sym e) ∙ h)

@@ -1,0 +1,72 @@
+//! What an event list keeps of an event.
+
+ghost use Rattle.std.specs.Prelude.{◌≡◌, refl};
+ghost use Rattle.std.specs.Cmp.{partial_order_from_total, partial_equiv_from_equiv};
+ghost use Rattle.std.specs.Cmp.{eq_by_cmp_equiv};
+ghost use Rattle.std.specs.Ordering.{as_partial_cmp, eq_by_cmp};
+ghost use Rattle.nm_events.specs.Entries.{by_key, by_key_total, entry_key};
+
+use nm_base::{Event, Key, Time};
+use std::cmp::Ordering;
+
+/// An event, and the time and the number of its key, whose place it says itself. Entries are
+/// ordered by their keys.
+#[derive(Drop)]
+pub(crate) struct Entry {
+    pub(crate) time: Time,
+    pub(crate) number: u64,
+    pub(crate) event: Event,
+}
+
+impl Entry {
+    /// The event's key.
+    #[inline(always)]
+    pub(crate) fn key(&self) -> Key
+        ensures { result ≡ entry_key self.now }
+    {
+        Key {
+            time: self.time,
+            place: self.event.place(),
+            number: self.number,
+        }
+    }
+}
+
+impl PartialEq for Entry {
+    ghost eq = { eq_by_cmp by_key };
+
+    ghost laws = { partial_equiv_from_equiv (eq_by_cmp_equiv by_key_total) };
+
+    fn eq(&self, other: &Entry) -> bool {
+        self.cmp(other).is_eq()
+    }
+}
+
+impl Eq for Entry {
+    ghost laws = { eq_by_cmp_equiv by_key_total };
+}
+
+impl PartialOrd for Entry {
+    ghost partial_cmp = { as_partial_cmp by_key };
+
+    ghost laws = { partial_order_from_total by_key_total };
+
+    fn partial_cmp(&self, other: &Entry) -> Option<Ordering> {
+        Some(self.cmp(other))
+    }
+}
+
+impl Ord for Entry {
+    ghost cmp = { by_key };
+
+    ghost total = { by_key_total };
+
+    ghost matches_partial_cmp = { λ x y. refl };
+
+    ghost matches_eq = { λ x y. refl };
+
+    #[inline(always)]
+    fn cmp(&self, other: &Entry) -> Ordering {
+        self.key().cmp(&other.key())
+    }
+}
