@@ -4,3 +4,4 @@ mod Heaped
 mod Maps
 mod Orders
 mod Sorted
+mod Times

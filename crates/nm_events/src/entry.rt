@@ -30,6 +30,15 @@ impl Entry {
             number: self.number,
         }
     }
+
+    /// Which of two keys of one time comes first. It is a call of its own, since a heap compares
+    /// entries all the time, and mostly their times differ.
+    #[inline(never)]
+    fn cmp_at_one_time(&self, other: &Entry) -> Ordering
+        ensures { result ≡ by_key self.now other.now }
+    {
+        self.key().cmp(&other.key())
+    }
 }
 
 impl PartialEq for Entry {
@@ -67,6 +76,12 @@ impl Ord for Entry {
 
     #[inline(always)]
     fn cmp(&self, other: &Entry) -> Ordering {
-        self.key().cmp(&other.key())
+        if self.time < other.time {
+            Ordering::Less
+        } else if other.time < self.time {
+            Ordering::Greater
+        } else {
+            self.cmp_at_one_time(other)
+        }
     }
 }
