@@ -1,11 +1,14 @@
 -- What a reader holds, and what it makes of a piece.
-use Rattle.std.specs.Prelude.{◌≡◌, ◌⊎◌, ◌<◌, length, ℕ, Bool, true, false, List, [], ◌++◌, Option, Some, None, Result, Ok, Err}
+use Rattle.std.specs.Prelude.{◌≡◌, ◌⊎◌, ◌<◌, ◌≤◌, ◌+◌, drop, length, slice_index, take, ℕ, Bool, true, false, List, [], ◌++◌, Option, Some, None, Result, Ok, Err}
 use Rattle.std.specs.List.{AllByRecursion}
 use Rattle.nm_frames.specs.declared.frame.Frame.{Frame}
+use Rattle.nm_frames.specs.declared.rest.Rest.{Rest}
 use Rattle.nm_frames.specs.declared.fault.FrameFault.{FrameFault}
 use Rattle.nm_frames.specs.declared.fault.FrameFault.TheVariants.{BadLength, BadKind, BadBody, Failed, Memory}
 use Rattle.nm_frames.specs.Frame.{IsFrame, frame_octets, stream_octets}
-use Rattle.nm_frames.specs.Stream.{fault_shown, IsShort}
+use Rattle.nm_base.specs.declared.limits.TheConstants.{MAX_BODY_OCTETS}
+use Rattle.nm_frames.specs.declared.format.TheConstants.{HEAD_OCTETS, LENGTH_OCTETS}
+use Rattle.nm_frames.specs.Stream.{fault_shown, fits_kind, is_bad_kind, stated_length, IsShort}
 
 -- the octets of a frame that has not come whole, none once the stream has shown a fault, and
 -- whether it has
@@ -13,9 +16,30 @@ pub record ReaderValue : Type 0 where
   pub rest : List ℕ
   pub failed : Bool
 
+-- the octets of a rest in its two parts
+abbrev pub octets_of : Rest → List ℕ
+octets_of rest = rest.cut ++ rest.open.items
+
 -- a fault that the octets of a stream show
 abbrev pub IsOfStream : FrameFault → Type 0
 IsOfStream e = (e ≡ BadLength) ⊎ (e ≡ BadKind) ⊎ (e ≡ BadBody)
+
+-- these octets stand at a place of a block
+abbrev pub StandsAt : List ℕ → ℕ → List ℕ → Type 0
+StandsAt block at octets =
+    (at + length octets ≤ length block) × (take (length octets) (drop at block) ≡ octets)
+
+-- a frame of so many octets after its length is whole at the front and shows no fault
+abbrev pub IsWhole : List ℕ → ℕ → Type 0
+IsWhole octets size =
+    (LENGTH_OCTETS + size ≤ length octets) × (size ≡ stated_length octets)
+    × (size ≤ MAX_BODY_OCTETS) × (is_bad_kind (slice_index octets LENGTH_OCTETS) ≡ false)
+    × (fits_kind (slice_index octets LENGTH_OCTETS) size (drop HEAD_OCTETS octets) ≡ true)
+
+abbrev pub FindsWhole : List ℕ → Result (Option ℕ) FrameFault → Type 0
+FindsWhole octets (Ok None) = (fault_shown octets ≡ None) × IsShort octets
+FindsWhole octets (Ok (Some size)) = IsWhole octets size × (1 ≤ size)
+FindsWhole octets (Err e) = IsOfStream e × (fault_shown octets ≡ Some e)
 
 -- what octets at the place of a frame came to
 abbrev pub FindsFrame : List ℕ → Result (Option (Frame × List ℕ)) FrameFault → Type 0

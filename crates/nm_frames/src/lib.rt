@@ -11,6 +11,7 @@ mod owed;
 mod parse;
 pub mod reader;
 pub mod replica_name;
+mod rest;
 pub mod session;
 pub mod session_fault;
 pub mod side;

@@ -1,14 +1,14 @@
 //! How frames are read.
 
 ghost use Rattle.std.specs.Prelude.{◌≡◌, ◌+◌, ◌≤◌, ◌<◌, ◌^◌, length, take, drop, slice_index, true};
-ghost use Rattle.std.specs.Prelude.{IfOk};
+ghost use Rattle.std.specs.Prelude.{IfOk, IfSome};
 ghost use Rattle.std.specs.Int.{w16, w32, w64, to_be_bytes, from_be_bytes};
 ghost use Rattle.nm_frames.specs.declared.format.TheConstants.{KIND_OCTETS};
 ghost use Rattle.nm_frames.specs.declared.format.field.TheConstants as field;
 ghost use Rattle.nm_frames.specs.declared.format.kind.TheConstants as kind;
 ghost use Rattle.nm_frames.specs.Frame.{IsFrame, frame_body};
 ghost use Rattle.nm_frames.specs.Stream.{stated_length, has_first_word, fits_kind};
-ghost use Rattle.nm_frames.specs.Reader.{FindsFrame, Found};
+ghost use Rattle.nm_frames.specs.Reader.{FindsWhole, Found, StandsAt};
 
 use crate::fault::FrameFault;
 use crate::format::{
@@ -16,6 +16,7 @@ use crate::format::{
     LENGTH_OCTETS, NULL_OCTETS, field, kind,
 };
 use crate::frame::{Frame, Have, Hello};
+use bytes::Bytes;
 use nm_base::limits::MAX_BODY_OCTETS;
 use nm_base::{ChanNo, Packet, PartNo, Time};
 use nm_book::message::{Data, Null};
@@ -94,10 +95,12 @@ fn hello_of(body: &[u8]) -> Hello
     }
 }
 
-/// The message of these octets after its length. Its packet is a copy of theirs.
-fn data_of(alloc: Global, body: &[u8]) -> Result<Data, AllocError>
-    // The body has the length of a Data frame.
-    requires { (DATA_HEADER_OCTETS < length body.now) × (length body.now ≤ MAX_BODY_OCTETS) }
+/// The message of these octets after its length, which stand at this place of a block. Its packet
+/// is cut off the block, with no copy.
+fn data_of(alloc: Global, block: &Bytes, at: usize, body: &[u8]) -> Result<Data, AllocError>
+    // The body has the length of a Data frame, and its place.
+    requires size { (DATA_HEADER_OCTETS < length body.now) × (length body.now ≤ MAX_BODY_OCTETS) }
+    requires place { StandsAt block.now at body.now }
 
     // Each field is read at its place.
     ensures channel { IfOk result
@@ -111,7 +114,7 @@ fn data_of(alloc: Global, body: &[u8]) -> Result<Data, AllocError>
     // What is read is a frame.
     ensures fits { IfOk result (λ d. IsFrame (Frame.Data d)) }
 {
-    let octets = Vec::from_slice(alloc, &body[field::PACKET..])?;
+    let octets = block.slice(at + field::PACKET..at + body.len())?;
     let packet = Packet::from_octets(alloc, octets)?;
     Ok(Data {
         channel: ChanNo::new(u32_at(body, field::CHANNEL)),
@@ -121,8 +124,9 @@ fn data_of(alloc: Global, body: &[u8]) -> Result<Data, AllocError>
     })
 }
 
-/// The frame of these octets after its length.
-fn frame_of(alloc: Global, body: &[u8]) -> Result<Frame, AllocError>
+/// The frame of these octets after its length, which stand at this place of a block.
+fn frame_of(alloc: Global, block: &Bytes, at: usize, body: &[u8]) -> Result<Frame, AllocError>
+    requires place { StandsAt block.now at body.now }
     requires length { (KIND_OCTETS ≤ length body.now) × (length body.now ≤ MAX_BODY_OCTETS) }
     requires kind { (kind.HELLO ≤ slice_index body.now field.KIND)
         × (slice_index body.now field.KIND ≤ kind.BYE) }
@@ -137,7 +141,7 @@ fn frame_of(alloc: Global, body: &[u8]) -> Result<Frame, AllocError>
             channel: ChanNo::new(u32_at(body, field::CHANNEL)),
             count: u64_at(body, field::COUNT),
         })),
-        kind::DATA => Ok(Frame::Data(data_of(alloc, body)?)),
+        kind::DATA => Ok(Frame::Data(data_of(alloc, block, at, body)?)),
         kind::NULL => Ok(Frame::Null(Null {
             channel: ChanNo::new(u32_at(body, field::CHANNEL)),
             count: u64_at(body, field::COUNT),
@@ -147,13 +151,14 @@ fn frame_of(alloc: Global, body: &[u8]) -> Result<Frame, AllocError>
     }
 }
 
-/// The frame at the front of these octets and the octets after it, or `None` where they are short.
+/// How many octets after its length the frame at the front of these has, or `None` where they are
+/// short.
 ///
 /// # Errors
 ///
-/// The fault that the octets show, or `Memory` where the packet's was refused.
-pub(crate) fn next_frame(alloc: Global, octets: &[u8]) -> Result<Option<(Frame, &[u8])>, FrameFault>
-    ensures { Found (λ rest. rest.now) octets.now result }
+/// The fault that the octets show.
+pub(crate) fn whole_frame(octets: &[u8]) -> Result<Option<usize>, FrameFault>
+    ensures { FindsWhole octets.now result }
 {
     if octets.len() < LENGTH_OCTETS {
         return Ok(None);
@@ -171,9 +176,32 @@ pub(crate) fn next_frame(alloc: Global, octets: &[u8]) -> Result<Option<(Frame, 
     if octets.len() < LENGTH_OCTETS + size {
         return Ok(None);
     }
-    let (body, rest) = octets[LENGTH_OCTETS..].split_at(size);
-    if !is_fitting(body) {
+    if !is_fitting(&octets[LENGTH_OCTETS..LENGTH_OCTETS + size]) {
         return Err(FrameFault::BadBody);
     }
-    Ok(Some((frame_of(alloc, body)?, rest)))
+    Ok(Some(size))
+}
+
+/// The frame at this place of a block and the place after it, or `None` where the octets from there
+/// on are short.
+///
+/// # Errors
+///
+/// The fault that the octets show, or `Memory` where the packet's was refused.
+pub(crate) fn next_frame(
+    alloc: Global,
+    block: &Bytes,
+    at: usize,
+) -> Result<Option<(Frame, usize)>, FrameFault>
+    requires { at ≤ length block.now }
+    ensures found { Found (λ next. drop next block.now) (drop at block.now) result }
+    ensures within { IfOk result (λ found. IfSome found (λ f. f.1 ≤ length block.now)) }
+{
+    let octets = &block.as_slice()[at..];
+    let Some(size) = whole_frame(octets)? else {
+        return Ok(None);
+    };
+    let begin = at + LENGTH_OCTETS;
+    let body = &octets[LENGTH_OCTETS..LENGTH_OCTETS + size];
+    Ok(Some((frame_of(alloc, block, begin, body)?, begin + size)))
 }

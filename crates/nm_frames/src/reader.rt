@@ -1,13 +1,15 @@
 //! A stream that comes in pieces.
 
-ghost use Rattle.std.specs.Prelude.{◌≡◌, ◌<◌, ◌≤◌, ◌-◌, drop, length, [], None, true, false, IfOk};
-ghost use Rattle.std.specs.Prelude.{IfErr};
+ghost use Rattle.std.specs.Prelude.{◌≡◌, ◌≤◌, drop, length, [], None, true, false, IfOk};
+ghost use Rattle.std.specs.Prelude.{IfErr, IfSome};
 ghost use Rattle.nm_frames.specs.Reader.{ReaderValue, Cuts, CutsTo, CutsOne, Feeds};
 ghost use Rattle.nm_frames.specs.Stream.{fault_shown, IsShort};
 
 use crate::fault::FrameFault;
 use crate::frame::Frame;
-use crate::parse::next_frame;
+use crate::parse::{next_frame, whole_frame};
+use crate::rest::Rest;
+use bytes::Bytes;
 use std::alloc::Global;
 use std::marker::Model;
 
@@ -16,62 +18,57 @@ use std::marker::Model;
 #[derive(Drop)]
 pub struct Reader {
     /// The octets of the frame that has not come whole; none once the stream has failed.
-    rest: Vec<u8>,
+    rest: Rest,
     failed: bool,
 }
 
 impl Model for Reader {
-    ghost use Rattle.nm_frames.specs.Reader.{ReaderValue};
+    ghost use Rattle.nm_frames.specs.Reader.{ReaderValue, octets_of};
 
     ghost Value = { ReaderValue };
 
-    ghost view = { λ r. record { rest = r.rest.items; failed = r.failed } };
+    ghost view = { λ r. record { rest = octets_of r.rest; failed = r.failed } };
 }
 
-/// Puts the frame at the front of the octets into a list, and answers the octets after it.
+/// Puts the frame at this place of a block into a list, and answers the place after it.
 #[tactic(auto, using(crate::proofs::Cutting::cuts_one, crate::proofs::Cutting::shorter))]
-fn cut_one<'a>(
+fn cut_one(
     alloc: Global,
-    octets: &'a [u8],
+    block: &Bytes,
+    at: usize,
     frames: &mut Vec<Frame>,
-) -> Result<Option<&'a [u8]>, FrameFault>
-    ensures { CutsOne (λ rest. rest.now) octets.now frames.old.items frames.new.items result }
+) -> Result<Option<usize>, FrameFault>
+    requires { at ≤ length block.now }
+    ensures one { CutsOne (λ next. drop next block.now) (drop at block.now) frames.old.items
+        frames.new.items result }
+    ensures within { IfOk result (λ next. IfSome next (λ n. n ≤ length block.now)) }
 {
-    match next_frame(alloc, octets) {
+    match next_frame(alloc, block, at) {
         Err(fault) => Err(fault),
         Ok(None) => Ok(None),
-        Ok(Some((frame, rest))) => {
+        Ok(Some((frame, next))) => {
             if frames.push(frame).is_err() {
                 return Err(FrameFault::Memory);
             }
-            Ok(Some(rest))
+            Ok(Some(next))
         }
     }
 }
 
-/// Puts the frames at the front of the octets into a list, and answers the octets after them.
-fn cut<'a>(alloc: Global, octets: &'a [u8], frames: &mut Vec<Frame>) -> Result<&'a [u8], FrameFault>
-    ensures ok { IfOk result (λ rest. Cuts octets.now rest.now frames.old.items frames.new.items) }
-    ensures none { IfOk result (λ rest. fault_shown rest.now ≡ None) }
-    ensures short { IfOk result (λ rest. IsShort rest.now) }
-    ensures err { IfErr result (λ e. CutsTo e octets.now frames.old.items frames.new.items) }
+/// Puts the frames of a block into a list, and answers where the octets after them begin.
+fn cut(alloc: Global, block: &Bytes, frames: &mut Vec<Frame>) -> Result<usize, FrameFault>
+    ensures ok { IfOk result
+        (λ at. Cuts block.now (drop at block.now) frames.old.items frames.new.items) }
+    ensures none { IfOk result (λ at. fault_shown (drop at block.now) ≡ None) }
+    ensures short { IfOk result (λ at. IsShort (drop at block.now)) }
+    ensures within { IfOk result (λ at. at ≤ length block.now) }
+    ensures err { IfErr result (λ e. CutsTo e block.now frames.old.items frames.new.items) }
 {
-    let mut rest = octets;
-    while let Some(more) = cut_one(alloc, rest, frames)? {
-        rest = more;
+    let mut at = 0;
+    while let Some(next) = cut_one(alloc, block, at, frames)? {
+        at = next;
     }
-    Ok(rest)
-}
-
-/// Drops all octets but so many at the end.
-fn keep_last(octets: &mut Vec<u8>, count: usize)
-    requires { count ≤ length octets.old.items }
-    ensures { octets.new.items ≡ drop (length octets.old.items - count) octets.old.items }
-{
-    let gone = octets.len() - count;
-    if gone > 0 {
-        octets.drain(..gone);
-    }
+    Ok(at)
 }
 
 impl Reader {
@@ -80,13 +77,14 @@ impl Reader {
         ensures { result ≡ record { rest = []; failed = false } }
     {
         Reader {
-            rest: Vec::new(alloc),
+            rest: Rest::new(alloc),
             failed: false,
         }
     }
 
     /// Takes the next piece of the stream, and puts each frame that is whole now at the end of a
-    /// list. Packets get octets of their own.
+    /// list. Packets are cut off the octets that came, with no copy: one that is kept keeps the
+    /// octets of the piece.
     ///
     /// # Errors
     ///
@@ -104,25 +102,34 @@ impl Reader {
         if self.failed {
             return Err(FrameFault::Failed);
         }
-        let held = self.rest.len();
+        let held = self.rest.cut.len() + self.rest.open.len();
         let before = frames.len();
-        if self.rest.extend_from_slice(piece).is_err() {
+        if self.rest.add(alloc, piece).is_err() {
             return Err(FrameFault::Memory);
         }
-        let left = match cut(alloc, &self.rest, frames) {
-            Ok(rest) => rest.len(),
+        if let Ok(None) = whole_frame(self.rest.open.as_slice()) {
+            return Ok(());
+        }
+        let Ok(mut block) = self.rest.freeze(alloc) else {
+            self.rest.open.truncate(held);
+            return Err(FrameFault::Memory);
+        };
+        match cut(alloc, &block, frames) {
+            Ok(at) => {
+                block.advance(at);
+                self.rest = Rest::of_block(alloc, block);
+                Ok(())
+            }
             Err(FrameFault::Memory) => {
-                self.rest.truncate(held);
+                block.truncate(held);
+                self.rest = Rest::of_block(alloc, block);
                 frames.truncate(before);
-                return Err(FrameFault::Memory);
+                Err(FrameFault::Memory)
             }
             Err(fault) => {
                 self.failed = true;
-                self.rest.clear();
-                return Err(fault);
+                Err(fault)
             }
-        };
-        keep_last(&mut self.rest, left);
-        Ok(())
+        }
     }
 }

@@ -26,7 +26,7 @@ ghost use Rattle.nm_sim.specs.Part.{events_counted, events_done, messages_out, w
 ghost use Rattle.nm_sim.specs.Part.{with_arrival};
 ghost use Rattle.nm_sim.specs.Totals.{totals_at};
 ghost use Rattle.nm_topology.specs.Topology.{receiving_iface};
-ghost use Rattle.std.specs.FinMap.{empty, get};
+ghost use Rattle.std.specs.FinMap.{empty, get, insert};
 ghost use Rattle.nm_sim.specs.Devices.{DevicesRepresent};
 ghost use Rattle.nm_sim.specs.Tables.{AllSome, IsMember};
 ghost use Rattle.std.specs.Prelude.{drop, if◌then◌else◌, is_some, slice_get};
@@ -166,8 +166,8 @@ impl<L: EventList> Part<L> {
         self.timeline.reserve(count)
     }
 
-    /// A message of a channel that comes in: the packet with this number on the channel is to
-    /// arrive at this time. It takes no memory.
+    /// A message of a channel: the packet with this number on the channel is to arrive at this time,
+    /// at the interface where the channel comes in. It takes no memory.
     pub fn put_arrival(
         &mut self,
         topology: &Topology,
@@ -176,15 +176,21 @@ impl<L: EventList> Part<L> {
         time: Time,
         packet: Packet,
     )
-        // The channel comes in here, there is room, and no event has the key.
-        requires comes { (p : ℕ) × (self.old.part ≡ Some p)
-            × (comes_in (net_of topology.now) p (receiving_iface topology.now channel) ≡ true) }
+        // There is room, and no event has the key.
         requires room { 1 ≤ L.room self.old.timeline.events }
         requires fresh { get (L.pending self.old.timeline.events)
             (key_of time (Arrive (receiving_iface topology.now channel)) number) ≡ None }
 
-        // The arrival is to come.
-        ensures arrival { OfTheRunIn L.pending topology.now self.old
+        // The arrival is to come, and the others are as before.
+        ensures events { L.pending self.new.timeline.events
+            ≡ insert (L.pending self.old.timeline.events)
+            (key_of time (Arrive (receiving_iface topology.now channel)) number)
+            (Delivery (Arrival (receiving_iface topology.now channel)) packet) }
+
+        // Where the channel comes in here, it is to come in each run that the part stands in.
+        ensures arrival { (p : ℕ) → self.old.part ≡ Some p
+            → comes_in (net_of topology.now) p (receiving_iface topology.now channel) ≡ true
+            → OfTheRunIn L.pending topology.now self.old
             (λ part s. Represents L.pending topology.now part self.new
             (with_arrival (receiving_iface topology.now channel) number time packet s)) }
 

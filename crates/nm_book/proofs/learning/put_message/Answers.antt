@@ -48,7 +48,7 @@ returns-clause-book c = λ knows book next.
     let s = from_scratch net p (knowledge_of t knows) c.args.part.now.steps in
     let numbered : Represents pending_in t (Some p) c.put_arrival.new.self (with_arrival i (length (known_of knows m.channel).list) m.time m.packet s) =
     subst (λ n. Represents pending_in t (Some p) c.put_arrival.new.self (with_arrival i n m.time m.packet s)) next.number
-    (c.put_arrival.ensures.arrival (Some p) s book.represents) in
+    (c.put_arrival.ensures.arrival p book.represents.is_part next.incoming (Some p) s book.represents) in
     told_data t p knows c.args.part.now c.put_arrival.new.self m.channel m.time m.packet here book next.there next.incoming
     (λ K k w j comes b h. (c.told_one_more.ensures net ok p K k w j comes).message b h)
     (λ K J u k w. (c.law_of_books.ensures net ok p K J u k w).within)

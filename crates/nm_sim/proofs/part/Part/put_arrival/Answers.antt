@@ -11,15 +11,14 @@ use Rattle.nm_sim.proofs.Parts.{comes_here, represents_told}
 use Rattle.nm_sim.proofs.part.Part.put_arrival.Goals as goal
 
 pub returns-clause-arrival : goal.returns-clause-arrival
-returns-clause-arrival g c = rw (← c.self.view_is) (λ part s h.
+returns-clause-arrival g c = λ n partition comes. rw (← c.self.view_is) (λ part s h.
     let t = c.args.topology.now in
     let i = receiving_iface t c.args.channel in
-    let z = c.requires.comes in
     let p : PartValue g.row.L.Denot = record { part = c.self.inside.part; devices = c.self.inside.devices; timeline = c.self.inside.timeline; outgoing = c.self.inside.outgoing; records = c.self.inside.records; steps = c.self.inside.steps } in
     let q : PartValue g.row.L.Denot = record { part = c.self.inside.part; devices = c.self.inside.devices; timeline = c.put.new.self; outgoing = c.self.inside.outgoing; records = c.self.inside.records; steps = c.self.inside.steps } in
-    let is : part ≡ Some z.0 = sym h.is_part ∙ ap (λ (v : PartValue g.row.L.Denot). v.part) c.self.view_is ∙ z.1 in
-    let both = comes_here t part z.0 i is z.2 in
-    let at = c.channels_are_those_of_the_network.ensures.numbered z.0 i z.2 in
+    let is : part ≡ Some n = sym h.is_part ∙ ap (λ (v : PartValue g.row.L.Denot). v.part) c.self.view_is ∙ partition in
+    let both = comes_here t part n i is comes in
+    let at = c.channels_are_those_of_the_network.ensures.numbered n i comes in
     let within : i < length t.ifaces = subst (λ j. j < length t.ifaces) at.2 (c.channels_are_numbered_by_their_receivers.ensures.there at.0 at.1) in
     represents_told g.L.EventList.pending t part i c.args.number c.args.time c.args.packet p q
     (record { is_part = refl; sent = ap (λ l. l.sent) c.put.ensures.others; outgoing = refl; steps = refl }) s h

@@ -1,0 +1,84 @@
+//! The octets at the end of a stream of which no whole frame has come.
+
+ghost use Rattle.std.specs.Prelude.{◌≡◌, ◌++◌, [], IfOk, OnErr, OnOk, length, take};
+ghost use Rattle.nm_frames.specs.Reader.{octets_of};
+
+use bytes::{Bytes, BytesMut};
+use std::alloc::{AllocError, Global};
+use std::mem;
+
+/// Octets in two parts, of which one at most has any mostly.
+#[derive(Drop)]
+pub(crate) struct Rest {
+    /// What is left of a block from which frames were cut. Their packets share the block.
+    pub(crate) cut: Bytes,
+    /// What came after it.
+    pub(crate) open: BytesMut,
+}
+
+impl Rest {
+    /// No octets.
+    pub(crate) fn new(alloc: Global) -> Self
+        ensures { octets_of result ≡ [] }
+    {
+        Rest {
+            cut: Bytes::new(),
+            open: BytesMut::new(alloc),
+        }
+    }
+
+    /// What is left of a block.
+    pub(crate) fn of_block(alloc: Global, block: Bytes) -> Self
+        ensures { octets_of result ≡ block }
+    {
+        Rest {
+            cut: block,
+            open: BytesMut::new(alloc),
+        }
+    }
+
+    /// Adds a piece, and moves all octets into the open part. A new one has room for these octets
+    /// alone, so that a packet which is kept keeps no more than what came with it.
+    ///
+    /// # Errors
+    ///
+    /// `AllocError` where memory was refused. The octets are as before.
+    pub(crate) fn add(&mut self, alloc: Global, piece: &[u8]) -> Result<(), AllocError>
+        ensures whole { OnOk result (self.new.open.items ≡ octets_of self.old ++ piece.now) }
+        ensures moved { OnOk result (self.new.cut ≡ []) }
+        ensures err { OnErr result (octets_of self.new ≡ octets_of self.old) }
+    {
+        if self.cut.is_empty() && !self.open.is_empty() {
+            return self.open.extend_from_slice(piece);
+        }
+        let count = self.cut.len().saturating_add(piece.len());
+        let mut octets = Vec::with_capacity(alloc, count)?;
+        octets.extend_from_slice(self.cut.as_slice())?;
+        octets.extend_from_slice(self.open.as_slice())?;
+        octets.extend_from_slice(piece)?;
+        self.cut = Bytes::new();
+        self.open = BytesMut::from_vec(octets);
+        Ok(())
+    }
+
+    /// Takes all octets out of the open part, as a block from which packets can be cut.
+    ///
+    /// # Errors
+    ///
+    /// `AllocError` where memory for the count of owners was refused. The octets are as before.
+    pub(crate) fn freeze(&mut self, alloc: Global) -> Result<Bytes, AllocError>
+        ensures block { IfOk result (λ block. block ≡ self.old.open.items) }
+        ensures none { OnOk result (self.new.open.items ≡ []) }
+        ensures err { OnErr result (self.new.open.items ≡ self.old.open.items) }
+        ensures keeps { self.new.cut ≡ self.old.cut }
+    {
+        let open = mem::replace(&mut self.open, BytesMut::new(alloc));
+        match open.freeze() {
+            Ok(block) => Ok(block),
+            Err(failed) => {
+                self.open = failed.value;
+                Err(AllocError)
+            }
+        }
+    }
+}
