@@ -16,5 +16,5 @@ mod safe;
 pub use book::Book;
 pub use fault::{AcceptFault, BookFault, BookRefusal, MergeFault, MergeRefusal};
 pub use knowledge::Knowledge;
-pub use message::{ChannelMessage, Data, Null};
+pub use message::{ChanMsg, ChannelMessage, Data, Null};
 pub use running::Ran;

@@ -33,6 +33,9 @@ pub enum ChannelMessage {
     Null(Null),
 }
 
+/// A shorter name of a message of a channel.
+pub type ChanMsg = ChannelMessage;
+
 impl ChannelMessage {
     /// The channel of which it tells.
     pub fn channel(&self) -> ChanNo

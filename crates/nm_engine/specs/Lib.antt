@@ -7,3 +7,4 @@ pub mod Giving
 pub mod Writing
 pub mod Turn
 pub mod Many
+pub mod Out

@@ -1,13 +1,14 @@
 //! What a link puts into its buffer.
 
-ghost use Rattle.std.specs.Prelude.{◌≡◌, ◌+◌, ◌<◌, ◌≤◌, true, false, Ok, IfOk, vec_len};
+ghost use Rattle.std.specs.Prelude.{◌≡◌, ◌+◌, ◌<◌, ◌≤◌, true, false, Ok, IfOk, length};
 ghost use Rattle.nm_engine.specs.Giving.{GivesOr, HoldsNone, OwesNone};
 ghost use Rattle.nm_engine.specs.Acceptor.{AcceptorValue};
 ghost use Rattle.std.specs.Prelude.{Option};
 
 use crate::acts::NextOut;
+use crate::out::OutBuffer;
 use nm_base::limits::{FULL_OUT_OCTETS, MAX_FRAME_OCTETS, MAX_OUT_OCTETS};
-use nm_frames::{Session, write_frame};
+use nm_frames::Session;
 use nm_shared::{Counts, Pass, SharedBook};
 use std::alloc::AllocError;
 use std::sync::Wait;
@@ -18,13 +19,13 @@ fn give_one<C: Counts, R: Wait>(
     session: &mut Option<Session>,
     book: &SharedBook<C>,
     pass: &mut Pass<C>,
-    out: &mut Vec<u8>,
+    out: &mut OutBuffer,
 ) -> Result<bool, AllocError>
     ensures gives { (h : Option AcceptorValue) → GivesOr h session.old session.new out.old.items
         out.new.items result }
     ensures none { result ≡ Ok false → OwesNone session.new }
-    ensures more { result ≡ Ok true → vec_len out.old < vec_len out.new }
-    ensures most { vec_len out.new ≤ vec_len out.old + MAX_FRAME_OCTETS }
+    ensures more { result ≡ Ok true → length out.old.items < length out.new.items }
+    ensures most { length out.new.items ≤ length out.old.items + MAX_FRAME_OCTETS }
 {
     let Some(asked) = session.take() else {
         return Ok(false);
@@ -34,7 +35,7 @@ fn give_one<C: Counts, R: Wait>(
     match owed {
         Err(refused) => Err(refused),
         Ok(None) => Ok(false),
-        Ok(Some(frame)) => match write_frame(&frame, out) {
+        Ok(Some(frame)) => match out.put(&frame) {
             Ok(()) => Ok(true),
             Err(refused) => Err(refused),
         },
@@ -47,13 +48,13 @@ pub(crate) fn give_all<C: Counts, R: Wait>(
     session: &mut Option<Session>,
     book: &SharedBook<C>,
     pass: &mut Pass<C>,
-    out: &mut Vec<u8>,
+    out: &mut OutBuffer,
 ) -> Result<(), AllocError>
-    requires { vec_len out.old ≤ MAX_OUT_OCTETS }
+    requires { length out.old.items ≤ MAX_OUT_OCTETS }
     ensures gives { (h : Option AcceptorValue) → GivesOr h session.old session.new out.old.items
         out.new.items result }
     ensures all { IfOk result (λ _. HoldsNone session.new out.new.items) }
-    ensures most { vec_len out.new ≤ MAX_OUT_OCTETS }
+    ensures most { length out.new.items ≤ MAX_OUT_OCTETS }
 {
     while out.len() < FULL_OUT_OCTETS {
         if !give_one(rt, session, book, pass, out)? {

@@ -7,6 +7,7 @@ pub mod answer;
 mod giving;
 pub mod laws;
 pub mod link;
+mod out;
 mod parts;
 pub mod reading;
 mod taking;

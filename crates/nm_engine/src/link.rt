@@ -6,6 +6,7 @@ ghost use Rattle.nm_engine.specs.Turn.{Hears, Turns};
 
 use crate::acceptor::Acceptor;
 use crate::answer::Turn;
+use crate::out::OutBuffer;
 use crate::parts::{Parts, Party};
 use crate::reading::ReadBuffer;
 use crate::turning::{listen, work};
@@ -59,7 +60,7 @@ fn begun<W>(alloc: Global, wire: W, party: Party) -> Link<W>
             wire,
             party,
             reader: Reader::new(alloc),
-            out: Vec::new(alloc),
+            out: OutBuffer::new(alloc),
         },
         failed: false,
     }

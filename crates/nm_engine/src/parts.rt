@@ -1,6 +1,7 @@
 //! The parts of a link.
 
 use crate::acceptor::Acceptor;
+use crate::out::OutBuffer;
 use nm_frames::{Reader, Session};
 
 /// Who speaks at this side: a session; before it, where the peer connected, who awaits one.
@@ -17,5 +18,5 @@ pub(crate) struct Parts<W> {
     pub(crate) party: Party,
     pub(crate) reader: Reader,
     /// The octets that the wire has not taken.
-    pub(crate) out: Vec<u8>,
+    pub(crate) out: OutBuffer,
 }

@@ -6,6 +6,7 @@ ghost use Rattle.nm_engine.specs.Link.{IsBounded, bye_taken};
 
 use crate::answer::{Cause, Turn};
 use crate::giving::give_all;
+use crate::out::OutBuffer;
 use crate::parts::Parts;
 use crate::reading::{ReadBuffer, read_in};
 use crate::taking::take_all;
@@ -27,9 +28,9 @@ fn bye_taken(session: &Option<Session>) -> bool
 }
 
 /// Whether both sides have said Bye and nothing waits.
-fn has_ended(session: &Option<Session>, out: &[u8]) -> bool
-    ensures ended { result ≡ true → HasEnded session.now out.now }
-    ensures only { HasEnded session.now out.now → result ≡ true }
+fn has_ended(session: &Option<Session>, out: &OutBuffer) -> bool
+    ensures ended { result ≡ true → HasEnded session.now out.now.items }
+    ensures only { HasEnded session.now out.now.items → result ≡ true }
 {
     match session {
         Some(session) => session.bye_taken() && session.bye_given() && out.is_empty(),

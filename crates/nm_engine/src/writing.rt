@@ -1,22 +1,15 @@
 //! One write of a link.
 
-ghost use Rattle.std.specs.Prelude.{◌≡◌, ◌≤◌, drop, vec_len};
+ghost use Rattle.std.specs.Prelude.{◌≡◌};
 ghost use Rattle.nm_engine.specs.Writing.{Writes};
 
 use crate::answer::Cause;
+use crate::out::OutBuffer;
 use nm_base::Wire;
 use nm_base::wire::Written;
 
-/// Drops so many octets at the front.
-fn drop_front(out: &mut Vec<u8>, count: usize)
-    requires { count ≤ vec_len out.old }
-    ensures { out.new.items ≡ drop count out.old.items }
-{
-    out.drain(..count);
-}
-
 /// Writes once from the front of the buffer. How many octets went.
-pub(crate) fn write_out<W: Wire>(wire: &mut W, out: &mut Vec<u8>) -> Result<usize, Cause>
+pub(crate) fn write_out<W: Wire>(wire: &mut W, out: &mut OutBuffer) -> Result<usize, Cause>
     ensures writes { Writes (W.seen wire.old) (W.seen wire.new) out.old.items out.new.items result }
     ensures keeps { ((W.seen wire.new).given ≡ (W.seen wire.old).given)
         × ((W.seen wire.new).ends ≡ (W.seen wire.old).ends) }
@@ -26,7 +19,7 @@ pub(crate) fn write_out<W: Wire>(wire: &mut W, out: &mut Vec<u8>) -> Result<usiz
     }
     match wire.write_some(out.as_slice()) {
         Written::Took(count) => {
-            drop_front(out, count);
+            out.advance(count);
             Ok(count)
         }
         Written::Later => Ok(0),

@@ -1,4 +1,4 @@
-use Rattle.std.proofs.Common.{◌≡◌, ◌-◌, ◌≤◌, List, [], vec_len, Option}
+use Rattle.std.proofs.Common.{◌≡◌, ◌-◌, ◌≤◌, List, [], length, Option}
 use Rattle.nm_engine.specs.Giving.{GivesFrames}
 use Rattle.nm_engine.specs.Acceptor.{AcceptorValue}
 use Rattle.nm_base.specs.declared.limits.TheConstants.{FULL_OUT_OCTETS, MAX_OUT_OCTETS}
@@ -7,8 +7,8 @@ use Rattle.nm_engine.proofs.giving.give_all.Given as goal
 abbrev pub invariant-loop-session : goal.invariant-loop-session
 invariant-loop-session g l = record {
   gives : (h : Option AcceptorValue) → GivesFrames h l.initial.session l.session l.initial.out.items l.out.items [];
-  most : vec_len l.out ≤ MAX_OUT_OCTETS;
+  most : length l.out.items ≤ MAX_OUT_OCTETS;
 }
 
 abbrev pub decreases-loop-session : goal.decreases-loop-session
-decreases-loop-session g l = FULL_OUT_OCTETS - vec_len l.out
+decreases-loop-session g l = FULL_OUT_OCTETS - length l.out.items

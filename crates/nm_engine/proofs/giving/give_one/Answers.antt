@@ -10,7 +10,7 @@ returns-in-Ok-clause-gives g c =
     let b = c.act-back.ensures.0 in
     let does = c.act-back.ensures.2 in
     let before = c.args.out.now.items in
-    let after = c.write_frame.new.out.items in
+    let after = c.put.new.self.items in
     let f = c.in-Ok-Some.frame in
     λ h.
     subst (λ (s : Option SessionValue). GivesFrames h s (Some c.act-back.result.0) before after []) (sym (sym c.take.ensures.value ∙ c.in-Some.is))
@@ -21,10 +21,10 @@ returns-clause-gives g c =
     let b = c.act-back.ensures.0 in
     let does = c.act-back.ensures.2 in
     let before = c.args.out.now.items in
-    let after = c.write_frame.new.out.items in
+    let after = c.put.new.self.items in
     let f = c.in-Ok-Some.frame in
     λ h. (
       frame_octets f,
       subst (λ (s : Option SessionValue). GivesFrames h s (Some c.act-back.result.0) before after (frame_octets f)) (sym (sym c.take.ensures.value ∙ c.in-Some.is))
-          (gives_one h c.in-Some.asked c.act-back.result.0 b f c.act-back.result.1 (c.in-Ok-Some.is ∙ ap Ok c.in-Ok-Some.field-0-is) does.1 does.2 c.in-Err-write_frame.ensures.fits before after (frame_octets f) (ap (λ l. l ++ frame_octets f) c.in-Err-write_frame.ensures.err)),
+          (gives_one h c.in-Some.asked c.act-back.result.0 b f c.act-back.result.1 (c.in-Ok-Some.is ∙ ap Ok c.in-Ok-Some.field-0-is) does.1 does.2 c.in-Err-put.ensures.fits before after (frame_octets f) (ap (λ l. l ++ frame_octets f) c.in-Err-put.ensures.err)),
     )

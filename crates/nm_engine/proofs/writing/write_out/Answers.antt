@@ -9,8 +9,8 @@ returns-then-is_empty-clause-writes g c =
 
 pub returns-in-Took-clause-writes : goal.returns-in-Took-clause-writes
 returns-in-Took-clause-writes g c =
-    wrote_some (g.W.Wire.seen c.args.wire.now) (g.W.Wire.seen c.write_some.new.self) c.in-Took.count c.args.out.now.items c.drop_front.new.out.items
-    (subst (λ (l : List ℕ). Goes (λ w. w.taken) (g.W.Wire.seen c.args.wire.now) (g.W.Wire.seen c.write_some.new.self) c.in-Took.count l) c.as_slice.ensures.value c.in-Took.ensures.writes) c.drop_front.ensures
+    wrote_some (g.W.Wire.seen c.args.wire.now) (g.W.Wire.seen c.write_some.new.self) c.in-Took.count c.args.out.now.items c.advance.new.self.items
+    (subst (λ (l : List ℕ). Goes (λ w. w.taken) (g.W.Wire.seen c.args.wire.now) (g.W.Wire.seen c.write_some.new.self) c.in-Took.count l) c.as_slice.ensures c.in-Took.ensures.writes) c.advance.ensures
 
 pub returns-in-Later-clause-writes : goal.returns-in-Later-clause-writes
 returns-in-Later-clause-writes g c =

@@ -1,0 +1,87 @@
+//! What a link has for its wire.
+
+ghost use Rattle.std.specs.Prelude.{◌≡◌, ◌≤◌, ◌==◌, ◌++◌, [], OnErr, OnOk, drop, length};
+ghost use Rattle.nm_frames.specs.Frame.{IsFrame, frame_octets};
+
+use nm_frames::{Frame, write_frame};
+use std::alloc::{AllocError, Global};
+use std::marker::Model;
+
+/// The octets that a wire has not taken. Those that went are passed over, and are moved out once
+/// they are as many as those that wait, so that no octet is moved for each write.
+#[derive(Drop)]
+pub(crate) struct OutBuffer {
+    octets: Vec<u8>,
+    /// How many octets at the front went.
+    gone: usize,
+}
+
+impl Model for OutBuffer {
+    ghost use Rattle.std.specs.Prelude.{◌≤◌, drop, vec_len};
+    ghost use Rattle.nm_engine.specs.Out.{Waiting};
+
+    ghost Value = { Waiting };
+
+    ghost view = { λ o. record { items = drop o.gone o.octets.items } };
+
+    ghost invariant = { λ o. o.gone ≤ vec_len o.octets };
+}
+
+impl OutBuffer {
+    /// A buffer without octets.
+    pub(crate) fn new(alloc: Global) -> Self
+        ensures { result.items ≡ [] }
+    {
+        OutBuffer {
+            octets: Vec::new(alloc),
+            gone: 0,
+        }
+    }
+
+    /// How many octets wait.
+    pub(crate) fn len(&self) -> usize
+        ensures { result ≡ length self.now.items }
+    {
+        self.octets.len() - self.gone
+    }
+
+    /// Whether none waits.
+    pub(crate) fn is_empty(&self) -> bool
+        ensures { result ≡ (length self.now.items == 0) }
+    {
+        self.len() == 0
+    }
+
+    /// The octets that wait.
+    pub(crate) fn as_slice(&self) -> &[u8]
+        ensures { result.now ≡ self.now.items }
+    {
+        &self.octets[self.gone..]
+    }
+
+    /// Puts a frame behind them.
+    ///
+    /// # Errors
+    ///
+    /// `AllocError` where memory was refused. The same octets wait then.
+    #[tactic(auto, using(Rattle::std::proofs::lemmas::List::drop-append-le))]
+    pub(crate) fn put(&mut self, frame: &Frame) -> Result<(), AllocError>
+        ensures ok { OnOk result (self.new.items ≡ self.old.items ++ frame_octets frame.now) }
+        ensures fits { IsFrame frame.now }
+        ensures err { OnErr result (self.new.items ≡ self.old.items) }
+    {
+        write_frame(frame, &mut self.octets)
+    }
+
+    /// So many octets at the front went.
+    pub(crate) fn advance(&mut self, count: usize)
+        requires { count ≤ length self.old.items }
+        ensures { self.new.items ≡ drop count self.old.items }
+    {
+        self.gone += count;
+        if self.gone >= self.octets.len() - self.gone {
+            self.octets.drain(..self.gone);
+            self.gone = 0;
+        }
+    }
+}
