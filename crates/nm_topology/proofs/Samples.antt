@@ -30,3 +30,5 @@ length_24 = refl
 pub length_32 : length_of (codes "32") ≡ Some 32
 unfolding digits least_below
 length_32 = refl
+
+pub ruleset texts = (host, length_24, length_32)

@@ -2,7 +2,7 @@
 use Rattle.std.specs.Prelude.{◌≡◌, ℕ, pos, if◌then◌else◌, List, [], ◌∷◌, map, Some}
 use Rattle.std.specs.Prelude.{Result, Err, codes}
 use Rattle.std.specs.Str.{bytes_eq}
-use Rattle.toml.specs.Data.{string, integer, array, table, Items, no_items, item, Members}
+use Rattle.toml.specs.Data.{Data, string, integer, array, table, Items, no_items, item, Members}
 use Rattle.toml.specs.Data.{no_members, member}
 use Rattle.nm_topology.specs.declared.fault.Refusal.{Refusal}
 use Rattle.nm_topology.specs.declared.fault.Refusal.TheVariants.{Missing}
@@ -138,16 +138,17 @@ echo_value = record {
   traffic = Echo (record { to = 167_772_161; identifier = 7; flow = flow_value });
 }
 
--- packets at 4 and 5 nanoseconds, of two octets and of one
-abbrev pub packets : Items
-packets =
-    item (table (number (codes "at") 4 (text (codes "data") (codes "aBcd") no_members)))
-    (item (table (number (codes "at") 5 (text (codes "data") (codes "0f") no_members))) no_items)
+abbrev pub packet : ℕ → List ℕ → Data
+packet at octets = table (number (codes "at") at (text (codes "data") octets no_members))
 
-abbrev pub raw : Members
-raw =
+-- a packet of two octets at 4 nanoseconds, and one of one octet at this time
+abbrev pub packets : ℕ → Items
+packets time = item (packet 4 (codes "aBcd")) (item (packet time (codes "0f")) no_items)
+
+abbrev pub raw : ℕ → Members
+raw time =
     source (codes "raw")
-    (text (codes "via") (codes "a0") (member (codes "packet") (array packets) no_members))
+    (text (codes "via") (codes "a0") (member (codes "packet") (array (packets time)) no_members))
 
 abbrev pub raw_value : SourceTableValue
 raw_value = record {

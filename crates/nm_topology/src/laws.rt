@@ -1,10 +1,11 @@
 //! Laws of topology texts. A law is a function that does nothing: its `ensures` is the statement.
 
-ghost use Rattle.std.specs.Prelude.{◌≡◌, ℕ, ◌^◌, pos, [], ◌∷◌, codes, Some, None, Ok};
+ghost use Rattle.std.specs.Prelude.{◌≡◌, ℕ, ◌^◌, pos, [], ◌∷◌, codes, Some, None, Ok, Err};
 ghost use Rattle.toml.specs.Data.{Members, integer};
 ghost use Rattle.nm_base.specs.declared.limits.TheConstants.{MAX_CHANNELS, MAX_PORTS_OF_NODE};
 ghost use Rattle.nm_base.specs.declared.limits.TheConstants.{MAX_RAW_PACKETS, MAX_ROUTES_OF_NODE};
 ghost use Rattle.nm_base.specs.declared.limits.TheConstants.{MAX_TEXT_OCTETS};
+ghost use Rattle.nm_topology.specs.declared.fault.Refusal.TheVariants.{Range};
 ghost use Rattle.nm_topology.specs.declared.keys.array.Array.TheVariants as array;
 ghost use Rattle.nm_topology.specs.declared.keys.fields.TheConstants.{ARRAYS, HEAD, LINK_TABLE};
 ghost use Rattle.nm_topology.specs.declared.keys.fields.TheConstants.{NODE_TABLE, ROUTE_TABLE};
@@ -107,6 +108,7 @@ pub fn counts_of_things()
 /// What stands behind each key, on a table of each kind that is written out in `Samples`: what is
 /// read of it, and which keys are missed where they are left out. The others may be absent, and
 /// have then the value that is said here.
+#[tactic(auto, using(crate::proofs::Samples::texts))]
 pub fn what_tables_say()
     ensures top { (document_of top ≡ Ok top_value)
         × AreMissed document_of top (codes "format" ∷ codes "stop" ∷ codes "mtu" ∷ []) }
@@ -134,9 +136,10 @@ pub fn what_tables_say()
         ≡ Ok (cbr_value (record flow_value { ttl = 64 }))) }
     ensures echo { (source_table_of 600 echo ≡ Ok echo_value)
         × AreMissed (source_table_of 600) echo (codes "kind" ∷ codes "to" ∷ codes "ident" ∷ []) }
-    ensures raw { (source_table_of 600 raw ≡ Ok raw_value)
-        × AreMissed (source_table_of 600) raw
-        (codes "kind" ∷ codes "node" ∷ codes "via" ∷ codes "packet" ∷ []) }
+    ensures raw { (source_table_of 600 (raw 5) ≡ Ok raw_value)
+        × AreMissed (source_table_of 600) (raw 5)
+        (codes "kind" ∷ codes "node" ∷ codes "via" ∷ codes "packet" ∷ [])
+        × (source_table_of 600 (raw 4) ≡ Err Range) }
     ensures forms { (format_of (integer (pos 1)) ≡ Ok One)
         × (format_of (integer (pos 2)) ≡ Ok Two)
         × (node_kind_of (codes "router") ≡ Some Router)

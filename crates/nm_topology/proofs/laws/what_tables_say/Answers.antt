@@ -5,7 +5,7 @@ use Rattle.nm_topology.specs.Parse.Sources.{cbr_of, echo_of, flow_of, packet_of}
 use Rattle.nm_topology.specs.Parse.Sources.{raw_of, source_table_of}
 use Rattle.nm_topology.specs.Parse.Tables.{iface_table_of, link_table_of, node_table_of}
 use Rattle.nm_topology.specs.Parse.Tables.{route_table_of}
-use Rattle.nm_topology.proofs.Samples.{host, length_24, length_32, network}
+use Rattle.nm_topology.proofs.Samples.{host, length_24, network}
 use Rattle.nm_topology.proofs.laws.what_tables_say.Goals as goal
 
 pub returns-clause-top : goal.returns-clause-top
@@ -38,7 +38,4 @@ returns-clause-echo c = (rw host refl, rw host refl)
 
 pub returns-clause-raw : goal.returns-clause-raw
 unfolding source_table_of raw_of packet_of decode_pairs
-returns-clause-raw c = (refl, refl)
-
-pub returns-clause-forms : goal.returns-clause-forms
-returns-clause-forms c = (refl, refl, refl, rw host (rw length_24 refl), rw host (rw length_32 refl))
+returns-clause-raw c = (refl, refl, refl)
