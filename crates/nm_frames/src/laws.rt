@@ -1,8 +1,8 @@
 //! Laws of the definitions: each function's contract is a law, and its body is empty.
 
 ghost use Rattle.std.specs.Prelude.{◌≡◌, ℕ, ◌+◌, ◌<◌, ◌++◌, List, [], ◌∷◌, All, false, Ok};
-ghost use Rattle.std.specs.Prelude.{Err, None, Some, Result, if◌then◌else◌, nat_lt, replicate, take};
-ghost use Rattle.std.specs.Prelude.{true, ◌^◌};
+ghost use Rattle.std.specs.Prelude.{Err, None, Some, Result, if◌then◌else◌, nat_lt, replicate};
+ghost use Rattle.std.specs.Prelude.{take, true, ◌^◌};
 ghost use Rattle.std.specs.List.{AllByRecursion};
 ghost use Rattle.nm_base.specs.declared.limits.TheConstants as limits;
 ghost use Rattle.nm_book.specs.Book.{BookValue};
@@ -133,8 +133,8 @@ pub fn greatest_frame()
     ensures frame { limits.MAX_FRAME_OCTETS ≡ format.LENGTH_OCTETS + limits.MAX_BODY_OCTETS }
 {}
 
-/// The octets of frames, written out: the length of what follows it, the kind, and the fields, whose
-/// greatest octets come first.
+/// The octets of frames, written out: the length of what follows it, the kind, and the fields,
+/// whose greatest octets come first.
 pub fn octets_of_frames()
     ensures hello { frame_octets (hello_frame 2 3 1 (replicate 32 9))
         ≡ 0 ∷ 0 ∷ 0 ∷ 44 ∷ 1 ∷ 78 ∷ 77 ∷ 83 ∷ 49 ∷ 0 ∷ 2 ∷ 0 ∷ 0 ∷ 0 ∷ 3 ∷ 1
