@@ -1,17 +1,19 @@
 //! Laws of replicas, whoever told them what they know.
 
-ghost use Rattle.std.specs.Prelude.{◌≡◌, ℕ, ◌≤◌, All};
+ghost use Rattle.std.specs.Prelude.{◌≡◌, ℕ, ◌≤◌, All, Ok, length};
 ghost use Rattle.nm_base.specs.declared.limits.TheConstants.{MAX_TIME};
 ghost use Rattle.nm_model.specs.Promise.{Plain, Tight};
 ghost use Rattle.nm_model.specs.Replica.{IsWithin};
 ghost use Rattle.nm_sim.specs.Network.{net_of};
-ghost use Rattle.nm_book.specs.Book.{knowledge, promise_on, state_of};
+ghost use Rattle.nm_book.specs.Book.{BookValue, knowledge, promise_on, state_of};
 ghost use Rattle.nm_book.specs.Laws.{AreAlike, IsNetOfChannels, KeepsWhatIsDone};
+ghost use Rattle.nm_book.specs.Merging.{BookMerges, KnowledgeValue};
 ghost use Rattle.nm_book.specs.Sisters.{IsUnderOf, KnowTheSame};
 
 use crate::book::Book;
 use nm_base::Packet;
 use nm_forward::NodeState;
+use nm_knowledge::laws::packets_are_told_apart;
 use nm_model::promise::{promises_kept, promises_never_fall};
 use nm_model::replica::{equal_knowledge_gives_equal_states, law_of_books, what_was_done_stays};
 use nm_sim::network::{channels_are_those_of_the_network, every_topology_is_a_network};
@@ -76,4 +78,14 @@ pub fn records_have_times_of_a_file(book: &Book)
 {
     accepted_topologies_are_in_order(book.topology()); // law: `stop` is within its limit
     let _events = book.events(); // they are before the safe time
+}
+
+/// A replica takes in no knowledge but that of a replica of its own partition, of a topology with
+/// its own digest and as many channels.
+pub fn only_sisters_are_merged()
+    ensures { (old new : BookValue) (other : KnowledgeValue) → BookMerges old new other (Ok tt)
+        → (other.digest ≡ old.topology.digest) × (other.partition ≡ old.partition)
+        × (length other.knows ≡ length old.topology.receivers) }
+{
+    packets_are_told_apart(); // law: octets that are found the same are the same
 }

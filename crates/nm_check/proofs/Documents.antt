@@ -25,14 +25,17 @@ use Rattle.nm_check.specs.declared.spot.FieldFault.{FieldFault}
 use Rattle.nm_check.specs.declared.spot.Spot.TheVariants as spot
 use Rattle.nm_topology.specs.Keys.{array_key, key_text}
 use Rattle.nm_topology.specs.declared.keys.fields.TheConstants.{ARRAYS, FORMAT, HEAD, MTU, STOP}
+use Rattle.nm_topology.specs.declared.keys.fields.TheConstants.{TOP_TABLE}
 use Rattle.nm_topology.specs.declared.keys.key.TableKey.TheVariants as key
 use Rattle.nm_check.specs.declared.place.FaultPlace.TheVariants as place
 use Rattle.nm_check.specs.Place.{at_top, find_behind, find_in, find_in_arrays, found_by, head_by}
 use Rattle.nm_check.specs.Place.{head_of, no_head, place_in_value, place_of, place_refusal}
 use Rattle.nm_check.specs.Place.{refused_in, top_keys}
-use Rattle.nm_check.specs.Reading.{at_field, first_fault, or_else, outcome, refused_at, tables_of}
+use Rattle.nm_check.specs.Reading.{at_field, first_fault, or_else, outcome, refused_at, spot_in}
+use Rattle.nm_check.specs.Reading.{tables_of}
 use Rattle.nm_check.proofs.Places.{place-refused}
 use Rattle.nm_check.proofs.Steps.{chain, chain-first, five-arrays, outcome-bind}
+use Rattle.nm_check.proofs.Steps.{spot-chain}
 
 -- the field of an array
 abbrev pub array_field : Array → Field
@@ -136,17 +139,27 @@ three-units (Ok u) (Err e) q z = refl
 three-units (Ok u) (Ok v) (Err e) z = refl
 three-units (Ok u) (Ok v) (Ok w) z = refl
 
-pub document-refused : (t : Members) → outcome (document_of t) ≡ refused_in (find_in t)
+-- the keys of the top table, and then its fields, whose last ones have this outcome
+document-chain : (t : Members) (rest : Result Unit Refusal) → chain (head_of t) t ARRAYS ≡ rest
+    → outcome (document_of t) ≡ (if all_among top_keys t then (outcome (number_at key.Format FORMAT t) >>= λ u. outcome (number_at key.Stop STOP t) >>= λ u. outcome (number_at key.Mtu MTU t) >>= λ u. rest) else Err UnknownKey)
 unfolding document_of
-document-refused t =
-    let format = required format_of (value_at key.Format t) in
-    let number = outcome (number_at key.Format FORMAT t) in
-    let stop = number_at key.Stop STOP t in
-    let mtu = number_at key.Mtu MTU t in
-    let rest = refused_in (find_in_arrays (head_of t) t) in
-    head-chain (all_among top_keys t) format stop mtu (λ f s m. with_tables (record { format = f; mtu = m }) s t) number rest (format-outcome (value_at key.Format t))
+document-chain t rest e =
+    head-chain (all_among top_keys t) (required format_of (value_at key.Format t)) (number_at key.Stop STOP t) (number_at key.Mtu MTU t)
+    (λ f s m. with_tables (record { format = f; mtu = m }) s t) (outcome (number_at key.Format FORMAT t)) rest (format-outcome (value_at key.Format t))
     (λ f s m is_format is_mtu.
-    arrays (record { format = f; mtu = m }) s t ∙ sym (arrays-chain (record { format = f; mtu = m }) t)
-    ∙ ap (λ (h : Head). refused_in (find_in_arrays h t)) (sym (head-read t f m is_format is_mtu)))
-    ∙ ap (λ o. if all_among top_keys t then o else Err UnknownKey) (three-units number (outcome stop) (outcome mtu) rest)
+    arrays (record { format = f; mtu = m }) s t
+    ∙ ap (λ (h : Head). chain h t ARRAYS) (sym (head-read t f m is_format is_mtu)) ∙ e)
+
+-- the top table is refused where its fields are
+pub top_table : (t : Members) → outcome (document_of t) ≡ refused_at (spot_in (head_of t) TOP_TABLE t)
+top_table t = document-chain t (chain (head_of t) t ARRAYS) refl ∙ spot-chain (head_of t) t TOP_TABLE
+
+pub document-refused : (t : Members) → outcome (document_of t) ≡ refused_in (find_in t)
+document-refused t =
+    let number = outcome (number_at key.Format FORMAT t) in
+    let stop = outcome (number_at key.Stop STOP t) in
+    let mtu = outcome (number_at key.Mtu MTU t) in
+    let rest = refused_in (find_in_arrays (head_of t) t) in
+    document-chain t rest (sym (arrays-chain (head_of t) t))
+    ∙ ap (λ o. if all_among top_keys t then o else Err UnknownKey) (three-units number stop mtu rest)
     ∙ find-chain t

@@ -1,14 +1,25 @@
 //! Laws of the definitions: each function's contract is a law, and its body is empty.
 
-ghost use Rattle.std.specs.Prelude.{ℕ, List, Option};
+ghost use Rattle.std.specs.Prelude.{◌≡◌, ℕ, ◌<◌, ◌≤◌, true, List, [], ◌∷◌, ◌++◌, length, Option};
+ghost use Rattle.std.specs.Prelude.{Some, Ok};
 ghost use Rattle.nm_base.specs.Wire.{WireSeen};
+ghost use Rattle.nm_book.specs.Accepting.{Takes, message_taken};
+ghost use Rattle.nm_book.specs.Book.{BookValue};
+ghost use Rattle.nm_book.specs.declared.message.ChannelMessage.TheVariants as message;
+ghost use Rattle.nm_book.specs.declared.message.Data.{Data as DataValue};
+ghost use Rattle.nm_book.specs.declared.message.Null.{Null as NullValue};
 ghost use Rattle.nm_engine.specs.declared.answer.Turn.{Turn};
+ghost use Rattle.nm_engine.specs.declared.answer.Turn.TheVariants.{Ended};
 ghost use Rattle.nm_engine.specs.Acceptor.{AcceptorValue};
+ghost use Rattle.nm_engine.specs.Giving.{OwesNone};
 ghost use Rattle.nm_engine.specs.Link.{LinkValue};
 ghost use Rattle.nm_engine.specs.Lives.{LinkLives};
 ghost use Rattle.nm_engine.specs.Many.{Accounts, GoesOn, HasDue};
-ghost use Rattle.nm_frames.specs.Lives.{AreConsecutive, SessionStep, due_after};
+ghost use Rattle.nm_engine.specs.Turn.{Hears, Turns, Went};
+ghost use Rattle.nm_frames.specs.declared.frame.Frame.TheVariants.{Data, Null};
+ghost use Rattle.nm_frames.specs.Lives.{AreConsecutive, SessionStep, Took, due_after};
 ghost use Rattle.nm_frames.specs.Session.{SessionValue};
+ghost use Rattle.nm_knowledge.specs.declared.answer.Accepted.{Accepted};
 
 /// Over any number of turns and halves of turns, whatever they answered, nothing that was taken
 /// over is lost and nothing is made up: the octets that came are those of the frames that were
@@ -26,4 +37,32 @@ pub fn messages_are_consecutive()
     ensures { (h : Option AcceptorValue) (s t : Option SessionValue) (steps : List SessionStep)
         (c : ℕ) (due : Option ℕ) → HasDue c due s → LinkLives h s steps t
         → AreConsecutive c due steps × HasDue c (due_after c due steps) t }
+{}
+
+/// What turns leave. After one that answers `Ended` all octets are out, and both sides have said
+/// Bye. One that went well read at most 65,536 octets, and held frames back only where 131,072
+/// octets or more stood in the buffer before it wrote.
+pub fn what_turns_leave<W>()
+    ensures ended { (seen : W → WireSeen) (old new : LinkValue W) → Turns seen old new Ended
+        → (new.out ≡ []) × (s : SessionValue) × (new.session ≡ Some s)
+        × (s.bye_given ≡ true) × (s.bye_taken ≡ true) }
+    ensures heard { (seen : W → WireSeen) (old new : LinkValue W) → Hears seen old new Ended
+        → (new.out ≡ []) × (s : SessionValue) × (new.session ≡ Some s)
+        × (s.bye_given ≡ true) × (s.bye_taken ≡ true) }
+    ensures read { (seen : W → WireSeen) (old new : LinkValue W) (w : Went seen old new)
+        → length w.moves.came ≤ 65_536 }
+    ensures given { (seen : W → WireSeen) (old new : LinkValue W) (w : Went seen old new)
+        → length (w.moves.went ++ new.out) < 131_072 → OwesNone new.session }
+{}
+
+/// Each message and each null message that a link's session took was taken in by a book.
+pub fn what_is_taken_is_told()
+    ensures message { (h : Option AcceptorValue) (s t : Option SessionValue)
+        (steps : List SessionStep) (d : DataValue) → LinkLives h s (Took (Data d) ∷ steps) t
+        → (b c : BookValue) × (a : Accepted)
+        × Takes b c d.channel (message_taken b.knows (message.Data d)) (Ok a) }
+    ensures null { (h : Option AcceptorValue) (s t : Option SessionValue)
+        (steps : List SessionStep) (n : NullValue) → LinkLives h s (Took (Null n) ∷ steps) t
+        → (b c : BookValue) × (a : Accepted)
+        × Takes b c n.channel (message_taken b.knows (message.Null n)) (Ok a) }
 {}

@@ -5,6 +5,7 @@ pub mod Reader
 pub mod Pieces
 pub mod Channels
 pub mod Version
+pub mod Samples
 pub mod Session
 pub mod Owed
 pub mod Lives

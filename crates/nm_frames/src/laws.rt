@@ -1,7 +1,8 @@
 //! Laws of the definitions: each function's contract is a law, and its body is empty.
 
 ghost use Rattle.std.specs.Prelude.{◌≡◌, ℕ, ◌+◌, ◌<◌, ◌++◌, List, [], ◌∷◌, All, false, Ok};
-ghost use Rattle.std.specs.Prelude.{None, Some, Result, if◌then◌else◌, nat_lt, take};
+ghost use Rattle.std.specs.Prelude.{Err, None, Some, Result, if◌then◌else◌, nat_lt, replicate};
+ghost use Rattle.std.specs.Prelude.{take, true, ◌^◌};
 ghost use Rattle.std.specs.List.{AllByRecursion};
 ghost use Rattle.nm_base.specs.declared.limits.TheConstants as limits;
 ghost use Rattle.nm_book.specs.Book.{BookValue};
@@ -13,7 +14,12 @@ ghost use Rattle.nm_frames.specs.Owed.{owed};
 ghost use Rattle.nm_frames.specs.Told.{IsOwedFrom, IsSilent, IsUnasked, IsUntold, MayLeave};
 ghost use Rattle.nm_frames.specs.declared.frame.Frame.{Frame};
 ghost use Rattle.nm_frames.specs.declared.fault.FrameFault.{FrameFault};
-ghost use Rattle.nm_frames.specs.Frame.{IsFrame, frame_octets};
+ghost use Rattle.nm_frames.specs.declared.session_fault.SessionFault.TheVariants as fault;
+ghost use Rattle.nm_frames.specs.declared.version.Version.{Version};
+ghost use Rattle.nm_frames.specs.declared.version.Version.TheVariants.{One, Two};
+ghost use Rattle.nm_frames.specs.Frame.{IsFrame, data_frame, frame_octets, have_frame};
+ghost use Rattle.nm_frames.specs.Frame.{hello_frame, null_frame};
+ghost use Rattle.nm_frames.specs.Samples.{digest, greeted, own_hello, session};
 ghost use Rattle.nm_frames.specs.Stream.{Splits, deciding_octets, fault_shown};
 ghost use Rattle.nm_frames.specs.Reader.{ReaderValue};
 ghost use Rattle.nm_frames.specs.Pieces.{FeedsAll, HasRead, new_reader, stream_of};
@@ -125,4 +131,65 @@ pub fn greatest_frame()
     ensures body { limits.MAX_BODY_OCTETS
         ≡ format.DATA_HEADER_OCTETS + limits.MAX_PACKET_OCTETS }
     ensures frame { limits.MAX_FRAME_OCTETS ≡ format.LENGTH_OCTETS + limits.MAX_BODY_OCTETS }
+{}
+
+/// The octets of frames, written out: the length of what follows it, the kind, and the fields,
+/// whose greatest octets come first.
+pub fn octets_of_frames()
+    ensures hello { frame_octets (hello_frame 2 3 1 (replicate 32 9))
+        ≡ 0 ∷ 0 ∷ 0 ∷ 44 ∷ 1 ∷ 78 ∷ 77 ∷ 83 ∷ 49 ∷ 0 ∷ 2 ∷ 0 ∷ 0 ∷ 0 ∷ 3 ∷ 1
+        ∷ replicate 32 9 }
+    ensures have { frame_octets (have_frame 258 (2 ^ 32 + 5))
+        ≡ 0 ∷ 0 ∷ 0 ∷ 13 ∷ 2 ∷ 0 ∷ 0 ∷ 1 ∷ 2 ∷ 0 ∷ 0 ∷ 0 ∷ 1 ∷ 0 ∷ 0 ∷ 0 ∷ 5 ∷ [] }
+    ensures message { frame_octets (data_frame 258 3 1_000_000 (69 ∷ 70 ∷ []))
+        ≡ 0 ∷ 0 ∷ 0 ∷ 23 ∷ 3 ∷ 0 ∷ 0 ∷ 1 ∷ 2 ∷ 0 ∷ 0 ∷ 0 ∷ 0 ∷ 0 ∷ 0 ∷ 0 ∷ 3
+        ∷ 0 ∷ 0 ∷ 0 ∷ 0 ∷ 0 ∷ 15 ∷ 66 ∷ 64 ∷ 69 ∷ 70 ∷ [] }
+    ensures null { frame_octets (null_frame 258 3 1_000_000)
+        ≡ 0 ∷ 0 ∷ 0 ∷ 21 ∷ 4 ∷ 0 ∷ 0 ∷ 1 ∷ 2 ∷ 0 ∷ 0 ∷ 0 ∷ 0 ∷ 0 ∷ 0 ∷ 0 ∷ 3
+        ∷ 0 ∷ 0 ∷ 0 ∷ 0 ∷ 0 ∷ 15 ∷ 66 ∷ 64 ∷ [] }
+    ensures bye { frame_octets Bye ≡ 0 ∷ 0 ∷ 0 ∷ 1 ∷ 5 ∷ [] }
+{}
+
+/// What a session takes, on one that is written out. The first frame is a Hello of version 1 or 2,
+/// of the same topology, of replica 0 or 1 of the peer; and no later one is a Hello. A Have is of a
+/// channel that goes to the peer, a message of one that comes from it. After Bye nothing is taken.
+pub fn what_a_session_takes()
+    ensures first { (taken session (hello_frame 1 0 0 digest) ≡ Ok (greeted One))
+        × (taken session (hello_frame 2 0 1 digest)
+        ≡ Ok (record (greeted Two) { peer_replica = Some 1 })) }
+    ensures versions { (taken session (hello_frame 0 0 0 digest) ≡ Err fault.Version)
+        × (taken session (hello_frame 3 1 2 (8 ∷ [])) ≡ Err fault.Version) }
+    ensures peers { (taken session (hello_frame 2 1 2 (8 ∷ [])) ≡ Err fault.Topology)
+        × (taken session (hello_frame 2 1 0 digest) ≡ Err fault.Peer)
+        × (taken session (hello_frame 2 0 2 digest) ≡ Err fault.Peer) }
+    ensures order { (v : Version) (n : ℕ) → (taken (greeted v) (own_hello 2) ≡ Err fault.Order)
+        × (taken session (have_frame 5 n) ≡ Err fault.Order)
+        × (taken session (null_frame 4 0 n) ≡ Err fault.Order)
+        × (taken session Bye ≡ Err fault.Order) }
+    ensures have { (v : Version) (n : ℕ)
+        → (taken (greeted v) (have_frame 5 n) ≡ Ok (record (greeted v) {
+          outgoing = record { channel = 5; cursor = Some n; last_null = None } ∷ [];
+        })) × (taken (greeted v) (have_frame 4 n) ≡ Err fault.Channel) }
+    ensures message { (v : Version) (n t : ℕ) (packet : List ℕ)
+        → (taken (greeted v) (data_frame 4 n t packet) ≡ Ok (greeted v))
+        × (taken (greeted v) (data_frame 5 n t packet) ≡ Err fault.Channel)
+        × (taken (greeted v) (null_frame 4 n t) ≡ Ok (greeted v))
+        × (taken (greeted v) (null_frame 5 n t) ≡ Err fault.Channel) }
+    ensures bye { (v : Version) (s : SessionValue) (f : Frame)
+        → (taken (greeted v) Bye ≡ Ok (record (greeted v) { bye_taken = true }))
+        × (taken (record s { bye_taken = true }) f ≡ Err fault.Order) }
+{}
+
+/// In which version a session greets, on one that is written out: in version 2 at first, and in 1
+/// to a peer that greeted in 1. After a break to which no Hello of the peer had come it offers the
+/// other version, and else version 2 again.
+pub fn what_a_session_offers()
+    ensures first { (b : BookValue) → (owed session b ≡ Some (own_hello 2))
+        × (owed (greeted Two) b ≡ Some (own_hello 2))
+        × (owed (greeted One) b ≡ Some (own_hello 1)) }
+    ensures unheard { (b : BookValue)
+        → (owed (broken (record session { hello_given = Some Two })) b ≡ Some (own_hello 1))
+        × (owed (broken (record session { hello_given = Some One })) b ≡ Some (own_hello 2)) }
+    ensures heard { (b : BookValue) (v w : Version)
+        → owed (broken (record (greeted v) { hello_given = Some w })) b ≡ Some (own_hello 2) }
 {}

@@ -1,1 +1,2 @@
 pub mod Listeners
+pub mod Peers

@@ -1,5 +1,8 @@
 //! The peers of a replica.
 
+ghost use Rattle.std.specs.Prelude.{◌≡◌, IfOk};
+ghost use Rattle.nm_peers.specs.Peers.{ArePeers, is_near, own_address};
+
 use crate::listener::Listener;
 use nm_base::PartNo;
 use nm_frames::ReplicaName;
@@ -20,12 +23,9 @@ pub struct Peers {
 }
 
 /// Whether a channel goes from one partition to another.
-fn is_near(
-    alloc: Global,
-    topology: &Topology,
-    from: PartNo,
-    to: PartNo,
-) -> Result<bool, AllocError> {
+fn is_near(alloc: Global, topology: &Topology, from: PartNo, to: PartNo) -> Result<bool, AllocError>
+    ensures { IfOk result (λ near. near ≡ is_near topology.now from to) }
+{
     let channels = channels_between(alloc, topology, from, to)?;
     Ok(!channels.is_empty())
 }
@@ -41,7 +41,9 @@ pub fn peers_of(
     topology: &Topology,
     partition: PartNo,
     listeners: &[Listener],
-) -> Result<Peers, AllocError> {
+) -> Result<Peers, AllocError>
+    ensures { IfOk result (ArePeers topology.now partition listeners.now) }
+{
     let mut partitions = Vec::new(alloc);
     let mut addresses = Vec::new(alloc);
     let mut callers = Vec::new(alloc);
@@ -68,7 +70,9 @@ pub fn peers_of(
 }
 
 /// Where a replica itself listens, if it is one of these.
-pub fn own_address(listeners: &[Listener], partition: PartNo, replica: u8) -> Option<SocketAddr> {
+pub fn own_address(listeners: &[Listener], partition: PartNo, replica: u8) -> Option<SocketAddr>
+    ensures { result ≡ own_address listeners.now partition replica }
+{
     let own = listeners.iter().find(|listener| listener.partition == partition
         && listener.replica == replica)?;
     Some(SocketAddr::V4(own.address))

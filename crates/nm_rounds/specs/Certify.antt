@@ -1,5 +1,5 @@
 -- What a certificate says of books, and what each of its faults shows.
-use Rattle.std.specs.Prelude.{◌≡◌, ℕ, ◌==◌, ◌&&◌, Bool, false, cond, ltb, not, All, Contains, List, length, map, Option, Some, None, Result, Ok, Err}
+use Rattle.std.specs.Prelude.{◌≡◌, ℕ, ◌==◌, ◌&&◌, Bool, false, cond, ltb, not, All, Contains, codes, List, length, map, Option, Some, None, Result, Ok, Err}
 use Rattle.nm_topology.specs.Topology.{receiving_iface}
 use Rattle.nm_topology.specs.TopologyValue.{TopologyValue}
 use Rattle.nm_model.specs.Before.{IsBefore, trace}
@@ -110,3 +110,12 @@ cert_fault_number (Promise c) = 3
 cert_fault_number (Missing p) = 4
 cert_fault_number (Unfinished p) = 5
 cert_fault_number Topology = 6
+
+-- the fault in words
+abbrev pub cert_fault_words : CertFault → List ℕ
+cert_fault_words (Prefix c n) = codes "a message is not the one that was sent"
+cert_fault_words (Clock c) = codes "a message was sent that arrives before the channel clock"
+cert_fault_words (Promise c) = codes "a channel clock is past what was promised"
+cert_fault_words (Missing p) = codes "a partition has no book"
+cert_fault_words (Unfinished p) = codes "a book is not done"
+cert_fault_words Topology = codes "a book of another topology"

@@ -1,6 +1,6 @@
 -- What rounds of all partitions come to: each runs all that is safe, and then hears all that the
 -- others have for it.
-use Rattle.std.specs.Prelude.{◌≡◌, ℕ, suc, ◌+◌, ◌-◌, ◌<◌, ◌≤◌, Bool, true, false, List, [], ◌∷◌, length, slice_get, Option, Some, None, Result, Ok, Err}
+use Rattle.std.specs.Prelude.{◌≡◌, ℕ, suc, ◌+◌, ◌-◌, min, ◌<◌, ◌≤◌, Bool, true, false, List, [], ◌∷◌, length, slice_get, Option, Some, None, Result, Ok, Err}
 use Rattle.nm_base.specs.declared.fault.Fault.{Fault}
 use Rattle.nm_base.specs.declared.fault.Fault.TheVariants.{Refused, Memory}
 use Rattle.nm_topology.specs.declared.fault.Refusal.{Refusal}
@@ -16,7 +16,7 @@ use Rattle.nm_model.specs.Promise.{Tight, lookahead}
 use Rattle.nm_model.specs.Rounds.{IsRounds, given, hear, heard_on, promised, round_count}
 use Rattle.nm_model.specs.World.{Replica}
 use Rattle.nm_sim.specs.Network.{net_of}
-use Rattle.nm_book.specs.Book.{BookValue, knowledge, message_channel, promise_on, replica_of, sent_over, state_of}
+use Rattle.nm_book.specs.Book.{BookValue, knowledge, message_channel, promise_on, replica_of, safe_of, sent_over, state_of}
 use Rattle.nm_book.specs.declared.message.ChannelMessage.{ChannelMessage}
 use Rattle.nm_book.specs.declared.message.ChannelMessage.TheVariants.{Data, Null}
 use Rattle.nm_rounds.specs.World.{IsReplicaOf}
@@ -62,6 +62,11 @@ told_message a (Null n) = (accept.accept_null a n.count n.clock).after
 abbrev pub told_all : Know (List ℕ) → List ChannelMessage → Know (List ℕ)
 told_all a [] = a
 told_all a (m ∷ ms) = told_all (told_message a m) ms
+
+-- the least of a time and of those before which the books are safe
+abbrev pub least_safe : ℕ → List BookValue → ℕ
+least_safe time [] = time
+least_safe time (b ∷ bs) = least_safe (min time (safe_of b)) bs
 
 -- each of the messages is of channel c
 abbrev pub AreOfChannel : ℕ → List ChannelMessage → Type 0

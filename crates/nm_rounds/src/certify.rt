@@ -19,6 +19,7 @@ ghost use Rattle.nm_sim.specs.Network.{net_of};
 ghost use Rattle.nm_book.specs.Book.{BookValue, replica_of};
 ghost use Rattle.nm_rounds.specs.Certify.{AreOf, Certifies, FindsFault, IsWithinSafe};
 ghost use Rattle.nm_rounds.specs.Certify.{book_of, books_of, cert_fault_number};
+ghost use Rattle.nm_rounds.specs.Certify.{cert_fault_words};
 ghost use Rattle.nm_rounds.specs.Certify.{incoming_fault, is_same_entry, list_fault, missing};
 ghost use Rattle.nm_rounds.specs.Certify.{sender_fault, unfinished};
 ghost use Rattle.nm_rounds.specs.SameTopology.{SaysSame};
@@ -78,7 +79,9 @@ impl CertFault {
     }
 
     /// The fault in words, without its numbers.
-    fn message(&self) -> &'static str {
+    fn message(&self) -> &'static str
+        ensures { result.now ≡ cert_fault_words self.now }
+    {
         match self {
             CertFault::Topology => "a book of another topology",
             CertFault::Missing { .. } => "a partition has no book",

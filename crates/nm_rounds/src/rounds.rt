@@ -1,10 +1,10 @@
 //! Rounds of all partitions, from the text of a topology.
 
-ghost use Rattle.std.specs.Prelude.{◌≡◌, ℕ, ◌<◌, ◌≤◌, ◌+◌, IfOk, OnOk};
+ghost use Rattle.std.specs.Prelude.{◌≡◌, ℕ, ◌<◌, ◌≤◌, ◌+◌, ◌-◌, ◌^◌, IfOk, OnOk};
 ghost use Rattle.std.specs.Arc.{arc_value};
 ghost use Rattle.nm_model.specs.World.{fresh};
 ghost use Rattle.nm_base.specs.declared.limits.TheConstants.{MAX_ROUNDS};
-ghost use Rattle.nm_rounds.specs.Rounds.{AreBooks, AreEnded, ComesTo, RunsTo};
+ghost use Rattle.nm_rounds.specs.Rounds.{AreBooks, AreEnded, ComesTo, RunsTo, least_safe};
 
 use crate::round::do_round;
 use nm_base::{Packet, PartNo, Time};
@@ -63,14 +63,24 @@ fn first_books(alloc: Global, topology: &Arc<Topology>) -> Result<Vec<Book>, All
     Ok(books)
 }
 
-/// Notes how far the books are.
-fn note_progress(books: &[Book], progress: &Progress) {
-    let (mut time, mut records) = (u64::MAX, 0u64);
+/// The time before which each of the books is safe, in nanoseconds: of none the greatest time.
+fn least_safe(books: &[Book]) -> u64
+    ensures { result ≡ least_safe (2 ^ 64 - 1) books.now }
+{
+    let mut time = u64::MAX;
     for book in books {
         time = time.min(book.safe().nanoseconds());
+    }
+    time
+}
+
+/// Notes how far the books are.
+fn note_progress(books: &[Book], progress: &Progress) {
+    let mut records = 0u64;
+    for book in books {
         records = records.saturating_add(book.records());
     }
-    progress.note(Time::from_nanoseconds(time), records);
+    progress.note(Time::from_nanoseconds(least_safe(books)), records);
 }
 
 /// Does rounds until all books are done, and answers in which they are; or does as many as are

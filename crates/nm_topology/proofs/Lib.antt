@@ -9,6 +9,7 @@ pub mod Members
 pub mod Order
 pub mod Parsing
 pub mod Ranges
+pub mod Samples
 pub mod Searches
 pub mod Steps
 pub mod TableKeys

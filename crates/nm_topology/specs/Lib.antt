@@ -11,6 +11,7 @@ pub mod PartValues
 pub mod RawValue
 pub mod Resolve
 pub mod ResolvedValue
+pub mod Samples
 pub mod Topology
 pub mod TopologyValue
 pub mod Validate

@@ -1,9 +1,15 @@
 //! Laws of the definitions: each function has an empty body or calls other laws, and its contract
 //! is the law.
 
+ghost use Rattle.std.specs.Prelude.{◌≡◌, ℕ, [], ◌∷◌, Some, None};
+ghost use Rattle.nm_topology.specs.declared.traffic.Flow.{Flow};
+ghost use Rattle.nm_topology.specs.declared.traffic.Traffic.TheVariants.{Cbr, Echo, Raw};
 ghost use Rattle.nm_topology.specs.TopologyValue.{TopologyValue};
+ghost use Rattle.nm_traffic.specs.Flow.{cbr_octets};
 ghost use Rattle.nm_traffic.specs.Orderly.{ArePackets, ComeBeforeStop, EndForGood};
 ghost use Rattle.nm_traffic.specs.Orderly.{FitTheMtu, HaveOctets, SendsOrderly, TimesRise};
+ghost use Rattle.nm_traffic.specs.Samples.{cbr, echo, raw};
+ghost use Rattle.nm_traffic.specs.Source.{packet_at};
 
 use nm_topology::Topology;
 use nm_topology::topology::accepted_topologies_are_in_order;
@@ -30,3 +36,20 @@ pub fn source_times_rise(topology: &Topology)
     accepted_topologies_are_in_order(topology); // law: sources are within their limits
     times_rise_within_limits(); // law: so their times fit
 }
+
+/// The packets of a source of each kind, written out: packet n, for n from 0, is n intervals behind
+/// the start, and has no more than its data; an echo request has type 8, code 0, its checksum, the
+/// identifier and n modulo 65,536. Behind the last packet, and from stop on, there is none. Where
+/// there is no data, one octet stands for it, which is 0.
+#[tactic(auto, unfolding(crate::specs::Source::packet_at, crate::specs::Flow::echo_message))]
+pub fn packets_of_each_kind()
+    ensures cbr { (packet_at 1_000 (Cbr cbr) 0 ≡ Some (5, 170 ∷ 170 ∷ 170 ∷ []))
+        × (packet_at 1_000 (Cbr cbr) 2 ≡ Some (25, 170 ∷ 170 ∷ 170 ∷ []))
+        × (packet_at 1_000 (Cbr cbr) 3 ≡ None)
+        × (packet_at 25 (Cbr cbr) 2 ≡ None) }
+    ensures echo { packet_at 1_000_000 (Echo echo) 65_537
+        ≡ Some (65_537, 8 ∷ 0 ∷ 247 ∷ 247 ∷ 0 ∷ 7 ∷ 0 ∷ 1 ∷ 255 ∷ 255 ∷ []) }
+    ensures raw { (packet_at 1_000 (Raw raw) 1 ≡ Some (9, 2 ∷ []))
+        × (packet_at 1_000 (Raw raw) 2 ≡ None) × (packet_at 9 (Raw raw) 1 ≡ None) }
+    ensures no_data { (f : Flow) → f.size ≡ 0 → cbr_octets f ≡ 0 ∷ [] }
+{}
