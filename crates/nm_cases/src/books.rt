@@ -12,7 +12,7 @@
 //! | `again B S C N TIME` | B is told S's message 0 as message N of this time |
 //! | `promise B S C` | B is told S's null message |
 //! | `run B LIMIT` | `all`, `limit` or `memory`, and how many events were done |
-//! | `merge B S` | B merges what S knows |
+//! | `merge B S` | B merges what S knows: `merged`, `stranger`, or what a channel answers, and `channel C` |
 //! | `hand B` | the record that B hands out, `TIME IFACE in` or `out` and the packet's identification, or `none` |
 //! | `safe B`, `state B` | its safe time; how many events it did, and `done` or `going` |
 //! | `promises B C` | its promise, its old promise and how many messages it sent, or `inward` (module `promises`) |
@@ -23,16 +23,17 @@
 //! | `message B C N` | the time and the octets of a message that it knows, or `none` |
 //! | `fill B C COUNT` | B is told so many messages, of the times 1, 2, .. and an octet 7 |
 //! | `equal B S C` | `equal` where both know the same messages of this channel, and the same clock |
-//! | `alike B S C` | `alike` where both are as far and say the same of this channel |
+//! | `alike B S` | `alike` where both know, did, recorded, sent and promise the same |
 
+use crate::alike::{alike_word, are_alike, are_equal};
 use crate::bench::{Bench, book, book_mut, book_of};
 use crate::octets::hexadecimal;
 use crate::promises::promises;
 use crate::said::{Word, accepted, merged, ran, text};
+use crate::truth::channels_of;
 use crate::words::Words;
 use nm_base::{ChanNo, Dir, IfaceNo, Packet, Time};
 use nm_book::{Book, ChannelMessage, Data, Null};
-use nm_knowledge::Know;
 use std::alloc::Global;
 use std::io;
 
@@ -128,10 +129,10 @@ fn run(alloc: Global, books: &mut [Book], words: Words) -> io::Result<Word> {
 }
 
 /// `merge`: a replica merges what another one knows.
-fn merge(alloc: Global, books: &mut [Book], words: Words) -> io::Result<Word> {
+fn merge(alloc: Global, books: &mut [Book], words: Words) -> io::Result<String> {
     let known = book(books, words.index(2)?)?.copy_knowledge(alloc)?;
     let answer = book_mut(books, words.index(1)?)?.merge(alloc, &known);
-    Ok(merged(&answer))
+    Ok(merged(alloc, &answer)?)
 }
 
 /// The commands that change a replica.
@@ -146,7 +147,6 @@ enum Change {
     Promise,
     Fill,
     Run,
-    Merge,
 }
 
 /// Their names.
@@ -160,7 +160,6 @@ const CHANGES: &[(&str, Change)] = &[
     ("promise", Change::Promise),
     ("fill", Change::Fill),
     ("run", Change::Run),
-    ("merge", Change::Merge),
 ];
 
 /// The change of a name.
@@ -202,7 +201,6 @@ fn make_change(
         Change::Promise => tell_promise(books, words),
         Change::Fill => fill(alloc, books, words),
         Change::Run => run(alloc, books, words),
-        Change::Merge => merge(alloc, books, words),
     }
 }
 
@@ -258,16 +256,6 @@ fn known_message(alloc: Global, book: &Book, channel: u32, at: u64) -> io::Resul
     }
 }
 
-/// Whether two know the same of a channel.
-fn are_equal(one: &Know, other: &Know) -> bool {
-    for number in 0..one.len() as u64 {
-        if one.message(number) != other.message(number) {
-            return false;
-        }
-    }
-    one.len() == other.len() && one.clock() == other.clock()
-}
-
 /// Whether two replicas know the same of a channel.
 fn equal(alloc: Global, books: &[Book], words: Words) -> io::Result<String> {
     let channel = ChanNo::new(words.short(3)?);
@@ -298,16 +286,6 @@ fn fill(alloc: Global, books: &mut [Book], words: Words) -> io::Result<Word> {
     Ok(("ok", None))
 }
 
-/// Whether two replicas are as far, and say the same of a channel.
-fn are_alike(one: &Book, other: &Book, channel: ChanNo) -> bool {
-    one.safe() == other.safe()
-        && one.events() == other.events()
-        && one.trace() == other.trace()
-        && one.promise(channel) == other.promise(channel)
-        && one.out_len(channel) == other.out_len(channel)
-        && one.done() == other.done()
-}
-
 /// The commands that look at a replica.
 #[derive(Clone, Copy)]
 enum Look {
@@ -319,7 +297,6 @@ enum Look {
     Totals,
     Knows,
     Message,
-    Alike,
     Equal,
 }
 
@@ -334,7 +311,6 @@ const LOOKS: &[(&str, Look)] = &[
     ("knows", Look::Knows),
     ("message", Look::Message),
     ("equal", Look::Equal),
-    ("alike", Look::Alike),
 ];
 
 /// The look of a name.
@@ -366,13 +342,10 @@ fn totals(alloc: Global, book: &Book, iface: u32) -> io::Result<String> {
 }
 
 /// Whether two replicas are alike.
-fn alike(alloc: Global, books: &[Book], words: Words) -> io::Result<String> {
+fn alike(bench: &Bench, alloc: Global, words: Words) -> io::Result<String> {
+    let books = bench.books.as_slice();
     let (one, other) = (book(books, words.index(1)?)?, book(books, words.index(2)?)?);
-    let word = if are_alike(one, other, ChanNo::new(words.short(3)?)) {
-        "alike"
-    } else {
-        "unlike"
-    };
+    let word = alike_word(are_alike(one, other, channels_of(&bench.topology)));
     Ok(String::from_str(alloc, word)?)
 }
 
@@ -389,7 +362,6 @@ fn take_look(alloc: Global, books: &[Book], words: Words, look: Look) -> io::Res
         Look::Knows => knows(alloc, book, words.short(2)?),
         Look::Message => known_message(alloc, book, words.short(2)?, words.number(3)?),
         Look::Equal => equal(alloc, books, words),
-        Look::Alike => alike(alloc, books, words),
     }
 }
 
@@ -404,6 +376,12 @@ fn add_book(bench: &mut Bench, alloc: Global, words: Words) -> io::Result<String
 pub fn answer(bench: &mut Bench, alloc: Global, words: Words) -> io::Result<Option<String>> {
     if words.is("book") {
         return Ok(Some(add_book(bench, alloc, words)?));
+    }
+    if words.is("alike") {
+        return Ok(Some(alike(bench, alloc, words)?));
+    }
+    if words.is("merge") {
+        return Ok(Some(merge(alloc, bench.books.as_mut_slice(), words)?));
     }
     if words.is("hand") {
         return Ok(Some(hand(alloc, bench.books.as_mut_slice(), words.index(1)?)?));

@@ -10,7 +10,7 @@
 
 use crate::bench::{Bench, book, book_mut, book_of, network};
 use crate::drains::are_part;
-use crate::said::{certified, merged, text as said_as};
+use crate::said::{certified, merged};
 use crate::truth::{channels_of, do_round};
 use crate::words::{Words, number};
 use nm_base::{IfaceNo, PartNo};
@@ -96,7 +96,7 @@ fn merge_other(
     let stranger = book_of(alloc, &other, book.partition().number(), 0)?;
     let known = stranger.copy_knowledge(alloc)?;
     let answer = book.merge(alloc, &known);
-    Ok(said_as(alloc, merged(&answer))?)
+    Ok(merged(alloc, &answer)?)
 }
 
 /// The partition of an interface.

@@ -1,24 +1,26 @@
-//! A session of partitions 0 and 1 whose octets are cut at an octet: what the peer then holds, and
-//! what a new session gives.
-//!
-//! Partition 0 did what is safe before 1,000,000 ns, and gives Hello and Have (65 octets), its
-//! message (to octet 190) and a null message (to octet 215).
+//! A session of partitions 0 and 1 over wires in memory, whose octets are cut at an octet: what the
+//! peer then holds, and what a new session gives.
 //!
 //! | Command | Does and answers |
 //! |---|---|
-//! | `cut FROM TO` | cuts at each of these octets, each with a second session after it: what all of them come to, or `unlike N` at the first octet that comes to something else |
+//! | `cut B S T FROM TO` | a replica that knows what B knows, of partition 0, and its peer, which knows what S knows. Cuts what the former gives at each of these octets, each with a second session after it: what all of them come to, or `unlike N` at the first octet that comes to something else |
 //! | `reads FROM ALL` | reads that end, and reads that fail, after each count of the peer's first octets, from FROM on to ALL, which is how many there are: the last turns of both, or `unlike N` |
 //!
 //! A cut comes to: the last turn of partition 0; the last turn of the peer, and how many messages it
-//! holds; how many octets the peer gives in the second session, and the last of them; how many
-//! partition 0 then gives; the last turn of the peer; and how many messages it knows at the end, and
-//! the clock.
+//! knows; how many octets the peer gives in the second session, and the last of them; how many
+//! partition 0 then gives; the last turn of the peer; and `alike` where in the end the former is as B
+//! and the peer as T, in all that they know, did, recorded, sent and promise.
 
-use crate::bench::Bench;
+use crate::alike::alike_word;
+use crate::bench::{Bench, book};
 use crate::ends::{
-    Came, End, Script, drive, end_at, end_of, known, messages_of, open, session_of, turn_word,
+    Came, End, Script, drive, end_at, end_like, end_of, ends_like, messages_of, open, session_of,
+    turn_word,
 };
+use crate::truth::channels_of;
+use crate::words::Words;
 use nm_base::mem_wire::Ending;
+use nm_book::Book;
 use nm_frames::Session;
 use nm_topology::Topology;
 use std::alloc::Global;
@@ -127,38 +129,68 @@ fn first_text<R: Wait>(
     Ok(format!(in alloc; "{gave} {got} {}", messages_of(rt, one))?)
 }
 
+/// The replicas that a cut is made with: the one that gives, its peer, and what the peer comes to.
+#[derive(Clone, Copy)]
+struct Cut<'b> {
+    gives: &'b Book,
+    takes: &'b Book,
+    comes_to: &'b Book,
+}
+
 /// What a cut after so many octets comes to.
 fn cut_at<R: Wait>(
     rt: &R,
     alloc: Global,
     topology: &Arc<Topology>,
+    of: Cut,
     cut: usize,
 ) -> io::Result<String> {
-    let mut zero = end_at(rt, alloc, topology, CLOCK)?;
-    let mut one = end_of(rt, alloc, topology, 1)?;
+    let mut zero = end_like(rt, alloc, topology, of.gives)?;
+    let mut one = end_like(rt, alloc, topology, of.takes)?;
     let first = first_session(rt, alloc, topology, &mut zero, &mut one, cut)?;
     let before = first_text(rt, alloc, &mut one, &first, cut)?;
     let after = second_session(rt, alloc, &mut zero, &mut one, first)?;
-    let (count, clock) = known(alloc, one, 1)?;
-    Ok(format!(in alloc; "{before} {after} {count} {clock}")?)
+    let channels = channels_of(topology);
+    let alike = ends_like(rt, alloc, zero, of.gives, channels)?
+        && ends_like(rt, alloc, one, of.comes_to, channels)?;
+    Ok(format!(in alloc; "{before} {after} {}", alike_word(alike))?)
 }
 
 /// What all cuts from an octet on to another come to.
-pub fn cuts<R: Wait>(
+fn cuts_from<R: Wait>(
     rt: &R,
-    bench: &Bench,
     alloc: Global,
+    topology: &Arc<Topology>,
+    of: Cut,
     from: usize,
     to: usize,
 ) -> io::Result<String> {
-    let first = cut_at(rt, alloc, &bench.topology, from)?;
+    let first = cut_at(rt, alloc, topology, of, from)?;
     for cut in from..=to {
-        let other = cut_at(rt, alloc, &bench.topology, cut)?;
+        let other = cut_at(rt, alloc, topology, of, cut)?;
         if other.as_str() != first.as_str() {
             return Ok(format!(in alloc; "unlike {cut}: {other}")?);
         }
     }
     Ok(first)
+}
+
+/// What a line `cut` answers.
+pub fn cuts<R: Wait>(rt: &R, bench: &Bench, alloc: Global, words: Words) -> io::Result<String> {
+    let books = bench.books.as_slice();
+    let of = Cut {
+        gives: book(books, words.index(1)?)?,
+        takes: book(books, words.index(2)?)?,
+        comes_to: book(books, words.index(3)?)?,
+    };
+    cuts_from(
+        rt,
+        alloc,
+        &bench.topology,
+        of,
+        words.index(4)?,
+        words.index(5)?,
+    )
 }
 
 /// The last turn of partition 0 over a wire that ends so.

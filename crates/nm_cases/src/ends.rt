@@ -1,10 +1,14 @@
 //! Replicas that are shared, and links of theirs over wires in memory.
 
+use crate::alike::are_alike;
 use crate::books::null;
+use crate::truth::channels_of;
 use nm_base::mem_wire::Ending;
 use nm_base::{ChanNo, MemWire, PartNo};
+use nm_book::{Book, ChannelMessage, Data};
 use nm_engine::{Acceptor, Cause, Link, ReadBuffer, Turn};
 use nm_frames::Session;
+use nm_knowledge::Know;
 use nm_shared::{Pass, Plain, SharedBook};
 use nm_topology::Topology;
 use std::alloc::Global;
@@ -61,17 +65,58 @@ pub fn messages_of<R: Wait>(rt: &R, end: &mut End) -> u64 {
     end.book.look(rt, &mut end.pass).messages
 }
 
-/// How many messages a replica knows of a channel, and its clock there, in nanoseconds.
-pub fn known(alloc: Global, end: End, channel: u32) -> io::Result<(u64, u64)> {
-    let End { book, pass } = end;
+/// A shared replica is told all that another one knows of a channel.
+fn tell_known<R: Wait>(rt: &R, end: &mut End, channel: ChanNo, know: &Know) -> io::Result<()> {
+    let count = know.len() as u64;
+    for number in 0..count {
+        if let Some((time, packet)) = know.message(number) {
+            let told = ChannelMessage::Data(Data {
+                channel,
+                number,
+                time,
+                packet: packet.clone()?,
+            });
+            let _answer = end.book.accept(rt, &mut end.pass, &told);
+        }
+    }
+    let told = null(channel.number(), count, know.clock().nanoseconds());
+    let _answer = end.book.accept(rt, &mut end.pass, &told);
+    Ok(())
+}
+
+/// A shared replica that was told all that another one knows, and did what is safe.
+pub fn end_like<R: Wait>(
+    rt: &R,
+    alloc: Global,
+    topology: &Arc<Topology>,
+    like: &Book,
+) -> io::Result<End> {
+    let mut end = end_of(rt, alloc, topology, like.partition().number())?;
+    for number in 0..channels_of(topology) {
+        let channel = ChanNo::new(number);
+        if let Some(know) = like.know(channel) {
+            tell_known(rt, &mut end, channel, know)?;
+        }
+    }
+    let _ran = end.book.run(rt, &mut end.pass, alloc, 1000);
+    Ok(end)
+}
+
+/// Whether a shared replica is like another one once it did what is safe.
+pub fn ends_like<R: Wait>(
+    rt: &R,
+    alloc: Global,
+    end: End,
+    like: &Book,
+    channels: u32,
+) -> io::Result<bool> {
+    let End { book, mut pass } = end;
+    let _ran = book.run(rt, &mut pass, alloc, 1000);
     let mut passes = Vec::new(alloc);
     passes.push(pass)?;
-    let Ok(closed) = book.close(passes) else {
-        return Err(io::Error::other("a pass is missing"));
-    };
-    match closed.book.know(ChanNo::new(channel)) {
-        Some(know) => Ok((know.len() as u64, know.clock().nanoseconds())),
-        None => Err(io::Error::other("the channel does not come in")),
+    match book.close(passes) {
+        Ok(closed) => Ok(are_alike(&closed.book, like, channels)),
+        Err(_) => Err(io::Error::other("a pass is missing")),
     }
 }
 

@@ -10,7 +10,7 @@
 //! | `close CLOCK ROOM HEX` | the same over a wire that takes so many octets, and whose peer then sends no more |
 //! | `greet P HEX` | a link that partition P accepted: its last turn, how many octets it gave, and `session` or `none` |
 //! | `fails CLOCK HEX` | as `meet`, with one turn more after the last, and how many octets it gave |
-//! | `cut FROM TO` | module `cuts` |
+//! | `cut B S T FROM TO` | module `cuts` |
 //! | `reads FROM ALL` | module `cuts` |
 
 use crate::bench::Bench;
@@ -124,7 +124,7 @@ pub fn answer<R: Wait>(
     words: Words,
 ) -> io::Result<Option<String>> {
     if words.is("cut") {
-        return Ok(Some(cuts(rt, bench, alloc, words.index(1)?, words.index(2)?)?));
+        return Ok(Some(cuts(rt, bench, alloc, words)?));
     }
     if words.is("reads") {
         return Ok(Some(reads(rt, bench, alloc, words.index(1)?, words.index(2)?)?));

@@ -40,13 +40,16 @@ pub fn refused(fault: &KnowFault) -> Word {
     }
 }
 
-/// What a merge answers.
-pub fn merged(answer: &Result<(), MergeFault>) -> Word {
+/// What a merge answers: where a channel refuses it, which one does.
+pub fn merged(alloc: Global, answer: &Result<(), MergeFault>) -> Result<String, AllocError> {
     match answer {
-        Ok(()) => ("merged", None),
-        Err(MergeFault::Refused(MergeRefusal::Stranger)) => ("stranger", None),
-        Err(MergeFault::Refused(MergeRefusal::Channel { fault, .. })) => refused(fault),
-        Err(MergeFault::Memory) => ("memory", None),
+        Ok(()) => String::from_str(alloc, "merged"),
+        Err(MergeFault::Refused(MergeRefusal::Stranger)) => String::from_str(alloc, "stranger"),
+        Err(MergeFault::Refused(MergeRefusal::Channel { channel, fault })) => {
+            let said = text(alloc, refused(fault))?;
+            format!(in alloc; "{said} channel {}", channel.number())
+        }
+        Err(MergeFault::Memory) => String::from_str(alloc, "memory"),
     }
 }
 

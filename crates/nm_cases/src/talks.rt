@@ -3,13 +3,16 @@
 //! | Command | Does and answers |
 //! |---|---|
 //! | `talk P Q` | replicas of two partitions talk until both have taken Bye, without a break: the events of both |
-//! | `breaks P Q` | the same, with one break at each octet of either direction: `alike` where both always do as many events, and are done |
+//! | `breaks P Q` | the same, with one break at each octet of either direction: `alike` where both always are done, and their records are those of the talk without a break, one by one, and of the one event list |
 
+use crate::alike::alike_word;
 use crate::bench::{Bench, book_of};
+use crate::drains::are_part;
 use crate::words::Words;
-use nm_base::PartNo;
+use nm_base::{PartNo, Record};
 use nm_book::Book;
 use nm_frames::{Frame, Reader, Session, Taken, write_frame};
+use nm_sim::one_list;
 use nm_topology::Topology;
 use std::alloc::Global;
 use std::io;
@@ -134,20 +137,39 @@ fn until_bye(alloc: Global, zero: &mut End, one: &mut End, left: &mut Left) -> i
     Err(io::Error::other("they talk for ever"))
 }
 
-/// What both did: the octets that each gave, and its events.
-#[derive(Clone, Copy)]
+/// What a talk comes to: the octets that each gave, and both replicas.
+#[derive(Drop)]
 struct Outcome {
     octets: (usize, usize),
-    events: (u64, u64),
+    zero: Book,
+    one: Book,
+}
+
+impl Outcome {
+    /// Whether both replicas did as many events as those of another talk, and have the same records.
+    fn is_like(&self, other: &Outcome) -> bool {
+        self.zero.events() == other.zero.events()
+            && self.one.events() == other.one.events()
+            && self.zero.trace() == other.zero.trace()
+            && self.one.trace() == other.one.trace()
+    }
+
+    /// Whether the records of both are their parts of the trace of the one event list.
+    fn is_true(&self, topology: &Topology, whole: &[Record]) -> bool {
+        are_part(topology, whole, self.zero.partition(), self.zero.trace())
+            && are_part(topology, whole, self.one.partition(), self.one.trace())
+    }
 }
 
 /// Both ends of a talk.
-fn talk(alloc: Global, zero: &mut End, one: &mut End, left: Left) -> io::Result<Outcome> {
-    let mut left = left;
-    until_bye(alloc, zero, one, &mut left)?;
+fn talk(alloc: Global, zero: End, one: End, left: Left) -> io::Result<Outcome> {
+    let (mut zero, mut one, mut left) = (zero, one, left);
+    until_bye(alloc, &mut zero, &mut one, &mut left)?;
+    let octets = (zero.octets, one.octets);
     Ok(Outcome {
-        octets: (zero.octets, one.octets),
-        events: (zero.book.events(), one.book.events()),
+        octets,
+        zero: zero.book,
+        one: one.book,
     })
 }
 
@@ -158,9 +180,9 @@ fn talk_of(
     who: (u32, u32),
     left: Left,
 ) -> io::Result<Outcome> {
-    let mut zero = End::new(alloc, topology, who.0, who.1)?;
-    let mut one = End::new(alloc, topology, who.1, who.0)?;
-    talk(alloc, &mut zero, &mut one, left)
+    let zero = End::new(alloc, topology, who.0, who.1)?;
+    let one = End::new(alloc, topology, who.1, who.0)?;
+    talk(alloc, zero, one, left)
 }
 
 /// No break.
@@ -169,34 +191,35 @@ const WHOLE: Left = Left {
     of_one: usize::MAX,
 };
 
-/// Whether all talks with one break do as many events as the one without.
+/// Whether all talks with one break come to what the one without comes to, which is true.
 fn are_alike(alloc: Global, topology: &Arc<Topology>, who: (u32, u32)) -> io::Result<bool> {
+    let records = one_list(alloc, topology, topology.stop())?;
     let whole = talk_of(alloc, topology, who, WHOLE)?;
     for of_zero in 0..whole.octets.0 {
         let left = Left { of_zero, ..WHOLE };
-        if talk_of(alloc, topology, who, left)?.events != whole.events {
+        if !talk_of(alloc, topology, who, left)?.is_like(&whole) {
             return Ok(false);
         }
     }
     for of_one in 0..whole.octets.1 {
         let left = Left { of_one, ..WHOLE };
-        if talk_of(alloc, topology, who, left)?.events != whole.events {
+        if !talk_of(alloc, topology, who, left)?.is_like(&whole) {
             return Ok(false);
         }
     }
-    Ok(true)
+    Ok(whole.is_true(topology, &records))
 }
 
 /// What two replicas did in a talk without a break.
 fn talk_text(bench: &Bench, alloc: Global, who: (u32, u32)) -> io::Result<String> {
     let found = talk_of(alloc, &bench.topology, who, WHOLE)?;
-    Ok(format!(in alloc; "{} {}", found.events.0, found.events.1)?)
+    Ok(format!(in alloc; "{} {}", found.zero.events(), found.one.events())?)
 }
 
 /// Whether talks with a break do the same.
 fn breaks_text(bench: &Bench, alloc: Global, who: (u32, u32)) -> io::Result<String> {
     let alike = are_alike(alloc, &bench.topology, who)?;
-    Ok(String::from_str(alloc, if alike { "alike" } else { "unlike" })?)
+    Ok(String::from_str(alloc, alike_word(alike))?)
 }
 
 /// What a line about talks answers, or None where it is about something else.

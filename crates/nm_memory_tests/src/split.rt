@@ -1,20 +1,19 @@
-//! The network of two partitions that the tests go over, and its replicas.
+//! Networks of two partitions, which the tests go over, and their replicas.
 
 use crate::same::holds;
 use nm_base::{ChanNo, PartNo, Time};
 use nm_book::{Book, BookFault, ChannelMessage, Null};
-use nm_fixtures::SPLIT;
 use nm_topology::Topology;
 use std::alloc::Global;
 use std::process::Abort;
 use std::sync::Arc;
 use std::test::Fail;
 
-/// The network, which has to be accepted.
-pub fn network(alloc: Global) -> Result<Arc<Topology>, Fail> {
-    let first = Topology::read(alloc, SPLIT.as_bytes());
-    let topology = first.or(Topology::read(alloc, SPLIT.as_bytes()))?;
-    let other = Topology::read(alloc, SPLIT.as_bytes());
+/// The network of a text, which has to be accepted.
+pub fn network(alloc: Global, text: &str) -> Result<Arc<Topology>, Fail> {
+    let first = Topology::read(alloc, text.as_bytes());
+    let topology = first.or(Topology::read(alloc, text.as_bytes()))?;
+    let other = Topology::read(alloc, text.as_bytes());
     match Arc::new(alloc, topology) {
         Ok(shared) => Ok(shared),
         Err(_) => Ok(Arc::new(alloc, other?)?),

@@ -5,6 +5,7 @@ mod events;
 mod faults;
 mod forward;
 mod iface;
+mod knowledge;
 mod memory;
 mod packet;
 mod pcap;

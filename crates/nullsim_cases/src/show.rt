@@ -8,7 +8,8 @@
 //! | `counts` | `NODE COUNTER VALUE` for each counter above 0, then `IFACE dropped VALUE` for each interface that dropped packets |
 //!
 //! Of a text that is refused, each of them is the line `fault N`, with the number of the first
-//! fault.
+//! fault. Each run is made with both kinds of event list, and by `one_list`: where their traces are
+//! not the same, a line more says so.
 
 use crate::counted::{Words, push_counted};
 use crate::network::network_text;
@@ -16,7 +17,7 @@ use crate::records::push_records;
 use crate::run::run_before;
 use crate::trace_file::push_files;
 use nm_base::Time;
-use nm_events::SortedList;
+use nm_events::{HeapList, SortedList};
 use nm_sim::{Part, one_list};
 use nm_topology::{Topology, fault_number};
 use std::alloc::{AllocError, Global};
@@ -101,7 +102,6 @@ impl View {
         let words = match self {
             View::Trace => {
                 push_records(&mut text, alloc, topology, part.trace())?;
-                push_difference(&mut text, alloc, topology, part, before)?;
                 Words::of_tables()
             }
             View::Counts => Words::of_tables(),
@@ -111,11 +111,13 @@ impl View {
             }
         };
         push_counted(&mut text, topology, part, words)?;
+        push_difference(&mut text, alloc, topology, part, before)?;
         Ok(text)
     }
 }
 
-/// Adds a line where the trace of one event list is not the part's.
+/// Adds a line where the trace of one event list is not the part's, and one where a part whose events
+/// lie in a heap does others.
 fn push_difference(
     text: &mut String,
     alloc: Global,
@@ -124,8 +126,12 @@ fn push_difference(
     before: Time,
 ) -> Result<(), AllocError> {
     let records = one_list(alloc, topology, before)?;
-    if records.as_slice() == part.trace() {
-        return Ok(());
+    if records.as_slice() != part.trace() {
+        text.push_str("the trace of one event list is another\n")?;
     }
-    text.push_str("the trace of one event list is another\n")
+    let heap = run_before::<HeapList>(alloc, topology, before)?;
+    if heap.trace() != part.trace() || heap.steps() != part.steps() {
+        text.push_str("the trace of events in a heap is another\n")?;
+    }
+    Ok(())
 }

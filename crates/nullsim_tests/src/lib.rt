@@ -13,3 +13,5 @@ mod nodes;
 mod progress;
 #[cfg(test)]
 mod rings;
+#[cfg(test)]
+mod statuses;

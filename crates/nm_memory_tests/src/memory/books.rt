@@ -1,10 +1,12 @@
 //! Replicas.
 
+use crate::alike::are_alike;
 use crate::same::{eq_answer, eq_number, holds};
 use crate::split::{book_of, network, null};
 use crate::words::refused;
 use nm_base::ChanNo;
 use nm_book::{AcceptFault, Book, ChannelMessage, Data, Knowledge, MergeFault, Ran};
+use nm_fixtures::{SHIFT, SPLIT};
 use nm_knowledge::Accepted;
 use nm_topology::Topology;
 use std::alloc::Global;
@@ -32,45 +34,74 @@ fn ran(answer: Ran) -> (&'static str, u64) {
     }
 }
 
-/// A replica is told something, again where memory was refused.
-fn told(book: &mut Book, message: &ChannelMessage) -> (&'static str, u64) {
-    let events = book.events();
-    let safe = book.safe();
+/// A replica, and its twin, which is told, does and merges the same.
+#[derive(Drop)]
+struct Pair {
+    book: Book,
+    twin: Book,
+}
+
+/// A new replica and its twin.
+fn pair_of(
+    rt: &(impl Abort + AllocGlobal),
+    topology: &Arc<Topology>,
+    partition: u32,
+) -> Result<Pair, Fail> {
+    let book = book_of(rt, topology, partition)?;
+    let twin = book_of(rt, topology, partition)?;
+    Ok(Pair { book, twin })
+}
+
+/// Both are the same.
+fn same(rt: &impl Abort, what: &str, pair: &Pair) {
+    holds(rt, what, are_alike(&pair.book, &pair.twin));
+}
+
+/// What a replica that is told something answers, asked again where memory was refused.
+fn told_again(book: &mut Book, message: &ChannelMessage) -> (&'static str, u64) {
     let answer = accepted(&book.accept(message));
-    if answer.0 != "memory" {
-        return answer;
+    if answer.0 == "memory" {
+        return accepted(&book.accept(message));
     }
-    if book.events() != events || book.safe() != safe {
-        return ("changed", 0);
-    }
-    accepted(&book.accept(message))
+    answer
 }
 
-/// A replica runs, again where memory was refused: so many events in all.
-fn runs(rt: &(impl Abort + AllocGlobal), book: &mut Book) -> u64 {
-    let before = book.events();
-    match book.run_safe(rt.alloc(), 10) {
-        Ran::All(done) | Ran::Limit(done) => done,
-        Ran::Memory(done) => {
-            holds(
-                rt,
-                "whole events",
-                book.events() == before.saturating_add(done),
-            );
-            let (_word, more) = ran(book.run_safe(rt.alloc(), 10));
-            done.saturating_add(more)
-        }
+/// A replica is told something, again where memory was refused: then it is as it was.
+fn told(rt: &impl Abort, pair: &mut Pair, message: &ChannelMessage, want: &'static str) {
+    let mut answer = accepted(&pair.book.accept(message));
+    if answer.0 == "memory" {
+        same(rt, "as before", pair);
+        answer = accepted(&pair.book.accept(message));
     }
+    eq_answer(rt, 0, answer, (want, 0));
+    eq_answer(rt, 1, told_again(&mut pair.twin, message), (want, 0));
+    same(rt, "told", pair);
 }
 
-/// The sender's message, again where memory was refused.
-fn message(book: &Book) -> Result<ChannelMessage, Fail> {
-    let channel = ChanNo::new(1);
-    let found: Option<Data> = book.data(channel, 0).or(book.data(channel, 0))?;
-    match found {
-        Some(data) => Ok(ChannelMessage::Data(data)),
-        None => Err("there is a message".into()),
+/// How many events a replica does, asked again where memory was refused.
+fn runs_again(alloc: Global, book: &mut Book) -> u64 {
+    let (word, done) = ran(book.run_safe(alloc, 100));
+    if word != "memory" {
+        return done;
     }
+    let (_word, more) = ran(book.run_safe(alloc, 100));
+    done.saturating_add(more)
+}
+
+/// A replica runs, again where memory was refused: then it is as one that was to do as many events.
+/// So many events in all.
+fn runs(rt: &(impl Abort + AllocGlobal), pair: &mut Pair, want: u64) {
+    let (word, done) = ran(pair.book.run_safe(rt.alloc(), 100));
+    let mut count = done;
+    if word == "memory" {
+        let _ran = pair.twin.run_safe(rt.alloc(), done);
+        same(rt, "whole events", pair);
+        let (_word, more) = ran(pair.book.run_safe(rt.alloc(), 100));
+        count = done.saturating_add(more);
+    }
+    eq_number(rt, "events", count, want);
+    let _ran = runs_again(rt.alloc(), &mut pair.twin);
+    same(rt, "run", pair);
 }
 
 /// What a replica knows, again where memory was refused.
@@ -81,60 +112,73 @@ fn knowledge(alloc: Global, book: &Book) -> Result<Knowledge, Fail> {
     }
 }
 
-/// A replica merges, again where memory was refused.
-fn merges(rt: &(impl Abort + AllocGlobal), book: &mut Book, known: &Knowledge) {
-    let safe = book.safe();
-    let mut answer = book.merge(rt.alloc(), known);
+/// A replica merges, again where memory was refused: then it is as it was.
+fn merges(rt: &(impl Abort + AllocGlobal), pair: &mut Pair, known: &Knowledge) {
+    let mut answer = pair.book.merge(rt.alloc(), known);
     if answer == Err(MergeFault::Memory) {
-        holds(rt, "as before", book.safe() == safe);
-        answer = book.merge(rt.alloc(), known);
+        same(rt, "as before", pair);
+        answer = pair.book.merge(rt.alloc(), known);
     }
     holds(rt, "merged", answer == Ok(()));
+    let first = pair.twin.merge(rt.alloc(), known);
+    let second = pair.twin.merge(rt.alloc(), known);
+    holds(rt, "merged", first == Ok(()) || second == Ok(()));
+    same(rt, "merged", pair);
 }
 
-/// The sender's events, and its message.
-fn sends(rt: &(impl Abort + AllocGlobal), sender: &mut Book) -> Result<ChannelMessage, Fail> {
-    eq_answer(rt, 0, told(sender, &null(0, 0, 1_000_000)), ("raised", 0));
-    eq_number(rt, "events", runs(rt, sender), 2);
-    message(sender)
+/// The first message that a replica sent on a channel, again where memory was refused.
+fn message(book: &Book, channel: u32) -> Result<ChannelMessage, Fail> {
+    let channel = ChanNo::new(channel);
+    let found: Option<Data> = book.data(channel, 0).or(book.data(channel, 0))?;
+    match found {
+        Some(data) => Ok(ChannelMessage::Data(data)),
+        None => Err("there is a message".into()),
+    }
 }
 
-/// The receiver is told the message, and a null message.
-fn hears(rt: &impl Abort, receiver: &mut Book, data: &ChannelMessage) {
-    eq_answer(rt, 2, told(receiver, data), ("new", 0));
-    eq_answer(rt, 3, told(receiver, &null(1, 1, 2_000_000)), ("raised", 0));
-}
-
-/// A late replica merges what the receiver knows, and runs.
+/// A late replica merges what another one knows, and is then as it is.
 fn catches_up(
     rt: &(impl Abort + AllocGlobal),
-    late: &mut Book,
-    receiver: &Book,
+    late: &mut Pair,
+    other: &Book,
+    events: u64,
 ) -> Result<(), Fail> {
-    let known = knowledge(rt.alloc(), receiver)?;
+    let known = knowledge(rt.alloc(), other)?;
     merges(rt, late, &known);
-    eq_number(rt, "events", runs(rt, late), 1);
-    eq_number(rt, "safe time", late.safe().nanoseconds(), 2_000_000);
-    holds(rt, "one record", late.trace().len() == 1);
+    runs(rt, late, events);
+    holds(rt, "the other one", are_alike(&late.book, other));
     Ok(())
 }
 
-/// Two replicas of the receiver, of which one comes late.
-fn receivers(
-    rt: &(impl Abort + AllocGlobal),
-    topology: &Arc<Topology>,
-    data: &ChannelMessage,
-) -> Result<(), Fail> {
-    let mut receiver = book_of(rt, topology, 1)?;
-    hears(rt, &mut receiver, data);
-    let mut late = book_of(rt, topology, 1)?;
-    catches_up(rt, &mut late, &receiver)
-}
-
+/// a sends a packet to b, whose late sister learns of it.
 #[test]
 fn book_calls(rt: HostRuntime) -> Result<(), Fail> {
-    let topology = network(rt.alloc())?;
-    let mut sender = book_of(&rt, &topology, 0)?;
-    let data = sends(&rt, &mut sender)?;
-    receivers(&rt, &topology, &data)
+    let topology = network(rt.alloc(), SPLIT)?;
+    let mut sender = pair_of(&rt, &topology, 0)?;
+    told(&rt, &mut sender, &null(0, 0, 1_000_000), "raised");
+    runs(&rt, &mut sender, 2);
+    let data = message(&sender.book, 1)?;
+    let mut receiver = pair_of(&rt, &topology, 1)?;
+    told(&rt, &mut receiver, &data, "new");
+    told(&rt, &mut receiver, &null(1, 1, 2_000_000), "raised");
+    runs(&rt, &mut receiver, 1);
+    let mut late = pair_of(&rt, &topology, 1)?;
+    catches_up(&rt, &mut late, &receiver.book, 1)
+}
+
+/// b asks a, which is behind a router: the request comes to a, and the reply goes out, in six events
+/// beside the four of a datagram.
+#[test]
+fn book_calls_of_a_router(rt: HostRuntime) -> Result<(), Fail> {
+    let topology = network(rt.alloc(), SHIFT)?;
+    let mut host = pair_of(&rt, &topology, 1)?;
+    told(&rt, &mut host, &null(1, 0, 1_000_000), "raised");
+    runs(&rt, &mut host, 2);
+    let data = message(&host.book, 0)?;
+    let mut router = pair_of(&rt, &topology, 0)?;
+    told(&rt, &mut router, &data, "new");
+    told(&rt, &mut router, &null(0, 1, 2_000_000), "raised");
+    runs(&rt, &mut router, 10);
+    let mut late = pair_of(&rt, &topology, 0)?;
+    catches_up(&rt, &mut late, &router.book, 10)
 }

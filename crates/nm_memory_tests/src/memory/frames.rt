@@ -4,7 +4,8 @@ use crate::same::{eq_number, holds};
 use crate::split::{book_of, network, null};
 use nm_base::{ChanNo, PartNo};
 use nm_book::Book;
-use nm_frames::{Frame, FrameFault, Have, Hello, Reader, Session};
+use nm_fixtures::SPLIT;
+use nm_frames::{Frame, FrameFault, Have, Hello, Reader, Session, write_frame};
 use nm_topology::Topology;
 use std::alloc::Global;
 use std::process::Abort;
@@ -66,30 +67,45 @@ fn session_of(alloc: Global, topology: &Topology) -> Result<Session, Fail> {
     Ok(session)
 }
 
-/// The number of a frame's kind.
-fn kind_of(frame: &Option<Frame>) -> u64 {
-    match frame {
-        None => 0,
-        Some(Frame::Hello(_)) => 1,
-        Some(Frame::Have(_)) => 2,
-        Some(Frame::Data(_)) => 3,
-        Some(Frame::Null(_)) => 4,
-        Some(Frame::Bye) => 5,
+/// The next frame in octets, asked for again where memory was refused: nothing where there is none.
+fn next_of(alloc: Global, session: &mut Session, book: &Book) -> Result<Vec<u8>, Fail> {
+    let first = session.next_out(book);
+    let frame = match first {
+        Ok(frame) => frame,
+        Err(_) => session.next_out(book)?,
+    };
+    let mut octets = Vec::new(alloc);
+    if let Some(frame) = &frame {
+        let first = write_frame(frame, &mut octets);
+        if first.is_err() {
+            holds_nothing(&octets)?;
+            write_frame(frame, &mut octets)?;
+        }
     }
+    Ok(octets)
 }
 
+/// A frame that was refused has written nothing.
+fn holds_nothing(octets: &[u8]) -> Result<(), Fail> {
+    if octets.is_empty() {
+        return Ok(());
+    }
+    Err("nothing is written".into())
+}
+
+/// Two sessions give the same frames, though memory was refused to one of them: a Hello, a Have, a
+/// message and a null message, of so many octets.
 #[test]
 fn session_next_out(rt: HostRuntime) -> Result<(), Fail> {
-    let topology = network(rt.alloc())?;
+    let topology = network(rt.alloc(), SPLIT)?;
     let book = sender_of(&rt, &topology)?;
     let mut session = session_of(rt.alloc(), &topology)?;
-    for kind in [1, 2, 3, 4, 0, 0] {
-        let first = session.next_out(&book);
-        let frame = match first {
-            Ok(frame) => frame,
-            Err(_) => session.next_out(&book)?,
-        };
-        eq_number(&rt, "kind", kind_of(&frame), kind);
+    let mut twin = session_of(rt.alloc(), &topology)?;
+    for count in [48, 17, 125, 25, 0, 0] {
+        let octets = next_of(rt.alloc(), &mut session, &book)?;
+        let same = next_of(rt.alloc(), &mut twin, &book)?;
+        eq_number(&rt, "octets", octets.len() as u64, count);
+        holds(&rt, "a frame", octets == same);
     }
     Ok(())
 }

@@ -5,8 +5,9 @@ ghost use Rattle.nm_memory_tests.specs.Whole.{IsWhole};
 
 use crate::same::{eq_number, holds};
 use crate::split::network;
-use nm_base::{IfaceNo, Key, NodeNo, Time};
+use nm_base::{IfaceNo, Key, NodeNo};
 use nm_events::HeapList;
+use nm_fixtures::{SHIFT, SPLIT};
 use nm_forward::Counter;
 use nm_sim::{Part, one_list};
 use nm_topology::Topology;
@@ -14,35 +15,37 @@ use std::alloc::{AllocError, Global};
 use std::process::Abort;
 use std::test::Fail;
 
-/// What a refused step leaves as it was: the least time, how many events were done, how many
-/// records there are, and the sums of what is counted at both nodes and dropped at both interfaces.
-#[derive(Clone, Copy, PartialEq, Eq)]
-struct Shown {
-    least: Option<Time>,
-    events: u64,
-    records: usize,
-    counted: u64,
-    dropped: u64,
+/// Whether each node of two parts counted the same, and each interface dropped and holds as much.
+fn have_same_devices(
+    topology: &Topology,
+    one: &Part<HeapList>,
+    other: &Part<HeapList>,
+) -> bool {
+    for number in 0..topology.nodes().len() as u32 {
+        let node = NodeNo::new(number);
+        for counter in Counter::ALL {
+            if one.counter(node, counter) != other.counter(node, counter) {
+                return false;
+            }
+        }
+    }
+    for number in 0..topology.ifaces().len() as u32 {
+        let iface = IfaceNo::new(number);
+        if one.dropped(iface) != other.dropped(iface)
+            || one.waiting(iface) != other.waiting(iface)
+        {
+            return false;
+        }
+    }
+    true
 }
 
-/// What is seen of a part.
-fn seen(part: &Part<HeapList>) -> Shown {
-    let mut shown = Shown {
-        least: part.least(),
-        events: part.steps(),
-        records: part.trace().len(),
-        counted: 0,
-        dropped: 0,
-    };
-    for number in 0..2u32 {
-        for counter in Counter::ALL {
-            let count = part.counter(NodeNo::new(number), counter);
-            shown.counted = shown.counted.saturating_add(count.unwrap_or(0));
-        }
-        let count = part.dropped(IfaceNo::new(number));
-        shown.dropped = shown.dropped.saturating_add(count.unwrap_or(0));
-    }
-    shown
+/// Whether two parts are the same in all that they answer.
+fn are_alike(topology: &Topology, one: &Part<HeapList>, other: &Part<HeapList>) -> bool {
+    one.least() == other.least()
+        && one.steps() == other.steps()
+        && one.trace() == other.trace()
+        && have_same_devices(topology, one, other)
 }
 
 /// Does the first event of the whole network.
@@ -57,36 +60,60 @@ fn step(
     part.step(alloc, topology, topology.stop())
 }
 
-/// Does the first event of the whole network, again where memory was refused: a refused step leaves
-/// all as it was.
-fn step_at_last(
-    rt: &(impl Abort + AllocGlobal),
+/// Does the first event of the whole network, again where memory was refused.
+fn step_again(
+    alloc: Global,
     topology: &Topology,
     part: &mut Part<HeapList>,
 ) -> Result<Option<Key>, AllocError>
     requires { IsWhole topology.now part.old }
     ensures { IsWhole topology.now part.new }
 {
-    let before = seen(part);
+    match step(alloc, topology, part) {
+        Ok(done) => Ok(done),
+        Err(_) => step(alloc, topology, part),
+    }
+}
+
+/// The same, where a refused step leaves all as it is in the twin, which is as far.
+fn step_at_last(
+    rt: &(impl Abort + AllocGlobal),
+    topology: &Topology,
+    part: &mut Part<HeapList>,
+    twin: &Part<HeapList>,
+) -> Result<Option<Key>, AllocError>
+    requires { IsWhole topology.now part.old }
+    ensures { IsWhole topology.now part.new }
+{
     match step(rt.alloc(), topology, part) {
         Ok(done) => Ok(done),
         Err(_) => {
-            holds(rt, "as it was", seen(part) == before);
+            holds(rt, "as it was", are_alike(topology, part, twin));
             step(rt.alloc(), topology, part)
         }
     }
 }
 
-/// How many events the whole network does, of which it has fewer than 100.
+/// The whole network, of fewer than 100 events, does them, and so does its twin: after each they are
+/// the same.
 fn run(
     rt: &(impl Abort + AllocGlobal),
     topology: &Topology,
     part: &mut Part<HeapList>,
+    twin: &mut Part<HeapList>,
 ) -> Result<(), AllocError>
-    requires { IsWhole topology.now part.old }
+    requires part { IsWhole topology.now part.old }
+    requires twin { IsWhole topology.now twin.old }
 {
     for _ in 0..100 {
-        if step_at_last(rt, topology, part)?.is_none() {
+        let done = step_at_last(rt, topology, part, twin)?;
+        let same = step_again(rt.alloc(), topology, twin)?;
+        holds(
+            rt,
+            "one event",
+            done == same && are_alike(topology, part, twin),
+        );
+        if done.is_none() {
             return Ok(());
         }
     }
@@ -112,34 +139,55 @@ fn ran(
     topology: &Topology,
 ) -> Result<Part<HeapList>, AllocError> {
     let mut part = started(rt.alloc(), topology)?;
-    run(rt, topology, &mut part)?;
+    let mut twin = started(rt.alloc(), topology)?;
+    run(rt, topology, &mut part, &mut twin)?;
     Ok(part)
 }
 
-/// The one packet of SPLIT is sent at 0 and arrives at 1,100,000 ns, in three events.
-fn is_over(rt: &impl Abort, part: &Part<HeapList>) {
-    eq_number(rt, "events", part.steps(), 3);
-    eq_number(rt, "records", part.trace().len() as u64, 2);
-    for (record, time) in part.trace().iter().zip([0, 1_100_000]) {
-        eq_number(rt, "a time", record.time.nanoseconds(), time);
+/// The run of a network has so many events and records, and its nodes count this.
+fn ends_with(
+    rt: &(impl Abort + AllocGlobal),
+    text: &str,
+    events: u64,
+    records: u64,
+    counts: &[(u32, Counter, u64)],
+) -> Result<(), Fail> {
+    let topology = network(rt.alloc(), text)?;
+    let part = ran(rt, &topology)?;
+    eq_number(rt, "events", part.steps(), events);
+    eq_number(rt, "records", part.trace().len() as u64, records);
+    for (node, counter, count) in counts {
+        let found = part.counter(NodeNo::new(*node), *counter);
+        holds(rt, counter.name(), found == Some(*count));
     }
-    let originated = part.counter(NodeNo::new(0), Counter::Originated);
-    holds(rt, "originated", originated == Some(1));
-    let came = part.counter(NodeNo::new(1), Counter::Udp);
-    holds(rt, "came", came == Some(1));
+    Ok(())
 }
 
+/// One packet is sent and arrives, in three events.
 #[test]
 fn part_step(rt: HostRuntime) -> Result<(), Fail> {
-    let topology = network(rt.alloc())?;
-    let part = ran(&rt, &topology)?;
-    is_over(&rt, &part);
-    Ok(())
+    let counts = [(0, Counter::Originated, 1), (1, Counter::Udp, 1)];
+    ends_with(&rt, SPLIT, 3, 2, &counts)
+}
+
+/// Three datagrams of five events and four records go through a router, and two requests with their
+/// replies, of nine events and eight records.
+#[test]
+fn part_step_of_a_router(rt: HostRuntime) -> Result<(), Fail> {
+    let counts = [
+        (0, Counter::Originated, 5),
+        (0, Counter::Echo, 2),
+        (1, Counter::Forwarded, 7),
+        (2, Counter::Originated, 2),
+        (2, Counter::Udp, 3),
+        (2, Counter::Icmp, 2),
+    ];
+    ends_with(&rt, SHIFT, 33, 28, &counts)
 }
 
 #[test]
 fn part_whole(rt: HostRuntime) -> Result<(), Fail> {
-    let topology = network(rt.alloc())?;
+    let topology = network(rt.alloc(), SPLIT)?;
     let first = one_list(rt.alloc(), &topology, topology.stop());
     let second = one_list(rt.alloc(), &topology, topology.stop());
     eq_number(&rt, "records", first.or(second)?.len() as u64, 2);

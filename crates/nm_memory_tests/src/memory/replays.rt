@@ -1,5 +1,6 @@
 //! Replays: a refused growth ends one at its step.
 
+use crate::alike::are_alike;
 use crate::same::eq_answer;
 use crate::words::refused;
 use nm_base::{ChanNo, PartNo};
@@ -7,6 +8,7 @@ use nm_fixtures::SPLIT;
 use nm_knowledge::Accepted;
 use nm_rounds::replay::replay;
 use nm_rounds::{ReplayEnd, ReplayFault, StepAnswer, WorldReport, WorldStep};
+use std::alloc::Global;
 use std::process::Abort;
 use std::test::Fail;
 
@@ -107,36 +109,53 @@ fn late_sister() -> [Row; 13] {
     ]
 }
 
-/// The books of both reports know, did and recorded the same, but that those of the first may have
-/// done some events more.
-fn goes_on(rt: &impl Abort, after: &WorldReport, before: &WorldReport, more: bool) {
+/// How many events the books of a report did.
+fn events_of(report: &WorldReport) -> u64 {
+    let mut events = 0u64;
+    for book in report.books.iter() {
+        events = events.saturating_add(book.events());
+    }
+    events
+}
+
+/// The books of both reports are the same.
+fn are_same(rt: &impl Abort, report: &WorldReport, other: &WorldReport) {
     assert!(rt;
-        after.books.len() == before.books.len(),
+        report.books.len() == other.books.len(),
         "there are as many books"
     );
-    for place in 0..before.books.len() {
-        if place < after.books.len() {
-            let book = &after.books[place];
-            let other = &before.books[place];
-            assert!(rt; book.safe() == other.safe(), "they know the same");
-            let same = book.events() == other.events() && book.records() == other.records();
-            assert!(rt;
-                same || more && book.events() > other.events(),
-                "they did the same"
-            );
-        }
+    for (book, same) in report.books.iter().zip(other.books.iter()) {
+        assert!(rt; are_alike(book, same), "they are the same");
     }
 }
 
-/// Whether a step is a run.
-fn is_run(step: &WorldStep) -> bool {
-    match step {
-        WorldStep::Run { .. } => true,
-        _ => false,
+/// The steps that were done, and of a run at whose end memory was refused as many events as it did.
+fn done_of(
+    alloc: Global,
+    report: &WorldReport,
+    steps: &[WorldStep],
+    step: WorldStep,
+) -> Result<Vec<WorldStep>, Fail> {
+    let mut done = steps.to_vec(alloc)?;
+    if let WorldStep::Run {
+        partition,
+        replica,
+        ..
+    } = step
+    {
+        let before = replay(alloc, SPLIT.as_bytes(), steps)?;
+        let limit = events_of(report).saturating_sub(events_of(&before));
+        done.push(WorldStep::Run {
+            partition,
+            replica,
+            limit,
+        })?;
     }
+    Ok(done)
 }
 
-/// At this step memory was refused: all before it are answered, and the books are those after them.
+/// At this step memory was refused: all before it are answered, and the books are those after them
+/// and after the whole events of a run.
 fn stopped_at(
     rt: &(impl Abort + AllocGlobal),
     report: &WorldReport,
@@ -154,8 +173,9 @@ fn stopped_at(
         assert!(rt; false, "there is such a step");
         return Ok(());
     }
-    let before = replay(rt.alloc(), SPLIT.as_bytes(), &steps[..done])?;
-    goes_on(rt, report, &before, is_run(&steps[done]));
+    let whole = done_of(rt.alloc(), report, &steps[..done], steps[done])?;
+    let before = replay(rt.alloc(), SPLIT.as_bytes(), &whole)?;
+    are_same(rt, report, &before);
     Ok(())
 }
 

@@ -297,16 +297,17 @@ fn sources_are_of_one_node(rt: HostRuntime) {
 }
 
 /// A datagram of host a to host b.
-const DATAGRAM: &[u8] =
+pub const DATAGRAM: &[u8] =
     b"\x45\x00\x00\x1e\x00\x00\x00\x00\x40\x11\x65\xcd\x0a\x00\x00\x01\x0a\x00\x01\x02\
 \x03\xe8\x00\x09\x00\x0a\xfe\xff\xe7\xe6";
 
 /// What a router sends on of it.
-const FORWARDED: &[u8] =
+pub const FORWARDED: &[u8] =
     b"\x45\x00\x00\x1e\x00\x00\x00\x00\x3f\x11\x66\xcd\x0a\x00\x00\x01\x0a\x00\x01\x02\
 \x03\xe8\x00\x09\x00\x0a\xfe\xff\xe7\xe6";
 
-fn packet_of(rt: &(impl Abort + AllocGlobal), octets: &[u8]) -> Packet {
+/// A packet of these octets.
+pub fn packet_of(rt: &(impl Abort + AllocGlobal), octets: &[u8]) -> Packet {
     let octets = Vec::from_slice(rt.alloc(), octets).expect(rt, "there is memory");
     let packet = Packet::new(rt.alloc(), octets).expect(rt, "there is memory");
     packet.expect(rt, "it fits")

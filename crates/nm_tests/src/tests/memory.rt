@@ -4,7 +4,7 @@
 //!
 //! What a test only needs is asked for twice, so that it is there even where memory was refused.
 
-use crate::tests::forward::Bench;
+use crate::tests::forward::{Bench, DATAGRAM, FORWARDED};
 use crate::tests::same::{eq_number, eq_numbers, eq_octets, holds};
 use crate::tests::texts::TRIO;
 use nm_base::{IfaceNo, Packet, SourceNo, Time};
@@ -111,49 +111,166 @@ const TIME_EXCEEDED: &[u8] =
 \x0b\x00\xf2\x04\x00\x00\x00\x00\x45\x00\x00\x1e\x00\x00\x00\x00\x00\x11\xa5\xcd\x0a\x00\x00\x01\
 \x0a\x00\x01\x02\x03\xe8\x00\x09\x00\x0a\xfe\xff";
 
-/// The router of the trio.
-fn router(rt: &(impl Abort + AllocGlobal)) -> Bench {
-    match Bench::new(rt, network(rt, TRIO), 1) {
+/// A request of host a to the router, and its reply.
+const ASKED: &[u8] =
+    b"\x45\x00\x00\x1c\x00\x00\x00\x00\x40\x01\x66\xdf\x0a\x00\x00\x01\x0a\x00\x00\x02\
+\x08\x00\xf7\xf8\x00\x07\x00\x00";
+
+const REPLY: &[u8] =
+    b"\x45\x00\x00\x1c\x00\x00\x00\x00\x40\x01\x66\xdf\x0a\x00\x00\x02\x0a\x00\x00\x01\
+\x00\x00\xff\xf8\x00\x07\x00\x00";
+
+/// What host a makes of 72 octets of 0 that its source gives, without these octets.
+const DATAGRAM_HEAD: &[u8] =
+    b"\x45\x00\x00\x64\x00\x00\x00\x00\x40\x11\x65\x87\x0a\x00\x00\x01\x0a\x00\x01\x02\
+\x03\xe8\x00\x09\x00\x50\xe6\x5a";
+
+/// A request of its source for echoes, and the packet.
+const MESSAGE: &[u8] = b"\x08\x00\xf7\xf8\x00\x07\x00\x00";
+
+const REQUESTED: &[u8] =
+    b"\x45\x00\x00\x1c\x00\x00\x00\x00\xff\x01\xa6\xde\x0a\x00\x00\x01\x0a\x00\x01\x02\
+\x08\x00\xf7\xf8\x00\x07\x00\x00";
+
+/// A node of the trio, whether its packet arrives, at which interface or from which source, and the
+/// packet; the interface by which it sends, what it sends, which so many octets of 0 follow, and what
+/// it counts once each.
+type Row = (
+    u32,
+    (bool, u32),
+    &'static [u8],
+    (u32, &'static [u8], usize),
+    &'static [&'static str],
+);
+
+/// A node of the trio.
+fn node_of_trio(rt: &(impl Abort + AllocGlobal), node: u32) -> Bench {
+    match Bench::new(rt, network(rt, TRIO), node) {
         Ok(bench) => bench,
         Err(_) => {
             let topology = network(rt, TRIO);
-            Bench::new(rt, topology, 1).expect(rt, "there is memory")
+            Bench::new(rt, topology, node).expect(rt, "there is memory")
         }
     }
 }
 
-/// What a node does with a packet that arrives, asked again where memory was refused.
+/// A node counted these once each, and nothing else.
+fn has_counted(rt: &impl Abort, bench: &Bench, counted: &[&str]) {
+    for counter in Counter::ALL {
+        let want = u64::from(counted.contains(&counter.name()));
+        eq_number(rt, counter.name(), bench.count(counter), want);
+    }
+}
+
+/// What a node does with a packet.
+fn react_once(
+    rt: &(impl Abort + AllocGlobal),
+    bench: &mut Bench,
+    arrives: bool,
+    number: u32,
+    packet: &Packet,
+) -> Result<Reaction, AllocError> {
+    if arrives {
+        return bench.react(rt, Origin::Arrival(IfaceNo::new(number)), packet);
+    }
+    bench.react(rt, Origin::Source(SourceNo::new(number)), packet)
+}
+
+/// The same, asked again where memory was refused: then it had counted nothing.
 fn react_at_last(
     rt: &(impl Abort + AllocGlobal),
     bench: &mut Bench,
+    arrives: bool,
+    number: u32,
     packet: &Packet,
-) -> Result<Reaction, AllocError> {
-    let first = bench.react(rt, Origin::Arrival(IfaceNo::new(1)), packet);
-    if first.is_ok() {
-        return first;
+) -> Reaction {
+    match react_once(rt, bench, arrives, number, packet) {
+        Ok(reaction) => reaction,
+        Err(_) => {
+            has_counted(rt, bench, &[]);
+            let again = react_once(rt, bench, arrives, number, packet);
+            again.expect(rt, "there is memory")
+        }
     }
-    bench.react(rt, Origin::Arrival(IfaceNo::new(1)), packet)
 }
 
-/// The error about the late datagram leaves by the interface that it came by.
-fn is_time_exceeded(rt: &impl Abort, reaction: &Reaction) {
+/// A node sends these octets, which so many of 0 follow, by an interface, and keeps their twin.
+fn sends(rt: &impl Abort, reaction: &Reaction, want: (u32, &[u8], usize)) {
     let Reaction::Send(via, twin) = reaction else {
-        return holds(rt, "an error is sent", false);
+        return holds(rt, "a packet is sent", false);
     };
-    eq_number(rt, "interface", u64::from(via.number()), 1);
-    eq_octets(rt, "the error", twin.packet.octets(), TIME_EXCEEDED);
-    eq_octets(rt, "its twin", twin.copy.octets(), TIME_EXCEEDED);
+    let (interface, head, zeros) = want;
+    eq_number(
+        rt,
+        "interface",
+        u64::from(via.number()),
+        u64::from(interface),
+    );
+    let octets = twin.packet.octets();
+    let (front, rest) = octets.split_at(octets.len().min(head.len()));
+    eq_octets(rt, "what is sent", front, head);
+    holds(
+        rt,
+        "zeros",
+        rest.len() == zeros && rest.iter().all(|octet| *octet == 0),
+    );
+    eq_octets(rt, "its twin", twin.copy.octets(), octets);
 }
 
 /// A refused reaction counts nothing and takes no identification.
+fn reacts(rt: &(impl Abort + AllocGlobal), row: &Row) {
+    let (node, (arrives, number), octets, want, counted) = row;
+    let mut bench = node_of_trio(rt, *node);
+    let packet = packet_of(rt, octets);
+    let reaction = react_at_last(rt, &mut bench, *arrives, *number, &packet);
+    sends(rt, &reaction, *want);
+    has_counted(rt, &bench, counted);
+}
+
+/// Reactions to packets, refused in turn.
+fn react_to(rt: &(impl Abort + AllocGlobal), rows: &[Row]) {
+    for row in rows {
+        reacts(rt, row);
+    }
+}
+
+/// An error about a packet, a packet that goes on, and a reply.
 #[test]
-fn react(rt: HostRuntime) {
-    let mut bench = router(&rt);
-    let packet = packet_of(&rt, LATE);
-    let reaction = react_at_last(&rt, &mut bench, &packet).expect(&rt, "there is memory");
-    is_time_exceeded(&rt, &reaction);
-    eq_number(&rt, "ttl", bench.count(Counter::Ttl), 1);
-    eq_number(&rt, "originated", bench.count(Counter::Originated), 1);
+fn react_to_arrivals(rt: HostRuntime) {
+    let from_a = (true, 1);
+    react_to(
+        &rt,
+        &[
+            (
+                1,
+                from_a,
+                LATE,
+                (1, TIME_EXCEEDED, 0),
+                &["ttl", "originated"],
+            ),
+            (1, from_a, DATAGRAM, (2, FORWARDED, 0), &["forwarded"]),
+            (1, from_a, ASKED, (1, REPLY, 0), &["echo", "originated"]),
+        ],
+    )
+}
+
+/// A packet of a source of each kind.
+#[test]
+fn react_to_sources(rt: HostRuntime) {
+    react_to(
+        &rt,
+        &[
+            (
+                0,
+                (false, 0),
+                &[0; 72],
+                (0, DATAGRAM_HEAD, 72),
+                &["originated"],
+            ),
+            (0, (false, 2), MESSAGE, (0, REQUESTED, 0), &["originated"]),
+            (1, (false, 3), b"\x45", (2, b"\x45", 0), &["raw"]),
+        ],
+    )
 }
 
 /// One echo request.
