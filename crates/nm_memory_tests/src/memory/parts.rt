@@ -16,11 +16,7 @@ use std::process::Abort;
 use std::test::Fail;
 
 /// Whether each node of two parts counted the same, and each interface dropped and holds as much.
-fn have_same_devices(
-    topology: &Topology,
-    one: &Part<HeapList>,
-    other: &Part<HeapList>,
-) -> bool {
+fn have_same_devices(topology: &Topology, one: &Part<HeapList>, other: &Part<HeapList>) -> bool {
     for number in 0..topology.nodes().len() as u32 {
         let node = NodeNo::new(number);
         for counter in Counter::ALL {
@@ -134,10 +130,7 @@ fn started(alloc: Global, topology: &Topology) -> Result<Part<HeapList>, AllocEr
 }
 
 /// The whole network after its run.
-fn ran(
-    rt: &(impl Abort + AllocGlobal),
-    topology: &Topology,
-) -> Result<Part<HeapList>, AllocError> {
+fn ran(rt: &(impl Abort + AllocGlobal), topology: &Topology) -> Result<Part<HeapList>, AllocError> {
     let mut part = started(rt.alloc(), topology)?;
     let mut twin = started(rt.alloc(), topology)?;
     run(rt, topology, &mut part, &mut twin)?;
