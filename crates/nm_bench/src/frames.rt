@@ -2,6 +2,7 @@
 
 ghost use Rattle.std.specs.Prelude.{◌≤◌};
 
+use bytes::Bytes;
 use nm_base::{ChanNo, Packet, Time};
 use nm_book::Data;
 use nm_frames::{Frame, Reader, write_frame};
@@ -14,7 +15,7 @@ const MESSAGES: u64 = 200_000;
 /// Octets of many messages.
 fn written(alloc: Global) -> Result<Vec<u8>, Error> {
     let octets = Vec::from_slice(alloc, &[69; 100])?;
-    let packet = Packet::new(alloc, octets)?.ok_or(ErrorKind::InvalidData)?;
+    let packet = Packet::new(alloc, Bytes::from_vec(octets)?)?.ok_or(ErrorKind::InvalidData)?;
     let mut stream = Vec::new(alloc);
     for number in 0..MESSAGES {
         let frame = Frame::Data(Data {

@@ -41,6 +41,7 @@ mod shared;
 mod streams;
 mod turns;
 
+use bytes::Bytes;
 use cuts::try_seeds;
 use frames::frames_read;
 use links::messages_told;
@@ -65,7 +66,7 @@ fn work<L: EventList + Drop>(alloc: Global, order: Order) -> Result<u64, AllocEr
 /// Knowledge of a million messages, copied so many times.
 fn copy(alloc: Global, copies: u64) -> Result<u64, Error> {
     let octets = Vec::from_slice(alloc, &[1, 2, 3])?;
-    let packet = Packet::new(alloc, octets)?.ok_or(ErrorKind::InvalidData)?;
+    let packet = Packet::new(alloc, Bytes::from_vec(octets)?)?.ok_or(ErrorKind::InvalidData)?;
     let mut know = Know::new(alloc);
     for number in 0..1_000_000 {
         if know.accept_data(number, Time::from_nanoseconds(number + 1), &packet)

@@ -1,5 +1,6 @@
 //! A replica at work: it is told messages of its channels, and runs.
 
+use bytes::Bytes;
 use nm_base::{ChanNo, Packet, PartNo, Time};
 use nm_book::{Book, ChannelMessage, Data};
 use nm_topology::Topology;
@@ -56,7 +57,7 @@ fn tell(
 /// A million messages in all, one of each channel in turn; it runs after each. How many it took.
 fn tell_all(alloc: Global, book: &mut Book, channels: &[ChanNo]) -> Result<u64, Error> {
     let octets = Vec::from_slice(alloc, &[0; 20])?;
-    let packet = Packet::new(alloc, octets)?.ok_or(ErrorKind::InvalidData)?;
+    let packet = Packet::new(alloc, Bytes::from_vec(octets)?)?.ok_or(ErrorKind::InvalidData)?;
     let mut told = 0u64;
     let rounds = match MESSAGES.checked_div(channels.len() as u64) {
         Some(rounds) => rounds,

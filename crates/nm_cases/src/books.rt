@@ -32,6 +32,7 @@ use crate::promises::promises;
 use crate::said::{Word, accepted, merged, ran, text};
 use crate::truth::channels_of;
 use crate::words::Words;
+use bytes::Bytes;
 use nm_base::{ChanNo, Dir, IfaceNo, Packet, Time};
 use nm_book::{Book, ChannelMessage, Data, Null};
 use std::alloc::Global;
@@ -50,7 +51,7 @@ pub fn null(channel: u32, count: u64, clock: u64) -> ChannelMessage {
 fn packet_of(alloc: Global, count: usize, value: u8) -> io::Result<Packet> {
     let mut octets = Vec::new(alloc);
     octets.resize(count, value)?;
-    match Packet::new(alloc, octets)? {
+    match Packet::new(alloc, Bytes::from_vec(octets)?)? {
         Some(packet) => Ok(packet),
         None => Err(io::Error::other("that is no packet")),
     }

@@ -10,6 +10,7 @@
 //! | `close CLOCK ROOM HEX` | the same over a wire that takes so many octets, and whose peer then sends no more |
 //! | `greet P HEX` | a link that partition P accepted: its last turn, how many octets it gave, and `session` or `none` |
 //! | `fails CLOCK HEX` | as `meet`, with one turn more after the last, and how many octets it gave |
+//! | `turns CLOCK COUNT READS WRITES HEX` | so many turns of a link of partition 0 over a wire whose reads and writes answer as these words, as `20,later,28`, say, in their order (`end` and `fault` too), and past them give and take all: the turns, how many octets went, and how many messages are known then |
 //! | `cut B S T FROM TO` | module `cuts` |
 //! | `reads FROM ALL` | module `cuts` |
 
@@ -20,6 +21,7 @@ use crate::ends::{
     wire_of,
 };
 use crate::octets::octets_of;
+use crate::scripted::scripted;
 use crate::words::Words;
 use nm_base::PartNo;
 use nm_base::mem_wire::Ending;
@@ -98,7 +100,11 @@ fn answer_peer<R: Wait>(
     words: Words,
 ) -> io::Result<Option<String>> {
     let digest = bench.topology.digest();
-    let at = if words.is("close") { 3 } else { 2 };
+    let at = match words.name() {
+        "turns" => 5,
+        "close" => 3,
+        _ => 2,
+    };
     let octets = octets_of(alloc, words.from(at), &digest)?;
     if words.is("meet") {
         return Ok(Some(meet(rt, alloc, bench, words.number(1)?, open(&octets))?));
@@ -110,11 +116,15 @@ fn answer_peer<R: Wait>(
     if words.is("greet") {
         return Ok(Some(greet(rt, alloc, bench, words.short(1)?, &octets)?));
     }
+    if words.is("turns") {
+        let said = scripted(rt, alloc, &bench.topology, words.from(1), &octets)?;
+        return Ok(Some(said));
+    }
     Ok(Some(fails(rt, alloc, bench, words.number(1)?, &octets)?))
 }
 
 /// The commands with octets of a peer.
-const PEER: &[&str] = &["meet", "close", "greet", "fails"];
+const PEER: &[&str] = &["meet", "close", "greet", "fails", "turns"];
 
 /// What a line about links answers, or None where it is about something else.
 pub fn answer<R: Wait>(

@@ -41,6 +41,7 @@ mod promises;
 mod replays;
 mod run;
 mod said;
+mod scripted;
 mod sessions;
 mod streams;
 mod talks;

@@ -64,7 +64,6 @@ impl OutBuffer {
     /// # Errors
     ///
     /// `AllocError` where memory was refused. The same octets wait then.
-    #[tactic(auto, using(Rattle::std::proofs::lemmas::List::drop-append-le))]
     pub(crate) fn put(&mut self, frame: &Frame) -> Result<(), AllocError>
         ensures ok { OnOk result (self.new.items ≡ self.old.items ++ frame_octets frame.now) }
         ensures fits { IsFrame frame.now }

@@ -2,6 +2,7 @@
 
 ghost use Rattle.std.specs.Prelude.{◌≡◌};
 
+use bytes::Bytes;
 use nm_base::{ChanNo, Packet, Time};
 use nm_book::{ChannelMessage, Data, Null};
 use std::alloc::Global;
@@ -26,7 +27,7 @@ pub fn message<R: Abort>(
     number: u64,
     time: u64,
 ) -> ChannelMessage {
-    let octets = Vec::from_slice(alloc, &number.to_be_bytes()).expect(rt, "memory");
+    let octets = Bytes::copy_from_slice(alloc, &number.to_be_bytes()).expect(rt, "memory");
     let packet = Packet::new(alloc, octets).expect(rt, "memory");
     ChannelMessage::Data(Data {
         channel: ChanNo::new(channel),

@@ -2,6 +2,7 @@
 //! budget.
 
 use crate::tests::same::{eq_number, eq_octets, holds};
+use bytes::Bytes;
 use nm_base::limits::MAX_PACKET_OCTETS;
 use nm_base::sink::{write_all, write_counted};
 use nm_base::{
@@ -50,7 +51,7 @@ fn keys_stand_in_their_order(rt: HostRuntime) {
 /// Whether so many octets are a packet, which then has these octets.
 fn is_packet(rt: &(impl Abort + AllocGlobal), count: usize) -> bool {
     let octets = vec![in rt.alloc(); 7u8; count].expect(rt, "it succeeds");
-    let copy = octets.clone().expect(rt, "it succeeds");
+    let copy = Bytes::copy_from_slice(rt.alloc(), octets.as_slice()).expect(rt, "it succeeds");
     let Some(packet) = Packet::new(rt.alloc(), copy).expect(rt, "it succeeds") else {
         return false;
     };
@@ -77,7 +78,7 @@ fn packets_have_a_range_of_sizes(rt: HostRuntime) {
 
 #[test]
 fn packets_are_twins(rt: HostRuntime) {
-    let octets = Vec::from_slice(rt.alloc(), b"two").expect(&rt, "it succeeds");
+    let octets = Bytes::from_static(b"two");
     let packet = Packet::new(rt.alloc(), octets).expect(&rt, "it succeeds");
     let twin = Twin::new(packet.expect(&rt, "three octets fit")).expect(&rt, "it succeeds");
     holds(&rt, "they are equal", twin.packet == twin.copy);

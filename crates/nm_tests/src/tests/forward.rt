@@ -6,6 +6,7 @@ ghost use Rattle.nm_forward.specs.State.{table_of};
 
 use crate::tests::same::{eq_number, eq_octets, eq_text, holds};
 use crate::tests::texts::TRIO;
+use bytes::Bytes;
 use nm_base::{IfaceNo, NodeNo, Packet, SourceNo, Time, Twin};
 use nm_forward::{Counter, NodeState, Origin, Reaction, Routes, react};
 use nm_iface::Port;
@@ -263,7 +264,7 @@ fn node_of_trio(rt: &(impl Abort + AllocGlobal), node: u32) -> Bench {
 
 /// A packet of one octet.
 fn one_octet(rt: &(impl Abort + AllocGlobal)) -> Packet {
-    let octets = Vec::from_slice(rt.alloc(), b"\0").expect(rt, "it succeeds");
+    let octets = Bytes::from_static(b"\0");
     let packet = Packet::new(rt.alloc(), octets).expect(rt, "it succeeds");
     packet.expect(rt, "one octet fits")
 }
@@ -308,7 +309,7 @@ pub const FORWARDED: &[u8] =
 
 /// A packet of these octets.
 pub fn packet_of(rt: &(impl Abort + AllocGlobal), octets: &[u8]) -> Packet {
-    let octets = Vec::from_slice(rt.alloc(), octets).expect(rt, "there is memory");
+    let octets = Bytes::copy_from_slice(rt.alloc(), octets).expect(rt, "there is memory");
     let packet = Packet::new(rt.alloc(), octets).expect(rt, "there is memory");
     packet.expect(rt, "it fits")
 }

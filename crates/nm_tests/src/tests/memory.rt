@@ -7,6 +7,7 @@
 use crate::tests::forward::{Bench, DATAGRAM, FORWARDED};
 use crate::tests::same::{eq_number, eq_numbers, eq_octets, holds};
 use crate::tests::texts::TRIO;
+use bytes::Bytes;
 use nm_base::{IfaceNo, Packet, SourceNo, Time};
 use nm_fixtures::DUO;
 use nm_forward::{Counter, Origin, Reaction};
@@ -25,7 +26,7 @@ fn network(rt: &(impl Abort + AllocGlobal), text: &str) -> Topology {
 
 /// The packet of these octets, if they are one.
 fn made(alloc: Global, octets: &[u8]) -> Result<Option<Packet>, AllocError> {
-    Packet::new(alloc, Vec::from_slice(alloc, octets)?)
+    Packet::new(alloc, Bytes::copy_from_slice(alloc, octets)?)
 }
 
 /// A packet of from 1 to 65,535 octets.

@@ -4,6 +4,7 @@
 ghost use Rattle.std.specs.Prelude.{◌≡◌, ◌≤◌};
 
 use crate::tests::same::{eq_octets, holds};
+use bytes::Bytes;
 use nm_base::{Dir, IfaceNo, MemSink, Packet, Record, StdSink, Time};
 use nm_pcap::{PcapFault, PcapOut};
 use std::io::{self, Write};
@@ -28,7 +29,7 @@ const PACKET_HEADERS: [u8; 28] = [
 fn record_of(rt: &(impl Abort + AllocGlobal), nanoseconds: u64, octets: &[u8]) -> Record
     ensures { result.time ≡ nanoseconds }
 {
-    let octets = Vec::from_slice(rt.alloc(), octets).expect(rt, "it succeeds");
+    let octets = Bytes::copy_from_slice(rt.alloc(), octets).expect(rt, "it succeeds");
     let packet = Packet::new(rt.alloc(), octets).expect(rt, "it succeeds");
     Record {
         time: Time::from_nanoseconds(nanoseconds),
