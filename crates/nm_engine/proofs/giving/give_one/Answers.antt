@@ -1,4 +1,5 @@
 use Rattle.std.proofs.Common.{◌≡◌, ◌++◌, ℕ, List, [], Option, Some, None, Ok, ◌∙◌, ap, refl, sym, subst, append-nil}
+use Rattle.std.specs.Prelude.{OnErr}
 use Rattle.nm_frames.specs.Frame.{frame_octets}
 use Rattle.nm_frames.specs.Session.{SessionValue}
 use Rattle.nm_engine.specs.Giving.{GivesFrames}
@@ -28,3 +29,9 @@ returns-clause-gives g c =
       subst (λ (s : Option SessionValue). GivesFrames h s (Some c.act-back.result.0) before after (frame_octets f)) (sym (sym c.take.ensures.value ∙ c.in-Some.is))
           (gives_one h c.in-Some.asked c.act-back.result.0 b f c.act-back.result.1 (c.in-Ok-Some.is ∙ ap Ok c.in-Ok-Some.field-0-is) does.1 does.2 c.in-Err-put.ensures.fits before after (frame_octets f) (ap (λ l. l ++ frame_octets f) c.in-Err-put.ensures.err)),
     )
+
+pub returns-in-Err-clause-gives : goal.returns-in-Err-clause-gives
+returns-in-Err-clause-gives g c =
+    let does = c.act-back.ensures.2 in
+    let same : c.act-back.result.0 ≡ c.in-Some.asked = subst (λ r. OnErr r (c.act-back.result.0 ≡ c.in-Some.asked)) c.in-Err.is does.3 in
+    λ h. ([], record { outs = []; gave = ap Some same ∙ sym (sym c.take.ensures.value ∙ c.in-Some.is); put = refl })

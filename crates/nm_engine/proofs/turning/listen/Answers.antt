@@ -17,5 +17,4 @@ returns-clause-hears g c =
     let takes = c.in_ok-came.ensures.takes in
     subst (λ (x : Turn). Hears g.W.Wire.seen old new x) (sym c.answer.ensures)
     (says_well g.W.Wire.seen old new (Heard g.W.Wire.seen old new) (λ h. length h.moves.came) takes.0 c.in_ok-came.came takes.1 c.has_ended.result
-    (λ over. subst (λ (l : List ℕ). HasEnded new.session l) c.deref.ensures.value (c.has_ended.ensures.ended over))
-    (λ is. c.has_ended.ensures.only (subst (λ (l : List ℕ). HasEnded new.session l) (sym c.deref.ensures.value) is)))
+    c.has_ended.ensures.ended c.has_ended.ensures.only)

@@ -33,5 +33,4 @@ returns-clause-works g c =
     (turned_well g.W.Wire.seen old mid takes.0 c.give_all.new.session c.write_out.new.wire c.give_all.new.out.items c.write_out.new.out.items
     (c.in_ok-give_all.ensures.gives c.args.parts.now.party.acceptor) c.write_out.ensures.keeps.0 c.in_ok-came.came c.in_ok-went.went takes.1 c.in_ok-went.ensures.writes c.write_out.ensures.keeps.1
     c.in_ok-give_all.ensures.all c.has_ended.result
-    (λ over. subst (λ (l : List ℕ). HasEnded c.give_all.new.session l) c.deref.ensures.value (c.has_ended.ensures.ended over))
-    (λ is. c.has_ended.ensures.only (subst (λ (l : List ℕ). HasEnded c.give_all.new.session l) (sym c.deref.ensures.value) is)))
+    c.has_ended.ensures.ended c.has_ended.ensures.only)
