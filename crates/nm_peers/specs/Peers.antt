@@ -26,8 +26,8 @@ is_caller t p a = nat_lt a.partition p && is_near t p a.partition
 abbrev pub socket_of : Listener → SocketAddr
 socket_of a = V4 a.address
 
-abbrev pub name_of : Listener → ReplicaName
-name_of a = record { partition = a.partition; replica = a.replica }
+abbrev pub listener_name : Listener → ReplicaName
+listener_name a = record { partition = a.partition; replica = a.replica }
 
 -- whom a replica of partition p calls, and who calls it: all of these listeners, in their order
 pub record ArePeers (t : TopologyValue) (p : ℕ) (listeners : List Listener)
@@ -35,7 +35,7 @@ pub record ArePeers (t : TopologyValue) (p : ℕ) (listeners : List Listener)
   pub partitions : peers.partitions.items
       ≡ map (λ a. a.partition) (filter (is_called t p) listeners)
   pub addresses : peers.addresses.items ≡ map socket_of (filter (is_called t p) listeners)
-  pub callers : peers.callers.items ≡ map name_of (filter (is_caller t p) listeners)
+  pub callers : peers.callers.items ≡ map listener_name (filter (is_caller t p) listeners)
 
 -- where the first of these listeners listens that is of this replica
 abbrev pub own_address : List Listener → ℕ → ℕ → Option SocketAddr

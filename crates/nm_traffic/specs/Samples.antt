@@ -5,8 +5,8 @@ use Rattle.nm_topology.specs.declared.traffic.Echo.{Echo}
 use Rattle.nm_topology.specs.RawValue.{RawValue}
 
 -- three octets of 170 at 5, 15 and 25 nanoseconds
-abbrev pub cbr : Cbr
-cbr = record {
+abbrev pub cbr_source : Cbr
+cbr_source = record {
   to = 167_772_161;
   source_port = 1_000;
   destination_port = 9;
@@ -14,15 +14,15 @@ cbr = record {
 }
 
 -- requests with two octets of 255, one each nanosecond
-abbrev pub echo : Echo
-echo = record {
+abbrev pub echo_source : Echo
+echo_source = record {
   to = 167_772_161;
   identifier = 7;
   flow = record { size = 2; fill = 255; start = 0; interval = 1; count = 70_000; ttl = 64 };
 }
 
-abbrev pub raw : RawValue
-raw = record {
+abbrev pub raw_source : RawValue
+raw_source = record {
   via = 3;
   packets = record { at = 4; packet = 1 ∷ 1 ∷ [] } ∷ record { at = 9; packet = 2 ∷ [] } ∷ [];
 }

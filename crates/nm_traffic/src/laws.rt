@@ -8,7 +8,7 @@ ghost use Rattle.nm_topology.specs.TopologyValue.{TopologyValue};
 ghost use Rattle.nm_traffic.specs.Flow.{cbr_octets};
 ghost use Rattle.nm_traffic.specs.Orderly.{ArePackets, ComeBeforeStop, EndForGood};
 ghost use Rattle.nm_traffic.specs.Orderly.{FitTheMtu, HaveOctets, SendsOrderly, TimesRise};
-ghost use Rattle.nm_traffic.specs.Samples.{cbr, echo, raw};
+ghost use Rattle.nm_traffic.specs.Samples.{cbr_source, echo_source, raw_source};
 ghost use Rattle.nm_traffic.specs.Source.{packet_at};
 
 use nm_topology::Topology;
@@ -43,13 +43,13 @@ pub fn source_times_rise(topology: &Topology)
 /// there is no data, one octet stands for it, which is 0.
 #[tactic(auto, unfolding(crate::specs::Source::packet_at, crate::specs::Flow::echo_message))]
 pub fn packets_of_each_kind()
-    ensures cbr { (packet_at 1_000 (Cbr cbr) 0 ≡ Some (5, 170 ∷ 170 ∷ 170 ∷ []))
-        × (packet_at 1_000 (Cbr cbr) 2 ≡ Some (25, 170 ∷ 170 ∷ 170 ∷ []))
-        × (packet_at 1_000 (Cbr cbr) 3 ≡ None)
-        × (packet_at 25 (Cbr cbr) 2 ≡ None) }
-    ensures echo { packet_at 1_000_000 (Echo echo) 65_537
+    ensures cbr { (packet_at 1_000 (Cbr cbr_source) 0 ≡ Some (5, 170 ∷ 170 ∷ 170 ∷ []))
+        × (packet_at 1_000 (Cbr cbr_source) 2 ≡ Some (25, 170 ∷ 170 ∷ 170 ∷ []))
+        × (packet_at 1_000 (Cbr cbr_source) 3 ≡ None)
+        × (packet_at 25 (Cbr cbr_source) 2 ≡ None) }
+    ensures echo { packet_at 1_000_000 (Echo echo_source) 65_537
         ≡ Some (65_537, 8 ∷ 0 ∷ 247 ∷ 247 ∷ 0 ∷ 7 ∷ 0 ∷ 1 ∷ 255 ∷ 255 ∷ []) }
-    ensures raw { (packet_at 1_000 (Raw raw) 1 ≡ Some (9, 2 ∷ []))
-        × (packet_at 1_000 (Raw raw) 2 ≡ None) × (packet_at 9 (Raw raw) 1 ≡ None) }
+    ensures raw { (packet_at 1_000 (Raw raw_source) 1 ≡ Some (9, 2 ∷ []))
+        × (packet_at 1_000 (Raw raw_source) 2 ≡ None) × (packet_at 9 (Raw raw_source) 1 ≡ None) }
     ensures no_data { (f : Flow) → f.size ≡ 0 → cbr_octets f ≡ 0 ∷ [] }
 {}

@@ -34,12 +34,21 @@ fn what_is_raised_is_found(rt: HostRuntime) -> Result<(), Fail> {
     Ok(())
 }
 
-/// A board closes without a seat.
+/// A board closes without a seat, and without its owners, too: what they raised is told.
 #[test]
 fn a_board_closes_without_a_seat(rt: HostRuntime) -> Result<(), Fail> {
-    let topology = topology_of(&rt, rt.alloc(), SPLIT);
-    let (board, owners, _) = ClockBoard::new(rt.alloc(), &topology)?;
-    let words = board.close(owners, Vec::new(rt.alloc()));
+    let alloc = rt.alloc();
+    let topology = topology_of(&rt, alloc, SPLIT);
+    let (board, owners, _) = ClockBoard::new(alloc, &topology)?;
+    let words = board.close(owners, Vec::new(alloc));
     assert!(rt; words.as_slice() == [0, 0, 0, 0].as_slice());
+    let (board, mut owners, _) = ClockBoard::new(alloc, &topology)?;
+    assert!(rt; owners.len() == 4);
+    let (Some(last), Some(mut owner)) = (owners.pop(), owners.pop()) else {
+        return Err("owners".into());
+    };
+    board.raise(&mut owner, &null(1, 0, 5));
+    let words = board.close(Vec::new(alloc), Vec::new(alloc));
+    assert!(rt; words.as_slice() == [0, 0, 5, 0].as_slice());
     Ok(())
 }

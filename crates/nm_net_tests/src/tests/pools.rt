@@ -4,11 +4,11 @@ use crate::tests::messages::null;
 use crate::tests::sides::{books_of, topology_of};
 use nm_book::{ChannelMessage, Ran};
 use nm_fixtures::RING;
-use nm_shared::{Gate, Job, OpenGate, Pass, Plain, SharedBook, pool};
+use nm_shared::{Gate, Job, Pass, Plain, SharedBook, pool};
 use std::alloc::Global;
 use std::process::Abort;
 use std::sync::Wait;
-use std::sync::atomic::{AtomicBool, Ordering};
+use std::sync::atomic::{AtomicBool, AtomicU64, Ordering};
 use std::thread::Threads;
 
 /// How often a job looks for the other.
@@ -36,6 +36,40 @@ impl Gate for Meeting {
     }
 
     fn leave(&self, _job: usize) {}
+
+    fn poll(&self, _moved: u64) -> bool {
+        true
+    }
+}
+
+/// Notes how many events a book had done when job 0 began, and when it had ended.
+#[derive(Drop)]
+struct Watching<'a, R: Wait> {
+    rt: &'a R,
+    book: &'a SharedBook<Plain>,
+    before: AtomicU64,
+    after: AtomicU64,
+}
+
+impl<'a, R: Wait> Watching<'a, R> {
+    fn note(&self, job: usize, events: &AtomicU64) {
+        if job != 0 {
+            return;
+        }
+        if let Ok(mut pass) = self.book.pass(self.rt) {
+            events.store(self.book.look(self.rt, &mut pass).events, Ordering::SeqCst);
+        }
+    }
+}
+
+impl<'a, R: Wait> Gate for Watching<'a, R> {
+    fn enter(&self, job: usize) {
+        self.note(job, &self.before);
+    }
+
+    fn leave(&self, job: usize) {
+        self.note(job, &self.after);
+    }
 
     fn poll(&self, _moved: u64) -> bool {
         true
@@ -78,7 +112,8 @@ fn is_limit(answer: &Ran, count: u64) -> bool {
     matches!(answer, Ran::Limit(n) if *n == count)
 }
 
-/// Each job runs the book that it names, and does no more events than it asks for.
+/// Each job runs the book that it names, and does no more events than it asks for. It runs between
+/// what the gate is told.
 #[test]
 fn each_job_runs_its_book(rt: HostRuntime) {
     let alloc = rt.alloc();
@@ -93,7 +128,14 @@ fn each_job_runs_its_book(rt: HostRuntime) {
         Job { book: 0, limit: 1 },
         Job { book: 0, limit: 10 },
     ];
-    let report = pool(&rt, alloc, &books, &jobs, 1, &OpenGate).expect(&rt, "memory");
+    let gate = Watching {
+        rt: &rt,
+        book: &books[1],
+        before: AtomicU64::new(9),
+        after: AtomicU64::new(9),
+    };
+    let report = pool(&rt, alloc, &books, &jobs, 1, &gate).expect(&rt, "memory");
+    assert!(rt; gate.before.load(Ordering::SeqCst) == 0 && gate.after.load(Ordering::SeqCst) == 2);
     assert!(rt; is_all(&report.answers[0], 2));
     assert!(rt; is_limit(&report.answers[1], 1));
     assert!(rt; is_all(&report.answers[2], 1));
