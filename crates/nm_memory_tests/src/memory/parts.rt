@@ -21,7 +21,7 @@ fn have_same_devices(
     one: &Part<SortedList>,
     other: &Part<SortedList>,
 ) -> bool {
-    for number in 0..topology.nodes().len() as u32 {
+    for number in 0..topology.nodes().len().min(100) as u32 {
         let node = NodeNo::new(number);
         for counter in Counter::ALL {
             if one.counter(node, counter) != other.counter(node, counter) {
@@ -29,7 +29,7 @@ fn have_same_devices(
             }
         }
     }
-    for number in 0..topology.ifaces().len() as u32 {
+    for number in 0..topology.ifaces().len().min(100) as u32 {
         let iface = IfaceNo::new(number);
         if one.dropped(iface) != other.dropped(iface)
             || one.waiting(iface) != other.waiting(iface)
