@@ -199,8 +199,8 @@ fn book_calls(rt: HostRuntime) -> Result<(), Fail> {
     hears(&rt, &topology, 1, &data, 1)
 }
 
-/// b asks a, which is behind a router: the request comes to a, and the reply goes out, in six events
-/// beside the four of a datagram.
+/// b asks a, which is behind a router: the request comes to a, and the reply goes out, in six
+/// events beside the four of a datagram.
 #[test]
 fn book_calls_of_a_router(rt: HostRuntime) -> Result<(), Fail> {
     let topology = network(rt.alloc(), SHIFT)?;

@@ -94,8 +94,8 @@ fn step_at_last(
     }
 }
 
-/// The whole network, of fewer than 100 events, does them, and so does its twin: after each they are
-/// the same.
+/// The whole network, of fewer than 100 events, does them, and so does its twin: after each they
+/// are the same.
 fn run(
     rt: &(impl Abort + AllocGlobal),
     topology: &Topology,
