@@ -17,8 +17,8 @@ pub record ReaderValue : Type 0 where
   pub failed : Bool
 
 -- the octets of a rest in its two parts
-abbrev pub octets_of : Rest → List ℕ
-octets_of rest = rest.cut ++ rest.open.items
+abbrev pub rest_octets : Rest → List ℕ
+rest_octets rest = rest.cut ++ rest.open.items
 
 -- a fault that the octets of a stream show
 abbrev pub IsOfStream : FrameFault → Type 0

@@ -23,11 +23,11 @@ pub struct Reader {
 }
 
 impl Model for Reader {
-    ghost use Rattle.nm_frames.specs.Reader.{ReaderValue, octets_of};
+    ghost use Rattle.nm_frames.specs.Reader.{ReaderValue, rest_octets};
 
     ghost Value = { ReaderValue };
 
-    ghost view = { λ r. record { rest = octets_of r.rest; failed = r.failed } };
+    ghost view = { λ r. record { rest = rest_octets r.rest; failed = r.failed } };
 }
 
 /// Puts the frame at this place of a block into a list, and answers the place after it.

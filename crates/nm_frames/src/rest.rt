@@ -1,7 +1,7 @@
 //! The octets at the end of a stream of which no whole frame has come.
 
 ghost use Rattle.std.specs.Prelude.{◌≡◌, ◌++◌, [], IfOk, OnErr, OnOk, length, take};
-ghost use Rattle.nm_frames.specs.Reader.{octets_of};
+ghost use Rattle.nm_frames.specs.Reader.{rest_octets};
 
 use bytes::{Bytes, BytesMut};
 use std::alloc::{AllocError, Global};
@@ -19,7 +19,7 @@ pub(crate) struct Rest {
 impl Rest {
     /// No octets.
     pub(crate) fn new(alloc: Global) -> Self
-        ensures { octets_of result ≡ [] }
+        ensures { rest_octets result ≡ [] }
     {
         Rest {
             cut: Bytes::new(),
@@ -29,7 +29,7 @@ impl Rest {
 
     /// What is left of a block.
     pub(crate) fn of_block(alloc: Global, block: Bytes) -> Self
-        ensures { octets_of result ≡ block }
+        ensures { rest_octets result ≡ block }
     {
         Rest {
             cut: block,
@@ -44,9 +44,9 @@ impl Rest {
     ///
     /// `AllocError` where memory was refused. The octets are as before.
     pub(crate) fn add(&mut self, alloc: Global, piece: &[u8]) -> Result<(), AllocError>
-        ensures whole { OnOk result (self.new.open.items ≡ octets_of self.old ++ piece.now) }
+        ensures whole { OnOk result (self.new.open.items ≡ rest_octets self.old ++ piece.now) }
         ensures moved { OnOk result (self.new.cut ≡ []) }
-        ensures err { OnErr result (octets_of self.new ≡ octets_of self.old) }
+        ensures err { OnErr result (rest_octets self.new ≡ rest_octets self.old) }
     {
         if self.cut.is_empty() && !self.open.is_empty() {
             return self.open.extend_from_slice(piece);

@@ -136,49 +136,74 @@ fn message(book: &Book, channel: u32) -> Result<ChannelMessage, Fail> {
     }
 }
 
-/// A late replica merges what another one knows, and is then as it is.
-fn catches_up(
+/// A late replica merges what another one knows and does so many events: it is then as that one.
+fn merges_late(
     rt: &(impl Abort + AllocGlobal),
-    late: &mut Pair,
+    topology: &Arc<Topology>,
+    known: &Knowledge,
     other: &Book,
     events: u64,
 ) -> Result<(), Fail> {
-    let known = knowledge(rt.alloc(), other)?;
-    merges(rt, late, &known);
-    runs(rt, late, events);
+    let mut late = pair_of(rt, topology, other.partition().number())?;
+    merges(rt, &mut late, known);
+    runs(rt, &mut late, events);
     holds(rt, "the other one", are_alike(&late.book, other));
     Ok(())
 }
 
-/// a sends a packet to b, whose late sister learns of it.
+/// The same with what that one knows.
+fn catches_up(
+    rt: &(impl Abort + AllocGlobal),
+    topology: &Arc<Topology>,
+    other: &Book,
+    events: u64,
+) -> Result<(), Fail> {
+    let known = knowledge(rt.alloc(), other)?;
+    merges_late(rt, topology, &known, other, events)
+}
+
+/// A partition, by whose own number its channel goes, hears that nothing comes before 1,000,000 ns
+/// and does two events: the message that it sent on the other channel.
+fn sends(
+    rt: &(impl Abort + AllocGlobal),
+    topology: &Arc<Topology>,
+    sender: u32,
+) -> Result<ChannelMessage, Fail> {
+    let mut pair = pair_of(rt, topology, sender)?;
+    told(rt, &mut pair, &null(sender, 0, 1_000_000), "raised");
+    runs(rt, &mut pair, 2);
+    message(&pair.book, 1 - sender.min(1))
+}
+
+/// The other partition hears this message and that nothing else comes before 2,000,000 ns, and does
+/// so many events; so does a late sister.
+fn hears(
+    rt: &(impl Abort + AllocGlobal),
+    topology: &Arc<Topology>,
+    receiver: u32,
+    data: &ChannelMessage,
+    events: u64,
+) -> Result<(), Fail> {
+    let mut pair = pair_of(rt, topology, receiver)?;
+    told(rt, &mut pair, data, "new");
+    told(rt, &mut pair, &null(receiver, 1, 2_000_000), "raised");
+    runs(rt, &mut pair, events);
+    catches_up(rt, topology, &pair.book, events)
+}
+
+/// a sends a packet to b, where it arrives.
 #[test]
 fn book_calls(rt: HostRuntime) -> Result<(), Fail> {
     let topology = network(rt.alloc(), SPLIT)?;
-    let mut sender = pair_of(&rt, &topology, 0)?;
-    told(&rt, &mut sender, &null(0, 0, 1_000_000), "raised");
-    runs(&rt, &mut sender, 2);
-    let data = message(&sender.book, 1)?;
-    let mut receiver = pair_of(&rt, &topology, 1)?;
-    told(&rt, &mut receiver, &data, "new");
-    told(&rt, &mut receiver, &null(1, 1, 2_000_000), "raised");
-    runs(&rt, &mut receiver, 1);
-    let mut late = pair_of(&rt, &topology, 1)?;
-    catches_up(&rt, &mut late, &receiver.book, 1)
+    let data = sends(&rt, &topology, 0)?;
+    hears(&rt, &topology, 1, &data, 1)
 }
 
-/// b asks a, which is behind a router: the request comes to a, and the reply goes out, in six events
-/// beside the four of a datagram.
+/// b asks a, which is behind a router: the request comes to a, and the reply goes out, in six
+/// events beside the four of a datagram.
 #[test]
 fn book_calls_of_a_router(rt: HostRuntime) -> Result<(), Fail> {
     let topology = network(rt.alloc(), SHIFT)?;
-    let mut host = pair_of(&rt, &topology, 1)?;
-    told(&rt, &mut host, &null(1, 0, 1_000_000), "raised");
-    runs(&rt, &mut host, 2);
-    let data = message(&host.book, 0)?;
-    let mut router = pair_of(&rt, &topology, 0)?;
-    told(&rt, &mut router, &data, "new");
-    told(&rt, &mut router, &null(0, 1, 2_000_000), "raised");
-    runs(&rt, &mut router, 10);
-    let mut late = pair_of(&rt, &topology, 0)?;
-    catches_up(&rt, &mut late, &router.book, 10)
+    let data = sends(&rt, &topology, 1)?;
+    hears(&rt, &topology, 0, &data, 10)
 }

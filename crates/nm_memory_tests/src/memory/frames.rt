@@ -67,6 +67,15 @@ fn session_of(alloc: Global, topology: &Topology) -> Result<Session, Fail> {
     Ok(session)
 }
 
+/// A frame in octets, written again where memory was refused: then nothing was written.
+fn octets_of(alloc: Global, frame: &Frame) -> Result<Vec<u8>, Fail> {
+    let mut octets = Vec::new(alloc);
+    if write_frame(frame, &mut octets).is_err() {
+        write_frame(frame, &mut octets)?;
+    }
+    Ok(octets)
+}
+
 /// The next frame in octets, asked for again where memory was refused: nothing where there is none.
 fn next_of(alloc: Global, session: &mut Session, book: &Book) -> Result<Vec<u8>, Fail> {
     let first = session.next_out(book);
@@ -74,38 +83,43 @@ fn next_of(alloc: Global, session: &mut Session, book: &Book) -> Result<Vec<u8>,
         Ok(frame) => frame,
         Err(_) => session.next_out(book)?,
     };
-    let mut octets = Vec::new(alloc);
-    if let Some(frame) = &frame {
-        let first = write_frame(frame, &mut octets);
-        if first.is_err() {
-            holds_nothing(&octets)?;
-            write_frame(frame, &mut octets)?;
-        }
+    match &frame {
+        Some(frame) => octets_of(alloc, frame),
+        None => Ok(Vec::new(alloc)),
     }
-    Ok(octets)
 }
 
-/// A frame that was refused has written nothing.
-fn holds_nothing(octets: &[u8]) -> Result<(), Fail> {
-    if octets.is_empty() {
-        return Ok(());
+/// Two sessions give the same frames: a Hello, a Have, a message and a null message, of so many
+/// octets.
+fn give_same(
+    rt: &(impl Abort + AllocGlobal),
+    book: &Book,
+    session: &mut Session,
+    twin: &mut Session,
+) -> Result<(), Fail> {
+    for count in [48, 17, 125, 25, 0, 0] {
+        let octets = next_of(rt.alloc(), session, book)?;
+        let same = next_of(rt.alloc(), twin, book)?;
+        eq_number(rt, "octets", octets.len() as u64, count);
+        holds(rt, "a frame", octets == same);
     }
-    Err("nothing is written".into())
+    Ok(())
 }
 
-/// Two sessions give the same frames, though memory was refused to one of them: a Hello, a Have, a
-/// message and a null message, of so many octets.
+/// Two sessions of a replica give the same frames, though memory was refused to one of them.
+fn sessions_give(
+    rt: &(impl Abort + AllocGlobal),
+    topology: &Topology,
+    book: &Book,
+) -> Result<(), Fail> {
+    let mut session = session_of(rt.alloc(), topology)?;
+    let mut twin = session_of(rt.alloc(), topology)?;
+    give_same(rt, book, &mut session, &mut twin)
+}
+
 #[test]
 fn session_next_out(rt: HostRuntime) -> Result<(), Fail> {
     let topology = network(rt.alloc(), SPLIT)?;
     let book = sender_of(&rt, &topology)?;
-    let mut session = session_of(rt.alloc(), &topology)?;
-    let mut twin = session_of(rt.alloc(), &topology)?;
-    for count in [48, 17, 125, 25, 0, 0] {
-        let octets = next_of(rt.alloc(), &mut session, &book)?;
-        let same = next_of(rt.alloc(), &mut twin, &book)?;
-        eq_number(&rt, "octets", octets.len() as u64, count);
-        holds(&rt, "a frame", octets == same);
-    }
-    Ok(())
+    sessions_give(&rt, &topology, &book)
 }

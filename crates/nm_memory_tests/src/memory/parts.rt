@@ -16,8 +16,12 @@ use std::process::Abort;
 use std::test::Fail;
 
 /// Whether each node of two parts counted the same, and each interface dropped and holds as much.
-fn have_same_devices(topology: &Topology, one: &Part<HeapList>, other: &Part<HeapList>) -> bool {
-    for number in 0..topology.nodes().len() as u32 {
+fn have_same_devices(
+    topology: &Topology,
+    one: &Part<HeapList>,
+    other: &Part<HeapList>,
+) -> bool {
+    for number in 0..topology.nodes().len().min(100) as u32 {
         let node = NodeNo::new(number);
         for counter in Counter::ALL {
             if one.counter(node, counter) != other.counter(node, counter) {
@@ -25,7 +29,7 @@ fn have_same_devices(topology: &Topology, one: &Part<HeapList>, other: &Part<Hea
             }
         }
     }
-    for number in 0..topology.ifaces().len() as u32 {
+    for number in 0..topology.ifaces().len().min(100) as u32 {
         let iface = IfaceNo::new(number);
         if one.dropped(iface) != other.dropped(iface)
             || one.waiting(iface) != other.waiting(iface)
@@ -90,30 +94,30 @@ fn step_at_last(
     }
 }
 
-/// The whole network, of fewer than 100 events, does them, and so does its twin: after each they are
-/// the same.
+/// The whole network, of fewer than 100 events, does them, and so does its twin: after each they
+/// are the same.
 fn run(
     rt: &(impl Abort + AllocGlobal),
     topology: &Topology,
     part: &mut Part<HeapList>,
     twin: &mut Part<HeapList>,
-) -> Result<(), AllocError>
+)
     requires part { IsWhole topology.now part.old }
     requires twin { IsWhole topology.now twin.old }
 {
     for _ in 0..100 {
-        let done = step_at_last(rt, topology, part, twin)?;
-        let same = step_again(rt.alloc(), topology, twin)?;
+        let done = step_at_last(rt, topology, part, twin).expect(rt, "there is memory");
+        let same = step_again(rt.alloc(), topology, twin).expect(rt, "there is memory");
         holds(
             rt,
             "one event",
             done == same && are_alike(topology, part, twin),
         );
         if done.is_none() {
-            return Ok(());
+            return;
         }
     }
-    Err(AllocError)
+    holds(rt, "it ends", false);
 }
 
 /// The whole network at its start, asked for again where memory was refused.
@@ -129,44 +133,46 @@ fn started(alloc: Global, topology: &Topology) -> Result<Part<HeapList>, AllocEr
     }
 }
 
-/// The whole network after its run.
-fn ran(rt: &(impl Abort + AllocGlobal), topology: &Topology) -> Result<Part<HeapList>, AllocError> {
-    let mut part = started(rt.alloc(), topology)?;
-    let mut twin = started(rt.alloc(), topology)?;
-    run(rt, topology, &mut part, &mut twin)?;
-    Ok(part)
-}
+/// What a run comes to: so many events and records, and what nodes counted.
+type Want<'w> = (u64, u64, &'w [(u32, Counter, u64)]);
 
-/// The run of a network has so many events and records, and its nodes count this.
-fn ends_with(
-    rt: &(impl Abort + AllocGlobal),
-    text: &str,
-    events: u64,
-    records: u64,
-    counts: &[(u32, Counter, u64)],
-) -> Result<(), Fail> {
-    let topology = network(rt.alloc(), text)?;
-    let part = ran(rt, &topology)?;
+/// A part came to this.
+fn came_to(rt: &impl Abort, part: &Part<HeapList>, want: Want) {
+    let (events, records, counts) = want;
     eq_number(rt, "events", part.steps(), events);
     eq_number(rt, "records", part.trace().len() as u64, records);
     for (node, counter, count) in counts {
         let found = part.counter(NodeNo::new(*node), *counter);
         holds(rt, counter.name(), found == Some(*count));
     }
+}
+
+/// The run of a network comes to this.
+fn runs_to(
+    rt: &(impl Abort + AllocGlobal),
+    topology: &Topology,
+    want: Want,
+) -> Result<(), AllocError> {
+    let mut part = started(rt.alloc(), topology)?;
+    let mut twin = started(rt.alloc(), topology)?;
+    run(rt, topology, &mut part, &mut twin);
+    came_to(rt, &part, want);
     Ok(())
 }
 
 /// One packet is sent and arrives, in three events.
 #[test]
 fn part_step(rt: HostRuntime) -> Result<(), Fail> {
+    let topology = network(rt.alloc(), SPLIT)?;
     let counts = [(0, Counter::Originated, 1), (1, Counter::Udp, 1)];
-    ends_with(&rt, SPLIT, 3, 2, &counts)
+    Ok(runs_to(&rt, &topology, (3, 2, &counts))?)
 }
 
 /// Three datagrams of five events and four records go through a router, and two requests with their
 /// replies, of nine events and eight records.
 #[test]
 fn part_step_of_a_router(rt: HostRuntime) -> Result<(), Fail> {
+    let topology = network(rt.alloc(), SHIFT)?;
     let counts = [
         (0, Counter::Originated, 5),
         (0, Counter::Echo, 2),
@@ -175,7 +181,7 @@ fn part_step_of_a_router(rt: HostRuntime) -> Result<(), Fail> {
         (2, Counter::Udp, 3),
         (2, Counter::Icmp, 2),
     ];
-    ends_with(&rt, SHIFT, 33, 28, &counts)
+    Ok(runs_to(&rt, &topology, (33, 28, &counts))?)
 }
 
 #[test]

@@ -134,8 +134,8 @@ const REQUESTED: &[u8] =
 \x08\x00\xf7\xf8\x00\x07\x00\x00";
 
 /// A node of the trio, whether its packet arrives, at which interface or from which source, and the
-/// packet; the interface by which it sends, what it sends, which so many octets of 0 follow, and what
-/// it counts once each.
+/// packet; the interface by which it sends, what it sends, which so many octets of 0 follow, and
+/// what it counts once each.
 type Row = (
     u32,
     (bool, u32),
