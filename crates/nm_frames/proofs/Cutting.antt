@@ -1,13 +1,15 @@
 -- Frames cut off the front of octets, one after another.
-use Rattle.std.proofs.Common.{◌≡◌, ℕ, ◌-◌, drop, ◌<◌, List, [], ◌∷◌, ◌++◌, length, None, false, Err, inl, inr, refl, sym, ap, subst, ◌∙◌, append_assoc, append-nil, length-append, arith}
-use Rattle.std.proofs.lemmas.List.{drop_at}
+use Rattle.std.proofs.Common.{◌≡◌, ℕ, ◌<◌, List, [], ◌∷◌, ◌++◌, length, take, Some, None, true, false, Result, Ok, Err, inl, inr, ⊎_elim, refl, sym, ap, subst, ◌∙◌, append_assoc, append-nil, length-append, arith}
+use Rattle.std.proofs.lemmas.List.{take-append-le}
+use Rattle.std.proofs.Math.Seq.{take-length}
 use Rattle.std.proofs.lemmas.Grind.{flat_map-append}
 use Rattle.std.specs.List.{AllByRecursion}
 use Rattle.nm_frames.specs.declared.frame.Frame.{Frame}
 use Rattle.nm_frames.specs.declared.fault.FrameFault.{FrameFault}
 use Rattle.nm_frames.specs.Frame.{IsFrame, frame_octets, stream_octets}
 use Rattle.nm_frames.specs.Stream.{fault_shown, IsShort}
-use Rattle.nm_frames.specs.Reader.{ReaderValue, FindsFrame, Cuts, CutsTo, FedWhole}
+use Rattle.nm_frames.specs.declared.fault.FrameFault.TheVariants.{BadLength, BadKind, BadBody, Failed, Memory}
+use Rattle.nm_frames.specs.Reader.{ReaderValue, FindsFrame, Cuts, CutsTo, FedFault, FedWhole, Feeds, LeavesOf, shows_fault}
 
 pub each_append : (fs gs : List Frame) → AllByRecursion IsFrame fs → AllByRecursion IsFrame gs → AllByRecursion IsFrame (fs ++ gs)
 each_append [] gs one two = two
@@ -41,19 +43,39 @@ pub finds_to : (e : FrameFault) (o : List ℕ) (b : List Frame) → FindsFrame o
 finds_to e o b (inl (is, shown)) = inl (is, (o, cuts_none o b, shown))
 finds_to e o b (inr is) = inr (is, ([], sym (append-nil b)))
 
--- what follows the frames is the end of the octets
-pub end_of : (o r : List ℕ) (b c : List Frame) → Cuts o r b c → drop (length o - length r) o ≡ r
-end_of o r b c cut =
-    let n : length o - length r ≡ length (stream_octets cut.frames) = omega (arith, ap length cut.parts, length-append (stream_octets cut.frames) r) in
-    ap (λ l. drop (length o - length r) l) cut.parts ∙ drop_at (stream_octets cut.frames) r (length o - length r) (sym n)
+-- a piece that makes no frame whole
+pub fed_short : (old new : ReaderValue) (piece : List ℕ) (b : List Frame) → old.failed ≡ false → new.rest ≡ old.rest ++ piece → fault_shown new.rest ≡ None → IsShort new.rest → new.failed ≡ false → FedWhole old new piece b b
+fed_short old new piece b sound all none short still = record {
+  sound = sound;
+  cut = subst (λ (x : List ℕ). Cuts x new.rest b b) all (cuts_none new.rest b);
+  none = none;
+  short = short;
+  still_sound = still;
+}
 
-pub fed_whole : (old new : ReaderValue) (piece whole r : List ℕ) (b c : List Frame) → old.failed ≡ false → whole ≡ old.rest ++ piece → Cuts whole r b c → fault_shown r ≡ None → IsShort r → new.rest ≡ drop (length whole - length r) whole → new.failed ≡ false → FedWhole old new piece b c
-fed_whole old new piece whole r b c sound all cut none short kept still =
-    let e : new.rest ≡ r = kept ∙ end_of whole r b c cut in
-    record {
-      sound = sound;
-      cut = subst (λ (x : List ℕ). Cuts (old.rest ++ piece) x b c) (sym e) (subst (λ (x : List ℕ). Cuts x r b c) all cut);
-      none = ap fault_shown e ∙ none;
-      short = subst IsShort (sym e) short;
-      still_sound = still;
-    }
+module _ (old new : ReaderValue) (piece block left : List ℕ) (b c : List Frame) (sound : old.failed ≡ false) (all : block ≡ old.rest ++ piece) (is : new.rest ≡ left) where
+  abbrev fault : (e : FrameFault) → left ≡ [] → (rest : List ℕ) × Cuts block rest b c × (fault_shown rest ≡ Some e) → new.failed ≡ true → FedFault old new piece b c e
+  fault e none (rest, cut, shown) over = record {
+    rest = rest;
+    sound = sound;
+    cut = subst (λ (x : List ℕ). Cuts x rest b c) all cut;
+    shown = shown;
+    over = λ i. record { rest = (is ∙ none) i; failed = over i };
+  }
+
+  -- what a block comes to is what the piece comes to
+  pub feeds_left : (r : Result Unit FrameFault) → LeavesOf block (length old.rest) b c left r → new.failed ≡ shows_fault r → Feeds old new piece b c r
+  feeds_left (Ok x) h over = record {
+    sound = sound;
+    cut = subst (λ (x : List ℕ). Cuts x new.rest b c) all (subst (λ (x : List ℕ). Cuts block x b c) (sym is) h.0);
+    none = ap fault_shown is ∙ h.1;
+    short = subst IsShort (sym is) h.2;
+    still_sound = over;
+  }
+  feeds_left (Err BadLength) h over = fault BadLength h.1 h.2 over
+  feeds_left (Err BadKind) h over = fault BadKind h.1 h.2 over
+  feeds_left (Err BadBody) h over = fault BadBody h.1 h.2 over
+  feeds_left (Err Failed) h over = absurd (⊎_elim (λ e. cc) (λ o. ⊎_elim (λ e. cc) (λ e. cc) o) h.0)
+  feeds_left (Err Memory) h over =
+      let kept = is ∙ h.0 ∙ ap (λ l. take (length old.rest) l) all ∙ take-append-le (length old.rest) old.rest piece (omega arith) ∙ take-length old.rest in
+      record { was = sound; same = λ i. record { rest = kept i; failed = (over ∙ sym sound) i }; none = h.1 }

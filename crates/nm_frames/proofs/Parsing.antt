@@ -1,5 +1,5 @@
 -- The fields of a frame, from its octets.
-use Rattle.std.proofs.Common.{true, ◌==◌, ◌&&◌, nat_lt, subst, rules, ◌≡◌, ℕ, ◌+◌, ◌-◌, ◌<◌, ◌≤◌, List, ◌∷◌, ◌++◌, length, take, drop, get_or, sym, ap, ◌∙◌, ⊎_elim, arith}
+use Rattle.std.proofs.Common.{true, ◌==◌, ◌&&◌, nat_lt, subst, rules, ◌≡◌, ℕ, ◌+◌, ◌-◌, ◌<◌, ◌≤◌, List, ◌∷◌, ◌++◌, length, take, drop, get_or, refl, sym, ap, ◌∙◌, ⊎_elim, arith}
 use Rattle.std.proofs.lemmas.List.{get_or-drop, get_or-take, get_or_past, drop_more, take-append-drop, drop-drop, length-take, length-take-le, length-drop}
 use Rattle.std.proofs.Math.ListN.{drop_of_length-le}
 use Rattle.std.proofs.Math.Seq.{take-length}
@@ -9,7 +9,8 @@ use Rattle.std.proofs.lemmas.Nat.{be_bytes_2, be_bytes_4, be_bytes_8}
 use Rattle.std.specs.Int.{w16, w32, w64, to_be_bytes, from_be_bytes}
 use Rattle.nm_frames.specs.declared.frame.Frame.{Frame}
 use Rattle.nm_frames.specs.Frame.{data_frame, frame_body, frame_octets, have_frame, hello_frame, null_frame}
-use Rattle.nm_frames.specs.Stream.{has_first_word, fits_kind}
+use Rattle.nm_frames.specs.Reader.{StandsAt}
+use Rattle.nm_frames.specs.Stream.{has_first_word, fits_kind, stated_length}
 
 abbrev pub Octets : List ℕ → Type 0
 Octets xs = (i : ℕ) → get_or xs i 0 < 256
@@ -104,3 +105,21 @@ frame_at_front xs body rest n f small h en eb er ef =
     let after : drop 4 xs ≡ frame_body f ++ rest = sym (take-append-drop n (drop 4 xs)) ∙ ap (λ l. l ++ drop n (drop 4 xs)) (sym eb ∙ ef) ∙ ap (λ l. frame_body f ++ l) (sym er) in
     let front : xs ≡ to_be_bytes w32 n ++ drop 4 xs = field_4 xs 0 n small (omega arith) en in
     front ∙ ap (λ l. to_be_bytes w32 n ++ l) after ∙ ap (λ m. to_be_bytes w32 m ++ (frame_body f ++ rest)) size
+
+-- ---- a frame at a place of a block
+module _ (block o : List ℕ) (at n : ℕ) (is : o ≡ drop at block) (fits : 4 + n ≤ length o) where
+  after_length : drop 4 o ≡ drop (at + 4) block
+  after_length = ap (λ l. drop 4 l) is ∙ drop-drop 4 at block
+
+  -- its octets after the length
+  pub body_stands : (k : ℕ) → at ≤ length block → k ≡ n → StandsAt block (at + 4) (take k (drop 4 o))
+  body_stands k within same =
+      let long = ap length is ∙ length-drop at block in
+      let size : length (take k (drop 4 o)) ≡ k = length-take-le k (drop 4 o) (omega (arith, length-drop 4 o, same, fits)) in
+      (omega (arith, size, same, long, fits, within), ap (λ m. take m (drop (at + 4) block)) size ∙ ap (λ l. take k l) (sym after_length))
+
+  -- and what follows it
+  pub frame_stands : (k : ℕ) (f : Frame) → Octets o → n ≡ stated_length o → k ≡ n → take k (drop 4 o) ≡ frame_body f → drop at block ≡ frame_octets f ++ drop (at + 4 + n) block
+  frame_stands k f small stated same body =
+      sym is ∙ frame_at_front o (take k (drop 4 o)) (drop n (drop 4 o)) n f small fits stated (ap (λ m. take m (drop 4 o)) same) refl body
+      ∙ ap (λ l. frame_octets f ++ l) (ap (λ l. drop n l) after_length ∙ drop-drop n (at + 4) block)

@@ -78,6 +78,28 @@ CutsOne now octets before after (Ok (Some rest)) =
     Cuts octets (now rest) before after × (length (now rest) < length octets)
 CutsOne now octets before after (Err e) = CutsTo e octets before after
 
+-- whether a stream showed a fault
+abbrev pub shows_fault : Result Unit FrameFault → Bool
+shows_fault (Ok _) = false
+shows_fault (Err BadLength) = true
+shows_fault (Err BadKind) = true
+shows_fault (Err BadBody) = true
+shows_fault (Err Failed) = true
+shows_fault (Err Memory) = false
+
+-- What is left of a block once its frames were cut off and added to a list: the rest of it, where
+-- it shows no fault; nothing, where it does; and the octets that were held before, where memory
+-- was refused, and then no frame was added.
+abbrev pub LeavesOf : List ℕ → ℕ → List Frame → List Frame → List ℕ → Result Unit FrameFault
+    → Type 0
+LeavesOf block held before after left (Ok _) =
+    Cuts block left before after × (fault_shown left ≡ None) × IsShort left
+LeavesOf block held before after left (Err Memory) =
+    (left ≡ take held block) × (after ≡ before)
+LeavesOf block held before after left (Err e) =
+    IsOfStream e × (left ≡ [])
+    × ((rest : List ℕ) × Cuts block rest before after × (fault_shown rest ≡ Some e))
+
 module _ (old new : ReaderValue) (piece : List ℕ) (before after : List Frame) where
   -- the piece was taken, and no fault shows
   pub record FedWhole : Type 0 where

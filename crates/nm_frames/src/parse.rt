@@ -1,7 +1,7 @@
 //! How frames are read.
 
 ghost use Rattle.std.specs.Prelude.{◌≡◌, ◌+◌, ◌≤◌, ◌<◌, ◌^◌, length, take, drop, slice_index, true};
-ghost use Rattle.std.specs.Prelude.{IfOk, IfSome};
+ghost use Rattle.std.specs.Prelude.{ℕ, IfOk, IfSome};
 ghost use Rattle.std.specs.Int.{w16, w32, w64, to_be_bytes, from_be_bytes};
 ghost use Rattle.nm_frames.specs.declared.format.TheConstants.{KIND_OCTETS};
 ghost use Rattle.nm_frames.specs.declared.format.field.TheConstants as field;
@@ -101,6 +101,7 @@ fn data_of(alloc: Global, block: &Bytes, at: usize, body: &[u8]) -> Result<Data,
     // The body has the length of a Data frame, and its place.
     requires size { (DATA_HEADER_OCTETS < length body.now) × (length body.now ≤ MAX_BODY_OCTETS) }
     requires place { StandsAt block.now at body.now }
+    requires fits { length block.now < 2 ^ 64 }
 
     // Each field is read at its place.
     ensures channel { IfOk result
@@ -127,6 +128,7 @@ fn data_of(alloc: Global, block: &Bytes, at: usize, body: &[u8]) -> Result<Data,
 /// The frame of these octets after its length, which stand at this place of a block.
 fn frame_of(alloc: Global, block: &Bytes, at: usize, body: &[u8]) -> Result<Frame, AllocError>
     requires place { StandsAt block.now at body.now }
+    requires fits { length block.now < 2 ^ 64 }
     requires length { (KIND_OCTETS ≤ length body.now) × (length body.now ≤ MAX_BODY_OCTETS) }
     requires kind { (kind.HELLO ≤ slice_index body.now field.KIND)
         × (slice_index body.now field.KIND ≤ kind.BYE) }
@@ -158,7 +160,8 @@ fn frame_of(alloc: Global, block: &Bytes, at: usize, body: &[u8]) -> Result<Fram
 ///
 /// The fault that the octets show.
 pub(crate) fn whole_frame(octets: &[u8]) -> Result<Option<usize>, FrameFault>
-    ensures { FindsWhole octets.now result }
+    ensures found { FindsWhole octets.now result }
+    ensures small { (i : ℕ) → slice_index octets.now i < 256 }
 {
     if octets.len() < LENGTH_OCTETS {
         return Ok(None);

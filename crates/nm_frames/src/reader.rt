@@ -2,7 +2,8 @@
 
 ghost use Rattle.std.specs.Prelude.{◌≡◌, ◌≤◌, drop, length, [], None, true, false, IfOk};
 ghost use Rattle.std.specs.Prelude.{IfErr, IfSome};
-ghost use Rattle.nm_frames.specs.Reader.{ReaderValue, Cuts, CutsTo, CutsOne, Feeds};
+ghost use Rattle.nm_frames.specs.Reader.{ReaderValue, Cuts, CutsTo, CutsOne, Feeds, LeavesOf};
+ghost use Rattle.nm_frames.specs.Reader.{shows_fault};
 ghost use Rattle.nm_frames.specs.Stream.{fault_shown, IsShort};
 
 use crate::fault::FrameFault;
@@ -71,6 +72,42 @@ fn cut(alloc: Global, block: &Bytes, frames: &mut Vec<Frame>) -> Result<usize, F
     Ok(at)
 }
 
+/// Cuts all frames off a block and puts them into a list. What is left of the block, of which the
+/// first octets were held before.
+fn cut_block(
+    alloc: Global,
+    block: Bytes,
+    held: usize,
+    frames: &mut Vec<Frame>,
+) -> (Bytes, Result<(), FrameFault>)
+    ensures { LeavesOf block held frames.old.items frames.new.items result.0 result.1 }
+{
+    let before = frames.len();
+    let mut left = block;
+    match cut(alloc, &left, frames) {
+        Ok(at) => {
+            left.advance(at);
+            (left, Ok(()))
+        }
+        Err(FrameFault::Memory) => {
+            frames.truncate(before);
+            left.truncate(held);
+            (left, Err(FrameFault::Memory))
+        }
+        Err(fault) => {
+            left.clear();
+            (left, Err(fault))
+        }
+    }
+}
+
+/// Whether a stream showed a fault.
+fn shows_fault(outcome: &Result<(), FrameFault>) -> bool
+    ensures { result ≡ shows_fault outcome.now }
+{
+    !matches!(outcome, Ok(()) | Err(FrameFault::Memory))
+}
+
 impl Reader {
     /// A reader at the front of a stream.
     pub fn new(alloc: Global) -> Self
@@ -102,34 +139,19 @@ impl Reader {
         if self.failed {
             return Err(FrameFault::Failed);
         }
-        let held = self.rest.cut.len() + self.rest.open.len();
-        let before = frames.len();
+        let held = self.rest.len();
         if self.rest.add(alloc, piece).is_err() {
             return Err(FrameFault::Memory);
         }
         if let Ok(None) = whole_frame(self.rest.open.as_slice()) {
             return Ok(());
         }
-        let Ok(mut block) = self.rest.freeze(alloc) else {
-            self.rest.open.truncate(held);
+        let Ok(block) = self.rest.freeze(alloc, held) else {
             return Err(FrameFault::Memory);
         };
-        match cut(alloc, &block, frames) {
-            Ok(at) => {
-                block.advance(at);
-                self.rest = Rest::of_block(alloc, block);
-                Ok(())
-            }
-            Err(FrameFault::Memory) => {
-                block.truncate(held);
-                self.rest = Rest::of_block(alloc, block);
-                frames.truncate(before);
-                Err(FrameFault::Memory)
-            }
-            Err(fault) => {
-                self.failed = true;
-                Err(fault)
-            }
-        }
+        let (left, outcome) = cut_block(alloc, block, held, frames);
+        self.failed = shows_fault(&outcome);
+        self.rest.cut = left;
+        outcome
     }
 }

@@ -27,14 +27,11 @@ impl Rest {
         }
     }
 
-    /// What is left of a block.
-    pub(crate) fn of_block(alloc: Global, block: Bytes) -> Self
-        ensures { rest_octets result ≡ block }
+    /// How many octets there are.
+    pub(crate) fn len(&self) -> usize
+        ensures { result ≡ length (rest_octets self.now) }
     {
-        Rest {
-            cut: block,
-            open: BytesMut::new(alloc),
-        }
+        self.cut.len() + self.open.len()
     }
 
     /// Adds a piece, and moves all octets into the open part. A new one has room for these octets
@@ -65,11 +62,12 @@ impl Rest {
     ///
     /// # Errors
     ///
-    /// `AllocError` where memory for the count of owners was refused. The octets are as before.
-    pub(crate) fn freeze(&mut self, alloc: Global) -> Result<Bytes, AllocError>
+    /// `AllocError` where memory for the count of owners was refused. So many octets are kept then,
+    /// those that were there before a piece was added.
+    pub(crate) fn freeze(&mut self, alloc: Global, held: usize) -> Result<Bytes, AllocError>
         ensures block { IfOk result (λ block. block ≡ self.old.open.items) }
         ensures none { OnOk result (self.new.open.items ≡ []) }
-        ensures err { OnErr result (self.new.open.items ≡ self.old.open.items) }
+        ensures err { OnErr result (self.new.open.items ≡ take held self.old.open.items) }
         ensures keeps { self.new.cut ≡ self.old.cut }
     {
         let open = mem::replace(&mut self.open, BytesMut::new(alloc));
@@ -77,6 +75,7 @@ impl Rest {
             Ok(block) => Ok(block),
             Err(failed) => {
                 self.open = failed.value;
+                self.open.truncate(held);
                 Err(AllocError)
             }
         }
