@@ -146,7 +146,7 @@ struct Outcome {
 }
 
 impl Outcome {
-    /// Whether both replicas did as many events as those of another talk, and have the same records.
+    /// Whether both replicas did as many events as those of another talk, with the same records.
     fn is_like(&self, other: &Outcome) -> bool {
         self.zero.events() == other.zero.events()
             && self.one.events() == other.one.events()
@@ -191,29 +191,60 @@ const WHOLE: Left = Left {
     of_one: usize::MAX,
 };
 
-/// Whether all talks with one break come to what the one without comes to, which is true.
-fn are_alike(alloc: Global, topology: &Arc<Topology>, who: (u32, u32)) -> io::Result<bool> {
-    let records = one_list(alloc, topology, topology.stop())?;
-    let whole = talk_of(alloc, topology, who, WHOLE)?;
+/// Whether a talk that breaks there comes to what the whole one comes to.
+fn is_like_whole(
+    alloc: Global,
+    topology: &Arc<Topology>,
+    who: (u32, u32),
+    left: Left,
+    whole: &Outcome,
+) -> io::Result<bool> {
+    let found = talk_of(alloc, topology, who, left)?;
+    Ok(found.is_like(whole))
+}
+
+/// Whether all talks with one break come to what the whole one comes to.
+fn are_like_whole(
+    alloc: Global,
+    topology: &Arc<Topology>,
+    who: (u32, u32),
+    whole: &Outcome,
+) -> io::Result<bool> {
     for of_zero in 0..whole.octets.0 {
         let left = Left { of_zero, ..WHOLE };
-        if !talk_of(alloc, topology, who, left)?.is_like(&whole) {
+        if !is_like_whole(alloc, topology, who, left, whole)? {
             return Ok(false);
         }
     }
     for of_one in 0..whole.octets.1 {
         let left = Left { of_one, ..WHOLE };
-        if !talk_of(alloc, topology, who, left)?.is_like(&whole) {
+        if !is_like_whole(alloc, topology, who, left, whole)? {
             return Ok(false);
         }
     }
-    Ok(whole.is_true(topology, &records))
+    Ok(true)
+}
+
+/// The same, where the whole one has the records of the one event list.
+fn are_alike(alloc: Global, topology: &Arc<Topology>, who: (u32, u32)) -> io::Result<bool> {
+    let records = one_list(alloc, topology, topology.stop())?;
+    let whole = talk_of(alloc, topology, who, WHOLE)?;
+    if !whole.is_true(topology, &records) {
+        return Ok(false);
+    }
+    are_like_whole(alloc, topology, who, &whole)
+}
+
+/// How many events two replicas do in a talk without a break.
+fn events_of(alloc: Global, topology: &Arc<Topology>, who: (u32, u32)) -> io::Result<(u64, u64)> {
+    let found = talk_of(alloc, topology, who, WHOLE)?;
+    Ok((found.zero.events(), found.one.events()))
 }
 
 /// What two replicas did in a talk without a break.
 fn talk_text(bench: &Bench, alloc: Global, who: (u32, u32)) -> io::Result<String> {
-    let found = talk_of(alloc, &bench.topology, who, WHOLE)?;
-    Ok(format!(in alloc; "{} {}", found.zero.events(), found.one.events())?)
+    let (zero, one) = events_of(alloc, &bench.topology, who)?;
+    Ok(format!(in alloc; "{zero} {one}")?)
 }
 
 /// Whether talks with a break do the same.

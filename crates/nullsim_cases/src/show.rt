@@ -116,8 +116,8 @@ impl View {
     }
 }
 
-/// Adds a line where the trace of one event list is not the part's, and one where a part whose events
-/// lie in a heap does others.
+/// Adds a line where the trace of one event list is not the part's, or that of a part whose events
+/// lie in a heap is not.
 fn push_difference(
     text: &mut String,
     alloc: Global,
@@ -126,12 +126,9 @@ fn push_difference(
     before: Time,
 ) -> Result<(), AllocError> {
     let records = one_list(alloc, topology, before)?;
-    if records.as_slice() != part.trace() {
-        text.push_str("the trace of one event list is another\n")?;
-    }
     let heap = run_before::<HeapList>(alloc, topology, before)?;
-    if heap.trace() != part.trace() || heap.steps() != part.steps() {
-        text.push_str("the trace of events in a heap is another\n")?;
+    if records.as_slice() == part.trace() && heap.trace() == part.trace() {
+        return Ok(());
     }
-    Ok(())
+    text.push_str("the trace of another event list is another\n")
 }
