@@ -117,9 +117,9 @@ abbrev pub write_count : MemoryWire → ℕ → ℕ
 write_count w octets = min (min w.room (most_taken (next_write w))) octets
 
 -- how a read ends that moves none, on a wire that ends so once all is given
-abbrev pub ending_of : Ending → ScriptedRead → Ending
-ending_of e (Gives n) = e
-ending_of e (Answers said) = said
+abbrev pub read_ending : Ending → ScriptedRead → Ending
+read_ending e (Gives n) = e
+read_ending e (Answers said) = said
 
 abbrev pub ending_answer : Ending → Read
 ending_answer ending.End = read.End
@@ -138,10 +138,10 @@ ending_failures ending.Later = 0
 ending_failures ending.Fault = 1
 
 -- what a write answers that moves none, and the failures that it adds
-abbrev pub refusal_of : ScriptedWrite → Written
-refusal_of (scripted.Takes n) = written.Fault
-refusal_of scripted.Later = written.Later
-refusal_of scripted.Fault = written.Fault
+abbrev pub write_refusal : ScriptedWrite → Written
+write_refusal (scripted.Takes n) = written.Fault
+write_refusal scripted.Later = written.Later
+write_refusal scripted.Fault = written.Fault
 
 abbrev pub refusal_failures : ScriptedWrite → ℕ
 refusal_failures (scripted.Takes n) = 1
@@ -151,10 +151,10 @@ refusal_failures scripted.Fault = 1
 -- the answer of a read, and of a write, that moves n octets
 abbrev pub read_answer : MemoryWire → ℕ → Read
 read_answer w n =
-    if nat_lt 0 n then read.Got n else ending_answer (ending_of w.ending (next_read w))
+    if nat_lt 0 n then read.Got n else ending_answer (read_ending w.ending (next_read w))
 
 abbrev pub write_answer : MemoryWire → ℕ → Written
-write_answer w n = if nat_lt 0 n then written.Took n else refusal_of (next_write w)
+write_answer w n = if nat_lt 0 n then written.Took n else write_refusal (next_write w)
 
 -- the wire after a read that moves n octets
 abbrev pub after_read : MemoryWire → ℕ → MemoryWire
@@ -162,8 +162,8 @@ after_read w n =
     if nat_lt 0 n then record w { reads = tail w.reads; at = w.at + n }
     else record w {
       reads = tail w.reads;
-      ends = w.ends + ending_ends (ending_of w.ending (next_read w));
-      failures = w.failures + ending_failures (ending_of w.ending (next_read w));
+      ends = w.ends + ending_ends (read_ending w.ending (next_read w));
+      failures = w.failures + ending_failures (read_ending w.ending (next_read w));
     }
 
 -- the wire after a write of these octets that moves n of them

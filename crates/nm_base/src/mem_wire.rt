@@ -123,11 +123,7 @@ impl MemWire {
 
     /// The wire with a script: its next reads and writes do this, in this order, and those after
     /// them what it did without.
-    pub fn with_script(
-        self,
-        reads: VecDeque<ScriptedRead>,
-        writes: VecDeque<ScriptedWrite>,
-    ) -> Self
+    pub fn with_script(self, reads: VecDeque<ScriptedRead>, writes: VecDeque<ScriptedWrite>) -> Self
         ensures { result ≡ record self { reads = reads.items; writes = writes.items } }
     {
         MemWire {

@@ -75,6 +75,7 @@ impl Ord for Entry {
     ghost matches_eq = { λ x y. refl };
 
     #[inline(always)]
+    #[tactic(auto, using(crate::proofs::Times::earlier, crate::proofs::Times::later))]
     fn cmp(&self, other: &Entry) -> Ordering {
         if self.time < other.time {
             Ordering::Less

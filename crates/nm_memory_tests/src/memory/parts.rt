@@ -16,11 +16,7 @@ use std::process::Abort;
 use std::test::Fail;
 
 /// Whether each node of two parts counted the same, and each interface dropped and holds as much.
-fn have_same_devices(
-    topology: &Topology,
-    one: &Part<HeapList>,
-    other: &Part<HeapList>,
-) -> bool {
+fn have_same_devices(topology: &Topology, one: &Part<HeapList>, other: &Part<HeapList>) -> bool {
     for number in 0..topology.nodes().len().min(100) as u32 {
         let node = NodeNo::new(number);
         for counter in Counter::ALL {
