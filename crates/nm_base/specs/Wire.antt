@@ -87,10 +87,6 @@ abbrev pub first_or : {X : Type 0} → X → List X → X
 first_or d [] = d
 first_or d (x ∷ xs) = x
 
-abbrev pub tail : {X : Type 0} → List X → List X
-tail [] = []
-tail (x ∷ xs) = xs
-
 -- what the next read and the next write do: what the script says, and past it a piece moves
 abbrev pub next_read : MemoryWire → ScriptedRead
 next_read w = first_or (Gives w.piece) w.reads
@@ -159,9 +155,9 @@ write_answer w n = if nat_lt 0 n then written.Took n else write_refusal (next_wr
 -- the wire after a read that moves n octets
 abbrev pub after_read : MemoryWire → ℕ → MemoryWire
 after_read w n =
-    if nat_lt 0 n then record w { reads = tail w.reads; at = w.at + n }
+    if nat_lt 0 n then record w { reads = drop 1 w.reads; at = w.at + n }
     else record w {
-      reads = tail w.reads;
+      reads = drop 1 w.reads;
       ends = w.ends + ending_ends (read_ending w.ending (next_read w));
       failures = w.failures + ending_failures (read_ending w.ending (next_read w));
     }
@@ -170,11 +166,11 @@ after_read w n =
 abbrev pub after_write : MemoryWire → List ℕ → ℕ → MemoryWire
 after_write w octets n =
     if nat_lt 0 n then record w {
-      writes = tail w.writes;
+      writes = drop 1 w.writes;
       taken = w.taken ++ take n octets;
       room = w.room - n;
     }
     else record w {
-      writes = tail w.writes;
+      writes = drop 1 w.writes;
       failures = w.failures + refusal_failures (next_write w);
     }

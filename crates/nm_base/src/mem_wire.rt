@@ -1,8 +1,8 @@
 //! A wire in memory, which answers as a script says: what it gives stands in a list, and what it
 //! takes has a budget.
 
-ghost use Rattle.std.specs.Prelude.{◌≡◌, ◌<◌, ◌≤◌, [], IfOk, length};
-ghost use Rattle.nm_base.specs.Wire.{next_read, next_write, tail};
+ghost use Rattle.std.specs.Prelude.{◌≡◌, ◌<◌, ◌≤◌, [], IfOk, drop, length};
+ghost use Rattle.nm_base.specs.Wire.{next_read, next_write};
 
 use crate::failures::FailureCount;
 use crate::wire::{Read, Wire, Written};
@@ -21,7 +21,7 @@ pub enum Ending {
 /// What a script has one read do.
 #[derive(Clone, Copy)]
 pub enum ScriptedRead {
-    /// It gives so many octets, or as many as are left and the buffer takes. Where none is left, it
+    /// It gives so many octets, or as many as are left and the buffer takes. Where that is none, it
     /// answers the wire's ending.
     Gives(usize),
     /// It gives nothing and answers so.
@@ -31,8 +31,8 @@ pub enum ScriptedRead {
 /// What a script has one write do.
 #[derive(Clone, Copy)]
 pub enum ScriptedWrite {
-    /// It takes so many octets, or as many as there are and there is room for. Where there is no
-    /// room, it fails.
+    /// It takes so many octets, or as many as there are and there is room for. Where that is none,
+    /// it fails.
     Takes(usize),
     /// Nothing is taken now.
     Later,
@@ -84,8 +84,8 @@ impl Model for MemWire {
 
 impl MemWire {
     /// A wire without a script: it gives the octets of `source` and then answers with this ending,
-    /// and it takes `room` octets. No call moves more than `piece` octets. Its memory is taken here,
-    /// so that no later call takes any.
+    /// and it takes `room` octets. No call moves more than `piece` octets. Its memory is taken
+    /// here, so that no later call takes any.
     pub fn new(
         alloc: Global,
         source: Vec<u8>,
@@ -136,7 +136,7 @@ impl MemWire {
     /// What the next read does. A read of the script is over with it.
     fn next_read(&mut self) -> ScriptedRead
         ensures read { result ≡ next_read self.old }
-        ensures rest { self.new ≡ record self.old { reads = tail self.old.reads } }
+        ensures rest { self.new ≡ record self.old { reads = drop 1 self.old.reads } }
     {
         match self.reads.pop_front() {
             Some(read) => read,
@@ -147,7 +147,7 @@ impl MemWire {
     /// What the next write does. A write of the script is over with it.
     fn next_write(&mut self) -> ScriptedWrite
         ensures write { result ≡ next_write self.old }
-        ensures rest { self.new ≡ record self.old { writes = tail self.old.writes } }
+        ensures rest { self.new ≡ record self.old { writes = drop 1 self.old.writes } }
     {
         match self.writes.pop_front() {
             Some(write) => write,
@@ -209,7 +209,8 @@ impl Wire for MemWire {
     /// Does what the script says next, and past the script takes a piece.
     fn write_some(&mut self, octets: &[u8]) -> Written
         requires { 0 < length octets.now }
-        ensures answer { result ≡ write_answer self.old (write_count self.old (length octets.now)) }
+        ensures answer { result
+            ≡ write_answer self.old (write_count self.old (length octets.now)) }
         ensures wire { self.new
             ≡ after_write self.old octets.now (write_count self.old (length octets.now)) }
     {

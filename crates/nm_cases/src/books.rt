@@ -12,7 +12,7 @@
 //! | `again B S C N TIME` | B is told S's message 0 as message N of this time |
 //! | `promise B S C` | B is told S's null message |
 //! | `run B LIMIT` | `all`, `limit` or `memory`, and how many events were done |
-//! | `merge B S` | B merges what S knows: `merged`, `stranger`, or what a channel answers, and `channel C` |
+//! | `merge B S` | B merges what S knows: `merged`, or why it does not |
 //! | `hand B` | the record that B hands out, `TIME IFACE in` or `out` and the packet's identification, or `none` |
 //! | `safe B`, `state B` | its safe time; how many events it did, and `done` or `going` |
 //! | `promises B C` | its promise, its old promise and how many messages it sent, or `inward` (module `promises`) |
@@ -25,14 +25,14 @@
 //! | `equal B S C` | `equal` where both know the same messages of this channel, and the same clock |
 //! | `alike B S` | `alike` where both know, did, recorded, sent and promise the same |
 
-use crate::alike::{alike_word, are_alike, are_equal};
 use crate::bench::{Bench, book, book_mut, book_of};
 use crate::octets::hexadecimal;
 use crate::promises::promises;
-use crate::said::{Word, accepted, merged, ran, text};
+use crate::said::{Word, accepted, alike_word, merged, ran, text};
 use crate::truth::channels_of;
 use crate::words::Words;
 use bytes::Bytes;
+use nm_alike::{are_alike, are_equal};
 use nm_base::{ChanNo, Dir, IfaceNo, Packet, Time};
 use nm_book::{Book, ChannelMessage, Data, Null};
 use std::alloc::Global;

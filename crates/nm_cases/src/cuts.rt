@@ -3,20 +3,24 @@
 //!
 //! | Command | Does and answers |
 //! |---|---|
-//! | `cut B S T FROM TO` | a replica that knows what B knows, of partition 0, and its peer, which knows what S knows. Cuts what the former gives at each of these octets, each with a second session after it: what all of them come to, or `unlike N` at the first octet that comes to something else |
+//! | `cut B S T FROM TO` | what a session comes to that is cut at each of these octets |
 //! | `reads FROM ALL` | reads that end, and reads that fail, after each count of the peer's first octets, from FROM on to ALL, which is how many there are: the last turns of both, or `unlike N` |
+//!
+//! A cut is of what a replica of partition 0 gives that knows what B knows, to a peer that knows what
+//! S knows; a second session comes after it. Where one comes to something else than the cuts before
+//! it, `cut` answers `unlike N` with its octet.
 //!
 //! A cut comes to: the last turn of partition 0; the last turn of the peer, and how many messages
 //! it knows; how many octets the peer gives in the second session, and the last of them; how many
 //! partition 0 then gives; the last turn of the peer; and `alike` where in the end the former is as
 //! B and the peer as T, in all that they know, did, recorded, sent and promise.
 
-use crate::alike::alike_word;
 use crate::bench::{Bench, book};
 use crate::ends::{
     Came, End, Script, drive, end_at, end_like, end_of, ends_like, messages_of, open, session_of,
     turn_word,
 };
+use crate::said::alike_word;
 use crate::truth::channels_of;
 use crate::words::Words;
 use nm_base::mem_wire::Ending;

@@ -1,8 +1,8 @@
 //! Replicas that are shared, and links of theirs over wires in memory.
 
-use crate::alike::are_alike;
 use crate::books::null;
 use crate::truth::channels_of;
+use nm_alike::are_alike;
 use nm_base::mem_wire::Ending;
 use nm_base::{ChanNo, MemWire, PartNo};
 use nm_book::{Book, ChannelMessage, Data};

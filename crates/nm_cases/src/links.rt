@@ -10,9 +10,13 @@
 //! | `close CLOCK ROOM HEX` | the same over a wire that takes so many octets, and whose peer then sends no more |
 //! | `greet P HEX` | a link that partition P accepted: its last turn, how many octets it gave, and `session` or `none` |
 //! | `fails CLOCK HEX` | as `meet`, with one turn more after the last, and how many octets it gave |
-//! | `turns CLOCK COUNT READS WRITES HEX` | so many turns of a link of partition 0 over a wire whose reads and writes answer as these words, as `20,later,28`, say, in their order (`end` and `fault` too), and past them give and take all: the turns, how many octets went, and how many messages are known then |
+//! | `turns CLOCK COUNT READS WRITES HEX` | so many turns as in `meet` over a wire with a script |
 //! | `cut B S T FROM TO` | module `cuts` |
 //! | `reads FROM ALL` | module `cuts` |
+//!
+//! A script says what each read and each write does, in their order, as `20,later,28`: so many octets
+//! are moved, or it answers `later`, `fault` or, of a read, `end`. Past its script the wire moves all.
+//! `turns` answers each turn, how many octets went, and how many messages are known then.
 
 use crate::bench::Bench;
 use crate::cuts::{cuts, reads};

@@ -27,7 +27,6 @@
 //! line that is answered otherwise, and how many lines each case has.
 #![tactic(auto)]
 
-mod alike;
 mod bench;
 mod books;
 mod certificates;

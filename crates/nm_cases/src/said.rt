@@ -17,6 +17,11 @@ pub fn text(alloc: Global, said: Word) -> Result<String, AllocError> {
     }
 }
 
+/// Whether replicas are alike, in a word.
+pub fn alike_word(alike: bool) -> &'static str {
+    if alike { "alike" } else { "unlike" }
+}
+
 /// What a replica answers to a message.
 pub fn accepted(answer: &Result<Accepted, AcceptFault>) -> Word {
     match answer {

@@ -3,11 +3,14 @@
 //! | Command | Does and answers |
 //! |---|---|
 //! | `talk P Q` | replicas of two partitions talk until both have taken Bye, without a break: the events of both |
-//! | `breaks P Q` | the same, with one break at each octet of either direction: `alike` where both always are done, and their records are those of the talk without a break, one by one, and of the one event list |
+//! | `breaks P Q` | the same, with one break at each octet of either direction: `alike` or `unlike` |
+//!
+//! They are alike where both are done after each break, and their records are those of the talk
+//! without a break, one by one, and of the one event list.
 
-use crate::alike::alike_word;
 use crate::bench::{Bench, book_of};
 use crate::drains::are_part;
+use crate::said::alike_word;
 use crate::words::Words;
 use nm_base::{PartNo, Record};
 use nm_book::Book;

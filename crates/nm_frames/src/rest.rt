@@ -7,7 +7,7 @@ use bytes::{Bytes, BytesMut};
 use std::alloc::{AllocError, Global};
 use std::mem;
 
-/// Octets in two parts, of which one at most has any mostly.
+/// Octets in two parts. Between two pieces of a stream one of them is empty.
 #[derive(Drop)]
 pub(crate) struct Rest {
     /// What is left of a block from which frames were cut. Their packets share the block.

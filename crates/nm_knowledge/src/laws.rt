@@ -9,9 +9,9 @@ ghost use Rattle.nm_knowledge.specs.Octets.{same_octets};
 ghost use Rattle.nm_knowledge.specs.Order.{Tidings, AreAccepted, accept_all};
 
 use crate::know::Know;
-/// The laws of the model's knowledge: what a message and a null message add to it; that a join of two
-/// is the least that both are under, the same in any order and however often; and that two are not
-/// joined exactly where they contradict each other.
+/// The laws of the model's knowledge: what a message and a null message add to it; that a join of
+/// two is the least that both are under, the same in any order and however often; and that two are
+/// not joined exactly where they contradict each other.
 pub use nm_model::knowledge::{accept_laws, join_faults_are_right, join_laws, under_laws};
 
 /// Packets are the same exactly where their octets are.

@@ -7,8 +7,6 @@
 #![tactic(auto)]
 
 #[cfg(test)]
-mod alike;
-#[cfg(test)]
 mod memory;
 #[cfg(test)]
 mod same;

@@ -9,6 +9,9 @@ use std::process::Abort;
 use std::sync::Arc;
 use std::test::Fail;
 
+/// How many channels these networks have.
+pub const CHANNELS: u32 = 2;
+
 /// The network of a text, which has to be accepted.
 pub fn network(alloc: Global, text: &str) -> Result<Arc<Topology>, Fail> {
     let first = Topology::read(alloc, text.as_bytes());

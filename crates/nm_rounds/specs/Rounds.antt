@@ -1,6 +1,7 @@
 -- What rounds of all partitions come to: each runs all that is safe, and then hears all that the
 -- others have for it.
-use Rattle.std.specs.Prelude.{◌≡◌, ℕ, suc, ◌+◌, ◌-◌, min, ◌<◌, ◌≤◌, Bool, true, false, List, [], ◌∷◌, length, slice_get, Option, Some, None, Result, Ok, Err}
+use Rattle.std.specs.Prelude.{◌≡◌, ℕ, suc, ◌+◌, ◌-◌, ◌^◌, min, ◌<◌, ◌≤◌, Bool, true, false, List, [], ◌∷◌, length, map, slice_get, Option, Some, None, Result, Ok, Err}
+use Rattle.std.specs.List.{fold}
 use Rattle.nm_base.specs.declared.fault.Fault.{Fault}
 use Rattle.nm_base.specs.declared.fault.Fault.TheVariants.{Refused, Memory}
 use Rattle.nm_topology.specs.declared.fault.Refusal.{Refusal}
@@ -63,10 +64,9 @@ abbrev pub told_all : Know (List ℕ) → List ChannelMessage → Know (List ℕ
 told_all a [] = a
 told_all a (m ∷ ms) = told_all (told_message a m) ms
 
--- the least of a time and of those before which the books are safe
-abbrev pub least_safe : ℕ → List BookValue → ℕ
-least_safe time [] = time
-least_safe time (b ∷ bs) = least_safe (min time (safe_of b)) bs
+-- the time before which all of these books are safe
+abbrev pub least_safe : List BookValue → ℕ
+least_safe books = fold min (2 ^ 64 - 1) (map safe_of books)
 
 -- each of the messages is of channel c
 abbrev pub AreOfChannel : ℕ → List ChannelMessage → Type 0

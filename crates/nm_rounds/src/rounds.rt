@@ -1,6 +1,6 @@
 //! Rounds of all partitions, from the text of a topology.
 
-ghost use Rattle.std.specs.Prelude.{◌≡◌, ℕ, ◌<◌, ◌≤◌, ◌+◌, ◌-◌, ◌^◌, IfOk, OnOk};
+ghost use Rattle.std.specs.Prelude.{◌≡◌, ℕ, ◌<◌, ◌≤◌, ◌+◌, IfOk, OnOk};
 ghost use Rattle.std.specs.Arc.{arc_value};
 ghost use Rattle.nm_model.specs.World.{fresh};
 ghost use Rattle.nm_base.specs.declared.limits.TheConstants.{MAX_ROUNDS};
@@ -65,7 +65,7 @@ fn first_books(alloc: Global, topology: &Arc<Topology>) -> Result<Vec<Book>, All
 
 /// The time before which each of the books is safe, in nanoseconds: of none the greatest time.
 fn least_safe(books: &[Book]) -> u64
-    ensures { result ≡ least_safe (2 ^ 64 - 1) books.now }
+    ensures { result ≡ least_safe books.now }
 {
     let mut time = u64::MAX;
     for book in books {

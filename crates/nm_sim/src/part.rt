@@ -166,8 +166,8 @@ impl<L: EventList> Part<L> {
         self.timeline.reserve(count)
     }
 
-    /// A message of a channel: the packet with this number on the channel is to arrive at this time,
-    /// at the interface where the channel comes in. It takes no memory.
+    /// A message of a channel: the packet with this number on the channel is to arrive at this
+    /// time, at the interface where the channel comes in. It takes no memory.
     pub fn put_arrival(
         &mut self,
         topology: &Topology,

@@ -1,9 +1,9 @@
 //! Replicas.
 
-use crate::alike::are_alike;
 use crate::same::{eq_answer, eq_number, holds};
-use crate::split::{book_of, network, null};
+use crate::split::{CHANNELS, book_of, network, null};
 use crate::words::refused;
+use nm_alike::are_alike;
 use nm_base::ChanNo;
 use nm_book::{AcceptFault, Book, ChannelMessage, Data, Knowledge, MergeFault, Ran};
 use nm_fixtures::{SHIFT, SPLIT};
@@ -54,7 +54,7 @@ fn pair_of(
 
 /// Both are the same.
 fn same(rt: &impl Abort, what: &str, pair: &Pair) {
-    holds(rt, what, are_alike(&pair.book, &pair.twin));
+    holds(rt, what, are_alike(&pair.book, &pair.twin, CHANNELS));
 }
 
 /// What a replica that is told something answers, asked again where memory was refused.
@@ -147,7 +147,7 @@ fn merges_late(
     let mut late = pair_of(rt, topology, other.partition().number())?;
     merges(rt, &mut late, known);
     runs(rt, &mut late, events);
-    holds(rt, "the other one", are_alike(&late.book, other));
+    holds(rt, "the other one", are_alike(&late.book, other, CHANNELS));
     Ok(())
 }
 

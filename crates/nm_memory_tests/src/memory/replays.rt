@@ -1,8 +1,9 @@
 //! Replays: a refused growth ends one at its step.
 
-use crate::alike::are_alike;
 use crate::same::eq_answer;
+use crate::split::CHANNELS;
 use crate::words::refused;
+use nm_alike::are_alike;
 use nm_base::{ChanNo, PartNo};
 use nm_fixtures::SPLIT;
 use nm_knowledge::Accepted;
@@ -125,7 +126,7 @@ fn are_same(rt: &impl Abort, report: &WorldReport, other: &WorldReport) {
         "there are as many books"
     );
     for (book, same) in report.books.iter().zip(other.books.iter()) {
-        assert!(rt; are_alike(book, same), "they are the same");
+        assert!(rt; are_alike(book, same, CHANNELS), "they are the same");
     }
 }
 

@@ -1,14 +1,12 @@
-//! Whether replicas of one partition are the same in all that they answer.
+//! Whether replicas are the same in all that they answer, for crates of tests.
+#![tactic(auto)]
 
 use nm_base::ChanNo;
 use nm_book::Book;
 use nm_knowledge::Know;
 
-/// How many channels the networks of the tests have.
-const CHANNELS: u32 = 2;
-
 /// Whether two know the same of a channel.
-fn are_equal(one: &Know, other: &Know) -> bool {
+pub fn are_equal(one: &Know, other: &Know) -> bool {
     for number in 0..one.len() as u64 {
         if one.message(number) != other.message(number) {
             return false;
@@ -30,16 +28,17 @@ fn agree_on(one: &Book, other: &Book, channel: ChanNo) -> bool {
         && one.old_promise(channel) == other.old_promise(channel)
 }
 
-/// Whether two know, did, recorded, sent and promise the same.
-pub fn are_alike(one: &Book, other: &Book) -> bool {
-    for number in 0..CHANNELS {
+/// Whether two are as far, have the same trace, and agree on each of so many channels.
+pub fn are_alike(one: &Book, other: &Book, channels: u32) -> bool {
+    for number in 0..channels {
         if !agree_on(one, other, ChanNo::new(number)) {
             return false;
         }
     }
     one.safe() == other.safe()
         && one.events() == other.events()
+        && one.done() == other.done()
+        && one.handed() == other.handed()
         && one.records() == other.records()
         && one.trace() == other.trace()
-        && one.done() == other.done()
 }
