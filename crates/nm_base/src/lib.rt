@@ -17,6 +17,7 @@ pub mod sink;
 pub mod std_sink;
 pub mod text;
 pub mod time;
+pub mod wanted;
 pub mod wire;
 
 pub use event::{Event, Origin};
@@ -32,4 +33,5 @@ pub use sink::{Sink, SinkFault};
 pub use std_sink::StdSink;
 pub use text::{number_of, push_number, push_text, split_once};
 pub use time::Time;
+pub use wanted::Wanted;
 pub use wire::Wire;

@@ -1,15 +1,57 @@
 //! Packets.
 
-ghost use Rattle.std.specs.Prelude.{◌≡◌, ℕ, ◌≤◌, ◌↔◌, List, length, IsSome, IfSome, IfOk, nat_eq};
+ghost use Rattle.std.specs.Prelude.{◌≡◌, ℕ, ◌+◌, ◌≤◌, ◌↔◌, List, length, IsSome, IfSome, IfOk};
+ghost use Rattle.std.specs.Prelude.{nat_eq};
+ghost use Rattle.std.specs.Bool.{OnTrue, OnFalse};
 ghost use Rattle.std.specs.Cmp.{partial_equiv_from_equiv};
 ghost use Rattle.std.specs.Cmp.Lexicographic.{pointwise, nat_list_eq_equiv};
 ghost use Rattle.nm_base.specs.declared.limits.TheConstants.{MAX_PACKET_OCTETS};
+ghost use Rattle.nm_base.specs.Packet.{held, overwritten};
 
 use crate::limits::MAX_PACKET_OCTETS;
-use bytes::Bytes;
+use bytes::{Bytes, BytesMut};
 use std::alloc::{AllocError, Global};
 use std::marker::Model;
 use std::sync::Arc;
+
+/// Where the octets of a packet are.
+#[derive(Drop)]
+pub enum Held {
+    /// In a block of the packet's own.
+    Own(BytesMut),
+    /// In a part of a block that others share.
+    Cut(Bytes),
+}
+
+impl Held {
+    /// The octets.
+    fn octets(&self) -> &[u8]
+        ensures { result.now ≡ held self.now }
+    {
+        match self {
+            Held::Own(octets) => octets.as_slice(),
+            Held::Cut(octets) => octets.as_slice(),
+        }
+    }
+
+    /// Writes octets over those from a place on, where the block is the packet's own.
+    #[inline(always)]
+    fn overwrite(&mut self, place: usize, octets: &[u8]) -> bool
+        requires { place + length octets.now ≤ length (held self.old) }
+        ensures written { OnTrue result
+            (held self.new ≡ overwritten (held self.old) place octets.now) }
+        ensures kept { OnFalse result (held self.new ≡ held self.old) }
+    {
+        match self {
+            Held::Own(own) => {
+                let slice = own.as_mut_slice();
+                slice[place..place + octets.len()].copy_from_slice(octets);
+                true
+            }
+            Held::Cut(_) => false,
+        }
+    }
+}
 
 /// The octets of a packet, from 1 to 65,535 of them. A clause sees the list of octets. Copies share
 /// their octets, and a packet that was cut from a larger block shares that block.
@@ -17,20 +59,21 @@ use std::sync::Arc;
 /// It is as small as a pointer, since events, queues and records hold packets and move them often.
 #[derive(Drop)]
 pub struct Packet {
-    octets: Arc<Bytes>,
+    octets: Arc<Held>,
 }
 
 impl Model for Packet {
     ghost use Rattle.std.specs.Prelude.{ℕ, ◌≤◌, List, length};
     ghost use Rattle.std.specs.Arc.{arc_value};
     ghost use Rattle.nm_base.specs.declared.limits.TheConstants.{MAX_PACKET_OCTETS};
+    ghost use Rattle.nm_base.specs.Packet.{held};
 
     ghost Value = { List ℕ };
 
-    ghost view = { λ p. arc_value p.octets };
+    ghost view = { λ p. held (arc_value p.octets) };
 
-    ghost invariant = { λ p. (1 ≤ length (arc_value p.octets))
-        × (length (arc_value p.octets) ≤ MAX_PACKET_OCTETS) };
+    ghost invariant = { λ p. (1 ≤ length (held (arc_value p.octets)))
+        × (length (held (arc_value p.octets)) ≤ MAX_PACKET_OCTETS) };
 }
 
 impl Clone for Packet {
@@ -83,7 +126,21 @@ impl Packet {
         requires greatest { length octets ≤ MAX_PACKET_OCTETS }
         ensures { IfOk result (λ packet. packet ≡ octets) }
     {
-        let octets = Arc::new(alloc, octets)?;
+        let octets = Arc::new(alloc, Held::Cut(octets))?;
+        Ok(Packet { octets })
+    }
+
+    /// The packet of these octets, which fit one. Their block is the packet's own.
+    ///
+    /// # Errors
+    ///
+    /// `AllocError` where memory for the count of owners was refused.
+    pub fn from_own(alloc: Global, octets: BytesMut) -> Result<Self, AllocError>
+        requires least { 1 ≤ length octets.items }
+        requires greatest { length octets.items ≤ MAX_PACKET_OCTETS }
+        ensures { IfOk result (λ packet. packet ≡ octets.items) }
+    {
+        let octets = Arc::new(alloc, Held::Own(octets))?;
         Ok(Packet { octets })
     }
 
@@ -93,7 +150,7 @@ impl Packet {
         ensures least { 1 ≤ result }
         ensures greatest { result ≤ MAX_PACKET_OCTETS }
     {
-        self.octets.len()
+        self.octets().len()
     }
 
     /// The octets.
@@ -102,7 +159,21 @@ impl Packet {
         ensures least { 1 ≤ length self.now }
         ensures greatest { length self.now ≤ MAX_PACKET_OCTETS }
     {
-        self.octets.as_slice()
+        self.octets.octets()
+    }
+
+    /// Writes octets over those from a place on, where this is the only owner of a block of the
+    /// packet's own: whether it is. Else nothing changes.
+    #[inline(always)]
+    pub fn overwrite(&mut self, place: usize, octets: &[u8]) -> bool
+        requires { place + length octets.now ≤ length self.old }
+        ensures written { OnTrue result (self.new ≡ overwritten self.old place octets.now) }
+        ensures kept { OnFalse result (self.new ≡ self.old) }
+    {
+        match Arc::get_mut(&mut self.octets) {
+            Some(sole) => sole.overwrite(place, octets),
+            None => false,
+        }
     }
 }
 

@@ -3,6 +3,7 @@ pub mod Keeping
 pub mod Layouts
 pub mod Longest
 pub mod Owning
+pub mod Passing
 pub mod Refusing
 pub mod Sending
 pub mod Sizes

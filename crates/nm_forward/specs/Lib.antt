@@ -6,3 +6,4 @@ pub mod Reaction
 pub mod Routes
 pub mod Row
 pub mod State
+pub mod InPlace

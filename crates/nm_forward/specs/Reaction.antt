@@ -17,11 +17,15 @@ use Rattle.nm_forward.specs.State.{NodeConfiguration, NodeStateValue, table_of, 
 use Rattle.nm_forward.specs.Row.{arrival_row, row_counter}
 use Rattle.nm_forward.specs.Originate.{Sends, Datagram, Whole, Draft, originate, consequence_of, Reacted, concluded}
 
--- octets arrive: the row's counter rises, and then comes what follows
-unfoldable pub arrived : List IfaceValue → NodeConfiguration → NodeStateValue → List ℕ → Reacted
-arrived ifaces table n x = let row : Row = arrival_row table x in
-    concluded (consequence_of ifaces table n.identification (cut_of x) row)
+-- a packet of this row: the row's counter rises, and then comes what follows
+abbrev pub followed : List IfaceValue → NodeConfiguration → NodeStateValue → List ℕ → Row
+    → Reacted
+followed ifaces table n p row = concluded (consequence_of ifaces table n.identification p row)
     (state_counted (row_counter row) n)
+
+-- octets arrive
+unfoldable pub arrived : List IfaceValue → NodeConfiguration → NodeStateValue → List ℕ → Reacted
+arrived ifaces table n x = followed ifaces table n (cut_of x) (arrival_row table x)
 
 -- the packet of a `cbr` source: its data, and where it has none not the octet that stands for them
 abbrev pub datagram_of : CbrTraffic → List ℕ → Draft

@@ -4,6 +4,7 @@
 mod addresses;
 pub mod counter;
 mod counters;
+pub mod in_place;
 pub mod laws;
 mod node;
 mod originate;
@@ -14,6 +15,7 @@ mod row;
 pub mod state;
 
 pub use counter::Counter;
+pub use in_place::react_in_place;
 pub use nm_base::Origin;
 pub use reaction::{Reaction, react};
 pub use routes::Routes;

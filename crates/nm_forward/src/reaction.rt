@@ -11,9 +11,9 @@ ghost use Rattle.nm_forward.specs.Row.{IsPossible};
 ghost use Rattle.nm_forward.specs.Originate.{FitsPacket, concluded, consequence_of};
 ghost use Rattle.nm_forward.specs.Prepared.{body_of, consequence, handed_on};
 ghost use Rattle.nm_forward.specs.Reaction.{FitsOrigin, FitsSource, FitsHeaders};
-ghost use Rattle.nm_forward.specs.Reacting.{IsReaction, IsSent, sent_of};
+ghost use Rattle.nm_forward.specs.Reacting.{IsReaction, IsSent, PassesNone, sent_of};
 ghost use Rattle.nm_forward.specs.Reaction.{arrived, datagram_of, handed, handed_by};
-ghost use Rattle.nm_forward.specs.Reaction.{reaction};
+ghost use Rattle.nm_forward.specs.Reaction.{followed, reaction};
 ghost use Rattle.nm_forward.specs.declared.row.Row.TheVariants.{Forward};
 
 use crate::counter::Counter;
@@ -65,6 +65,8 @@ pub enum Reaction {
     /// The port of this interface drops the packet that would be sent on, so that its octets were
     /// not copied.
     Refused(IfaceNo),
+    /// The packet that came is sent on, lowered where it lies. No record of the interface is wanted.
+    Pass(IfaceNo, Packet),
 }
 
 /// What the node does with a packet from this origin, as docs/RULES.md says. A packet that arrives
@@ -94,6 +96,7 @@ pub fn react(
     requires fits { FitsOrigin topology.now origin packet.now }
     ensures ok { IfOk result (λ r. IsReaction ports.now r state.new
         (reaction topology.now state.old.table.node state.old origin packet.now)) }
+    ensures twins { IfOk result PassesNone }
     ensures kept { state.new.table ≡ state.old.table }
     ensures err { OnErr result (state.new ≡ state.old) }
 {
@@ -109,7 +112,8 @@ pub fn react(
 /// A packet that is sent, and by which interface, or nothing.
 #[inline(always)]
 fn reaction_of(sent: Option<(IfaceNo, Twin)>) -> Reaction
-    ensures { (ports : List (Option PortValue)) → IsSent ports result (sent_of sent) }
+    ensures sent { (ports : List (Option PortValue)) → IsSent ports result (sent_of sent) }
+    ensures twins { PassesNone result }
 {
     match sent {
         Some((via, twin)) => Reaction::Send(via, twin),
@@ -130,6 +134,7 @@ fn receive(
     requires { Knows topology.now state.old }
     ensures ok { IfOk result (λ r. IsReaction ports.now r state.new
         (arrived topology.now.ifaces state.old.table state.old packet.now)) }
+    ensures twins { IfOk result PassesNone }
     ensures err { OnErr result (state.new ≡ state.old) }
 {
     let Ok(view) = Ipv4::read(packet.octets()) else {
@@ -137,12 +142,32 @@ fn receive(
         return Ok(Reaction::Nothing);
     };
     let row = packet_row(state, &view);
-    if let Some(via) = refused_at(ports, &row, view.octets().len()) {
+    follow(alloc, topology, ports, state, &view, &row)
+}
+
+/// What the node does with a packet of this row.
+#[inline(always)]
+pub(crate) fn follow(
+    alloc: Global,
+    topology: &Topology,
+    ports: &[Option<Port>],
+    state: &mut NodeState,
+    packet: &Ipv4View<'_>,
+    row: &Row<'_>,
+) -> Result<Reaction, AllocError>
+    requires table { Knows topology.now state.old }
+    requires possible { IsPossible row.now (fields_of packet.now).time_to_live }
+    ensures ok { IfOk result (λ r. IsReaction ports.now r state.new (followed
+        topology.now.ifaces state.old.table state.old packet.now row.now)) }
+    ensures twins { IfOk result PassesNone }
+    ensures err { OnErr result (state.new ≡ state.old) }
+{
+    if let Some(via) = refused_at(ports, row, packet.octets().len()) {
         state.count(row.counter());
         return Ok(Reaction::Refused(via));
     }
     let node = NodeView { topology, state };
-    let prepared = prepare_consequence(alloc, node, &view, &row)?;
+    let prepared = prepare_consequence(alloc, node, packet, row)?;
     state.count(row.counter());
     let sent = carry_out(state, prepared);
     Ok(reaction_of(sent))

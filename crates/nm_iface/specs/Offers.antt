@@ -1,5 +1,6 @@
 -- Transmissions that start.
 use Rattle.std.specs.Prelude.{◌≡◌, ℕ, ◌+◌, List, Option, Some, None}
+use Rattle.std.specs.Option.{IsSome}
 use Rattle.nm_base.specs.declared.packet.Twin.{Twin}
 use Rattle.nm_iface.specs.declared.port.Start.{Start}
 use Rattle.nm_iface.specs.declared.port.Offered.{Offered}
@@ -11,6 +12,10 @@ pub record IsTransmission (rate delay now : ℕ) (octets : List ℕ) (s : Start)
   pub packet : s.twin.packet ≡ octets
   pub completes : s.completes ≡ now + takes rate octets
   pub arrives : s.arrives ≡ now + takes rate octets + delay
+
+-- its packet has a copy
+abbrev pub HasCopy : Start → Type 0
+HasCopy s = IsSome s.twin.copy
 
 -- the packet that starts, if one does
 abbrev pub transmitted_packet : Option Start → Option (List ℕ)

@@ -20,6 +20,8 @@ pub record PortValue : Type 0 where
   pub dropped : ℕ
   -- for how many more packets there is memory
   pub room : ℕ
+  -- whether what it transmits is recorded
+  pub recorded : Bool
 
 abbrev pub is_within : Option ℕ → ℕ → Bool
 is_within None octets = true

@@ -1,19 +1,20 @@
 //! Ports: drop-tail queues.
 
-ghost use Rattle.std.specs.Prelude.{◌≡◌, ℕ, ◌+◌, ◌<◌, ◌≤◌, ◌^◌, if◌then◌else◌, List, Option, Some};
-ghost use Rattle.std.specs.Prelude.{None, OnOk, IfSome, IsSome, length};
+ghost use Rattle.std.specs.Prelude.{◌≡◌, ℕ, ◌+◌, ◌<◌, ◌≤◌, ◌^◌, if◌then◌else◌, List, [], Option, Some};
+ghost use Rattle.std.specs.Prelude.{None, OnOk, IfSome, IsSome, length, true, false};
 ghost use Rattle.std.specs.Option.{option_map};
 ghost use Rattle.nm_base.specs.Count.{saturated};
 ghost use Rattle.nm_base.specs.declared.limits.TheConstants.{MAX_DELAY, MAX_PACKET_OCTETS};
 ghost use Rattle.nm_base.specs.declared.limits.TheConstants.{MAX_RATE, MAX_TIME};
-ghost use Rattle.nm_model.specs.Port.{offered, completed, is_refused, waiting_of};
+ghost use Rattle.nm_model.specs.Port.{offered, completed, is_refused, transmitting, waiting_of};
 ghost use Rattle.nm_iface.specs.PortValue.{has_room, takes, with_port};
-ghost use Rattle.nm_iface.specs.Offers.{IsTransmission, handed_back, transmitted_packet};
+ghost use Rattle.nm_iface.specs.Offers.{HasCopy, IsTransmission, handed_back, transmitted_packet};
 ghost use Rattle.nm_iface.specs.Offers.{transmission_in};
 
+use crate::load::Load;
 use crate::octets::{OctetLimit, may_wait, none_wait, with_fewer, with_more};
 use crate::transmission::transmission_time;
-use nm_base::{Time, Twin};
+use nm_base::{Packet, Time, Twin};
 use std::alloc::{AllocError, Global};
 use std::collections::VecDeque;
 use std::marker::Model;
@@ -22,7 +23,7 @@ use std::marker::Model;
 #[derive(Drop)]
 pub struct Start {
     /// The packet, and its copy for the trace.
-    pub twin: Twin,
+    pub twin: Load,
     /// When the transmission is complete.
     pub completes: Time,
     /// When the packet arrives at the far end of the link.
@@ -63,13 +64,15 @@ pub struct Port {
     delay: u64,
     /// When the transmission under way completes.
     busy_until: Option<Time>,
-    waiting: VecDeque<Twin>,
+    waiting: VecDeque<Load>,
     dropped: u64,
+    /// Whether what it transmits is recorded: then all that waits has its copy.
+    recorded: bool,
 }
 
 impl Model for Port {
-    ghost use Rattle.std.specs.Prelude.{◌≡◌, ◌<◌, ◌≤◌, ◌-◌, ◌^◌, [], None, IfSome, length, map};
-    ghost use Rattle.std.specs.Prelude.{option_map, sum_by};
+    ghost use Rattle.std.specs.Prelude.{◌≡◌, ◌<◌, ◌≤◌, ◌-◌, ◌^◌, [], All, None, IfSome, length, map};
+    ghost use Rattle.std.specs.Prelude.{option_map, sum_by, true};
     ghost use Rattle.std.specs.VecDeque.{deque_len, deque_capacity};
     ghost use Rattle.std.specs.Option.{IsSome};
     ghost use Rattle.nm_base.specs.declared.limits.TheConstants.{MAX_DELAY, MAX_RATE};
@@ -88,12 +91,14 @@ impl Model for Port {
       }) p.busy_until;
       dropped = p.dropped;
       room = deque_capacity p.waiting - deque_len p.waiting;
+      recorded = p.recorded;
     } };
 
     ghost invariant = { λ p. (1 ≤ p.rate) × (p.rate ≤ MAX_RATE) × (p.delay ≤ MAX_DELAY)
         × (p.busy_until ≡ None → p.waiting.items ≡ [])
         × HasCounted (sum_by length (map (λ w. w.packet) p.waiting.items)) p.octets
-        × IfSome p.busy_until (λ t. t < 2 ^ 51) };
+        × IfSome p.busy_until (λ t. t < 2 ^ 51)
+        × (p.recorded ≡ true → All (λ w. IsSome w.copy) p.waiting.items) };
 }
 
 impl Port {
@@ -111,9 +116,10 @@ impl Port {
         ensures rate { result.rate ≡ rate }
         ensures delay { result.delay ≡ delay }
 
-        // It is idle, and dropped nothing.
+        // It is idle, and dropped nothing. What it transmits is recorded.
         ensures idle { result.busy ≡ None }
         ensures dropped { result.dropped ≡ 0 }
+        ensures records { result.recorded ≡ true }
     {
         Port {
             limit,
@@ -123,7 +129,17 @@ impl Port {
             busy_until: None,
             waiting: VecDeque::new(alloc),
             dropped: 0,
+            recorded: true,
         }
+    }
+
+    /// The port, what it transmits being recorded only if that is wanted. It takes no memory.
+    pub fn recorded_if(mut self, wanted: bool) -> Self
+        requires { self.recorded ≡ true }
+        ensures { result ≡ record self { recorded = wanted } }
+    {
+        self.recorded = wanted;
+        self
     }
 
     /// Makes room for one more packet that waits.
@@ -167,20 +183,85 @@ impl Port {
             ≡ if is_refused (has_room self.old.limit) twin.packet self.old.busy
             then Some twin else None }
         ensures left { self.old.room ≤ self.new.room + 1 }
+
+        // What starts has its copy.
+        ensures copied { IfSome (transmission_in result) HasCopy }
     {
         if self.busy_until.is_none() {
-            let start = transmission(self.rate, self.delay, now, twin);
-            self.busy_until = Some(start.completes);
-            return Offered::Started(start);
+            return Offered::Started(self.start(now, Load::of(twin)));
         }
         let octets = twin.packet.octet_count();
         if self.has_room(octets) {
-            self.octets = with_more(self.octets, octets);
-            self.waiting.push_back(twin).unwrap();
+            self.wait(octets, Load::of(twin));
             return Offered::Queued;
         }
         self.count_drop();
         Offered::Dropped(twin)
+    }
+
+    /// A packet is offered of which no record is to be kept, as by `offer`: the transmission that
+    /// starts, if one does. It takes no memory.
+    #[inline(always)]
+    pub fn offer_alone(&mut self, now: Time, packet: Packet) -> Option<Start>
+        // What the port transmits is not recorded. The time is within its limit, and there is
+        // memory for one more packet.
+        requires alone { self.old.recorded ≡ false }
+        requires now { now ≤ MAX_TIME }
+        requires room { 1 ≤ self.old.room }
+
+        // The port, and the packet that starts, are those of the model.
+        ensures port { self.new ≡ with_port self.old
+            (offered (has_room self.old.limit) (takes self.old.rate) now packet
+            self.old.dropped self.old.busy).0 self.new.room }
+        ensures packet { transmitted_packet result
+            ≡ (offered (has_room self.old.limit) (takes self.old.rate) now
+            packet self.old.dropped self.old.busy).1 }
+        ensures start { IfSome result
+            (IsTransmission self.old.rate self.old.delay now packet) }
+        ensures left { self.old.room ≤ self.new.room + 1 }
+    {
+        if self.busy_until.is_none() {
+            return Some(self.start(now, Load::alone(packet)));
+        }
+        let octets = packet.octet_count();
+        if self.has_room(octets) {
+            self.wait(octets, Load::alone(packet));
+        } else {
+            self.count_drop();
+        }
+        None
+    }
+
+    /// The transmission of a packet starts at an idle port.
+    #[inline(always)]
+    fn start(&mut self, now: Time, load: Load) -> Start
+        requires idle { self.old.busy ≡ None }
+        requires now { now ≤ MAX_TIME }
+        ensures port { self.new ≡ with_port self.old (transmitting (takes self.old.rate) now
+            self.old.dropped load.packet []).0 self.new.room }
+        ensures start { IsTransmission self.old.rate self.old.delay now load.packet result }
+        ensures copy { result.twin ≡ load }
+        ensures room { self.new.room ≡ self.old.room }
+    {
+        let start = transmission(self.rate, self.delay, now, load);
+        self.busy_until = Some(start.completes);
+        start
+    }
+
+    /// A packet of so many octets waits behind the others, for which there is room.
+    #[inline(always)]
+    fn wait(&mut self, octets: usize, load: Load)
+        requires octets { octets ≡ length load.packet }
+        requires busy { IsSome self.old.busy }
+        requires limit { has_room self.old.limit (waiting_of self.old.busy) load.packet ≡ true }
+        requires room { 1 ≤ self.old.room }
+        requires copy { self.old.recorded ≡ true → IsSome load.copy }
+        ensures port { self.new ≡ with_port self.old (offered (has_room self.old.limit)
+            (takes self.old.rate) 0 load.packet self.old.dropped self.old.busy).0 self.new.room }
+        ensures left { self.old.room ≤ self.new.room + 1 }
+    {
+        self.octets = with_more(self.octets, octets);
+        self.waiting.push_back(load).unwrap();
     }
 
     /// Whether a packet of so many octets may wait behind those that wait.
@@ -191,6 +272,14 @@ impl Port {
             → result ≡ has_room self.now.limit (waiting_of self.now.busy) packet }
     {
         self.waiting.len() < usize::from(self.limit) && may_wait(self.octets, octets)
+    }
+
+    /// Whether what it transmits is recorded.
+    #[inline(always)]
+    pub fn is_recorded(&self) -> bool
+        ensures { result ≡ self.now.recorded }
+    {
+        self.recorded
     }
 
     /// Whether a packet of so many octets would be dropped, if it were offered now: the port is
@@ -228,11 +317,14 @@ impl Port {
         ensures start { IfSome result
             (λ s. IsTransmission self.old.rate self.old.delay now s.twin.packet s) }
         ensures room { self.old.room ≤ self.new.room }
+
+        // What starts has its copy, if it is recorded.
+        ensures copied { self.old.recorded ≡ true → IfSome result HasCopy }
     {
         match self.waiting.pop_front() {
-            Some(twin) => {
-                self.octets = with_fewer(self.octets, twin.packet.octet_count());
-                let start = transmission(self.rate, self.delay, now, twin);
+            Some(load) => {
+                self.octets = with_fewer(self.octets, load.packet.octet_count());
+                let start = transmission(self.rate, self.delay, now, load);
                 self.busy_until = Some(start.completes);
                 Some(start)
             }
@@ -269,7 +361,7 @@ impl Port {
 
 /// The transmission that starts now, over a link with this rate and delay.
 #[inline(always)]
-fn transmission(rate: u64, delay: u64, now: Time, twin: Twin) -> Start
+fn transmission(rate: u64, delay: u64, now: Time, twin: Load) -> Start
     // The rate, the delay and the time are within their limits.
     requires least { 1 ≤ rate }
     requires greatest { rate ≤ MAX_RATE }
@@ -279,6 +371,7 @@ fn transmission(rate: u64, delay: u64, now: Time, twin: Twin) -> Start
     // It completes and arrives when the definition says.
     ensures transmission { IsTransmission rate delay now twin.packet result }
     ensures completes { result.completes < 2 ^ 51 }
+    ensures copy { result.twin ≡ twin }
 {
     let completes = now.nanoseconds() + transmission_time(rate, twin.packet.octet_count());
     Start {

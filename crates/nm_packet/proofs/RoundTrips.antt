@@ -1,8 +1,9 @@
 -- What is written is in the grammar.
-use Rattle.std.proofs.Common.{◌≡◌, ℕ, ◌+◌, ◌-◌, ◌*◌, ◌≤◌, ◌⊎◌, inl, inr, List, ◌++◌, length, slice_index, slice_set, Result, refl, sym, ap, subst, ◌∙◌, arith}
+use Rattle.std.proofs.Common.{◌≡◌, ℕ, ◌+◌, ◌-◌, ◌*◌, ◌≤◌, ◌∷◌, [], ◌⊎◌, inl, inr, List, ◌++◌, length, slice_index, slice_set, Result, refl, sym, ap, subst, ◌∙◌, arith}
 use Rattle.std.proofs.lemmas.List.{length-append}
 use Rattle.std.proofs.lemmas.Result.{IfOk-weaker}
 use Rattle.std.specs.Result.{IfOk}
+use Rattle.nm_base.specs.Packet.{overwritten}
 use Rattle.nm_packet.specs.Octets.{IsOctets, word}
 use Rattle.nm_packet.specs.Checksum.{word_sum, folded, checksum_of, updated_checksum}
 use Rattle.nm_packet.specs.Ipv4.{Header, HeaderFits, header_octets, checked, packet_octets, fields_of, payload_of, IsPacket, IsIpv4, lowered}
@@ -114,6 +115,22 @@ one_hop_is xs live sum small packet less is =
     ap (λ (l : List ℕ). slice_set (slice_set (slice_set l 8 live) 10 (slice_index (word sum) 0)) 11 (slice_index (word sum) 1)) (spelled-fields xs small packet)
     ∙ ap (λ (t : ℕ). slice_set (slice_set (slice_set (header_octets h ++ payload) 8 t) 10 (slice_index (word sum) 0)) 11 (slice_index (word sum) 1)) same
     ∙ one_hop-spelled h payload sum
+    ∙ ap (λ (s : ℕ). header_octets (record (lowered h) { header_checksum = s }) ++ payload) is
+
+one_hop_over-spelled : (h : Header) (payload : List ℕ) (sum : ℕ) → overwritten (header_octets h ++ payload) 8 ((h.time_to_live - 1) ∷ h.protocol ∷ slice_index (word sum) 0 ∷ slice_index (word sum) 1 ∷ []) ≡ header_octets (record (lowered h) { header_checksum = sum }) ++ payload
+one_hop_over-spelled h payload sum = refl
+
+-- octets with what changes one hop on written over them
+pub one_hop_over : (xs : List ℕ) (live sum : ℕ) → IsOctets xs → IsPacket xs → live + 1 ≡ (fields_of xs).time_to_live → sum ≡ (checked (lowered (fields_of xs))).header_checksum
+    → overwritten xs 8 (live ∷ (fields_of xs).protocol ∷ slice_index (word sum) 0 ∷ slice_index (word sum) 1 ∷ []) ≡ packet_octets (lowered (fields_of xs)) (payload_of xs)
+one_hop_over xs live sum small packet less is =
+    let h = fields_of xs in
+    let payload = payload_of xs in
+    let same : live ≡ h.time_to_live - 1 = omega (arith, less) in
+    let changed = λ (l : List ℕ) (t s : ℕ). overwritten l 8 (t ∷ h.protocol ∷ slice_index (word s) 0 ∷ slice_index (word s) 1 ∷ []) in
+    ap (λ (l : List ℕ). changed l live sum) (spelled-fields xs small packet)
+    ∙ ap (λ (t : ℕ). changed (header_octets h ++ payload) t sum) same
+    ∙ one_hop_over-spelled h payload sum
     ∙ ap (λ (s : ℕ). header_octets (record (lowered h) { header_checksum = s }) ++ payload) is
 
 -- a writer's packets are in the grammar

@@ -2,7 +2,9 @@
 
 ghost use Rattle.std.specs.Prelude.{IfOk, Ok, ◌++◌, ◌≡◌, ◌+◌, ◌==◌, ◌%◌, ◌<◌, ◌≤◌, List, ℕ, length};
 ghost use Rattle.std.specs.Prelude.{None, Some, MatchResult};
+ghost use Rattle.std.specs.Bool.{OnTrue, OnFalse};
 ghost use Rattle.nm_base.specs.declared.limits.TheConstants.{MAX_PACKET_OCTETS};
+ghost use Rattle.nm_base.specs.Packet.{overwritten};
 ghost use Rattle.nm_packet.specs.declared.limits.TheConstants.{MAX_PAYLOAD};
 ghost use Rattle.nm_packet.specs.Octets.{IsOctets};
 ghost use Rattle.nm_packet.specs.Ipv4.{Header, HeaderFits, IsIpv4, IsPacket, checked, cut_of};
@@ -13,8 +15,8 @@ ghost use Rattle.nm_packet.specs.Ipv4.{quote_of};
 use crate::Address;
 use crate::checksum::{checksum_of, sum_header, updated_checksum};
 use crate::fault::HeaderFault;
-use crate::octets::{long_word_at, set_long_word, set_word, word_at};
-use bytes::{Bytes, BytesMut};
+use crate::octets::{long_word_at, set_long_word, set_word, word, word_at};
+use bytes::BytesMut;
 use nm_base::Packet;
 use std::alloc::{AllocError, Global};
 use std::marker::Model;
@@ -317,7 +319,7 @@ pub(crate) fn write_in_parts(
     octets.extend_from_slice(&header.octets(size as u16))?;
     octets.extend_from_slice(front)?;
     octets.extend_from_slice(back)?;
-    Packet::from_octets(alloc, octets.freeze()?)
+    Packet::from_own(alloc, octets)
 }
 
 /// What an error message quotes of a packet (RFC 792): its header as it came, with its options, and
@@ -350,6 +352,35 @@ pub fn lower_ttl(alloc: Global, packet: &Ipv4View<'_>) -> Result<Packet, AllocEr
     lowered_packet(alloc, packet.octets(), time_to_live, checksum)
 }
 
+/// Makes a packet the one that is one hop on, as `lower_ttl` has it, where its octets lie: where
+/// nobody else has them. Whether it did; else nothing changed. Asks for a time to live of at least
+/// 1. It takes no memory.
+pub fn lower_in_place(packet: &mut Packet) -> bool
+    requires packet { IsPacket packet.old }
+    requires live { 1 ≤ (fields_of packet.old).time_to_live }
+    ensures lowered { OnTrue result (packet.new
+        ≡ packet_octets (lowered (fields_of packet.old)) (payload_of packet.old)) }
+    ensures kept { OnFalse result (packet.new ≡ packet.old) }
+{
+    let changed = changed_octets(packet.octets());
+    packet.overwrite(field::TIME_TO_LIVE, &changed)
+}
+
+/// What the packet one hop on has from its time to live to its header checksum.
+fn changed_octets(octets: &[u8]) -> [u8; 4]
+    requires packet { IsPacket octets.now }
+    requires live { 1 ≤ (fields_of octets.now).time_to_live }
+    ensures hop { overwritten octets.now 8 result
+        ≡ packet_octets (lowered (fields_of octets.now)) (payload_of octets.now) }
+    ensures count { length result ≡ 4 }
+{
+    let view = Ipv4View { octets };
+    let time_to_live = view.time_to_live() - 1;
+    let protocol = view.protocol();
+    let [high, low] = word(lowered_checksum(&view));
+    [time_to_live, protocol, high, low]
+}
+
 /// The packet with this time to live and this header checksum.
 fn lowered_packet(
     alloc: Global,
@@ -364,9 +395,9 @@ fn lowered_packet(
     ensures { IfOk result
         (λ p. p ≡ packet_octets (lowered (fields_of octets.now)) (payload_of octets.now)) }
 {
-    let mut copy = Vec::from_slice(alloc, octets)?;
+    let mut copy = BytesMut::copy_from_slice(alloc, octets)?;
     lower(copy.as_mut_slice(), time_to_live, checksum);
-    Packet::from_octets(alloc, Bytes::from_vec(copy)?)
+    Packet::from_own(alloc, copy)
 }
 
 /// The header checksum of the packet one hop on, by the one word that changes.

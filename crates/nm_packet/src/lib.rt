@@ -14,5 +14,5 @@ pub mod udp;
 pub use address::Address;
 pub use fault::{HeaderFault, IcmpFault, UdpFault};
 pub use icmp::{Icmp, IcmpView, MessageKind};
-pub use ipv4::{Ipv4, Ipv4Header, Ipv4View, lower_ttl, quote, write_ipv4};
+pub use ipv4::{Ipv4, Ipv4Header, Ipv4View, lower_in_place, lower_ttl, quote, write_ipv4};
 pub use udp::{Ports, Udp, UdpView};

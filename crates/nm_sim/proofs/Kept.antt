@@ -7,3 +7,5 @@ pub record Kept {L : Type 0} (p q : PartValue L) : Type 0 where
   pub sent : q.timeline.sent ≡ p.timeline.sent
   pub outgoing : q.outgoing ≡ p.outgoing
   pub steps : q.steps ≡ p.steps
+  pub wanted : q.devices.wanted ≡ p.devices.wanted
+  pub keeping : q.records.keeping ≡ p.records.keeping

@@ -17,3 +17,4 @@ mod Steps
 mod Tables
 mod Takings
 mod Tracings
+mod Sound

@@ -102,9 +102,9 @@ module _ (t : TopologyValue) (part : Option ℕ) where
       → p.part ≡ part → DevicesRepresent t part p.devices (first_state t) (λ i. idle_port) → p.timeline.sent ≡ replicate (length t.ifaces) 0
       → pending p.timeline.events ≡ schedule (here_of t part) (source_events (net_of t) (length t.sources)) empty
       → length p.outgoing.channels ≡ channel_count t part → AllAt (λ c v. v.messages ≡ []) p.outgoing.channels → RecordsRepresent t p.records []
-      → Represents pending t part p (start (net_of t) (here_of t part) [])
+      → p.devices.wanted ≡ p.records.keeping.wanted → Represents pending t part p (start (net_of t) (here_of t part) [])
   unfolding net_of
-  represents_first pending p orderly is_part represented sent events channels messages records = record {
+  represents_first pending p orderly is_part represented sent events channels messages records wanted = record {
     is_part = is_part;
     orderly = orderly;
     devices = represented;
@@ -118,6 +118,7 @@ module _ (t : TopologyValue) (part : Option ℕ) where
     placed = λ q y e. placed_first q (events_below (length t.sources) q y e);
     records = records;
     few_records = omega arith;
+    wanted = wanted;
   }
 
 -- a part has what is of some nodes

@@ -1,5 +1,5 @@
 -- A part after a step represents the state after that step.
-use Rattle.std.proofs.Common.{true≢false, ⊎_elim, cond, ◌&&◌, ◌==◌, not, Bool, slice_get, slice_index, ◌≡◌, ℕ, zero, suc, ◌+◌, ◌<◌, ◌≤◌, true, false, ltb, List, [], ◌∷◌, ◌++◌, length, Option, Some, None, refl, sym, ap, ◌∙◌, subst, arith, append-nil, append_assoc, length-append}
+use Rattle.std.proofs.Common.{true≢false, ⊎_elim, cond, ◌&&◌, ◌==◌, not, Bool, slice_get, slice_index, ◌≡◌, ℕ, zero, suc, ◌+◌, ◌*◌, ◌<◌, ◌≤◌, true, false, ltb, List, [], ◌∷◌, ◌++◌, length, Option, Some, None, refl, sym, ap, ◌∙◌, subst, arith, append-nil, append_assoc, length-append}
 use Rattle.std.specs.FinMap.{FinMap, insert, remove}
 use Rattle.std.specs.Option.{IfSome}
 use Rattle.nm_base.specs.declared.event.Event.{Event}
@@ -41,9 +41,9 @@ use Rattle.nm_sim.proofs.Schedules.{next_here, one_more, placed_insert, placed_n
 use Rattle.nm_sim.proofs.Beginnings.{numbered_same}
 use Rattle.nm_sim.proofs.Doings.{follows_at}
 use Rattle.nm_sim.proofs.Pendings.{put_back}
-use Rattle.nm_sim.specs.Records.{RecordsRepresent, RecordsValue}
+use Rattle.nm_sim.specs.Records.{RecordsRepresent, RecordsValue, cut}
 use Rattle.nm_sim.proofs.Outgoings.{outgoing_same}
-use Rattle.nm_sim.proofs.Recordings.{records_same}
+use Rattle.nm_sim.proofs.Recordings.{length-cut, records_same, rest_is_all}
 use Rattle.nm_base.specs.declared.record.Record.{Record}
 use Rattle.nm_sim.proofs.Steps.{least_has, pending_here}
 use Rattle.nm_sim.proofs.Kept.{Kept}
@@ -78,9 +78,9 @@ pub represents_after : {L : Type 0} (pending : L → FinMap key_cmp (Event (List
     → OutgoingRepresents t part q.outgoing (sent_after (net_of t) time s.sent (transmission_of done.transmission))
     → pending q.timeline.events ≡ schedule (here_of t part) (transmission_events (net_of t) time s.sent (transmission_of done.transmission)) (pending p.timeline.events)
     → ((trace : List (Record (List ℕ))) → RecordsRepresent t p.records trace → RecordsRepresent t q.records (trace ++ out_record time (transmission_of done.transmission)))
-    → q.steps ≡ p.steps + 1
+    → q.records.keeping ≡ p.records.keeping → q.steps ≡ p.steps + 1
     → Represents pending t part q (step (net_of t) (here_of t part) s)
-represents_after pending t part time number e done p q s order orderly way is_part devices numbered outgoing events records steps =
+represents_after pending t part time number e done p q s order orderly way is_part devices numbered outgoing events records keeping steps =
     let taken = way.taken in
     let does = way.does.does in
     let here = here_of t part in
@@ -114,6 +114,7 @@ represents_after pending t part time number e done p q s order orderly way is_pa
           (placed_remove (IsPlaceIn t) s.pending (key_of time (event_place e) number) taken.placed);
       records = records';
       few_records = let f = taken.few_records in let n = records_few time s.records m.came m.transmission in omega (arith, f, n, steps);
+      wanted = ap (λ d. d.wanted) devices ∙ taken.wanted ∙ ap (λ k. k.wanted) (sym keeping);
     }
   where
     either : (xs ys : List (Key × Event (List ℕ))) → ((i : ℕ) (f : Key × Event (List ℕ)) → nth xs i ≡ Some f → IsPlaceIn t f.0.place)
@@ -138,6 +139,7 @@ represents_again pending t part time number e p q kept s h represented devices r
   placed = h.placed;
   records = subst (λ (r : RecordsValue). RecordsRepresent t r s.records) (sym records) (subst (RecordsRepresent t p.records) (append-nil s.records) h.records);
   few_records = let l = h.few_records in omega (arith, l, kept.steps);
+  wanted = kept.wanted ∙ h.wanted ∙ ap (λ k. k.wanted) (sym kept.keeping);
 }
 
 module _ (t : TopologyValue) (i : ℕ) (port : Port (List ℕ)) where
@@ -184,11 +186,12 @@ represents_same pending t part p q s h is_part same events sent count messages r
   placed = h.placed;
   records = records_same t p.records q.records s.records records h.records;
   few_records = let l = h.few_records in omega (arith, l, steps);
+  wanted = same.wanted ∙ h.wanted ∙ ap (λ (r : RecordsValue). r.keeping.wanted) (sym records);
 }
 
 -- nothing changed
 pub is_same : (d : DevicesValue) → IsSame d d
-is_same d = record { nodes = refl; port_count = refl; ports = λ i w e. (w, e, same w); sources = refl }
+is_same d = record { nodes = refl; port_count = refl; ports = λ i w e. (w, e, same w); sources = refl; wanted = refl }
   where
     same : (w : Option PortValue) → IsSamePort w w
     same None = tt
@@ -210,6 +213,7 @@ represents_told pending t part i number time x p q kept s h orderly within devic
   placed = placed_insert (IsPlaceIn t) s.pending (key_of time (Arrive i) number) (Delivery (Arrival i) x) within h.placed;
   records = subst (λ (r : RecordsValue). RecordsRepresent t r s.records) (sym records) h.records;
   few_records = let l = h.few_records in omega (arith, l, kept.steps);
+  wanted = kept.wanted ∙ h.wanted ∙ ap (λ k. k.wanted) (sym kept.keeping);
 }
 
 -- what comes into a partition is here, and its far end is not
@@ -270,8 +274,8 @@ waiting_is t part d s represented i =
 
 -- the same state is represented with other records that represent its trace
 pub represents_records : {L : Type 0} (pending : L → FinMap key_cmp (Event (List ℕ))) (t : TopologyValue) (part : Option ℕ) {p : PartValue L} (r : RecordsValue) (s : State (List ℕ) NodeStateValue)
-    → Represents pending t part p s → RecordsRepresent t r s.records → Represents pending t part (record p { records = r }) s
-represents_records pending t part r s h records = record {
+    → Represents pending t part p s → RecordsRepresent t r s.records → r.keeping.wanted ≡ p.records.keeping.wanted → Represents pending t part (record p { records = r }) s
+represents_records pending t part r s h records wanted = record {
   is_part = h.is_part;
   orderly = h.orderly;
   devices = h.devices;
@@ -282,7 +286,19 @@ represents_records pending t part r s h records = record {
   placed = h.placed;
   records = records;
   few_records = h.few_records;
+  wanted = h.wanted ∙ sym wanted;
 }
+
+-- the records that were kept are few
+pub kept_few : {L : Type 0} (pending : L → FinMap key_cmp (Event (List ℕ))) (t : TopologyValue) (part : Option ℕ) (p : PartValue L) (s : State (List ℕ) NodeStateValue)
+    → Represents pending t part p s → p.records.keeping.handed + length p.records.kept ≤ 2 * p.steps
+kept_few pending t part p s h =
+    let own = cut p.records.keeping.wanted s.records in
+    let all = rest_is_all p.records.keeping.handed own h.records.few in
+    let kept = ap length h.records.kept in
+    let few = length-cut p.records.keeping.wanted s.records in
+    let most = h.few_records in
+    omega (arith, all, kept, few, most)
 
 -- an interface that isn't there is its own far end
 far_past : (t : TopologyValue) (i : ℕ) → length t.ifaces ≤ i → (net_of t).peer i ≡ i

@@ -108,3 +108,4 @@ module _ (t : TopologyValue) (part : Option â„•) (d e : DevicesValue) (node : â„
       go sent.Nothing p = tt
       go (sent.Send via twin) p = leaves via twin.packet p
       go (sent.Refused via) p = leaves via p.0 p.1
+      go (sent.Pass via x) p = leaves via x p

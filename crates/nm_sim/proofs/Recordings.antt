@@ -1,17 +1,21 @@
 -- The records of a trace: one more is added, or the first that is kept is handed out.
-use Rattle.std.proofs.Common.{◌≡◌, ℕ, zero, suc, ◌+◌, ◌≤◌, ◌==◌, Bool, true, false, cond, List, [], ◌∷◌, ◌++◌, drop, flat_map, length, replicate, Some, slice_get, refl, sym, ap, ◌∙◌, arith, ⊎_elim, length-append, option_map}
+use Rattle.std.proofs.Common.{◌≡◌, ℕ, zero, suc, ◌+◌, ◌≤◌, ◌==◌, Bool, true, false, cond, List, [], ◌∷◌, ◌++◌, drop, flat_map, length, replicate, Some, slice_get, refl, sym, ap, ◌∙◌, subst, arith, ⊎_elim, append-nil, length-append, option_map}
 use Rattle.std.proofs.lemmas.Bool.Decides.{nat_tests}
 use Rattle.std.proofs.lemmas.Grind.{flat_map-append}
 use Rattle.std.proofs.lemmas.List.{drop-append-le, drop_all, length-drop, length-replicate}
 use Rattle.std.proofs.lemmas.Option.{slice_get_cases, slice_get_past}
 use Rattle.nm_base.specs.Count.{saturated}
+use Rattle.nm_base.specs.Wanted.{is_wanted}
 use Rattle.nm_base.specs.declared.record.Record.{Record}
+use Rattle.nm_base.specs.declared.wanted.Wanted.{Wanted}
+use Rattle.nm_base.specs.declared.wanted.Wanted.TheVariants.{All, Nothing, One}
 use Rattle.nm_topology.specs.TopologyValue.{TopologyValue}
 use Rattle.nm_model.specs.Lists.{keep_where}
 use Rattle.nm_model.proofs.ListLemmas.{kept-append, not_some, some_inj}
 use Rattle.nm_pcap.specs.declared.format.TheConstants.{FILE_HEADER_OCTETS, RECORD_HEADER_OCTETS}
 use Rattle.nm_pcap.specs.Format.{file_header, pcap, record_header, record_octets}
-use Rattle.nm_sim.specs.Records.{RecordsRepresent, RecordsValue}
+use Rattle.nm_sim.specs.Records.{Keeping, RecordsRepresent, RecordsValue, cut}
+use Rattle.nm_sim.specs.Tables.{AllAt}
 use Rattle.nm_sim.specs.Totals.{total_after, totals_of}
 
 -- the trace file of one more record
@@ -54,29 +58,93 @@ totals_more i trace r false h = ap (λ l. (saturated (length l), saturated (leng
 pub rest_is_all : (n : ℕ) (trace : List (Record (List ℕ))) → n ≤ length trace → n + length (drop n trace) ≡ length trace
 rest_is_all n trace few = let l = length-drop n trace in omega (arith, l, few)
 
+-- the records of some interfaces, of two lists one after the other
+pub cut-append : (w : Wanted) (xs ys : List (Record (List ℕ))) → cut w (xs ++ ys) ≡ cut w xs ++ cut w ys
+cut-append All xs ys = refl
+cut-append Nothing xs ys = refl
+cut-append (One i) xs ys = kept-append (λ r. r.iface == i) xs ys
+
+-- they are no more than all
+pub length-cut : (w : Wanted) (xs : List (Record (List ℕ))) → length (cut w xs) ≤ length xs
+length-cut All xs = omega arith
+length-cut Nothing xs = omega arith
+length-cut (One i) xs = go xs
+  where
+    go : (l : List (Record (List ℕ))) → length (keep_where (λ r. r.iface == i) l) ≤ length l
+    go [] = omega arith
+    go (x ∷ l) =
+        let h = go l in
+        elim (x.iface == i) as (λ b. length (cond b (x ∷ keep_where (λ r. r.iface == i) l) (keep_where (λ r. r.iface == i) l)) ≤ suc (length l)) [ true ↦ omega (arith, h) | false ↦ omega (arith, h) ]
+
+cut_one : (w : Wanted) (r : Record (List ℕ)) → cut w (r ∷ []) ≡ cond (is_wanted w r.iface) (r ∷ []) []
+cut_one All r = refl
+cut_one Nothing r = refl
+cut_one (One i) r = refl
+
+module _ (w : Wanted) (trace : List (Record (List ℕ))) (r : Record (List ℕ)) where
+  cut_more : cut w (trace ++ r ∷ []) ≡ cut w trace ++ cond (is_wanted w r.iface) (r ∷ []) []
+  cut_more = cut-append w trace (r ∷ []) ∙ ap (λ l. cut w trace ++ l) (cut_one w r)
+
+  cut_wanted : is_wanted w r.iface ≡ true → cut w (trace ++ r ∷ []) ≡ cut w trace ++ r ∷ []
+  cut_wanted e = cut_more ∙ ap (λ b. cut w trace ++ cond b (r ∷ []) []) e
+
+  cut_unwanted : is_wanted w r.iface ≡ false → cut w (trace ++ r ∷ []) ≡ cut w trace
+  cut_unwanted e = cut_more ∙ ap (λ b. cut w trace ++ cond b (r ∷ []) []) e ∙ append-nil (cut w trace)
+
+-- what is kept of a trace
+abbrev left : Keeping → List (Record (List ℕ)) → List (Record (List ℕ))
+left k trace = drop k.handed (cut k.wanted trace)
+
 module _ (t : TopologyValue) (a b : RecordsValue) (trace : List (Record (List ℕ))) where
-  pub records_more : (r : Record (List ℕ)) → b.kept ≡ a.kept ++ r ∷ [] → b.handed ≡ a.handed → length b.totals ≡ length a.totals
+  totals_with : (r : Record (List ℕ))
+      → ((i : ℕ) → slice_get b.totals i ≡ option_map (λ x. cond (i == r.iface) (total_after x (length r.packet)) x) (slice_get a.totals i))
+      → RecordsRepresent t a trace → AllAt (λ i a. a ≡ totals_of i (trace ++ r ∷ [])) b.totals
+  totals_with r totals h = λ i y e. ⊎_elim
+      (λ g. some_inj y (cond (i == r.iface) (total_after g.0 (length r.packet)) g.0)
+      (sym e ∙ totals i ∙ ap (option_map (λ x. cond (i == r.iface) (total_after x (length r.packet)) x)) g.2)
+      ∙ ap (λ x. cond (i == r.iface) (total_after x (length r.packet)) x) (h.totals i g.0 g.2) ∙ sym (totals_more i trace r (i == r.iface) refl))
+      (λ g. absurd (not_some y (sym (totals i ∙ ap (option_map (λ x. cond (i == r.iface) (total_after x (length r.packet)) x)) (slice_get_past a.totals i g.0)) ∙ e)))
+      ((slice_get_cases a.totals i).1)
+
+  pub records_more : (r : Record (List ℕ)) → is_wanted a.keeping.wanted r.iface ≡ true → b.kept ≡ a.kept ++ r ∷ [] → b.keeping ≡ a.keeping → length b.totals ≡ length a.totals
       → ((i : ℕ) → slice_get b.totals i ≡ option_map (λ x. cond (i == r.iface) (total_after x (length r.packet)) x) (slice_get a.totals i))
       → RecordsRepresent t a trace → RecordsRepresent t b (trace ++ r ∷ [])
-  records_more r kept handed count totals h = record {
-    kept = kept ∙ ap (λ l. l ++ r ∷ []) h.kept ∙ sym (drop-append-le a.handed trace (r ∷ []) h.few) ∙ ap (λ n. drop n (trace ++ r ∷ [])) (sym handed);
-    few = let l = length-append trace (r ∷ []) in let f = h.few in omega (arith, handed, f, l);
-    count = count ∙ h.count;
-    totals = λ i y e. ⊎_elim
-        (λ g. some_inj y (cond (i == r.iface) (total_after g.0 (length r.packet)) g.0)
-        (sym e ∙ totals i ∙ ap (option_map (λ x. cond (i == r.iface) (total_after x (length r.packet)) x)) g.2)
-        ∙ ap (λ x. cond (i == r.iface) (total_after x (length r.packet)) x) (h.totals i g.0 g.2) ∙ sym (totals_more i trace r (i == r.iface) refl))
-        (λ g. absurd (not_some y (sym (totals i ∙ ap (option_map (λ x. cond (i == r.iface) (total_after x (length r.packet)) x)) (slice_get_past a.totals i g.0)) ∙ e)))
-        ((slice_get_cases a.totals i).1);
-  }
+  records_more r wanted kept keeping count totals h =
+      let w = a.keeping.wanted in
+      let more = cut_wanted w trace r wanted in
+      record {
+        kept = kept ∙ ap (λ l. l ++ r ∷ []) h.kept ∙ sym (drop-append-le a.keeping.handed (cut w trace) (r ∷ []) h.few)
+            ∙ ap (drop a.keeping.handed) (sym more) ∙ ap (λ k. left k (trace ++ r ∷ [])) (sym keeping);
+        few = subst (λ k. k.handed ≤ length (cut k.wanted (trace ++ r ∷ []))) (sym keeping)
+            (let l = ap length more ∙ length-append (cut w trace) (r ∷ []) in let f = h.few in omega (arith, f, l));
+        count = count ∙ h.count;
+        totals = totals_with r totals h;
+      }
 
-  pub records_handed : 1 ≤ length a.kept → b.kept ≡ drop 1 a.kept → b.handed ≡ a.handed + 1 → b.totals ≡ a.totals → RecordsRepresent t a trace → RecordsRepresent t b trace
-  records_handed there kept handed totals h = record {
-    kept = kept ∙ ap (drop 1) h.kept ∙ drop_more a.handed trace ∙ ap (λ n. drop n trace) (sym handed);
-    few = let l = ap length h.kept ∙ length-drop a.handed trace in omega (arith, handed, l, there);
-    count = ap length totals ∙ h.count;
-    totals = λ i y e. h.totals i y (ap (λ l. slice_get l i) (sym totals) ∙ e);
-  }
+  -- one more that is not kept
+  pub records_passed : (r : Record (List ℕ)) → is_wanted a.keeping.wanted r.iface ≡ false → b.kept ≡ a.kept → b.keeping ≡ a.keeping → length b.totals ≡ length a.totals
+      → ((i : ℕ) → slice_get b.totals i ≡ option_map (λ x. cond (i == r.iface) (total_after x (length r.packet)) x) (slice_get a.totals i))
+      → RecordsRepresent t a trace → RecordsRepresent t b (trace ++ r ∷ [])
+  records_passed r unwanted kept keeping count totals h =
+      let same = cut_unwanted a.keeping.wanted trace r unwanted in
+      record {
+        kept = kept ∙ h.kept ∙ ap (drop a.keeping.handed) (sym same) ∙ ap (λ k. left k (trace ++ r ∷ [])) (sym keeping);
+        few = subst (λ k. k.handed ≤ length (cut k.wanted (trace ++ r ∷ []))) (sym keeping)
+            (let l = ap length same in let f = h.few in omega (arith, f, l));
+        count = count ∙ h.count;
+        totals = totals_with r totals h;
+      }
+
+  pub records_handed : 1 ≤ length a.kept → b.kept ≡ drop 1 a.kept → b.keeping ≡ record a.keeping { handed = a.keeping.handed + 1 } → b.totals ≡ a.totals → RecordsRepresent t a trace → RecordsRepresent t b trace
+  records_handed there kept keeping totals h =
+      let own = cut a.keeping.wanted trace in
+      record {
+        kept = kept ∙ ap (drop 1) h.kept ∙ drop_more a.keeping.handed own ∙ ap (λ k. left k trace) (sym keeping);
+        few = subst (λ k. k.handed ≤ length (cut k.wanted trace)) (sym keeping)
+            (let l = ap length h.kept ∙ length-drop a.keeping.handed own in omega (arith, l, there));
+        count = ap length totals ∙ h.count;
+        totals = λ i y e. h.totals i y (ap (λ l. slice_get l i) (sym totals) ∙ e);
+      }
     where
       drop_more : (n : ℕ) (l : List (Record (List ℕ))) → drop 1 (drop n l) ≡ drop (n + 1) l
       drop_more zero l = refl
@@ -84,22 +152,28 @@ module _ (t : TopologyValue) (a b : RecordsValue) (trace : List (Record (List �
       drop_more (suc n) (x ∷ l) = let e : suc (n + 1) ≡ suc n + 1 = omega arith in drop_more n l ∙ ap (λ k. drop k (x ∷ l)) e
 
   -- all that were kept are handed out
-  pub all_handed : b.kept ≡ [] → b.handed ≡ a.handed + length a.kept → b.totals ≡ a.totals → RecordsRepresent t a trace → RecordsRepresent t b trace
-  all_handed kept handed totals h =
-      let all = handed ∙ ap (λ n. a.handed + n) (ap length h.kept) ∙ rest_is_all a.handed trace h.few in record {
-        kept = kept ∙ sym (drop_all b.handed trace (omega (arith, all)));
-        few = omega (arith, all);
+  pub all_handed : b.kept ≡ [] → b.keeping ≡ record a.keeping { handed = a.keeping.handed + length a.kept } → b.totals ≡ a.totals → RecordsRepresent t a trace → RecordsRepresent t b trace
+  all_handed kept keeping totals h =
+      let own = cut a.keeping.wanted trace in
+      let all = ap (λ n. a.keeping.handed + n) (ap length h.kept) ∙ rest_is_all a.keeping.handed own h.few in record {
+        kept = kept ∙ sym (drop_all (a.keeping.handed + length a.kept) own (omega (arith, all))) ∙ ap (λ k. left k trace) (sym keeping);
+        few = subst (λ k. k.handed ≤ length (cut k.wanted trace)) (sym keeping) (omega (arith, all));
         count = ap length totals ∙ h.count;
         totals = λ i y e. h.totals i y (ap (λ l. slice_get l i) (sym totals) ∙ e);
       }
 
   pub records_same : b ≡ record a { spare = b.spare } → RecordsRepresent t a trace → RecordsRepresent t b trace
-  records_same e h = record {
-    kept = ap (λ r. r.kept) e ∙ h.kept ∙ ap (λ n. drop n trace) (sym (ap (λ r. r.handed) e));
-    few = let n = ap (λ r. r.handed) e in let f = h.few in omega (arith, n, f);
-    count = ap (λ r. length r.totals) e ∙ h.count;
-    totals = λ i y g. h.totals i y (ap (λ r. slice_get r.totals i) (sym e) ∙ g);
-  }
+  records_same e h =
+      let keeping : b.keeping ≡ a.keeping = ap (λ r. r.keeping) e in record {
+        kept = ap (λ r. r.kept) e ∙ h.kept ∙ ap (λ k. left k trace) (sym keeping);
+        few = subst (λ k. k.handed ≤ length (cut k.wanted trace)) (sym keeping) h.few;
+        count = ap (λ r. length r.totals) e ∙ h.count;
+        totals = λ i y g. h.totals i y (ap (λ r. slice_get r.totals i) (sym e) ∙ g);
+      }
+
+-- no record is added
+pub nothing_more : (t : TopologyValue) (r : RecordsValue) (trace : List (Record (List ℕ))) → RecordsRepresent t r trace → RecordsRepresent t r (trace ++ [])
+nothing_more t r trace h = subst (RecordsRepresent t r) (sym (append-nil trace)) h
 
 -- the first of what is left
 pub first_left : (n : ℕ) (l : List (Record (List ℕ))) → slice_get (drop n l) 0 ≡ slice_get l n
@@ -108,14 +182,19 @@ first_left (suc n) [] = refl
 first_left (suc n) (x ∷ l) = first_left n l
 
 -- at the start
-pub records_first : (t : TopologyValue) (r : RecordsValue) → r.kept ≡ [] → r.handed ≡ 0 → r.totals ≡ replicate (length t.ifaces) (0, FILE_HEADER_OCTETS) → RecordsRepresent t r []
-records_first t r kept handed totals = record {
-  kept = kept ∙ ap (λ n. drop n []) (sym handed);
-  few = omega (arith, handed);
+pub records_first : (t : TopologyValue) (w : Wanted) (r : RecordsValue) → r.kept ≡ [] → r.keeping ≡ record { wanted = w; handed = 0 } → r.totals ≡ replicate (length t.ifaces) (0, FILE_HEADER_OCTETS) → RecordsRepresent t r []
+records_first t w r kept keeping totals = record {
+  kept = kept ∙ sym (nothing w) ∙ ap (λ k. left k []) (sym keeping);
+  few = subst (λ k. k.handed ≤ length (cut k.wanted [])) (sym keeping) (omega arith);
   count = ap length totals ∙ length-replicate (length t.ifaces) (0, FILE_HEADER_OCTETS);
   totals = λ i y e. all (length t.ifaces) i y (ap (λ l. slice_get l i) (sym totals) ∙ e);
 }
   where
+    nothing : (v : Wanted) → cut v [] ≡ []
+    nothing All = refl
+    nothing Nothing = refl
+    nothing (One i) = refl
+
     all : (n i : ℕ) (y : ℕ × ℕ) → slice_get (replicate n (0, FILE_HEADER_OCTETS)) i ≡ Some y → y ≡ totals_of i []
     all zero i y e = absurd cc
     all (suc n) zero y e = some_inj y (0, FILE_HEADER_OCTETS) (sym e)

@@ -9,16 +9,23 @@ use Rattle.nm_model.specs.Run.{at_iface}
 use Rattle.nm_forward.specs.State.{NodeStateValue}
 use Rattle.nm_iface.specs.PortValue.{PortValue, has_room, takes, with_port}
 use Rattle.nm_iface.specs.declared.port.Start.{Start}
-use Rattle.nm_iface.specs.Offers.{IsTransmission, transmitted_packet}
+use Rattle.nm_base.specs.Wanted.{is_wanted}
+use Rattle.nm_base.specs.declared.wanted.Wanted.{Wanted}
+use Rattle.nm_iface.specs.Offers.{HasCopy, IsTransmission, transmitted_packet}
 use Rattle.nm_sim.specs.Network.{is_iface_here, net_of}
 use Rattle.nm_sim.specs.Devices.{DevicesValue, DevicesRepresent, IsPortOf}
-use Rattle.nm_sim.specs.Effects.{Sends, TransmitsAt, transmission_at, transmission_of}
+use Rattle.nm_sim.specs.Effects.{IsCopied, Sends, TransmitsAt, transmission_at, transmission_of}
 use Rattle.nm_sim.proofs.Tables.{at_there}
 use Rattle.nm_sim.proofs.Represents.{same_offer, port_after, port_turned}
 
 pub transmission_of_at : (i : ℕ) (start : Option Start) → transmission_of (transmission_at i start) ≡ at_iface i (transmitted_packet start)
 transmission_of_at i None = refl
 transmission_of_at i (Some s) = refl
+
+-- what starts has its copy where it is wanted
+pub copied_at : (wanted : Wanted) (i : ℕ) (start : Option Start) → (is_wanted wanted i ≡ true → IfSome start HasCopy) → IfSome (transmission_at i start) (IsCopied wanted)
+copied_at wanted i None h = tt
+copied_at wanted i (Some s) h = h
 
 -- the transmission of a port that is here
 pub transmits_here : (t : TopologyValue) (part : Option ℕ) (d : DevicesValue) (node : ℕ → NodeStateValue) (port : ℕ → Port (List ℕ)) → DevicesRepresent t part d node port

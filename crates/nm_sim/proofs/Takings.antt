@@ -47,6 +47,7 @@ module _ {L : Type 0} (pending : L → FinMap key_cmp (Event (List ℕ))) (t : T
     placed = h.placed;
     records = subst (λ (r : RecordsValue). RecordsRepresent t r (s.records ++ [])) (sym records) (subst (RecordsRepresent t p.records) (sym (append-nil s.records)) h.records);
     few_records = let l = h.few_records in omega (arith, l, kept.steps);
+    wanted = kept.wanted ∙ h.wanted ∙ ap (λ k. k.wanted) (sym kept.keeping);
   }
 
   -- it goes on: what came is recorded, and what follows is pending
@@ -64,6 +65,7 @@ module _ {L : Type 0} (pending : L → FinMap key_cmp (Event (List ℕ))) (t : T
     placed = h.placed;
     records = records;
     few_records = let l = h.few_records in omega (arith, l, kept.steps);
+    wanted = kept.wanted ∙ h.wanted ∙ ap (λ k. k.wanted) (sym kept.keeping);
   }
 
   -- its devices change
@@ -172,7 +174,7 @@ pub ready_at : {L : Type 0} (pending : L → FinMap key_cmp (Event (List ℕ))) 
     → time ≤ MAX_TIME → p.steps < 2 ^ 62 → HasMemory room_of p → room_of after.events ≡ room_of p.timeline.events + 1
     → (part : Option ℕ) (s : State (List ℕ) NodeStateValue) → Represents pending t part p s → IsReady pending room_of t part time number e (record p { timeline = after }) s
 ready_at pending room_of t time number e p after first rest others soon few memory more part s represents = record {
-  taken = taken_out pending t part time number e p (record p { timeline = after }) (record { is_part = refl; sent = ap (λ l. l.sent) others; outgoing = refl; steps = refl }) s represents first rest refl;
+  taken = taken_out pending t part time number e p (record p { timeline = after }) (record { is_part = refl; sent = ap (λ l. l.sent) others; outgoing = refl; steps = refl; wanted = refl; keeping = refl }) s represents first rest refl;
   devices = represents.devices;
   soon = soon;
   steps = few;
@@ -194,6 +196,6 @@ module _ {L : Type 0} (pending : L → FinMap key_cmp (Event (List ℕ))) (room_
 -- how many events were done, and that no record was handed out
 pub performed_one : {L : Type 0} (pending : L → FinMap key_cmp (Event (List ℕ))) (room_of : L → ℕ) (t : TopologyValue) (time number : ℕ) (e : Event (List ℕ)) (q new : PartValue L)
     (r : Result Unit AllocError) → Performed pending room_of t time number e q new r
-    → OnOk r (new.steps ≡ q.steps + 1) × OnErr r (new.steps ≡ q.steps) × (new.records.handed ≡ q.records.handed)
+    → OnOk r (new.steps ≡ q.steps + 1) × OnErr r (new.steps ≡ q.steps) × (new.records.keeping ≡ q.records.keeping)
 performed_one pending room_of t time number e q new (Ok u) h = (h.1, tt, h.2)
 performed_one pending room_of t time number e q new (Err x) h = (tt, h.1, h.2)

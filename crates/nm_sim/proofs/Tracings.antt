@@ -16,8 +16,10 @@ use Rattle.nm_model.specs.Network.{Net}
 use Rattle.nm_model.specs.Run.{State, one_list, pends_before, step_at}
 use Rattle.nm_sim.specs.Network.{net_of}
 use Rattle.nm_sim.specs.Part.{Advanced, PartValue, Represents}
+use Rattle.nm_sim.specs.Records.{cut}
 use Rattle.nm_sim.specs.Trace.{IsTraceBefore}
 use Rattle.nm_sim.specs.Tracing.{IsTracing, ShowsAt}
+use Rattle.nm_sim.proofs.Recordings.{cut-append}
 
 module _ {P N : Type 0} (net : Net P N) where
   stays_in_step : (s : State P N) (o : Option (Key × Event P)) → (more : List (Record P)) × ((step_at net (λ q. true) s o).records ≡ s.records ++ more)
@@ -54,14 +56,18 @@ module _ {L : Type 0} (pending : L → FinMap key_cmp (Event (List ℕ))) (t : T
       (more.0, w.2 ∙ more.1)
 
   -- what is kept comes next in it
-  pub shown : (records : List (Record (List ℕ))) → IsTraceBefore t t.stop records → p.records.kept ≡ take (length p.records.kept) (drop p.records.handed records)
+  pub shown : (records : List (Record (List ℕ))) → IsTraceBefore t t.stop records → p.records.kept ≡ take (length p.records.kept) (drop p.records.keeping.handed (cut p.records.keeping.wanted records))
   shown records trace =
-      let made = (one_list (net_of t) tracing.events).records in
+      let w = p.records.keeping.wanted in
+      let handed = p.records.keeping.handed in
+      let made = cut w (one_list (net_of t) tracing.events).records in
       let f = front records trace in
+      let rest = cut w f.0 in
       let few = tracing.represents.records.few in
       let kept = tracing.represents.records.kept in
-      let left : drop p.records.handed records ≡ drop p.records.handed made ++ f.0 = ap (drop p.records.handed) f.1 ∙ drop-append-le p.records.handed made f.0 few in
-      kept ∙ sym (take-append_seam (drop p.records.handed made) f.0) ∙ ap (λ l. take (length l) (drop p.records.handed made ++ f.0)) (sym kept) ∙ ap (take (length p.records.kept)) (sym left)
+      let left : drop handed (cut w records) ≡ drop handed made ++ rest = ap (λ l. drop handed (cut w l)) f.1
+      ∙ ap (drop handed) (cut-append w (one_list (net_of t) tracing.events).records f.0) ∙ drop-append-le handed made rest few in
+      kept ∙ sym (take-append_seam (drop handed made) rest) ∙ ap (λ l. take (length l) (drop handed made ++ rest)) (sym kept) ∙ ap (take (length p.records.kept)) (sym left)
 
   -- one more event
   pub tracing_on : (q : PartValue L) → Advanced pending t None t.stop (one_list (net_of t) tracing.events) p q (Ok true) → IsTracing pending t q
@@ -84,11 +90,12 @@ module _ {L : Type 0} (pending : L → FinMap key_cmp (Event (List ℕ))) (t : T
 
 -- the run after one event, if there was one
 module _ {L : Type 0} (pending : L → FinMap key_cmp (Event (List ℕ))) (t : TopologyValue) (p q : PartValue L) (tracing : IsTracing pending t p) where
-  nothing_kept : (q : PartValue L) (n : ℕ) → p.records.handed ≡ length (one_list (net_of t) n).records → q.records.handed ≡ p.records.handed
+  nothing_kept : (q : PartValue L) (n : ℕ) → p.records.keeping.handed ≡ length (cut p.records.keeping.wanted (one_list (net_of t) n).records) → q.records.keeping ≡ p.records.keeping
       → Represents pending t None q (one_list (net_of t) n) → q.records.kept ≡ []
   nothing_kept q n all same h =
-      let made = (one_list (net_of t) n).records in
-      h.records.kept ∙ ap (λ k. drop k made) (same ∙ all) ∙ drop_all (length made) made (omega arith)
+      let trace = (one_list (net_of t) n).records in
+      let made = cut p.records.keeping.wanted trace in
+      h.records.kept ∙ ap (λ k. drop k.handed (cut k.wanted trace)) same ∙ ap (λ k. drop k made) all ∙ drop_all (length made) made (omega arith)
 
   pub tracing_after : (outcome : Result Bool AllocError) → Advanced pending t None t.stop (one_list (net_of t) tracing.events) p q outcome → IsTracing pending t q
   tracing_after (Ok false) done = subst (IsTracing pending t) (sym done.0) tracing
@@ -96,12 +103,13 @@ module _ {L : Type 0} (pending : L → FinMap key_cmp (Event (List ℕ))) (t : T
   tracing_after (Err e) done = record { events = tracing.events; early = tracing.early; represents = done.0 }
 
   -- what it shows then, where all that it had recorded was let go
-  pub shows_after : ((m n : ℕ) → IsBefore (net_of t) t.stop m → IsBefore (net_of t) t.stop n → m ≡ n) → p.records.handed ≡ length (one_list (net_of t) tracing.events).records
-      → q.records.handed ≡ p.records.handed → (outcome : Result Bool AllocError) → Advanced pending t None t.stop (one_list (net_of t) tracing.events) p q outcome
-      → (records : List (Record (List ℕ))) → IsTraceBefore t t.stop records → ShowsAt records outcome q.records
-  shows_after once all same (Ok true) done records trace = shown pending t q (tracing_after (Ok true) done) records trace
+  pub shows_after : ((m n : ℕ) → IsBefore (net_of t) t.stop m → IsBefore (net_of t) t.stop n → m ≡ n) → p.records.keeping.handed ≡ length (cut p.records.keeping.wanted (one_list (net_of t) tracing.events).records)
+      → q.records.keeping ≡ p.records.keeping → (outcome : Result Bool AllocError) → Advanced pending t None t.stop (one_list (net_of t) tracing.events) p q outcome
+      → (records : List (Record (List ℕ))) → IsTraceBefore t t.stop records → ShowsAt (cut p.records.keeping.wanted records) outcome q.records
+  shows_after once all same (Ok true) done records trace =
+      subst (λ w. ShowsAt (cut w records) (Ok true) q.records) (ap (λ k. k.wanted) same) (shown pending t q (tracing_after (Ok true) done) records trace)
   shows_after once all same (Ok false) done records trace = (
     nothing_kept q tracing.events all same (subst (λ x. Represents pending t None x (one_list (net_of t) tracing.events)) (sym done.0) tracing.represents),
-    same ∙ all ∙ ap length (all_made pending t p tracing once done.1 records trace),
+    ap (λ k. k.handed) same ∙ all ∙ ap (λ l. length (cut p.records.keeping.wanted l)) (all_made pending t p tracing once done.1 records trace),
   )
   shows_after once all same (Err e) done records trace = nothing_kept q tracing.events all same done.0

@@ -4,19 +4,22 @@ use Rattle.nm_topology.specs.TopologyValue.{TopologyValue}
 use Rattle.nm_model.specs.Port.{Port}
 use Rattle.nm_forward.specs.State.{NodeStateValue, table_of}
 use Rattle.nm_base.specs.Count.{saturated}
+use Rattle.nm_base.specs.Wanted.{is_wanted}
+use Rattle.nm_base.specs.declared.wanted.Wanted.{Wanted}
 use Rattle.nm_iface.specs.PortValue.{PortValue}
 use Rattle.nm_traffic.specs.Source.{source_of}
 use Rattle.nm_traffic.specs.SourceValues.{SourceValue}
 use Rattle.nm_sim.specs.Tables.{AllHere, AllSome}
 use Rattle.nm_sim.specs.Network.{far_of, is_iface_here, is_node_here, is_source_here, queue_of}
 
--- what contracts see of them: by number, where they are here, and the port whose memory was used
--- since memory was last made
+-- what contracts see of them: by number, where they are here, the port whose memory was used
+-- since memory was last made, and of which interfaces records are wanted
 pub record DevicesValue : Type 0 where
   pub nodes : List (Option NodeStateValue)
   pub ports : List (Option PortValue)
   pub sources : List (Option SourceValue)
   pub used : Option ℕ
+  pub wanted : Wanted
 
 -- a port of the interface i; its count of drops stops at the greatest of its type
 pub record IsPortOf (t : TopologyValue) (i : ℕ) (w : PortValue)
@@ -41,9 +44,11 @@ pub record DevicesRepresent (t : TopologyValue) (part : Option ℕ) (d : Devices
   pub source_count : length d.sources ≡ length t.sources
   pub sources : AllHere (is_source_here t part) (λ j s. source_of t j ≡ Some s) d.sources
 
--- each port has memory for one more packet, but for the one whose memory was used
-abbrev pub HaveRoom : DevicesValue → Type 0
-HaveRoom d = AllSome (λ i w. (1 ≤ w.room) ⊎ (d.used ≡ Some i)) d.ports
+-- each of these ports has memory for one more packet, but for the one whose memory was used, and
+-- records what it transmits exactly where records of its interface are wanted
+abbrev pub AreSound : Wanted → Option ℕ → List (Option PortValue) → Type 0
+AreSound wanted used ports =
+    AllSome (λ i w. ((1 ≤ w.room) ⊎ (used ≡ Some i)) × (w.recorded ≡ is_wanted wanted i)) ports
 
 -- the same but for memory
 abbrev pub IsSamePort : Option PortValue → Option PortValue → Type 0
@@ -58,6 +63,7 @@ pub record IsSame (d e : DevicesValue) : Type 0 where
   pub ports : (i : ℕ) (w : Option PortValue) → slice_get e.ports i ≡ Some w
       → (v : Option PortValue) × (slice_get d.ports i ≡ Some v) × IsSamePort v w
   pub sources : e.sources ≡ d.sources
+  pub wanted : e.wanted ≡ d.wanted
 
 -- the devices represent some states
 abbrev pub DevicesRepresentSome : TopologyValue → DevicesValue → Type 0

@@ -1,5 +1,5 @@
 -- What an event does at its node, and what it asks for.
-use Rattle.std.specs.Prelude.{◌≡◌, ℕ, ◌<◌, ◌^◌, List, length, Option, Some, None, slice_get}
+use Rattle.std.specs.Prelude.{◌≡◌, ℕ, ◌<◌, ◌^◌, true, List, length, Option, Some, None, slice_get}
 use Rattle.std.specs.Option.{IsSome, IfSome}
 use Rattle.nm_base.specs.declared.key.Place.{Place}
 use Rattle.nm_base.specs.declared.key.Place.TheVariants.{Arrive, Complete, Fire}
@@ -19,7 +19,9 @@ use Rattle.nm_forward.specs.Reaction.{FitsOrigin, reaction}
 use Rattle.nm_forward.specs.Reacting.{IsSent}
 use Rattle.nm_iface.specs.PortValue.{PortValue}
 use Rattle.nm_iface.specs.declared.port.Start.{Start}
-use Rattle.nm_iface.specs.Offers.{IsTransmission}
+use Rattle.nm_iface.specs.Offers.{HasCopy, IsTransmission}
+use Rattle.nm_base.specs.Wanted.{is_wanted}
+use Rattle.nm_base.specs.declared.wanted.Wanted.{Wanted}
 use Rattle.nm_sim.specs.Devices.{DevicesValue, DevicesRepresent}
 use Rattle.nm_sim.specs.Network.{IsIfaceHere, far_of, net_of}
 
@@ -56,6 +58,10 @@ transmission_at i (Some s) = Some (i, s)
 abbrev pub TransmitsAt : TopologyValue → Option ℕ → ℕ → ℕ × Start → Type 0
 TransmitsAt t part time s = IsIfaceHere t part s.0
     × IsTransmission (far_of t s.0).rate (far_of t s.0).delay time s.1.twin.packet s.1
+
+-- its packet has a copy, if records of its interface are wanted
+abbrev pub IsCopied : Wanted → ℕ × Start → Type 0
+IsCopied wanted s = is_wanted wanted s.0 ≡ true → HasCopy s.1
 
 -- What was done beside the change of a node and of one port: the packet that arrived, and where,
 -- the transmission that starts, and where, and the packet that a source hands over next: which

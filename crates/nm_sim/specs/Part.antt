@@ -53,6 +53,7 @@ pub record Represents {L : Type 0} (pending : L → FinMap key_cmp (Event (List 
   pub placed : (q : Key) (y : Event (List ℕ)) → get s.pending q ≡ Some y → IsPlaceIn t q.place
   pub records : RecordsRepresent t p.records s.records
   pub few_records : length s.records ≤ 2 * p.steps
+  pub wanted : p.devices.wanted ≡ p.records.keeping.wanted
 
 -- a fact of each run that the part may stand in, on this network: of the part of the network and
 -- the state of its run
@@ -96,6 +97,7 @@ pub record IsTaken {L : Type 0} (pending : L → FinMap key_cmp (Event (List ℕ
   pub placed : (q : Key) (y : Event (List ℕ)) → get s.pending q ≡ Some y → IsPlaceIn t q.place
   pub records : RecordsRepresent t p.records (s.records ++ in_record time came)
   pub few_records : length s.records ≤ 2 * p.steps
+  pub wanted : p.devices.wanted ≡ p.records.keeping.wanted
 
 -- there is memory for all that an event may do
 pub record HasMemory {L : Type 0} (room_of : L → ℕ) (p : PartValue L) : Type 0 where
@@ -145,12 +147,12 @@ Performed pending room t time number e old new (Ok u) =
     ((part : Option ℕ) (s : State (List ℕ) NodeStateValue)
     → IsReady pending room t part time number e old s
     → Represents pending t part new (step (net_of t) (here_of t part) s))
-    × (new.steps ≡ old.steps + 1) × (new.records.handed ≡ old.records.handed)
+    × (new.steps ≡ old.steps + 1) × (new.records.keeping ≡ old.records.keeping)
 Performed pending room t time number e old new (Err x) =
     ((part : Option ℕ) (s : State (List ℕ) NodeStateValue)
     → IsReady pending room t part time number e old s
     → Represents pending t part new s) × (new.steps ≡ old.steps)
-    × (new.records.handed ≡ old.records.handed)
+    × (new.records.keeping ≡ old.records.keeping)
 
 -- what a step answers, and what the part represents after it: that memory was refused only where
 -- an event was due

@@ -21,12 +21,15 @@ pub record IsTracing {L : Type 0} (pending : L → FinMap key_cmp (Event (List �
 -- what is shown of this trace, of which the first records were let go: those that come next; at the
 -- end and where memory was refused nothing, and at the end all were let go
 abbrev pub ShowsAt : List (Record (List ℕ)) → Result Bool AllocError → RecordsValue → Type 0
-ShowsAt trace (Ok true) now = now.kept ≡ take (length now.kept) (drop now.handed trace)
-ShowsAt trace (Ok false) now = (now.kept ≡ []) × (now.handed ≡ length trace)
+ShowsAt trace (Ok true) now =
+    now.kept ≡ take (length now.kept) (drop now.keeping.handed trace)
+ShowsAt trace (Ok false) now = (now.kept ≡ []) × (now.keeping.handed ≡ length trace)
 ShowsAt trace (Err e) now = now.kept ≡ []
 
 -- a run goes on: what it showed of this trace is let go, and it shows what comes next
 abbrev pub ShowsNext : List (Record (List ℕ)) → RecordsValue → Result Bool AllocError → RecordsValue
     → Type 0
-ShowsNext trace before outcome after = (after.handed ≡ before.handed + length before.kept)
-    × ShowsAt trace outcome after
+ShowsNext trace before outcome after =
+    (after.keeping ≡ record before.keeping {
+      handed = before.keeping.handed + length before.kept;
+    }) × ShowsAt trace outcome after

@@ -1,7 +1,7 @@
 //! The nodes, ports and sources of a part of a simulation.
 
-ghost use Rattle.std.specs.Prelude.{◌≡◌, ℕ, slice_get, slice_index, ◌+◌, ◌≤◌, ◌<◌, ◌^◌, List};
-ghost use Rattle.std.specs.Prelude.{Option, Some, None, OnOk, OnErr, IfOk, IfSome, Ok, Err, length};
+ghost use Rattle.std.specs.Prelude.{◌≡◌, ℕ, slice_get, slice_index, ◌+◌, ◌≤◌, ◌<◌, ◌^◌, List, length};
+ghost use Rattle.std.specs.Prelude.{Option, Some, None, OnOk, OnErr, IfOk, IfErr, IfSome, Ok, Err, false};
 ghost use Rattle.nm_base.specs.declared.limits.TheConstants.{MAX_TIME};
 ghost use Rattle.nm_base.specs.declared.event.Origin.TheVariants.{Arrival, Source as FromSource};
 ghost use Rattle.nm_base.specs.declared.event.Event.TheVariants.{Completion};
@@ -9,7 +9,8 @@ ghost use Rattle.nm_model.specs.Network.{node_of};
 ghost use Rattle.nm_model.specs.Port.{Port as PortState, idle_port, waiting_of};
 ghost use Rattle.nm_forward.specs.State.{NodeStateValue, first_state};
 ghost use Rattle.nm_forward.specs.Reaction.{FitsOrigin};
-ghost use Rattle.nm_forward.specs.Reacting.{IsSent, iface_of};
+ghost use Rattle.nm_base.specs.Wanted.{is_wanted};
+ghost use Rattle.nm_forward.specs.Reacting.{IsSent, PassesNone, PassesUnwanted, iface_of};
 ghost use Rattle.nm_iface.specs.PortValue.{IsRefusedAt};
 ghost use Rattle.nm_sim.specs.Network.{first_here, is_iface_here as iface_here};
 ghost use Rattle.nm_sim.specs.Network.{is_node_here as node_here, is_source_here as source_here};
@@ -21,15 +22,14 @@ ghost use Rattle.nm_traffic.specs.Source.{source_at, source_of};
 ghost use Rattle.nm_forward.specs.Counter.{counter_number};
 ghost use Rattle.std.specs.Option.{option_and_then, option_map};
 ghost use Rattle.nm_sim.specs.Part.{completes_at};
-ghost use Rattle.nm_sim.specs.Effects.{Does, IsBusy, ReactsWith, Sends};
+ghost use Rattle.nm_sim.specs.Effects.{Does, IsBusy, IsCopied, ReactsWith, Sends};
 ghost use Rattle.nm_sim.specs.Effects.{transmission_at as transmission_at_iface};
 
 use crate::fired::Fired;
 use crate::here::{is_iface_here, is_node_here, is_source_here, node_of_source};
-use nm_base::{IfaceNo, NodeNo, Origin, Packet, PartNo, SourceNo, Time, Twin};
+use nm_base::{IfaceNo, NodeNo, Origin, Packet, PartNo, SourceNo, Time, Twin, Wanted};
 use nm_forward::laws::a_node_sends_by_its_own_interfaces;
-use nm_forward::{Counter, NodeState, Reaction, react};
-use nm_iface::port::Offered;
+use nm_forward::{Counter, NodeState, Reaction, react, react_in_place};
 use nm_iface::{Port, Start};
 use nm_topology::Topology;
 use nm_topology::topology::accepted_topologies_are_in_order;
@@ -45,10 +45,12 @@ pub struct Devices {
     sources: Vec<Option<Source>>,
     /// The port that may have no memory for one more packet.
     used: Option<IfaceNo>,
+    /// Of which interfaces records are wanted.
+    wanted: Wanted,
 }
 
 impl Model for Devices {
-    ghost use Rattle.nm_sim.specs.Devices.{DevicesValue, HaveRoom};
+    ghost use Rattle.nm_sim.specs.Devices.{AreSound, DevicesValue};
 
     ghost Value = { DevicesValue };
 
@@ -57,15 +59,10 @@ impl Model for Devices {
       ports = d.ports.items;
       sources = d.sources.items;
       used = d.used;
+      wanted = d.wanted;
     } };
 
-    ghost invariant = { λ d. HaveRoom
-        (record {
-          nodes = d.nodes.items;
-          ports = d.ports.items;
-          sources = d.sources.items;
-          used = d.used;
-        }) };
+    ghost invariant = { λ d. AreSound d.wanted d.used d.ports.items };
 }
 
 /// A node at the start of a run, if it is here.
@@ -112,12 +109,15 @@ fn first_port(
     alloc: Global,
     topology: &Topology,
     part: &Option<PartNo>,
+    wanted: &Wanted,
     iface: IfaceNo,
 ) -> Result<Option<Port>, AllocError>
     requires { iface < length topology.now.ifaces }
     ensures port { IfOk result (IsThere (iface_here topology.now part.now iface)
         (λ w. IsPortOf topology.now iface w idle_port)) }
     ensures room { IfOk result (λ o. IfSome o (λ w. 1 ≤ w.room)) }
+    ensures recorded { IfOk result
+        (λ o. IfSome o (λ w. w.recorded ≡ is_wanted wanted.now iface)) }
 {
     accepted_topologies_are_in_order(topology); // law: rates and delays are within their limits
     if !is_iface_here(topology, part, iface) {
@@ -125,13 +125,9 @@ fn first_port(
     }
     let described = topology.iface(iface);
     let far = described.far();
-    let mut port = Port::new(
-        alloc,
-        described.queue(),
-        described.queue_octets(),
-        far.rate,
-        far.delay,
-    );
+    let (queue, queue_octets) = (described.queue(), described.queue_octets());
+    let port = Port::new(alloc, queue, queue_octets, far.rate, far.delay);
+    let mut port = port.recorded_if(wanted.has(iface));
     port.reserve_one()?;
     Ok(Some(port))
 }
@@ -141,17 +137,20 @@ fn first_ports(
     alloc: Global,
     topology: &Topology,
     part: &Option<PartNo>,
+    wanted: &Wanted,
 ) -> Result<Vec<Option<Port>>, AllocError>
     ensures count { IfOk result (λ v. length v.items ≡ length topology.now.ifaces) }
     ensures value { IfOk result (λ v. AllHere (iface_here topology.now part.now)
         (λ i w. IsPortOf topology.now i w idle_port) v.items) }
     ensures room { IfOk result (λ v. AllSome (λ i w. 1 ≤ w.room) v.items) }
+    ensures recorded { IfOk result
+        (λ v. AllSome (λ i w. w.recorded ≡ is_wanted wanted.now i) v.items) }
 {
     accepted_topologies_are_in_order(topology); // law: interfaces have numbers of 32 bits
     let count = topology.ifaces().len();
     let mut ports = Vec::with_capacity(alloc, count)?;
     for number in 0..count {
-        let port = first_port(alloc, topology, part, IfaceNo::new(number as u32))?;
+        let port = first_port(alloc, topology, part, wanted, IfaceNo::new(number as u32))?;
         ports.push(port)?;
     }
     Ok(ports)
@@ -223,15 +222,18 @@ impl Devices {
         alloc: Global,
         topology: &Topology,
         part: &Option<PartNo>,
+        wanted: &Wanted,
     ) -> Result<Self, AllocError>
-        ensures { IfOk result (λ d. DevicesRepresent topology.now part.now d
+        ensures represent { IfOk result (λ d. DevicesRepresent topology.now part.now d
             (first_state topology.now) (λ i. idle_port)) }
+        ensures wanted { IfOk result (λ d. d.wanted ≡ wanted.now) }
     {
         Ok(Devices {
             nodes: first_nodes(alloc, topology, part)?,
-            ports: first_ports(alloc, topology, part)?,
+            ports: first_ports(alloc, topology, part, wanted)?,
             sources: first_sources(alloc, topology, part)?,
             used: None,
+            wanted: wanted.again(),
         })
     }
 
@@ -333,15 +335,19 @@ impl Devices {
         requires time { time ≤ MAX_TIME }
         requires own { IfSome (iface_of reaction) (λ i. IsMember (slice_get self.old.ports i)) }
         requires room { AllSome (λ i w. 1 ≤ w.room) self.old.ports }
+        requires passes { PassesUnwanted self.old.wanted reaction }
         ensures sends { (part : Option ℕ) (node : ℕ → NodeStateValue)
             (port : ℕ → PortState (List ℕ)) (sent : Option (ℕ × List ℕ))
             → DevicesRepresent topology.now part self.old node port
             → IsSent self.old.ports reaction sent
             → Sends topology.now part node port time sent self.new result }
+        ensures copied { IfSome result (IsCopied self.old.wanted) }
+        ensures wanted { self.new.wanted ≡ self.old.wanted }
     {
         match reaction {
             Reaction::Nothing => None,
             Reaction::Send(iface, twin) => self.offer_packet(topology, time, iface, twin),
+            Reaction::Pass(iface, packet) => self.offer_alone(topology, time, iface, packet),
             Reaction::Refused(iface) => {
                 self.drop_at(topology, iface);
                 None
@@ -365,26 +371,55 @@ impl Devices {
             (port : ℕ → PortState (List ℕ))
             → DevicesRepresent topology.now part self.old node port
             → Sends topology.now part node port time (Some (iface, twin.packet)) self.new result }
+        ensures copied { IfSome result (IsCopied self.old.wanted) }
+        ensures wanted { self.new.wanted ≡ self.old.wanted }
     {
         self.used = Some(iface);
         let Some(port) = &mut self.ports[iface.index()] else {
             return None;
         };
-        match port.offer(time, twin) {
-            Offered::Started(start) => Some((iface, start)),
-            Offered::Queued | Offered::Dropped(_) => None,
-        }
+        let start = port.offer(time, twin).started();
+        transmission_at(iface, start)
+    }
+
+    /// The same of a packet of which no record is wanted.
+    #[inline(always)]
+    fn offer_alone(
+        &mut self,
+        topology: &Topology,
+        time: Time,
+        iface: IfaceNo,
+        packet: Packet,
+    ) -> Option<(IfaceNo, Start)>
+        requires time { time ≤ MAX_TIME }
+        requires own { IsMember (slice_get self.old.ports iface) }
+        requires room { AllSome (λ i w. 1 ≤ w.room) self.old.ports }
+        requires unwanted { is_wanted self.old.wanted iface ≡ false }
+        ensures sends { (part : Option ℕ) (node : ℕ → NodeStateValue)
+            (port : ℕ → PortState (List ℕ))
+            → DevicesRepresent topology.now part self.old node port
+            → Sends topology.now part node port time (Some (iface, packet)) self.new result }
+        ensures copied { IfSome result (IsCopied self.old.wanted) }
+        ensures wanted { self.new.wanted ≡ self.old.wanted }
+    {
+        self.used = Some(iface);
+        let Some(port) = &mut self.ports[iface.index()] else {
+            return None;
+        };
+        let start = port.offer_alone(time, packet);
+        transmission_at(iface, start)
     }
 
     /// A packet that the port of this interface drops where it is offered now is dropped.
     #[inline(always)]
     fn drop_at(&mut self, topology: &Topology, iface: IfaceNo)
         requires { IsMember (slice_get self.old.ports iface) }
-        ensures { (part : Option ℕ) (node : ℕ → NodeStateValue) (port : ℕ → PortState (List ℕ))
+        ensures drops { (part : Option ℕ) (node : ℕ → NodeStateValue) (port : ℕ → PortState (List ℕ))
             (time : ℕ) (packet : List ℕ)
             → DevicesRepresent topology.now part self.old node port
             → IsRefusedAt self.old.ports iface packet
             → Sends topology.now part node port time (Some (iface, packet)) self.new None }
+        ensures wanted { self.new.wanted ≡ self.old.wanted }
     {
         let Some(port) = &mut self.ports[iface.index()] else {
             return;
@@ -412,6 +447,8 @@ impl Devices {
         ensures ports { self.new.ports ≡ self.old.ports }
 
         // It reacts as its rules say, and sends by an interface that is here.
+        ensures twins { IfOk result PassesNone }
+        ensures wanted { self.new.wanted ≡ self.old.wanted }
         ensures own { IfOk result
             (λ r. IfSome (iface_of r) (λ i. IsMember (slice_get self.new.ports i))) }
         ensures reacts { (part : Option ℕ) (states : ℕ → NodeStateValue)
@@ -447,6 +484,8 @@ impl Devices {
         ensures ports { self.new.ports ≡ self.old.ports }
 
         // Its node reacts as its rules say, and sends by an interface that is here.
+        ensures twins { IfOk result PassesNone }
+        ensures wanted { self.new.wanted ≡ self.old.wanted }
         ensures own { IfOk result
             (λ r. IfSome (iface_of r) (λ i. IsMember (slice_get self.new.ports i))) }
         ensures reacts { (part : Option ℕ) (states : ℕ → NodeStateValue)
@@ -460,6 +499,81 @@ impl Devices {
         let node = topology.iface(iface).node();
         let origin = Origin::Arrival(iface);
         self.react(alloc, topology, node, origin, packet)
+    }
+
+    /// What a node does with a packet that arrives, of which no record is wanted. An `Err` changes
+    /// nothing, and gives the packet back.
+    #[inline(always)]
+    fn react_alone(
+        &mut self,
+        alloc: Global,
+        topology: &Topology,
+        node: NodeNo,
+        iface: IfaceNo,
+        packet: Packet,
+    ) -> Result<Reaction, Packet>
+        // The node is here.
+        requires node { IsMember (slice_get self.old.nodes node) }
+        requires represented { DevicesRepresentSome topology.now self.old }
+
+        // Ports stay as they are, and where memory is refused all does.
+        ensures err { OnErr result (self.new ≡ self.old) }
+        ensures back { IfErr result (λ same. same ≡ packet) }
+        ensures ports { self.new.ports ≡ self.old.ports }
+
+        // It reacts as its rules say, and sends by an interface that is here.
+        ensures passes { IfOk result (PassesUnwanted self.old.wanted) }
+        ensures wanted { self.new.wanted ≡ self.old.wanted }
+        ensures own { IfOk result
+            (λ r. IfSome (iface_of r) (λ i. IsMember (slice_get self.new.ports i))) }
+        ensures reacts { (part : Option ℕ) (states : ℕ → NodeStateValue)
+            (ports : ℕ → PortState (List ℕ))
+            → DevicesRepresent topology.now part self.old states ports
+            → IfOk result
+            (ReactsWith topology.now part states ports node (Arrival iface) packet self.new) }
+    {
+        a_node_sends_by_its_own_interfaces(topology); // law: what is sent leaves by an interface
+        let Some(state) = &mut self.nodes[node.index()] else {
+            return Ok(Reaction::Nothing);
+        };
+        let ports = &self.ports[..];
+        react_in_place(alloc, topology, ports, state, &self.wanted, iface, packet)
+    }
+
+    /// What the node of an interface does with a packet that arrives there, of which no record is
+    /// wanted. An `Err` changes nothing, and gives the packet back.
+    #[inline(always)]
+    pub fn react_in_place(
+        &mut self,
+        alloc: Global,
+        topology: &Topology,
+        iface: IfaceNo,
+        packet: Packet,
+    ) -> Result<Reaction, Packet>
+        // The interface is here.
+        requires place { IsMember (slice_get self.old.ports iface) }
+        requires represented { DevicesRepresentSome topology.now self.old }
+
+        // Ports stay as they are, and where memory is refused all does.
+        ensures err { OnErr result (self.new ≡ self.old) }
+        ensures back { IfErr result (λ same. same ≡ packet) }
+        ensures ports { self.new.ports ≡ self.old.ports }
+
+        // Its node reacts as its rules say, and sends by an interface that is here.
+        ensures passes { IfOk result (PassesUnwanted self.old.wanted) }
+        ensures wanted { self.new.wanted ≡ self.old.wanted }
+        ensures own { IfOk result
+            (λ r. IfSome (iface_of r) (λ i. IsMember (slice_get self.new.ports i))) }
+        ensures reacts { (part : Option ℕ) (states : ℕ → NodeStateValue)
+            (ports : ℕ → PortState (List ℕ))
+            → DevicesRepresent topology.now part self.old states ports
+            → IfOk result
+            (ReactsWith topology.now part states ports ((net_of topology.now).owner iface)
+            (Arrival iface) packet self.new) }
+    {
+        accepted_topologies_are_in_order(topology); // law: an interface's node is there
+        let node = topology.iface(iface).node();
+        self.react_alone(alloc, topology, node, iface, packet)
     }
 
     /// A transmission is complete, and that of the packet that waits first starts, if one does:
@@ -478,6 +592,8 @@ impl Devices {
             → DevicesRepresent topology.now part self.old states ports
             → Does topology.now part states ports time number (Completion iface) self.new
             (record { came = None; transmission = result; follows = None }) }
+        ensures copied { IfSome result (IsCopied self.old.wanted) }
+        ensures wanted { self.new.wanted ≡ self.old.wanted }
     {
         let Some(port) = &mut self.ports[iface.index()] else {
             return None;
@@ -507,6 +623,8 @@ impl Devices {
         ensures ports { self.new.ports ≡ self.old.ports }
 
         // Its node reacts as its rules say, and sends by an interface that is here.
+        ensures twins { IfOk result (λ f. PassesNone f.reaction) }
+        ensures wanted { self.new.wanted ≡ self.old.wanted }
         ensures own { IfOk result
             (λ f. IfSome (iface_of f.reaction) (λ i. IsMember (slice_get self.new.ports i))) }
         ensures follows { IfOk result

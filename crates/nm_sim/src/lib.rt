@@ -12,6 +12,7 @@ mod records;
 mod timeline;
 pub mod trace;
 pub mod tracer;
+mod transmitted;
 
 pub use part::Part;
 pub use trace::one_list;

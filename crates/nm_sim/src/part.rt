@@ -1,7 +1,7 @@
 //! A part of a simulation.
 
 ghost use Rattle.std.specs.Prelude.{◌≡◌, ℕ, ◌+◌, ◌<◌, ◌≤◌, ◌^◌, true, List, [], Option, Some, None};
-ghost use Rattle.std.specs.Prelude.{Ok, IfOk, IfSome, OnOk, OnErr, length, replicate};
+ghost use Rattle.std.specs.Prelude.{Ok, IfOk, IfSome, OnOk, OnErr, length, replicate, false};
 ghost use Rattle.nm_base.specs.declared.event.Event.{Event as PendingEvent};
 ghost use Rattle.nm_base.specs.declared.event.Event.TheVariants.{Completion, Delivery};
 ghost use Rattle.nm_base.specs.declared.event.Origin.TheVariants.{Arrival, Source as FromSource};
@@ -16,7 +16,11 @@ ghost use Rattle.nm_model.specs.Port.{Port as PortState};
 ghost use Rattle.nm_model.specs.Run.{State, start, step, source_events};
 ghost use Rattle.nm_forward.specs.State.{NodeStateValue};
 ghost use Rattle.nm_forward.specs.Reaction.{FitsOrigin};
-ghost use Rattle.nm_forward.specs.Reacting.{IsSent, iface_of};
+ghost use Rattle.nm_forward.specs.Reacting.{IsSent, PassesUnwanted, iface_of};
+ghost use Rattle.nm_base.specs.Wanted.{is_wanted};
+ghost use Rattle.nm_base.specs.declared.wanted.Wanted.TheVariants.{All as AllWanted};
+ghost use Rattle.nm_sim.specs.Effects.{IsCopied};
+ghost use Rattle.nm_sim.specs.Records.{cut};
 ghost use Rattle.nm_sim.specs.Network.{here_of, net_of};
 ghost use Rattle.nm_sim.specs.Outgoing.{HaveSpare};
 ghost use Rattle.nm_sim.specs.Part.{Advanced, HasMemory, HasReacted, IsReady, IsUnderWay};
@@ -38,7 +42,7 @@ use crate::records::Records;
 use crate::timeline::Timeline;
 use nm_base::limits::MAX_PART_STEPS;
 use nm_base::{
-    ChanNo, Event, IfaceNo, Key, NodeNo, Origin, Packet, PartNo, Record, SourceNo, Time,
+    ChanNo, Event, IfaceNo, Key, NodeNo, Origin, Packet, PartNo, Record, SourceNo, Time, Wanted,
 };
 use nm_events::EventList;
 use nm_forward::{Counter, NodeState, Reaction};
@@ -111,7 +115,7 @@ fn first_timeline<L: EventList + Drop>(
 }
 
 impl<L: EventList> Part<L> {
-    /// The part at the start of a run: the whole network, or one partition.
+    /// The part at the start of a run: the whole network, or one partition. It keeps all records.
     ///
     /// # Errors
     ///
@@ -126,14 +130,38 @@ impl<L: EventList> Part<L> {
         ensures represents { IfOk result (λ p. Represents L.pending topology.now part p
             (start (net_of topology.now) (here_of topology.now part) [])) }
         ensures steps { IfOk result (λ p. p.steps ≡ 0) }
-        ensures handed { IfOk result (λ p. p.records.handed ≡ 0) }
+        ensures keeping { IfOk result (λ p. p.records.keeping
+            ≡ record { wanted = AllWanted; handed = 0 }) }
+    {
+        Part::start_with(alloc, topology, part, Wanted::All)
+    }
+
+    /// The part at the start of a run, which keeps the records that are wanted. Where none is, a
+    /// packet that a node sends on is changed where it lies, if nobody else has its octets.
+    ///
+    /// # Errors
+    ///
+    /// `AllocError` where memory was refused.
+    pub fn start_with(
+        alloc: Global,
+        topology: &Topology,
+        part: Option<PartNo>,
+        wanted: Wanted,
+    ) -> Result<Self, AllocError>
+    where
+        L: Drop,
+        ensures represents { IfOk result (λ p. Represents L.pending topology.now part p
+            (start (net_of topology.now) (here_of topology.now part) [])) }
+        ensures steps { IfOk result (λ p. p.steps ≡ 0) }
+        ensures keeping { IfOk result (λ p. p.records.keeping
+            ≡ record { wanted = wanted; handed = 0 }) }
     {
         every_topology_is_a_network(topology); // law: `net_of` is a network of the model
         every_state_is_orderly::<Packet, NodeState>(); // law: the first state is orderly
-        let devices = Devices::new(alloc, topology, &part)?;
+        let devices = Devices::new(alloc, topology, &part, &wanted)?;
         let timeline = first_timeline(alloc, topology, &part, &devices)?;
         let outgoing = Outgoing::new(alloc, topology, &part)?;
-        let records = Records::new(alloc, topology.ifaces().len())?;
+        let records = Records::new(alloc, topology.ifaces().len(), wanted)?;
         Ok(Part {
             part,
             devices,
@@ -161,7 +189,7 @@ impl<L: EventList> Part<L> {
 
         // No event was done, and no record handed out.
         ensures steps { self.new.steps ≡ self.old.steps }
-        ensures handed { self.new.records.handed ≡ self.old.records.handed }
+        ensures keeping { self.new.records.keeping ≡ self.old.records.keeping }
     {
         self.timeline.reserve(count)
     }
@@ -197,7 +225,7 @@ impl<L: EventList> Part<L> {
         // It takes one place; no event was done, and no record handed out.
         ensures room { L.room self.old.timeline.events ≤ L.room self.new.timeline.events + 1 }
         ensures steps { self.new.steps ≡ self.old.steps }
-        ensures handed { self.new.records.handed ≡ self.old.records.handed }
+        ensures keeping { self.new.records.keeping ≡ self.old.records.keeping }
     {
         a_message_keeps_order::<Packet, NodeState>(); // law: a state that is told more is orderly
         channels_are_those_of_the_network(topology); // law: what comes in is a channel
@@ -225,7 +253,7 @@ impl<L: EventList> Part<L> {
         ensures step { OfTheRunIn L.pending topology.now self.old
             (λ part s. Stepped L.pending topology.now part before s self.old self.new result) }
         ensures steps { self.new.steps ≡ self.old.steps + events_done result }
-        ensures handed { self.new.records.handed ≡ self.old.records.handed }
+        ensures keeping { self.new.records.keeping ≡ self.old.records.keeping }
     {
         let Some(key) = self.timeline.least() else {
             return Ok(None);
@@ -249,7 +277,7 @@ impl<L: EventList> Part<L> {
         ensures advance { OfTheRunIn L.pending topology.now self.old
             (λ part s. Advanced L.pending topology.now part before s self.old self.new result) }
         ensures steps { self.new.steps ≡ self.old.steps + events_counted result }
-        ensures handed { self.new.records.handed ≡ self.old.records.handed }
+        ensures keeping { self.new.records.keeping ≡ self.old.records.keeping }
     {
         if !self.timeline.is_due(before) {
             return Ok(false);
@@ -268,7 +296,7 @@ impl<L: EventList> Part<L> {
         ensures same { OfTheRun L.pending self.old
             (λ t part s. Represents L.pending t part self.new s) }
         ensures steps { self.new.steps ≡ self.old.steps }
-        ensures handed { self.new.records.handed ≡ self.old.records.handed }
+        ensures keeping { self.new.records.keeping ≡ self.old.records.keeping }
         ensures memory { OnOk result (HasMemory L.room self.new) }
     {
         self.devices.reserve()?;
@@ -339,11 +367,13 @@ impl<L: EventList> Part<L> {
         self.devices.busy(sender)
     }
 
-    /// The trace so far, in the order of events, without the records that were handed out.
+    /// The trace so far, in the order of events, of the interfaces whose records are wanted, without
+    /// the records that were handed out.
     pub fn trace(&self) -> &[Record]
         ensures kept { result.now ≡ self.now.records.kept }
         ensures trace { OfTheRun L.pending self.now
-            (λ t part s. result.now ≡ drop self.now.records.handed s.records) }
+            (λ t part s. result.now ≡ drop self.now.records.keeping.handed
+            (cut self.now.records.keeping.wanted s.records)) }
     {
         self.records.kept()
     }
@@ -353,7 +383,8 @@ impl<L: EventList> Part<L> {
     where
         L: Drop,
         ensures { OfTheRun L.pending self
-            (λ t part s. result.items ≡ drop self.records.handed s.records) }
+            (λ t part s. result.items ≡ drop self.records.keeping.handed
+            (cut self.records.keeping.wanted s.records)) }
     {
         self.records.into_kept()
     }
@@ -365,9 +396,11 @@ impl<L: EventList> Part<L> {
         requires { IsOfARun L.pending self.old }
         ensures represents { OfTheRun L.pending self.old
             (λ t part s. Represents L.pending t part self.new s
-            × (result ≡ slice_get s.records self.old.records.handed)) }
-        ensures handed { self.new.records.handed
-            ≡ self.old.records.handed + (if is_some result then 1 else 0) }
+            × (result ≡ slice_get (cut self.old.records.keeping.wanted s.records)
+            self.old.records.keeping.handed)) }
+        ensures keeping { self.new.records.keeping ≡ record self.old.records.keeping {
+          handed = self.old.records.keeping.handed + (if is_some result then 1 else 0);
+        } }
         ensures timeline { self.new.timeline ≡ self.old.timeline }
         ensures steps { self.new.steps ≡ self.old.steps }
     {
@@ -381,9 +414,11 @@ impl<L: EventList> Part<L> {
         requires represents { IsOfARun L.pending self.old }
         ensures represents { OfTheRun L.pending self.old
             (λ t part s. Represents L.pending t part self.new s
-            × (result.items ≡ drop self.old.records.handed s.records)) }
-        ensures handed { self.new.records.handed
-            ≡ self.old.records.handed + length result.items }
+            × (result.items ≡ drop self.old.records.keeping.handed
+            (cut self.old.records.keeping.wanted s.records))) }
+        ensures keeping { self.new.records.keeping ≡ record self.old.records.keeping {
+          handed = self.old.records.keeping.handed + length result.items;
+        } }
         ensures timeline { self.new.timeline ≡ self.old.timeline }
         ensures steps { self.new.steps ≡ self.old.steps }
     {
@@ -396,7 +431,9 @@ impl<L: EventList> Part<L> {
         requires { IsOfARun L.pending self.old }
         ensures represents { OfTheRun L.pending self.old
             (λ t part s. Represents L.pending t part self.new s
-            × (self.new.records.handed ≡ length s.records)) }
+            × (self.new.records.keeping ≡ record self.old.records.keeping {
+              handed = length (cut self.old.records.keeping.wanted s.records);
+            })) }
         ensures timeline { self.new.timeline ≡ self.old.timeline }
         ensures steps { self.new.steps ≡ self.old.steps }
     {
@@ -405,15 +442,17 @@ impl<L: EventList> Part<L> {
 
     /// How many records were handed out.
     pub fn handed(&self) -> u64
-        ensures { result ≡ self.now.records.handed }
+        ensures { result ≡ self.now.records.keeping.handed }
     {
         self.records.handed()
     }
 
-    /// How many records the trace has, with those that were handed out.
+    /// How many records the trace has of the interfaces whose records are wanted, with those that were
+    /// handed out.
     pub fn records(&self) -> u64
         requires { IsOfARun L.pending self.now }
-        ensures { OfTheRun L.pending self.now (λ t part s. result ≡ length s.records) }
+        ensures { OfTheRun L.pending self.now
+            (λ t part s. result ≡ length (cut self.now.records.keeping.wanted s.records)) }
     {
         self.records.count()
     }
@@ -450,7 +489,7 @@ impl<L: EventList> Part<L> {
         ensures none { OnErr result (self.new.steps ≡ self.old.steps) }
 
         // No record was handed out.
-        ensures handed { self.new.records.handed ≡ self.old.records.handed }
+        ensures keeping { self.new.records.keeping ≡ self.old.records.keeping }
     {
         accepted_topologies_are_in_order(topology); // law: `stop` is within its limit
         let Some(due) = self.timeline.take_least() else {
@@ -501,6 +540,64 @@ impl<L: EventList> Part<L> {
         packet: Packet,
     ) -> Result<(), AllocError>
         requires { (part : Option ℕ) × (s : State (List ℕ) NodeStateValue)
+            × IsReady L.pending L.room topology.now part time number
+            (Delivery (Arrival iface) packet) self.old s }
+        ensures { Performed L.pending L.room topology.now time number
+            (Delivery (Arrival iface) packet) self.old self.new result }
+    {
+        if self.records.wants(iface) {
+            self.arrive_recorded(alloc, topology, time, iface, number, packet)
+        } else {
+            self.arrive_alone(alloc, topology, time, iface, number, packet)
+        }
+    }
+
+    /// A packet arrives of which no record is kept. An `Err` puts the event back.
+    #[inline(always)]
+    fn arrive_alone(
+        &mut self,
+        alloc: Global,
+        topology: &Topology,
+        time: Time,
+        iface: IfaceNo,
+        number: u64,
+        packet: Packet,
+    ) -> Result<(), AllocError>
+        requires unwanted { is_wanted self.old.records.keeping.wanted iface ≡ false }
+        requires ready { (part : Option ℕ) × (s : State (List ℕ) NodeStateValue)
+            × IsReady L.pending L.room topology.now part time number
+            (Delivery (Arrival iface) packet) self.old s }
+        ensures { Performed L.pending L.room topology.now time number
+            (Delivery (Arrival iface) packet) self.old self.new result }
+    {
+        let octets = packet.octet_count() as u16;
+        match self.devices.react_in_place(alloc, topology, iface, packet) {
+            Ok(reaction) => {
+                self.records.count_arrival(iface, octets);
+                self.send(topology, time, reaction);
+                Ok(())
+            }
+            Err(packet) => {
+                let event = Event::Delivery(Origin::Arrival(iface), packet);
+                self.timeline.put(time, number, event);
+                Err(AllocError)
+            }
+        }
+    }
+
+    /// A packet arrives of which a record is kept. An `Err` puts the event back.
+    #[inline(always)]
+    fn arrive_recorded(
+        &mut self,
+        alloc: Global,
+        topology: &Topology,
+        time: Time,
+        iface: IfaceNo,
+        number: u64,
+        packet: Packet,
+    ) -> Result<(), AllocError>
+        requires wanted { is_wanted self.old.records.keeping.wanted iface ≡ true }
+        requires ready { (part : Option ℕ) × (s : State (List ℕ) NodeStateValue)
             × IsReady L.pending L.room topology.now part time number
             (Delivery (Arrival iface) packet) self.old s }
         ensures { Performed L.pending L.room topology.now time number
@@ -574,6 +671,7 @@ impl<L: EventList> Part<L> {
         requires time { time ≤ MAX_TIME }
         requires own { IfSome (iface_of reaction)
             (λ i. IsMember (slice_get self.old.devices.ports i)) }
+        requires passes { PassesUnwanted self.old.devices.wanted reaction }
         requires steps { self.old.steps < 2 ^ 62 }
 
         // There is memory for what may follow.
@@ -600,7 +698,7 @@ impl<L: EventList> Part<L> {
 
         // It is counted, and no record was handed out.
         ensures steps { self.new.steps ≡ self.old.steps + 1 }
-        ensures handed { self.new.records.handed ≡ self.old.records.handed }
+        ensures keeping { self.new.records.keeping ≡ self.old.records.keeping }
     {
         let start = self.devices.offer(topology, time, reaction);
         self.finish(topology, time, start);
@@ -614,6 +712,7 @@ impl<L: EventList> Part<L> {
         requires room { 2 ≤ L.room self.old.timeline.events }
         requires channels { HaveSpare self.old.outgoing }
         requires spare { 1 ≤ self.old.records.spare }
+        requires copied { IfSome start (IsCopied self.old.records.keeping.wanted) }
 
         // All but the transmission is done, and the step is.
         requires under_way { (part : Option ℕ) × (n : ℕ) × (e : PendingEvent (List ℕ))
@@ -631,7 +730,7 @@ impl<L: EventList> Part<L> {
 
         // It is counted, and no record was handed out.
         ensures steps { self.new.steps ≡ self.old.steps + 1 }
-        ensures handed { self.new.records.handed ≡ self.old.records.handed }
+        ensures keeping { self.new.records.keeping ≡ self.old.records.keeping }
     {
         every_topology_is_a_network(topology); // law: `net_of` is a network of the model
         accepted_topologies_are_in_order(topology); // law: a link and its two ends agree

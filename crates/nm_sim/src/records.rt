@@ -1,18 +1,20 @@
 //! The records of a trace.
 
 ghost use Rattle.std.specs.Prelude.{◌≡◌, ℕ, ◌≤◌, ◌<◌, ◌+◌, ◌^◌, ◌==◌, ◌++◌, ◌∷◌, List, [], Some};
-ghost use Rattle.std.specs.Prelude.{IfOk, drop, OnOk, length, replicate, slice_get, is_some};
-ghost use Rattle.std.specs.Prelude.{if◌then◌else◌};
+ghost use Rattle.std.specs.Prelude.{IfOk, IfSome, Option, drop, OnOk, length, replicate, slice_get};
+ghost use Rattle.std.specs.Prelude.{if◌then◌else◌, is_some, true, false};
 ghost use Rattle.std.specs.Option.{option_map};
 ghost use Rattle.nm_base.specs.declared.record.Record.{Record as TraceRecord};
 ghost use Rattle.nm_model.specs.Run.{in_record, out_record};
 ghost use Rattle.nm_pcap.specs.declared.format.TheConstants.{FILE_HEADER_OCTETS};
 ghost use Rattle.nm_topology.specs.TopologyValue.{TopologyValue};
-ghost use Rattle.nm_sim.specs.Records.{RecordsRepresent};
+ghost use Rattle.nm_base.specs.Wanted.{is_wanted};
+ghost use Rattle.nm_sim.specs.Records.{HasWantedCopy, RecordsRepresent, SaysTransmission};
 ghost use Rattle.nm_sim.specs.Totals.{total_after, totals_at};
 
+use crate::transmitted::Transmitted;
 use bytes::Bytes;
-use nm_base::{Dir, IfaceNo, Packet, Record, Time};
+use nm_base::{Dir, IfaceNo, Packet, Record, Time, Wanted};
 use nm_pcap::format::{FILE_HEADER_OCTETS, RECORD_HEADER_OCTETS};
 use std::alloc::{AllocError, Global};
 use std::marker::Model;
@@ -20,10 +22,11 @@ use std::marker::Model;
 /// Of so many records at most, those of one event, the others move up when the first is taken.
 const FEW_RECORDS: usize = 2;
 
-/// The records of a trace, in the order of events. Those that were handed out, from the first on,
-/// are not kept.
+/// The records of a trace that are wanted, in the order of events. Those that were handed out, from
+/// the first on, are not kept.
 #[derive(Drop)]
 pub struct Records {
+    wanted: Wanted,
     list: Vec<Record>,
     /// How many at the front of the list were handed out: blanks stand there.
     blanks: usize,
@@ -43,7 +46,7 @@ impl Model for Records {
 
     ghost view = { λ r. record {
       kept = drop r.blanks r.list.items;
-      handed = r.handed;
+      keeping = record { wanted = r.wanted; handed = r.handed };
       totals = r.totals.items;
       spare = vec_capacity r.list - vec_len r.list;
     } };
@@ -80,13 +83,14 @@ fn count_one(totals: &mut [(u64, u64)], iface: IfaceNo, octets: usize)
 }
 
 impl Records {
-    /// No records, of so many interfaces.
-    pub fn new(alloc: Global, ifaces: usize) -> Result<Self, AllocError>
+    /// No records, of so many interfaces, and of which those that are wanted will be kept.
+    pub fn new(alloc: Global, ifaces: usize, wanted: Wanted) -> Result<Self, AllocError>
         ensures kept { IfOk result (λ r. r.kept ≡ []) }
-        ensures handed { IfOk result (λ r. r.handed ≡ 0) }
+        ensures keeping { IfOk result (λ r. r.keeping ≡ record { wanted = wanted; handed = 0 }) }
         ensures totals { IfOk result (λ r. r.totals ≡ replicate ifaces (0, FILE_HEADER_OCTETS)) }
     {
         Ok(Records {
+            wanted,
             list: Vec::new(alloc),
             blanks: 0,
             handed: 0,
@@ -108,13 +112,21 @@ impl Records {
         self.list.reserve(2)
     }
 
+    /// Whether records of this interface are kept.
+    #[inline(always)]
+    pub fn wants(&self, iface: IfaceNo) -> bool
+        ensures { result ≡ is_wanted self.now.keeping.wanted iface }
+    {
+        self.wanted.has(iface)
+    }
+
     /// One more record.
     #[inline(always)]
     fn add(&mut self, record: Record)
         // There is room, and the record comes last.
         requires { 1 ≤ self.old.spare }
         ensures kept { self.new.kept ≡ self.old.kept ++ «record» ∷ [] }
-        ensures handed { self.new.handed ≡ self.old.handed }
+        ensures keeping { self.new.keeping ≡ self.old.keeping }
 
         // The totals of its interface rise, and no other.
         ensures count { length self.new.totals ≡ length self.old.totals }
@@ -130,14 +142,40 @@ impl Records {
         self.list.push(record).unwrap();
     }
 
-    /// A packet arrived.
+    /// One more record that is not kept, of a packet of so many octets: it is counted.
+    #[inline(always)]
+    fn pass_over(&mut self, iface: IfaceNo, octets: u16)
+        ensures same { self.new ≡ record self.old { totals = self.new.totals } }
+        ensures count { length self.new.totals ≡ length self.old.totals }
+        ensures totals { (i : ℕ) → slice_get self.new.totals i
+            ≡ option_map (λ a. if i == iface then total_after a octets else a)
+            (slice_get self.old.totals i) }
+    {
+        count_one(&mut self.totals, iface, usize::from(octets));
+    }
+
+    /// A packet of so many octets arrived, of which no record is kept.
+    #[inline(always)]
+    pub fn count_arrival(&mut self, iface: IfaceNo, octets: u16)
+        requires { is_wanted self.old.keeping.wanted iface ≡ false }
+        ensures represents { (t : TopologyValue) (trace : List (TraceRecord (List ℕ))) (time : ℕ)
+            (packet : List ℕ) → octets ≡ length packet → RecordsRepresent t self.old trace
+            → RecordsRepresent t self.new (trace ++ in_record time (Some (iface, packet))) }
+        ensures keeping { self.new.keeping ≡ self.old.keeping }
+        ensures spare { self.new.spare ≡ self.old.spare }
+    {
+        self.pass_over(iface, octets);
+    }
+
+    /// A packet arrived, of which a record is kept.
     #[inline(always)]
     pub fn record_arrival(&mut self, time: Time, iface: IfaceNo, packet: Packet)
-        requires { 1 ≤ self.old.spare }
+        requires wanted { is_wanted self.old.keeping.wanted iface ≡ true }
+        requires spare { 1 ≤ self.old.spare }
         ensures represents { (t : TopologyValue) (trace : List (TraceRecord (List ℕ)))
             → RecordsRepresent t self.old trace
             → RecordsRepresent t self.new (trace ++ in_record time (Some (iface, packet))) }
-        ensures handed { self.new.handed ≡ self.old.handed }
+        ensures keeping { self.new.keeping ≡ self.old.keeping }
         ensures spare { self.old.spare ≤ self.new.spare + 1 }
     {
         let dir = Dir::In;
@@ -149,17 +187,43 @@ impl Records {
         });
     }
 
-    /// A transmission started, if one did.
+    /// A transmission started, if one did: its record is kept, if it is wanted.
     #[inline(always)]
-    pub fn record_transmission(&mut self, time: Time, transmitted: Option<(IfaceNo, Packet)>)
-        requires { 1 ≤ self.old.spare }
+    pub fn record_transmission(&mut self, time: Time, transmitted: Option<Transmitted>)
+        requires spare { 1 ≤ self.old.spare }
+        requires copied { IfSome transmitted (HasWantedCopy self.old.keeping.wanted) }
         ensures represents { (t : TopologyValue) (trace : List (TraceRecord (List ℕ)))
+            (sent : Option (ℕ × List ℕ)) → SaysTransmission transmitted sent
             → RecordsRepresent t self.old trace
-            → RecordsRepresent t self.new (trace ++ out_record time transmitted) }
-        ensures handed { self.new.handed ≡ self.old.handed }
+            → RecordsRepresent t self.new (trace ++ out_record time sent) }
+        ensures keeping { self.new.keeping ≡ self.old.keeping }
     {
-        if let Some(sent) = transmitted {
-            let (iface, packet) = sent;
+        if let Some(started) = transmitted {
+            self.record_start(time, started);
+        }
+    }
+
+    /// A transmission started: its record is kept, if it is wanted.
+    #[inline(always)]
+    fn record_start(&mut self, time: Time, started: Transmitted)
+        requires spare { 1 ≤ self.old.spare }
+        requires copied { HasWantedCopy self.old.keeping.wanted started }
+        ensures represents { (t : TopologyValue) (trace : List (TraceRecord (List ℕ)))
+            (sent : ℕ × List ℕ) → SaysTransmission (Some started) (Some sent)
+            → RecordsRepresent t self.old trace
+            → RecordsRepresent t self.new (trace ++ out_record time (Some sent)) }
+        ensures keeping { self.new.keeping ≡ self.old.keeping }
+    {
+        let Transmitted {
+            iface,
+            octets,
+            copy,
+        } = started;
+        if !self.wants(iface) {
+            self.pass_over(iface, octets);
+            return;
+        }
+        if let Some(packet) = copy {
             let dir = Dir::Out;
             self.add(Record {
                 time,
@@ -173,11 +237,13 @@ impl Records {
     /// Takes the first record out that is kept, if there is one. It takes no memory.
     #[inline(always)]
     pub fn hand_out(&mut self) -> Option<Record>
-        requires { self.old.handed + length self.old.kept < 2 ^ 64 }
+        requires { self.old.keeping.handed + length self.old.kept < 2 ^ 64 }
         ensures first { result ≡ slice_get self.old.kept 0 }
         ensures represents { (t : TopologyValue) (trace : List (TraceRecord (List ℕ)))
             → RecordsRepresent t self.old trace → RecordsRepresent t self.new trace }
-        ensures handed { self.new.handed ≡ self.old.handed + (if is_some result then 1 else 0) }
+        ensures keeping { self.new.keeping ≡ record self.old.keeping {
+          handed = self.old.keeping.handed + (if is_some result then 1 else 0);
+        } }
         ensures spare { self.old.spare ≤ self.new.spare }
     {
         if self.blanks == self.list.len() {
@@ -191,12 +257,14 @@ impl Records {
     /// Takes all records out that are kept. Those to come are kept in the list that comes in, which
     /// is empty. It takes no memory, and gives that of the records to the caller.
     pub fn hand_out_all(&mut self, room: Vec<Record>) -> Vec<Record>
-        requires few { self.old.handed + length self.old.kept < 2 ^ 64 }
+        requires few { self.old.keeping.handed + length self.old.kept < 2 ^ 64 }
         requires empty { room.items ≡ [] }
         ensures all { result.items ≡ self.old.kept }
         ensures represents { (t : TopologyValue) (trace : List (TraceRecord (List ℕ)))
             → RecordsRepresent t self.old trace → RecordsRepresent t self.new trace }
-        ensures handed { self.new.handed ≡ self.old.handed + length self.old.kept }
+        ensures keeping { self.new.keeping ≡ record self.old.keeping {
+          handed = self.old.keeping.handed + length self.old.kept;
+        } }
     {
         let count = self.list.len() - self.blanks;
         let mut all = std::mem::replace(&mut self.list, room);
@@ -210,10 +278,12 @@ impl Records {
     /// Lets all records go that are kept: they count as handed out. It gives their memory back.
     #[inline(always)]
     pub fn let_go(&mut self)
-        requires { self.old.handed + length self.old.kept < 2 ^ 64 }
+        requires { self.old.keeping.handed + length self.old.kept < 2 ^ 64 }
         ensures represents { (t : TopologyValue) (trace : List (TraceRecord (List ℕ)))
             → RecordsRepresent t self.old trace → RecordsRepresent t self.new trace }
-        ensures handed { self.new.handed ≡ self.old.handed + length self.old.kept }
+        ensures keeping { self.new.keeping ≡ record self.old.keeping {
+          handed = self.old.keeping.handed + length self.old.kept;
+        } }
     {
         self.handed = self.count();
         self.list.clear();
@@ -237,12 +307,14 @@ impl Records {
     fn take_first(&mut self) -> Record
         // There is a record, and the count does not overflow.
         requires there { 1 ≤ length self.old.kept }
-        requires few { self.old.handed + length self.old.kept < 2 ^ 64 }
+        requires few { self.old.keeping.handed + length self.old.kept < 2 ^ 64 }
 
         // The first record is taken, and counted.
         ensures first { slice_get self.old.kept 0 ≡ Some result }
         ensures kept { self.new.kept ≡ drop 1 self.old.kept }
-        ensures handed { self.new.handed ≡ self.old.handed + 1 }
+        ensures keeping { self.new.keeping ≡ record self.old.keeping {
+          handed = self.old.keeping.handed + 1;
+        } }
 
         // Totals stay, and no place is lost.
         ensures totals { self.new.totals ≡ self.old.totals }
@@ -277,15 +349,15 @@ impl Records {
 
     /// How many records were handed out.
     pub fn handed(&self) -> u64
-        ensures { result ≡ self.now.handed }
+        ensures { result ≡ self.now.keeping.handed }
     {
         self.handed
     }
 
     /// How many records there were in all.
     pub fn count(&self) -> u64
-        requires { self.now.handed + length self.now.kept < 2 ^ 64 }
-        ensures { result ≡ self.now.handed + length self.now.kept }
+        requires { self.now.keeping.handed + length self.now.kept < 2 ^ 64 }
+        ensures { result ≡ self.now.keeping.handed + length self.now.kept }
     {
         self.handed + (self.list.len() - self.blanks) as u64
     }

@@ -14,7 +14,9 @@ ghost use Rattle.nm_model.specs.EventList.{is_before, least, schedule};
 ghost use Rattle.nm_model.specs.Lists.{set_at};
 ghost use Rattle.nm_model.specs.Run.{by_source, first_event, keyed, next_events, sent_after};
 ghost use Rattle.nm_model.specs.Run.{transmission_events};
-ghost use Rattle.nm_sim.specs.Effects.{TransmitsAt, transmission_of};
+ghost use Rattle.nm_base.specs.declared.wanted.Wanted.{Wanted};
+ghost use Rattle.nm_sim.specs.Effects.{IsCopied, TransmitsAt, transmission_of};
+ghost use Rattle.nm_sim.specs.Records.{HasWantedCopy, SaysTransmission};
 ghost use Rattle.nm_sim.specs.Network.{IsIfaceHere, here_of, net_of};
 ghost use Rattle.nm_sim.specs.Outgoing.{HaveSpare, OutgoingRepresents, channel_count};
 ghost use Rattle.nm_sim.specs.Timelines.{AreFresh, IsFew, TimelineRepresents, everywhere};
@@ -22,9 +24,10 @@ ghost use Rattle.nm_sim.specs.Timelines.{AreFresh, IsFew, TimelineRepresents, ev
 use crate::here::is_iface_here;
 use crate::network::{channels_are_those_of_the_network, every_topology_is_a_network};
 use crate::outgoing::Outgoing;
+use crate::transmitted::Transmitted;
 use nm_base::{Event, IfaceNo, Key, Origin, Packet, PartNo, SourceNo, Time};
 use nm_events::EventList;
-use nm_iface::Start;
+use nm_iface::{Load, Start};
 use nm_topology::Topology;
 use nm_topology::topology::{
     accepted_topologies_are_in_order, channels_are_numbered_by_their_receivers,
@@ -235,7 +238,7 @@ impl<L: EventList> Timeline<L> {
         outgoing: &mut Outgoing,
         time: Time,
         start: Option<(IfaceNo, Start)>,
-    ) -> Option<(IfaceNo, Packet)>
+    ) -> Option<Transmitted>
         // What starts can start here and now, and its events have new keys.
         requires transmits { IfSome start (TransmitsAt topology.now part.now time) }
         requires numbered { (sent : ℕ → List (ℕ × List ℕ))
@@ -265,7 +268,9 @@ impl<L: EventList> Timeline<L> {
             (sent_after (net_of topology.now) time sent (transmission_of start)) }
 
         // What the trace is to have.
-        ensures transmitted { result ≡ transmission_of start }
+        ensures transmitted { SaysTransmission result (transmission_of start) }
+        ensures copied { (wanted : Wanted) → IfSome start (IsCopied wanted)
+            → IfSome result (HasWantedCopy wanted) }
     {
         accepted_topologies_are_in_order(topology); // law: the peer is there
         let (iface, start) = start?;
@@ -276,11 +281,16 @@ impl<L: EventList> Timeline<L> {
             completes,
             arrives,
         } = start;
-        let packet = twin.packet;
+        let octets = twin.packet.octet_count() as u16;
+        let Load { packet, copy } = twin;
         self.schedule_arrival(
             topology, part, outgoing, iface, peer, arrives, number, packet,
         );
         self.events.put(completes, number, Event::Completion(iface));
-        Some((iface, twin.copy))
+        Some(Transmitted {
+            iface,
+            octets,
+            copy,
+        })
     }
 }

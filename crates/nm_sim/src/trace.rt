@@ -2,6 +2,7 @@
 
 ghost use Rattle.std.specs.Prelude.{◌≡◌, ℕ, ◌≤◌, None, List, min, IfOk, OnOk};
 ghost use Rattle.nm_base.specs.declared.record.Record.{Record as TraceRecord};
+ghost use Rattle.nm_base.specs.declared.wanted.Wanted.TheVariants.{All};
 ghost use Rattle.nm_events.specs.Held.{pending_of};
 ghost use Rattle.nm_model.specs.Before.{IsBefore};
 ghost use Rattle.nm_model.specs.Run.{one_list};
@@ -47,10 +48,10 @@ fn run(
     requires before { before ≤ topology.now.stop }
     requires represents { Represents pending_of topology.now None part.old
         (one_list (net_of topology.now) 0) }
-    requires whole { part.old.records.handed ≡ 0 }
+    requires whole { part.old.records.keeping ≡ record { wanted = All; handed = 0 } }
     ensures done { OnOk result ((n : ℕ) × IsBefore (net_of topology.now) before n
         × Represents pending_of topology.now None part.new (one_list (net_of topology.now) n)) }
-    ensures whole { OnOk result (part.new.records.handed ≡ 0) }
+    ensures whole { OnOk result (part.new.records.keeping ≡ record { wanted = All; handed = 0 }) }
 {
     for done in 0..MAX_PART_STEPS + 1 {
         if !part.advance(alloc, topology, before)? {

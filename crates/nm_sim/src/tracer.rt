@@ -3,12 +3,14 @@
 ghost use Rattle.std.specs.Prelude.{◌≡◌, List, [], ℕ, IfOk};
 ghost use Rattle.nm_base.specs.declared.record.Record.{Record as TraceRecord};
 ghost use Rattle.nm_events.specs.Held.{pending_of};
+ghost use Rattle.nm_base.specs.declared.wanted.Wanted.TheVariants.{All};
+ghost use Rattle.nm_sim.specs.Records.{cut};
 ghost use Rattle.nm_sim.specs.Trace.{IsTraceBefore};
 ghost use Rattle.nm_sim.specs.Tracing.{ShowsNext, IsTracing};
 
 use crate::network::every_topology_is_a_network;
 use crate::part::Part;
-use nm_base::{Packet, Record};
+use nm_base::{Packet, Record, Wanted};
 use nm_events::HeapList;
 use nm_forward::NodeState;
 use nm_model::run::times_pass;
@@ -17,7 +19,7 @@ use std::alloc::{AllocError, Global};
 use std::marker::Model;
 
 /// A run of a whole network by one event list (J. Misra, 1986, section 1), which shows the records
-/// of one event after another. It keeps the network, what is to come and the records of the last
+/// of one event after another, as far as they are wanted. It keeps the network, what is to come and the records of the last
 /// event, however long the run is.
 #[derive(Drop)]
 pub struct Tracer {
@@ -41,10 +43,29 @@ impl Tracer {
     /// `AllocError` where memory was refused.
     pub fn start(alloc: Global, topology: &Topology) -> Result<Self, AllocError>
         ensures tracing { IfOk result (λ r. IsTracing pending_of topology.now r) }
-        ensures none { IfOk result (λ r. r.records.handed ≡ 0) }
+        ensures keeping { IfOk result (λ r. r.records.keeping
+            ≡ record { wanted = All; handed = 0 }) }
         ensures nothing { IfOk result (λ r. r.records.kept ≡ []) }
     {
-        let part = Part::<HeapList>::start(alloc, topology, None)?;
+        Tracer::start_with(alloc, topology, Wanted::All)
+    }
+
+    /// The same, of which the records that are wanted are shown.
+    ///
+    /// # Errors
+    ///
+    /// `AllocError` where memory was refused.
+    pub fn start_with(
+        alloc: Global,
+        topology: &Topology,
+        wanted: Wanted,
+    ) -> Result<Self, AllocError>
+        ensures tracing { IfOk result (λ r. IsTracing pending_of topology.now r) }
+        ensures keeping { IfOk result (λ r. r.records.keeping
+            ≡ record { wanted = wanted; handed = 0 }) }
+        ensures nothing { IfOk result (λ r. r.records.kept ≡ []) }
+    {
+        let part = Part::<HeapList>::start_with(alloc, topology, None, wanted)?;
         Ok(Tracer { part })
     }
 
@@ -60,7 +81,8 @@ impl Tracer {
         ensures tracing { IsTracing pending_of topology.now self.new }
         ensures next { (records : List (TraceRecord (List ℕ)))
             → IsTraceBefore topology.now topology.now.stop records
-            → ShowsNext records self.old.records result self.new.records }
+            → ShowsNext (cut self.old.records.keeping.wanted records)
+            self.old.records result self.new.records }
     {
         every_topology_is_a_network(topology); // law: `net_of` is a network of the model
         times_pass::<Packet, NodeState>(); // law: a time is passed after one number of events
@@ -77,7 +99,7 @@ impl Tracer {
 
     /// How many records were let go.
     pub fn let_go(&self) -> u64
-        ensures { result ≡ self.now.records.handed }
+        ensures { result ≡ self.now.records.keeping.handed }
     {
         self.part.handed()
     }

@@ -1,5 +1,6 @@
 use Rattle.std.proofs.Common.{◌≡◌, ◌≤◌, ◌+◌, length, ◌∙◌, rules, arith, subst}
 use Rattle.std.specs.Option.{IfSome}
+use Rattle.nm_base.specs.Wanted.{is_wanted}
 use Rattle.nm_model.specs.Port.{idle_port}
 use Rattle.nm_sim.specs.Devices.{IsPortOf}
 use Rattle.nm_sim.specs.Network.{is_iface_here}
@@ -19,4 +20,7 @@ loop-number-preserved c =
           c.loop-number.ports.items c.in_ok-port.port c.loop-number.invariant.1 new),
       rw (c.in_ok-push.ensures.items)
           (all_pushed (λ i o. IfSome o (λ w. 1 ≤ w.room)) c.loop-number.ports.items c.in_ok-port.port c.loop-number.invariant.2 c.in_ok-port.ensures.room),
+      rw (c.in_ok-push.ensures.items)
+          (all_pushed (λ i o. IfSome o (λ w. w.recorded ≡ is_wanted c.args.wanted.now i)) c.loop-number.ports.items c.in_ok-port.port c.loop-number.invariant.3
+          (subst (λ k. IfSome c.in_ok-port.port (λ w. w.recorded ≡ is_wanted c.args.wanted.now k)) at c.in_ok-port.ensures.recorded)),
     )

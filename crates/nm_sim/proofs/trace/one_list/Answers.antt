@@ -2,6 +2,7 @@ use Rattle.std.proofs.Common.{◌≡◌, None, drop, min, ap, ◌∙◌, subst}
 use Rattle.nm_model.specs.Before.{IsBefore}
 use Rattle.nm_model.specs.Run.{one_list}
 use Rattle.nm_sim.specs.Network.{net_of}
+use Rattle.nm_sim.specs.Records.{cut}
 use Rattle.nm_sim.proofs.trace.one_list.Goals as goal
 
 pub returns : goal.returns
@@ -11,5 +12,5 @@ returns c =
     let ran = c.in_ok-run.ensures.done in (
       ran.0,
       subst (λ b. IsBefore (net_of t) b ran.0) before ran.1,
-      c.into_trace.ensures t None (one_list (net_of t) ran.0) ran.2 ∙ ap (λ n. drop n (one_list (net_of t) ran.0).records) c.in_ok-run.ensures.whole,
+      c.into_trace.ensures t None (one_list (net_of t) ran.0) ran.2 ∙ ap (λ k. drop k.handed (cut k.wanted (one_list (net_of t) ran.0).records)) c.in_ok-run.ensures.whole,
     )

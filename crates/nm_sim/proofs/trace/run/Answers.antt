@@ -29,7 +29,7 @@ loop-done-preserved c =
     (c.in_ok-advance.ensures.advance None s c.loop-done.invariant.0) in
     let next : suc c.loop-done.done ≡ c.loop-done.done + 1 = omega arith in (
       subst (λ n. Represents pending_of t None c.advance.new.self (one_list (net_of t) n)) next more.0,
-      c.advance.ensures.handed ∙ c.loop-done.invariant.1,
+      c.advance.ensures.keeping ∙ c.loop-done.invariant.1,
       λ m h. ⊎_elim
           (λ l. c.loop-done.invariant.2 m l)
           (λ g. let same : c.loop-done.done ≡ m = omega (arith, g, h) in subst (λ k. pends_before c.args.before (one_list (net_of t) k) ≡ true) same more.1)

@@ -1,4 +1,5 @@
 use Rattle.std.proofs.Common.{◌≡◌, ◌<◌, ℕ, true, None}
+use Rattle.nm_base.specs.declared.wanted.Wanted.TheVariants.{All}
 use Rattle.nm_model.specs.Run.{one_list, pends_before}
 use Rattle.nm_sim.specs.Network.{net_of}
 use Rattle.nm_sim.specs.Part.{Represents}
@@ -8,5 +9,5 @@ use Rattle.nm_sim.proofs.trace.run.Given as goal
 abbrev pub invariant-loop-done : goal.invariant-loop-done
 invariant-loop-done l =
     Represents pending_of l.topology None l.part (one_list (net_of l.topology) l.done)
-    × (l.part.records.handed ≡ 0)
+    × (l.part.records.keeping ≡ record { wanted = All; handed = 0 })
     × ((m : ℕ) → m < l.done → pends_before l.before (one_list (net_of l.topology) m) ≡ true)

@@ -1,5 +1,5 @@
 use Rattle.std.proofs.Common.{None, sym, subst}
-use Rattle.nm_forward.specs.Reacting.{IsSent}
+use Rattle.nm_forward.specs.Reacting.{IsSent, PassesUnwanted}
 use Rattle.nm_sim.specs.Effects.{Sends}
 use Rattle.nm_sim.proofs.devices.Devices.offer.Goals as goal
 
@@ -8,11 +8,27 @@ returns-in-Send c = record {
   sends = λ part node port sent s is.
       let it = subst (λ r. IsSent c.args.self.now.ports r sent) c.in-Send.is is in
       subst (λ z. Sends c.args.topology.now part node port c.args.time z c.offer_packet.new.self c.offer_packet.result) (sym it) (c.offer_packet.ensures.sends part node port s);
+  copied = c.offer_packet.ensures.copied;
+  wanted = c.offer_packet.ensures.wanted;
+}
+
+pub offer_alone-requires-clause-unwanted : goal.offer_alone-requires-clause-unwanted
+offer_alone-requires-clause-unwanted c = subst (PassesUnwanted c.args.self.now.wanted) c.in-Pass.is c.requires.passes
+
+pub returns-in-Pass : goal.returns-in-Pass
+returns-in-Pass c = record {
+  sends = λ part node port sent s is.
+      let it = subst (λ r. IsSent c.args.self.now.ports r sent) c.in-Pass.is is in
+      subst (λ z. Sends c.args.topology.now part node port c.args.time z c.offer_alone.new.self c.offer_alone.result) (sym it) (c.offer_alone.ensures.sends part node port s);
+  copied = c.offer_alone.ensures.copied;
+  wanted = c.offer_alone.ensures.wanted;
 }
 
 pub returns-in-Refused : goal.returns-in-Refused
 returns-in-Refused c = record {
   sends = λ part node port sent s is.
       let it = subst (λ r. IsSent c.args.self.now.ports r sent) c.in-Refused.is is in
-      subst (λ z. Sends c.args.topology.now part node port c.args.time z c.drop_at.new.self None) (sym it.1) (c.drop_at.ensures part node port c.args.time it.0 s it.2);
+      subst (λ z. Sends c.args.topology.now part node port c.args.time z c.drop_at.new.self None) (sym it.1) (c.drop_at.ensures.drops part node port c.args.time it.0 s it.2);
+  copied = tt;
+  wanted = c.drop_at.ensures.wanted;
 }

@@ -33,7 +33,7 @@ returns-clause-reacts c = rw (← c.self.view_is) (λ part states ports s.
     let member = subst (λ (v : DevicesValue). IsMember (slice_get v.nodes c.args.node)) (sym c.self.view_is) c.requires.node in
     let within : c.args.node < length c.self.inside.nodes.items = member_within c.self.inside.nodes.items c.args.node member in
     let here : slice_get c.self.inside.nodes.items c.args.node ≡ Some c.index_mut.result.now = search (rules, slice_get_read) in
-    let after : DevicesValue = record { nodes = slice_set c.self.inside.nodes.items c.index.result (Some c.react.new.state); ports = c.self.inside.ports.items; sources = c.self.inside.sources.items; used = c.self.inside.used } in
+    let after : DevicesValue = record { nodes = slice_set c.self.inside.nodes.items c.index.result (Some c.react.new.state); ports = c.self.inside.ports.items; sources = c.self.inside.sources.items; used = c.self.inside.used; wanted = c.self.inside.wanted } in
     IfOk-weaker c.react.result _ _ (λ r q. reacts_with c.args.topology.now part (the_view c.self.inside) after states ports s c.args.node c.in-Some.state (here ∙ ap Some c.in-Some.is)
     c.react.new.state c.args.origin c.args.packet.now r
     (subst (λ z. IsReaction z r c.react.new.state (reaction c.args.topology.now c.in-Some.state.table.node c.in-Some.state c.args.origin c.args.packet.now)) c.deref.ensures.value q) (ap (λ k. slice_set c.self.inside.nodes.items k (Some c.react.new.state)) c.index.ensures) refl refl) c.react.ensures.ok)

@@ -1,6 +1,8 @@
 use Rattle.std.proofs.Common.{None, refl, sym, subst}
 use Rattle.nm_base.specs.declared.event.Event.TheVariants.{Completion}
 use Rattle.nm_model.specs.Run.{keyed}
+use Rattle.std.specs.Option.{IfSome}
+use Rattle.nm_sim.specs.Effects.{IsCopied}
 use Rattle.nm_sim.specs.Part.{IsReady, PartValue}
 use Rattle.nm_sim.proofs.Steps.{is_busy, least_has}
 use Rattle.nm_sim.proofs.Takings.{taken_same}
@@ -13,6 +15,11 @@ complete-start-requires-clause-busy g c =
     let ready = subst (λ (p : PartValue g.row.L.Denot). IsReady g.L.EventList.pending g.L.EventList.room c.args.topology.now part c.args.time c.requires.0 (Completion c.args.iface) p s) (sym c.self.view_is) c.requires.3 in
     let there = least_has s.pending (keyed c.args.time c.requires.0 (Completion c.args.iface)) ready.taken.first in
     is_busy c.args.topology.now part s ready.taken.orderly c.self.inside.devices ready.devices c.args.iface c.args.time c.requires.0 (Completion c.args.iface) there (ready.taken.placed _ _ there)
+
+pub finish-requires-clause-copied : goal.finish-requires-clause-copied
+finish-requires-clause-copied g c =
+    let ready = subst (λ (p : PartValue g.row.L.Denot). IsReady g.L.EventList.pending g.L.EventList.room c.args.topology.now c.requires.1 c.args.time c.requires.0 (Completion c.args.iface) p c.requires.2) (sym c.self.view_is) c.requires.3 in
+    subst (λ w. IfSome c.complete-start.result (IsCopied w)) ready.taken.wanted c.complete-start.ensures.copied
 
 pub finish-requires-clause-under_way : goal.finish-requires-clause-under_way
 finish-requires-clause-under_way g c =
@@ -28,7 +35,7 @@ finish-requires-clause-under_way g c =
       None,
       s,
       record {
-        taken = taken_same g.L.EventList.pending c.args.topology.now part c.args.time c.requires.0 (Completion c.args.iface) p q (record { is_part = refl; sent = refl; outgoing = refl; steps = refl }) s ready.taken refl refl;
+        taken = taken_same g.L.EventList.pending c.args.topology.now part c.args.time c.requires.0 (Completion c.args.iface) p q (record { is_part = refl; sent = refl; outgoing = refl; steps = refl; wanted = c.complete-start.ensures.wanted; keeping = refl }) s ready.taken refl refl;
         does = c.complete-start.ensures.does part s.node s.port c.requires.0 ready.devices;
       },
     )
@@ -40,9 +47,9 @@ returns g c = rw (← c.self.view_is) (λ number. (
       let q : PartValue g.row.L.Denot = record { part = c.self.inside.part; devices = c.complete-start.new.self; timeline = c.self.inside.timeline; outgoing = c.self.inside.outgoing; records = c.self.inside.records; steps = c.self.inside.steps } in
       c.finish.ensures.represents part number (Completion c.args.iface) None None s
       (record {
-        taken = taken_same g.L.EventList.pending c.args.topology.now part c.args.time number (Completion c.args.iface) p q (record { is_part = refl; sent = refl; outgoing = refl; steps = refl }) s ready.taken refl refl;
+        taken = taken_same g.L.EventList.pending c.args.topology.now part c.args.time number (Completion c.args.iface) p q (record { is_part = refl; sent = refl; outgoing = refl; steps = refl; wanted = c.complete-start.ensures.wanted; keeping = refl }) s ready.taken refl refl;
         does = c.complete-start.ensures.does part s.node s.port number ready.devices;
       }),
   c.finish.ensures.steps,
-  c.finish.ensures.handed,
+  c.finish.ensures.keeping,
 ))

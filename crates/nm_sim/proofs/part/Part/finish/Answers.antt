@@ -57,4 +57,4 @@ returns-clause-represents g c = rw (← c.self.view_is) (λ part n e came follow
     (subst (λ r. OutgoingRepresents t r after.outgoing (sent_after net c.args.time s.sent (transmission_of c.args.start))) way.taken.is_part
     (did.outgoing s.sent (subst (λ r. OutgoingRepresents t r c.self.inside.outgoing s.sent) (sym way.taken.is_part) way.taken.outgoing)))
     (did.events s.sent way.taken.numbered ∙ ap (λ r. schedule (here_of t r) (transmission_events net c.args.time s.sent (transmission_of c.args.start)) (g.L.EventList.pending c.self.inside.timeline.events)) way.taken.is_part)
-    (λ trace h. subst (λ o. RecordsRepresent t after.records (trace ++ out_record c.args.time o)) did.transmitted (c.record_transmission.ensures.represents t trace h)) refl)
+    (λ trace h. c.record_transmission.ensures.represents t trace (transmission_of c.args.start) did.transmitted h) c.record_transmission.ensures.keeping refl)

@@ -1,6 +1,7 @@
 use Rattle.std.proofs.Common.{◌≡◌, ◌+◌, suc, None, refl, sym, ap, ◌∙◌, subst, arith}
 use Rattle.nm_base.specs.declared.event.Event.TheVariants.{Delivery}
 use Rattle.nm_base.specs.declared.event.Origin.TheVariants.{Source}
+use Rattle.nm_forward.proofs.Passing.{passes_none}
 use Rattle.nm_model.specs.Run.{by_source, keyed}
 use Rattle.nm_traffic.specs.Source.{source_at}
 use Rattle.nm_sim.specs.Network.{here_of, net_of}
@@ -33,7 +34,7 @@ returns-in_default g c = rw (← c.self.view_is) (
       let p : PartValue g.row.L.Denot = record { part = c.self.inside.part; devices = c.self.inside.devices; timeline = c.self.inside.timeline; outgoing = c.self.inside.outgoing; records = c.self.inside.records; steps = c.self.inside.steps } in
       let q : PartValue g.row.L.Denot = record { part = c.self.inside.part; devices = c.react_to_source.new.self; timeline = c.put.new.self; outgoing = c.self.inside.outgoing; records = c.self.inside.records; steps = c.self.inside.steps } in
       represents_again g.L.EventList.pending c.args.topology.now part c.args.time c.args.number (Delivery (Source c.args.source) c.args.packet) p q
-      (record { is_part = refl; sent = ap (λ l. l.sent) c.put.ensures.others; outgoing = refl; steps = refl }) s ready.taken ready.devices
+      (record { is_part = refl; sent = ap (λ l. l.sent) c.put.ensures.others; outgoing = refl; steps = refl; wanted = ap (λ d. d.wanted) c.in_default.ensures.err; keeping = refl }) s ready.taken ready.devices
       c.in_default.ensures.err refl c.put.ensures.events,
   refl,
   refl,
@@ -55,6 +56,9 @@ schedule_next-requires-clause-fresh g c =
     follows_fresh g.L.EventList.pending t part c.args.time c.args.number e p s (by_source c.args.source c.in-Ok.fired.follows)
     (ap (by_source c.args.source) (c.in-Ok.ensures.follows ∙ ap (source_at t c.args.source) n) ∙ fires_next t s c.args.time c.args.source c.args.number c.args.packet) fresh apart ready.taken
 
+pub send-requires-clause-passes : goal.send-requires-clause-passes
+send-requires-clause-passes g c = passes_none _ c.in-Ok.fired.reaction c.in-Ok.ensures.twins
+
 pub send-requires-clause-reacted : goal.send-requires-clause-reacted
 send-requires-clause-reacted g c =
     let part = c.requires.ready.0 in
@@ -74,7 +78,7 @@ send-requires-clause-reacted g c =
       _,
       s,
       r.1,
-      fires_on g.L.EventList.pending g.L.EventList.room t part c.args.time c.args.number p q (record { is_part = refl; sent = ap (λ l. l.sent) c.schedule_next.ensures.others; outgoing = refl; steps = refl }) s c.args.packet r.0 c.args.source c.in-Ok.fired.follows
+      fires_on g.L.EventList.pending g.L.EventList.room t part c.args.time c.args.number p q (record { is_part = refl; sent = ap (λ l. l.sent) c.schedule_next.ensures.others; outgoing = refl; steps = refl; wanted = c.react_to_source.ensures.wanted; keeping = refl }) s c.args.packet r.0 c.args.source c.in-Ok.fired.follows
           ready r.2 (c.in-Ok.ensures.follows ∙ ap (source_at t c.args.source) n) c.schedule_next.ensures.events refl,
     )
 
@@ -87,8 +91,8 @@ returns g c = rw (← c.self.view_is) (
       let n : c.args.number + 1 ≡ suc c.args.number = omega arith in
       let r = c.in-Ok.ensures.reacts part s.node s.port ready.devices in
       c.send.ensures.represents part c.args.number (Delivery (Source c.args.source) c.args.packet) None (by_source c.args.source c.in-Ok.fired.follows) r.0 _ s r.1
-      (fires_on g.L.EventList.pending g.L.EventList.room t part c.args.time c.args.number p q (record { is_part = refl; sent = ap (λ l. l.sent) c.schedule_next.ensures.others; outgoing = refl; steps = refl }) s c.args.packet r.0 c.args.source c.in-Ok.fired.follows
+      (fires_on g.L.EventList.pending g.L.EventList.room t part c.args.time c.args.number p q (record { is_part = refl; sent = ap (λ l. l.sent) c.schedule_next.ensures.others; outgoing = refl; steps = refl; wanted = c.react_to_source.ensures.wanted; keeping = refl }) s c.args.packet r.0 c.args.source c.in-Ok.fired.follows
       ready r.2 (c.in-Ok.ensures.follows ∙ ap (source_at t c.args.source) n) c.schedule_next.ensures.events refl),
   c.send.ensures.steps,
-  c.send.ensures.handed,
+  c.send.ensures.keeping,
 )

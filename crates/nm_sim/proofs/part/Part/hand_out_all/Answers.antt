@@ -1,11 +1,19 @@
-use Rattle.std.proofs.Common.{drop, sym, ap, ◌∙◌, subst}
+use Rattle.std.proofs.Common.{drop, sym, ap, ◌∙◌, subst, arith}
 use Rattle.nm_sim.specs.Part.{PartValue, Represents}
-use Rattle.nm_sim.proofs.Parts.{represents_records}
+use Rattle.nm_sim.specs.Records.{cut}
+use Rattle.nm_sim.proofs.Parts.{kept_few, represents_records}
 use Rattle.nm_sim.proofs.part.Part.hand_out_all.Goals as goal
+
+pub hand_out_all-requires-clause-few : goal.hand_out_all-requires-clause-few
+hand_out_all-requires-clause-few g c =
+    let z = c.requires.represents in
+    let h = subst (λ (p : PartValue g.row.L.Denot). Represents g.L.EventList.pending z.0 z.1 p z.2) (sym c.self.view_is) z.3 in
+    let few = kept_few g.L.EventList.pending z.0 z.1 _ z.2 h in
+    omega (arith, few, c.self.invariant)
 
 pub returns-clause-represents : goal.returns-clause-represents
 returns-clause-represents g c = λ t part s h.
     let at = subst (λ (p : PartValue g.row.L.Denot). Represents g.L.EventList.pending t part p s) (sym c.self.view_is) h in (
-      represents_records g.L.EventList.pending t part c.hand_out_all.new.self s at (c.hand_out_all.ensures.represents t s.records at.records),
-      c.hand_out_all.ensures.all ∙ at.records.kept ∙ ap (λ (p : PartValue g.row.L.Denot). drop p.records.handed s.records) c.self.view_is,
+      represents_records g.L.EventList.pending t part c.hand_out_all.new.self s at (c.hand_out_all.ensures.represents t s.records at.records) (ap (λ k. k.wanted) c.hand_out_all.ensures.keeping),
+      c.hand_out_all.ensures.all ∙ at.records.kept ∙ ap (λ (p : PartValue g.row.L.Denot). drop p.records.keeping.handed (cut p.records.keeping.wanted s.records)) c.self.view_is,
     )

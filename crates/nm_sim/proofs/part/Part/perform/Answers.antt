@@ -50,5 +50,5 @@ returns-clause-one g c = rw (← c.self.view_is) (performed_one g.L.EventList.pe
 pub returns-clause-none : goal.returns-clause-none
 returns-clause-none g c = rw (← c.self.view_is) (performed_one g.L.EventList.pending g.L.EventList.room c.args.topology.now c.in-Some.due.0 c.in-Some.due.1 c.in-Some.due.2 _ c.dispatch.new.self c.dispatch.result c.dispatch.ensures).1
 
-pub returns-clause-handed : goal.returns-clause-handed
-returns-clause-handed g c = rw (← c.self.view_is) (performed_one g.L.EventList.pending g.L.EventList.room c.args.topology.now c.in-Some.due.0 c.in-Some.due.1 c.in-Some.due.2 _ c.dispatch.new.self c.dispatch.result c.dispatch.ensures).2
+pub returns-clause-keeping : goal.returns-clause-keeping
+returns-clause-keeping g c = rw (← c.self.view_is) (performed_one g.L.EventList.pending g.L.EventList.room c.args.topology.now c.in-Some.due.0 c.in-Some.due.1 c.in-Some.due.2 _ c.dispatch.new.self c.dispatch.result c.dispatch.ensures).2

@@ -21,6 +21,6 @@ returns-clause-arrival g c = λ n partition comes. rw (← c.self.view_is) (λ p
     let at = c.channels_are_those_of_the_network.ensures.numbered n i comes in
     let within : i < length t.ifaces = subst (λ j. j < length t.ifaces) at.2 (c.channels_are_numbered_by_their_receivers.ensures.there at.0 at.1) in
     represents_told g.L.EventList.pending t part i c.args.number c.args.time c.args.packet p q
-    (record { is_part = refl; sent = ap (λ l. l.sent) c.put.ensures.others; outgoing = refl; steps = refl }) s h
+    (record { is_part = refl; sent = ap (λ l. l.sent) c.put.ensures.others; outgoing = refl; steps = refl; wanted = refl; keeping = refl }) s h
     (c.a_message_keeps_order.ensures (net_of t) (here_of t part) s h.orderly i c.args.time c.args.number c.args.packet both.0 both.1) within refl refl
     (c.put.ensures.events ∙ ap (λ j. insert (g.L.EventList.pending c.self.inside.timeline.events) (key_of c.args.time (Arrive j) c.args.number) (Delivery (Arrival j) c.args.packet)) c.receiver.ensures))

@@ -1,26 +1,27 @@
 use Rattle.std.proofs.Common.{Some, None, refl, sym, ap, ◌∙◌, subst}
 use Rattle.nm_base.specs.declared.event.Event.TheVariants.{Delivery}
 use Rattle.nm_base.specs.declared.event.Origin.TheVariants.{Arrival}
+use Rattle.nm_forward.proofs.Passing.{passes_none}
 use Rattle.nm_model.specs.Run.{keyed}
 use Rattle.nm_sim.specs.Part.{IsReady, PartValue}
 use Rattle.nm_sim.proofs.Parts.{represents_again}
 use Rattle.nm_sim.proofs.Steps.{least_has, port_is_kept}
 use Rattle.nm_sim.proofs.Takings.{arrives_on, key_is_free}
-use Rattle.nm_sim.proofs.part.Part.arrive.Goals as goal
+use Rattle.nm_sim.proofs.part.Part.arrive_recorded.Goals as goal
 
 pub react_to_arrival-requires-clause-place : goal.react_to_arrival-requires-clause-place
 react_to_arrival-requires-clause-place g c =
-    let part = c.requires.0 in
-    let s = c.requires.1 in
-    let ready = subst (λ (p : PartValue g.row.L.Denot). IsReady g.L.EventList.pending g.L.EventList.room c.args.topology.now part c.args.time c.args.number (Delivery (Arrival c.args.iface) c.args.packet) p s) (sym c.self.view_is) c.requires.2 in
+    let part = c.requires.ready.0 in
+    let s = c.requires.ready.1 in
+    let ready = subst (λ (p : PartValue g.row.L.Denot). IsReady g.L.EventList.pending g.L.EventList.room c.args.topology.now part c.args.time c.args.number (Delivery (Arrival c.args.iface) c.args.packet) p s) (sym c.self.view_is) c.requires.ready.2 in
     let there = least_has s.pending (keyed c.args.time c.args.number (Delivery (Arrival c.args.iface) c.args.packet)) ready.taken.first in
     port_is_kept c.args.topology.now part s ready.taken.orderly c.self.inside.devices ready.devices c.args.iface c.args.time c.args.number (Delivery (Arrival c.args.iface) c.args.packet) there (ready.taken.placed _ _ there)
 
 pub put-requires-clause-fresh : goal.put-requires-clause-fresh
 put-requires-clause-fresh g c =
     let p : PartValue g.row.L.Denot = record { part = c.self.inside.part; devices = c.self.inside.devices; timeline = c.self.inside.timeline; outgoing = c.self.inside.outgoing; records = c.self.inside.records; steps = c.self.inside.steps } in
-    let ready = subst (λ (p : PartValue g.row.L.Denot). IsReady g.L.EventList.pending g.L.EventList.room c.args.topology.now c.requires.0 c.args.time c.args.number (Delivery (Arrival c.args.iface) c.args.packet) p c.requires.1) (sym c.self.view_is) c.requires.2 in
-    key_is_free g.L.EventList.pending c.args.topology.now c.requires.0 c.args.time c.args.number (Delivery (Arrival c.args.iface) c.args.packet) p c.requires.1 ready.taken
+    let ready = subst (λ (p : PartValue g.row.L.Denot). IsReady g.L.EventList.pending g.L.EventList.room c.args.topology.now c.requires.ready.0 c.args.time c.args.number (Delivery (Arrival c.args.iface) c.args.packet) p c.requires.ready.1) (sym c.self.view_is) c.requires.ready.2 in
+    key_is_free g.L.EventList.pending c.args.topology.now c.requires.ready.0 c.args.time c.args.number (Delivery (Arrival c.args.iface) c.args.packet) p c.requires.ready.1 ready.taken
 
 pub returns-in_default : goal.returns-in_default
 returns-in_default g c = rw (← c.self.view_is) (
@@ -28,19 +29,22 @@ returns-in_default g c = rw (← c.self.view_is) (
       let p : PartValue g.row.L.Denot = record { part = c.self.inside.part; devices = c.self.inside.devices; timeline = c.self.inside.timeline; outgoing = c.self.inside.outgoing; records = c.self.inside.records; steps = c.self.inside.steps } in
       let q : PartValue g.row.L.Denot = record { part = c.self.inside.part; devices = c.react_to_arrival.new.self; timeline = c.put.new.self; outgoing = c.self.inside.outgoing; records = c.self.inside.records; steps = c.self.inside.steps } in
       represents_again g.L.EventList.pending c.args.topology.now part c.args.time c.args.number (Delivery (Arrival c.args.iface) c.args.packet) p q
-      (record { is_part = refl; sent = ap (λ l. l.sent) c.put.ensures.others; outgoing = refl; steps = refl }) s ready.taken ready.devices
+      (record { is_part = refl; sent = ap (λ l. l.sent) c.put.ensures.others; outgoing = refl; steps = refl; wanted = ap (λ d. d.wanted) c.in_default.ensures.err; keeping = refl }) s ready.taken ready.devices
       c.in_default.ensures.err refl c.put.ensures.events,
   refl,
   refl,
 )
 
+pub send-requires-clause-passes : goal.send-requires-clause-passes
+send-requires-clause-passes g c = passes_none _ c.in-Ok.reaction c.in-Ok.ensures.twins
+
 pub send-requires-clause-reacted : goal.send-requires-clause-reacted
 send-requires-clause-reacted g c =
-    let part = c.requires.0 in
-    let s = c.requires.1 in
+    let part = c.requires.ready.0 in
+    let s = c.requires.ready.1 in
     let p : PartValue g.row.L.Denot = record { part = c.self.inside.part; devices = c.self.inside.devices; timeline = c.self.inside.timeline; outgoing = c.self.inside.outgoing; records = c.self.inside.records; steps = c.self.inside.steps } in
     let q : PartValue g.row.L.Denot = record { part = c.self.inside.part; devices = c.react_to_arrival.new.self; timeline = c.self.inside.timeline; outgoing = c.self.inside.outgoing; records = c.record_arrival.new.self; steps = c.self.inside.steps } in
-    let ready = subst (λ (p : PartValue g.row.L.Denot). IsReady g.L.EventList.pending g.L.EventList.room c.args.topology.now part c.args.time c.args.number (Delivery (Arrival c.args.iface) c.args.packet) p s) (sym c.self.view_is) c.requires.2 in
+    let ready = subst (λ (p : PartValue g.row.L.Denot). IsReady g.L.EventList.pending g.L.EventList.room c.args.topology.now part c.args.time c.args.number (Delivery (Arrival c.args.iface) c.args.packet) p s) (sym c.self.view_is) c.requires.ready.2 in
     let r = c.in-Ok.ensures.reacts part s.node s.port ready.devices in (
       part,
       c.args.number,
@@ -51,7 +55,7 @@ send-requires-clause-reacted g c =
       _,
       s,
       r.1,
-      arrives_on g.L.EventList.pending g.L.EventList.room c.args.topology.now part c.args.time c.args.number p q (record { is_part = refl; sent = refl; outgoing = refl; steps = refl }) s c.args.packet r.0 c.args.iface
+      arrives_on g.L.EventList.pending g.L.EventList.room c.args.topology.now part c.args.time c.args.number p q (record { is_part = refl; sent = refl; outgoing = refl; steps = refl; wanted = c.react_to_arrival.ensures.wanted; keeping = c.record_arrival.ensures.keeping }) s c.args.packet r.0 c.args.iface
           ready r.2 refl (c.record_arrival.ensures.represents c.args.topology.now),
     )
 
@@ -62,8 +66,8 @@ returns g c = rw (← c.self.view_is) (
       let q : PartValue g.row.L.Denot = record { part = c.self.inside.part; devices = c.react_to_arrival.new.self; timeline = c.self.inside.timeline; outgoing = c.self.inside.outgoing; records = c.record_arrival.new.self; steps = c.self.inside.steps } in
       let r = c.in-Ok.ensures.reacts part s.node s.port ready.devices in
       c.send.ensures.represents part c.args.number (Delivery (Arrival c.args.iface) c.args.packet) (Some (c.args.iface, c.args.packet)) None r.0 _ s r.1
-      (arrives_on g.L.EventList.pending g.L.EventList.room c.args.topology.now part c.args.time c.args.number p q (record { is_part = refl; sent = refl; outgoing = refl; steps = refl }) s c.args.packet r.0 c.args.iface
+      (arrives_on g.L.EventList.pending g.L.EventList.room c.args.topology.now part c.args.time c.args.number p q (record { is_part = refl; sent = refl; outgoing = refl; steps = refl; wanted = c.react_to_arrival.ensures.wanted; keeping = c.record_arrival.ensures.keeping }) s c.args.packet r.0 c.args.iface
       ready r.2 refl (c.record_arrival.ensures.represents c.args.topology.now)),
   c.send.ensures.steps,
-  c.send.ensures.handed ∙ c.record_arrival.ensures.handed,
+  c.send.ensures.keeping ∙ c.record_arrival.ensures.keeping,
 )

@@ -1,5 +1,5 @@
 use Rattle.std.proofs.Common.{arith}
-use Rattle.nm_sim.proofs.tracer.Tracer.start.Goals as goal
+use Rattle.nm_sim.proofs.tracer.Tracer.start_with.Goals as goal
 
 pub returns-clause-tracing : goal.returns-clause-tracing
 returns-clause-tracing c = record {

@@ -1,0 +1,36 @@
+//! What a port transmits.
+
+ghost use Rattle.std.specs.Prelude.{◌≡◌, IsSome, IfSome};
+ghost use Rattle.std.proofs.Props.{props};
+
+use nm_base::{Packet, Twin};
+
+/// A packet that waits or is transmitted, and its copy, where it is to be recorded.
+#[derive(Drop)]
+pub struct Load {
+    pub packet: Packet,
+    pub copy: Option<Packet>,
+    ghost equal: { IfSome copy (λ other. other ≡ packet) } by { Prim.hlevel props },
+}
+
+impl Load {
+    /// A packet that is to be recorded.
+    #[inline(always)]
+    pub fn of(twin: Twin) -> Self
+        ensures packet { result.packet ≡ twin.packet }
+        ensures copy { IsSome result.copy }
+    {
+        Load {
+            packet: twin.packet,
+            copy: Some(twin.copy),
+        }
+    }
+
+    /// A packet of which no record is to be kept.
+    #[inline(always)]
+    pub fn alone(packet: Packet) -> Self
+        ensures { result.packet ≡ packet }
+    {
+        Load { packet, copy: None }
+    }
+}

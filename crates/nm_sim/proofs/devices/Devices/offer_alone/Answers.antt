@@ -1,0 +1,54 @@
+use Rattle.std.proofs.Common.{◌≡◌, ◌≤◌, ◌<◌, true≢false, length, Some, slice_get, slice_set, refl, sym, ap, ◌∙◌, subst, rules, arith}
+use Rattle.std.specs.Option.{IfSome}
+use Rattle.std.proofs.lemmas.Option.{slice_get_read}
+use Rattle.nm_base.specs.Wanted.{is_wanted}
+use Rattle.nm_iface.specs.PortValue.{PortValue}
+use Rattle.nm_sim.specs.contracts.devices.Devices.{the_view}
+use Rattle.nm_sim.specs.Effects.{IsCopied, Sends}
+use Rattle.nm_sim.specs.Devices.{DevicesValue}
+use Rattle.nm_sim.specs.Tables.{AllSome, IsMember}
+use Rattle.nm_sim.proofs.Sendings.{copied_at, sends_by}
+use Rattle.nm_sim.proofs.Sound.{sound_used}
+use Rattle.nm_sim.proofs.Tables.{member_within}
+use Rattle.nm_sim.proofs.devices.Devices.offer_alone.Goals as goal
+
+pub offer_alone-start-requires-clause-room : goal.offer_alone-start-requires-clause-room
+offer_alone-start-requires-clause-room c =
+    let room = subst (λ (v : DevicesValue). AllSome (λ i w. 1 ≤ w.room) v.ports) (sym c.self.view_is) c.requires.room in
+    let member = subst (λ (v : DevicesValue). IsMember (slice_get v.ports c.args.iface)) (sym c.self.view_is) c.requires.own in
+    let within : c.args.iface < length c.self.inside.ports.items = member_within c.self.inside.ports.items c.args.iface member in
+    let here : slice_get c.self.inside.ports.items c.args.iface ≡ Some c.index_mut.result.now = search (rules, slice_get_read) in
+    room c.args.iface (Some c.in-Some.port) (here ∙ ap Some c.in-Some.is)
+
+pub offer_alone-start-requires-clause-alone : goal.offer_alone-start-requires-clause-alone
+offer_alone-start-requires-clause-alone c =
+    let room = subst (λ (v : DevicesValue). AllSome (λ i w. 1 ≤ w.room) v.ports) (sym c.self.view_is) c.requires.room in
+    let member = subst (λ (v : DevicesValue). IsMember (slice_get v.ports c.args.iface)) (sym c.self.view_is) c.requires.own in
+    let within : c.args.iface < length c.self.inside.ports.items = member_within c.self.inside.ports.items c.args.iface member in
+    let here : slice_get c.self.inside.ports.items c.args.iface ≡ Some c.index_mut.result.now = search (rules, slice_get_read) in
+    (c.self.invariant c.args.iface (Some c.in-Some.port) (here ∙ ap Some c.in-Some.is)).1
+    ∙ ap (λ (v : DevicesValue). is_wanted v.wanted c.args.iface) c.self.view_is ∙ c.requires.unwanted
+
+pub invariant_of-self-2 : goal.invariant_of-self-2
+invariant_of-self-2 c =
+    let room = subst (λ (v : DevicesValue). AllSome (λ i w. 1 ≤ w.room) v.ports) (sym c.self.view_is) c.requires.room in
+    let member = subst (λ (v : DevicesValue). IsMember (slice_get v.ports c.args.iface)) (sym c.self.view_is) c.requires.own in
+    let within : c.args.iface < length c.self.inside.ports.items = member_within c.self.inside.ports.items c.args.iface member in
+    let here : slice_get c.self.inside.ports.items c.args.iface ≡ Some c.index_mut.result.now = search (rules, slice_get_read) in
+    sound_used c.self.inside.wanted c.self.inside.used c.self.inside.ports.items c.self.invariant c.args.iface c.index.result c.index.ensures
+    c.in-Some.port c.offer_alone-start.new.self (here ∙ ap Some c.in-Some.is) (ap (λ (p : PortValue). p.recorded) c.offer_alone-start.ensures.port) room
+
+pub returns : goal.returns
+returns c = rw (← c.self.view_is) record {
+  sends = λ part node port s.
+      let room = subst (λ (v : DevicesValue). AllSome (λ i w. 1 ≤ w.room) v.ports) (sym c.self.view_is) c.requires.room in
+      let member = subst (λ (v : DevicesValue). IsMember (slice_get v.ports c.args.iface)) (sym c.self.view_is) c.requires.own in
+      let within : c.args.iface < length c.self.inside.ports.items = member_within c.self.inside.ports.items c.args.iface member in
+      let here : slice_get c.self.inside.ports.items c.args.iface ≡ Some c.index_mut.result.now = search (rules, slice_get_read) in
+      let after : DevicesValue = record { nodes = c.self.inside.nodes.items; ports = slice_set c.self.inside.ports.items c.index.result (Some c.offer_alone-start.new.self); sources = c.self.inside.sources.items; used = Some c.args.iface; wanted = c.self.inside.wanted } in
+      subst (λ o. Sends c.args.topology.now part node port c.args.time (Some (c.args.iface, c.args.packet)) after o) (sym c.transmission_at.ensures)
+      (sends_by c.args.topology.now part (the_view c.self.inside) after node port s c.args.time c.args.iface c.args.packet c.in-Some.port c.offer_alone-start.new.self.room c.offer_alone-start.result (here ∙ ap Some c.in-Some.is)
+      refl (λ k. slice_set c.self.inside.ports.items (c.index.ensures k) (Some (c.offer_alone-start.ensures.port k))) refl c.offer_alone-start.ensures.packet c.offer_alone-start.ensures.start);
+  copied = subst (λ o. IfSome o (IsCopied c.self.inside.wanted)) (sym c.transmission_at.ensures) (copied_at c.self.inside.wanted c.args.iface c.offer_alone-start.result (λ e. absurd (true≢false (sym e ∙ ap (λ (v : DevicesValue). is_wanted v.wanted c.args.iface) c.self.view_is ∙ c.requires.unwanted))));
+  wanted = refl;
+}
