@@ -2,6 +2,7 @@
 use Rattle.std.proofs.Common.{◌≡◌, ℕ, zero, suc, List, [], ◌∷◌, ◌++◌, length, replicate, slice_index_or, Option, Some, None, refl, sym, ◌∙◌, ap, subst, arith}
 use Rattle.std.proofs.Math.Path.{fun_ext}
 use Rattle.std.proofs.lemmas.List.{length-replicate}
+use Rattle.nm_base.specs.declared.wanted.Wanted.TheVariants.{All}
 use Rattle.nm_topology.specs.Topology.{channel_from}
 use Rattle.nm_topology.specs.TopologyValue.{TopologyValue}
 use Rattle.nm_model.specs.Knowledge.{no_knowledge, nothing_known}
@@ -32,8 +33,8 @@ is_nothing t n = fun_ext (λ i. nothing_of n (channel_from 0 t.receivers i))
 
 pub first_book : (t : TopologyValue) (p : ℕ) (part : PartValue Held) → inbox_events (net_of t) p no_knowledge ≡ []
     → Represents pending_in t (Some p) part (start (net_of t) (here_of t (Some p)) []) → part.steps ≡ 0
-    → IsBook t p (replicate (length t.receivers) nothing_known) part
-first_book t p part inbox represents steps =
+    → part.records.keeping.wanted ≡ All → IsBook t p (replicate (length t.receivers) nothing_known) part
+first_book t p part inbox represents steps all =
     let knows = replicate (length t.receivers) (nothing_known {P = List ℕ}) in
     let none : inbox_events (net_of t) p (knowledge_of t knows) ≡ [] = ap (inbox_events (net_of t) p) (is_nothing t (length t.receivers)) ∙ inbox in
     record {
@@ -41,4 +42,5 @@ first_book t p part inbox represents steps =
       represents = subst (λ k. Represents pending_in t (Some p) part (from_scratch (net_of t) p (knowledge_of t knows) k)) (sym steps)
           (subst (λ events. Represents pending_in t (Some p) part (start (net_of t) (here_of t (Some p)) events)) (sym none) represents);
       within = λ m h. absurd (omega (arith, h, steps));
+      all = all;
     }

@@ -207,6 +207,7 @@ module _ (t : TopologyValue) (p : ℕ) (knows others : List (Know (List ℕ))) (
         count = are_joined.count ∙ total;
         represents = subst (λ s. Represents pending_in t (Some p) part s) (same (knowledge_of t first) (knowledge_of t after) lists part.steps) book.represents;
         within = within (knowledge_of t first) (knowledge_of t after) (λ i comes. under i comes (at i comes)) part.steps book.within;
+        all = book.all;
       }
     where
       joins : (d : ℕ) (z : Bool) → is_incoming t p knows others d ≡ z → z ≡ true → joined_at t p knows others d ≡ join (known t p knows others d) (other t p knows others d)

@@ -1,5 +1,5 @@
 -- Runs of a replica.
-use Rattle.std.proofs.Common.{◌≡◌, ◌⊎◌, inl, inr, ℕ, suc, ◌+◌, ◌<◌, ◌≤◌, min, true, List, Some, sym, subst, arith}
+use Rattle.std.proofs.Common.{◌≡◌, ◌⊎◌, inl, inr, ℕ, suc, ◌+◌, ◌<◌, ◌≤◌, min, true, List, Some, sym, ap, ◌∙◌, subst, arith}
 use Rattle.nm_topology.specs.TopologyValue.{TopologyValue}
 use Rattle.nm_forward.specs.State.{NodeStateValue}
 use Rattle.nm_model.specs.Before.{IsCount}
@@ -17,23 +17,25 @@ use Rattle.nm_book.specs.BookPart.{IsBook, pending_in}
 module _ (t : TopologyValue) (p : ℕ) (knows : List (Know (List ℕ))) (part new : PartValue Held) where
   -- a part that represents the same stands for the same replica
   pub still_book : IsBook t p knows part → ((s : State (List ℕ) NodeStateValue) → Represents pending_in t (Some p) part s → Represents pending_in t (Some p) new s)
-      → new.steps ≡ part.steps → IsBook t p knows new
-  still_book book same steps = record {
+      → new.steps ≡ part.steps → new.records.keeping ≡ part.records.keeping → IsBook t p knows new
+  still_book book same steps keeping = record {
     count = book.count;
     represents = subst (λ k. Represents pending_in t (Some p) new (from_scratch (net_of t) p (knowledge_of t knows) k)) (sym steps) (same _ book.represents);
     within = subst (IsWithin (net_of t) p (knowledge_of t knows)) (sym steps) book.within;
+    all = ap (λ k. k.wanted) keeping ∙ book.all;
   }
 
   -- one more event before the safe time
   pub one_more : IsBook t p knows part → pends_before (safe_time (net_of t) p (knowledge_of t knows)) (from_scratch (net_of t) p (knowledge_of t knows) part.steps) ≡ true
       → Represents pending_in t (Some p) new (step (net_of t) (here_of t (Some p)) (from_scratch (net_of t) p (knowledge_of t knows) part.steps))
-      → new.steps ≡ part.steps + 1 → IsBook t p knows new
-  one_more book pends represents steps =
+      → new.steps ≡ part.steps + 1 → new.records.keeping ≡ part.records.keeping → IsBook t p knows new
+  one_more book pends represents steps keeping =
       let more : new.steps ≡ suc part.steps = omega (arith, steps) in
       record {
         count = book.count;
         represents = subst (λ k. Represents pending_in t (Some p) new (from_scratch (net_of t) p (knowledge_of t knows) k)) (sym more) represents;
         within = subst (IsWithin (net_of t) p (knowledge_of t knows)) (sym more) (λ m h. at m (below_or_at m part.steps h));
+        all = ap (λ k. k.wanted) keeping ∙ book.all;
       }
     where
       at : (m : ℕ) → (m < part.steps) ⊎ (m ≡ part.steps) → pends_before (safe_time (net_of t) p (knowledge_of t knows)) (from_scratch (net_of t) p (knowledge_of t knows) m) ≡ true

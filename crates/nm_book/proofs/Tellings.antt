@@ -112,8 +112,8 @@ module _ (t : TopologyValue) (p : ℕ) (l : List (Know (List ℕ))) (part new : 
       → ((K : Knowledge (List ℕ)) (i : ℕ) (a : Know (List ℕ)) → IsUnder (K i) a → IsUnderAll (net_of t) p K (set_at K i a))
       → known.clock ≤ time → IsUnder known grown
       → Represents pending_in t (Some p) new (with_arrival i (length known.list) time x (from_scratch (net_of t) p K part.steps))
-      → new.steps ≡ part.steps → IsBook t p (slice_set l c grown) new
-  told_data here book within comes message within_more more later under represents steps =
+      → new.steps ≡ part.steps → new.records.keeping ≡ part.records.keeping → IsBook t p (slice_set l c grown) new
+  told_data here book within comes message within_more more later under represents steps keeping =
       let at_here : K i ≡ known = known_here t l c here in
       let same : knowledge_of t (slice_set l c grown) ≡ set_at K i grown = known_set t l c here grown within in
       let state : from_scratch (net_of t) p (knowledge_of t (slice_set l c grown)) part.steps ≡ with_arrival i (length known.list) time x (from_scratch (net_of t) p K part.steps) =
@@ -129,6 +129,7 @@ module _ (t : TopologyValue) (p : ℕ) (l : List (Know (List ℕ))) (part new : 
         within = subst (λ k. IsWithin (net_of t) p (knowledge_of t (slice_set l c grown)) k) (sym steps)
             (subst (λ J. IsWithin (net_of t) p J part.steps) (sym same)
             (within_more K (set_at K i grown) (more K i grown (subst (λ z. IsUnder z grown) (sym at_here) under)) part.steps book.within));
+        all = ap (λ k. k.wanted) keeping ∙ book.all;
       }
 
 -- The same over a greater clock of a channel: no state changes.
@@ -161,6 +162,7 @@ module _ (t : TopologyValue) (p : ℕ) (l : List (Know (List ℕ))) (part : Part
         represents = subst (λ s. Represents pending_in t (Some p) part s) (sym state) book.represents;
         within = subst (λ J. IsWithin (net_of t) p J part.steps) (sym same)
             (within_more K (set_at K iface raised) (more K iface raised (subst (λ z. IsUnder z raised) (sym at_here) under)) part.steps book.within);
+        all = book.all;
       }
 
 -- what is put where it stands changes nothing

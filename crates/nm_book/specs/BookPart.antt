@@ -2,6 +2,7 @@
 use Rattle.std.specs.Prelude.{◌≡◌, ℕ, List, length, Some}
 use Rattle.std.specs.FinMap.{FinMap}
 use Rattle.nm_base.specs.declared.event.Event.{Event}
+use Rattle.nm_base.specs.declared.wanted.Wanted.TheVariants.{All}
 use Rattle.nm_base.specs.Key.{key_cmp}
 use Rattle.nm_topology.specs.TopologyValue.{TopologyValue}
 use Rattle.nm_model.specs.Knowledge.{Know}
@@ -20,10 +21,11 @@ abbrev pub room_in : Held → ℕ
 room_in s = s.room
 
 -- the part is that of a replica from scratch that knows this much, and did events before its
--- safe time alone
+-- safe time alone. It keeps the records of all interfaces.
 pub record IsBook (t : TopologyValue) (p : ℕ) (knows : List (Know (List ℕ)))
     (part : PartValue Held) : Type 0 where
   pub count : length knows ≡ length t.receivers
   pub represents : Represents pending_in t (Some p) part
       (from_scratch (net_of t) p (knowledge_of t knows) part.steps)
   pub within : IsWithin (net_of t) p (knowledge_of t knows) part.steps
+  pub all : part.records.keeping.wanted ≡ All

@@ -4,6 +4,7 @@ ghost use Rattle.std.specs.Prelude.{[], ◌≡◌, ◌+◌, true, false, Err, If
 ghost use Rattle.std.specs.Prelude.{is_some, length, replicate, slice_get, slice_index_or};
 ghost use Rattle.std.specs.Arc.{arc_value};
 ghost use Rattle.std.specs.Option.{option_and_then, option_map};
+ghost use Rattle.nm_base.specs.declared.wanted.Wanted.TheVariants.{All as AllWanted};
 ghost use Rattle.nm_model.specs.Certificate.{is_done};
 ghost use Rattle.nm_model.specs.Knowledge.{nothing_known};
 ghost use Rattle.nm_model.specs.Lists.{nth};
@@ -73,7 +74,7 @@ impl Model for Book {
       replica = b.replica;
       knows = b.knows.items;
       events = b.part.steps;
-      handed = b.part.records.handed;
+      handed = b.part.records.keeping.handed;
     } };
 
     ghost invariant = { λ b. IsBook (arc_value b.topology) b.partition b.knows.items b.part
@@ -101,7 +102,8 @@ fn first_part(
     ensures book { IfOk result (λ part. IsBook topology.now partition
         (replicate (length topology.now.receivers) nothing_known) part) }
     ensures steps { IfOk result (λ part. part.steps ≡ 0) }
-    ensures handed { IfOk result (λ part. part.records.handed ≡ 0) }
+    ensures keeping { IfOk result
+        (λ part. part.records.keeping ≡ record { wanted = AllWanted; handed = 0 }) }
 {
     nothing_known_puts_nothing::<Packet, NodeState>(); // law: no arrival is to come
     let part = Part::start(alloc, topology, Some(partition))?;

@@ -65,7 +65,7 @@ pub(crate) fn take_data(
 
     // No event was done, and no record handed out.
     ensures steps { part.new.steps ≡ part.old.steps }
-    ensures handed { part.new.records.handed ≡ part.old.records.handed }
+    ensures keeping { part.new.records.keeping ≡ part.old.records.keeping }
 {
     let know = &knows[message.channel.index()];
     let accepted = know.check_data(message.number, message.time, &message.packet)?;
@@ -99,7 +99,7 @@ fn put_message(topology: &Topology, partition: PartNo, part: &mut Part<HeapList>
 
     // No event was done, and no record handed out.
     ensures steps { part.new.steps ≡ part.old.steps }
-    ensures handed { part.new.records.handed ≡ part.old.records.handed }
+    ensures keeping { part.new.records.keeping ≡ part.old.records.keeping }
 {
     every_topology_is_a_network(topology); // law: `net_of` is a network of the model
     channels_are_numbered_by_their_receivers(topology); // law: a channel has its own interface
@@ -132,7 +132,7 @@ pub(crate) fn put_messages(
         → Follow topology.now partition knows messages.items
         → IsBook topology.now partition (told_each knows messages.items) part.new }
     ensures steps { part.new.steps ≡ part.old.steps }
-    ensures handed { part.new.records.handed ≡ part.old.records.handed }
+    ensures keeping { part.new.records.keeping ≡ part.old.records.keeping }
 {
     for message in messages {
         put_message(topology, partition, part, message);
@@ -170,7 +170,7 @@ fn put_data(
 
     // No event was done, and no record handed out.
     ensures steps { part.new.steps ≡ part.old.steps }
-    ensures handed { part.new.records.handed ≡ part.old.records.handed }
+    ensures keeping { part.new.records.keeping ≡ part.old.records.keeping }
 {
     add_data(knows, message)?;
     let Data {

@@ -246,7 +246,7 @@ pub(crate) fn merge_all(
 
     // No event was done, and no record handed out.
     ensures steps { part.new.steps ≡ part.old.steps }
-    ensures handed { part.new.records.handed ≡ part.old.records.handed }
+    ensures keeping { part.new.records.keeping ≡ part.old.records.keeping }
 {
     every_topology_is_a_network(topology); // law: `net_of` is a network of the model
     channels_are_numbered_by_their_receivers(topology); // law: a channel has its own interface

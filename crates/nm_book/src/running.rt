@@ -53,7 +53,7 @@ pub(crate) fn run_part(
         → safe ≡ safe_time (net_of topology.now) p (knowledge_of topology.now knows)
         → HasRun topology.now p (knowledge_of topology.now knows) limit part.old.steps
         part.new.steps result }
-    ensures handed { part.new.records.handed ≡ part.old.records.handed }
+    ensures keeping { part.new.records.keeping ≡ part.old.records.keeping }
 {
     every_topology_is_a_network(topology); // law: `net_of` is a network of the model
     safe_time_is_the_least::<Packet, NodeState>(); // law: the safe time is at most `stop`

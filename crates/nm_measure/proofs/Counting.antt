@@ -22,7 +22,8 @@ use Rattle.nm_sim.specs.Part.{PartValue, Represents}
 use Rattle.nm_measure.specs.declared.amounts.Amount.{Amount}
 use Rattle.nm_measure.specs.declared.amounts.IfaceTraffic.{IfaceTraffic}
 use Rattle.nm_measure.specs.Amounts.{AreTraffic, amount_after, amount_of, came_to, is_in, traffic_after, traffic_of, went_from}
-use Rattle.nm_measure.specs.Measured.{IsCounted}
+use Rattle.nm_measure.specs.Measured.{HasCountedAll, IsCounted}
+use Rattle.nm_sim.specs.Records.{cut}
 
 -- one more of a list
 pub take_one_more : {X : Type 0} (xs : List X) (i : ℕ) (x : X) → slice_get xs i ≡ Some x → take (i + 1) xs ≡ take i xs ++ x ∷ []
@@ -106,29 +107,33 @@ module _ (t : TopologyValue) where
 
   -- those that were left are counted, and let go
   pub counted_all : (s : State (List ℕ) NodeStateValue) (p q : PartValue Held) (old new : List IfaceTraffic) → IsCounted t s p old → Represents pending_of t None q s
-      → q.records.handed ≡ length s.records → AreTraffic t new (take p.records.handed s.records ++ drop p.records.handed s.records)
-      → IsCounted t s q new × (q.records.handed ≡ length s.records)
-  counted_all s p q old new h represents handed counted = (
-    record {
-      represents = represents;
-      counted = subst (AreTraffic t new) (take-append-drop p.records.handed s.records ∙ sym (ap (λ n. take n s.records) handed ∙ take-length s.records)) counted;
-    },
-    handed,
-  )
+      → q.records.keeping ≡ record p.records.keeping { handed = length (cut p.records.keeping.wanted s.records) }
+      → AreTraffic t new (take p.records.keeping.handed s.records ++ drop p.records.keeping.handed s.records)
+      → IsCounted t s q new × HasCountedAll q s
+  counted_all s p q old new h represents handed counted =
+      let all : HasCountedAll q s = handed ∙ (λ k. record { wanted = h.wanted k; handed = length (cut (h.wanted k) s.records) }) in (
+        record {
+          represents = represents;
+          counted = subst (AreTraffic t new) (take-append-drop p.records.keeping.handed s.records ∙ sym (ap (λ k. take k.handed s.records) all ∙ take-length s.records)) counted;
+          wanted = ap (λ k. k.wanted) all;
+        },
+        all,
+      )
 
   pub counted_whole : (s : State (List ℕ) NodeStateValue) (p : PartValue Held) (all : List IfaceTraffic) → IsCounted t s p all
-      → p.records.handed ≡ length s.records → AreTraffic t all s.records
-  counted_whole s p all h whole = subst (λ l. AreTraffic t all l) (ap (λ n. take n s.records) whole ∙ take-length s.records) h.counted
+      → HasCountedAll p s → AreTraffic t all s.records
+  counted_whole s p all h whole = subst (λ l. AreTraffic t all l) (ap (λ k. take k.handed s.records) whole ∙ take-length s.records) h.counted
 
   -- one event more, whose records are not handed out yet
   pub counted_step : (s : State (List ℕ) NodeStateValue) (p q : PartValue Held) (all : List IfaceTraffic) → IsCounted t s p all
-      → p.records.handed ≡ length s.records → Represents pending_of t None q (step (net_of t) (λ x. true) s) → q.records.handed ≡ p.records.handed
+      → HasCountedAll p s → Represents pending_of t None q (step (net_of t) (λ x. true) s) → q.records.keeping ≡ p.records.keeping
       → IsCounted t (step (net_of t) (λ x. true) s) q all
   counted_step s p q all h whole represents handed = record {
     represents = represents;
     counted = subst (λ l. AreTraffic t all l)
-        (sym (ap (λ n. take n (step (net_of t) (λ x. true) s).records) (handed ∙ whole) ∙ stays_in_step (net_of t) s (least s.pending)))
+        (sym (ap (λ k. take k.handed (step (net_of t) (λ x. true) s).records) (handed ∙ whole) ∙ stays_in_step (net_of t) s (least s.pending)))
         (counted_whole s p all h whole);
+    wanted = ap (λ k. k.wanted) (handed ∙ whole);
   }
 
   -- before any record

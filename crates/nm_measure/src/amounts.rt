@@ -7,7 +7,7 @@ ghost use Rattle.nm_base.specs.declared.record.Record.{Record as TraceRecord};
 ghost use Rattle.nm_forward.specs.State.{NodeStateValue};
 ghost use Rattle.nm_model.specs.Run.{State};
 ghost use Rattle.nm_measure.specs.Amounts.{AreTraffic, amount_after, traffic_after};
-ghost use Rattle.nm_measure.specs.Measured.{IsCounted};
+ghost use Rattle.nm_measure.specs.Measured.{HasCountedAll, IsCounted};
 ghost use Rattle.nm_topology.specs.TopologyValue.{TopologyValue};
 
 use nm_base::{Dir, Record};
@@ -108,7 +108,7 @@ pub(crate) fn count_all(part: &mut Part<HeapList>, all: &mut Vec<IfaceTraffic>)
         × IsCounted t s part.old all.old.items }
     ensures { (t : TopologyValue) (s : State (List ℕ) NodeStateValue)
         → IsCounted t s part.old all.old.items → IsCounted t s part.new all.new.items
-        × (part.new.records.handed ≡ length s.records) }
+        × HasCountedAll part.new s }
 {
     count_each(all, part.trace());
     part.let_go();

@@ -53,4 +53,4 @@ returns-clause-book c = λ knows book next.
     (λ K k w j comes b h. (c.told_one_more.ensures net ok p K k w j comes).message b h)
     (λ K J u k w. (c.law_of_books.ensures net ok p K J u k w).within)
     (λ K j a u. c.more_of_one_channel_is_more.ensures net p K j a u)
-    next.later (more_is_over (known_of knows m.channel) m.time m.packet next.later) numbered c.put_arrival.ensures.steps
+    next.later (more_is_over (known_of knows m.channel) m.time m.packet next.later) numbered c.put_arrival.ensures.steps c.put_arrival.ensures.keeping

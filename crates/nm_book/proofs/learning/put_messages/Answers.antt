@@ -10,7 +10,7 @@ loop-message-init c =
     let items : into_iter_items c.into_iter-message-iterator.result ≡ c.args.messages.items = search rules in
     record {
       steps = refl;
-      handed = refl;
+      keeping = refl;
       room = let e = ap length items in let h = c.requires.room in omega (arith, e, h);
       book = λ knows book follow. (
         knows,
@@ -47,7 +47,7 @@ loop-message-preserved c =
     let room = c.put_message.ensures.room in
     record {
       steps = c.put_message.ensures.steps ∙ c.loop-message.invariant.steps;
-      handed = c.put_message.ensures.handed ∙ c.loop-message.invariant.handed;
+      keeping = c.put_message.ensures.keeping ∙ c.loop-message.invariant.keeping;
       room = omega (arith, e, h, room);
       book = λ knows book follow.
           let now = c.loop-message.invariant.book knows book follow in

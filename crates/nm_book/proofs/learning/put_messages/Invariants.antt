@@ -8,7 +8,7 @@ use Rattle.nm_book.proofs.learning.put_messages.Given as goal
 abbrev pub invariant-loop-message : goal.invariant-loop-message
 invariant-loop-message l = record {
   steps : l.part.steps ≡ l.fn.part.steps;
-  handed : l.part.records.handed ≡ l.fn.part.records.handed;
+  keeping : l.part.records.keeping ≡ l.fn.part.records.keeping;
   room : length (into_iter_items l.message-iterator) ≤ room_in l.part.timeline.events;
   book : (knows : List (Know (List ℕ))) → IsBook l.topology l.partition knows l.fn.part → Follow l.topology l.partition knows l.fn.messages.items
       → (now : List (Know (List ℕ))) × IsBook l.topology l.partition now l.part × Follow l.topology l.partition now (into_iter_items l.message-iterator)

@@ -17,7 +17,7 @@ returns-clause-book c =
     let knows = c.args.knows.now.items in
     let messages = c.in_ok-messages.messages.items in
     let reserved : IsBook t p knows c.reserve.new.self =
-    still_book t p knows c.args.part.now c.reserve.new.self c.requires.book (λ s h. c.reserve.ensures.same t (Some p) s h) c.reserve.ensures.steps in
+    still_book t p knows c.args.part.now c.reserve.new.self c.requires.book (λ s h. c.reserve.ensures.same t (Some p) s h) c.reserve.ensures.steps c.reserve.ensures.keeping in
     let follow : Follow t p knows messages = search rules in
     let are_told : AreTold t p knows c.args.others.now (length knows) (told_each knows messages) = search rules in
     let gains = subst (λ l. AreGains t p l c.args.others.now c.in_ok-gains.gains.items) c.deref-2.ensures.value c.in_ok-gains.ensures in

@@ -42,7 +42,7 @@ returns-in-Err-clause-book c = λ p knows book safe.
     let t = c.args.topology.now in
     let now = c.loop-done.invariant.book p knows book safe in
     let steps = c.in-Err.ensures.steps in
-    still_book t p knows c.loop-done.part c.advance.new.self now (λ s h. (c.in-Err.ensures.advance (Some p) s h).0) (omega (arith, steps))
+    still_book t p knows c.loop-done.part c.advance.new.self now (λ s h. (c.in-Err.ensures.advance (Some p) s h).0) (omega (arith, steps)) c.in-Err.ensures.keeping
 
 pub returns-in-Err-clause-run : goal.returns-in-Err-clause-run
 returns-in-Err-clause-run c = λ p knows book safe.
@@ -73,13 +73,13 @@ loop-done-preserved c =
     let one : c.advance.new.self.steps ≡ c.loop-done.part.steps + 1 = c.in-Ok-true.ensures.steps ∙ ap (λ b. c.loop-done.part.steps + events_counted (Ok b)) c.in-Ok-true.field-0-test in
     record {
       steps = omega (arith, one, before);
-      handed = c.in-Ok-true.ensures.handed ∙ c.loop-done.invariant.handed;
+      keeping = c.in-Ok-true.ensures.keeping ∙ c.loop-done.invariant.keeping;
       most = omega (arith, low);
       book = λ p knows book safe.
           let now = c.loop-done.invariant.book p knows book safe in
           let s = from_scratch net p (knowledge_of t knows) c.loop-done.part.steps in
           let done = subst (λ b. Advanced pending_in t (Some p) c.args.safe s c.loop-done.part c.advance.new.self (Ok b)) c.in-Ok-true.field-0-test (c.in-Ok-true.ensures.advance (Some p) s now.represents) in
-          one_more t p knows c.loop-done.part c.advance.new.self now (subst (λ b. pends_before b s ≡ true) safe done.1) done.0 one;
+          one_more t p knows c.loop-done.part c.advance.new.self now (subst (λ b. pends_before b s ≡ true) safe done.1) done.0 one c.in-Ok-true.ensures.keeping;
     }
 
 pub returns-then-is_left-clause-run : goal.returns-then-is_left-clause-run

@@ -9,7 +9,7 @@ use Rattle.nm_book.proofs.running.run_part.Given as goal
 abbrev pub invariant-loop-done : goal.invariant-loop-done
 invariant-loop-done l = record {
   steps : l.part.steps ≡ l.fn.part.steps + l.done;
-  handed : l.part.records.handed ≡ l.fn.part.records.handed;
+  keeping : l.part.records.keeping ≡ l.fn.part.records.keeping;
   most : l.done ≤ l.fn.limit;
   book : (p : ℕ) (knows : List (Know (List ℕ))) → IsBook l.topology p knows l.fn.part
       → l.fn.safe ≡ safe_time (net_of l.topology) p (knowledge_of l.topology knows) → IsBook l.topology p knows l.part;

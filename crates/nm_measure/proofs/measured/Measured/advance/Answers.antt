@@ -17,7 +17,7 @@ count_all-requires c =
     (c.in_ok-key.ensures.step None s m.counted.represents) in (
       t,
       one_list (net_of t) (suc m.events),
-      counted_step t s c.loop-done.self-inside.part c.step.new.self c.loop-done.self-inside.traffic.items m.counted m.all more.0 c.step.ensures.handed,
+      counted_step t s c.loop-done.self-inside.part c.step.new.self c.loop-done.self-inside.traffic.items m.counted m.all more.0 c.step.ensures.keeping,
     )
 
 pub loop-done-preserved : goal.loop-done-preserved
@@ -29,7 +29,7 @@ loop-done-preserved c =
     let more = subst (λ o. Stepped pending_of t None c.args.until s c.loop-done.self-inside.part c.step.new.self (Ok o)) given
     (c.in_ok-key.ensures.step None s m.counted.represents) in
     let all = c.count_all.ensures t (one_list (net_of t) (suc m.events))
-    (counted_step t s c.loop-done.self-inside.part c.step.new.self c.loop-done.self-inside.traffic.items m.counted m.all more.0 c.step.ensures.handed) in
+    (counted_step t s c.loop-done.self-inside.part c.step.new.self c.loop-done.self-inside.traffic.items m.counted m.all more.0 c.step.ensures.keeping) in
     record {
       events = suc m.events;
       early = λ n h. ⊎_elim

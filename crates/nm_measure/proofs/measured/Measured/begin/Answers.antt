@@ -14,5 +14,5 @@ returns c = record {
   };
   represents = c.in_ok-part.ensures.represents;
   traffic = c.in_ok-traffic.ensures;
-  all = c.in_ok-part.ensures.handed;
+  all = c.in_ok-part.ensures.keeping;
 }
