@@ -1,4 +1,4 @@
 pub mod Numbered
-mod Order
+pub mod Order
 pub mod Sinks
 pub mod Splits

@@ -1,10 +1,10 @@
 //! Keys of events: when, where and which.
 
-ghost use Rattle.std.specs.Prelude.{◌≡◌, ◌^◌, refl};
+ghost use Rattle.std.specs.Prelude.{◌≡◌, ◌<◌, ◌^◌, refl};
 ghost use Rattle.std.specs.Cmp.{partial_order_from_total, partial_equiv_from_equiv};
 ghost use Rattle.std.specs.Cmp.{eq_by_cmp_equiv};
 ghost use Rattle.std.specs.Ordering.{as_partial_cmp, eq_by_cmp};
-ghost use Rattle.nm_base.specs.Key.{key_cmp, key_cmp_total, place_number, IsPlaceOf};
+ghost use Rattle.nm_base.specs.Key.{index_of, key_cmp, key_cmp_total, place_number, IsPlaceOf};
 
 use crate::{IfaceNo, SourceNo, Time};
 use std::cmp::Ordering;
@@ -24,9 +24,11 @@ pub enum Place {
 impl Place {
     /// Its number in the order of places. Sources come after every interface that a number of 32
     /// bits can name.
-    fn rank(self) -> u64
+    #[inline(always)]
+    pub fn rank(self) -> u64
         ensures rank { result ≡ place_number (2 ^ 32) self }
         ensures place { IsPlaceOf (2 ^ 32) self }
+        ensures index { index_of self < 2 ^ 32 }
     {
         match self {
             Place::Arrive(iface) => 2 * u64::from(iface.number()),

@@ -1,88 +1,38 @@
 //! What an event list keeps of an event.
 
-ghost use Rattle.std.specs.Prelude.{◌≡◌, refl};
-ghost use Rattle.std.specs.Cmp.{partial_order_from_total, partial_equiv_from_equiv};
-ghost use Rattle.std.specs.Cmp.{eq_by_cmp_equiv};
-ghost use Rattle.std.specs.Ordering.{as_partial_cmp, eq_by_cmp};
-ghost use Rattle.nm_events.specs.Entries.{by_key, by_key_total, entry_key};
+ghost use Rattle.std.specs.Prelude.{◌≡◌, ◌<◌, ◌^◌};
+ghost use Rattle.nm_base.specs.Event.{event_place};
+ghost use Rattle.nm_base.specs.Key.{index_of, place_number};
 
-use nm_base::{Event, Key, Time};
-use std::cmp::Ordering;
+use nm_base::{Event, Time};
 
-/// An event, and the time and the number of its key, whose place it says itself. Entries are
-/// ordered by their keys.
+/// An event, and the time and the number of its key, whose place it says itself; and the place's
+/// number in the order of places, so that entries of one time are told apart by two comparisons.
+/// Entries are ordered by their keys.
 #[derive(Drop)]
 pub(crate) struct Entry {
     pub(crate) time: Time,
+    pub(crate) rank: u64,
     pub(crate) number: u64,
     pub(crate) event: Event,
+    ghost ranked: { rank ≡ place_number (2 ^ 32) (event_place event) },
+    ghost indexed: { index_of (event_place event) < 2 ^ 32 },
 }
 
 impl Entry {
-    /// The event's key.
+    /// The entry of an event of this time and number.
     #[inline(always)]
-    pub(crate) fn key(&self) -> Key
-        ensures { result ≡ entry_key self.now }
+    pub(crate) fn new(time: Time, number: u64, event: Event) -> Self
+        ensures time { result.time ≡ time }
+        ensures number { result.number ≡ number }
+        ensures event { result.event ≡ event }
     {
-        Key {
-            time: self.time,
-            place: self.event.place(),
-            number: self.number,
-        }
-    }
-
-    /// Which of two keys of one time comes first. It is a call of its own, since a heap compares
-    /// entries all the time, and mostly their times differ.
-    #[inline(never)]
-    fn cmp_at_one_time(&self, other: &Entry) -> Ordering
-        ensures { result ≡ by_key self.now other.now }
-    {
-        self.key().cmp(&other.key())
-    }
-}
-
-impl PartialEq for Entry {
-    ghost eq = { eq_by_cmp by_key };
-
-    ghost laws = { partial_equiv_from_equiv (eq_by_cmp_equiv by_key_total) };
-
-    fn eq(&self, other: &Entry) -> bool {
-        self.cmp(other).is_eq()
-    }
-}
-
-impl Eq for Entry {
-    ghost laws = { eq_by_cmp_equiv by_key_total };
-}
-
-impl PartialOrd for Entry {
-    ghost partial_cmp = { as_partial_cmp by_key };
-
-    ghost laws = { partial_order_from_total by_key_total };
-
-    fn partial_cmp(&self, other: &Entry) -> Option<Ordering> {
-        Some(self.cmp(other))
-    }
-}
-
-impl Ord for Entry {
-    ghost cmp = { by_key };
-
-    ghost total = { by_key_total };
-
-    ghost matches_partial_cmp = { λ x y. refl };
-
-    ghost matches_eq = { λ x y. refl };
-
-    #[inline(always)]
-    #[tactic(auto, using(crate::proofs::Times::earlier, crate::proofs::Times::later))]
-    fn cmp(&self, other: &Entry) -> Ordering {
-        if self.time < other.time {
-            Ordering::Less
-        } else if other.time < self.time {
-            Ordering::Greater
-        } else {
-            self.cmp_at_one_time(other)
+        let rank = event.place().rank();
+        Entry {
+            time,
+            rank,
+            number,
+            event,
         }
     }
 }

@@ -56,11 +56,7 @@ impl EventList for HeapList {
     }
 
     fn put(&mut self, time: Time, number: u64, event: Event) {
-        let entry = Entry {
-            time,
-            number,
-            event,
-        };
+        let entry = Entry::new(time, number, event);
         self.heap.push(Reverse(entry)).unwrap();
     }
 

@@ -4,6 +4,7 @@
 mod entry;
 pub mod event_list;
 pub mod heap_list;
+mod order;
 pub mod sorted_list;
 
 pub use event_list::EventList;

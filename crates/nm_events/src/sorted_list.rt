@@ -67,11 +67,7 @@ impl EventList for SortedList {
     }
 
     fn put(&mut self, time: Time, number: u64, event: Event) {
-        let entry = Entry {
-            time,
-            number,
-            event,
-        };
+        let entry = Entry::new(time, number, event);
         let place = self.place_of(&entry.key());
         self.entries.insert(place, entry).unwrap();
     }

@@ -15,7 +15,7 @@ returns-in_err-entry-clause-least c =
     let none : length (heap_items c.self.inside.heap) ≡ 0 = grind (arith, common_steps, c.in_err-entry.ensures.none) in
     rw (← c.self.view_is) (ap (option_map (λ e. keyed e.0 e.1 e.2)) c.from_residual.ensures ∙ sym (none_least _ none))
 
-taken : (c : goal.In_ok-entry) → AreDistinct (heap_pairs (heap_items c.pop.new.self))
+taken : (c : goal.After-entry-2-1) → AreDistinct (heap_pairs (heap_items c.pop.new.self))
     × (Some (pair c.in_ok-entry.field-0.0) ≡ least (from_entries (heap_pairs (heap_items c.self.inside.heap))))
     × (from_entries {R = key_cmp} (heap_pairs (heap_items c.pop.new.self)) ≡ remove (from_entries (heap_pairs (heap_items c.self.inside.heap))) (entry_key c.in_ok-entry.field-0.0))
 taken c = popped c.in_ok-entry.field-0 _ _ c.in_ok-entry.ensures.permutation (c.in_ok-entry.ensures.below_top c.self.invariant.0) c.self.invariant.1

@@ -14,7 +14,7 @@ returns-in_err-entry-clause-least c =
     let none : length c.self.inside.entries.items ≡ 0 = grind (arith, common_steps, c.in_err-entry.ensures.variant) in
     rw (← c.self.view_is) (ap (option_map (λ e. keyed e.0 e.1 e.2)) c.from_residual.ensures ∙ sym (none_least _ none))
 
-taken : (c : goal.In_ok-entry) → (is_sorted key_cmp (pairs c.pop_front.new.self.items) ≡ true) × (Some (pair c.in_ok-entry.entry) ≡ least (from_entries (pairs c.self.inside.entries.items)))
+taken : (c : goal.After-entry-2-1) → (is_sorted key_cmp (pairs c.pop_front.new.self.items) ≡ true) × (Some (pair c.in_ok-entry.entry) ≡ least (from_entries (pairs c.self.inside.entries.items)))
     × (from_entries {R = key_cmp} (pairs c.pop_front.new.self.items) ≡ remove (from_entries (pairs c.self.inside.entries.items)) (entry_key c.in_ok-entry.entry))
 taken c =
     let is : c.self.inside.entries.items ≡ c.in_ok-entry.entry ∷ c.pop_front.new.self.items = search rules in
