@@ -1,5 +1,5 @@
 -- Routes laid out by the keys of their prefixes.
-use Rattle.std.proofs.Common.{◌≡◌, ℕ, ◌+◌, ◌-◌, ◌^◌, ◌<◌, ◌≤◌, ◌++◌, ◌≢◌, Bool, true, false, List, [], ◌∷◌, length, set, refl, sym, ap, ◌∙◌, subst, arith, add-one, ⊎_elim, Some, None, Option, cond}
+use Rattle.std.proofs.Common.{◌≡◌, ℕ, ◌+◌, ◌<◌, ◌≤◌, ◌++◌, ◌≢◌, Bool, true, false, List, [], ◌∷◌, length, set, refl, sym, ap, ◌∙◌, subst, arith, add-one, ⊎_elim, Some, None, Option, cond}
 use Rattle.std.specs.Prelude.{find, slice_index_or}
 use Rattle.std.specs.Option.{option_map, option_or}
 use Rattle.std.specs.HashMap.{get}
@@ -9,7 +9,7 @@ use Rattle.std.proofs.lemmas.List.Folds.{find-append}
 use Rattle.std.proofs.lemmas.List.{get_or-set_same, get_or-set_other}
 use Rattle.nm_topology.specs.declared.parts.Route.{Route}
 use Rattle.nm_forward.specs.declared.routes.PrefixKey.{PrefixKey}
-use Rattle.nm_forward.specs.Routes.{network, leads, longest_below, prefix_key, route_of, same_key, IsLaidOut, Vias}
+use Rattle.nm_forward.specs.Routes.{leads, longest_below, prefix_key, route_of, same_key, IsLaidOut, Vias}
 
 -- keys that are the same in both numbers are one
 pub one_key : (k q : PrefixKey) → same_key k q ≡ true → k ≡ q

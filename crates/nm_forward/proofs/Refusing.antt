@@ -7,11 +7,9 @@ use Rattle.nm_packet.specs.declared.fault.HeaderFault.{HeaderFault}
 use Rattle.nm_packet.specs.Ipv4.{IsPacket, header_fault, header_length_of, header_of, cut_of, fields_of, payload_of, packet_octets, lowered}
 use Rattle.nm_topology.specs.PartValues.{IfaceValue}
 use Rattle.nm_forward.specs.declared.reaction.Reaction.TheVariants.{Pass, Refused}
-use Rattle.nm_forward.specs.declared.row.Row.{Row}
 use Rattle.nm_forward.specs.declared.row.Row.TheVariants.{BadHeader, Forward}
 use Rattle.nm_forward.specs.State.{NodeConfiguration, NodeStateValue, state_counted}
 use Rattle.nm_forward.specs.Row.{arrival_row, packet_row, row_counter}
-use Rattle.nm_forward.specs.Originate.{concluded, consequence_of}
 use Rattle.nm_forward.specs.Reaction.{arrived, followed}
 use Rattle.nm_forward.specs.Reacting.{IsReaction}
 use Rattle.nm_forward.proofs.Sizes.{length-packet}

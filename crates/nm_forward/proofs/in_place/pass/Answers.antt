@@ -1,4 +1,4 @@
-use Rattle.std.proofs.Common.{◌≡◌, ap, sym, ◌∙◌, subst}
+use Rattle.std.proofs.Common.{◌≡◌, sym, subst}
 use Rattle.nm_packet.specs.Ipv4.{fields_of, lowered, packet_octets, payload_of}
 use Rattle.nm_forward.specs.declared.reaction.Reaction.TheVariants.{Pass}
 use Rattle.nm_forward.specs.Reacting.{IsReaction}

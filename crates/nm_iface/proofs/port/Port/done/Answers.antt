@@ -16,6 +16,12 @@ invariant_of-self c =
     let all : octets c.self.inside.waiting.items ≡ c.octet_count.result + octets rest =
     ap octets c.in-Some.ensures.items ∙ one_goes (λ w. w.packet) c.in-Some.load rest
     ∙ ap (λ n. n + octets rest) (sym c.octet_count.ensures.count) in
-    let counted = c.with_fewer-self-inside.ensures.counted (octets rest) in
-    (I.0, I.1, I.2, λ e. cc, counted (subst (λ n. HasCounted n c.self.inside.octets) all I.4), c.transmission-start.ensures.completes,
-    λ r k d h. subst (All (λ w. IsSome w.copy)) c.in-Some.ensures.items (I.6 r) (suc k) d (omega (arith, h)))
+    let counted = c.with_fewer-self-inside.ensures.counted (octets rest) in (
+      I.0,
+      I.1,
+      I.2,
+      λ e. cc,
+      counted (subst (λ n. HasCounted n c.self.inside.octets) all I.4),
+      c.transmission-start.ensures.completes,
+      λ r k d h. subst (All (λ w. IsSome w.copy)) c.in-Some.ensures.items (I.6 r) (suc k) d (omega (arith, h)),
+    )
