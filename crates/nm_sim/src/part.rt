@@ -457,6 +457,11 @@ impl<L: EventList> Part<L> {
         self.records.count()
     }
 
+    /// How many records there were of all interfaces, wanted or not, for who shows how far a run is.
+    pub fn made(&self) -> u64 {
+        self.records.made()
+    }
+
     /// How many records an interface has, with those that were handed out, and the octets of their
     /// trace file with its header. Both stop at the greatest `u64`.
     pub fn totals(&self, iface: IfaceNo) -> (u64, u64)

@@ -36,6 +36,8 @@ pub struct Records {
     totals: Vec<(u64, u64)>,
     /// The packet of a blank.
     nothing: Packet,
+    /// How many records were counted and not kept; it stops at the greatest `u64`.
+    passed: u64,
 }
 
 impl Model for Records {
@@ -96,6 +98,7 @@ impl Records {
             handed: 0,
             totals: vec![in alloc; (0, FILE_HEADER_OCTETS as u64); ifaces]?,
             nothing: no_packet(alloc)?,
+            passed: 0,
         })
     }
 
@@ -152,6 +155,7 @@ impl Records {
             (slice_get self.old.totals i) }
     {
         count_one(&mut self.totals, iface, usize::from(octets));
+        self.passed = self.passed.saturating_add(1);
     }
 
     /// A packet of so many octets arrived, of which no record is kept.
@@ -360,6 +364,13 @@ impl Records {
         ensures { result ≡ self.now.keeping.handed + length self.now.kept }
     {
         self.handed + (self.list.len() - self.blanks) as u64
+    }
+
+    /// How many records there were of all interfaces, for who shows how far a run is.
+    pub fn made(&self) -> u64 {
+        self.handed
+            .saturating_add((self.list.len() - self.blanks) as u64)
+            .saturating_add(self.passed)
     }
 
     /// How many records an interface has, and the octets of their trace file.

@@ -2,6 +2,8 @@
 
 ghost use Rattle.std.specs.Prelude.{◌≡◌, List, [], ℕ, IfOk};
 ghost use Rattle.nm_base.specs.declared.record.Record.{Record as TraceRecord};
+ghost use Rattle.std.specs.Option.{option_map};
+ghost use Rattle.nm_model.specs.EventList.{least};
 ghost use Rattle.nm_events.specs.Held.{pending_of};
 ghost use Rattle.nm_base.specs.declared.wanted.Wanted.TheVariants.{All};
 ghost use Rattle.nm_sim.specs.Records.{cut};
@@ -10,7 +12,7 @@ ghost use Rattle.nm_sim.specs.Tracing.{ShowsNext, IsTracing};
 
 use crate::network::every_topology_is_a_network;
 use crate::part::Part;
-use nm_base::{Packet, Record, Wanted};
+use nm_base::{Packet, Record, Time, Wanted};
 use nm_events::HeapList;
 use nm_forward::NodeState;
 use nm_model::run::times_pass;
@@ -95,6 +97,26 @@ impl Tracer {
         ensures { result.now ≡ self.now.records.kept }
     {
         self.part.trace()
+    }
+
+    /// How many events were done, at most 2^62.
+    pub fn events(&self) -> u64
+        ensures { result ≡ self.now.steps }
+    {
+        self.part.steps()
+    }
+
+    /// The time of the event that comes next, if there is one.
+    pub fn next_time(&self) -> Option<Time>
+        ensures { result
+            ≡ option_map (λ e. e.0.time) (least (pending_of self.now.timeline.events)) }
+    {
+        self.part.least()
+    }
+
+    /// How many records there were of all interfaces, wanted or not, for who shows how far a run is.
+    pub fn made(&self) -> u64 {
+        self.part.made()
     }
 
     /// How many records were let go.

@@ -1,5 +1,4 @@
-use Rattle.std.proofs.Common.{◌≡◌, ◌⊎◌, ◌≤◌, ◌<◌, true, length, Some, slice_get, slice_set, refl, sym, ap, ◌∙◌, subst, rules, arith}
-use Rattle.std.specs.Option.{IfSome}
+use Rattle.std.proofs.Common.{◌≡◌, ◌<◌, true, length, Some, slice_get, slice_set, refl, sym, ap, ◌∙◌, subst, rules, arith}
 use Rattle.std.proofs.lemmas.Option.{slice_get_read}
 use Rattle.nm_model.specs.Port.{is_refused}
 use Rattle.nm_model.proofs.ListLemmas.{some_inj}

@@ -1,4 +1,4 @@
-use Rattle.std.proofs.Common.{◌≡◌, ◌⊎◌, inl, inr, ap, ◌≤◌, ℕ, List, length, Option, Some, None, slice_get, slice_set, refl, sym, subst, ⊎_elim, rules, arith, length-set}
+use Rattle.std.proofs.Common.{◌≡◌, ap, ◌≤◌, ℕ, List, length, Option, Some, None, slice_get, slice_set, refl, sym, subst, ⊎_elim, rules, arith, length-set}
 use Rattle.std.specs.Option.{IfSome}
 use Rattle.std.proofs.lemmas.Option.{IfSome_then, same_Some, slice_get_read, slice_get_within}
 use Rattle.nm_iface.specs.PortValue.{PortValue}

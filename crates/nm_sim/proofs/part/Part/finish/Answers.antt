@@ -1,9 +1,8 @@
-use Rattle.std.proofs.Common.{◌+◌, refl, sym, ap, ◌∙◌, ◌++◌, subst, arith}
+use Rattle.std.proofs.Common.{◌+◌, refl, sym, ap, ◌∙◌, subst, arith}
 use Rattle.nm_model.specs.EventList.{schedule}
-use Rattle.nm_model.specs.Run.{keyed, out_record, sent_after, transmission_events}
+use Rattle.nm_model.specs.Run.{keyed, sent_after, transmission_events}
 use Rattle.nm_sim.specs.Effects.{TransmitsAt, transmission_of}
 use Rattle.nm_sim.specs.Network.{here_of, net_of}
-use Rattle.nm_sim.specs.Records.{RecordsRepresent}
 use Rattle.nm_sim.specs.Outgoing.{OutgoingRepresents, channel_count}
 use Rattle.nm_sim.specs.Part.{IsUnderWay, PartValue}
 use Rattle.std.specs.Option.{IfSome}

@@ -1,8 +1,6 @@
-use Rattle.std.proofs.Common.{length, sym, ap, ◌∙◌, ◌+◌, subst, arith}
+use Rattle.std.proofs.Common.{sym, subst, arith}
 use Rattle.nm_sim.specs.Part.{PartValue, Represents}
-use Rattle.nm_sim.specs.Records.{cut}
 use Rattle.nm_sim.proofs.Parts.{kept_few}
-use Rattle.nm_sim.proofs.Recordings.{rest_is_all}
 use Rattle.nm_sim.proofs.part.Part.records.Goals as goal
 
 pub count-requires : goal.count-requires

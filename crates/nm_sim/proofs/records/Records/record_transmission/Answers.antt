@@ -1,4 +1,4 @@
-use Rattle.std.proofs.Common.{◌≡◌, ◌++◌, sym, ap, ◌∙◌, subst, ℕ, List, Option, Some, None}
+use Rattle.std.proofs.Common.{◌++◌, subst, ℕ, List, Option, Some, None}
 use Rattle.nm_base.specs.declared.record.Record.{Record}
 use Rattle.nm_model.specs.Run.{out_record}
 use Rattle.nm_topology.specs.TopologyValue.{TopologyValue}
