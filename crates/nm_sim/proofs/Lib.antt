@@ -1,5 +1,6 @@
 mod Beginnings
 mod Channels
+pub mod Cuts
 mod Doings
 mod Kept
 mod Networks

@@ -43,7 +43,8 @@ use Rattle.nm_sim.proofs.Doings.{follows_at}
 use Rattle.nm_sim.proofs.Pendings.{put_back}
 use Rattle.nm_sim.specs.Records.{RecordsRepresent, RecordsValue, cut}
 use Rattle.nm_sim.proofs.Outgoings.{outgoing_same}
-use Rattle.nm_sim.proofs.Recordings.{length-cut, records_same, rest_is_all}
+use Rattle.nm_sim.proofs.Cuts.{length-cut}
+use Rattle.nm_sim.proofs.Recordings.{records_same, rest_is_all}
 use Rattle.nm_base.specs.declared.record.Record.{Record}
 use Rattle.nm_sim.proofs.Steps.{least_has, pending_here}
 use Rattle.nm_sim.proofs.Kept.{Kept}

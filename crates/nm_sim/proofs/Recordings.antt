@@ -16,6 +16,7 @@ use Rattle.nm_pcap.specs.declared.format.TheConstants.{FILE_HEADER_OCTETS, RECOR
 use Rattle.nm_pcap.specs.Format.{file_header, pcap, record_header, record_octets}
 use Rattle.nm_sim.specs.Records.{Keeping, RecordsRepresent, RecordsValue, cut}
 use Rattle.nm_sim.specs.Tables.{AllAt}
+use Rattle.nm_sim.proofs.Cuts.{cut-append}
 use Rattle.nm_sim.specs.Totals.{total_after, totals_of}
 
 -- the trace file of one more record
@@ -57,24 +58,6 @@ totals_more i trace r false h = ap (λ l. (saturated (length l), saturated (leng
 -- the number of those that are left, beside those that are not
 pub rest_is_all : (n : ℕ) (trace : List (Record (List ℕ))) → n ≤ length trace → n + length (drop n trace) ≡ length trace
 rest_is_all n trace few = let l = length-drop n trace in omega (arith, l, few)
-
--- the records of some interfaces, of two lists one after the other
-pub cut-append : (w : Wanted) (xs ys : List (Record (List ℕ))) → cut w (xs ++ ys) ≡ cut w xs ++ cut w ys
-cut-append All xs ys = refl
-cut-append Nothing xs ys = refl
-cut-append (One i) xs ys = kept-append (λ r. r.iface == i) xs ys
-
--- they are no more than all
-pub length-cut : (w : Wanted) (xs : List (Record (List ℕ))) → length (cut w xs) ≤ length xs
-length-cut All xs = omega arith
-length-cut Nothing xs = omega arith
-length-cut (One i) xs = go xs
-  where
-    go : (l : List (Record (List ℕ))) → length (keep_where (λ r. r.iface == i) l) ≤ length l
-    go [] = omega arith
-    go (x ∷ l) =
-        let h = go l in
-        elim (x.iface == i) as (λ b. length (cond b (x ∷ keep_where (λ r. r.iface == i) l) (keep_where (λ r. r.iface == i) l)) ≤ suc (length l)) [ true ↦ omega (arith, h) | false ↦ omega (arith, h) ]
 
 cut_one : (w : Wanted) (r : Record (List ℕ)) → cut w (r ∷ []) ≡ cond (is_wanted w r.iface) (r ∷ []) []
 cut_one All r = refl

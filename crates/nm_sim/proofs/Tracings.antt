@@ -19,7 +19,7 @@ use Rattle.nm_sim.specs.Part.{Advanced, PartValue, Represents}
 use Rattle.nm_sim.specs.Records.{cut}
 use Rattle.nm_sim.specs.Trace.{IsTraceBefore}
 use Rattle.nm_sim.specs.Tracing.{IsTracing, ShowsAt}
-use Rattle.nm_sim.proofs.Recordings.{cut-append}
+use Rattle.nm_sim.proofs.Cuts.{cut-append}
 
 module _ {P N : Type 0} (net : Net P N) where
   stays_in_step : (s : State P N) (o : Option (Key × Event P)) → (more : List (Record P)) × ((step_at net (λ q. true) s o).records ≡ s.records ++ more)
