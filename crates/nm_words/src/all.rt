@@ -7,6 +7,7 @@ ghost use Rattle.std.specs.Str.{bytes_eq};
 ghost use Rattle.nm_base.specs.declared.record.Record.{Record as TraceRecord};
 ghost use Rattle.nm_command.specs.Status.{ended};
 ghost use Rattle.nm_command.specs.declared.status.Status.TheVariants.{File, Memory, NoInterface};
+ghost use Rattle.nm_base.specs.declared.wanted.Wanted.TheVariants.{All as AllWanted};
 ghost use Rattle.nm_events.specs.Held.{pending_of};
 ghost use Rattle.nm_files.specs.Files.{FilesTook};
 ghost use Rattle.nm_files.specs.Names.{file_name};
@@ -139,7 +140,7 @@ fn record_all<S: Sink>(
     progress: &Progress,
 ) -> Result<(), Status>
     requires tracing { IsTracing pending_of network.now tracer.old }
-    requires none { tracer.old.records.handed ≡ 0 }
+    requires keeping { tracer.old.records.keeping ≡ record { wanted = AllWanted; handed = 0 } }
     requires nothing { tracer.old.records.kept ≡ [] }
     ensures took { (records : List (TraceRecord (List ℕ)))
         → IsTraceBefore network.now network.now.stop records

@@ -12,7 +12,7 @@ use crate::inputs::Inputs;
 use crate::output::{Output, end};
 use crate::reading::read_topology;
 use crate::traces::read_iface;
-use nm_base::{IfaceNo, Record, Sink};
+use nm_base::{IfaceNo, Record, Sink, Wanted};
 use nm_command::{Status, View};
 use nm_measure::measure;
 use nm_progress::Progress;
@@ -97,7 +97,7 @@ fn packets_text(alloc: Global, network: &Topology, iface: IfaceNo) -> Result<Vec
     ensures { IfOk result (λ text. ArePacketLines text.items) }
 {
     let mut text = Vec::new(alloc);
-    let mut tracer = Tracer::start(alloc, network)?;
+    let mut tracer = Tracer::start_with(alloc, network, Wanted::One(iface))?;
     for _ in 0..u64::MAX {
         if !tracer.go_on(alloc, network)? {
             return Ok(text);

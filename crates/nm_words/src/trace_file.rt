@@ -3,16 +3,18 @@
 ghost use Rattle.std.specs.Prelude.{◌≡◌, ◌≤◌, ℕ, All, List, [], ◌∷◌, false};
 ghost use Rattle.nm_base.specs.declared.limits.TheConstants.{MAX_TIME};
 ghost use Rattle.nm_base.specs.declared.record.Record.{Record as TraceRecord};
+ghost use Rattle.nm_base.specs.declared.wanted.Wanted.TheVariants.{One};
 ghost use Rattle.nm_events.specs.Held.{pending_of};
 ghost use Rattle.nm_pcap.specs.Format.{file_header};
 ghost use Rattle.nm_pcap.specs.Writing.{ending, written};
+ghost use Rattle.nm_sim.specs.Records.{cut};
 ghost use Rattle.nm_sim.specs.Trace.{IsTraceBefore};
 ghost use Rattle.nm_sim.specs.Tracing.{ShowsNext, IsTracing};
 ghost use Rattle.nm_files.specs.Writing.{Writes, WritesOn};
 ghost use Rattle.nm_files.specs.TraceFile.{trace_file, written_at};
 ghost use Rattle.nm_words.specs.Traces.{goes, going};
 
-use nm_base::{Dir, IfaceNo, Record, Sink};
+use nm_base::{Dir, IfaceNo, Record, Sink, Wanted};
 use nm_command::Ways;
 use nm_files::trace_file::{TraceFault, sink_outcome, write_at};
 use nm_pcap::{Form, PcapOut};
@@ -22,6 +24,9 @@ use nm_sim::trace::every_topology_has_a_trace;
 use nm_topology::Topology;
 use nm_topology::topology::accepted_topologies_are_in_order;
 use std::alloc::{AllocError, Global};
+
+/// How far a run is is noted once in so many events.
+const EVENTS_A_NOTE: u64 = 1_024;
 
 /// What a trace file has: the packets that pass an interface and go these ways.
 #[derive(Clone, Copy)]
@@ -98,7 +103,7 @@ fn write_file<S: Sink>(
         (trace_file file.old.form traced.now.iface (going traced.now.ways records)) }
 {
     sink_outcome(file.start())?;
-    let mut tracer = Tracer::start(alloc, topology)?;
+    let mut tracer = Tracer::start_with(alloc, topology, Wanted::One(traced.iface))?;
     write_all_of(alloc, topology, &mut tracer, traced, file, progress)?;
     sink_outcome(file.end())
 }
@@ -130,13 +135,15 @@ fn write_all_of<S: Sink>(
     progress: &Progress,
 ) -> Result<(), TraceFault>
     requires tracing { IsTracing pending_of topology.now tracer.old }
-    requires none { tracer.old.records.handed ≡ 0 }
+    requires keeping { tracer.old.records.keeping
+        ≡ record { wanted = One traced.now.iface; handed = 0 } }
     requires nothing { tracer.old.records.kept ≡ [] }
     requires sound { file.old.failed ≡ false }
     ensures { (records : List (TraceRecord (List ℕ)))
         → IsTraceBefore topology.now topology.now.stop records
         → WritesOn S.seen file.old file.new result
-        (written_at file.old.form traced.now.iface (going traced.now.ways records)) }
+        (written_at file.old.form traced.now.iface (going traced.now.ways
+        (cut (One traced.now.iface) records))) }
 {
     for event in 0..u64::MAX {
         let is_there = go_on(alloc, topology, tracer, progress)?;
@@ -160,7 +167,9 @@ pub(crate) fn go_on(
     ensures tracing { IsTracing pending_of topology.now tracer.new }
     ensures next { (records : List (TraceRecord (List ℕ)))
         → IsTraceBefore topology.now topology.now.stop records
-        → ShowsNext records tracer.old.records result tracer.new.records }
+        → ShowsNext (cut tracer.old.records.keeping.wanted records)
+        tracer.old.records result tracer.new.records }
+    ensures still { tracer.new.records.keeping.wanted ≡ tracer.old.records.keeping.wanted }
     ensures times { All (λ r. r.time ≤ MAX_TIME) tracer.new.records.kept }
 {
     accepted_topologies_are_in_order(topology); // law: `stop` is within its limit
@@ -170,10 +179,11 @@ pub(crate) fn go_on(
     outcome
 }
 
-/// Notes how far the run is, where a record is shown that is to be noted.
+/// Notes how far the run is, now and then: all before the next event is done.
 fn note_shown(tracer: &Tracer, progress: &Progress) {
-    let records = tracer.records();
-    if let Some(record) = records.first() {
-        progress.note_records(tracer.let_go(), records.len(), record.time);
+    if tracer.events() % EVENTS_A_NOTE == 0
+        && let Some(time) = tracer.next_time()
+    {
+        progress.note(time, tracer.made());
     }
 }
