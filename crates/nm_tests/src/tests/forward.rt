@@ -6,9 +6,9 @@ ghost use Rattle.nm_forward.specs.State.{table_of};
 
 use crate::tests::same::{eq_number, eq_octets, eq_text, holds};
 use crate::tests::texts::TRIO;
-use bytes::Bytes;
-use nm_base::{IfaceNo, NodeNo, Packet, SourceNo, Time, Twin};
-use nm_forward::{Counter, NodeState, Origin, Reaction, Routes, react};
+use bytes::{Bytes, BytesMut};
+use nm_base::{IfaceNo, NodeNo, Packet, SourceNo, Time, Twin, Wanted};
+use nm_forward::{Counter, NodeState, Origin, Reaction, Routes, react, react_in_place};
 use nm_iface::Port;
 use nm_packet::Address;
 use nm_topology::parts::Route;
@@ -250,6 +250,25 @@ impl Bench {
         )
     }
 
+    /// What the node does with a packet that it alone may have, where these records are wanted.
+    pub fn react_in_place(
+        &mut self,
+        rt: &impl AllocGlobal,
+        wanted: &Wanted,
+        iface: u32,
+        packet: Packet,
+    ) -> Result<Reaction, Packet> {
+        react_in_place(
+            rt.alloc(),
+            &self.topology,
+            &[],
+            &mut self.state,
+            wanted,
+            IfaceNo::new(iface),
+            packet,
+        )
+    }
+
     /// How often the node counted this.
     pub fn count(&self, counter: Counter) -> u64 {
         self.state.counter(counter)
@@ -337,7 +356,7 @@ fn is_refused(rt: &(impl Abort + AllocGlobal), port: Option<Port>) -> bool {
         .expect(rt, "there is memory");
     eq_number(rt, "forwarded", bench.count(Counter::Forwarded), 1);
     match reaction {
-        Reaction::Nothing => panic!(rt; "it is sent"),
+        Reaction::Nothing | Reaction::Pass(..) => panic!(rt; "it is sent, with its twin"),
         Reaction::Send(via, twin) => {
             eq_number(rt, "via", u64::from(via.number()), 2);
             eq_octets(rt, "what is sent", twin.packet.octets(), FORWARDED);
@@ -358,5 +377,54 @@ fn full_ports_take_no_copy(rt: HostRuntime) {
     for (queue, offers, want) in [(0, 0, false), (0, 1, true), (2, 2, false), (2, 3, true)] {
         let port = port_with(&rt, queue, offers);
         assert!(rt; is_refused(&rt, Some(port)) == want, "{queue} and {offers}");
+    }
+}
+
+/// A packet of these octets in a block of its own.
+pub fn own_packet(rt: &(impl Abort + AllocGlobal), octets: &[u8]) -> Packet {
+    assert!(rt; !octets.is_empty() && octets.len() <= 65_535);
+    let octets = BytesMut::copy_from_slice(rt.alloc(), octets).expect(rt, "there is memory");
+    Packet::from_own(rt.alloc(), octets).expect(rt, "there is memory")
+}
+
+/// The router of the trio sends the datagram on by interface 2. It says whether it was lowered
+/// where it lies; the datagram that another has stays as it is.
+fn is_passed(rt: &(impl Abort + AllocGlobal), packet: Packet, wanted: &Wanted) -> bool {
+    let mut bench = node_of_trio(rt, 1);
+    let (via, octets, passed) = match bench.react_in_place(rt, wanted, 1, packet) {
+        Ok(Reaction::Pass(via, packet)) => (via, packet, true),
+        Ok(Reaction::Send(via, twin)) => (via, twin.packet, false),
+        Ok(Reaction::Nothing | Reaction::Refused(_)) | Err(_) => panic!(rt; "it is sent"),
+    };
+    eq_number(rt, "via", u64::from(via.number()), 2);
+    eq_octets(rt, "what is sent", octets.octets(), FORWARDED);
+    eq_number(rt, "forwarded", bench.count(Counter::Forwarded), 1);
+    passed
+}
+
+/// Rows of which records are wanted, and whether a datagram of which nobody else has the octets is
+/// lowered where it lies.
+#[test]
+fn packets_are_lowered_where_they_lie(rt: HostRuntime) {
+    for (wanted, want) in [
+        (Wanted::Nothing, true),
+        (Wanted::One(IfaceNo::new(1)), true),
+        (Wanted::One(IfaceNo::new(2)), false),
+        (Wanted::All, false),
+    ] {
+        holds(
+            &rt,
+            "its own",
+            is_passed(&rt, own_packet(&rt, DATAGRAM), &wanted) == want,
+        );
+        let packet = own_packet(&rt, DATAGRAM);
+        let other = packet.clone().expect(&rt, "it has room");
+        holds(&rt, "shared", !is_passed(&rt, packet, &wanted));
+        eq_octets(&rt, "what another has", other.octets(), DATAGRAM);
+        holds(
+            &rt,
+            "cut",
+            !is_passed(&rt, packet_of(&rt, DATAGRAM), &wanted),
+        );
     }
 }
