@@ -24,7 +24,7 @@ use Rattle.nm_files.specs.Outputs.{AreWhole, Files, HasMade, HasMadeSome}
 use Rattle.nm_files.specs.TraceFile.{trace_file, written_at}
 use Rattle.nm_files.proofs.Made.{appended}
 use Rattle.nm_files.proofs.Records.{file_parts}
-use Rattle.nm_words.specs.All.{AreAsked, MakesAll, is_wanted, wanted_file}
+use Rattle.nm_words.specs.All.{AreAsked, MakesAll, is_asked_for, wanted_file}
 use Rattle.nm_words.specs.Input.{InputsSeen, IsInput}
 use Rattle.nm_command.specs.Status.{ended}
 use Rattle.nm_command.specs.declared.status.Status.{Status}
@@ -33,7 +33,7 @@ use Rattle.nm_words.specs.Held.{AreHeld, HasOpened, HoldsFile, IsClosedAs, octet
 
 -- a name is among some, or there are none
 pub wanted_by : {Y : Type 0} (h : Y → List ℕ) (ys : List Y) (iface : IfaceValue)
-    → (nat_eq (length ys) 0 || is_some (position (λ y. bytes_eq (h y) iface.name) ys)) ≡ is_wanted (map h ys) iface
+    → (nat_eq (length ys) 0 || is_some (position (λ y. bytes_eq (h y) iface.name) ys)) ≡ is_asked_for (map h ys) iface
 wanted_by h ys iface =
     ap₂ (λ n o. nat_eq n 0 || is_some o) (sym (length-map ys h)) (sym (position-map h (λ n. bytes_eq n iface.name) ys))
 
@@ -69,7 +69,7 @@ module _ {S : Type 0} (seen : S → SinkSeen) (made : Option Files) (t : Topolog
 
   -- one more file was begun
   pub one_held : (files new : List (Option (Writer S))) (n : ℕ) (iface : IfaceValue) → length files ≡ n → slice_get t.ifaces n ≡ Some iface
-      → AreHeld seen made t names [] files → HasOpened seen made (is_wanted names iface) files new → AreHeld seen made t names [] new
+      → AreHeld seen made t names [] files → HasOpened seen made (is_asked_for names iface) files new → AreHeld seen made t names [] new
   one_held files new n iface count is held opened = record {
     each = λ m other low at. pick m other (subst (λ l. m < length l) opened.1 low) at (m == n) refl;
   }
@@ -81,17 +81,17 @@ module _ {S : Type 0} (seen : S → SinkSeen) (made : Option Files) (t : Topolog
       same other e = cc
 
       pick : (m : ℕ) (other : IfaceValue) → m < length (files ++ file ∷ []) → slice_get t.ifaces m ≡ Some other → (b : Bool) → (m == n) ≡ b
-          → HoldsFile seen made (is_wanted names other) (octets_after m []) (get_or new m None)
+          → HoldsFile seen made (is_asked_for names other) (octets_after m []) (get_or new m None)
       pick m other low at true here =
           let e : m ≡ n = grind (arith, nat_tests, here) in
           let is_other : other ≡ iface = same other (sym at ∙ ap (slice_get t.ifaces) e ∙ is) in
           let last : get_or new m None ≡ file = ap (λ l. get_or l m None) opened.1 ∙ ap (λ k. get_or (files ++ file ∷ []) k None) (e ∙ sym count) ∙ get_or-append_seam files file [] None in
-          subst (λ z. HoldsFile seen made (is_wanted names other) (octets_after m []) z) (sym last)
-          (subst (λ o. HoldsFile seen made (is_wanted names other) o file) (sym (append-nil file_header)) (subst (λ i. HoldsFile seen made (is_wanted names i) file_header file) (sym is_other) opened.2))
+          subst (λ z. HoldsFile seen made (is_asked_for names other) (octets_after m []) z) (sym last)
+          (subst (λ o. HoldsFile seen made (is_asked_for names other) o file) (sym (append-nil file_header)) (subst (λ i. HoldsFile seen made (is_asked_for names i) file_header file) (sym is_other) opened.2))
       pick m other low at false here =
           let long = length-append files (file ∷ []) in
           let less : m < length files = grind (arith, nat_tests, here, low, long, count) in
-          subst (λ z. HoldsFile seen made (is_wanted names other) (octets_after m []) z) (sym (ap (λ l. get_or l m None) opened.1 ∙ get_or-append files (file ∷ []) None m less))
+          subst (λ z. HoldsFile seen made (is_asked_for names other) (octets_after m []) z) (sym (ap (λ l. get_or l m None) opened.1 ∙ get_or-append files (file ∷ []) None m less))
           (held.each m other less at)
 
   -- the files took more records
@@ -101,7 +101,7 @@ module _ {S : Type 0} (seen : S → SinkSeen) (made : Option Files) (t : Topolog
     each = λ n iface low at.
         let count = took.count in
         let was : n < length old = omega (arith, low, count) in
-        wrote n (is_wanted names iface) (get_or old n None) (get_or new n None) (held.each n iface was at)
+        wrote n (is_asked_for names iface) (get_or old n None) (get_or new n None) (held.each n iface was at)
         (took.each n (get_or old n None) (get_or new n None) (slice_get-get_or old n None was) (slice_get-get_or new n None low));
   }
     where
@@ -136,12 +136,12 @@ mapped f (Some x) = refl
 
 -- one more file was closed, or none
 pub one_closed : {C : Type 0} (closed : C → Option (List ℕ × List ℕ)) (made : Option Files) (names : List (List ℕ)) (folder : List ℕ) (records : List (Record (List ℕ))) (n : ℕ) (iface : IfaceValue) (o : Option C)
-    → IsClosedAs made (is_wanted names iface) (file_name folder iface, octets_after n records) (option_map closed o)
+    → IsClosedAs made (is_asked_for names iface) (file_name folder iface, octets_after n records) (option_map closed o)
     → AreWhole made (map closed (option_to_list o)) (wanted_file names folder records (n, iface))
 one_closed closed made names folder records n iface o closed_one first told =
     let file : List ℕ × List ℕ = (file_name folder iface, trace_file Octets n records) in
     mapped closed o
-    ∙ closed_as made (is_wanted names iface) (file_name folder iface, octets_after n records) file (option_map closed o) closed_one (ap (λ l. (file_name folder iface, l)) (whole_file n records)) first told
+    ∙ closed_as made (is_asked_for names iface) (file_name folder iface, octets_after n records) file (option_map closed o) closed_one (ap (λ l. (file_name folder iface, l)) (whole_file n records)) first told
 
 -- the word ends as the files do
 module _ (before after : InputsSeen) (made_before made : Option Files) where

@@ -18,15 +18,15 @@ use Rattle.nm_words.specs.Output.{FailsOfInput}
 use Rattle.nm_words.specs.Traces.{iface_named}
 
 -- the file of an interface is asked for: its name is one of these, or there are no names
-abbrev pub is_wanted : List (List ℕ) → IfaceValue → Bool
-is_wanted names iface =
+abbrev pub is_asked_for : List (List ℕ) → IfaceValue → Bool
+is_asked_for names iface =
     nat_eq (length names) 0 || is_some (position (λ name. bytes_eq name iface.name) names)
 
 -- the files that are asked for: each is the trace file of its interface over these records; in the
 -- order of the text
 abbrev pub wanted_file : List (List ℕ) → List ℕ → List (Record (List ℕ)) → ℕ × IfaceValue → Files
 wanted_file names folder records i =
-    if is_wanted names i.1 then (file_name folder i.1, trace_file Octets i.0 records) ∷ [] else []
+    if is_asked_for names i.1 then (file_name folder i.1, trace_file Octets i.0 records) ∷ [] else []
 
 abbrev pub wanted_files : TopologyValue → List (List ℕ) → List ℕ → List (Record (List ℕ)) → Files
 wanted_files t names folder records =

@@ -9,7 +9,7 @@ use Rattle.nm_topology.specs.PartValues.{IfaceValue}
 use Rattle.nm_topology.specs.TopologyValue.{TopologyValue}
 use Rattle.nm_files.specs.Outputs.{Files, IsWhole}
 use Rattle.nm_files.specs.TraceFile.{written_at}
-use Rattle.nm_words.specs.All.{is_wanted}
+use Rattle.nm_words.specs.All.{is_asked_for}
 
 -- the octets of interface n's file after these records
 abbrev pub octets_after : ℕ → List (Record (List ℕ)) → List ℕ
@@ -34,7 +34,7 @@ module _ {S : Type 0} (seen : S → SinkSeen) (made : Option Files) where
   pub record AreHeld (t : TopologyValue) (names : List (List ℕ)) (records : List (Record (List ℕ)))
       (files : List (Option (Writer S))) : Type 0 where
     pub each : (n : ℕ) (iface : IfaceValue) → n < length files → slice_get t.ifaces n ≡ Some iface
-        → HoldsFile (is_wanted names iface) (octets_after n records) (get_or files n None)
+        → HoldsFile (is_asked_for names iface) (octets_after n records) (get_or files n None)
 
 -- where a file is wanted, it was closed and is this one; else none was
 abbrev pub IsClosedAs : Option Files → Bool → List ℕ × List ℕ → Option (Option (List ℕ × List ℕ))

@@ -15,7 +15,7 @@ ghost use Rattle.nm_files.specs.Outputs.{AreWhole, HasMade, HasMadeSome};
 ghost use Rattle.nm_sim.specs.Trace.{IsTraceBefore};
 ghost use Rattle.nm_sim.specs.Tracing.{IsTracing};
 ghost use Rattle.nm_topology.specs.PartValues.{IfaceValue};
-ghost use Rattle.nm_words.specs.All.{MakesAll, is_wanted, wanted_files};
+ghost use Rattle.nm_words.specs.All.{MakesAll, is_asked_for, wanted_files};
 ghost use Rattle.nm_words.specs.Held.{AreHeld, HasOpened, HoldsFile, IsClosedAs};
 ghost use Rattle.nm_words.specs.Input.{inputs_seen};
 ghost use Rattle.nm_words.specs.Traces.{iface_named};
@@ -55,8 +55,8 @@ fn place_of(names: &[String], iface: &Iface) -> Option<usize>
 }
 
 /// Whether the trace file of an interface is asked for.
-fn is_wanted(names: &[String], iface: &Iface) -> bool
-    ensures { result ≡ is_wanted (map (λ n. string_bytes n) names.now) iface.now }
+fn is_asked_for(names: &[String], iface: &Iface) -> bool
+    ensures { result ≡ is_asked_for (map (λ n. string_bytes n) names.now) iface.now }
 {
     names.is_empty() || place_of(names, iface).is_some()
 }
@@ -93,7 +93,7 @@ fn open_wanted<F: Outputs>(
     ensures opened { (iface : IfaceValue)
         → slice_get wanted.now.network.now.ifaces number ≡ Some iface
         → OnOk result (HasOpened F.File.seen (F.made outputs.old)
-        (is_wanted (map (λ n. string_bytes n) wanted.now.names.now) iface)
+        (is_asked_for (map (λ n. string_bytes n) wanted.now.names.now) iface)
         files.old.files.items files.new.files.items) }
 
     // No file was placed, and the faults are these.
@@ -102,7 +102,7 @@ fn open_wanted<F: Outputs>(
 {
     accepted_topologies_are_in_order(wanted.network); // law: there are few interfaces
     let iface = IfaceNo::new(number as u32);
-    if !is_wanted(wanted.names, wanted.network.iface(iface)) {
+    if !is_asked_for(wanted.names, wanted.network.iface(iface)) {
         return Ok(files.skip()?);
     }
     let name = name_of(alloc, wanted.folder, wanted.network.iface(iface))?;

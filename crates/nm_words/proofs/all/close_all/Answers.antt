@@ -1,6 +1,6 @@
 use Rattle.std.proofs.Common.{◌<◌, ◌≤◌, None, get_or, length, map, string_bytes, option_map, sym, ◌∙◌, subst, arith, rules}
 use Rattle.nm_files.specs.Names.{file_name}
-use Rattle.nm_words.specs.All.{is_wanted, wanted_file}
+use Rattle.nm_words.specs.All.{is_asked_for, wanted_file}
 use Rattle.nm_words.specs.Held.{HoldsFile, IsClosedAs, octets_after}
 use Rattle.nm_words.proofs.InterfaceLines.{element}
 use Rattle.nm_files.proofs.Made.{all_whole, whole_more}
@@ -22,13 +22,13 @@ loop-number-preserved g c =
       whole = λ records held.
           let count = c.requires in
           let there = held.each n is.0 (omega (arith, low, count)) is.1 in
-          let now = subst (HoldsFile g.F.File.Sink.seen made (is_wanted names is.0) (octets_after n records)) (sym (c.loop-number.invariant.left n (omega arith))) there in
-          let closed = c.in_ok-closed.ensures.closed is.0 (is_wanted names is.0) (octets_after n records) is.1
-          (subst (λ m. HoldsFile g.F.File.Sink.seen m (is_wanted names is.0) (octets_after n records) (get_or c.loop-number.files.files.items n None)) (sym same) now) in
+          let now = subst (HoldsFile g.F.File.Sink.seen made (is_asked_for names is.0) (octets_after n records)) (sym (c.loop-number.invariant.left n (omega arith))) there in
+          let closed = c.in_ok-closed.ensures.closed is.0 (is_asked_for names is.0) (octets_after n records) is.1
+          (subst (λ m. HoldsFile g.F.File.Sink.seen m (is_asked_for names is.0) (octets_after n records) (get_or c.loop-number.files.files.items n None)) (sym same) now) in
           whole_more g.F.Outputs.closed (wanted_file names c.args.wanted.now.folder.now records) t.ifaces n is.0 made c.loop-number.all.items c.push_some.new.list.items c.in_ok-closed.closed is.1
           c.in_ok-push_some.ensures
           (one_closed g.F.Outputs.closed made names c.args.wanted.now.folder.now records n is.0 c.in_ok-closed.closed
-          (subst (λ m. IsClosedAs m (is_wanted names is.0) (file_name c.args.wanted.now.folder.now is.0, octets_after n records) (option_map g.F.Outputs.closed c.in_ok-closed.closed)) same closed))
+          (subst (λ m. IsClosedAs m (is_asked_for names is.0) (file_name c.args.wanted.now.folder.now is.0, octets_after n records) (option_map g.F.Outputs.closed c.in_ok-closed.closed)) same closed))
           (c.loop-number.invariant.whole records held);
       same = c.in_ok-closed.ensures.same ∙ same;
     }

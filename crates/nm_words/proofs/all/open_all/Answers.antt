@@ -1,5 +1,5 @@
 use Rattle.std.proofs.Common.{◌<◌, ◌∷◌, [], length, length-append, map, string_bytes, refl, ◌∙◌, ap, subst, arith, rules}
-use Rattle.nm_words.specs.All.{is_wanted}
+use Rattle.nm_words.specs.All.{is_asked_for}
 use Rattle.nm_words.specs.Held.{HasOpened}
 use Rattle.nm_words.proofs.InterfaceLines.{element}
 use Rattle.nm_words.proofs.Held.{none_held, one_held}
@@ -22,7 +22,7 @@ loop-number-preserved g c =
     let files = c.loop-number.files.files.items in
     let low : n < length t.ifaces = search rules in
     let is = element t.ifaces n low in
-    let opened = subst (λ m. HasOpened g.F.File.Sink.seen m (is_wanted names is.0) files c.open_wanted.new.files.files.items) c.loop-number.invariant.same (c.in_ok-open_wanted.ensures.opened is.0 is.1) in
+    let opened = subst (λ m. HasOpened g.F.File.Sink.seen m (is_asked_for names is.0) files c.open_wanted.new.files.files.items) c.loop-number.invariant.same (c.in_ok-open_wanted.ensures.opened is.0 is.1) in
     record {
       within = omega (arith, low);
       count = let long = ap length opened.1 ∙ length-append files (opened.0 ∷ []) in let was = c.loop-number.invariant.count in omega (arith, long, was);
