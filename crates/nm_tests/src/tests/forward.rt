@@ -387,19 +387,29 @@ pub fn own_packet(rt: &(impl Abort + AllocGlobal), octets: &[u8]) -> Packet {
     Packet::from_own(rt.alloc(), octets).expect(rt, "there is memory")
 }
 
+/// The datagram leaves by interface 2, one hop on.
+fn is_sent_on(rt: &impl Abort, via: IfaceNo, packet: &Packet) {
+    eq_number(rt, "via", u64::from(via.number()), 2);
+    eq_octets(rt, "what is sent", packet.octets(), FORWARDED);
+}
+
 /// The router of the trio sends the datagram on by interface 2. It says whether it was lowered
 /// where it lies; the datagram that another has stays as it is.
 fn is_passed(rt: &(impl Abort + AllocGlobal), packet: Packet, wanted: &Wanted) -> bool {
     let mut bench = node_of_trio(rt, 1);
-    let (via, octets, passed) = match bench.react_in_place(rt, wanted, 1, packet) {
-        Ok(Reaction::Pass(via, packet)) => (via, packet, true),
-        Ok(Reaction::Send(via, twin)) => (via, twin.packet, false),
-        Ok(Reaction::Nothing | Reaction::Refused(_)) | Err(_) => panic!(rt; "it is sent"),
-    };
-    eq_number(rt, "via", u64::from(via.number()), 2);
-    eq_octets(rt, "what is sent", octets.octets(), FORWARDED);
+    let reaction = bench.react_in_place(rt, wanted, 1, packet);
     eq_number(rt, "forwarded", bench.count(Counter::Forwarded), 1);
-    passed
+    match reaction {
+        Ok(Reaction::Pass(via, packet)) => {
+            is_sent_on(rt, via, &packet);
+            true
+        }
+        Ok(Reaction::Send(via, twin)) => {
+            is_sent_on(rt, via, &twin.packet);
+            false
+        }
+        Ok(Reaction::Nothing | Reaction::Refused(_)) | Err(_) => panic!(rt; "it is sent"),
+    }
 }
 
 /// Rows of which records are wanted, and whether a datagram of which nobody else has the octets is
