@@ -397,18 +397,21 @@ fn is_sent_on(rt: &impl Abort, via: IfaceNo, packet: &Packet) {
 /// where it lies; the datagram that another has stays as it is.
 fn is_passed(rt: &(impl Abort + AllocGlobal), packet: Packet, wanted: &Wanted) -> bool {
     let mut bench = node_of_trio(rt, 1);
-    let reaction = bench.react_in_place(rt, wanted, 1, packet);
+    let reaction = match bench.react_in_place(rt, wanted, 1, packet) {
+        Ok(reaction) => reaction,
+        Err(_) => panic!(rt; "there is memory"),
+    };
     eq_number(rt, "forwarded", bench.count(Counter::Forwarded), 1);
     match reaction {
-        Ok(Reaction::Pass(via, packet)) => {
-            is_sent_on(rt, via, &packet);
-            true
-        }
-        Ok(Reaction::Send(via, twin)) => {
+        Reaction::Nothing | Reaction::Refused(_) => panic!(rt; "it is sent"),
+        Reaction::Send(via, twin) => {
             is_sent_on(rt, via, &twin.packet);
             false
         }
-        Ok(Reaction::Nothing | Reaction::Refused(_)) | Err(_) => panic!(rt; "it is sent"),
+        Reaction::Pass(via, packet) => {
+            is_sent_on(rt, via, &packet);
+            true
+        }
     }
 }
 
