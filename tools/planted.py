@@ -19,6 +19,8 @@ import sys
 import tempfile
 
 ROOT = os.path.dirname(os.path.dirname(os.path.abspath(__file__)))
+# What the prover says where it did not come to the proof: the code does not compile, or no function has this name.
+UNTRIED = re.compile(r"error\[|has no function")
 
 
 def read_bugs(path):
@@ -104,9 +106,19 @@ def try_bug(folder, bug):
         proved, goals, _ = check(folder, bug["check"])
         if proved and bug["check"]:
             proved, goals, _ = check(folder, "")
-        return "PROVED" if proved else "; ".join(goals[:3]) or "refused with no goal named"
+        return answer_of(proved, goals)
     finally:
         open(path, "w", encoding="utf-8").write(before)
+
+
+def answer_of(proved, goals):
+    """What a row says: a bug that does not compile, or whose function has another name, was not tried."""
+    if proved:
+        return "PROVED"
+    untried = [goal for goal in goals if UNTRIED.search(goal)]
+    if untried:
+        return "NOT TRIED: " + untried[0]
+    return "; ".join(goals[:3]) or "refused with no goal named"
 
 
 def write_table(crate, rows):
