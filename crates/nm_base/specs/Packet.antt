@@ -1,10 +1,10 @@
 -- Packets.
 use Rattle.std.specs.Prelude.{ℕ, ◌+◌, ◌++◌, List, length, take, drop}
-use Rattle.nm_base.specs.declared.packet.Held.{Held}
-use Rattle.nm_base.specs.declared.packet.Held.TheVariants.{Own, Cut}
+use Rattle.nm_base.specs.declared.packet.Storage.{Storage}
+use Rattle.nm_base.specs.declared.packet.Storage.TheVariants.{Own, Cut}
 
 -- the octets that a packet holds
-abbrev pub held : Held → List ℕ
+abbrev pub held : Storage → List ℕ
 held (Own octets) = octets.items
 held (Cut octets) = octets
 

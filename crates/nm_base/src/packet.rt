@@ -16,21 +16,21 @@ use std::sync::Arc;
 
 /// Where the octets of a packet are.
 #[derive(Drop)]
-pub enum Held {
+pub enum Storage {
     /// In a block of the packet's own.
     Own(BytesMut),
     /// In a part of a block that others share.
     Cut(Bytes),
 }
 
-impl Held {
+impl Storage {
     /// The octets.
     fn octets(&self) -> &[u8]
         ensures { result.now ≡ held self.now }
     {
         match self {
-            Held::Own(octets) => octets.as_slice(),
-            Held::Cut(octets) => octets.as_slice(),
+            Storage::Own(octets) => octets.as_slice(),
+            Storage::Cut(octets) => octets.as_slice(),
         }
     }
 
@@ -43,12 +43,12 @@ impl Held {
         ensures kept { OnFalse result (held self.new ≡ held self.old) }
     {
         match self {
-            Held::Own(own) => {
+            Storage::Own(own) => {
                 let slice = own.as_mut_slice();
                 slice[place..place + octets.len()].copy_from_slice(octets);
                 true
             }
-            Held::Cut(_) => false,
+            Storage::Cut(_) => false,
         }
     }
 }
@@ -59,7 +59,7 @@ impl Held {
 /// It is as small as a pointer, since events, queues and records hold packets and move them often.
 #[derive(Drop)]
 pub struct Packet {
-    octets: Arc<Held>,
+    octets: Arc<Storage>,
 }
 
 impl Model for Packet {
@@ -126,7 +126,7 @@ impl Packet {
         requires greatest { length octets ≤ MAX_PACKET_OCTETS }
         ensures { IfOk result (λ packet. packet ≡ octets) }
     {
-        let octets = Arc::new(alloc, Held::Cut(octets))?;
+        let octets = Arc::new(alloc, Storage::Cut(octets))?;
         Ok(Packet { octets })
     }
 
@@ -140,7 +140,7 @@ impl Packet {
         requires greatest { length octets.items ≤ MAX_PACKET_OCTETS }
         ensures { IfOk result (λ packet. packet ≡ octets.items) }
     {
-        let octets = Arc::new(alloc, Held::Own(octets))?;
+        let octets = Arc::new(alloc, Storage::Own(octets))?;
         Ok(Packet { octets })
     }
 
