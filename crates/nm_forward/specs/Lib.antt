@@ -1,4 +1,5 @@
 pub mod Counter
+pub mod InPlace
 pub mod Originate
 pub mod Prepared
 pub mod Reacting
@@ -6,4 +7,3 @@ pub mod Reaction
 pub mod Routes
 pub mod Row
 pub mod State
-pub mod InPlace

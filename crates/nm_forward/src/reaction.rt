@@ -65,7 +65,8 @@ pub enum Reaction {
     /// The port of this interface drops the packet that would be sent on, so that its octets were
     /// not copied.
     Refused(IfaceNo),
-    /// The packet that came is sent on, lowered where it lies. No record of the interface is wanted.
+    /// The packet that came is sent on, lowered where it lies. No record of the interface is
+    /// wanted.
     Pass(IfaceNo, Packet),
 }
 

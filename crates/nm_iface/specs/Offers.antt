@@ -9,18 +9,18 @@ use Rattle.nm_iface.specs.PortValue.{takes}
 
 -- of this packet at this time, over a link with this rate and delay
 pub record IsTransmission (rate delay now : ℕ) (octets : List ℕ) (s : Start) : Type 0 where
-  pub packet : s.twin.packet ≡ octets
+  pub packet : s.item.packet ≡ octets
   pub completes : s.completes ≡ now + takes rate octets
   pub arrives : s.arrives ≡ now + takes rate octets + delay
 
 -- its packet has a copy
 abbrev pub HasCopy : Start → Type 0
-HasCopy s = IsSome s.twin.copy
+HasCopy s = IsSome s.item.copy
 
 -- the packet that starts, if one does
 abbrev pub transmitted_packet : Option Start → Option (List ℕ)
 transmitted_packet None = None
-transmitted_packet (Some s) = Some s.twin.packet
+transmitted_packet (Some s) = Some s.item.packet
 
 abbrev pub transmission_in : Offered → Option Start
 transmission_in (Started s) = Some s

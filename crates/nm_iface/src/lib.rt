@@ -1,11 +1,11 @@
 //! Interfaces: the transmission of packets, one at a time, and the queue behind it.
 #![tactic(auto)]
 
-pub mod load;
 mod octets;
 pub mod port;
+pub mod queue_item;
 pub mod transmission;
 
-pub use load::Load;
 pub use port::{Offered, Port, Start};
+pub use queue_item::QueueItem;
 pub use transmission::transmission_time;

@@ -1,7 +1,7 @@
 //! Ports: drop-tail queues.
 
-ghost use Rattle.std.specs.Prelude.{◌≡◌, ℕ, ◌+◌, ◌<◌, ◌≤◌, ◌^◌, if◌then◌else◌, List, [], Option, Some};
-ghost use Rattle.std.specs.Prelude.{None, OnOk, IfSome, IsSome, length, true, false};
+ghost use Rattle.std.specs.Prelude.{◌≡◌, ℕ, ◌+◌, ◌<◌, ◌≤◌, ◌^◌, if◌then◌else◌, List, []};
+ghost use Rattle.std.specs.Prelude.{Option, Some, None, OnOk, IfSome, IsSome, length, true, false};
 ghost use Rattle.std.specs.Option.{option_map};
 ghost use Rattle.nm_base.specs.Count.{saturated};
 ghost use Rattle.nm_base.specs.declared.limits.TheConstants.{MAX_DELAY, MAX_PACKET_OCTETS};
@@ -11,7 +11,7 @@ ghost use Rattle.nm_iface.specs.PortValue.{has_room, takes, with_port};
 ghost use Rattle.nm_iface.specs.Offers.{HasCopy, IsTransmission, handed_back, transmitted_packet};
 ghost use Rattle.nm_iface.specs.Offers.{transmission_in};
 
-use crate::load::Load;
+use crate::queue_item::QueueItem;
 use crate::octets::{OctetLimit, may_wait, none_wait, with_fewer, with_more};
 use crate::transmission::transmission_time;
 use nm_base::{Packet, Time, Twin};
@@ -23,7 +23,7 @@ use std::marker::Model;
 #[derive(Drop)]
 pub struct Start {
     /// The packet, and its copy for the trace.
-    pub twin: Load,
+    pub item: QueueItem,
     /// When the transmission is complete.
     pub completes: Time,
     /// When the packet arrives at the far end of the link.
@@ -64,15 +64,15 @@ pub struct Port {
     delay: u64,
     /// When the transmission under way completes.
     busy_until: Option<Time>,
-    waiting: VecDeque<Load>,
+    waiting: VecDeque<QueueItem>,
     dropped: u64,
     /// Whether what it transmits is recorded: then all that waits has its copy.
     recorded: bool,
 }
 
 impl Model for Port {
-    ghost use Rattle.std.specs.Prelude.{◌≡◌, ◌<◌, ◌≤◌, ◌-◌, ◌^◌, [], All, None, IfSome, length, map};
-    ghost use Rattle.std.specs.Prelude.{option_map, sum_by, true};
+    ghost use Rattle.std.specs.Prelude.{◌≡◌, ◌<◌, ◌≤◌, ◌-◌, ◌^◌, [], All, None, IfSome, length};
+    ghost use Rattle.std.specs.Prelude.{map, option_map, sum_by, true};
     ghost use Rattle.std.specs.VecDeque.{deque_len, deque_capacity};
     ghost use Rattle.std.specs.Option.{IsSome};
     ghost use Rattle.nm_base.specs.declared.limits.TheConstants.{MAX_DELAY, MAX_RATE};
@@ -188,11 +188,11 @@ impl Port {
         ensures copied { IfSome (transmission_in result) HasCopy }
     {
         if self.busy_until.is_none() {
-            return Offered::Started(self.start(now, Load::of(twin)));
+            return Offered::Started(self.start(now, QueueItem::of(twin)));
         }
         let octets = twin.packet.octet_count();
         if self.has_room(octets) {
-            self.wait(octets, Load::of(twin));
+            self.wait(octets, QueueItem::of(twin));
             return Offered::Queued;
         }
         self.count_drop();
@@ -221,11 +221,11 @@ impl Port {
         ensures left { self.old.room ≤ self.new.room + 1 }
     {
         if self.busy_until.is_none() {
-            return Some(self.start(now, Load::alone(packet)));
+            return Some(self.start(now, QueueItem::alone(packet)));
         }
         let octets = packet.octet_count();
         if self.has_room(octets) {
-            self.wait(octets, Load::alone(packet));
+            self.wait(octets, QueueItem::alone(packet));
         } else {
             self.count_drop();
         }
@@ -234,34 +234,34 @@ impl Port {
 
     /// The transmission of a packet starts at an idle port.
     #[inline(always)]
-    fn start(&mut self, now: Time, load: Load) -> Start
+    fn start(&mut self, now: Time, item: QueueItem) -> Start
         requires idle { self.old.busy ≡ None }
         requires now { now ≤ MAX_TIME }
         ensures port { self.new ≡ with_port self.old (transmitting (takes self.old.rate) now
-            self.old.dropped load.packet []).0 self.new.room }
-        ensures start { IsTransmission self.old.rate self.old.delay now load.packet result }
-        ensures copy { result.twin ≡ load }
+            self.old.dropped item.packet []).0 self.new.room }
+        ensures start { IsTransmission self.old.rate self.old.delay now item.packet result }
+        ensures copy { result.item ≡ item }
         ensures room { self.new.room ≡ self.old.room }
     {
-        let start = transmission(self.rate, self.delay, now, load);
+        let start = transmission(self.rate, self.delay, now, item);
         self.busy_until = Some(start.completes);
         start
     }
 
     /// A packet of so many octets waits behind the others, for which there is room.
     #[inline(always)]
-    fn wait(&mut self, octets: usize, load: Load)
-        requires octets { octets ≡ length load.packet }
+    fn wait(&mut self, octets: usize, item: QueueItem)
+        requires octets { octets ≡ length item.packet }
         requires busy { IsSome self.old.busy }
-        requires limit { has_room self.old.limit (waiting_of self.old.busy) load.packet ≡ true }
+        requires limit { has_room self.old.limit (waiting_of self.old.busy) item.packet ≡ true }
         requires room { 1 ≤ self.old.room }
-        requires copy { self.old.recorded ≡ true → IsSome load.copy }
+        requires copy { self.old.recorded ≡ true → IsSome item.copy }
         ensures port { self.new ≡ with_port self.old (offered (has_room self.old.limit)
-            (takes self.old.rate) 0 load.packet self.old.dropped self.old.busy).0 self.new.room }
+            (takes self.old.rate) 0 item.packet self.old.dropped self.old.busy).0 self.new.room }
         ensures left { self.old.room ≤ self.new.room + 1 }
     {
         self.octets = with_more(self.octets, octets);
-        self.waiting.push_back(load).unwrap();
+        self.waiting.push_back(item).unwrap();
     }
 
     /// Whether a packet of so many octets may wait behind those that wait.
@@ -315,16 +315,16 @@ impl Port {
         ensures packet { transmitted_packet result
             ≡ (completed (takes self.old.rate) now self.old.dropped self.old.busy).1 }
         ensures start { IfSome result
-            (λ s. IsTransmission self.old.rate self.old.delay now s.twin.packet s) }
+            (λ s. IsTransmission self.old.rate self.old.delay now s.item.packet s) }
         ensures room { self.old.room ≤ self.new.room }
 
         // What starts has its copy, if it is recorded.
         ensures copied { self.old.recorded ≡ true → IfSome result HasCopy }
     {
         match self.waiting.pop_front() {
-            Some(load) => {
-                self.octets = with_fewer(self.octets, load.packet.octet_count());
-                let start = transmission(self.rate, self.delay, now, load);
+            Some(item) => {
+                self.octets = with_fewer(self.octets, item.packet.octet_count());
+                let start = transmission(self.rate, self.delay, now, item);
                 self.busy_until = Some(start.completes);
                 Some(start)
             }
@@ -361,7 +361,7 @@ impl Port {
 
 /// The transmission that starts now, over a link with this rate and delay.
 #[inline(always)]
-fn transmission(rate: u64, delay: u64, now: Time, twin: Load) -> Start
+fn transmission(rate: u64, delay: u64, now: Time, item: QueueItem) -> Start
     // The rate, the delay and the time are within their limits.
     requires least { 1 ≤ rate }
     requires greatest { rate ≤ MAX_RATE }
@@ -369,13 +369,13 @@ fn transmission(rate: u64, delay: u64, now: Time, twin: Load) -> Start
     requires now { now ≤ MAX_TIME }
 
     // It completes and arrives when the definition says.
-    ensures transmission { IsTransmission rate delay now twin.packet result }
+    ensures transmission { IsTransmission rate delay now item.packet result }
     ensures completes { result.completes < 2 ^ 51 }
-    ensures copy { result.twin ≡ twin }
+    ensures copy { result.item ≡ item }
 {
-    let completes = now.nanoseconds() + transmission_time(rate, twin.packet.octet_count());
+    let completes = now.nanoseconds() + transmission_time(rate, item.packet.octet_count());
     Start {
-        twin,
+        item,
         completes: Time::from_nanoseconds(completes),
         arrives: Time::from_nanoseconds(completes + delay),
     }

@@ -35,11 +35,11 @@ still_free here m after k v time i n c place e free = ap (λ l. get l (key_of ti
     go false = free
 
 -- when a transmission is complete, and when its packet arrives
-completes_at : (t : TopologyValue) (part : Option ℕ) (time i : ℕ) (st : Start) → TransmitsAt t part time (i, st) → st.completes ≡ time + (net_of t).tx i st.twin.packet
+completes_at : (t : TopologyValue) (part : Option ℕ) (time i : ℕ) (st : Start) → TransmitsAt t part time (i, st) → st.completes ≡ time + (net_of t).tx i st.item.packet
 unfolding net_of
 completes_at t part time i st h = h.1.completes
 
-pub arrives_at : (t : TopologyValue) (part : Option ℕ) (time i : ℕ) (st : Start) → TransmitsAt t part time (i, st) → st.arrives ≡ time + (net_of t).tx i st.twin.packet + (net_of t).delay i
+pub arrives_at : (t : TopologyValue) (part : Option ℕ) (time i : ℕ) (st : Start) → TransmitsAt t part time (i, st) → st.arrives ≡ time + (net_of t).tx i st.item.packet + (net_of t).delay i
 unfolding net_of
 arrives_at t part time i st h = h.1.arrives
 
@@ -49,44 +49,44 @@ module _ {L : Type 0} (t : TopologyValue) (line : TimelineValue L) (time : ℕ) 
   number_is = numbered.numbers p there ∙ ap (λ c. length (sent c)) (sym peer)
 
   arrival_key : key_of st.arrives (Arrive p) (slice_index line.sent p)
-      ≡ key_of (time + (net_of t).tx i st.twin.packet + (net_of t).delay i) (Arrive ((net_of t).peer i)) (length (sent ((net_of t).peer i)))
+      ≡ key_of (time + (net_of t).tx i st.item.packet + (net_of t).delay i) (Arrive ((net_of t).peer i)) (length (sent ((net_of t).peer i)))
   arrival_key = λ k. key_of (arrives_at t part time i st transmits k) (Arrive (sym peer k)) (number_is k)
 
   completion_key : key_of st.completes (Complete i) (slice_index line.sent p)
-      ≡ key_of (time + (net_of t).tx i st.twin.packet) (Complete i) (length (sent ((net_of t).peer i)))
+      ≡ key_of (time + (net_of t).tx i st.item.packet) (Complete i) (length (sent ((net_of t).peer i)))
   completion_key = λ k. key_of (completes_at t part time i st transmits k) (Complete i) (number_is k)
 
-  pub arrival_fresh : (pending : FinMap key_cmp (Event (List ℕ))) → AreFresh pending (transmission_events (net_of t) time sent (Some (i, st.twin.packet)))
+  pub arrival_fresh : (pending : FinMap key_cmp (Event (List ℕ))) → AreFresh pending (transmission_events (net_of t) time sent (Some (i, st.item.packet)))
       → get pending (key_of st.arrives (Arrive p) (slice_index line.sent p)) ≡ None
   arrival_fresh pending h = ap (get pending) arrival_key ∙ h 1 _ refl
 
-  pub completion_fresh : (pending : FinMap key_cmp (Event (List ℕ))) → AreFresh pending (transmission_events (net_of t) time sent (Some (i, st.twin.packet)))
+  pub completion_fresh : (pending : FinMap key_cmp (Event (List ℕ))) → AreFresh pending (transmission_events (net_of t) time sent (Some (i, st.item.packet)))
       → get pending (key_of st.completes (Complete i) (slice_index line.sent p)) ≡ None
   completion_fresh pending h = ap (get pending) completion_key ∙ h 0 _ refl
 
   pub begun_events : (pending middle after : FinMap key_cmp (Event (List ℕ)))
-      → middle ≡ schedule (here_of t part) ((key_of st.arrives (Arrive p) (slice_index line.sent p), Delivery (Arrival p) st.twin.packet) ∷ []) pending
+      → middle ≡ schedule (here_of t part) ((key_of st.arrives (Arrive p) (slice_index line.sent p), Delivery (Arrival p) st.item.packet) ∷ []) pending
       → after ≡ insert middle (key_of st.completes (Complete i) (slice_index line.sent p)) (Completion i)
-      → after ≡ schedule (here_of t part) (transmission_events (net_of t) time sent (Some (i, st.twin.packet))) pending
+      → after ≡ schedule (here_of t part) (transmission_events (net_of t) time sent (Some (i, st.item.packet))) pending
   begun_events pending middle after m e =
       e ∙ (λ k. insert (m k) (completion_key k) (Completion i))
-      ∙ (λ k. insert (schedule (here_of t part) ((arrival_key k, Delivery (Arrival (sym peer k)) st.twin.packet) ∷ []) pending)
-      (key_of (time + (net_of t).tx i st.twin.packet) (Complete i) (length (sent ((net_of t).peer i)))) (Completion i))
-      ∙ sym (ap (λ b. cond b (insert arrived (key_of (time + (net_of t).tx i st.twin.packet) (Complete i) (length (sent ((net_of t).peer i)))) (Completion i)) arrived) transmits.0.1)
+      ∙ (λ k. insert (schedule (here_of t part) ((arrival_key k, Delivery (Arrival (sym peer k)) st.item.packet) ∷ []) pending)
+      (key_of (time + (net_of t).tx i st.item.packet) (Complete i) (length (sent ((net_of t).peer i)))) (Completion i))
+      ∙ sym (ap (λ b. cond b (insert arrived (key_of (time + (net_of t).tx i st.item.packet) (Complete i) (length (sent ((net_of t).peer i)))) (Completion i)) arrived) transmits.0.1)
     where
       arrived : FinMap key_cmp (Event (List ℕ))
       arrived = schedule (here_of t part)
-          ((key_of (time + (net_of t).tx i st.twin.packet + (net_of t).delay i) (Arrive ((net_of t).peer i)) (length (sent ((net_of t).peer i))), Delivery (Arrival ((net_of t).peer i)) st.twin.packet) ∷ []) pending
+          ((key_of (time + (net_of t).tx i st.item.packet + (net_of t).delay i) (Arrive ((net_of t).peer i)) (length (sent ((net_of t).peer i))), Delivery (Arrival ((net_of t).peer i)) st.item.packet) ∷ []) pending
 
   pub begun_numbered : (after : TimelineValue L) → after.sent ≡ slice_set line.sent p (slice_index line.sent p + 1)
-      → TimelineRepresents t after (sent_after (net_of t) time sent (Some (i, st.twin.packet)))
+      → TimelineRepresents t after (sent_after (net_of t) time sent (Some (i, st.item.packet)))
   begun_numbered after e = record {
     count = ap length e ∙ length-set line.sent p (slice_index line.sent p + 1) ∙ numbered.count;
     numbers = λ c h. ap (λ l. slice_index l c) e ∙ go c h (c == p) refl;
   }
     where
       message : ℕ × List ℕ
-      message = (time + (net_of t).tx i st.twin.packet + (net_of t).delay i, st.twin.packet)
+      message = (time + (net_of t).tx i st.item.packet + (net_of t).delay i, st.item.packet)
 
       go : (c : ℕ) → c < length t.ifaces → (b : Bool) → (c == p) ≡ b
           → slice_index (slice_set line.sent p (slice_index line.sent p + 1)) c ≡ length (set_at sent ((net_of t).peer i) (sent ((net_of t).peer i) ++ message ∷ []) c)

@@ -120,7 +120,7 @@ module _ (t : TopologyValue) (part : Option ℕ) (d e : DevicesValue) (node : �
 
   pub completes_by : e.nodes ≡ d.nodes → e.ports ≡ slice_set d.ports i (Some (with_port w (completed (takes w.rate) time w.dropped w.busy).0 room)) → e.sources ≡ d.sources
       → transmitted_packet start ≡ (completed (takes w.rate) time w.dropped w.busy).1
-      → IfSome start (λ z. IsTransmission w.rate w.delay time z.twin.packet z)
+      → IfSome start (λ z. IsTransmission w.rate w.delay time z.item.packet z)
       → (done : Done) → done.came ≡ None → done.transmission ≡ transmission_at i start → done.follows ≡ None
       → Does t part node port time number (Completion i) e done
   completes_by nodes ports sources packet transmits done a b c =

@@ -30,12 +30,12 @@ copied_at wanted i (Some s) h = h
 -- the transmission of a port that is here
 pub transmits_here : (t : TopologyValue) (part : Option ℕ) (d : DevicesValue) (node : ℕ → NodeStateValue) (port : ℕ → Port (List ℕ)) → DevicesRepresent t part d node port
     → (time i : ℕ) (w : PortValue) → slice_get d.ports i ≡ Some (Some w)
-    → (o : Option Start) → IfSome o (λ z. IsTransmission w.rate w.delay time z.twin.packet z) → IfSome (transmission_at i o) (TransmitsAt t part time)
+    → (o : Option Start) → IfSome o (λ z. IsTransmission w.rate w.delay time z.item.packet z) → IfSome (transmission_at i o) (TransmitsAt t part time)
 transmits_here t part d node port s time i w here None h = tt
 transmits_here t part d node port s time i w here (Some z) h =
     let p = at_there (is_iface_here t part) (λ j v. IsPortOf t j v (port j)) d.ports s.ports i w here in
     let within : i < length t.ifaces = omega (arith, s.port_count, slice_get_within d.ports i (Some w) here) in
-    ((within, p.0), subst (λ (y : ℕ × ℕ). IsTransmission y.0 y.1 time z.twin.packet z) (λ k. (p.1.rate k, p.1.delay k)) h)
+    ((within, p.0), subst (λ (y : ℕ × ℕ). IsTransmission y.0 y.1 time z.item.packet z) (λ k. (p.1.rate k, p.1.delay k)) h)
 
 -- a busy port without room for a packet drops it
 refused_is : (w : PortValue) (x : List ℕ) (time : ℕ) → is_refused (has_room w.limit) x w.busy ≡ true
@@ -67,7 +67,7 @@ module _ (t : TopologyValue) (part : Option ℕ) (d e : DevicesValue) (node : �
   }
 
   module _ (i : ℕ) (x : List ℕ) (w : PortValue) (room : ℕ) (start : Option Start) (here : slice_get d.ports i ≡ Some (Some w)) where
-    own_packet : (o : Option Start) → IfSome o (IsTransmission w.rate w.delay time x) → IfSome o (λ z. IsTransmission w.rate w.delay time z.twin.packet z)
+    own_packet : (o : Option Start) → IfSome o (IsTransmission w.rate w.delay time x) → IfSome o (λ z. IsTransmission w.rate w.delay time z.item.packet z)
     own_packet None h = tt
     own_packet (Some z) h = subst (λ y. IsTransmission w.rate w.delay time y z) (sym h.packet) h
 

@@ -47,7 +47,7 @@ CanHappen t d number (Completion i) = (i < length t.ifaces) × IsBusy (slice_get
 -- the packet whose transmission starts, and where
 abbrev pub transmission_of : Option (ℕ × Start) → Option (ℕ × List ℕ)
 transmission_of None = None
-transmission_of (Some s) = Some (s.0, s.1.twin.packet)
+transmission_of (Some s) = Some (s.0, s.1.item.packet)
 
 -- a start, and where
 abbrev pub transmission_at : ℕ → Option Start → Option (ℕ × Start)
@@ -57,7 +57,7 @@ transmission_at i (Some s) = Some (i, s)
 -- the transmission that starts at this time, by an interface that is here
 abbrev pub TransmitsAt : TopologyValue → Option ℕ → ℕ → ℕ × Start → Type 0
 TransmitsAt t part time s = IsIfaceHere t part s.0
-    × IsTransmission (far_of t s.0).rate (far_of t s.0).delay time s.1.twin.packet s.1
+    × IsTransmission (far_of t s.0).rate (far_of t s.0).delay time s.1.item.packet s.1
 
 -- its packet has a copy, if records of its interface are wanted
 abbrev pub IsCopied : Wanted → ℕ × Start → Type 0

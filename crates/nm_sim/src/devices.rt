@@ -414,8 +414,8 @@ impl Devices {
     #[inline(always)]
     fn drop_at(&mut self, topology: &Topology, iface: IfaceNo)
         requires { IsMember (slice_get self.old.ports iface) }
-        ensures drops { (part : Option ℕ) (node : ℕ → NodeStateValue) (port : ℕ → PortState (List ℕ))
-            (time : ℕ) (packet : List ℕ)
+        ensures drops { (part : Option ℕ) (node : ℕ → NodeStateValue)
+            (port : ℕ → PortState (List ℕ)) (time : ℕ) (packet : List ℕ)
             → DevicesRepresent topology.now part self.old node port
             → IsRefusedAt self.old.ports iface packet
             → Sends topology.now part node port time (Some (iface, packet)) self.new None }

@@ -367,8 +367,8 @@ impl<L: EventList> Part<L> {
         self.devices.busy(sender)
     }
 
-    /// The trace so far, in the order of events, of the interfaces whose records are wanted, without
-    /// the records that were handed out.
+    /// The trace so far, in the order of events, of the interfaces whose records are wanted,
+    /// without the records that were handed out.
     pub fn trace(&self) -> &[Record]
         ensures kept { result.now ≡ self.now.records.kept }
         ensures trace { OfTheRun L.pending self.now
@@ -447,8 +447,8 @@ impl<L: EventList> Part<L> {
         self.records.handed()
     }
 
-    /// How many records the trace has of the interfaces whose records are wanted, with those that were
-    /// handed out.
+    /// How many records the trace has of the interfaces whose records are wanted, with those that
+    /// were handed out.
     pub fn records(&self) -> u64
         requires { IsOfARun L.pending self.now }
         ensures { OfTheRun L.pending self.now
@@ -457,7 +457,8 @@ impl<L: EventList> Part<L> {
         self.records.count()
     }
 
-    /// How many records there were of all interfaces, wanted or not, for who shows how far a run is.
+    /// How many records there were of all interfaces, wanted or not, for who shows how far a run
+    /// is.
     pub fn made(&self) -> u64 {
         self.records.made()
     }

@@ -27,7 +27,7 @@ use crate::outgoing::Outgoing;
 use crate::transmitted::Transmitted;
 use nm_base::{Event, IfaceNo, Key, Origin, Packet, PartNo, SourceNo, Time};
 use nm_events::EventList;
-use nm_iface::{Load, Start};
+use nm_iface::{QueueItem, Start};
 use nm_topology::Topology;
 use nm_topology::topology::{
     accepted_topologies_are_in_order, channels_are_numbered_by_their_receivers,
@@ -277,12 +277,12 @@ impl<L: EventList> Timeline<L> {
         let peer = topology.iface(iface).far().peer;
         let number = self.take_number(peer);
         let Start {
-            twin,
+            item,
             completes,
             arrives,
         } = start;
-        let octets = twin.packet.octet_count() as u16;
-        let Load { packet, copy } = twin;
+        let octets = item.packet.octet_count() as u16;
+        let QueueItem { packet, copy } = item;
         self.schedule_arrival(
             topology, part, outgoing, iface, peer, arrives, number, packet,
         );

@@ -21,8 +21,8 @@ use std::alloc::{AllocError, Global};
 use std::marker::Model;
 
 /// A run of a whole network by one event list (J. Misra, 1986, section 1), which shows the records
-/// of one event after another, as far as they are wanted. It keeps the network, what is to come and the records of the last
-/// event, however long the run is.
+/// of one event after another, as far as they are wanted. It keeps the network, what is to come and
+/// the records of the last event, however long the run is.
 #[derive(Drop)]
 pub struct Tracer {
     part: Part<HeapList>,
@@ -114,7 +114,8 @@ impl Tracer {
         self.part.least()
     }
 
-    /// How many records there were of all interfaces, wanted or not, for who shows how far a run is.
+    /// How many records there were of all interfaces, wanted or not, for who shows how far a run
+    /// is.
     pub fn made(&self) -> u64 {
         self.part.made()
     }

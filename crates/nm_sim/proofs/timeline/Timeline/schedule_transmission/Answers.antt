@@ -64,7 +64,7 @@ put-requires-clause-fresh g c =
     let before : get (g.L.EventList.pending c.take_number-number.new.self.events) (key_of c.in_ok-iface.start.completes (Complete c.in_ok-iface.iface) c.take_number-number.result) ≡ None
     = (λ k. get (g.L.EventList.pending (c.take_number-number.ensures.events k)) (key_of c.in_ok-iface.start.completes (Complete c.in_ok-iface.iface) (c.take_number-number.ensures.number k))) ∙ free in
     still_free (here_of t c.args.part.now) (g.L.EventList.pending c.take_number-number.new.self.events) (g.L.EventList.pending c.self.inside.events)
-    (key_of c.in_ok-iface.start.arrives (Arrive c.far-peer.result.peer) c.take_number-number.result) (Delivery (Arrival c.far-peer.result.peer) c.in_ok-iface.start.twin.packet)
+    (key_of c.in_ok-iface.start.arrives (Arrive c.far-peer.result.peer) c.take_number-number.result) (Delivery (Arrival c.far-peer.result.peer) c.in_ok-iface.start.item.packet)
     c.in_ok-iface.start.completes c.in_ok-iface.iface c.take_number-number.result c.far-peer.result.peer refl
     (ap (λ (l : TimelineValue g.row.L.Denot). g.L.EventList.pending l.events) c.self.view_is ∙ c.schedule_arrival.ensures.events) before
 
@@ -75,10 +75,10 @@ returns-clause-events g c = λ sent numbered.
     let peer = ap (λ f. f.peer) c.far-peer.ensures in
     let transmits = subst (λ o. IfSome o (TransmitsAt t c.args.part.now c.args.time)) c.in_ok-iface.was c.requires.transmits in
     let middle : g.L.EventList.pending c.self.inside.events
-    ≡ schedule (here_of t c.args.part.now) ((key_of c.in_ok-iface.start.arrives (Arrive c.far-peer.result.peer) (slice_index c.args.self.now.sent c.far-peer.result.peer), Delivery (Arrival c.far-peer.result.peer) c.in_ok-iface.start.twin.packet) ∷ [])
+    ≡ schedule (here_of t c.args.part.now) ((key_of c.in_ok-iface.start.arrives (Arrive c.far-peer.result.peer) (slice_index c.args.self.now.sent c.far-peer.result.peer), Delivery (Arrival c.far-peer.result.peer) c.in_ok-iface.start.item.packet) ∷ [])
     (g.L.EventList.pending c.args.self.now.events)
     = ap (λ (l : TimelineValue g.row.L.Denot). g.L.EventList.pending l.events) c.self.view_is ∙ c.schedule_arrival.ensures.events
-    ∙ (λ k. schedule (here_of t c.args.part.now) ((key_of c.in_ok-iface.start.arrives (Arrive c.far-peer.result.peer) (c.take_number-number.ensures.number k), Delivery (Arrival c.far-peer.result.peer) c.in_ok-iface.start.twin.packet) ∷ [])
+    ∙ (λ k. schedule (here_of t c.args.part.now) ((key_of c.in_ok-iface.start.arrives (Arrive c.far-peer.result.peer) (c.take_number-number.ensures.number k), Delivery (Arrival c.far-peer.result.peer) c.in_ok-iface.start.item.packet) ∷ [])
     (g.L.EventList.pending (c.take_number-number.ensures.events k))) in
     subst (λ o. g.L.EventList.pending c.put.new.self ≡ schedule (here_of t c.args.part.now) (transmission_events (net_of t) c.args.time sent (transmission_of o)) (g.L.EventList.pending c.args.self.now.events))
     (sym c.in_ok-iface.was)
@@ -105,5 +105,5 @@ returns-clause-outgoing g c = λ sent h.
     let far : c.far-peer.result.peer ≡ (net_of t).peer c.in_ok-iface.iface = ap (λ f. f.peer) c.far-peer.ensures ∙ sym (peer_is t c.in_ok-iface.iface c.iface.result.now c.iface.ensures) in
     let transmits = subst (λ o. IfSome o (TransmitsAt t c.args.part.now c.args.time)) c.in_ok-iface.was c.requires.transmits in
     subst (λ o. OutgoingRepresents t c.args.part.now c.schedule_arrival.new.outgoing (sent_after (net_of t) c.args.time sent (transmission_of o))) (sym c.in_ok-iface.was)
-    (subst (λ (a : ℕ × ℕ). OutgoingRepresents t c.args.part.now c.schedule_arrival.new.outgoing (set_at sent a.0 (sent a.0 ++ (a.1, c.in_ok-iface.start.twin.packet) ∷ [])))
+    (subst (λ (a : ℕ × ℕ). OutgoingRepresents t c.args.part.now c.schedule_arrival.new.outgoing (set_at sent a.0 (sent a.0 ++ (a.1, c.in_ok-iface.start.item.packet) ∷ [])))
     (λ k. (far k, arrives_at t c.args.part.now c.args.time c.in_ok-iface.iface c.in_ok-iface.start transmits k)) (c.schedule_arrival.ensures.outgoing sent h))

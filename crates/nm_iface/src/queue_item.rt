@@ -7,20 +7,20 @@ use nm_base::{Packet, Twin};
 
 /// A packet that waits or is transmitted, and its copy, where it is to be recorded.
 #[derive(Drop)]
-pub struct Load {
+pub struct QueueItem {
     pub packet: Packet,
     pub copy: Option<Packet>,
     ghost equal: { IfSome copy (λ other. other ≡ packet) } by { Prim.hlevel props },
 }
 
-impl Load {
+impl QueueItem {
     /// A packet that is to be recorded.
     #[inline(always)]
     pub fn of(twin: Twin) -> Self
         ensures packet { result.packet ≡ twin.packet }
         ensures copy { IsSome result.copy }
     {
-        Load {
+        QueueItem {
             packet: twin.packet,
             copy: Some(twin.copy),
         }
@@ -31,6 +31,6 @@ impl Load {
     pub fn alone(packet: Packet) -> Self
         ensures { result.packet ≡ packet }
     {
-        Load { packet, copy: None }
+        QueueItem { packet, copy: None }
     }
 }
