@@ -91,7 +91,7 @@ fn let_go(alloc: Global, topology: &Topology) -> Result<u64, AllocError> {
     let mut tracer = Tracer::start(alloc, topology)?;
     for event in 0..u64::MAX {
         if !tracer.go_on(alloc, topology)? {
-            return Ok(tracer.let_go());
+            return Ok(tracer.handed());
         }
     }
     Ok(u64::MAX)

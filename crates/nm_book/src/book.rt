@@ -428,7 +428,7 @@ impl Book {
         ensures within { IsWithin (net_of self.now.topology) self.now.partition
             (knowledge self.now) self.now.events }
     {
-        self.part.steps()
+        self.part.events()
     }
 
     /// Whether nothing is left to do: the safe time is `stop`, and no event before it is to come.

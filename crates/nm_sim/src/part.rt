@@ -306,7 +306,7 @@ impl<L: EventList> Part<L> {
     }
 
     /// How many events were done, at most 2^62.
-    pub fn steps(&self) -> u64
+    pub fn events(&self) -> u64
         ensures value { result ≡ self.now.steps }
         ensures most { result ≤ 2 ^ 62 }
     {
@@ -375,7 +375,7 @@ impl<L: EventList> Part<L> {
             (λ t part s. result.now ≡ drop self.now.records.keeping.handed
             (cut self.now.records.keeping.wanted s.records)) }
     {
-        self.records.kept()
+        self.records.trace()
     }
 
     /// The trace, without the records that were handed out.
@@ -386,7 +386,7 @@ impl<L: EventList> Part<L> {
             (λ t part s. result.items ≡ drop self.records.keeping.handed
             (cut self.records.keeping.wanted s.records)) }
     {
-        self.records.into_kept()
+        self.records.into_trace()
     }
 
     /// Takes the first record of the trace out that is kept, if there is one. It takes no memory,
@@ -454,7 +454,7 @@ impl<L: EventList> Part<L> {
         ensures { OfTheRun L.pending self.now
             (λ t part s. result ≡ length (cut self.now.records.keeping.wanted s.records)) }
     {
-        self.records.count()
+        self.records.records()
     }
 
     /// How many records there were of all interfaces, wanted or not, for who shows how far a run

@@ -359,7 +359,7 @@ impl Records {
     }
 
     /// How many records there were in all.
-    pub fn count(&self) -> u64
+    pub fn records(&self) -> u64
         requires { self.now.keeping.handed + length self.now.kept < 2 ^ 64 }
         ensures { result ≡ self.now.keeping.handed + length self.now.kept }
     {
@@ -384,15 +384,15 @@ impl Records {
         }
     }
 
-    /// The records that are kept.
-    pub fn kept(&self) -> &[Record]
+    /// The trace so far without the records that were handed out: those that are kept.
+    pub fn trace(&self) -> &[Record]
         ensures { result.now ≡ self.now.kept }
     {
         &self.list[self.blanks..]
     }
 
-    /// The records that are kept.
-    pub fn into_kept(mut self) -> Vec<Record>
+    /// The records that are kept, and nothing else of this.
+    pub fn into_trace(mut self) -> Vec<Record>
         ensures { result.items ≡ self.kept }
     {
         let count = self.list.len() - self.blanks;

@@ -93,7 +93,7 @@ impl Tracer {
     }
 
     /// The records of the last event, which come next in the trace behind those that were let go.
-    pub fn records(&self) -> &[Record]
+    pub fn trace(&self) -> &[Record]
         ensures { result.now ≡ self.now.records.kept }
     {
         self.part.trace()
@@ -103,7 +103,7 @@ impl Tracer {
     pub fn events(&self) -> u64
         ensures { result ≡ self.now.steps }
     {
-        self.part.steps()
+        self.part.events()
     }
 
     /// The time of the event that comes next, if there is one.
@@ -121,7 +121,7 @@ impl Tracer {
     }
 
     /// How many records were let go.
-    pub fn let_go(&self) -> u64
+    pub fn handed(&self) -> u64
         ensures { result ≡ self.now.records.keeping.handed }
     {
         self.part.handed()

@@ -153,7 +153,7 @@ fn record_all<S: Sink>(
         if !is_there {
             return Ok(());
         }
-        files.put_all(tracer.records())?;
+        files.put_all(tracer.trace())?;
     }
     Err(Status::Memory)
 }

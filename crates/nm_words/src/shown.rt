@@ -102,7 +102,7 @@ fn packets_text(alloc: Global, network: &Topology, iface: IfaceNo) -> Result<Vec
         if !tracer.go_on(alloc, network)? {
             return Ok(text);
         }
-        push_at(iface, tracer.records(), &mut text)?;
+        push_at(iface, tracer.trace(), &mut text)?;
     }
     Err(AllocError)
 }

@@ -150,7 +150,7 @@ fn write_all_of<S: Sink>(
         if !is_there {
             return Ok(());
         }
-        write_some(traced, tracer.records(), file)?;
+        write_some(traced, tracer.trace(), file)?;
     }
     Err(TraceFault::Memory)
 }

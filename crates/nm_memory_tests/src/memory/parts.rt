@@ -39,7 +39,7 @@ fn have_same_devices(topology: &Topology, one: &Part<HeapList>, other: &Part<Hea
 /// Whether two parts are the same in all that they answer.
 fn are_alike(topology: &Topology, one: &Part<HeapList>, other: &Part<HeapList>) -> bool {
     one.least() == other.least()
-        && one.steps() == other.steps()
+        && one.events() == other.events()
         && one.trace() == other.trace()
         && have_same_devices(topology, one, other)
 }
@@ -135,7 +135,7 @@ type Want<'w> = (u64, u64, &'w [(u32, Counter, u64)]);
 /// A part came to this.
 fn came_to(rt: &impl Abort, part: &Part<HeapList>, want: Want) {
     let (events, records, counts) = want;
-    eq_number(rt, "events", part.steps(), events);
+    eq_number(rt, "events", part.events(), events);
     eq_number(rt, "records", part.trace().len() as u64, records);
     for (node, counter, count) in counts {
         let found = part.counter(NodeNo::new(*node), *counter);

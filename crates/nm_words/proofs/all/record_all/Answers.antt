@@ -32,7 +32,7 @@ loop-event-preserved g c =
           subst (λ l. FilesTook g.S.Sink.seen l c.args.files.now.files.items c.put_all.new.self.files.items) (sym (next_shown records before after on))
           (more_records g.S.Sink.seen (take (shown before) records) after.kept c.args.files.now.files.items c.loop-event.files.files.items c.put_all.new.self.files.items
           (c.loop-event.invariant.took records trace)
-          (subst (λ l. FilesTook g.S.Sink.seen l c.loop-event.files.files.items c.put_all.new.self.files.items) c.records.ensures c.in_ok-put_all.ensures.took));
+          (subst (λ l. FilesTook g.S.Sink.seen l c.loop-event.files.files.items c.put_all.new.self.files.items) c.trace.ensures c.in_ok-put_all.ensures.took));
     }
 
 pub returns-then-not-is_there-clause-took : goal.returns-then-not-is_there-clause-took

@@ -42,7 +42,7 @@ returns-in_err-write_some g c records trace =
     let p = err_from_is_err_and c.from_residual-in_err-write_some.result c.from_residual-in_err-write_some.ensures.1 in
     rw (p.1, p.2) (last_records (going c.args.traced.now.ways) refl (going_both c.args.traced.now.ways) g.S.Sink.seen c.args.traced.now.iface (cut (One c.args.traced.now.iface) records) c.args.file.now c.loop-event.file c.write_some.new.file c.in_err-write_some.field-0.0 (shown before) (shown after) after.kept
     (next_shown (cut (One c.args.traced.now.iface) records) before after on) (c.loop-event.invariant.front records trace)
-    (subst (λ l. WritesOn g.S.Sink.seen c.loop-event.file c.write_some.new.file (Err c.in_err-write_some.field-0.0) (written_at c.loop-event.file.form c.args.traced.now.iface (going c.args.traced.now.ways l))) c.records.ensures c.in_err-write_some.ensures))
+    (subst (λ l. WritesOn g.S.Sink.seen c.loop-event.file c.write_some.new.file (Err c.in_err-write_some.field-0.0) (written_at c.loop-event.file.form c.args.traced.now.iface (going c.args.traced.now.ways l))) c.trace.ensures c.in_err-write_some.ensures))
 
 pub loop-event-preserved : goal.loop-event-preserved
 loop-event-preserved g c =
@@ -56,7 +56,7 @@ loop-event-preserved g c =
           let on = subst (λ b. ShowsNext (cut (One c.args.traced.now.iface) records) before (Ok b) after) c.if-not-is_there.false (subst (λ w. ShowsNext (cut w records) before (Ok c.in_ok-is_there.is_there) after) c.loop-event.invariant.wanted (c.in_ok-is_there.ensures.next records trace)) in
           next_records (going c.args.traced.now.ways) refl (going_both c.args.traced.now.ways) g.S.Sink.seen c.args.traced.now.iface (cut (One c.args.traced.now.iface) records) c.args.file.now c.loop-event.file c.write_some.new.file (shown before) (shown after) after.kept
           (next_shown (cut (One c.args.traced.now.iface) records) before after on) (c.loop-event.invariant.front records trace)
-          (subst (λ l. WroteOn g.S.Sink.seen c.loop-event.file c.write_some.new.file (written_at c.loop-event.file.form c.args.traced.now.iface (going c.args.traced.now.ways l))) c.records.ensures c.in_ok-write_some.ensures);
+          (subst (λ l. WroteOn g.S.Sink.seen c.loop-event.file c.write_some.new.file (written_at c.loop-event.file.form c.args.traced.now.iface (going c.args.traced.now.ways l))) c.trace.ensures c.in_ok-write_some.ensures);
     }
 
 pub returns : goal.returns
