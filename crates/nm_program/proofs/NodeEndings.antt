@@ -10,8 +10,8 @@ use Rattle.nm_peers.specs.declared.listener.Listener.{Listener}
 use Rattle.nm_process.specs.Process.{IsDoneReplica}
 use Rattle.nm_files.specs.Outputs.{Files, HasMade}
 use Rattle.nm_program.specs.Node.{HasListeners, SaysLines, SaysServed, StopsNode, own_files, own_lines}
-use Rattle.nm_words.specs.Input.{InputsSeen}
-use Rattle.nm_words.specs.Output.{SaysOfInputs}
+use Rattle.nm_offline.specs.Input.{InputsSeen}
+use Rattle.nm_offline.specs.Output.{SaysOfInputs}
 
 -- what is said of it, of texts that give this network and these listeners
 abbrev pub SaysOfTexts : TopologyValue → ℕ → ℕ → List ℕ → List Listener → Option Files → Option Files → Status → List ℕ → Type 0

@@ -7,7 +7,7 @@ use Rattle.nm_sim.specs.Totals.{totals_of}
 use Rattle.nm_sim.specs.Trace.{IsTraceBefore}
 use Rattle.nm_run.specs.Report.{IsCertifiedRun}
 use Rattle.nm_run.specs.declared.report.IfaceTotals.{IfaceTotals}
-use Rattle.nm_words.specs.Lines.{iface_lines}
+use Rattle.nm_offline.specs.Lines.{iface_lines}
 use Rattle.nm_program.specs.Run.{SaysCertified}
 
 pub says_certified : (t seen : TopologyValue) (found : List IfaceTotals) (records : List (Record (List ℕ))) (text octets : List ℕ)

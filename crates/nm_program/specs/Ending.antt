@@ -6,18 +6,18 @@ use Rattle.nm_command.specs.declared.status.Status.TheVariants.{Done, Usage, Fil
 use Rattle.nm_command.specs.Command.{CommandValue, Trace, All, Rounds, Script, Check, Show, Text, Series, Packets, Path, Run, Node}
 use Rattle.nm_program.specs.Node.{EndsNode}
 use Rattle.nm_files.specs.Outputs.{Files}
-use Rattle.nm_words.specs.Input.{CountedInputs, InputTexts}
-use Rattle.nm_words.specs.Output.{Exchange, exchange}
-use Rattle.nm_words.specs.Rounds.{EndsRounds}
+use Rattle.nm_offline.specs.Input.{CountedInputs, InputTexts}
+use Rattle.nm_offline.specs.Output.{Exchange, exchange}
+use Rattle.nm_offline.specs.Rounds.{EndsRounds}
 use Rattle.nm_program.specs.Run.{EndsRun}
-use Rattle.nm_words.specs.All.{MakesAll}
-use Rattle.nm_words.specs.Check.{EndsCheck}
-use Rattle.nm_words.specs.Packets.{EndsPackets}
-use Rattle.nm_words.specs.Path.{EndsPath}
-use Rattle.nm_words.specs.Script.{EndsScript}
-use Rattle.nm_words.specs.Series.{EndsSeries}
-use Rattle.nm_words.specs.Shown.{EndsShown, EndsText}
-use Rattle.nm_words.specs.Traces.{EndsTrace}
+use Rattle.nm_offline.specs.All.{MakesAll}
+use Rattle.nm_offline.specs.Check.{EndsCheck}
+use Rattle.nm_offline.specs.Packets.{EndsPackets}
+use Rattle.nm_offline.specs.Path.{EndsPath}
+use Rattle.nm_offline.specs.Script.{EndsScript}
+use Rattle.nm_offline.specs.Series.{EndsSeries}
+use Rattle.nm_offline.specs.Shown.{EndsShown, EndsText}
+use Rattle.nm_offline.specs.Traces.{EndsTrace}
 
 -- what the program has to do with, before it or after it: the inputs and the output, and the files
 -- that were placed so far, where that is told

@@ -15,9 +15,9 @@ use Rattle.nm_peers.specs.declared.listener.Listener.{Listener}
 use Rattle.nm_process.specs.Process.{IsDoneReplica}
 use Rattle.nm_command.specs.declared.status.Status.{Status}
 use Rattle.nm_command.specs.declared.status.Status.TheVariants.{Done, Usage, File, Memory, Stalled}
-use Rattle.nm_words.specs.Input.{InputsSeen, IsInput, IsRefused}
-use Rattle.nm_words.specs.Lines.{iface_line}
-use Rattle.nm_words.specs.Output.{EndsWord, Exchange, FailsOfInputs, SaysOfInputs}
+use Rattle.nm_offline.specs.Input.{InputsSeen, IsInput, IsRefused}
+use Rattle.nm_offline.specs.Lines.{iface_line}
+use Rattle.nm_offline.specs.Output.{EndsWord, Exchange, FailsOfInputs, SaysOfInputs}
 use Rattle.nm_files.specs.Names.{file_name}
 use Rattle.nm_files.specs.Outputs.{Files, HasMade}
 use Rattle.nm_files.specs.TraceFile.{trace_file}

@@ -12,9 +12,9 @@ use Rattle.nm_run.specs.Report.{IsNotCertified}
 use Rattle.nm_command.specs.declared.status.Status.{Status}
 use Rattle.nm_command.specs.declared.status.Status.TheVariants.{Done, File, Memory, NotCertified, Stalled}
 use Rattle.nm_files.specs.Outputs.{Files}
-use Rattle.nm_words.specs.Input.{HasTopology, InputsSeen, IsRefused}
-use Rattle.nm_words.specs.Lines.{iface_lines}
-use Rattle.nm_words.specs.Output.{EndsWord, Exchange, FailsOfInput, SaysOfInput}
+use Rattle.nm_offline.specs.Input.{HasTopology, InputsSeen, IsRefused}
+use Rattle.nm_offline.specs.Lines.{iface_lines}
+use Rattle.nm_offline.specs.Output.{EndsWord, Exchange, FailsOfInput, SaysOfInput}
 
 -- Books of all partitions were certified. Each interface has what it has in the trace of the one
 -- event list, over the whole run.

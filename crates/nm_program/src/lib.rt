@@ -9,6 +9,6 @@ mod runs;
 mod trace_files;
 
 pub use means::Means;
+pub use nm_offline::{Inputs, MemInputs, NamedInputs};
 pub use nm_run::Runtime;
-pub use nm_words::{Inputs, MemInputs, NamedInputs};
 pub use program::{conclude, report, run};

@@ -5,16 +5,16 @@ ghost use Rattle.std.specs.Arc.{arc_value};
 ghost use Rattle.nm_peers.specs.Listeners.{AreListeners};
 ghost use Rattle.nm_program.specs.Node.{HasListeners, IsNotServed};
 ghost use Rattle.nm_topology.specs.Topology.{topology_of};
-ghost use Rattle.nm_words.specs.Input.{inputs_seen};
-ghost use Rattle.nm_words.specs.Output.{FailsOfInputs};
+ghost use Rattle.nm_offline.specs.Input.{inputs_seen};
+ghost use Rattle.nm_offline.specs.Output.{FailsOfInputs};
 
 pub(crate) use nm_command::NodeWords;
 use nm_command::Status;
+use nm_offline::input::NamedInputs;
+use nm_offline::inputs::Inputs;
+use nm_offline::reading::{read_network, read_text, share};
 use nm_peers::{Listener, ListenersFault, read_listeners};
 use nm_topology::Topology;
-use nm_words::input::NamedInputs;
-use nm_words::inputs::Inputs;
-use nm_words::reading::{read_network, read_text, share};
 use std::alloc::Global;
 use std::sync::Arc;
 

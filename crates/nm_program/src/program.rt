@@ -13,18 +13,18 @@ use crate::runs::say_run;
 use nm_base::Sink;
 use nm_command::{Command, Status};
 use nm_files::Outputs;
+use nm_offline::all::write_all_traces;
+use nm_offline::checking::say_check;
+use nm_offline::input::NamedInputs;
+use nm_offline::inputs::Inputs;
+use nm_offline::packets::say_packets;
+use nm_offline::path::say_path;
+use nm_offline::rounds::say_rounds;
+use nm_offline::script::say_script;
+use nm_offline::series::write_series;
+use nm_offline::shown::{say_text, say_view};
+use nm_offline::traces::write_trace;
 use nm_run::Runtime;
-use nm_words::all::write_all_traces;
-use nm_words::checking::say_check;
-use nm_words::input::NamedInputs;
-use nm_words::inputs::Inputs;
-use nm_words::packets::say_packets;
-use nm_words::path::say_path;
-use nm_words::rounds::say_rounds;
-use nm_words::script::say_script;
-use nm_words::series::write_series;
-use nm_words::shown::{say_text, say_view};
-use nm_words::traces::write_trace;
 
 /// Does what the words say, and gives the sink back. Inputs are those that the words name. What is
 /// asked for goes to `out`, a trace file as it is made, and a line to `errors` where the program is

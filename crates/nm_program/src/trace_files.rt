@@ -19,9 +19,9 @@ use nm_files::Outputs;
 use nm_files::making::make_file;
 use nm_files::names::name_of;
 use nm_files::placing::place_all;
+use nm_offline::closed::push_some;
 use nm_topology::Topology;
 use nm_topology::topology::accepted_topologies_are_in_order;
-use nm_words::closed::push_some;
 use std::alloc::Global;
 
 /// The trace files of a partition: of which interfaces, where they go, and whose records they have.

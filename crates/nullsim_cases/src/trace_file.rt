@@ -2,9 +2,9 @@
 
 use nm_base::{IfaceNo, MemSink};
 use nm_command::{Form, Ways};
+use nm_offline::trace_file::{Traced, write_trace_file};
 use nm_progress::Progress;
 use nm_topology::Topology;
-use nm_words::trace_file::{Traced, write_trace_file};
 use std::alloc::Global;
 use std::fmt::Write;
 use std::io::{self, ErrorKind};

@@ -1,7 +1,7 @@
 use Rattle.std.proofs.Common.{inr, subst, sym}
 use Rattle.std.proofs.lemmas.Result.{IfErr-weaker}
 use Rattle.std.specs.Arc.{arc_value}
-use Rattle.nm_words.specs.Input.{inputs_seen}
+use Rattle.nm_offline.specs.Input.{inputs_seen}
 use Rattle.nm_program.specs.Node.{HasListeners, StopsNode}
 use Rattle.nm_program.proofs.NodeEndings.{says_of_inputs}
 use Rattle.nm_program.proofs.node.node_said.Goals as goal

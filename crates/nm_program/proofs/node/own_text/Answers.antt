@@ -1,7 +1,7 @@
 use Rattle.std.proofs.Common.{◌<◌, [], length, arith, rules}
 use Rattle.nm_book.specs.Book.{state_of}
 use Rattle.nm_program.specs.Node.{own_line}
-use Rattle.nm_words.proofs.InterfaceLines.{one_given}
+use Rattle.nm_offline.proofs.InterfaceLines.{one_given}
 use Rattle.nm_program.proofs.node.own_text.Goals as goal
 
 pub loop-number-preserved : goal.loop-number-preserved

@@ -1,5 +1,5 @@
-use Rattle.nm_words.specs.Input.{inputs_seen}
-use Rattle.nm_words.proofs.Endings.{ends_word}
+use Rattle.nm_offline.specs.Input.{inputs_seen}
+use Rattle.nm_offline.proofs.Endings.{ends_word}
 use Rattle.nm_program.proofs.node.say_node.Goals as goal
 
 pub returns : goal.returns

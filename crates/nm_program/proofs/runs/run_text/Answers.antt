@@ -1,7 +1,7 @@
 use Rattle.std.proofs.Common.{◌<◌, ◌≤◌, length, codes, arith, rules}
 use Rattle.nm_sim.specs.Totals.{totals_of}
-use Rattle.nm_words.specs.Lines.{iface_line}
-use Rattle.nm_words.proofs.InterfaceLines.{all_given, one_given}
+use Rattle.nm_offline.specs.Lines.{iface_line}
+use Rattle.nm_offline.proofs.InterfaceLines.{all_given, one_given}
 use Rattle.nm_program.proofs.runs.run_text.Goals as goal
 
 pub loop-number-preserved : goal.loop-number-preserved

@@ -2,7 +2,7 @@ use Rattle.std.proofs.Common.{◌≤◌, length, List, ℕ, codes}
 use Rattle.nm_base.specs.declared.record.Record.{Record}
 use Rattle.nm_sim.specs.Totals.{totals_of}
 use Rattle.nm_sim.specs.Trace.{IsTraceBefore}
-use Rattle.nm_words.proofs.InterfaceLines.{HasLines}
+use Rattle.nm_offline.proofs.InterfaceLines.{HasLines}
 use Rattle.nm_program.proofs.runs.run_text.Given as goal
 
 abbrev pub invariant-loop-number : goal.invariant-loop-number

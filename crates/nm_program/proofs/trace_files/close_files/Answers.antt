@@ -5,7 +5,7 @@ use Rattle.nm_files.specs.Names.{file_name}
 use Rattle.nm_files.specs.Outputs.{AreWhole}
 use Rattle.nm_files.specs.TraceFile.{trace_file}
 use Rattle.nm_files.proofs.Made.{all_whole, whole_more}
-use Rattle.nm_words.proofs.InterfaceLines.{element}
+use Rattle.nm_offline.proofs.InterfaceLines.{element}
 use Rattle.nm_program.specs.Node.{of_own}
 use Rattle.nm_program.proofs.trace_files.close_files.Goals as goal
 

@@ -1,0 +1,63 @@
+-- The word `all`: the trace files of interfaces, by one event list.
+use Rattle.std.specs.Prelude.{◌≡◌, ◌⊎◌, Bool, ◌||◌, ℕ, nat_eq, if◌then◌else◌, List, [], ◌∷◌, All, is_some, length, position, Option, Some, None, Ok}
+use Rattle.std.specs.List.{enumerate_from, flat_map}
+use Rattle.std.specs.Str.{bytes_eq}
+use Rattle.nm_base.specs.declared.record.Record.{Record}
+use Rattle.nm_pcap.specs.declared.form.Form.TheVariants.{Octets}
+use Rattle.nm_topology.specs.PartValues.{IfaceValue}
+use Rattle.nm_topology.specs.Topology.{topology_of}
+use Rattle.nm_topology.specs.TopologyValue.{TopologyValue}
+use Rattle.nm_sim.specs.Trace.{IsTraceBefore}
+use Rattle.nm_command.specs.declared.status.Status.{Status}
+use Rattle.nm_command.specs.declared.status.Status.TheVariants.{Done, NoInterface, File, Memory}
+use Rattle.nm_files.specs.Names.{file_name}
+use Rattle.nm_files.specs.Outputs.{Files, HasMade, HasMadeSome}
+use Rattle.nm_files.specs.TraceFile.{trace_file}
+use Rattle.nm_offline.specs.Input.{InputsSeen, IsInput, IsRefused}
+use Rattle.nm_offline.specs.Output.{FailsOfInput}
+use Rattle.nm_offline.specs.Traces.{iface_named}
+
+-- the file of an interface is asked for: its name is one of these, or there are no names
+abbrev pub is_asked_for : List (List ℕ) → IfaceValue → Bool
+is_asked_for names iface =
+    nat_eq (length names) 0 || is_some (position (λ name. bytes_eq name iface.name) names)
+
+-- the files that are asked for: each is the trace file of its interface over these records; in the
+-- order of the text
+abbrev pub wanted_file : List (List ℕ) → List ℕ → List (Record (List ℕ)) → ℕ × IfaceValue → Files
+wanted_file names folder records i =
+    if is_asked_for names i.1 then (file_name folder i.1, trace_file Octets i.0 records) ∷ [] else []
+
+abbrev pub wanted_files : TopologyValue → List (List ℕ) → List ℕ → List (Record (List ℕ)) → Files
+wanted_files t names folder records =
+    flat_map (wanted_file names folder records) (enumerate_from 0 t.ifaces)
+
+-- these are all files that are asked for, of the topology of this text, over the whole run; each
+-- name is that of an interface
+pub record AreAsked (folder : List ℕ) (names : List (List ℕ)) (text : List ℕ) (files : Files)
+    : Type 0 where
+  pub network : TopologyValue
+  pub read : topology_of text ≡ Ok network
+  pub named : All (λ name. iface_named network.ifaces (Some name) ≡ None → ⊥) names
+  pub records : List (Record (List ℕ))
+  pub trace : IsTraceBefore network network.stop records
+  pub all : files ≡ wanted_files network names folder records
+
+-- why no file is asked for: the text is refused, or one of the names is that of no interface
+abbrev pub HasNoIfaces : List (List ℕ) → List ℕ → Status → Type 0
+HasNoIfaces names text status = IsRefused text status
+    ⊎ ((status ≡ NoInterface)
+    × ((network : TopologyValue) × (topology_of text ≡ Ok network)
+    × (All (λ name. iface_named network.ifaces (Some name) ≡ None → ⊥) names → ⊥)))
+
+-- What each status says. Where a file failed or memory was refused, the files that were made are
+-- the first of those asked for.
+module _ (before after : InputsSeen) (made_before made : Option Files) where
+  abbrev pub MakesAll : List ℕ → List ℕ → List (List ℕ) → Status → Type 0
+  MakesAll topology folder names status =
+      ((status ≡ Done) × ((text : List ℕ) × (files : Files) × IsInput (before.text topology) text
+      × AreAsked folder names text files × HasMade made_before made files))
+      ⊎ (FailsOfInput before after topology (HasNoIfaces names) status × (made ≡ made_before))
+      ⊎ (((status ≡ File) ⊎ (status ≡ Memory))
+      × ((text : List ℕ) × (files : Files) × IsInput (before.text topology) text
+      × AreAsked folder names text files × HasMadeSome made_before made files))

@@ -1,0 +1,30 @@
+//! Where inputs come from.
+
+ghost use Rattle.std.specs.Prelude.{◌≡◌, IfOk};
+ghost use Rattle.nm_offline.specs.Input.{InputTexts};
+
+use std::io;
+use std::io::Read;
+
+/// Where inputs come from: standard input, and files by their names.
+pub trait Inputs {
+    /// Standard input, which is read to its end.
+    type Standard: Read + Drop;
+    /// A file, which is read to its end.
+    type File: Read + Drop;
+
+    // What standard input and the file of each name have, where that is told.
+    ghost seen: { Self → InputTexts };
+
+    /// Standard input.
+    fn standard(&self) -> Self::Standard
+        ensures { Self.Standard.remaining result ≡ (seen self.now).standard };
+
+    /// Opens the file of a name.
+    ///
+    /// # Errors
+    ///
+    /// The file could not be opened, or memory was refused.
+    fn open(&self, name: &str) -> io::Result<Self::File>
+        ensures { IfOk result (λ f. Self.File.remaining f ≡ (seen self.now).file name.now) };
+}

@@ -1,6 +1,0 @@
-mod Giving
-mod Taking
-mod Sides
-mod Meeting
-mod Promising
-mod Calling

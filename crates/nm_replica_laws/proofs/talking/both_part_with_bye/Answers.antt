@@ -1,5 +1,0 @@
-use Rattle.nm_replica_laws.proofs.Meeting.{parted}
-use Rattle.nm_replica_laws.proofs.talking.both_part_with_bye.Goals as goal
-
-pub returns : goal.returns
-returns c = λ a b near ab ba turns s t talk silent other_silent. parted a b near ab ba turns s t talk silent other_silent

@@ -1,2 +1,0 @@
-pub mod Talking
-pub mod Calls

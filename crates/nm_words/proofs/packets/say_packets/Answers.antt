@@ -1,9 +1,0 @@
-use Rattle.nm_words.specs.Input.{inputs_seen}
-use Rattle.nm_words.proofs.Endings.{ends_word}
-use Rattle.nm_words.proofs.packets.say_packets.Goals as goal
-
-pub returns : goal.returns
-returns g c =
-    ends_word g.O.Sink.seen (inputs_seen g.I.Inputs.seen c.args.inputs.now) (inputs_seen g.I.Inputs.seen c.packets_said.new.inputs)
-    c.args.out c.end.result.1 (λ o. o.text.items) (λ o. o.status) _ _ c.packets_said.result c.end.result.0
-    c.packets_said.ensures.said c.packets_said.ensures.fault c.end.ensures.written c.end.ensures.unsaid
