@@ -11,8 +11,8 @@ ghost use Rattle.nm_iface.specs.PortValue.{has_room, takes, with_port};
 ghost use Rattle.nm_iface.specs.Offers.{HasCopy, IsTransmission, handed_back, transmitted_packet};
 ghost use Rattle.nm_iface.specs.Offers.{transmission_in};
 
-use crate::queue_item::QueueItem;
 use crate::octets::{OctetLimit, may_wait, none_wait, with_fewer, with_more};
+use crate::queue_item::QueueItem;
 use crate::transmission::transmission_time;
 use nm_base::{Packet, Time, Twin};
 use std::alloc::{AllocError, Global};

@@ -289,7 +289,7 @@ impl Records {
           handed = self.old.keeping.handed + length self.old.kept;
         } }
     {
-        self.handed = self.count();
+        self.handed = self.records();
         self.list.clear();
         self.blanks = 0;
     }
