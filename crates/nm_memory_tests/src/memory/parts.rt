@@ -5,7 +5,7 @@ ghost use Rattle.nm_memory_tests.specs.Whole.{IsWhole};
 
 use crate::same::{eq_number, holds};
 use crate::split::network;
-use nm_base::{IfaceNo, Key, NodeNo};
+use nm_base::{IfaceNo, Key, NodeNo, Wanted};
 use nm_events::HeapList;
 use nm_fixtures::{SHIFT, SPLIT};
 use nm_forward::Counter;
@@ -116,27 +116,34 @@ fn run(
     holds(rt, "it ends", false);
 }
 
-/// The whole network at its start, asked for again where memory was refused.
-fn started(alloc: Global, topology: &Topology) -> Result<Part<HeapList>, AllocError>
+/// The whole network at its start, of which these records are wanted, asked for again where memory
+/// was refused.
+fn started(
+    alloc: Global,
+    topology: &Topology,
+    wanted: &Wanted,
+) -> Result<Part<HeapList>, AllocError>
     ensures { IfOk result (λ p. IsWhole topology.now p) }
 {
-    match Part::start(alloc, topology, None) {
+    match Part::start_with(alloc, topology, None, wanted.again()) {
         Ok(part) => Ok(part),
         Err(_) => {
-            let part = Part::start(alloc, topology, None)?;
+            let part = Part::start_with(alloc, topology, None, wanted.again())?;
             Ok(part)
         }
     }
 }
 
-/// What a run comes to: so many events and records, and what nodes counted.
-type Want<'w> = (u64, u64, &'w [(u32, Counter, u64)]);
+/// What a run comes to: so many events and records, of which so many are kept, and what nodes
+/// counted.
+type Want<'w> = (u64, u64, u64, &'w [(u32, Counter, u64)]);
 
 /// A part came to this.
 fn came_to(rt: &impl Abort, part: &Part<HeapList>, want: Want) {
-    let (events, records, counts) = want;
+    let (events, records, kept, counts) = want;
     eq_number(rt, "events", part.events(), events);
-    eq_number(rt, "records", part.trace().len() as u64, records);
+    eq_number(rt, "records", part.made(), records);
+    eq_number(rt, "records that are kept", part.trace().len() as u64, kept);
     for (node, counter, count) in counts {
         let found = part.counter(NodeNo::new(*node), *counter);
         holds(rt, counter.name(), found == Some(*count));
@@ -147,10 +154,11 @@ fn came_to(rt: &impl Abort, part: &Part<HeapList>, want: Want) {
 fn runs_to(
     rt: &(impl Abort + AllocGlobal),
     topology: &Topology,
+    wanted: &Wanted,
     want: Want,
 ) -> Result<(), AllocError> {
-    let mut part = started(rt.alloc(), topology)?;
-    let mut twin = started(rt.alloc(), topology)?;
+    let mut part = started(rt.alloc(), topology, wanted)?;
+    let mut twin = started(rt.alloc(), topology, wanted)?;
     run(rt, topology, &mut part, &mut twin);
     came_to(rt, &part, want);
     Ok(())
@@ -161,7 +169,7 @@ fn runs_to(
 fn part_step(rt: HostRuntime) -> Result<(), Fail> {
     let topology = network(rt.alloc(), SPLIT)?;
     let counts = [(0, Counter::Originated, 1), (1, Counter::Udp, 1)];
-    Ok(runs_to(&rt, &topology, (3, 2, &counts))?)
+    Ok(runs_to(&rt, &topology, &Wanted::All, (3, 2, 2, &counts))?)
 }
 
 /// Three datagrams of five events and four records go through a router, and two requests with their
@@ -177,7 +185,15 @@ fn part_step_of_a_router(rt: HostRuntime) -> Result<(), Fail> {
         (2, Counter::Udp, 3),
         (2, Counter::Icmp, 2),
     ];
-    Ok(runs_to(&rt, &topology, (33, 28, &counts))?)
+    let rows = [
+        (Wanted::All, 28),
+        (Wanted::Nothing, 0),
+        (Wanted::One(IfaceNo::new(0)), 7),
+    ];
+    for (wanted, kept) in &rows {
+        runs_to(&rt, &topology, wanted, (33, 28, *kept, &counts))?;
+    }
+    Ok(())
 }
 
 #[test]
