@@ -6,14 +6,15 @@ ghost use Rattle.nm_measure.specs.Lines.{EndsLine};
 use crate::units::push_address;
 use nm_base::{Dir, Record, push_number, push_text};
 use nm_measure::{Appended, end_line};
-use nm_packet::icmp::IcmpView;
+use nm_packet::icmp::{self, IcmpView};
 use nm_packet::ipv4::Ipv4View;
-use nm_packet::{HeaderFault, Icmp, Ipv4, Udp};
+use nm_packet::{HeaderFault, Icmp, Ipv4, Udp, udp};
 
-/// The numbers of protocols (RFC 790).
-const ICMP: u8 = 1;
+/// Codes that no node here sends (RFC 792): of a host that cannot be reached, and of fragments that
+/// did not all come.
+const HOST_UNREACHABLE: u8 = 1;
 
-const UDP: u8 = 17;
+const IN_REASSEMBLY: u8 = 1;
 
 /// Appends a word and a number.
 fn push_field(text: &mut Vec<u8>, word: &[u8], value: u64) -> Appended {
@@ -24,17 +25,41 @@ fn push_field(text: &mut Vec<u8>, word: &[u8], value: u64) -> Appended {
 /// What messages of ICMP say, in words (RFC 792): of a type and a code, or of a type whatever its
 /// code.
 const WORDS: &[(u8, Option<u8>, &str)] = &[
-    (0, Some(0), "echo reply"),
-    (3, Some(0), "destination unreachable: network"),
-    (3, Some(1), "destination unreachable: host"),
-    (3, Some(2), "destination unreachable: protocol"),
-    (3, Some(3), "destination unreachable: port"),
-    (4, Some(0), "source quench"),
-    (5, None, "redirect"),
-    (8, Some(0), "echo request"),
-    (11, Some(0), "time exceeded in transit"),
-    (11, Some(1), "time exceeded in reassembly"),
-    (12, None, "parameter problem"),
+    (icmp::ECHO_REPLY, Some(icmp::ECHO_CODE), "echo reply"),
+    (
+        icmp::DESTINATION_UNREACHABLE,
+        Some(icmp::NETWORK_UNREACHABLE),
+        "destination unreachable: network",
+    ),
+    (
+        icmp::DESTINATION_UNREACHABLE,
+        Some(HOST_UNREACHABLE),
+        "destination unreachable: host",
+    ),
+    (
+        icmp::DESTINATION_UNREACHABLE,
+        Some(icmp::PROTOCOL_UNREACHABLE),
+        "destination unreachable: protocol",
+    ),
+    (
+        icmp::DESTINATION_UNREACHABLE,
+        Some(icmp::PORT_UNREACHABLE),
+        "destination unreachable: port",
+    ),
+    (icmp::SOURCE_QUENCH, Some(0), "source quench"),
+    (icmp::REDIRECT, None, "redirect"),
+    (icmp::ECHO_REQUEST, Some(icmp::ECHO_CODE), "echo request"),
+    (
+        icmp::TIME_EXCEEDED,
+        Some(icmp::IN_TRANSIT),
+        "time exceeded in transit",
+    ),
+    (
+        icmp::TIME_EXCEEDED,
+        Some(IN_REASSEMBLY),
+        "time exceeded in reassembly",
+    ),
+    (icmp::PARAMETER_PROBLEM, None, "parameter problem"),
 ];
 
 /// What a message of ICMP says, in words.
@@ -57,7 +82,10 @@ fn push_message(text: &mut Vec<u8>, message: &IcmpView<'_>) -> Appended {
             push_field(text, b" code ", u64::from(message.code()))?;
         }
     }
-    if matches!(message.message_type(), 0 | 8) {
+    if matches!(
+        message.message_type(),
+        icmp::ECHO_REPLY | icmp::ECHO_REQUEST
+    ) {
         push_field(text, b", id ", u64::from(message.identifier()))?;
         push_field(text, b", seq ", u64::from(message.sequence_number()))?;
     }
@@ -119,11 +147,11 @@ fn push_other(text: &mut Vec<u8>, protocol: u8, payload: &[u8]) -> Appended {
 /// Appends what a packet carries, which is no fragment.
 fn push_payload(text: &mut Vec<u8>, header: &Ipv4View<'_>) -> Appended {
     let (protocol, payload) = (header.protocol(), header.payload());
-    if protocol == UDP {
+    if protocol == udp::PROTOCOL {
         return push_datagram(text, header, payload);
     }
     push_way(text, header, None)?;
-    if protocol == ICMP {
+    if protocol == icmp::PROTOCOL {
         push_control(text, payload)
     } else {
         push_other(text, protocol, payload)
