@@ -4,6 +4,7 @@
 pub mod acceptor;
 pub mod acts;
 pub mod answer;
+pub mod given;
 mod giving;
 pub mod laws;
 pub mod link;
@@ -16,5 +17,6 @@ mod writing;
 
 pub use acceptor::Acceptor;
 pub use answer::{Cause, Turn};
+pub use given::{Given, GivenCounts, GivenMessages};
 pub use link::Link;
 pub use reading::ReadBuffer;

@@ -6,6 +6,7 @@ ghost use Rattle.nm_engine.specs.Turn.{Hears, Turns};
 
 use crate::acceptor::Acceptor;
 use crate::answer::Turn;
+use crate::given::Given;
 use crate::out::OutBuffer;
 use crate::parts::{Parts, Party};
 use crate::reading::ReadBuffer;
@@ -108,6 +109,26 @@ impl<W> Link<W> {
         ensures { result.now ≡ self.now.wire }
     {
         &self.parts.wire
+    }
+
+    /// From now on what the link gives is counted.
+    pub fn count_given(&mut self, alloc: Global)
+        ensures { self.new ≡ self.old }
+    {
+        self.parts.out.count_given(alloc);
+    }
+
+    /// What it has given, where that is counted: the frames that its buffer took, though the wire
+    /// may not have taken all.
+    pub fn given(&self) -> Option<&Given> {
+        self.parts.out.given()
+    }
+
+    /// The same. Nothing is counted any more.
+    pub fn take_given(&mut self) -> Option<Given>
+        ensures { self.new ≡ self.old }
+    {
+        self.parts.out.take_given()
     }
 
     /// Whether the peer's Hello was taken.

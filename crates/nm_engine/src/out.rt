@@ -3,6 +3,7 @@
 ghost use Rattle.std.specs.Prelude.{◌≡◌, ◌≤◌, ◌==◌, ◌++◌, [], OnErr, OnOk, drop, length};
 ghost use Rattle.nm_frames.specs.Frame.{IsFrame, frame_octets};
 
+use crate::given::Given;
 use nm_frames::{Frame, write_frame};
 use std::alloc::{AllocError, Global};
 use std::marker::Model;
@@ -14,6 +15,8 @@ pub(crate) struct OutBuffer {
     octets: Vec<u8>,
     /// How many octets at the front went.
     gone: usize,
+    /// The frames that were put here, where they are counted.
+    given: Option<Given>,
 }
 
 impl Model for OutBuffer {
@@ -35,7 +38,27 @@ impl OutBuffer {
         OutBuffer {
             octets: Vec::new(alloc),
             gone: 0,
+            given: None,
         }
+    }
+
+    /// From now on the frames that are put here are counted.
+    pub(crate) fn count_given(&mut self, alloc: Global)
+        ensures { self.new ≡ self.old }
+    {
+        self.given = Some(Given::new(alloc));
+    }
+
+    /// The frames that were put here, where they are counted.
+    pub(crate) fn given(&self) -> Option<&Given> {
+        self.given.as_ref()
+    }
+
+    /// The same. None are counted any more.
+    pub(crate) fn take_given(&mut self) -> Option<Given>
+        ensures { self.new ≡ self.old }
+    {
+        self.given.take()
     }
 
     /// How many octets wait.
@@ -69,7 +92,11 @@ impl OutBuffer {
         ensures fits { IsFrame frame.now }
         ensures err { OnErr result (self.new.items ≡ self.old.items) }
     {
-        write_frame(frame, &mut self.octets)
+        write_frame(frame, &mut self.octets)?;
+        if let Some(given) = &mut self.given {
+            given.note(frame);
+        }
+        Ok(())
     }
 
     /// So many octets at the front went.

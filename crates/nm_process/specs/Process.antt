@@ -2,7 +2,7 @@
 use Rattle.std.specs.Prelude.{◌≡◌, ℕ}
 use Rattle.nm_topology.specs.TopologyValue.{TopologyValue}
 use Rattle.nm_book.specs.Book.{BookValue}
-use Rattle.nm_net.specs.Finished.{IsFinished}
+use Rattle.nm_replica.specs.Finished.{IsFinished}
 
 -- The book is replica r of partition p of this topology, nothing is left to do for it, and its
 -- trace is whole.

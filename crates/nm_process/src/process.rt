@@ -2,7 +2,7 @@
 
 ghost use Rattle.std.specs.Prelude.{◌≡◌, ◌^◌, IfOk};
 ghost use Rattle.std.specs.Arc.{arc_value};
-ghost use Rattle.nm_net.specs.Finished.{IsFinished};
+ghost use Rattle.nm_replica.specs.Finished.{IsFinished};
 ghost use Rattle.nm_process.specs.Process.{IsDoneReplica};
 ghost use Rattle.nm_shared.specs.Counted.{IsBlankOf};
 ghost use Rattle.nm_shared.specs.Home.{home_at, home_of};
@@ -13,13 +13,14 @@ use mio::net::TcpListener;
 use nm_base::{MemSink, PartNo};
 use nm_book::{Book, BookFault};
 use nm_files::TraceFiles;
-use nm_net::{Holdings, Lending, OwnSeats, Served, Service, TcpTransport, run_replica};
 use nm_peers::peers::own_address;
 use nm_peers::{Listener, Peers, peers_of};
 use nm_progress::Progress;
+use nm_replica::{Holdings, Lending, OwnSeats, Served, Service, run_replica};
 use nm_shared::counts::PARTS;
 use nm_shared::{ClockBoard, Counts, Ledgers, Naming, OpenGate, Pass, SharedBook};
 use nm_topology::Topology;
+use nm_transport::TcpTransport;
 use std::alloc::Global;
 use std::io::{self, ErrorKind};
 use std::marker::Brand;

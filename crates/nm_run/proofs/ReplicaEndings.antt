@@ -6,8 +6,8 @@ use Rattle.std.proofs.lemmas.Option.{slice_get-get_or}
 use Rattle.nm_base.specs.Sink.{SinkSeen}
 use Rattle.nm_files.specs.Files.{AreCounted}
 use Rattle.nm_files.specs.Outputs.{Files}
-use Rattle.nm_net.specs.declared.served.Served.{Served}
-use Rattle.nm_net.specs.declared.served.Served.TheVariants as served
+use Rattle.nm_replica.specs.declared.served.Served.{Served}
+use Rattle.nm_replica.specs.declared.served.Served.TheVariants as served
 use Rattle.nm_run.specs.Endings.{AreEndings, GivesNoReason, fault_of}
 use Rattle.nm_run.specs.Sides.{StillCounts}
 use Rattle.nm_run.specs.declared.sides.SideEnd.{SideEnd}

@@ -1,7 +1,7 @@
 -- What the endings of replicas are to the run.
 use Rattle.std.specs.Prelude.{◌≡◌, ◌≢◌, ◌⊎◌, ℕ, ◌<◌, All, List, slice_get, Option, Some, None, Result, Ok, Err}
-use Rattle.nm_net.specs.declared.served.Served.{Served}
-use Rattle.nm_net.specs.declared.served.Served.TheVariants as served
+use Rattle.nm_replica.specs.declared.served.Served.{Served}
+use Rattle.nm_replica.specs.declared.served.Served.TheVariants as served
 use Rattle.nm_run.specs.declared.stop.Stop.{Stop}
 use Rattle.nm_run.specs.declared.stop.Stop.TheVariants as stop
 

@@ -3,7 +3,7 @@ use Rattle.std.specs.Prelude.{◌≡◌, Option}
 use Rattle.nm_base.specs.Sink.{SinkSeen}
 use Rattle.nm_files.specs.Files.{AreCounted}
 use Rattle.nm_files.specs.Outputs.{Files}
-use Rattle.nm_net.specs.declared.served.Served.TheVariants.{Ended}
+use Rattle.nm_replica.specs.declared.served.Served.TheVariants.{Ended}
 use Rattle.nm_run.specs.declared.sides.SideEnd.{SideEnd}
 
 -- the trace files of one that was done are counted

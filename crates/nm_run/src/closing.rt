@@ -6,7 +6,6 @@ ghost use Rattle.nm_files.specs.Files.{AreCounted};
 ghost use Rattle.nm_files.specs.Outputs.{Files};
 ghost use Rattle.nm_run.specs.Report.{AreOfRun, AreInPlace, CertifiesRun, IsInPlace};
 
-use crate::dispatching::Dispatcher;
 use crate::fault::RunFault;
 use crate::run::RunPlan;
 use crate::sides::SideEnd;
@@ -15,6 +14,7 @@ use nm_base::Sink;
 use nm_book::Book;
 use nm_files::TraceFiles;
 use nm_rounds::certify::certify;
+use nm_shared::workers::BookPass;
 use nm_shared::{Pass, Plain, SharedBook};
 use nm_topology::Topology;
 use std::alloc::{AllocError, Global};
@@ -87,16 +87,8 @@ fn gather_sides<S: Sink + Drop>(
     Ok(files)
 }
 
-/// The passes of the dispatcher and of its jobs.
-fn gather_jobs(passes: &mut Passes, dispatcher: Dispatcher) -> Result<(), AllocError> {
-    let Dispatcher {
-        watched,
-        passes: jobs,
-        ..
-    } = dispatcher;
-    for (book, watched) in watched.into_iter().enumerate() {
-        passes.add(book, watched.into_pass())?;
-    }
+/// The passes of jobs.
+fn gather_jobs(passes: &mut Passes, jobs: Vec<BookPass<Plain>>) -> Result<(), AllocError> {
     for job in jobs {
         passes.add(job.book, job.pass)?;
     }
@@ -161,7 +153,7 @@ pub(crate) fn close_run<S: Sink + Drop>(
     plan: &RunPlan<'_>,
     books: Vec<SharedBook<Plain>>,
     ends: Vec<SideEnd<S>>,
-    dispatcher: Dispatcher,
+    jobs: Vec<BookPass<Plain>>,
 ) -> Result<(Vec<Book>, Vec<TraceFiles<S>>), Stop>
     ensures books { IfOk result
         (λ run. AreOfRun (arc_value plan.now.topology.now) plan.now.replicas run.0.items) }
@@ -171,7 +163,7 @@ pub(crate) fn close_run<S: Sink + Drop>(
 {
     let mut passes = Passes::new(alloc, books.len())?;
     let files = gather_sides(alloc, &mut passes, ends)?;
-    gather_jobs(&mut passes, dispatcher)?;
+    gather_jobs(&mut passes, jobs)?;
     let closed = close_books(alloc, books, &mut passes, plan.replicas)?;
     if closed.len() != plan.topology.partitions() as usize * plan.replicas as usize {
         return Err(Stop::IMPOSSIBLE);

@@ -5,7 +5,7 @@ ghost use Rattle.nm_run.specs.Endings.{AreEndings, fault_of};
 
 use crate::sides::SideEnd;
 use crate::stop::Stop;
-use nm_net::Served;
+use nm_replica::Served;
 
 /// Why a run failed one of whose replicas ended so, if it did.
 fn fault_of(served: Served) -> Option<Stop>

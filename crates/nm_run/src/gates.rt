@@ -1,7 +1,7 @@
 //! The gate of one replica of a run.
 
 use mio::Waker;
-use nm_net::Lending;
+use nm_replica::Lending;
 use nm_shared::Gate;
 use std::sync::atomic::{AtomicBool, Ordering};
 

@@ -5,15 +5,15 @@ ghost use Rattle.std.specs.Prelude.{length};
 ghost use Rattle.nm_book.specs.declared.running.Ran.TheVariants.{All as AllDone, Limit, Memory};
 ghost use Rattle.nm_shared.specs.Board.{IsSeatOf};
 
-use crate::threads::{Own, Threaded};
+use crate::stations::Station;
+use crate::threads::Threaded;
 use nm_base::{ChanNo, PartNo};
 use nm_book::Ran;
 use nm_book::channels::comes_in;
-use nm_net::Lending;
-use nm_net::acts::{Stand, Standing};
-use nm_peers::Listener;
+use nm_replica::acts::{Stand, Standing};
 use nm_shared::board::word_of;
-use nm_shared::{ClockBoard, Job, Pass, Plain, Seat, SharedBook};
+use nm_shared::workers::BookPass;
+use nm_shared::{ClockBoard, Job, Pass, Plain, Seat};
 use nm_topology::Topology;
 use nm_topology::topology::accepted_topologies_are_in_order;
 use std::alloc::{AllocError, Global};
@@ -28,13 +28,11 @@ const MAX_KEPT: u64 = 2 * JOB_EVENTS;
 
 /// What the dispatcher remembers of a book.
 #[derive(Drop)]
-pub(crate) struct Watched {
+pub(crate) struct Watched<'a> {
+    pub station: &'a Station<'a>,
     pass: Pass<Plain>,
     /// The words of the channels that come in.
     words: Vec<usize>,
-    /// 0 or 1.
-    pub replica: u8,
-    pub partition: PartNo,
     /// The safe time when it was looked at last, in nanoseconds.
     pub safe: u64,
     /// How many records it had then.
@@ -85,20 +83,19 @@ fn is_full(standing: Standing) -> bool
     standing.records.saturating_sub(standing.handed) > MAX_KEPT
 }
 
-impl Watched {
-    /// The book of the replica that listens here, which has had no job.
+impl<'a> Watched<'a> {
+    /// The book of a replica, which has had no job.
     pub(crate) fn new(
         alloc: Global,
         topology: &Topology,
-        listener: &Listener,
         replicas: u8,
+        station: &'a Station<'a>,
         pass: Pass<Plain>,
     ) -> Result<Self, AllocError> {
         Ok(Watched {
-            words: words_of(alloc, topology, listener.partition, replicas)?,
+            station,
             pass,
-            replica: listener.replica,
-            partition: listener.partition,
+            words: words_of(alloc, topology, station.role.partition, replicas)?,
             safe: 0,
             records: 0,
             is_stale: true,
@@ -107,8 +104,11 @@ impl Watched {
     }
 
     /// Its pass of the book.
-    pub(crate) fn into_pass(self) -> Pass<Plain> {
-        self.pass
+    pub(crate) fn into_pass(self) -> BookPass<Plain> {
+        BookPass {
+            book: self.station.role.index,
+            pass: self.pass,
+        }
     }
 
     /// Whether the book is to have a job: it is lent, and does not keep too many records. A book
@@ -117,7 +117,6 @@ impl Watched {
     fn wants<R: Wait>(
         &mut self,
         rt: &R,
-        own: &Own<'_>,
         board: &ClockBoard,
         seat: &mut Seat,
         looks_at_all: bool,
@@ -128,12 +127,12 @@ impl Watched {
         if self.is_done {
             return false;
         }
-        let is_lent = own.lending.is_lent();
+        let is_lent = self.station.lending.is_lent();
         let is_due = is_lent || self.is_stale || looks_at_all;
         if !is_due && !has_news(board, seat, self.words.as_slice(), self.safe) {
             return false;
         }
-        let standing = own.book.act(rt, &mut self.pass, Stand);
+        let standing = self.station.book.act(rt, &mut self.pass, Stand);
         self.safe = standing.safe.nanoseconds();
         self.records = standing.records;
         self.is_done = standing.is_done;
@@ -142,14 +141,8 @@ impl Watched {
     }
 
     /// Does a job of the book with its own pass.
-    pub(crate) fn run<R: Wait>(
-        &mut self,
-        rt: &R,
-        alloc: Global,
-        book: &SharedBook<Plain>,
-        limit: u64,
-    ) -> Ran {
-        book.run(rt, &mut self.pass, alloc, limit)
+    pub(crate) fn run<R: Wait>(&mut self, rt: &R, alloc: Global, limit: u64) -> Ran {
+        self.station.book.run(rt, &mut self.pass, alloc, limit)
     }
 
     /// Its job was done: how many events it was. A job that left none gives the book back.
@@ -157,14 +150,14 @@ impl Watched {
     /// # Errors
     ///
     /// Where memory was refused to the job.
-    pub(crate) fn note(&mut self, answer: Ran, lending: &Lending) -> Result<u64, AllocError>
+    pub(crate) fn note(&mut self, answer: Ran) -> Result<u64, AllocError>
         ensures { MatchResult result (λ n. (answer ≡ AllDone n) ⊎ (answer ≡ Limit n))
             (λ _. (n : ℕ) × (answer ≡ Memory n)) }
     {
         self.is_stale = true;
         match answer {
             Ran::All(count) => {
-                lending.give_back();
+                self.station.lending.give_back();
                 Ok(count)
             }
             Ran::Limit(count) => Ok(count),
@@ -179,7 +172,7 @@ pub(crate) fn jobs_for<G, R: Wait>(
     alloc: Global,
     threaded: &Threaded<'_, G>,
     seat: &mut Seat,
-    watched: &mut Vec<Watched>,
+    watched: &mut Vec<Watched<'_>>,
     looks_at_all: bool,
 ) -> Result<Vec<Job>, AllocError>
     requires { IsSeatOf threaded.now.board.now seat.old }
@@ -188,14 +181,11 @@ pub(crate) fn jobs_for<G, R: Wait>(
         (λ jobs. All (λ j. j.book < length threaded.now.books.now) jobs.items) }
 {
     let mut jobs = Vec::new(alloc);
-    for number in 0..watched.len() {
-        let wants = match (watched.get_mut(number), threaded.own(number)) {
-            (Some(one), Some(own)) => one.wants(rt, &own, threaded.board, seat, looks_at_all),
-            _ => false,
-        };
-        if wants && number < threaded.books.len() {
+    for one in watched.iter_mut() {
+        let book = one.station.role.index;
+        if one.wants(rt, threaded.board, seat, looks_at_all) && book < threaded.books.len() {
             jobs.push(Job {
-                book: number,
+                book,
                 limit: JOB_EVENTS,
             })?;
         }

@@ -14,6 +14,7 @@ pub mod report;
 pub mod run;
 pub mod runtime;
 mod sides;
+mod stations;
 pub mod stop;
 mod threads;
 

@@ -1,7 +1,7 @@
 //! The replicas of a run, each in a thread of its own.
 
 ghost use Rattle.std.specs.Prelude.{◌≡◌, ◌⊎◌, ◌≤◌, All, IfOk, Option};
-ghost use Rattle.nm_net.specs.declared.served.Served.TheVariants.{Ended, Memory, Net};
+ghost use Rattle.nm_replica.specs.declared.served.Served.TheVariants.{Ended, Memory, Net};
 ghost use Rattle.nm_files.specs.Files.{AreCounted};
 ghost use Rattle.nm_files.specs.Outputs.{Files};
 ghost use Rattle.nm_run.specs.Sides.{StillCounts};
@@ -12,15 +12,18 @@ use crate::dispatching::{Dispatcher, dispatch};
 use crate::gates::SideGate;
 use crate::posts::Post;
 use crate::runtime::Runtime;
+use crate::stations::Station;
 use crate::stop::Stop;
 use crate::threads::Threaded;
 use nm_base::{PartNo, Sink};
 use nm_files::TraceFiles;
 use nm_frames::ReplicaName;
-use nm_net::limits::MAX_IDLE_PERIODS;
-use nm_net::{Holdings, Served, Service, TcpTransport, run_replica};
 use nm_peers::Peers;
+use nm_replica::limits::MAX_IDLE_PERIODS;
+use nm_replica::{Holdings, Served, Service, run_replica};
+use nm_shared::workers::BookPass;
 use nm_shared::{Gate, Pass, Plain};
+use nm_transport::TcpTransport;
 use std::alloc::Global;
 use std::io::{self, ErrorKind};
 use std::net::Net;
@@ -34,22 +37,10 @@ use std::time::Clock;
 /// when their records are written.
 const OWN_EVENTS: u64 = 128;
 
-/// Which replica of a run it is.
-#[derive(Clone, Copy)]
-pub(crate) struct Role {
-    /// Where its book stands among those of the run.
-    pub index: usize,
-    pub partition: PartNo,
-    /// 0 or 1.
-    pub replica: u8,
-    /// Where its sister's book stands, if it has one.
-    pub sister: Option<usize>,
-}
-
 /// A replica that is to run.
 #[derive(Drop)]
 pub(crate) struct Side<'a, S> {
-    pub role: Role,
+    pub station: &'a Station<'a>,
     pub holdings: Holdings<'a, Plain, S>,
     pub post: Post,
     pub peers: Peers,
@@ -74,7 +65,7 @@ pub(crate) struct SideEnd<S> {
 struct TookRecords<S>(Snapshot<TraceFiles<S>>);
 
 impl<S: Sink> Promise<SideEnd<S>> for TookRecords<S> {
-    ghost use Rattle.nm_net.specs.declared.served.Served.TheVariants.{Ended};
+    ghost use Rattle.nm_replica.specs.declared.served.Served.TheVariants.{Ended};
     ghost use Rattle.nm_run.specs.Took.{TookSome};
 
     ghost kept_by = { λ p end. end.served ≡ Ended → TookSome S.seen
@@ -86,7 +77,7 @@ impl<S: Sink> Promise<SideEnd<S>> for TookRecords<S> {
 fn serve<S: Sink, G: Gate, R: Net + Wait + Clock + Drop + Copy>(
     rt: &R,
     threaded: &Threaded<'_, G>,
-    role: Role,
+    station: &Station<'_>,
     peers: (&[PartNo], &[ReplicaName]),
     holdings: &mut Holdings<'_, Plain, S>,
     transport: &mut TcpTransport<R>,
@@ -94,22 +85,19 @@ fn serve<S: Sink, G: Gate, R: Net + Wait + Clock + Drop + Copy>(
     ensures took { result ≡ Ended → TookSome S.seen
         holdings.old.files.files.items holdings.new.files.files.items }
 {
-    // There is a book for each replica.
-    let Some(own) = threaded.own(role.index) else {
-        return Served::Net;
-    };
+    let role = station.role;
     let service = Service {
         topology: threaded.topology,
         partition: role.partition,
         replica: role.replica,
-        book: own.book,
+        book: station.book,
         peers: peers.0,
         callers: peers.1,
         books: threaded.books,
         sister: role.sister,
         idle_limit: MAX_IDLE_PERIODS,
         run_limit: OWN_EVENTS,
-        lending: own.lending,
+        lending: &station.lending,
         progress: Some(threaded.progress),
         notes_progress: false,
         keeps_records: false,
@@ -118,7 +106,7 @@ fn serve<S: Sink, G: Gate, R: Net + Wait + Clock + Drop + Copy>(
         gate: threaded.gate,
         has_failed: threaded.has_failed,
         dispatcher: threaded.dispatcher,
-        lending: own.lending,
+        lending: &station.lending,
     };
     let alloc = threaded.alloc;
     run_replica(rt, alloc, &service, holdings, transport, &gate)
@@ -146,13 +134,12 @@ pub(crate) fn run_side<S: Sink, G: Gate, R: Net + Wait + Clock + Drop + Copy>(
         side.entry.holdings.files.files.items result.files.files.items }
 {
     let Side {
-        role,
+        station,
         mut holdings,
         post,
         peers,
     } = side;
-    let index = role.index;
-    let Post { socket, poll } = post;
+    let Post { socket, poll, .. } = post;
     let Peers {
         partitions,
         addresses,
@@ -162,7 +149,7 @@ pub(crate) fn run_side<S: Sink, G: Gate, R: Net + Wait + Clock + Drop + Copy>(
         Err(error) => served_of(&error),
         Ok(mut transport) => {
             let peers = (partitions.as_slice(), callers.as_slice());
-            serve(rt, threaded, role, peers, &mut holdings, &mut transport)
+            serve(rt, threaded, station, peers, &mut holdings, &mut transport)
         }
     };
     if served != Served::Ended {
@@ -176,7 +163,7 @@ pub(crate) fn run_side<S: Sink, G: Gate, R: Net + Wait + Clock + Drop + Copy>(
         ..
     } = holdings;
     SideEnd {
-        index,
+        index: station.role.index,
         served,
         pass,
         passes,
@@ -186,7 +173,7 @@ pub(crate) fn run_side<S: Sink, G: Gate, R: Net + Wait + Clock + Drop + Copy>(
 
 /// Runs all replicas, each in a thread of its own, and the dispatcher in this one, until all have
 /// ended. The dispatcher gives the books that are lent to it to the pool, and begins when all
-/// replicas have begun.
+/// replicas have begun. It answers how the replicas ended, and the passes of all jobs.
 ///
 /// # Errors
 ///
@@ -198,8 +185,8 @@ pub(crate) fn run_threads<S: Sink + Drop + Send, G: Gate + Sync, R: Runtime>(
     threaded: &Threaded<'_, G>,
     workers: usize,
     sides: Vec<Side<'_, S>>,
-    dispatcher: Dispatcher,
-) -> Result<(Vec<SideEnd<S>>, Dispatcher), Stop>
+    dispatcher: Dispatcher<'_>,
+) -> Result<(Vec<SideEnd<S>>, Vec<BookPass<Plain>>), Stop>
     requires workers { (1 ≤ workers) × (workers ≤ 64) }
     requires seat { IsSeatOf threaded.now.board.now dispatcher.seat }
     ensures counted { (made : Option Files)
@@ -209,7 +196,7 @@ pub(crate) fn run_threads<S: Sink + Drop + Send, G: Gate + Sync, R: Runtime>(
     thread::scope(
         thread::scope_env(),
         rt,
-        move |scope| -> Result<(Vec<SideEnd<S>>, Dispatcher), Stop>
+        move |scope| -> Result<(Vec<SideEnd<S>>, Vec<BookPass<Plain>>), Stop>
             requires workers { (1 ≤ workers) × (workers ≤ 64) }
             requires seat { IsSeatOf threaded.now.board.now dispatcher.seat }
             ensures counted { (made : Option Files)
@@ -241,7 +228,7 @@ pub(crate) fn run_threads<S: Sink + Drop + Send, G: Gate + Sync, R: Runtime>(
             for thread in threads {
                 ends.push(thread.join(rt))?;
             }
-            Ok((ends, dispatcher))
+            Ok((ends, dispatcher.into_passes()?))
         },
     )
 }

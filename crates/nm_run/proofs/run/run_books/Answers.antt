@@ -1,7 +1,7 @@
 use Rattle.std.proofs.Common.{◌≡◌, ◌∷◌, [], ◌++◌, All, map, sym, subst, rules}
 use Rattle.nm_shared.specs.Board.{IsSeatOf}
 use Rattle.nm_shared.proofs.Closings.{each_back}
-use Rattle.nm_net.specs.declared.served.Served.TheVariants as served
+use Rattle.nm_replica.specs.declared.served.Served.TheVariants as served
 use Rattle.nm_run.proofs.ReplicaEndings.{all_counted}
 use Rattle.nm_run.proofs.run.run_books.Goals as goal
 

@@ -1,6 +1,0 @@
-use Rattle.std.proofs.Common.{◌≡◌, map, take}
-use Rattle.nm_net.specs.Ends.{new_caller}
-use Rattle.nm_net.proofs.callers.Callers.new.Given as goal
-
-abbrev pub invariant-loop-name : goal.invariant-loop-name
-invariant-loop-name l = l.all.items ≡ map new_caller (take l.name-index l.names)

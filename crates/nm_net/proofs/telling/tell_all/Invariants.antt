@@ -1,5 +1,0 @@
-use Rattle.nm_net.specs.Seats.{AreKept}
-use Rattle.nm_net.proofs.telling.tell_all.Given as goal
-
-abbrev pub invariant-loop-number : goal.invariant-loop-number
-invariant-loop-number g l = AreKept l.fn.own l.own

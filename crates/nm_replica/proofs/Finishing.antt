@@ -1,0 +1,60 @@
+-- Of each of some replicas a book was seen to be done.
+use Rattle.std.proofs.Common.{◌≡◌, ◌≢◌, ℕ, ◌+◌, ◌<◌, ◌≤◌, Bool, true, false, ◌&&◌, ◌||◌, ◌==◌, List, map, length, slice_index_or, slice_set, refl, sym, ◌∙◌, ap, subst, arith, ⊎_elim}
+use Rattle.std.proofs.lemmas.Bool.{and_parts, cases_lt}
+use Rattle.std.proofs.lemmas.Bool.Decides.{nat_tests}
+use Rattle.std.proofs.lemmas.Grind.{get_or-set_at}
+use Rattle.std.proofs.lemmas.List.{get_or-set_other, length-map, map-set}
+use Rattle.nm_model.specs.Certificate.{is_done}
+use Rattle.nm_sim.specs.Network.{net_of}
+use Rattle.nm_book.specs.Book.{BookValue, replica_of, state_of}
+use Rattle.nm_shared.specs.Counted.{Meets}
+use Rattle.nm_shared.specs.Home.{Home, home_of}
+use Rattle.nm_replica.specs.Served.{WasFinished, WasSeen, WereFinished, is_handed_out}
+use Rattle.nm_replica.specs.Finished.{IsFinished}
+use Rattle.nm_replica.specs.declared.acts.Standing.{Standing}
+
+-- one replica more
+pub one_finished : (exact : Bool) {P : Type 0} (f : P → ℕ) (k : ℕ) (passes : List P) (p : P) (b : BookValue) → k < length passes
+    → WereFinished exact k (map f passes) → (exact ≡ true → f p ≤ b.events) → IsFinished b → WereFinished exact (k + 1) (map f (slice_set passes k p))
+one_finished exact f k passes p b low so_far few done n under =
+    ⊎_elim
+    (λ before.
+    let other : n ≢ k = λ e. absurd (omega (arith, before, e)) in
+    let is = so_far n before in
+    (is.0, (λ x. subst (λ z. z ≤ is.0.events) (sym (same ∙ get_or-set_other (map f passes) k n (f p) 0 other)) (is.1 x)), is.2))
+    (λ here.
+    let at : n ≡ k = omega (arith, here, under) in
+    let long : k < length (map f passes) = subst (λ z. k < z) (sym (length-map passes f)) low in
+    (b, (λ x. subst (λ z. z ≤ b.events) (sym (same ∙ get_or-set_at (map f passes) k n (f p) 0 at long)) (few x)), done))
+    (cases_lt n k)
+  where
+    same : slice_index_or (map f (slice_set passes k p)) n 0 ≡ slice_index_or (slice_set (map f passes) k (f p)) n 0
+    same = ap (λ z. slice_index_or z n 0) (map-set f passes k p)
+
+-- a look at a book counts no event
+pub looked_at : (exact : Bool) (own : Home) {m e m' e' : ℕ} (b c : BookValue) → c ≡ b → Meets exact own m e m' e' b c → exact ≡ true → e' ≤ b.events
+looked_at exact own b c same meets is =
+    let least = (meets.at_least is).1 in
+    let equal : c.events ≡ b.events = ap (λ z. z.events) same in
+    let risen = meets.events (λ no. absurd cc) in
+    omega (arith, least, equal, risen)
+
+-- a replica that is done, and whose book keeps its records or has none left to hand out
+pub is_finished : (exact : Bool) (own : Home) (keeps is_last : Bool) (s : Standing) → WasSeen exact own s → (is_last ≡ true → WasFinished exact own false)
+    → (s.is_done && (keeps || is_last || (s.handed == s.records))) ≡ true → WasFinished exact own keeps
+is_finished exact own true is_last s seen last is = (seen.0, seen.1, sym seen.2 ∙ (and_parts s.is_done true is).0, (λ no. absurd cc))
+is_finished exact own false true s seen last is = last refl
+is_finished exact own false false s seen last is =
+    let both = and_parts s.is_done (s.handed == s.records) is in
+    let equal = both.1 in
+    let all : s.handed ≡ s.records = grind (arith, nat_tests) in
+    (seen.0, seen.1, sym seen.2 ∙ both.0, (λ no. sym seen.3 ∙ all ∙ seen.4))
+
+-- a replica whose last record was handed out
+pub was_last : (exact : Bool) (own : Home) (c : BookValue) (is_last : Bool) → (exact ≡ true → home_of c ≡ own) → is_last ≡ is_handed_out c → is_last ≡ true
+    → WasFinished exact own false
+was_last exact own c is_last home is last =
+    let both = and_parts (is_done (net_of c.topology) c.partition (replica_of c)) (c.handed == length (state_of c).records) (sym is ∙ last) in
+    let equal = both.1 in
+    let all : c.handed ≡ length (state_of c).records = grind (arith, nat_tests) in
+    (c, home, both.0, (λ no. all))

@@ -1,0 +1,33 @@
+-- What polls come to, and why serving ends by them.
+use Rattle.std.proofs.Common.{◌≡◌, ◌≤◌, ◌+◌, inl, ℕ, Bool, true, false, if◌then◌else◌, Some, None, refl, subst, arith}
+use Rattle.std.proofs.lemmas.Bool.Decides.{nat_tests}
+use Rattle.std.specs.Prelude.{nat_le}
+use Rattle.nm_shared.specs.Home.{Home}
+use Rattle.nm_replica.specs.Polls.{ending_of, idle_after}
+use Rattle.nm_transport.specs.Transport.{elapsed_after}
+use Rattle.nm_replica.specs.Served.{EndsWith, WasFinished}
+use Rattle.nm_replica.specs.declared.served.Served.{Served}
+use Rattle.nm_replica.specs.declared.served.Served.TheVariants.{Ended, Stalled}
+
+-- there are no more idle periods in a row than waits that ran out
+pub idles_wait : (idle : ℕ) (was_active ran_out : Bool) (start before after : ℕ) → start + idle ≤ before
+    → after ≡ elapsed_after before ran_out → start + idle_after idle was_active ran_out ≤ after
+idles_wait idle true true start before after so_far one = omega (arith, so_far, one)
+idles_wait idle true false start before after so_far one = omega (arith, so_far, one)
+idles_wait idle false true start before after so_far one = omega (arith, so_far, one)
+idles_wait idle false false start before after so_far one = omega (arith, so_far, one)
+
+-- what `ending_of` says is why serving ends
+pub ends_after : (exact : Bool) (own : Home) (keeps : Bool) (limit before after idle polls : ℕ) (is_done : Bool) (served : Served)
+    → (is_done ≡ true → WasFinished exact own keeps) → before + idle ≤ after → ending_of is_done idle limit polls ≡ Some served
+    → EndsWith exact own keeps limit before after served
+ends_after exact own keeps limit before after idle polls true served finished idles e =
+    let is : Ended ≡ served = cc in subst (EndsWith exact own keeps limit before after) is (finished refl)
+ends_after exact own keeps limit before after idle polls false served finished idles e = by_test (nat_le limit idle) refl e
+  where
+    by_test : (b : Bool) → nat_le limit idle ≡ b → (if b then Some (Stalled polls) else None) ≡ Some served → EndsWith exact own keeps limit before after served
+    by_test true is f =
+        let few : limit ≤ idle = grind (arith, nat_tests) in
+        let same : Stalled polls ≡ served = cc in
+        subst (EndsWith exact own keeps limit before after) same (inl (omega (arith, few, idles)))
+    by_test false is f = let none : None ≡ Some served = f in absurd cc

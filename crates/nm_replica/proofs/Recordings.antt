@@ -1,0 +1,91 @@
+-- Records that a replica hands out, and the trace files to which they go.
+use Rattle.std.proofs.Common.{◌≡◌, ℕ, ◌+◌, ◌≤◌, Bool, true, All, List, [], ◌∷◌, ◌++◌, flat_map, length, take, drop, slice_get, Option, Some, is_some, if◌then◌else◌, length-drop, refl, sym, ◌∙◌, ap, subst, arith, append-nil}
+use Rattle.std.proofs.lemmas.Grind.{flat_map-append}
+use Rattle.std.proofs.lemmas.List.{append_assoc, get_or-drop}
+use Rattle.std.proofs.lemmas.List.Elements.{All-append, All-cons, All-drop, All-take}
+use Rattle.std.proofs.lemmas.Option.{slice_get_within, get_or_from_slice_get, slice_get-get_or}
+use Rattle.nm_base.specs.Sink.{SinkSeen}
+use Rattle.nm_base.specs.declared.limits.TheConstants.{MAX_TIME}
+use Rattle.nm_base.specs.declared.record.Record.{Record}
+use Rattle.nm_pcap.specs.Writer.{Writer}
+use Rattle.nm_files.proofs.Files.{more_records, no_records}
+use Rattle.nm_files.proofs.Records.{one_more}
+use Rattle.nm_book.specs.Book.{BookValue, state_of}
+use Rattle.nm_shared.specs.Home.{Home, home_of}
+use Rattle.nm_replica.specs.Recording.{AreHandedOut, HandsOut, Streams, TakesOut, out_of}
+
+pub none_out : (b : BookValue) (room : List (Record (List ℕ))) → TakesOut b room b room
+none_out b room =
+    let e : b.handed ≡ b.handed + 0 = omega arith in
+    let same : b ≡ record b { handed = b.handed + 0 } = ap {A = ℕ} (λ z. record b { handed = z }) e in
+    (0, same, sym (append-nil room))
+
+at_drop : {X : Type 0} (xs : List X) (h n : ℕ) (x : X) → slice_get xs (h + n) ≡ Some x → slice_get (drop h xs) n ≡ Some x
+at_drop xs h n x is =
+    let low = slice_get_within xs (h + n) x is in
+    let long = length-drop h xs in
+    slice_get-get_or (drop h xs) n x (omega (arith, low, long)) ∙ ap (λ z. Some z) (get_or-drop h xs n x ∙ get_or_from_slice_get xs (h + n) x x is)
+
+-- after some records one more
+pub one_out : (b mid c : BookValue) (room some more : List (Record (List ℕ))) (o : Option (Record (List ℕ))) (r : Record (List ℕ)) → TakesOut b room mid some
+    → o ≡ slice_get (state_of mid).records mid.handed → o ≡ Some r → c ≡ record mid { handed = mid.handed + (if is_some o then 1 else 0) } → more ≡ some ++ r ∷ []
+    → TakesOut b room c more
+one_out b mid c room some more o r took is there next last =
+    let n = took.0 in
+    let records = (state_of b).records in
+    let at : slice_get records (b.handed + n) ≡ Some r = sym (ap {A = BookValue} (λ z. slice_get (state_of z).records z.handed) took.1) ∙ sym is ∙ there in
+    let one : (if is_some o then 1 else 0) ≡ 1 = ap {A = Option (Record (List ℕ))} (λ z. if is_some z then 1 else 0) there in
+    let step : c ≡ record mid { handed = mid.handed + 1 } = next ∙ ap {A = ℕ} (λ z. record mid { handed = mid.handed + z }) one in
+    let base : record mid { handed = mid.handed + 1 } ≡ record b { handed = (b.handed + n) + 1 } = ap {A = BookValue} (λ z. record z { handed = z.handed + 1 }) took.1 in
+    let count : (b.handed + n) + 1 ≡ b.handed + (n + 1) = omega arith in
+    let moved : record b { handed = (b.handed + n) + 1 } ≡ record b { handed = b.handed + (n + 1) } = ap {A = ℕ} (λ z. record b { handed = z }) count in
+    let text : more ≡ room ++ take (n + 1) (drop b.handed records) =
+    last ∙ ap {A = List (Record (List ℕ))} (λ z. z ++ r ∷ []) took.2 ∙ append_assoc room (take n (drop b.handed records)) (r ∷ [])
+    ∙ ap {A = List (Record (List ℕ))} (λ z. room ++ z) (sym (one_more (drop b.handed records) n (n + 1) r (at_drop records b.handed n r at) refl)) in
+    (n + 1, step ∙ base ∙ moved, text)
+
+-- a trace file can say the times of what came into an empty list
+pub handed_times : (b c : BookValue) (room given : List (Record (List ℕ))) → room ≡ [] → HandsOut b room c given → All (λ r. r.time ≤ MAX_TIME) given
+handed_times b c room given none hands =
+    let n = hands.takes.0 in
+    let records = (state_of b).records in
+    subst (All (λ r. r.time ≤ MAX_TIME)) (sym (hands.takes.2 ∙ ap (λ z. z ++ take n (drop b.handed records)) none))
+    (All-take (λ r. r.time ≤ MAX_TIME) n (drop b.handed records) (All-drop (λ r. r.time ≤ MAX_TIME) b.handed records hands.times))
+
+module _ (exact : Bool) (own : Home) where
+  -- what came into an empty list is a hand-out
+  pub handed_out : (b c : BookValue) (room given : List (Record (List ℕ))) → room ≡ [] → (exact ≡ true → home_of b ≡ own) → TakesOut b room c given
+      → AreHandedOut exact own given
+  handed_out b c room given none home takes =
+      let n = takes.0 in
+      let out = out_of (b, n) in (
+        (b, n) ∷ [],
+        All-cons (λ out'. exact ≡ true → home_of out'.0 ≡ own) (b, n) [] home (λ k d low. absurd (omega (arith, low))),
+        takes.2 ∙ ap (λ z. z ++ out) none ∙ sym (append-nil out),
+      )
+
+  handed_more : (xs ys : List (Record (List ℕ))) → AreHandedOut exact own xs → AreHandedOut exact own ys → AreHandedOut exact own (xs ++ ys)
+  handed_more xs ys v w = (
+    v.0 ++ w.0,
+    All-append (λ out. exact ≡ true → home_of out.0 ≡ own) v.0 w.0 v.1 w.1,
+    ap (λ z. z ++ ys) v.2 ∙ ap (λ z. flat_map out_of v.0 ++ z) w.2 ∙ sym (flat_map-append out_of v.0 w.0),
+  )
+
+  module _ {S : Type 0} (seen : S → SinkSeen) where
+    pub streams_none : (files : List (Option (Writer S))) → Streams seen exact own files files
+    streams_none files =
+        (0, record { records = []; count = refl; handed = ([], (λ k d low. absurd (omega (arith, low))), refl); took = no_records seen files })
+
+    pub streams_more : (old mid new : List (Option (Writer S))) → Streams seen exact own old mid → Streams seen exact own mid new
+        → Streams seen exact own old new
+    streams_more old mid new v w =
+        let a = v.1 in
+        let b = w.1 in (
+          length (a.records ++ b.records),
+          record {
+            records = a.records ++ b.records;
+            count = refl;
+            handed = handed_more a.records b.records a.handed b.handed;
+            took = more_records seen a.records b.records old mid new a.took b.took;
+          },
+        )

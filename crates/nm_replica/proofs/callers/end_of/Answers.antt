@@ -1,0 +1,9 @@
+use Rattle.std.proofs.Common.{arith}
+use Rattle.nm_replica.specs.Ends.{ended_by}
+use Rattle.nm_replica.proofs.Changing.{one_changed}
+use Rattle.nm_replica.proofs.callers.end_of.Goals as goal
+
+pub loop-caller-preserved : goal.loop-caller-preserved
+loop-caller-preserved c =
+    one_changed (ended_by c.args.name.now) c.args.callers.now c.loop-caller.callers c.loop-caller.caller-index c.caller-item.result _ (omega arith)
+    c.caller-item.is c.ended_by.ensures c.loop-caller.invariant

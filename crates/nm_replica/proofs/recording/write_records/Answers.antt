@@ -1,0 +1,23 @@
+use Rattle.nm_replica.proofs.Recordings.{streams_more, streams_none}
+use Rattle.nm_replica.proofs.recording.write_records.Goals as goal
+
+pub returns-then-service-clause-streams : goal.returns-then-service-clause-streams
+returns-then-service-clause-streams g c = streams_none g.C.Counts.exact g.C.Counts.home g.S.Sink.seen c.args.files.now.files.items
+
+pub loop-init : goal.loop-init
+loop-init g c = record {
+  streams = streams_none g.C.Counts.exact g.C.Counts.home g.S.Sink.seen c.args.files.now.files.items;
+  last = λ is. absurd cc;
+}
+
+pub returns-then-not-some-clause-streams : goal.returns-then-not-some-clause-streams
+returns-then-not-some-clause-streams g c =
+    streams_more g.C.Counts.exact g.C.Counts.home g.S.Sink.seen c.args.files.now.files.items c.loop.files.files.items c.write_some.new.files.files.items c.loop.invariant.streams (c.in_ok-some.some.written, c.in_ok-some.ensures.wrote)
+
+pub loop-preserved : goal.loop-preserved
+loop-preserved g c = record {
+  streams =
+      streams_more g.C.Counts.exact g.C.Counts.home g.S.Sink.seen c.args.files.now.files.items c.loop.files.files.items c.write_some.new.files.files.items
+      c.loop.invariant.streams (c.in_ok-some.some.written, c.in_ok-some.ensures.wrote);
+  last = c.in_ok-some.ensures.last;
+}

@@ -1,0 +1,63 @@
+-- How often links have ended.
+use Rattle.std.specs.Prelude.{ℕ, ◌-◌, Bool, true, false, ◌==◌, ◌&&◌, ◌||◌, if◌then◌else◌}
+use Rattle.nm_frames.specs.declared.replica_name.ReplicaName.{ReplicaName}
+use Rattle.nm_replica.specs.declared.callers.Caller.{Caller}
+use Rattle.nm_replica.specs.declared.ends.Ends.{Ends}
+use Rattle.nm_replica.specs.declared.ends.Ends.TheVariants.{Open, Once, Sure}
+use Rattle.nm_replica.specs.declared.limits.TheConstants.{REST_PERIODS, RECALL_PERIODS}
+
+-- one end more: the second is sure
+abbrev pub once_more : Ends → Ends
+once_more Open = Once
+once_more Once = Sure
+once_more Sure = Sure
+
+-- a call after an end found nobody: the end is sure
+abbrev pub after_nobody : Ends → Ends
+after_nobody Open = Open
+after_nobody Once = Sure
+after_nobody Sure = Sure
+
+abbrev pub has_ended : Ends → Bool
+has_ended Open = false
+has_ended Once = true
+has_ended Sure = true
+
+abbrev pub is_sure : Ends → Bool
+is_sure Open = false
+is_sure Once = false
+is_sure Sure = true
+
+-- For how many periods a peer is not called again: at once where it greeted last time, and seldom
+-- once the link has ended for sure, for one that was lost and begun anew.
+abbrev pub rest_of : Ends → (has_greeted : Bool) → ℕ
+rest_of Open has_greeted = if has_greeted then 0 else REST_PERIODS
+rest_of Once has_greeted = if has_greeted then 0 else REST_PERIODS
+rest_of Sure has_greeted = RECALL_PERIODS
+
+-- for how many periods it is not called, after one more poll, at which a period was over or not
+abbrev pub rest_after : (before : ℕ) → (ran_out : Bool) → ℕ
+rest_after before ran_out = if ran_out then before - 1 else before
+
+-- How often a link has ended after a connection of it broke. Nobody was there where no Hello came
+-- and no octet could be written: a connection that took octets may have been cut before the peer's
+-- Hello came.
+abbrev pub after_break : Ends → (has_greeted has_written : Bool) → Ends
+after_break ends has_greeted has_written =
+    if has_greeted || has_written then ends else after_nobody ends
+
+-- a caller whose link has not ended
+abbrev pub new_caller : ReplicaName → Caller
+new_caller name = record { name = name; ends = Open; has_broken = false }
+
+-- whether it is the caller with this name
+abbrev pub is_named : ReplicaName → Caller → Bool
+is_named name c = (c.name.partition == name.partition) && (c.name.replica == name.replica)
+
+-- the caller after the link with this name has ended once more
+abbrev pub ended_by : ReplicaName → Caller → Caller
+ended_by name c = if is_named name c then record c { ends = once_more c.ends } else c
+
+-- the caller after a connection of the replica with this name broke
+abbrev pub broken_by : ReplicaName → Caller → Caller
+broken_by name c = record c { has_broken = c.has_broken || is_named name c }

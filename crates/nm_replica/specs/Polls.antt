@@ -1,0 +1,17 @@
+-- What polls come to: how long nothing was ready or done, and when serving ends by it.
+use Rattle.std.specs.Prelude.{ℕ, ◌+◌, Bool, true, false, nat_le, Option, Some, None, if◌then◌else◌}
+use Rattle.nm_base.specs.Count.{saturated}
+use Rattle.nm_replica.specs.declared.served.Served.{Served}
+use Rattle.nm_replica.specs.declared.served.Served.TheVariants.{Ended, Stalled}
+
+-- for how many periods in a row nothing moved and nothing was done, after one more poll, at which a
+-- period was over or not
+abbrev pub idle_after : (before : ℕ) → (was_active ran_out : Bool) → ℕ
+idle_after before true ran_out = 0
+idle_after before false ran_out = if ran_out then saturated (before + 1) else before
+
+-- how serving ends after a poll, if it does: it is done, or so many periods in a row were idle as
+-- its limit says
+abbrev pub ending_of : (is_done : Bool) → (idle limit polls : ℕ) → Option Served
+ending_of true idle limit polls = Some Ended
+ending_of false idle limit polls = if nat_le limit idle then Some (Stalled polls) else None

@@ -1,0 +1,82 @@
+-- How the serving of a replica ends.
+use Rattle.std.specs.Prelude.{◌≡◌, ◌⊎◌, ℕ, ◌+◌, ◌≤◌, ◌<◌, ◌==◌, ◌&&◌, Bool, true, false, List, length, slice_index_or, Option, Some, None, if◌then◌else◌}
+use Rattle.nm_engine.specs.declared.answer.Cause.{Cause}
+use Rattle.nm_engine.specs.declared.answer.Cause.TheVariants as cause
+use Rattle.nm_base.specs.declared.fault.Fault.{Fault}
+use Rattle.nm_base.specs.declared.fault.Fault.TheVariants as fault
+use Rattle.nm_files.specs.declared.trace_files.FileFault.{FileFault}
+use Rattle.nm_book.specs.Book.{BookValue, replica_of, state_of}
+use Rattle.nm_model.specs.Certificate.{is_done}
+use Rattle.nm_shared.specs.Home.{Home, home_of}
+use Rattle.nm_sim.specs.Network.{net_of}
+use Rattle.nm_replica.specs.declared.acts.Standing.{Standing}
+use Rattle.nm_replica.specs.declared.served.Served.{Served}
+use Rattle.nm_replica.specs.declared.served.Served.TheVariants.{Ended, Net, Memory, File, Stalled}
+use Rattle.nm_replica.specs.Finished.{IsFinished}
+use Rattle.nm_replica.specs.declared.limits.TheConstants.{MAX_POLLS}
+
+-- how serving ends because a link broke: not, where its wire did, or where who said no Hello spoke
+-- nonsense
+abbrev pub break_served : Cause → Bool → Option Served
+break_served cause.End is_peer = None
+break_served cause.Fault is_peer = None
+break_served cause.Frame is_peer = if is_peer then Some Net else None
+break_served cause.Session is_peer = if is_peer then Some Net else None
+break_served cause.Book is_peer = Some Net
+break_served cause.Memory is_peer = Some Memory
+
+-- how serving ends where trace files were not written on
+abbrev pub file_served : Fault FileFault → Served
+file_served (fault.Refused f) = File f.iface f.written
+file_served fault.Memory = Memory
+
+-- nothing is left to do for the replica, and no record to hand out
+abbrev pub is_handed_out : BookValue → Bool
+is_handed_out b =
+    is_done (net_of b.topology) b.partition (replica_of b)
+    && (b.handed == length (state_of b).records)
+
+-- so far it was when a book of this replica, if the counts are exact, was looked at
+abbrev pub WasSeen : (exact : Bool) → Home → Standing → Type 0
+WasSeen exact own s =
+    (b : BookValue) × (exact ≡ true → home_of b ≡ own)
+    × (s.is_done ≡ is_done (net_of b.topology) b.partition (replica_of b))
+    × (s.handed ≡ b.handed) × (s.records ≡ length (state_of b).records)
+
+-- a book of this replica, if the counts are exact, was seen to be done, and to have no record left
+-- to hand out unless it keeps them
+abbrev pub WasFinished : (exact : Bool) → Home → (keeps_records : Bool) → Type 0
+WasFinished exact own keeps =
+    (b : BookValue) × (exact ≡ true → home_of b ≡ own) × IsFinished b
+    × (keeps ≡ false → b.handed ≡ length (state_of b).records)
+
+-- Of each of so many replicas a book was seen to be done. It had done no fewer events than the
+-- replica's pass has counted, if the counts are exact.
+abbrev pub WereFinished : (exact : Bool) → (replicas : ℕ) → (counted : List ℕ) → Type 0
+WereFinished exact replicas counted =
+    (n : ℕ) → n < replicas
+    → (b : BookValue) × (exact ≡ true → slice_index_or counted n 0 ≤ b.events) × IsFinished b
+
+-- A replica's book was seen to have something left to do; or there is no other replica, or not a
+-- pass for each.
+abbrev pub IsSomeLeft : (replicas passes : ℕ) → Type 0
+IsSomeLeft replicas passes =
+    ((b : BookValue) × (is_done (net_of b.topology) b.partition (replica_of b) ≡ false))
+    ⊎ (replicas ≡ 0) ⊎ (passes < replicas)
+
+-- Why serving ends: the replica was done, and its records were handed out; or no fewer waits ran
+-- out than the limit since the transport had had `before`, and it has had `after`, or no more polls
+-- may be made.
+abbrev pub EndsWith : (exact : Bool) → Home → (keeps_records : Bool) → (limit before after : ℕ)
+    → Served → Type 0
+EndsWith exact own keeps limit before after Ended = WasFinished exact own keeps
+EndsWith exact own keeps limit before after Net = Unit {0}
+EndsWith exact own keeps limit before after Memory = Unit {0}
+EndsWith exact own keeps limit before after (File iface written) = Unit {0}
+EndsWith exact own keeps limit before after (Stalled polls) =
+    (before + limit ≤ after) ⊎ (MAX_POLLS ≤ polls)
+
+-- how serving ends where the replica was not seen to be done, and is not stalled
+abbrev pub EndsEarly : Served → Type 0
+EndsEarly s =
+    (s ≡ Net) ⊎ (s ≡ Memory) ⊎ ((iface : ℕ) × (written : ℕ) × (s ≡ File iface written))

@@ -1,0 +1,165 @@
+//! The replicas that are to call.
+
+ghost use Rattle.std.specs.Prelude.{◌≡◌, ◌&&◌, map, IfOk};
+ghost use Rattle.std.specs.List.{list_all, list_any};
+ghost use Rattle.nm_replica.specs.Ends.{broken_by, ended_by, has_ended, is_named, is_sure, new_caller};
+
+use crate::ends::Ends;
+use nm_frames::ReplicaName;
+use std::alloc::{AllocError, Global};
+
+/// A replica that is to call, and how often its link has ended.
+#[derive(Clone, Copy, Drop)]
+pub(crate) struct Caller {
+    name: ReplicaName,
+    ends: Ends,
+    /// A connection of it broke after its Hello: a Bye may have been lost, too.
+    has_broken: bool,
+}
+
+/// The replicas that are to call: each is known by its name, whatever connection it comes by.
+#[derive(Drop)]
+pub(crate) struct Callers {
+    all: Vec<Caller>,
+}
+
+impl Caller {
+    /// One whose link has not ended.
+    fn new(name: &ReplicaName) -> Caller
+        ensures { result ≡ new_caller name.now }
+    {
+        Caller {
+            name: ReplicaName {
+                partition: name.partition,
+                replica: name.replica,
+            },
+            ends: Ends::Open,
+            has_broken: false,
+        }
+    }
+
+    /// Whether it is the one with this name.
+    fn is_named(&self, name: &ReplicaName) -> bool
+        ensures { result ≡ is_named name.now self.now }
+    {
+        self.name.partition == name.partition && self.name.replica == name.replica
+    }
+
+    /// The same, after the link with this name has ended once more.
+    fn ended_by(self, name: &ReplicaName) -> Caller
+        ensures { result ≡ ended_by name.now self }
+    {
+        if !self.is_named(name) {
+            return self;
+        }
+        Caller {
+            name: self.name,
+            ends: self.ends.once_more(),
+            has_broken: self.has_broken,
+        }
+    }
+
+    /// The same, after a connection of the replica with this name broke.
+    fn broken_by(self, name: &ReplicaName) -> Caller
+        ensures { result ≡ broken_by name.now self }
+    {
+        Caller {
+            name: self.name,
+            ends: self.ends,
+            has_broken: self.has_broken || self.is_named(name),
+        }
+    }
+}
+
+/// The link of the replica with this name has ended.
+fn end_of(callers: &mut [Caller], name: &ReplicaName)
+    ensures { callers.new ≡ map (ended_by name.now) callers.old }
+{
+    for caller in callers.iter_mut() {
+        *caller = caller.ended_by(name);
+    }
+}
+
+/// A connection of the replica with this name broke.
+fn break_of(callers: &mut [Caller], name: &ReplicaName)
+    ensures { callers.new ≡ map (broken_by name.now) callers.old }
+{
+    for caller in callers.iter_mut() {
+        *caller = caller.broken_by(name);
+    }
+}
+
+impl Callers {
+    /// No link has ended.
+    ///
+    /// # Errors
+    ///
+    /// Where memory was refused.
+    pub(crate) fn new(alloc: Global, names: &[ReplicaName]) -> Result<Self, AllocError>
+        ensures { IfOk result (λ c. c.all.items ≡ map new_caller names.now) }
+    {
+        let mut all = Vec::new(alloc);
+        for name in names {
+            all.push(Caller::new(name))?;
+        }
+        Ok(Callers { all })
+    }
+
+    /// The link of the replica with this name has ended. Where no such one is to call nothing is
+    /// noted.
+    pub(crate) fn end(&mut self, name: &ReplicaName)
+        ensures { self.new.all.items ≡ map (ended_by name.now) self.old.all.items }
+    {
+        end_of(self.all.as_mut_slice(), name);
+    }
+
+    /// Whether the link of the replica with this name has ended before.
+    pub(crate) fn has_ended(&self, name: &ReplicaName) -> bool
+        ensures { result ≡ list_any (λ c. is_named name.now c && has_ended c.ends)
+            self.now.all.items }
+    {
+        self.all
+            .iter()
+            .any(|caller| caller.is_named(name) && caller.ends.has_ended())
+    }
+
+    /// A connection of the replica with this name broke. Where no such one is to call nothing is
+    /// noted.
+    pub(crate) fn broke(&mut self, name: &ReplicaName)
+        ensures { self.new.all.items ≡ map (broken_by name.now) self.old.all.items }
+    {
+        break_of(self.all.as_mut_slice(), name);
+    }
+
+    /// Whether a connection of one of them broke.
+    pub(crate) fn have_broken(&self) -> bool
+        ensures { result ≡ list_any (λ c. c.has_broken) self.now.all.items }
+    {
+        self.all.iter().any(|caller| caller.has_broken)
+    }
+
+    /// How many links have not ended.
+    pub(crate) fn open_count(&self) -> usize {
+        let mut count = 0usize;
+        for caller in &self.all {
+            if !caller.ends.has_ended() {
+                count = count.saturating_add(1);
+            }
+        }
+        count
+    }
+
+    /// Whether the links of all have ended.
+    pub(crate) fn have_ended(&self) -> bool
+        ensures { result ≡ list_all (λ c. has_ended c.ends) self.now.all.items }
+    {
+        self.all.iter().all(|caller| caller.ends.has_ended())
+    }
+
+    /// Whether the ends of all links are sure.
+    pub(crate) fn are_sure(&self) -> bool
+        ensures { result ≡ list_all (λ c. is_sure c.ends) self.now.all.items }
+    {
+        self.all.iter().all(|caller| caller.ends.is_sure())
+    }
+}

@@ -1,0 +1,59 @@
+//! How often a link has ended.
+
+ghost use Rattle.std.specs.Prelude.{◌≡◌};
+ghost use Rattle.nm_replica.specs.Ends.{after_nobody, has_ended, is_sure, once_more};
+
+/// How often a link has ended. An end is sure once it was made twice, or once a call after it
+/// found nobody: the Bye that was said last may have been lost with its connection, and then the
+/// peer waits for one that says it again.
+#[derive(Clone, Copy, Debug, PartialEq, Eq)]
+pub(crate) enum Ends {
+    /// Not yet.
+    Open,
+    /// Once, and the peer may not know.
+    Once,
+    /// The peer knows, or is gone.
+    Sure,
+}
+
+impl Ends {
+    /// It has ended once more.
+    pub(crate) fn once_more(self) -> Ends
+        ensures { result ≡ once_more self }
+    {
+        match self {
+            Ends::Open => Ends::Once,
+            Ends::Once | Ends::Sure => Ends::Sure,
+        }
+    }
+
+    /// The peer was called, and nobody greeted.
+    pub(crate) fn after_nobody(self) -> Ends
+        ensures { result ≡ after_nobody self }
+    {
+        match self {
+            Ends::Open => Ends::Open,
+            Ends::Once | Ends::Sure => Ends::Sure,
+        }
+    }
+
+    /// Whether it has ended.
+    pub(crate) fn has_ended(self) -> bool
+        ensures { result ≡ has_ended self }
+    {
+        match self {
+            Ends::Open => false,
+            Ends::Once | Ends::Sure => true,
+        }
+    }
+
+    /// Whether its end is sure.
+    pub(crate) fn is_sure(self) -> bool
+        ensures { result ≡ is_sure self }
+    {
+        match self {
+            Ends::Open | Ends::Once => false,
+            Ends::Sure => true,
+        }
+    }
+}

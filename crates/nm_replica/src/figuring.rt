@@ -1,0 +1,85 @@
+//! What a replica notes of what it does, where that is asked for.
+
+use crate::acts::{HeldBack, Standing};
+use crate::replica::Service;
+use crate::serving::Serving;
+use nm_base::Time;
+use nm_engine::GivenCounts;
+use nm_progress::{Figure, ReplicaFigures};
+use nm_shared::{Counts, Pass};
+use std::sync::Wait;
+
+/// Where it notes what it does, if that is asked for.
+fn own<'a, C: Counts>(service: &Service<'a, C>) -> Option<ReplicaFigures<'a>> {
+    let figures = service.progress?.figures()?;
+    Some(figures.of(service.partition, service.replica))
+}
+
+/// It waits now, or does not.
+pub(crate) fn note_wait<C: Counts>(service: &Service<'_, C>, waits: bool) {
+    let Some(figures) = own(service) else {
+        return;
+    };
+    figures.set(Figure::IsWaiting, u64::from(waits));
+    if waits {
+        figures.add(Figure::Waits, 1);
+    }
+}
+
+/// Its book is lent now, or is not.
+pub(crate) fn note_loan<C: Counts>(service: &Service<'_, C>, is_lent: bool) {
+    if let Some(figures) = own(service) {
+        figures.set(Figure::IsLent, u64::from(is_lent));
+    }
+}
+
+/// How far its book is, where nobody else notes that.
+pub(crate) fn note_progress<C: Counts>(service: &Service<'_, C>, safe: Time, records: u64) {
+    if !service.notes_progress {
+        return;
+    }
+    if let Some(progress) = service.progress {
+        progress.note(safe, records);
+    }
+}
+
+/// What it did in one poll, and how far its book is.
+pub(crate) fn note_figures<C: Counts, W>(
+    service: &Service<'_, C>,
+    serving: &Serving<W>,
+    standing: &Standing,
+    was_run: bool,
+    given: GivenCounts,
+) {
+    let Some(figures) = own(service) else {
+        return;
+    };
+    figures.add(Figure::Polls, 1);
+    figures.add(Figure::Windows, u64::from(was_run));
+    figures.add(Figure::Messages, given.messages);
+    figures.add(Figure::Nulls, given.nulls);
+    figures.set(Figure::Events, standing.events);
+    figures.set(Figure::Records, standing.records);
+    figures.set(Figure::Safe, standing.safe.nanoseconds());
+    figures.set(Figure::Begun, serving.connections.begun);
+    figures.set(Figure::Broken, serving.connections.broken);
+    figures.set(Figure::Resent, serving.connections.resent());
+}
+
+/// Which channel holds it back, where it is going to wait and is not done.
+pub(crate) fn note_hold<C: Counts, R: Wait>(
+    rt: &R,
+    service: &Service<'_, C>,
+    pass: &mut Pass<C>,
+    is_held: bool,
+) {
+    let Some(figures) = own(service) else {
+        return;
+    };
+    if !is_held {
+        return;
+    }
+    if let Some(channel) = service.book.act(rt, pass, HeldBack) {
+        figures.hold(channel);
+    }
+}

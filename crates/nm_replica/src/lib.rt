@@ -1,0 +1,28 @@
+//! One replica over a transport: its connections, and the loop that serves them.
+#![tactic(auto)]
+
+pub mod acts;
+mod callers;
+mod connection;
+mod connections;
+mod dialing;
+mod ends;
+mod figuring;
+mod given_before;
+mod lasting;
+pub mod lending;
+pub mod limits;
+mod moved;
+mod recording;
+pub mod replica;
+pub mod seats;
+pub mod served;
+mod serving;
+mod sisters;
+mod staying;
+mod telling;
+
+pub use lending::Lending;
+pub use replica::{Holdings, Service, run_replica};
+pub use seats::OwnSeats;
+pub use served::Served;

@@ -1,0 +1,53 @@
+//! The limits of the loop, each stated once. Periods are those of a transport
+//! (`nm_transport::limits`).
+
+/// After so many periods in a row in which nothing moved and nothing was done a replica is stalled:
+/// a minute.
+pub const MAX_IDLE_PERIODS: u64 = 1_200;
+
+/// After so many polls a replica is stalled, whatever moved.
+pub const MAX_POLLS: u64 = 1_000_000_000;
+
+/// The most connections that are accepted after one poll.
+pub const MAX_ACCEPTED: usize = 64;
+
+/// The most connections that others began and whose Hello did not come, beside one for each
+/// replica that is to call. The oldest of them is let go when another comes.
+pub const MAX_STRANGERS: usize = 64;
+
+/// After so many periods, five seconds, such a connection is let go.
+pub const STRANGER_PERIODS: u64 = 100;
+
+/// The most turns that a link has after one poll.
+pub const MAX_TURNS: usize = 64;
+
+/// After so many periods a connection that broke before the peer's Hello came is begun again.
+pub const REST_PERIODS: u32 = 1;
+
+/// After so many periods, a second, a peer is called anew whose link has ended for sure. It may
+/// have been lost and begun anew.
+pub const RECALL_PERIODS: u32 = 20;
+
+/// For so many periods, two seconds, a replica that is done stays for those whose link's end is not
+/// sure.
+pub const LINGER_PERIODS: u64 = 40;
+
+/// After so many polls in a row that ran out, a fifth of a second, nobody is to call again who
+/// lacks a Bye: such a one calls at once. A replica stays so long where connections broke.
+pub const QUIET_POLLS: u64 = 4;
+
+/// After so many periods, half a second, a replica to which the system refuses connections lets
+/// strangers go.
+pub const SCARCE_PERIODS: u64 = 10;
+
+/// After so many periods, a second, it ends.
+pub const SHORT_PERIODS: u64 = 20;
+
+/// After so many polls the sister's knowledge is merged.
+pub const MERGE_POLLS: u64 = 1_024;
+
+/// The most records that a book hands out in one go.
+pub const MAX_HANDED: usize = 256;
+
+/// The most such goes after one poll.
+pub const MAX_HAND_OUTS: usize = 64;

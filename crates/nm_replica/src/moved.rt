@@ -1,0 +1,131 @@
+//! A wire that counts what moves on it, and is read only where something may have come.
+
+ghost use Rattle.std.specs.Prelude.{◌≡◌};
+
+use nm_base::Wire;
+use nm_base::wire::{Read, Written};
+use std::marker::Model;
+use std::sync::atomic::{AtomicBool, Ordering};
+
+/// A wire, and how many octets moved on it both ways, which stops at the greatest `u64`. A read
+/// asks the wire only where something may have come: at first, and once it was reported, up to the
+/// read that finds no more. So a connection on which nothing comes costs no call of the system.
+#[derive(Drop)]
+pub struct CountingWire<W> {
+    wire: W,
+    /// How many octets came.
+    came: u64,
+    /// How many octets were written.
+    written: u64,
+    /// Something may have come.
+    is_ready: AtomicBool,
+    /// A read found the end.
+    has_ended: bool,
+}
+
+impl<W> Model for CountingWire<W> {
+    // The wire alone.
+    ghost Value = { W };
+
+    ghost view = { λ c. c.wire };
+}
+
+impl<W> CountingWire<W> {
+    /// None has moved.
+    pub fn new(wire: W) -> Self
+        ensures { result ≡ wire }
+    {
+        CountingWire {
+            wire,
+            came: 0,
+            written: 0,
+            is_ready: AtomicBool::new(true),
+            has_ended: false,
+        }
+    }
+
+    /// How many octets moved.
+    pub fn moved(&self) -> u64 {
+        self.came.saturating_add(self.written)
+    }
+
+    /// How many of them came.
+    pub fn came(&self) -> u64 {
+        self.came
+    }
+
+    /// Whether octets were written.
+    pub fn has_written(&self) -> bool {
+        self.written > 0
+    }
+
+    /// Whether a read found the end.
+    pub fn has_ended(&self) -> bool {
+        self.has_ended
+    }
+
+    /// Whether something may have come.
+    pub fn is_ready(&self) -> bool {
+        self.is_ready.load(Ordering::Relaxed)
+    }
+
+    /// Something may have come.
+    pub fn report(&self) {
+        self.is_ready.store(true, Ordering::Relaxed);
+    }
+
+    /// The wire.
+    pub fn into_wire(self) -> W
+        ensures { result ≡ self }
+    {
+        self.wire
+    }
+
+    /// Nothing more has come: the wire is asked again once it is reported.
+    fn rest(&self) {
+        self.is_ready.store(false, Ordering::Relaxed);
+    }
+
+    /// So many octets came.
+    fn count_read(&mut self, octets: usize)
+        ensures { self.new ≡ self.old }
+    {
+        self.came = self.came.saturating_add(octets as u64);
+    }
+
+    /// So many octets were written.
+    fn count_written(&mut self, octets: usize)
+        ensures { self.new ≡ self.old }
+    {
+        self.written = self.written.saturating_add(octets as u64);
+    }
+}
+
+impl<W: Wire> Wire for CountingWire<W> {
+    ghost seen = { λ c. W.seen c };
+
+    fn read_some(&mut self, buffer: &mut [u8]) -> Read {
+        if !self.is_ready() {
+            return Read::Later;
+        }
+        let read = self.wire.read_some(buffer);
+        match read {
+            Read::Got(count) => self.count_read(count),
+            Read::End => {
+                self.has_ended = true;
+                self.rest();
+            }
+            Read::Later => self.rest(),
+            Read::Fault => {}
+        }
+        read
+    }
+
+    fn write_some(&mut self, octets: &[u8]) -> Written {
+        let written = self.wire.write_some(octets);
+        if let Written::Took(count) = written {
+            self.count_written(count);
+        }
+        written
+    }
+}

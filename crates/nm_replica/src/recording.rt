@@ -1,0 +1,85 @@
+//! The records of a replica, written to its trace files while it runs.
+
+ghost use Rattle.std.specs.Prelude.{◌≡◌, IfOk, OnOk, false, true};
+ghost use Rattle.nm_replica.specs.Recording.{Streams, Wrote};
+ghost use Rattle.nm_replica.specs.Served.{WasFinished};
+
+use crate::acts::{HandOutSome, HandedOut};
+use crate::limits::{MAX_HAND_OUTS, MAX_HANDED};
+use crate::replica::Service;
+use nm_base::Sink;
+use nm_files::{FilesFault, TraceFiles};
+use nm_shared::{Counts, Pass};
+use std::alloc::Global;
+use std::sync::Wait;
+
+/// What writing came to.
+#[derive(Clone, Copy)]
+pub(crate) struct Recorded {
+    /// How many records were written.
+    pub written: u64,
+    /// There may be more.
+    pub has_more: bool,
+    /// The book is done, and the last of its records was among them.
+    pub is_last: bool,
+}
+
+/// Hands records out under the lock, and writes them outside it.
+fn write_some<C: Counts, S: Sink, R: Wait>(
+    rt: &R,
+    alloc: Global,
+    service: &Service<'_, C>,
+    pass: &mut Pass<C>,
+    files: &mut TraceFiles<S>,
+) -> Result<Recorded, FilesFault>
+    ensures wrote { IfOk result (λ r. Wrote S.seen C.exact C.home r.written
+        files.old.files.items files.new.files.items) }
+    ensures last { IfOk result (λ r. r.is_last ≡ true → WasFinished C.exact C.home false) }
+{
+    let room = Vec::with_capacity(alloc, MAX_HANDED)?;
+    let HandedOut { records, is_last } = service.book.act(rt, pass, HandOutSome { room });
+    files.put_all(records.as_slice())?;
+    Ok(Recorded {
+        written: records.len() as u64,
+        has_more: records.len() >= MAX_HANDED,
+        is_last,
+    })
+}
+
+/// Takes the records that there are out of the book, unless it is to keep them, and writes those
+/// whose interfaces have trace files.
+///
+/// # Errors
+///
+/// `File` where a file failed. `Memory` where memory was refused, and no record is lost.
+pub(crate) fn write_records<C: Counts, S: Sink, R: Wait>(
+    rt: &R,
+    alloc: Global,
+    service: &Service<'_, C>,
+    pass: &mut Pass<C>,
+    files: &mut TraceFiles<S>,
+    is_left: bool,
+) -> Result<Recorded, FilesFault>
+    ensures streams { OnOk result (Streams S.seen C.exact C.home
+        files.old.files.items files.new.files.items) }
+    ensures last { IfOk result (λ r. r.is_last ≡ true → WasFinished C.exact C.home false) }
+{
+    let mut all = Recorded {
+        written: 0,
+        has_more: false,
+        is_last: false,
+    };
+    if service.keeps_records || !is_left {
+        return Ok(all);
+    }
+    for _ in 0..MAX_HAND_OUTS {
+        let some = write_some(rt, alloc, service, pass, files)?;
+        all.written = all.written.saturating_add(some.written);
+        all.has_more = some.has_more;
+        all.is_last = some.is_last;
+        if !some.has_more {
+            return Ok(all);
+        }
+    }
+    Ok(all)
+}

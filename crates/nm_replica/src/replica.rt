@@ -1,0 +1,149 @@
+//! A replica over a transport, until it ends.
+
+ghost use Rattle.std.specs.Prelude.{◌≡◌, length};
+ghost use Rattle.nm_replica.specs.Polls.{ending_of, idle_after};
+ghost use Rattle.nm_replica.specs.Recording.{Streams};
+ghost use Rattle.nm_replica.specs.Seats.{AreKept};
+ghost use Rattle.nm_replica.specs.Served.{EndsWith};
+ghost use Rattle.nm_replica.specs.declared.served.Served.TheVariants.{Ended};
+
+use crate::lending::Lending;
+use crate::limits::MAX_POLLS;
+use crate::seats::OwnSeats;
+use crate::served::Served;
+use crate::serving::{Polled, Serving, poll};
+use nm_base::{PartNo, Sink};
+use nm_files::TraceFiles;
+use nm_frames::ReplicaName;
+use nm_progress::Progress;
+use nm_shared::{Counts, Gate, Pass, SharedBook};
+use nm_topology::Topology;
+use nm_transport::Transport;
+use std::alloc::Global;
+use std::sync::{Arc, Wait};
+
+/// A replica, those with which it speaks, and its limits.
+#[derive(Clone, Copy)]
+pub struct Service<'a, C: Counts> {
+    pub topology: &'a Arc<Topology>,
+    pub partition: PartNo,
+    /// 0 or 1.
+    pub replica: u8,
+    pub book: &'a SharedBook<C>,
+    /// The partitions of the peers to which it connects, by their numbers in the network: one for
+    /// each replica of a partition above its own with which it shares a channel.
+    pub peers: &'a [PartNo],
+    /// The replicas that connect to it: those of the partitions below with which it shares one.
+    pub callers: &'a [ReplicaName],
+    /// The books of all replicas of the run, its own among them. None in a run of its own, where it
+    /// merges with nobody.
+    pub books: &'a [SharedBook<C>],
+    /// The place of its sister in that list, if it has one.
+    pub sister: Option<usize>,
+    /// After so many periods in a row in which nothing moved and nothing was done it is stalled.
+    pub idle_limit: u64,
+    /// How many events it does at most after each poll.
+    pub run_limit: u64,
+    /// Whose turn it is to run its book. While it is lent the replica does no event itself.
+    pub lending: &'a Lending,
+    /// Where it notes what it does, if that is asked for there.
+    pub progress: Option<&'a Progress>,
+    /// It notes there how far its book is, too: nobody else does.
+    pub notes_progress: bool,
+    /// Its book keeps its records, for who closes it. Else they leave it while it runs: to the
+    /// trace files, where it has any.
+    pub keeps_records: bool,
+}
+
+/// What a replica holds while it runs, and has still when it has ended.
+#[derive(Drop)]
+pub struct Holdings<'a, C: Counts, S> {
+    /// The pass of its book.
+    pub pass: Pass<C>,
+    /// A pass of each book of the run, in the order of the books.
+    pub passes: Vec<Pass<C>>,
+    /// The seats of its outgoing channels on the board.
+    pub seats: OwnSeats<'a>,
+    /// The trace files to which its records go while it runs, unless its book keeps them.
+    pub files: TraceFiles<S>,
+}
+
+/// For how many periods in a row nothing was moved or done, after one more poll.
+fn idle_periods(before: u64, polled: Polled) -> u64
+    ensures { result ≡ idle_after before polled.was_active polled.ran_out }
+{
+    if polled.was_active {
+        return 0;
+    }
+    if polled.ran_out {
+        return before.saturating_add(1);
+    }
+    before
+}
+
+/// How serving ends after so many polls and so many idle periods in a row, if it does.
+fn ending_of(is_done: bool, idle: u64, limit: u64, polls: u64) -> Option<Served>
+    ensures { result ≡ ending_of is_done idle limit polls }
+{
+    if is_done {
+        return Some(Served::Ended);
+    }
+    if idle >= limit {
+        return Some(Served::Stalled { polls });
+    }
+    None
+}
+
+/// Serves the connections of a replica, and runs its book if it is to, until the replica is done
+/// and its links have ended, or it ends for another reason. Passes, seats and files stay where they
+/// are. Records go to the trace files while it runs: these take what is handed out of the book,
+/// each record at its own interface.
+///
+/// A connection that breaks is begun again by the side that began it; an octet or a Hello that
+/// should not be costs a connection that said no Hello, and after one the replica. The promise of
+/// each outgoing channel stands on the board before a poll ends. Before each poll the gate is
+/// asked, and told how many octets have moved.
+///
+/// `Ended` where the replica was seen to be done, with no record left to hand out. `File` where a
+/// trace file failed. `Stalled` after no fewer periods than its limit, or after 10^9 polls. `Net`
+/// where a peer broke the rules, a message was refused, or the gate said so. `Memory` where memory
+/// was refused.
+pub fn run_replica<C: Counts, S: Sink, T: Transport, G: Gate, R: Wait>(
+    rt: &R,
+    alloc: Global,
+    service: &Service<'_, C>,
+    holdings: &mut Holdings<'_, C, S>,
+    transport: &mut T,
+    gate: &G,
+) -> Served
+    // Where serving ended, each file took those at its interface of the records handed out.
+    ensures streams { result ≡ Ended → Streams S.seen C.exact C.home
+        holdings.old.files.files.items holdings.new.files.files.items }
+
+    // The ending says the truth about the replica and about the time that passed.
+    ensures ends { EndsWith C.exact C.home service.now.keeps_records service.now.idle_limit
+        (T.elapsed_periods transport.old) (T.elapsed_periods transport.new) result }
+
+    // The seats and the passes go back.
+    ensures seats { AreKept holdings.old.seats holdings.new.seats }
+    ensures passes { length holdings.new.passes.items ≡ length holdings.old.passes.items }
+{
+    let Ok(mut serving) = Serving::new(alloc, service) else {
+        return Served::Memory;
+    };
+    let mut idle = 0u64;
+    for polls in 0..MAX_POLLS {
+        if !gate.poll(serving.moved) {
+            return Served::Net;
+        }
+        let polled = match poll(rt, alloc, service, holdings, transport, &mut serving) {
+            Ok(polled) => polled,
+            Err(served) => return served,
+        };
+        idle = idle_periods(idle, polled);
+        if let Some(served) = ending_of(polled.is_done, idle, service.idle_limit, polls + 1) {
+            return served;
+        }
+    }
+    Served::Stalled { polls: MAX_POLLS }
+}

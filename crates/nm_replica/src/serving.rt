@@ -1,0 +1,502 @@
+//! One poll of a replica, and what follows it.
+
+ghost use Rattle.std.specs.Prelude.{◌&&◌, ◌==◌, ◌||◌, ◌≡◌, ◌≤◌, true, length};
+ghost use Rattle.std.specs.Prelude.{IfErr, IfOk, OnOk};
+ghost use Rattle.nm_replica.specs.Lasting.{has_lasted, lasted_after};
+ghost use Rattle.nm_replica.specs.Leaving.{LeavesAfter};
+ghost use Rattle.nm_replica.specs.Recording.{Streams};
+ghost use Rattle.nm_replica.specs.Seats.{AreKept};
+ghost use Rattle.nm_replica.specs.Served.{EndsEarly, WasFinished, WasSeen};
+ghost use Rattle.nm_transport.specs.Transport.{elapsed_after};
+
+use crate::acts::{Stand, Standing};
+use crate::connections::Connections;
+use crate::figuring::{note_figures, note_hold, note_loan, note_progress, note_wait};
+use crate::lasting::Lasted;
+use crate::limits::{MAX_TURNS, MERGE_POLLS, SCARCE_PERIODS, SHORT_PERIODS};
+use crate::recording::write_records;
+use crate::replica::{Holdings, Service};
+use crate::served::{Served, file_served};
+use crate::sisters::{all_are_done, merge_sister};
+use crate::staying::Stay;
+use crate::telling::tell_all;
+use nm_base::{Sink, Wire};
+use nm_book::Ran;
+use nm_engine::{GivenCounts, ReadBuffer, Turn};
+use nm_shared::{Counts, Pass, SharedBook};
+use nm_transport::Transport;
+use nm_transport::limits::MAX_REPORTS;
+use std::alloc::{AllocError, Global};
+use std::sync::Wait;
+
+/// What a replica keeps while it is served.
+#[derive(Drop)]
+pub(crate) struct Serving<W> {
+    pub connections: Connections<W>,
+    /// How many octets have moved on connections whose peer greeted, which stops at the greatest
+    /// `u64`.
+    pub moved: u64,
+    /// How many events the book had done when it was looked at last.
+    events: u64,
+    /// The book was done when it was looked at last.
+    was_done: bool,
+    /// How many polls were made.
+    polls: u64,
+    /// How long it has stayed since its links ended.
+    stay: Stay,
+    /// How long the system has had too little for one more connection.
+    short: Lasted,
+    /// More may be left to do that no connection tells of: the next poll does not wait.
+    pub is_busy: bool,
+    buffer: ReadBuffer,
+    alloc: Global,
+}
+
+/// What turns of connections came to.
+#[derive(Clone, Copy)]
+struct Moves {
+    /// How many octets moved that count.
+    octets: u64,
+    /// Octets came.
+    has_heard: bool,
+    /// A connection had all its turns, and may want more.
+    has_more: bool,
+    /// What links gave, where that is counted.
+    given: GivenCounts,
+}
+
+impl Moves {
+    /// Nothing moved.
+    const NONE: Moves = Moves {
+        octets: 0,
+        has_heard: false,
+        has_more: false,
+        given: GivenCounts::NONE,
+    };
+
+    /// These and others.
+    fn with(self, other: Moves) -> Moves {
+        Moves {
+            octets: self.octets.saturating_add(other.octets),
+            has_heard: self.has_heard || other.has_heard,
+            has_more: self.has_more || other.has_more,
+            given: self.given.with(other.given),
+        }
+    }
+}
+
+/// What a poll came to.
+#[derive(Clone, Copy)]
+pub(crate) struct Polled {
+    /// A period was over, or it could not wait.
+    pub ran_out: bool,
+    /// Octets moved, the book did an event, or records were written.
+    pub was_active: bool,
+    /// The replica is done, so are its links or all replicas, and its trace files are written.
+    pub is_done: bool,
+}
+
+impl<W> Serving<W> {
+    /// No connection so far.
+    ///
+    /// # Errors
+    ///
+    /// Where memory was refused.
+    pub(crate) fn new<C: Counts>(
+        alloc: Global,
+        service: &Service<'_, C>,
+    ) -> Result<Self, AllocError> {
+        let buffer = ReadBuffer::new(alloc)?;
+        Ok(Serving {
+            connections: Connections::new(alloc, service)?,
+            moved: 0,
+            events: 0,
+            was_done: false,
+            polls: 0,
+            stay: Stay::new(),
+            short: Lasted::new(),
+            is_busy: true,
+            buffer,
+            alloc,
+        })
+    }
+
+    /// Whether the links of a replica that is done have ended, and it has stayed long enough for
+    /// those that may call again. A poll was made, and ran out or not.
+    fn may_leave(&mut self, ran_out: bool) -> bool
+        ensures { LeavesAfter ran_out self.old.connections.callers.all.items
+            self.old.connections.peers.items self.old.connections.open self.old.stay result }
+    {
+        if !self.connections.have_ended() {
+            return false;
+        }
+        self.stay.pass_poll(ran_out);
+        if self.connections.are_serving() {
+            return false;
+        }
+        self.stay.is_over(self.connections.are_sure(), self.connections.have_broken())
+    }
+}
+
+/// What connections do in their turns.
+#[derive(Clone, Copy)]
+enum Does {
+    /// They take what came, and say nothing.
+    Hear,
+    /// They say what is owed, too.
+    Speak,
+}
+
+/// Gives the connection with this key its turns, if it is there: what moved, and what the last turn
+/// came to.
+fn turns<W: Wire, C: Counts, R: Wait>(
+    rt: &R,
+    book: &SharedBook<C>,
+    pass: &mut Pass<C>,
+    serving: &mut Serving<W>,
+    key: usize,
+    does: Does,
+) -> (Moves, Turn) {
+    let alloc = serving.alloc;
+    let Some(connection) = serving.connections.open.get_mut(key) else {
+        return (Moves::NONE, Turn::Idle);
+    };
+    let (link, buffer) = (&mut connection.link, &mut serving.buffer);
+    let mut last = Turn::Progress;
+    for _ in 0..MAX_TURNS {
+        last = match does {
+            Does::Hear => link.hear(rt, alloc, book, pass, buffer),
+            Does::Speak => link.turn(rt, alloc, book, pass, buffer),
+        };
+        if last != Turn::Progress {
+            break;
+        }
+    }
+    let moves = Moves {
+        octets: connection.count_moved(),
+        has_heard: connection.has_heard(),
+        has_more: last == Turn::Progress,
+        given: connection.count_given(),
+    };
+    (moves, last)
+}
+
+/// Gives each connection its turns, and lets go of those that ended or broke: what moved, or how
+/// serving ends.
+fn serve_all<T: Transport, C: Counts, R: Wait>(
+    rt: &R,
+    service: &Service<'_, C>,
+    pass: &mut Pass<C>,
+    transport: &mut T,
+    serving: &mut Serving<T::Connection>,
+    does: Does,
+) -> Result<Moves, Served>
+    ensures idle { T.elapsed_periods transport.new ≡ T.elapsed_periods transport.old }
+    ensures early { IfErr result EndsEarly }
+{
+    let mut all = Moves::NONE;
+    for key in 0..serving.connections.open.capacity() {
+        let (moves, turn) = turns(rt, service.book, pass, serving, key, does);
+        serving.connections.settle(transport, key, turn)?;
+        all = all.with(moves);
+    }
+    serving.moved = serving.moved.saturating_add(all.octets);
+    Ok(all)
+}
+
+/// Learns which connections are to be looked at: those that the wait reported, or all where a
+/// period was over.
+fn note_reports<T: Transport>(
+    transport: &T,
+    connections: &Connections<T::Connection>,
+    ran_out: bool,
+) {
+    if ran_out {
+        connections.note_all();
+        return;
+    }
+    for number in 0..MAX_REPORTS {
+        let Some(key) = transport.report(number) else {
+            return;
+        };
+        connections.note(key);
+    }
+}
+
+/// Where the system has too little for one more connection, and somebody is not connected whose
+/// link has not ended, strangers are let go once that has lasted for half a second. Where all are
+/// connected nothing is missing: the system refuses a connection that nobody began, too.
+///
+/// # Errors
+///
+/// `Net` where that has lasted for a second.
+fn bear_shortage<T: Transport>(
+    transport: &mut T,
+    serving: &mut Serving<T::Connection>,
+    ran_out: bool,
+) -> Result<(), Served>
+    ensures idle { T.elapsed_periods transport.new ≡ T.elapsed_periods transport.old }
+    ensures early { IfErr result EndsEarly }
+    ensures short { IfErr result (λ _. has_lasted SHORT_PERIODS
+        (lasted_after serving.old.short.periods ran_out) ≡ true) }
+{
+    if !transport.is_short() || !serving.connections.are_wanting() {
+        serving.short = Lasted::new();
+        return Ok(());
+    }
+    serving.short.pass_poll(ran_out);
+    if serving.short.is_past(SHORT_PERIODS) {
+        return Err(Served::Net);
+    }
+    if serving.short.is_past(SCARCE_PERIODS) {
+        serving.connections.drop_first(transport);
+    }
+    Ok(())
+}
+
+/// Waits, or only looks where more is left to do, and takes what came: whether a period was over.
+///
+/// # Errors
+///
+/// `Memory` where memory was refused. `Net` where the system has too little for more connections.
+fn await_transport<T: Transport, C: Counts>(
+    alloc: Global,
+    service: &Service<'_, C>,
+    transport: &mut T,
+    serving: &mut Serving<T::Connection>,
+) -> Result<bool, Served>
+    ensures idle { IfOk result (λ ran_out. T.elapsed_periods transport.new
+        ≡ elapsed_after (T.elapsed_periods transport.old) ran_out) }
+    ensures early { IfErr result EndsEarly }
+{
+    serving.connections.dial_all(alloc, transport)?;
+    let may_wait = !serving.is_busy;
+    note_wait(service, may_wait);
+    let ran_out = transport.wait(may_wait).has_run_out();
+    note_wait(service, false);
+    note_reports(transport, &serving.connections, ran_out);
+    serving.connections.pass_poll(transport, ran_out);
+    serving.connections.accept_all(alloc, service, transport)?;
+    bear_shortage(transport, serving, ran_out)?;
+    Ok(ran_out)
+}
+
+/// How many events the replica does at most after a poll: none while its book is lent.
+fn own_limit<C: Counts>(service: &Service<'_, C>) -> u64
+    ensures { result ≤ service.now.run_limit }
+{
+    if service.lending.is_lent() {
+        0
+    } else {
+        service.run_limit
+    }
+}
+
+/// Its run left events to do: whether the replica is to go on with them at once. Where there is a
+/// pool, that does them.
+fn goes_on<C: Counts>(service: &Service<'_, C>) -> bool {
+    let is_lent = service.lending.lend();
+    note_loan(service, is_lent);
+    !is_lent
+}
+
+/// Runs the book, if the replica is to, and looks how far it is: that, and whether it may run on at
+/// once.
+///
+/// # Errors
+///
+/// Where memory was refused.
+fn run_book<C: Counts, R: Wait>(
+    rt: &R,
+    alloc: Global,
+    service: &Service<'_, C>,
+    pass: &mut Pass<C>,
+) -> Result<(Standing, bool), AllocError>
+    ensures { IfOk result (λ s. WasSeen C.exact C.home s.0) }
+{
+    let mut was_cut = false;
+    let limit = own_limit(service);
+    if limit > 0 {
+        match service.book.run(rt, pass, alloc, limit) {
+            Ran::All(_) => {}
+            Ran::Limit(_) => was_cut = goes_on(service),
+            Ran::Memory(_) => return Err(AllocError),
+        }
+    }
+    let standing = service.book.act(rt, pass, Stand);
+    note_progress(service, standing.safe, standing.records);
+    Ok((standing, was_cut))
+}
+
+/// What the replica does by itself after a poll: its events, and what its sister knows. It answers
+/// how far the book is, and whether it may run on at once.
+///
+/// # Errors
+///
+/// Where memory was refused.
+fn act_alone<C: Counts, S, R: Wait>(
+    rt: &R,
+    alloc: Global,
+    service: &Service<'_, C>,
+    holdings: &mut Holdings<'_, C, S>,
+    polls: u64,
+) -> Result<(Standing, bool), AllocError>
+    ensures seen { IfOk result (λ s. WasSeen C.exact C.home s.0) }
+    ensures files { holdings.new.files ≡ holdings.old.files }
+    ensures seats { holdings.new.seats ≡ holdings.old.seats }
+    ensures passes { length holdings.new.passes.items ≡ length holdings.old.passes.items }
+{
+    if polls % MERGE_POLLS == MERGE_POLLS - 1 {
+        merge_sister(rt, alloc, service, holdings)?;
+    }
+    run_book(rt, alloc, service, &mut holdings.pass)
+}
+
+/// What a replica did after a wait.
+#[derive(Clone, Copy)]
+struct Acted {
+    /// How far its book is.
+    standing: Standing,
+    /// Its book did events since the last poll.
+    was_run: bool,
+    /// What moved, and whether more may be done at once.
+    moves: Moves,
+}
+
+/// The connections have turns in which they hear, and the replica does its own part. Then they
+/// have turns in which they speak, so that each peer is told at once all that is new, and no
+/// promise that is overtaken.
+///
+/// # Errors
+///
+/// How serving ends, where it does by itself.
+fn serve_and_act<C: Counts, S, T: Transport, R: Wait>(
+    rt: &R,
+    alloc: Global,
+    service: &Service<'_, C>,
+    holdings: &mut Holdings<'_, C, S>,
+    transport: &mut T,
+    serving: &mut Serving<T::Connection>,
+) -> Result<Acted, Served>
+    // Files, seats and the periods that passed stay as they are.
+    ensures idle { T.elapsed_periods transport.new ≡ T.elapsed_periods transport.old }
+    ensures files { holdings.new.files ≡ holdings.old.files }
+    ensures seats { holdings.new.seats ≡ holdings.old.seats }
+    ensures passes { length holdings.new.passes.items ≡ length holdings.old.passes.items }
+
+    // What it answers was seen of the book, and an early ending is no success.
+    ensures seen { IfOk result (λ a. WasSeen C.exact C.home a.standing) }
+    ensures early { IfErr result EndsEarly }
+{
+    let heard = serve_all(
+        rt,
+        service,
+        &mut holdings.pass,
+        transport,
+        serving,
+        Does::Hear,
+    )?;
+    let (standing, was_cut) = act_alone(rt, alloc, service, holdings, serving.polls)?;
+    let was_run = standing.events != serving.events;
+    serving.events = standing.events;
+    serving.polls = serving.polls.saturating_add(1);
+    let said = serve_all(
+        rt,
+        service,
+        &mut holdings.pass,
+        transport,
+        serving,
+        Does::Speak,
+    )?;
+    let mut moves = heard.with(said);
+    moves.has_more = said.has_heard || said.has_more || was_cut || serving.connections.have_more();
+    Ok(Acted {
+        standing,
+        was_run,
+        moves,
+    })
+}
+
+/// Tells a pool, if there is one, that the book that is lent to it keeps fewer records, or that it
+/// is done now and was not when it was looked at last.
+fn note_news<C: Counts>(service: &Service<'_, C>, has_written: bool, is_newly_done: bool) {
+    if is_newly_done || (has_written && service.lending.is_lent()) {
+        service.lending.note();
+    }
+}
+
+/// Whether the book was done, and none of its records is left to hand out unless it keeps them.
+fn is_served(standing: &Standing, keeps_records: bool, is_last: bool) -> bool
+    ensures { result ≡ standing.now.is_done
+        && (keeps_records || is_last || standing.now.handed == standing.now.records) }
+{
+    standing.is_done && (keeps_records || is_last || standing.handed == standing.records)
+}
+
+/// One poll, after the gate was asked, and what follows it: the connections have their turns, the
+/// replica does its own part, the board is told, and its records are written.
+///
+/// # Errors
+///
+/// How serving ends, where it does by itself.
+pub(crate) fn poll<C: Counts, S: Sink, T: Transport, R: Wait>(
+    rt: &R,
+    alloc: Global,
+    service: &Service<'_, C>,
+    holdings: &mut Holdings<'_, C, S>,
+    transport: &mut T,
+    serving: &mut Serving<T::Connection>,
+) -> Result<Polled, Served>
+    // The seats and the passes stay.
+    ensures seats { AreKept holdings.old.seats holdings.new.seats }
+    ensures passes { length holdings.new.passes.items ≡ length holdings.old.passes.items }
+
+    // Each file took those at its interface of the records that were handed out.
+    ensures streams { OnOk result (Streams S.seen C.exact C.home
+        holdings.old.files.files.items holdings.new.files.files.items) }
+
+    // It answers whether the wait ran out, and whether all is done. An early ending is no success.
+    ensures idle { IfOk result (λ p. T.elapsed_periods transport.new
+        ≡ elapsed_after (T.elapsed_periods transport.old) p.ran_out) }
+    ensures done { IfOk result (λ p. p.is_done ≡ true
+        → WasFinished C.exact C.home service.now.keeps_records) }
+    ensures early { IfErr result EndsEarly }
+{
+    let ran_out = await_transport(alloc, service, transport, serving)?;
+    let Acted {
+        standing,
+        was_run,
+        moves,
+    } = serve_and_act(rt, alloc, service, holdings, transport, serving)?;
+    tell_all(rt, service.book, &mut holdings.pass, &mut holdings.seats);
+    let may_end = standing.is_done
+        && (serving.may_leave(ran_out) || all_are_done(rt, service, &mut holdings.passes));
+    // A replica that is done makes no records any more: those that it has are written now.
+    let is_left = standing.records > standing.handed;
+    let recorded = match write_records(
+        rt,
+        alloc,
+        service,
+        &mut holdings.pass,
+        &mut holdings.files,
+        is_left,
+    ) {
+        Ok(recorded) => recorded,
+        Err(fault) => return Err(file_served(fault)),
+    };
+    note_news(
+        service,
+        recorded.written > 0,
+        standing.is_done && !serving.was_done,
+    );
+    serving.was_done = standing.is_done;
+    serving.is_busy = recorded.has_more || moves.has_more;
+    note_figures(service, serving, &standing, was_run, moves.given);
+    let is_held = !serving.is_busy && !standing.is_done;
+    note_hold(rt, service, &mut holdings.pass, is_held);
+    Ok(Polled {
+        ran_out,
+        was_active: recorded.written > 0 || moves.octets > 0 || was_run,
+        is_done: may_end && is_served(&standing, service.keeps_records, recorded.is_last),
+    })
+}

@@ -1,0 +1,261 @@
+//! Replicas that are served.
+
+ghost use Rattle.std.specs.Prelude.{◌≤◌};
+
+use mio::Poll;
+use mio::net::TcpListener;
+use nm_base::{MemSink, PartNo};
+use nm_book::Book;
+use nm_files::TraceFiles;
+use nm_frames::ReplicaName;
+use nm_progress::{Figure, Progress};
+use nm_replica::limits::LINGER_PERIODS;
+use nm_replica::{Holdings, Lending, OwnSeats, Served, Service, run_replica};
+use nm_shared::{ClockBoard, Gate, Pass, Plain, SharedBook};
+use nm_topology::Topology;
+use nm_transport::{TcpTransport, Transport};
+use std::alloc::Global;
+use std::net::{Ipv4Addr, Net, SocketAddr};
+use std::process::Abort;
+use std::sync::atomic::{AtomicU64, Ordering};
+use std::sync::{Arc, Wait};
+use std::time::Clock;
+
+/// A replica that was served: what that came to, its book, and how many messages it wrote again.
+#[derive(Drop)]
+pub struct Closed {
+    pub served: Served,
+    pub book: Book,
+    pub resent: u64,
+}
+
+/// After so many idle polls a replica is stalled that may have to stay for a caller first.
+pub const STAYS: u64 = 2 * LINGER_PERIODS;
+
+/// A replica of partition 0, which calls those of partition 1.
+pub fn caller(replica: u8) -> ReplicaName {
+    ReplicaName {
+        partition: PartNo::new(0),
+        replica,
+    }
+}
+
+/// Replica 0 of one of two partitions, with whom it speaks, and when it is stalled.
+#[derive(Clone, Copy)]
+pub struct Company {
+    /// Partition 1, which is called; or else partition 0, which calls.
+    pub is_called: bool,
+    /// Two replicas of partition 0 call, and not one.
+    pub by_two: bool,
+    pub idle_limit: u64,
+}
+
+impl Company {
+    /// How many partitions it calls, and how many replicas call it.
+    fn counts(self) -> (usize, usize)
+        ensures { (result.0 ≤ 1) × (result.1 ≤ 2) }
+    {
+        match (self.is_called, self.by_two) {
+            (false, _) => (1, 0),
+            (true, false) => (0, 1),
+            (true, true) => (0, 2),
+        }
+    }
+}
+
+/// A gate that notes how many octets have moved.
+#[derive(Drop)]
+pub struct Noting {
+    pub moved: AtomicU64,
+}
+
+impl Noting {
+    pub fn new() -> Self {
+        Noting {
+            moved: AtomicU64::new(0),
+        }
+    }
+}
+
+impl Gate for Noting {
+    fn enter(&self, _job: usize) {}
+
+    fn leave(&self, _job: usize) {}
+
+    fn poll(&self, moved: u64) -> bool {
+        self.moved.store(moved, Ordering::SeqCst);
+        true
+    }
+}
+
+/// The network of a text, which has to be accepted.
+pub fn topology_of<R: Abort>(rt: &R, alloc: Global, text: &str) -> Arc<Topology> {
+    let topology = Topology::read(alloc, text.as_bytes()).expect(rt, "a network");
+    Arc::new(alloc, topology).expect(rt, "memory")
+}
+
+/// A replica that knows nothing.
+pub fn book_of<R: Abort>(
+    rt: &R,
+    alloc: Global,
+    topology: &Arc<Topology>,
+    partition: u32,
+    replica: u8,
+) -> SharedBook<Plain> {
+    let (counts, whole) = Plain::open();
+    let topology = Arc::try_clone(topology).expect(rt, "memory");
+    let partition = PartNo::new(partition);
+    SharedBook::new(alloc, topology, partition, replica, counts, whole).expect(rt, "a replica")
+}
+
+/// The replicas with these numbers of these partitions.
+pub fn books_of<R: Abort>(
+    rt: &R,
+    alloc: Global,
+    topology: &Arc<Topology>,
+    [one, other]: [(u32, u8); 2],
+) -> [SharedBook<Plain>; 2] {
+    [
+        book_of(rt, alloc, topology, one.0, one.1),
+        book_of(rt, alloc, topology, other.0, other.1),
+    ]
+}
+
+/// Serves a replica with what it holds. It does its events itself.
+fn serve_held<'x, N: Transport, R: Wait>(
+    rt: &R,
+    alloc: Global,
+    topology: &'x Arc<Topology>,
+    book: &'x SharedBook<Plain>,
+    peers: &'x [PartNo],
+    callers: &'x [ReplicaName],
+    lending: &'x Lending,
+    holdings: &mut Holdings<'_, Plain, MemSink>,
+    company: Company,
+    transport: &mut N,
+    gate: &Noting,
+    progress: &'x Progress,
+) -> Served {
+    let replica = Service {
+        topology,
+        partition: PartNo::new(if company.is_called { 1 } else { 0 }),
+        replica: 0,
+        book,
+        peers,
+        callers,
+        books: &[],
+        sister: None,
+        idle_limit: company.idle_limit,
+        run_limit: 4_096,
+        lending,
+        progress: Some(progress),
+        notes_progress: false,
+        keeps_records: true,
+    };
+    run_replica(rt, alloc, &replica, holdings, transport, gate)
+}
+
+/// Serves a replica with this pass of its book: what that came to, the pass, and how many messages
+/// it wrote again.
+fn serve_with<N: Transport, R: Wait + Abort>(
+    rt: &R,
+    alloc: Global,
+    topology: &Arc<Topology>,
+    book: &SharedBook<Plain>,
+    pass: Pass<Plain>,
+    company: Company,
+    transport: &mut N,
+    gate: &Noting,
+) -> (Served, Pass<Plain>, u64) {
+    let partition = PartNo::new(if company.is_called { 1 } else { 0 });
+    let (board, owners, _) = ClockBoard::new(alloc, topology).expect(rt, "memory");
+    let seats = OwnSeats::of_replica(alloc, topology, &board, partition, 0, owners).expect(
+        rt, "memory",
+    );
+    let mut holdings = Holdings {
+        pass,
+        passes: Vec::new(alloc),
+        seats,
+        files: TraceFiles::new(alloc),
+    };
+    let progress = Progress::with_figures(alloc).expect(rt, "memory");
+    let (peers, callers) = ([PartNo::new(1)], [caller(0), caller(1)]);
+    let (peer_count, caller_count) = company.counts();
+    let served = serve_held(
+        rt,
+        alloc,
+        topology,
+        book,
+        &peers[..peer_count],
+        &callers[..caller_count],
+        &Lending::alone(),
+        &mut holdings,
+        company,
+        transport,
+        gate,
+        &progress,
+    );
+    let resent = match progress.figures() {
+        Some(figures) => figures.of(partition, 0).get(Figure::Resent),
+        None => 0,
+    };
+    (served, holdings.pass, resent)
+}
+
+/// The book that has no pass but this one.
+pub fn close<R: Abort>(
+    rt: &R,
+    alloc: Global,
+    book: SharedBook<Plain>,
+    pass: Pass<Plain>,
+) -> nm_shared::Closed {
+    let mut passes = Vec::new(alloc);
+    passes.push(pass).expect(rt, "memory");
+    match book.close(passes) {
+        Ok(closed) => closed,
+        Err(_) => panic!(rt; "no pass is missing"),
+    }
+}
+
+/// Serves a replica that knows nothing at first, and closes its book.
+pub fn serve<N: Transport, R: Wait + Abort>(
+    rt: &R,
+    alloc: Global,
+    topology: &Arc<Topology>,
+    company: Company,
+    transport: &mut N,
+    gate: &Noting,
+) -> Closed {
+    let partition = if company.is_called { 1 } else { 0 };
+    let book = book_of(rt, alloc, topology, partition, 0);
+    let pass = book.pass(rt).expect(rt, "memory");
+    let (served, pass, resent) = serve_with(
+        rt, alloc, topology, &book, pass, company, transport, gate,
+    );
+    let book = close(rt, alloc, book, pass).book;
+    Closed {
+        served,
+        book,
+        resent,
+    }
+}
+
+/// An address of 127.0.0.1, at a port that is free then.
+pub const ANY: (Ipv4Addr, u16) = (Ipv4Addr::LOCALHOST, 0);
+
+/// A listener at an address.
+pub fn listen<R: Net + Abort>(net: &R, address: SocketAddr) -> TcpListener {
+    TcpListener::bind(net, address).expect(net, "a free port")
+}
+
+/// A transport over TCP with these peers.
+pub fn over_tcp<R: Net + Clock + Abort + Drop + Copy>(
+    net: &R,
+    alloc: Global,
+    poll: Poll,
+    listener: TcpListener,
+    peers: &[SocketAddr],
+) -> TcpTransport<R> {
+    let peers = peers.to_vec(alloc).expect(net, "memory");
+    TcpTransport::new(*net, alloc, poll, listener, peers).expect(net, "a transport")
+}

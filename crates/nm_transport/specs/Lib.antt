@@ -1,0 +1,3 @@
+pub mod Period
+pub mod Shortage
+pub mod Transport

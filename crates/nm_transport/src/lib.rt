@@ -1,0 +1,14 @@
+//! What carries the octets of a replica: connections and a wait for them, over TCP or as a test
+//! likes. Time passes here in periods.
+#![tactic(auto)]
+
+pub mod limits;
+mod period;
+mod shortage;
+pub mod tcp_transport;
+pub mod tcp_wire;
+pub mod transport;
+
+pub use tcp_transport::TcpTransport;
+pub use tcp_wire::TcpWire;
+pub use transport::{Transport, Waited};

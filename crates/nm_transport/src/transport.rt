@@ -1,0 +1,79 @@
+//! What the loop asks of what carries its octets. Each call may fail, and is then made again at a
+//! later poll.
+
+ghost use Rattle.std.specs.Prelude.{◌≡◌, ℕ, [], IfSome};
+ghost use Rattle.nm_transport.specs.Transport.{has_run_out};
+
+use nm_base::Wire;
+
+/// What a wait came to.
+#[derive(Clone, Copy, Debug, PartialEq, Eq)]
+pub enum Waited {
+    /// A connection may be ready, somebody asked the wait to end, or it was only to look.
+    Ready,
+    /// A period was over, whatever was ready.
+    RanOut,
+    /// It could not wait.
+    Fault,
+}
+
+impl Waited {
+    /// Whether a period was over, or it could not wait.
+    pub fn has_run_out(self) -> bool
+        ensures { result ≡ has_run_out self }
+    {
+        match self {
+            Waited::Ready => false,
+            Waited::RanOut | Waited::Fault => true,
+        }
+    }
+}
+
+/// Connections with other replicas, and a wait for them. No call waits but `wait`. Time passes in
+/// periods of `limits::PERIOD_MILLISECONDS`: whoever calls and speaks in one can't make it longer.
+/// A clause sees how many were over.
+pub trait Transport {
+    ghost use Rattle.nm_transport.specs.Transport.{IsFresh, has_run_out, elapsed_after};
+
+    type Connection: Wire + Drop;
+
+    // How many waits ended because a period was over, or because it could not wait.
+    ghost elapsed_periods: { Self → ℕ };
+
+    /// Begins a connection to the peer with this number, if it can. It may not be made yet.
+    fn connect(&mut self, peer: usize) -> Option<Self::Connection>
+        ensures fresh { IfSome result (λ w. IsFresh (Self.Connection.seen w)) }
+        ensures idle { elapsed_periods self.new ≡ elapsed_periods self.old };
+
+    /// The next connection that a peer began, if there is one.
+    fn accept(&mut self) -> Option<Self::Connection>
+        ensures fresh { IfSome result (λ w. IsFresh (Self.Connection.seen w)) }
+        ensures idle { elapsed_periods self.new ≡ elapsed_periods self.old };
+
+    /// Whether the system refused the connection that was asked for last, or that somebody began,
+    /// because it has too little for one more: no peer is to blame.
+    fn is_short(&self) -> bool {
+        false
+    }
+
+    /// Has `wait` end when the connection with this key is ready. It answers whether it will.
+    fn watch(&mut self, connection: &mut Self::Connection, key: usize) -> bool
+        ensures same { connection.new ≡ connection.old }
+        ensures idle { elapsed_periods self.new ≡ elapsed_periods self.old };
+
+    /// Ends that.
+    fn unwatch(&mut self, connection: &mut Self::Connection)
+        ensures same { connection.new ≡ connection.old }
+        ensures idle { elapsed_periods self.new ≡ elapsed_periods self.old };
+
+    /// Waits until a connection is ready or the period is over, or only looks. The first call that
+    /// ends once a period is over says so, and the next period begins then.
+    fn wait(&mut self, may_wait: bool) -> Waited
+        ensures { elapsed_periods self.new
+            ≡ elapsed_after (elapsed_periods self.old) (has_run_out result) };
+
+    /// The key of the connection that the last wait reported with this number, if it reported so
+    /// many. A connection that is not reported is looked at when a period is over: to report all is
+    /// as right as to report nothing, and as slow.
+    fn report(&self, number: usize) -> Option<usize>;
+}
