@@ -3,6 +3,7 @@
 
 usage: tools/planted.py CRATE [WORD]      prints a row of a table for each bug
        tools/planted.py CRATE --write     writes the table to tools/planted/CRATE.md too
+       tools/planted.py --table           counts the bugs and the rows of all crates, in docs/PROVED.md
 
 The bugs are tools/planted/CRATE.bugs: blocks, each with a line 'bug:' (what is wrong), 'file:' (in the crate), 'check:' (the
 function whose proof is tried first; none: the whole crate), and pairs of lines 'old:' and 'new:'; each old text stands once in the
@@ -21,6 +22,7 @@ import tempfile
 ROOT = os.path.dirname(os.path.dirname(os.path.abspath(__file__)))
 # What the prover says where it did not come to the proof: the code does not compile, or no function has this name.
 UNTRIED = re.compile(r"error\[|has no function")
+MARKS = ("<!-- planted: begin -->", "<!-- planted: end -->")
 
 
 def read_bugs(path):
@@ -127,7 +129,48 @@ def write_table(crate, rows):
         table.write("\n".join(["| Planted bug | Refused by |", "|---|---|", *rows]) + "\n")
 
 
+def crates_with_bugs():
+    """The crates that have a list of bugs, in the order of crates.txt."""
+    with open(os.path.join(ROOT, "crates.txt"), encoding="utf-8") as listing:
+        names = [line.split(":")[0].split()[0] for line in listing if ":" in line.split("#")[0]]
+    return [name for name in names if os.path.exists(os.path.join(ROOT, "tools", "planted", name + ".bugs"))]
+
+
+def rows_of(crate):
+    """What was found of each bug, by the table of the crate, if there is one."""
+    path = os.path.join(ROOT, "tools", "planted", crate + ".md")
+    if not os.path.exists(path):
+        return {}
+    with open(path, encoding="utf-8") as table:
+        cells = [line.strip().strip("|").split(" | ", 1) for line in table if line.startswith("| ")]
+    return {cell[0].strip(): cell[1].strip() for cell in cells if len(cell) == 2}
+
+
+def counts_of(crate):
+    """How many bugs are listed, how many of them have a result, and how many of these are refused."""
+    bugs = [bug["bug"] for bug in read_bugs(os.path.join(ROOT, "tools", "planted", crate + ".bugs"))]
+    rows = rows_of(crate)
+    tried = [rows[bug] for bug in bugs if bug in rows and not rows[bug].startswith("NOT TRIED")]
+    return len(bugs), len(tried), len([answer for answer in tried if not answer.lower().startswith("proved")])
+
+
+def write_counts():
+    """Counts all crates, three in a row, in docs/PROVED.md."""
+    cells = [f"`{crate}` | " + " | ".join(map(str, counts_of(crate))) for crate in crates_with_bugs()]
+    cells += [" | | | "] * (-len(cells) % 3)
+    rows = [f"| {' | '.join(cells[row : row + 3])} |" for row in range(0, len(cells), 3)]
+    table = "\n".join(["|" + " Crate | Listed | Tried | Refused |" * 3, "|" + "---|" * 12, *rows])
+    path = os.path.join(ROOT, "docs", "PROVED.md")
+    with open(path, encoding="utf-8") as page:
+        before, _, rest = page.read().partition(MARKS[0])
+    with open(path, "w", encoding="utf-8") as page:
+        page.write(f"{before}{MARKS[0]}\n{table}\n{MARKS[1]}{rest.partition(MARKS[1])[2]}")
+
+
 def main():
+    if sys.argv[1:] == ["--table"]:
+        write_counts()
+        return 0
     crate, word = sys.argv[1], sys.argv[2] if len(sys.argv) > 2 else ""
     is_written = word == "--write"
     root, rows = copy_of(crate), []

@@ -198,8 +198,3 @@ module _ (t : TopologyValue) (p : ℕ) (l : List (Know (List ℕ))) (part : Part
 -- what was read at c
 pub read_known : (xs : List (Know (List ℕ))) (i c : ℕ) (m : Know (List ℕ)) → i ≡ c → c < length xs → m ≡ get_or xs i m → slice_index_or xs c nothing_known ≡ m
 read_known xs i c m e within f = get_or_from_slice_get xs c m nothing_known (slice_get_read xs (length xs) c m refl within (f ∙ ap (λ z. get_or xs z m) e))
-
--- what was read at c of two lists that are as long
-pub both_read : (xs ys : List (Know (List ℕ))) (c k : ℕ) (m o : Know (List ℕ)) → c < length xs → length xs ≡ k → length ys ≡ k → m ≡ get_or xs c m → o ≡ get_or ys c o
-    → (slice_index_or xs c nothing_known ≡ m) × (slice_index_or ys c nothing_known ≡ o)
-both_read xs ys c k m o below long also e f = (read_known xs c c m refl below e, read_known ys c c o refl (omega (arith, below, long, also)) f)

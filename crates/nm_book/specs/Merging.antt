@@ -19,11 +19,17 @@ use Rattle.nm_book.specs.declared.message.Data.{Data}
 use Rattle.nm_book.specs.declared.fault.MergeRefusal.{MergeRefusal}
 use Rattle.nm_book.specs.declared.fault.MergeRefusal.TheVariants.{Stranger, Channel}
 
--- the topology's digest, the partition, and what is known of each channel by the channel's number
+-- the topology's digest, the partition, and what is known of each channel by the channel's number:
+-- nothing of those that do not come in
 pub record KnowledgeValue : Type 0 where
   pub digest : List ℕ
   pub partition : ℕ
   pub knows : List (Know (List ℕ))
+
+-- what is known of a channel of which this is kept
+abbrev pub kept_of : Option (Know (List ℕ)) → Know (List ℕ)
+kept_of None = nothing_known
+kept_of (Some k) = k
 
 -- whether it is that of a replica of this partition: of a topology with this digest and as many
 -- channels

@@ -24,7 +24,7 @@ ghost use Rattle.nm_book.specs.declared.fault.BookRefusal.TheVariants.{NoSuch};
 
 use crate::channels::{comes_in, goes_out};
 use crate::fault::{AcceptFault, BookFault, BookRefusal, MergeFault, MergeRefusal};
-use crate::knowledge::{Knowledge, copy_all};
+use crate::knowledge::Knowledge;
 use crate::learning::{take_data, take_null};
 use crate::merging::merge_all;
 use crate::message::{ChannelMessage, Data, Null};
@@ -64,7 +64,7 @@ impl Model for Book {
     ghost use Rattle.nm_model.specs.Replica.{safe_time as safe_time_of};
     ghost use Rattle.nm_sim.specs.Network.{net_of};
     ghost use Rattle.nm_book.specs.Book.{BookValue, knowledge_of};
-    ghost use Rattle.nm_book.specs.BookPart.{IsBook};
+    ghost use Rattle.nm_book.specs.BookPart.{IsBook, KnowsIncoming};
 
     ghost Value = { BookValue };
 
@@ -79,7 +79,8 @@ impl Model for Book {
 
     ghost invariant = { λ b. IsBook (arc_value b.topology) b.partition b.knows.items b.part
         × (b.safe ≡ safe_time_of (net_of (arc_value b.topology)) b.partition
-        (knowledge_of (arc_value b.topology) b.knows.items)) };
+        (knowledge_of (arc_value b.topology) b.knows.items))
+        × KnowsIncoming (arc_value b.topology) b.partition b.knows.items };
 }
 
 /// That nothing is known of so many channels.
@@ -258,8 +259,7 @@ impl Book {
           knows = self.now.knows;
         }) }
     {
-        let knows = copy_all(alloc, &self.knows)?;
-        Ok(Knowledge::new(&self.topology, self.partition, knows))
+        Knowledge::new(alloc, &self.topology, self.partition, &self.knows)
     }
 
     /// Takes in what another replica of the partition knows: of each channel that comes in the
@@ -282,7 +282,7 @@ impl Book {
             self.partition,
             &mut self.knows,
             &mut self.part,
-            other.knows(),
+            other,
         )?;
         self.safe = safe_time(&self.topology, self.partition, &self.knows);
         Ok(())

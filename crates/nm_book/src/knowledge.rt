@@ -1,43 +1,65 @@
 //! What a replica knows, as it is told to another.
 
-ghost use Rattle.std.specs.Prelude.{◌≡◌, IfOk, slice_get};
-ghost use Rattle.std.specs.Option.{option_map};
-ghost use Rattle.nm_book.specs.Merging.{is_of};
+ghost use Rattle.std.specs.Prelude.{◌≡◌, IfOk, length, map, slice_index_or};
+ghost use Rattle.nm_model.specs.Knowledge.{nothing_known};
+ghost use Rattle.nm_book.specs.BookPart.{KnowsIncoming};
+ghost use Rattle.nm_book.specs.Merging.{is_of, kept_of};
 
+use crate::channels::comes_in;
 use nm_base::{ChanNo, PartNo};
 use nm_knowledge::Know;
 use nm_topology::Topology;
+use nm_topology::topology::accepted_topologies_are_in_order;
 use std::alloc::{AllocError, Global};
 use std::marker::Model;
 
-/// What a replica knows of each channel, by channel number, with the topology's digest and the
-/// partition of which it is a replica. Packets are shared with the replica.
+/// What a replica knows of each channel that comes into its partition, with the topology's digest
+/// and the partition. Packets are shared with the replica.
 #[derive(Drop)]
 pub struct Knowledge {
     digest: [u8; 32],
     partition: PartNo,
-    knows: Vec<Know>,
+    /// By channel number, of each channel that comes in.
+    incoming: Vec<Option<Know>>,
+    /// What is known of any other channel.
+    nothing: Know,
 }
 
 impl Model for Knowledge {
-    ghost use Rattle.nm_book.specs.Merging.{KnowledgeValue};
+    ghost use Rattle.std.specs.Prelude.{◌≡◌, map};
+    ghost use Rattle.nm_model.specs.Knowledge.{nothing_known};
+    ghost use Rattle.nm_book.specs.Merging.{KnowledgeValue, kept_of};
 
     ghost Value = { KnowledgeValue };
 
     ghost view = { λ k. record {
       digest = k.digest;
       partition = k.partition;
-      knows = k.knows.items;
+      knows = map kept_of k.incoming.items;
     } };
+
+    ghost invariant = { λ k. k.nothing ≡ nothing_known };
 }
 
-/// The same once more.
-pub(crate) fn copy_all(alloc: Global, knows: &[Know]) -> Result<Vec<Know>, AllocError>
-    ensures { IfOk result (λ copies. copies.items ≡ knows.now) }
+/// What is known of the channels that come in, once more.
+fn copy_incoming(
+    alloc: Global,
+    topology: &Topology,
+    partition: PartNo,
+    knows: &[Know],
+) -> Result<Vec<Option<Know>>, AllocError>
+    requires count { length knows.now ≡ length topology.now.receivers }
+    requires incoming { KnowsIncoming topology.now partition knows.now }
+    ensures { IfOk result (λ copies. map kept_of copies.items ≡ knows.now) }
 {
+    accepted_topologies_are_in_order(topology); // law: channels have numbers of 32 bits
     let mut copies = Vec::with_capacity(alloc, knows.len())?;
-    for know in knows {
-        let copy = know.copy(alloc)?;
+    for number in 0..knows.len() {
+        let copy = if comes_in(topology, partition, ChanNo::new(number as u32)) {
+            Some(knows[number].copy(alloc)?)
+        } else {
+            None
+        };
         copies.push(copy)?;
     }
     Ok(copies)
@@ -45,18 +67,31 @@ pub(crate) fn copy_all(alloc: Global, knows: &[Know]) -> Result<Vec<Know>, Alloc
 
 impl Knowledge {
     /// What a replica of the partition knows.
-    pub(crate) fn new(topology: &Topology, partition: PartNo, knows: Vec<Know>) -> Self
-        ensures { result ≡ record {
+    ///
+    /// # Errors
+    ///
+    /// Where memory was refused.
+    pub(crate) fn new(
+        alloc: Global,
+        topology: &Topology,
+        partition: PartNo,
+        knows: &[Know],
+    ) -> Result<Self, AllocError>
+        requires count { length knows.now ≡ length topology.now.receivers }
+        requires incoming { KnowsIncoming topology.now partition knows.now }
+        ensures { IfOk result (λ k. k ≡ record {
           digest = topology.now.digest;
           partition = partition;
-          knows = knows.items;
-        } }
+          knows = knows.now;
+        }) }
     {
-        Knowledge {
+        let incoming = copy_incoming(alloc, topology, partition, knows)?;
+        Ok(Knowledge {
             digest: topology.digest(),
             partition,
-            knows,
-        }
+            incoming,
+            nothing: Know::new(alloc),
+        })
     }
 
     /// Whether it is that of a replica of this partition of a topology with this digest and as many
@@ -66,20 +101,16 @@ impl Knowledge {
     {
         self.digest == topology.digest()
             && self.partition == partition
-            && self.knows.len() == topology.receivers().len()
+            && self.incoming.len() == topology.receivers().len()
     }
 
-    /// By channel number. Of channels that do not come into the partition nothing is known.
-    pub(crate) fn knows(&self) -> &[Know]
-        ensures { result.now ≡ self.now.knows }
+    /// What is known of a channel: nothing, where it does not come in.
+    pub(crate) fn of(&self, channel: ChanNo) -> &Know
+        ensures { result.now ≡ slice_index_or self.now.knows channel nothing_known }
     {
-        &self.knows
-    }
-
-    /// What is known of a channel, or `None` where there is no such channel.
-    pub fn know(&self, channel: ChanNo) -> Option<&Know>
-        ensures { option_map (λ k. k.now) result ≡ slice_get self.now.knows channel }
-    {
-        self.knows.get(channel.index())
+        match self.incoming.get(channel.index()) {
+            Some(Some(know)) => know,
+            _ => &self.nothing,
+        }
     }
 }

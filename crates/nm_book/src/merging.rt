@@ -2,7 +2,7 @@
 
 ghost use Rattle.std.specs.Prelude.{◌≡◌, ℕ, ◌+◌, ◌<◌, true, IfOk, IfSome, List, None, length};
 ghost use Rattle.nm_model.specs.Join.{join_fault};
-ghost use Rattle.nm_model.specs.Knowledge.{Know as Knowledge};
+ghost use Rattle.nm_model.specs.Knowledge.{Know as Known};
 ghost use Rattle.nm_model.specs.Partition.{comes_in};
 ghost use Rattle.nm_knowledge.specs.Gain.{IsGain};
 ghost use Rattle.nm_knowledge.specs.Octets.{same_octets};
@@ -16,6 +16,7 @@ ghost use Rattle.nm_book.specs.Telling.{Follow, told_each};
 
 use crate::channels::comes_in;
 use crate::fault::{MergeFault, MergeRefusal};
+use crate::knowledge::Knowledge;
 use crate::learning::put_messages;
 use crate::message::Data;
 use nm_base::{ChanNo, Packet, PartNo};
@@ -38,11 +39,11 @@ fn check_all(
     topology: &Topology,
     partition: PartNo,
     knows: &[Know],
-    others: &[Know],
+    others: &Knowledge,
 ) -> Result<(), MergeRefusal>
     requires count { length knows.now ≡ length topology.now.receivers }
-    requires others { length others.now ≡ length topology.now.receivers }
-    ensures { Checks topology.now partition knows.now others.now result }
+    requires others { length others.now.knows ≡ length topology.now.receivers }
+    ensures { Checks topology.now partition knows.now others.now.knows result }
 {
     accepted_topologies_are_in_order(topology); // law: channels have numbers of 32 bits
     for number in 0..knows.len() {
@@ -50,7 +51,7 @@ fn check_all(
         if !comes_in(topology, partition, channel) {
             continue;
         }
-        if let Err(fault) = knows[number].check_merge(&others[number]) {
+        if let Err(fault) = knows[number].check_merge(others.of(channel)) {
             return Err(MergeRefusal::Channel { channel, fault });
         }
     }
@@ -83,12 +84,14 @@ fn gains(
     topology: &Topology,
     partition: PartNo,
     knows: &[Know],
-    others: &[Know],
+    others: &Knowledge,
 ) -> Result<Vec<Option<Gain>>, AllocError>
     requires count { length knows.now ≡ length topology.now.receivers }
-    requires others { length others.now ≡ length topology.now.receivers }
-    requires joinable { AreJoinable topology.now partition knows.now others.now (length knows.now) }
-    ensures { IfOk result (λ v. AreGains topology.now partition knows.now others.now v.items) }
+    requires others { length others.now.knows ≡ length topology.now.receivers }
+    requires joinable { AreJoinable topology.now partition knows.now others.now.knows
+        (length knows.now) }
+    ensures { IfOk result (λ v. AreGains topology.now partition knows.now others.now.knows
+        v.items) }
 {
     accepted_topologies_are_in_order(topology); // law: channels have numbers of 32 bits
     let mut gains = Vec::with_capacity(alloc, knows.len())?;
@@ -99,7 +102,7 @@ fn gains(
             partition,
             channel,
             &knows[number],
-            &others[number],
+            others.of(channel),
         )?;
         gains.push(gain)?;
     }
@@ -116,7 +119,7 @@ fn add_new(
     requires more { length know.now.list < length other.now.list }
     requires joinable { join_fault same_octets know.now other.now ≡ None }
     ensures { IfOk result (λ _. (t : TopologyValue) (p : ℕ)
-        (knows others : List (Knowledge (List ℕ)))
+        (knows others : List (Known (List ℕ)))
         → IsTurnOf t p knows others channel know.now other.now messages.old.items
         → comes_in (net_of t) p (receiving_iface t channel) ≡ true
         → IsGrown t p knows (told_each knows messages.old.items) channel know.now other.now
@@ -153,7 +156,7 @@ fn add_messages(
 ) -> Result<(), AllocError>
     requires { comes_in (net_of topology.now) partition (receiving_iface topology.now channel)
         ≡ true → join_fault same_octets know.now other.now ≡ None }
-    ensures { IfOk result (λ _. (knows others : List (Knowledge (List ℕ)))
+    ensures { IfOk result (λ _. (knows others : List (Known (List ℕ)))
         → IsTurnOf topology.now partition knows others channel know.now other.now
         messages.old.items
         → Follow topology.now partition knows messages.new.items
@@ -180,13 +183,14 @@ fn new_messages(
     topology: &Topology,
     partition: PartNo,
     knows: &[Know],
-    others: &[Know],
+    others: &Knowledge,
 ) -> Result<Vec<Data>, AllocError>
     requires count { length knows.now ≡ length topology.now.receivers }
-    requires others { length others.now ≡ length topology.now.receivers }
-    requires joinable { AreJoinable topology.now partition knows.now others.now (length knows.now) }
+    requires others { length others.now.knows ≡ length topology.now.receivers }
+    requires joinable { AreJoinable topology.now partition knows.now others.now.knows
+        (length knows.now) }
     ensures follow { IfOk result (λ v. Follow topology.now partition knows.now v.items) }
-    ensures told { IfOk result (λ v. AreTold topology.now partition knows.now others.now
+    ensures told { IfOk result (λ v. AreTold topology.now partition knows.now others.now.knows
         (length knows.now) (told_each knows.now v.items)) }
 {
     accepted_topologies_are_in_order(topology); // law: channels have numbers of 32 bits
@@ -194,7 +198,7 @@ fn new_messages(
     for number in 0..knows.len() {
         let channel = ChanNo::new(number as u32);
         let know = &knows[number];
-        let other = &others[number];
+        let other = others.of(channel);
         add_messages(topology, partition, &mut messages, channel, know, other)?;
     }
     Ok(messages)
@@ -212,9 +216,9 @@ fn take_gain(know: &mut Know, gain: Option<Gain>)
 
 /// Takes what was gained, which takes no memory.
 fn take_all(knows: &mut Vec<Know>, gains: Vec<Option<Gain>>)
-    requires { (t : TopologyValue) × (p : ℕ) × (others : List (Knowledge (List ℕ)))
+    requires { (t : TopologyValue) × (p : ℕ) × (others : List (Known (List ℕ)))
         × AreGains t p knows.old.items others gains.items }
-    ensures { (t : TopologyValue) (p : ℕ) (others : List (Knowledge (List ℕ)))
+    ensures { (t : TopologyValue) (p : ℕ) (others : List (Known (List ℕ)))
         → AreGains t p knows.old.items others gains.items
         → AreJoined t p knows.old.items others knows.new.items }
 {
@@ -233,15 +237,15 @@ pub(crate) fn merge_all(
     partition: PartNo,
     knows: &mut Vec<Know>,
     part: &mut Part<HeapList>,
-    others: &[Know],
+    others: &Knowledge,
 ) -> Result<(), MergeFault>
     // The book is one of this partition, and the other has as many channels.
     requires book { IsBook topology.now partition knows.old.items part.old }
-    requires others { length others.now ≡ length topology.now.receivers }
+    requires others { length others.now.knows ≡ length topology.now.receivers }
 
     // It is one after it, and knows what the model says.
     ensures book { IsBook topology.now partition knows.new.items part.new }
-    ensures merges { MergesChannels topology.now partition knows.old.items others.now true
+    ensures merges { MergesChannels topology.now partition knows.old.items others.now.knows true
         knows.new.items result }
 
     // No event was done, and no record handed out.

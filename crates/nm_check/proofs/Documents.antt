@@ -31,7 +31,7 @@ use Rattle.nm_check.specs.declared.place.FaultPlace.TheVariants as place
 use Rattle.nm_check.specs.Place.{at_top, find_behind, find_in, find_in_arrays, found_by, head_by}
 use Rattle.nm_check.specs.Place.{head_of, no_head, place_in_value, place_of, place_refusal}
 use Rattle.nm_check.specs.Place.{refused_in, top_keys}
-use Rattle.nm_check.specs.Reading.{at_field, first_fault, or_else, outcome, refused_at, spot_in}
+use Rattle.nm_check.specs.Reading.{at_field, first_fault, fault_or, outcome, refused_at, spot_in}
 use Rattle.nm_check.specs.Reading.{tables_of}
 use Rattle.nm_check.proofs.Places.{place-refused}
 use Rattle.nm_check.proofs.Steps.{chain, chain-first, five-arrays, outcome-bind}
@@ -50,7 +50,7 @@ of-arrays : (head : Head) (t : Members) (g : FieldFault) (bs : List Array) → f
 of-arrays head t g [] e = cc
 of-arrays head t g (a ∷ bs) e = go (λ h. of-arrays head t g bs h) (tables_of head a (get_member (key_text (array_key a)) t)) refl e
   where
-    go : (first_fault head t (map array_field bs) ≡ Some g → (b : Array) × IsOfArray head t g b) → (r : Result Unit Refusal) → tables_of head a (get_member (key_text (array_key a)) t) ≡ r → or_else (array_field a) r (first_fault head t (map array_field bs)) ≡ Some g → (b : Array) × IsOfArray head t g b
+    go : (first_fault head t (map array_field bs) ≡ Some g → (b : Array) × IsOfArray head t g b) → (r : Result Unit Refusal) → tables_of head a (get_member (key_text (array_key a)) t) ≡ r → fault_or (array_field a) r (first_fault head t (map array_field bs)) ≡ Some g → (b : Array) × IsOfArray head t g b
     go others (Ok u) h k = others k
     go others (Err q) h k =
         let same : ◌≡◌ {A = FieldFault} (record { field = array_field a; refusal = q }) g = cc in

@@ -19,7 +19,7 @@ use Rattle.nm_topology.specs.Parse.Fields.{all_among, number_in, optional}
 use Rattle.nm_topology.specs.Parse.Fields.{some_number_in}
 use Rattle.nm_topology.specs.declared.keys.field.Field.{Field}
 use Rattle.nm_check.specs.declared.spot.Spot.TheVariants as spot
-use Rattle.nm_check.specs.Reading.{at_field, field_of, first_fault, or_else, outcome}
+use Rattle.nm_check.specs.Reading.{at_field, field_of, first_fault, fault_or, outcome}
 use Rattle.nm_check.specs.Reading.{refused_at, spot_in}
 
 pub both : (a b : Bool) → (a && b) ≡ true → (a ≡ true) × (b ≡ true)
@@ -36,7 +36,7 @@ pub chain-first : (head : Head) (t : Members) (fields : List Field) → chain he
 chain-first head t [] = refl
 chain-first head t (f ∷ fs) = go (chain-first head t fs) (field_of head t f)
   where
-    go : chain head t fs ≡ refused_at (at_field (first_fault head t fs)) → (r : Result Unit Refusal) → (r >>= λ u. chain head t fs) ≡ refused_at (at_field (or_else f r (first_fault head t fs)))
+    go : chain head t fs ≡ refused_at (at_field (first_fault head t fs)) → (r : Result Unit Refusal) → (r >>= λ u. chain head t fs) ≡ refused_at (at_field (fault_or f r (first_fault head t fs)))
     go rest (Ok u) = rest
     go rest (Err e) = refl
 

@@ -45,7 +45,7 @@ use Rattle.nm_topology.specs.declared.keys.fields.TheConstants.{ROUTE_TABLE, STA
 use Rattle.nm_topology.specs.declared.keys.key.TableKey.TheVariants as key
 use Rattle.nm_check.specs.Place.{fields_by_kind, item_of, or_spot, source_spot}
 use Rattle.nm_check.specs.Place.{spot_of}
-use Rattle.nm_check.specs.Reading.{or_else, outcome, refused_at, spot_in}
+use Rattle.nm_check.specs.Reading.{fault_or, outcome, refused_at, spot_in}
 use Rattle.nm_check.proofs.Steps.{absent, bind-unit, chain, five, four, four-fields, outcome-optional}
 use Rattle.nm_check.proofs.Steps.{outcome-some_number, six, spot-chain, three, three-fields, two}
 
@@ -129,7 +129,7 @@ source_chain head t EchoKind = refl
 source_chain head t RawKind = refl
 
 -- a source, by what stands at its kind
-by_kind : (head : Head) (t : Members) (r : Result SourceKind Refusal) → text_at source_kind_of key.Kind t ≡ r → outcome (r >>= λ kind. source_by kind head.mtu t) ≡ refused_at (or_spot (or_else source_kind (outcome r) None) (spot_in head (fields_by_kind r) t))
+by_kind : (head : Head) (t : Members) (r : Result SourceKind Refusal) → text_at source_kind_of key.Kind t ≡ r → outcome (r >>= λ kind. source_by kind head.mtu t) ≡ refused_at (or_spot (fault_or source_kind (outcome r) None) (spot_in head (fields_by_kind r) t))
 by_kind head t (Ok kind) e =
     let known = all_among (keys_of (fields_of_kind kind)) t in
     let node = text_at name_of key.Node t in

@@ -66,14 +66,14 @@ abbrev pub field_of : Head → Members → Field → Result Unit Refusal
 field_of head t f = read_as head f.form (value_at f.key t)
 
 -- a field that was read, and else what the others give
-abbrev pub or_else : Field → Result Unit Refusal → Option FieldFault → Option FieldFault
-or_else f (Ok u) others = others
-or_else f (Err r) others = Some (record { field = f; refusal = r })
+abbrev pub fault_or : Field → Result Unit Refusal → Option FieldFault → Option FieldFault
+fault_or f (Ok u) others = others
+fault_or f (Err r) others = Some (record { field = f; refusal = r })
 
 -- the first field that is refused: all before it are read
 abbrev pub first_fault : Head → Members → List Field → Option FieldFault
 first_fault head t [] = None
-first_fault head t (f ∷ fs) = or_else f (field_of head t f) (first_fault head t fs)
+first_fault head t (f ∷ fs) = fault_or f (field_of head t f) (first_fault head t fs)
 
 abbrev pub at_field : Option FieldFault → Option Spot
 at_field None = None

@@ -21,7 +21,7 @@ use Rattle.nm_sim.specs.Network.{net_of}
 use Rattle.nm_sim.specs.Part.{PartValue, Represents}
 use Rattle.nm_measure.specs.declared.amounts.Amount.{Amount}
 use Rattle.nm_measure.specs.declared.amounts.IfaceTraffic.{IfaceTraffic}
-use Rattle.nm_measure.specs.Amounts.{AreTraffic, amount_after, amount_of, came_to, is_in, traffic_after, traffic_of, went_from}
+use Rattle.nm_measure.specs.Amounts.{AreTraffic, amount_after, amount_of, came_to, is_in, traffic_after, iface_traffic_of, went_from}
 use Rattle.nm_measure.specs.Measured.{HasCountedAll, IsCounted}
 use Rattle.nm_sim.specs.Records.{cut}
 
@@ -71,13 +71,13 @@ one_of_two false came in_after went out_after = refl
 
 -- the traffic of an interface with one more record
 traffic_more : (i : ℕ) (l : List (Record (List ℕ))) (r : Record (List ℕ)) (b : Bool) → (i == r.iface) ≡ b
-    → traffic_of i (l ++ r ∷ []) ≡ cond b (traffic_after (traffic_of i l) r) (traffic_of i l)
+    → iface_traffic_of i (l ++ r ∷ []) ≡ cond b (traffic_after (iface_traffic_of i l) r) (iface_traffic_of i l)
 traffic_more i l r b h = go b here (is_in r.dir) refl
   where
     here : (r.iface == i) ≡ b
     here = grind (arith, nat_tests, h)
 
-    go : (b : Bool) → (r.iface == i) ≡ b → (d : Bool) → is_in r.dir ≡ d → traffic_of i (l ++ r ∷ []) ≡ cond b (traffic_after (traffic_of i l) r) (traffic_of i l)
+    go : (b : Bool) → (r.iface == i) ≡ b → (d : Bool) → is_in r.dir ≡ d → iface_traffic_of i (l ++ r ∷ []) ≡ cond b (traffic_after (iface_traffic_of i l) r) (iface_traffic_of i l)
     go true e d f =
         let came = amount_more (came_to i) l r d (λ k. e k && f k) in
         let went = amount_more (went_from i) l r (not d) (λ k. e k && not (f k)) in
@@ -137,13 +137,13 @@ module _ (t : TopologyValue) where
   }
 
   -- before any record
-  pub traffic_first : (none : IfaceTraffic) → none ≡ traffic_of 0 [] → AreTraffic t (replicate (length t.ifaces) none) []
+  pub traffic_first : (none : IfaceTraffic) → none ≡ iface_traffic_of 0 [] → AreTraffic t (replicate (length t.ifaces) none) []
   traffic_first none h = record {
     count = length-replicate (length t.ifaces) none;
     each = λ i y e. all (length t.ifaces) i y e;
   }
     where
-      all : (n i : ℕ) (y : IfaceTraffic) → slice_get (replicate n none) i ≡ Some y → y ≡ traffic_of i []
+      all : (n i : ℕ) (y : IfaceTraffic) → slice_get (replicate n none) i ≡ Some y → y ≡ iface_traffic_of i []
       all zero i y e = absurd cc
       all (suc n) zero y e = some_inj y none (sym e) ∙ h
       all (suc n) (suc i) y e = all n i y e

@@ -31,8 +31,8 @@ amount_of f records = record {
   octets = saturated (sum_by (λ r. length r.packet) (keep_where f records));
 }
 
-abbrev pub traffic_of : ℕ → List (Record (List ℕ)) → IfaceTraffic
-traffic_of i records = record {
+abbrev pub iface_traffic_of : ℕ → List (Record (List ℕ)) → IfaceTraffic
+iface_traffic_of i records = record {
   came = amount_of (came_to i) records;
   went = amount_of (went_from i) records;
 }
@@ -53,7 +53,7 @@ traffic_after x r = cond (is_in r.dir)
 pub record AreTraffic (t : TopologyValue) (found : List IfaceTraffic)
     (records : List (Record (List ℕ))) : Type 0 where
   pub count : length found ≡ length t.ifaces
-  pub each : (i : ℕ) (x : IfaceTraffic) → slice_get found i ≡ Some x → x ≡ traffic_of i records
+  pub each : (i : ℕ) (x : IfaceTraffic) → slice_get found i ≡ Some x → x ≡ iface_traffic_of i records
 
 -- how many packets were dropped at the queue of an interface
 abbrev pub drops_of : ℕ → State (List ℕ) NodeStateValue → ℕ

@@ -2,7 +2,7 @@
 
 ghost use Rattle.std.specs.Prelude.{◌≡◌, ℕ, ◌<◌, ◌≤◌, None, Some, IfOk, IfSome, OnOk, length};
 ghost use Rattle.nm_model.specs.Run.{one_list};
-ghost use Rattle.nm_measure.specs.Amounts.{traffic_of, drops_of};
+ghost use Rattle.nm_measure.specs.Amounts.{iface_traffic_of, drops_of};
 ghost use Rattle.nm_measure.specs.Flows.{Balances};
 ghost use Rattle.nm_measure.specs.Measured.{IsMeasuredBefore};
 ghost use Rattle.nm_sim.specs.Network.{net_of};
@@ -115,7 +115,7 @@ impl Measured {
     pub fn traffic(&self, iface: IfaceNo) -> Option<IfaceTraffic>
         ensures { (t : TopologyValue) (until : ℕ) (m : IsMeasuredBefore t until self.now)
             → iface < length t.ifaces
-            → result ≡ Some (traffic_of iface (one_list (net_of t) m.events).records) }
+            → result ≡ Some (iface_traffic_of iface (one_list (net_of t) m.events).records) }
     {
         self.traffic.get(iface.index()).copied()
     }
@@ -124,7 +124,7 @@ impl Measured {
     pub fn totals(&self, iface: IfaceNo, time: Time) -> IfaceTotals
         requires there { iface < length self.now.traffic }
         ensures traffic { (t : TopologyValue) (until : ℕ) (m : IsMeasuredBefore t until self.now)
-            → result.traffic ≡ traffic_of iface (one_list (net_of t) m.events).records }
+            → result.traffic ≡ iface_traffic_of iface (one_list (net_of t) m.events).records }
         ensures dropped { (t : TopologyValue) (until : ℕ) (m : IsMeasuredBefore t until self.now)
             → result.dropped ≡ drops_of iface (one_list (net_of t) m.events) }
     {

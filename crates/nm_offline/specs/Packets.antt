@@ -9,7 +9,7 @@ use Rattle.nm_offline.specs.Input.{IsRefused}
 use Rattle.nm_offline.specs.Output.{EndsWord, Exchange, FailsOfInput, SaysOfInput}
 
 -- what is said of the source with this number, which there is, is whole lines
-pub record ArePackets (source : ℕ) (text octets : List ℕ) : Type 0 where
+pub record ArePacketLines (source : ℕ) (text octets : List ℕ) : Type 0 where
   pub network : TopologyValue
   pub read : topology_of text ≡ Ok network
   pub there : source < length network.sources
@@ -17,7 +17,7 @@ pub record ArePackets (source : ℕ) (text octets : List ℕ) : Type 0 where
 
 -- it is said once it is made
 abbrev pub SaysPackets : ℕ → List ℕ → Status → List ℕ → Type 0
-SaysPackets source text status octets = (status ≡ Done) × ArePackets source text octets
+SaysPackets source text status octets = (status ≡ Done) × ArePacketLines source text octets
 
 -- why there are none: the text is refused, or its topology has no such source
 abbrev pub HasNoSource : ℕ → List ℕ → Status → Type 0

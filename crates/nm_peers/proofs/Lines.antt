@@ -7,7 +7,7 @@ use Rattle.std.proofs.lemmas.List.Elements.{All-head, All-nil, All-push, All-tai
 use Rattle.std.proofs.lemmas.Grind.{flat_map-append}
 use Rattle.nm_base.specs.Text.{HasNo}
 use Rattle.nm_peers.specs.declared.listener.Listener.{Listener}
-use Rattle.nm_peers.specs.Listeners.{Fits, AreListeners, listener_line, listener_words, is_of, is_same}
+use Rattle.nm_peers.specs.Listeners.{Fits, AreListeners, listener_line, listener_words, is_listener_of, is_same}
 use Rattle.nm_peers.proofs.Apart.{apart_before, apart_more, apart_none}
 use Rattle.nm_base.proofs.Splits.{has_it, not_empty, one_split}
 use Rattle.nm_peers.proofs.Words.{no_line_feed, same_words}
@@ -93,17 +93,17 @@ no_line p partition replica text rest line after taken small read cut none not l
     let n = next p partition replica text rest line after taken listeners small read cut none is in not n.listener n.fits n.says
 
 pub no_second : (p partition replica : ℕ) (text rest line after : List ℕ) (taken : List Listener) (a : Listener) → p < 2 ^ 64 → IsReadTo p text rest taken
-    → rest ≡ line ++ 10 ∷ after → HasNo 10 line → line ≡ listener_words a → Fits p a → list_any (is_of a.partition a.replica) taken ≡ true
+    → rest ≡ line ++ 10 ∷ after → HasNo 10 line → line ≡ listener_words a → Fits p a → list_any (is_listener_of a.partition a.replica) taken ≡ true
     → (listeners : List Listener) → AreListeners text p partition replica listeners → ⊥
 no_second p partition replica text rest line after taken a small read cut none says fits known listeners is =
     let n = next p partition replica text rest line after taken listeners small read cut none is in
     let same = same_words p n.listener a small n.fits fits (sym n.says ∙ says) in
     let apart = apart_before taken n.listener n.more (subst (IsDistinct is_same) n.parts is.apart) in
-    let free : list_any (is_of a.partition a.replica) taken ≡ false = subst (λ (b : Listener). list_any (is_of b.partition b.replica) taken ≡ false) same apart in
+    let free : list_any (is_listener_of a.partition a.replica) taken ≡ false = subst (λ (b : Listener). list_any (is_listener_of b.partition b.replica) taken ≡ false) same apart in
     absurd (cc)
 
 pub goes_on : (p : ℕ) (text rest line after : List ℕ) (taken new : List Listener) (a : Listener) → IsReadTo p text rest taken → rest ≡ line ++ 10 ∷ after
-    → line ≡ listener_words a → Fits p a → list_any (is_of a.partition a.replica) taken ≡ false → new ≡ taken ++ a ∷ [] → IsReadTo p text after new
+    → line ≡ listener_words a → Fits p a → list_any (is_listener_of a.partition a.replica) taken ≡ false → new ≡ taken ++ a ∷ [] → IsReadTo p text after new
 goes_on p text rest line after taken new a read cut says fits free pushed =
     let ends : rest ≡ listener_line a ++ after = cut ∙ ap (λ (l : List ℕ). l ++ 10 ∷ after) says ∙ sym (line_parts a after) in
     let more : flat_map listener_line (taken ++ a ∷ []) ≡ flat_map listener_line taken ++ listener_line a =
@@ -134,14 +134,14 @@ no_rest p partition replica text rest taken small read none some listeners is =
     absurd (cc)
 
 pub no_own : (p partition replica : ℕ) (text rest : List ℕ) (taken : List Listener) → p < 2 ^ 64 → IsReadTo p text rest taken → HasNo 10 rest
-    → list_any (is_of partition replica) taken ≡ false → (listeners : List Listener) → AreListeners text p partition replica listeners → ⊥
+    → list_any (is_listener_of partition replica) taken ≡ false → (listeners : List Listener) → AreListeners text p partition replica listeners → ⊥
 no_own p partition replica text rest taken small read none free listeners is =
     let same = (ends_so p partition replica text rest taken listeners small read none is).1 in
-    let own : list_any (is_of partition replica) taken ≡ true = subst (λ (l : List Listener). list_any (is_of partition replica) l ≡ true) same is.own in
+    let own : list_any (is_listener_of partition replica) taken ≡ true = subst (λ (l : List Listener). list_any (is_listener_of partition replica) l ≡ true) same is.own in
     absurd (cc)
 
 pub ends : (p partition replica : ℕ) (text rest : List ℕ) (taken : List Listener) → IsReadTo p text rest taken → rest ≡ []
-    → list_any (is_of partition replica) taken ≡ true → AreListeners text p partition replica taken
+    → list_any (is_listener_of partition replica) taken ≡ true → AreListeners text p partition replica taken
 ends p partition replica text rest taken read none own = record {
   whole = read.whole ∙ ap (λ (t : List ℕ). flat_map listener_line taken ++ t) none ∙ append-nil (flat_map listener_line taken);
   fit = read.fit;

@@ -27,12 +27,12 @@ pub record Fits (partitions : ℕ) (a : Listener) : Type 0 where
   pub address : IsSocketAddrV4 a.address
 
 -- whether a listener is that of this replica of this partition
-abbrev pub is_of : ℕ → ℕ → Listener → Bool
-is_of partition replica a = (a.partition == partition) && (a.replica == replica)
+abbrev pub is_listener_of : ℕ → ℕ → Listener → Bool
+is_listener_of partition replica a = (a.partition == partition) && (a.replica == replica)
 
 -- whether two listeners are of one replica
 abbrev pub is_same : Listener → Listener → Bool
-is_same a b = is_of b.partition b.replica a
+is_same a b = is_listener_of b.partition b.replica a
 
 -- The text is the lines of these listeners, no two are of one replica, and this replica of this
 -- partition has one.
@@ -41,7 +41,7 @@ pub record AreListeners (text : List ℕ) (partitions partition replica : ℕ)
   pub whole : text ≡ flat_map listener_line listeners
   pub fit : All (Fits partitions) listeners
   pub apart : IsDistinct is_same listeners
-  pub own : list_any (is_of partition replica) listeners ≡ true
+  pub own : list_any (is_listener_of partition replica) listeners ≡ true
 
 -- the listeners that the text says; or it says none; or memory was refused
 abbrev pub ReadsListeners : List ℕ → ℕ → ℕ → ℕ

@@ -7,7 +7,7 @@ use Rattle.std.specs.declared.net.socket_addr.SocketAddr.TheVariants.{V4}
 use Rattle.nm_topology.specs.TopologyValue.{TopologyValue}
 use Rattle.nm_frames.specs.Channels.{channels_between}
 use Rattle.nm_frames.specs.declared.replica_name.ReplicaName.{ReplicaName}
-use Rattle.nm_peers.specs.Listeners.{is_of}
+use Rattle.nm_peers.specs.Listeners.{is_listener_of}
 use Rattle.nm_peers.specs.declared.listener.Listener.{Listener}
 use Rattle.nm_peers.specs.declared.peers.Peers.{Peers}
 
@@ -40,4 +40,4 @@ pub record ArePeers (t : TopologyValue) (p : ℕ) (listeners : List Listener)
 -- where the first of these listeners listens that is of this replica
 abbrev pub own_address : List Listener → ℕ → ℕ → Option SocketAddr
 own_address listeners partition replica =
-    option_map socket_of (find (is_of partition replica) listeners)
+    option_map socket_of (find (is_listener_of partition replica) listeners)

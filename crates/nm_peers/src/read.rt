@@ -2,7 +2,7 @@
 
 ghost use Rattle.std.specs.Prelude.{◌≡◌};
 ghost use Rattle.std.specs.List.{list_any};
-ghost use Rattle.nm_peers.specs.Listeners.{ReadsListeners, is_of};
+ghost use Rattle.nm_peers.specs.Listeners.{ReadsListeners, is_listener_of};
 
 use crate::fault::{ListenersFault, NoListeners};
 use crate::line::listener_of;
@@ -12,7 +12,7 @@ use std::alloc::Global;
 
 /// Whether one of the listeners is that of this replica.
 fn has(listeners: &[Listener], partition: PartNo, replica: u8) -> bool
-    ensures { result ≡ list_any (is_of partition replica) listeners.now }
+    ensures { result ≡ list_any (is_listener_of partition replica) listeners.now }
 {
     listeners
         .iter()

@@ -70,6 +70,6 @@ module _ {S : Type 0} (before after : Surroundings S) where
 
 -- the status once the output was handed on, or was not: what was written is no more than held back
 -- then
-abbrev pub handed_on : Bool → Status → Status
-handed_on false Done = File
-handed_on handed status = status
+abbrev pub status_handed_on : Bool → Status → Status
+status_handed_on false Done = File
+status_handed_on handed status = status

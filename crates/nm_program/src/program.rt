@@ -5,7 +5,7 @@ ghost use Rattle.nm_base.specs.Sink.{HasNotFailed, HasTaken};
 ghost use Rattle.nm_command.specs.Command.{command_of};
 ghost use Rattle.nm_command.specs.Status.{line_of};
 ghost use Rattle.nm_command.specs.declared.status.Status.TheVariants.{Done, File};
-ghost use Rattle.nm_program.specs.Ending.{ProgramEnds, handed_on, surroundings};
+ghost use Rattle.nm_program.specs.Ending.{ProgramEnds, status_handed_on, surroundings};
 
 use crate::means::Means;
 use crate::node::say_node;
@@ -118,7 +118,7 @@ pub fn report<E: Sink>(status: Status, errors: &mut E) -> Status
 /// The status of a run whose output may have been held back, once it was handed on or could not be.
 /// What is not handed on is not done: its status is `File`, and its line is said.
 pub fn conclude<E: Sink>(status: Status, handed: bool, errors: &mut E) -> Status
-    ensures status { result ≡ handed_on handed status }
+    ensures status { result ≡ status_handed_on handed status }
     ensures line { result ≡ File → status ≡ Done
         → HasNotFailed (E.seen errors.old) (E.seen errors.new)
         → HasTaken (E.seen errors.old) (E.seen errors.new) (line_of File) }

@@ -16,11 +16,10 @@ use crate::dialing::{Dialing, are_sure, are_wanting, have_ended};
 use crate::given_before::GivenBefore;
 use crate::limits::{MAX_ACCEPTED, MAX_STRANGERS};
 use crate::moved::CountingWire;
-use crate::replica::Service;
+use crate::neighbours::Neighbours;
 use crate::served::{Served, break_served};
 use nm_engine::{Acceptor, Cause, Link, Turn};
 use nm_frames::ReplicaName;
-use nm_shared::Counts;
 use nm_transport::Transport;
 use slab::Slab;
 use std::alloc::{AllocError, Global};
@@ -74,36 +73,27 @@ fn dial<T: Transport>(
 }
 
 /// Keeps a connection that someone began after so many others, if the transport watches it.
-fn keep<T: Transport, C: Counts>(
+fn keep<T: Transport>(
     alloc: Global,
-    service: &Service<'_, C>,
+    neighbours: &Neighbours<'_>,
     transport: &mut T,
     open: &mut Slab<Connection<T::Connection>>,
     came: u64,
     wire: T::Connection,
-    is_counted: bool,
 ) -> Result<(), AllocError>
     ensures { T.elapsed_periods transport.new ≡ T.elapsed_periods transport.old }
 {
     let mut wire = wire;
-    let topology = Arc::try_clone(service.topology)?;
+    let topology = Arc::try_clone(neighbours.topology)?;
     open.reserve(1)?;
     if !transport.watch(&mut wire, open.vacant_key()) {
         return Ok(());
     }
-    let acceptor = Acceptor::new(topology, service.partition, service.replica);
+    let acceptor = Acceptor::new(topology, neighbours.partition, neighbours.replica);
     let link = Link::accepted(alloc, CountingWire::new(wire), acceptor);
-    let link = counted(alloc, link, is_counted);
+    let link = counted(alloc, link, neighbours.are_counted);
     open.insert_reserved(Connection::accepted(link, came));
     Ok(())
-}
-
-/// Whether it is counted what links give: where figures are asked for.
-fn are_counted<C: Counts>(service: &Service<'_, C>) -> bool {
-    match service.progress {
-        Some(progress) => progress.figures().is_some(),
-        None => false,
-    }
 }
 
 /// A link. What it gives is counted, or is not.
@@ -123,21 +113,18 @@ impl<W> Connections<W> {
     /// # Errors
     ///
     /// Where memory was refused.
-    pub(crate) fn new<C: Counts>(
-        alloc: Global,
-        service: &Service<'_, C>,
-    ) -> Result<Self, AllocError> {
-        let mut peers = Vec::with_capacity(alloc, service.peers.len())?;
-        for peer in service.peers {
+    pub(crate) fn new(alloc: Global, neighbours: &Neighbours<'_>) -> Result<Self, AllocError> {
+        let mut peers = Vec::with_capacity(alloc, neighbours.peers.len())?;
+        for peer in neighbours.peers {
             peers.push(Dialing::new(
                 alloc,
-                service.topology,
-                service.partition,
-                service.replica,
+                neighbours.topology,
+                neighbours.partition,
+                neighbours.replica,
                 *peer,
             )?)?;
         }
-        let callers = Callers::new(alloc, service.callers)?;
+        let callers = Callers::new(alloc, neighbours.callers)?;
         Ok(Connections {
             open: Slab::new(alloc),
             peers,
@@ -145,7 +132,7 @@ impl<W> Connections<W> {
             accepted: 0,
             begun: 0,
             broken: 0,
-            is_counted: are_counted(service),
+            is_counted: neighbours.are_counted,
             given: GivenBefore::new(alloc),
         })
     }
@@ -326,10 +313,10 @@ impl<W> Connections<W> {
     /// # Errors
     ///
     /// Where memory was refused.
-    pub(crate) fn accept_all<T: Transport<Connection = W>, C: Counts>(
+    pub(crate) fn accept_all<T: Transport<Connection = W>>(
         &mut self,
         alloc: Global,
-        service: &Service<'_, C>,
+        neighbours: &Neighbours<'_>,
         transport: &mut T,
     ) -> Result<(), AllocError>
         ensures { T.elapsed_periods transport.new ≡ T.elapsed_periods transport.old }
@@ -338,18 +325,18 @@ impl<W> Connections<W> {
             let Some(wire) = transport.accept() else {
                 return Ok(());
             };
-            if let Some(key) = self.first_of(MAX_STRANGERS.saturating_add(service.callers.len())) {
+            let most = MAX_STRANGERS.saturating_add(neighbours.callers.len());
+            if let Some(key) = self.first_of(most) {
                 let _ = self.remove(transport, key);
             }
             self.accepted = self.accepted.saturating_add(1);
             keep(
                 alloc,
-                service,
+                neighbours,
                 transport,
                 &mut self.open,
                 self.accepted,
                 wire,
-                self.is_counted,
             )?;
         }
         Ok(())

@@ -13,6 +13,7 @@ mod lasting;
 pub mod lending;
 pub mod limits;
 mod moved;
+mod neighbours;
 mod recording;
 pub mod replica;
 pub mod seats;

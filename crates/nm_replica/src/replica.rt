@@ -9,6 +9,7 @@ ghost use Rattle.nm_replica.specs.declared.served.Served.TheVariants.{Ended};
 
 use crate::lending::Lending;
 use crate::limits::MAX_POLLS;
+use crate::neighbours::Neighbours;
 use crate::seats::OwnSeats;
 use crate::served::Served;
 use crate::serving::{Polled, Serving, poll};
@@ -53,6 +54,24 @@ pub struct Service<'a, C: Counts> {
     /// Its book keeps its records, for who closes it. Else they leave it while it runs: to the
     /// trace files, where it has any.
     pub keeps_records: bool,
+}
+
+impl<'a, C: Counts> Service<'a, C> {
+    /// What its connections are for.
+    pub(crate) fn neighbours(&self) -> Neighbours<'a> {
+        let figures = match self.progress {
+            Some(progress) => progress.figures(),
+            None => None,
+        };
+        Neighbours {
+            topology: self.topology,
+            partition: self.partition,
+            replica: self.replica,
+            peers: self.peers,
+            callers: self.callers,
+            are_counted: figures.is_some(),
+        }
+    }
 }
 
 /// What a replica holds while it runs, and has still when it has ended.

@@ -108,7 +108,7 @@ impl<W> Serving<W> {
     ) -> Result<Self, AllocError> {
         let buffer = ReadBuffer::new(alloc)?;
         Ok(Serving {
-            connections: Connections::new(alloc, service)?,
+            connections: Connections::new(alloc, &service.neighbours())?,
             moved: 0,
             events: 0,
             was_done: false,
@@ -276,7 +276,10 @@ fn await_transport<T: Transport, C: Counts>(
     note_wait(service, false);
     note_reports(transport, &serving.connections, ran_out);
     serving.connections.pass_poll(transport, ran_out);
-    serving.connections.accept_all(alloc, service, transport)?;
+    let neighbours = service.neighbours();
+    serving
+        .connections
+        .accept_all(alloc, &neighbours, transport)?;
     bear_shortage(transport, serving, ran_out)?;
     Ok(ran_out)
 }

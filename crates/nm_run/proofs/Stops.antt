@@ -11,6 +11,7 @@ reason t replicas (stop.File iface written) = tt
 reason t replicas stop.Net = tt
 reason t replicas stop.Memory = tt
 reason t replicas (stop.Stalled polls) = tt
+reason t replicas stop.Broken = tt
 
 pub stops_have_reason : (t : TopologyValue) (replicas : ℕ) (s : Stop) (f : RunFault) → f ≡ run_fault s → HasReason t replicas f
 stops_have_reason t replicas s f is = subst (HasReason t replicas) (sym is) (reason t replicas s)

@@ -13,6 +13,7 @@ run_fault (stop.File iface written) = File iface written
 run_fault stop.Net = Net
 run_fault stop.Memory = Memory
 run_fault (stop.Stalled polls) = Stalled polls
+run_fault stop.Broken = Net
 
 -- that books are not certified is a fault of the run's own
 abbrev pub HasReason : TopologyValue → ℕ → RunFault → Type 0

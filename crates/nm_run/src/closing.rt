@@ -115,10 +115,10 @@ fn close_one(
     ensures { IfOk result (IsInPlace replicas number) }
 {
     let Ok(closed) = book.close(passes) else {
-        return Err(Stop::IMPOSSIBLE);
+        return Err(Stop::Broken);
     };
     if !is_in_place(&closed.book, replicas, number) {
-        return Err(Stop::IMPOSSIBLE);
+        return Err(Stop::Broken);
     }
     Ok(closed.book)
 }
@@ -127,7 +127,7 @@ fn close_one(
 ///
 /// # Errors
 ///
-/// `IMPOSSIBLE` where a pass is missing, or a book is not that of the replica at its place.
+/// `Broken` where a pass is missing, or a book is not that of the replica at its place.
 /// `Memory` where memory was refused.
 fn close_books(
     alloc: Global,
@@ -166,7 +166,7 @@ pub(crate) fn close_run<S: Sink + Drop>(
     gather_jobs(&mut passes, jobs)?;
     let closed = close_books(alloc, books, &mut passes, plan.replicas)?;
     if closed.len() != plan.topology.partitions() as usize * plan.replicas as usize {
-        return Err(Stop::IMPOSSIBLE);
+        return Err(Stop::Broken);
     }
     Ok((closed, files))
 }

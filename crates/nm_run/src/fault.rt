@@ -18,7 +18,7 @@ pub enum RunFault {
     #[error("a trace file failed after {written} octets")]
     File { iface: IfaceNo, written: u64 },
     /// No replica can listen or wait, one was told what cannot be, or the gate said so. It is also
-    /// the fault of what cannot happen (`Stop::IMPOSSIBLE`).
+    /// the fault of what cannot happen (`Stop::Broken`).
     #[error("the network failed")]
     Net,
     /// Memory was refused.
@@ -41,6 +41,7 @@ impl From<Stop> for RunFault {
             Stop::Net => RunFault::Net,
             Stop::Memory => RunFault::Memory,
             Stop::Stalled { polls } => RunFault::Stalled { polls },
+            Stop::Broken => RunFault::Net,
         }
     }
 }

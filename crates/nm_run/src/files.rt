@@ -139,7 +139,7 @@ fn close_one<F: Outputs>(
 ///
 /// # Errors
 ///
-/// `File` where one was not closed, or has not as many octets. `IMPOSSIBLE` where there is none.
+/// `File` where one was not closed, or has not as many octets. `Broken` where there is none.
 /// `Memory` where memory was refused.
 pub(crate) fn close_all<F: Outputs>(
     alloc: Global,
@@ -163,7 +163,7 @@ pub(crate) fn close_all<F: Outputs>(
     for number in 0..folder.topology.ifaces().len() {
         let iface = IfaceNo::new(number as u32);
         let Some(file) = take_file(folder.topology, replicas, iface, &mut files) else {
-            return Err(Stop::IMPOSSIBLE);
+            return Err(Stop::Broken);
         };
         let one = close_one(alloc, folder, iface, &totals[number], outputs, file)?;
         closed.push(one)?;

@@ -9,15 +9,15 @@ ghost use Rattle.nm_rounds.specs.SameTopology.{SaysSame};
 ghost use Rattle.nm_run.specs.Report.{AreTotals, IsTotal};
 ghost use Rattle.nm_sim.specs.Network.{net_of};
 
-use crate::stop::Stop;
 use nm_base::{IfaceNo, Packet};
 use nm_book::Book;
 use nm_book::channels::partition_of;
 use nm_forward::NodeState;
 use nm_model::trace::interfaces_have_their_records;
+use nm_sim::network::every_topology_is_a_network;
 use nm_topology::Topology;
 use nm_topology::topology::accepted_topologies_are_in_order;
-use std::alloc::Global;
+use std::alloc::{AllocError, Global};
 
 /// How many records an interface has, and the octets of its trace file, which stop at 2^64 - 1.
 #[derive(Clone, Copy, Drop)]
@@ -47,34 +47,39 @@ fn totals_in(topology: &Topology, book: &Book, iface: IfaceNo) -> IfaceTotals
     IfaceTotals { records, octets }
 }
 
-/// The totals of an interface of certified books.
-///
-/// # Errors
-///
-/// `IMPOSSIBLE` where no book is of its partition, which no certified list of books is.
-fn totals_of(topology: &Topology, books: &[Book], iface: IfaceNo) -> Result<IfaceTotals, Stop>
+/// The totals of an interface of certified books, of which one is of its partition.
+fn totals_of(topology: &Topology, books: &[Book], iface: IfaceNo) -> IfaceTotals
     requires there { iface < length topology.now.ifaces }
     requires certified { AreCertified topology.now books.now }
-    ensures { IfOk result (IsTotal topology.now iface) }
+    ensures { IsTotal topology.now iface result }
 {
+    every_topology_is_a_network(topology); // law: an interface's partition is there
     let partition = partition_of(topology, iface);
     for number in 0..books.len() {
         if books[number].partition() == partition {
-            return Ok(totals_in(topology, &books[number], iface));
+            return totals_in(topology, &books[number], iface);
         }
     }
-    Err(Stop::IMPOSSIBLE)
+    unreachable!()
 }
 
 /// The report of certified books.
-pub(crate) fn report_of(alloc: Global, topology: &Topology, books: &[Book]) -> Result<Report, Stop>
+///
+/// # Errors
+///
+/// Where memory was refused.
+pub(crate) fn report_of(
+    alloc: Global,
+    topology: &Topology,
+    books: &[Book],
+) -> Result<Report, AllocError>
     requires { AreCertified topology.now books.now }
     ensures { IfOk result (λ report. AreTotals topology.now report.totals.items) }
 {
     accepted_topologies_are_in_order(topology); // law: there are few interfaces
     let mut totals = Vec::new(alloc);
     for number in 0..topology.ifaces().len() {
-        totals.push(totals_of(topology, books, IfaceNo::new(number as u32))?)?;
+        totals.push(totals_of(topology, books, IfaceNo::new(number as u32)))?;
     }
     Ok(Report { totals })
 }

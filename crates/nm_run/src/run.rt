@@ -62,7 +62,7 @@ fn share_one(
     let topology = Arc::try_clone(topology)?;
     match SharedBook::new(alloc, topology, role.partition, role.replica, counts, whole) {
         Ok(book) => Ok(book),
-        Err(BookFault::Refused(_)) => Err(Stop::IMPOSSIBLE),
+        Err(BookFault::Refused(_)) => Err(Stop::Broken),
         Err(BookFault::Memory) => Err(Stop::Memory),
     }
 }
@@ -254,7 +254,7 @@ where
 {
     let (board, owners, mut seats) = ClockBoard::new(alloc, plan.topology)?;
     let Some(seat) = seats.pop() else {
-        return Err(Stop::IMPOSSIBLE);
+        return Err(Stop::Broken);
     };
     let books = replicas.books.as_slice();
     let roles = replicas.roles.as_slice();
@@ -374,5 +374,8 @@ fn certified_report(
     ensures refused { IfErr result (HasReason topology.now replicas) }
 {
     certify_all(alloc, topology, books)?;
-    Ok(report_of(alloc, topology, books)?)
+    match report_of(alloc, topology, books) {
+        Ok(report) => Ok(report),
+        Err(AllocError) => Err(RunFault::Memory),
+    }
 }

@@ -13,18 +13,15 @@ use std::io::{self, ErrorKind};
 pub enum Stop {
     /// The trace file of this interface could not be made, or failed when it had so many octets.
     File { iface: IfaceNo, written: u64 },
-    /// The network failed, or what cannot happen did (`IMPOSSIBLE`).
+    /// The network failed.
     Net,
     /// Memory was refused.
     Memory,
     /// A replica made so many polls, and the last of them moved nothing.
     Stalled { polls: u64 },
-}
-
-impl Stop {
-    /// What the code rules out, and no contract does: no book, pass or address at an index that
-    /// was made with it.
-    pub(crate) const IMPOSSIBLE: Stop = Stop::Net;
+    /// What the code rules out, and no contract does: a replica, a pass or a trace file that was
+    /// made is not there.
+    Broken,
 }
 
 impl From<AllocError> for Stop {

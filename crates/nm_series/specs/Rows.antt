@@ -6,7 +6,7 @@ use Rattle.nm_model.specs.Run.{State, one_list}
 use Rattle.nm_topology.specs.PartValues.{IfaceValue}
 use Rattle.nm_topology.specs.TopologyValue.{TopologyValue}
 use Rattle.nm_sim.specs.Network.{net_of}
-use Rattle.nm_measure.specs.Amounts.{traffic_of, drops_of}
+use Rattle.nm_measure.specs.Amounts.{iface_traffic_of, drops_of}
 use Rattle.nm_measure.specs.declared.amounts.IfaceTraffic.{IfaceTraffic}
 use Rattle.nm_measure.specs.declared.totals.IfaceTotals.{IfaceTotals}
 use Rattle.nm_series.specs.declared.iface_rows.IfaceSeen.{IfaceSeen}
@@ -18,7 +18,7 @@ pub record Had : Type 0 where
 
 -- in this state of the run
 abbrev pub had : ℕ → State (List ℕ) NodeStateValue → Had
-had i s = record { traffic = traffic_of i s.records; dropped = drops_of i s }
+had i s = record { traffic = iface_traffic_of i s.records; dropped = drops_of i s }
 
 -- each interface's, by number
 pub record AreIfaceTotals (t : TopologyValue) (s : State (List ℕ) NodeStateValue)

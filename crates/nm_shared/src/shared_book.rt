@@ -30,7 +30,7 @@ pub struct Pass<C: Counts> {
 
 /// What lies under the lock: a book, its totals, and the parts that no pass has.
 #[derive(Drop)]
-pub struct Held<C: Counts> {
+pub struct Locked<C: Counts> {
     book: Book,
     counts: C,
     rest: C::Share,
@@ -51,7 +51,7 @@ pub struct Held<C: Counts> {
 /// with it is one act, in one go.
 #[derive(Drop)]
 pub struct SharedBook<C: Counts> {
-    lock: Mutex<Held<C>>,
+    lock: Mutex<Locked<C>>,
 }
 
 /// A book that no thread shares any more, with its totals.
@@ -67,11 +67,11 @@ pub struct Closed {
 /// Some pass is missing. All comes back: the book opens again by `SharedBook::again`.
 #[derive(Drop)]
 pub struct PassesOut<C: Counts> {
-    pub held: Held<C>,
+    pub held: Locked<C>,
     pub passes: Vec<Pass<C>>,
 }
 
-impl<C: Counts> Held<C> {
+impl<C: Counts> Locked<C> {
     /// One more pass.
     fn pass(&mut self) -> Result<Pass<C>, AllocError>
         ensures { IfOk result (λ p. (C.messages_of p.share ≡ 0) × (C.events_of p.share ≡ 0)) }
@@ -116,7 +116,7 @@ impl<C: Counts> Held<C> {
         if (passes.len() as u64) < self.made {
             return Err(PassesOut { held: self, passes });
         }
-        let Held {
+        let Locked {
             book,
             mut counts,
             rest,
@@ -209,7 +209,7 @@ impl<C: Counts> SharedBook<C> {
     {
         let book = Book::new(alloc, topology, partition, replica)?;
         Ok(SharedBook {
-            lock: Mutex::new(Held {
+            lock: Mutex::new(Locked {
                 book,
                 counts,
                 rest: whole,
@@ -220,7 +220,7 @@ impl<C: Counts> SharedBook<C> {
     }
 
     /// Shares again what came back.
-    pub fn again(held: Held<C>) -> SharedBook<C> {
+    pub fn again(held: Locked<C>) -> SharedBook<C> {
         SharedBook {
             lock: Mutex::new(held),
         }

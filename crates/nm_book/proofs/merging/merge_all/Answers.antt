@@ -19,10 +19,10 @@ returns-clause-book c =
     let reserved : IsBook t p knows c.reserve.new.self =
     still_book t p knows c.args.part.now c.reserve.new.self c.requires.book (λ s h. c.reserve.ensures.same t (Some p) s h) c.reserve.ensures.steps c.reserve.ensures.keeping in
     let follow : Follow t p knows messages = search rules in
-    let are_told : AreTold t p knows c.args.others.now (length knows) (told_each knows messages) = search rules in
-    let gains = subst (λ l. AreGains t p l c.args.others.now c.in_ok-gains.gains.items) c.deref-2.ensures.value c.in_ok-gains.ensures in
-    let joined : AreJoined t p knows c.args.others.now c.take_all.new.knows.items = c.take_all.ensures t p c.args.others.now gains in
-    joined_book t p knows c.args.others.now c.put_messages.new.part (told_each knows messages) c.take_all.new.knows.items c.requires.book.count
+    let are_told : AreTold t p knows c.args.others.now.knows (length knows) (told_each knows messages) = search rules in
+    let gains = subst (λ l. AreGains t p l c.args.others.now.knows c.in_ok-gains.gains.items) c.deref-2.ensures.value c.in_ok-gains.ensures in
+    let joined : AreJoined t p knows c.args.others.now.knows c.take_all.new.knows.items = c.take_all.ensures t p c.args.others.now.knows gains in
+    joined_book t p knows c.args.others.now.knows c.put_messages.new.part (told_each knows messages) c.take_all.new.knows.items c.requires.book.count
     (c.put_messages.ensures.book knows reserved follow) are_told joined
     (λ d there. (c.channels_are_numbered_by_their_receivers.ensures.inverse (receiving_iface t d) d (c.channels_are_numbered_by_their_receivers.ensures.there d there)).1 refl)
     (λ i comes. let found = c.channels_are_those_of_the_network.ensures.numbered p i comes in (found.0, found.1, found.2))
@@ -34,7 +34,7 @@ returns-clause-merges c =
     let t = c.args.topology.now in
     let p = c.args.partition in
     let knows = c.args.knows.now.items in
-    let gains = subst (λ l. AreGains t p l c.args.others.now c.in_ok-gains.gains.items) c.deref-2.ensures.value c.in_ok-gains.ensures in
-    let joined : AreJoined t p knows c.args.others.now c.take_all.new.knows.items = c.take_all.ensures t p c.args.others.now gains in
-    let joinable = subst (λ l. AreJoinable t p l c.args.others.now (length l)) c.deref.ensures.value c.in_ok-check_all.ensures in
+    let gains = subst (λ l. AreGains t p l c.args.others.now.knows c.in_ok-gains.gains.items) c.deref-2.ensures.value c.in_ok-gains.ensures in
+    let joined : AreJoined t p knows c.args.others.now.knows c.take_all.new.knows.items = c.take_all.ensures t p c.args.others.now.knows gains in
+    let joinable = subst (λ l. AreJoinable t p l c.args.others.now.knows (length l)) c.deref.ensures.value c.in_ok-check_all.ensures in
     (refl, joinable, joined)
