@@ -147,6 +147,6 @@ one_closed closed made names folder records n iface o closed_one first told =
 module _ (before after : InputsSeen) (made_before made : Option Files) where
   pub ends_all : (topology folder : List ℕ) (names : List (List ℕ)) (text : List ℕ) (files : Files) (r : Result Unit Status) → IsInput (before.text topology) text → AreAsked folder names text files
       → OnOk r (HasMade made_before made files) → HasMadeSome made_before made files → IfErr r (λ s. (s ≡ File) ⊎ (s ≡ Memory))
-      → MakesAll before after made_before made topology folder names (ended r)
+      → MakesAll (record { inputs = before; made = made_before }) (record { inputs = after; made = made }) (record { topology = topology; folder = folder; names = names }) (ended r)
   ends_all topology folder names text files (Ok _) input asked all some fault = inl (refl, (text, files, input, asked, all))
   ends_all topology folder names text files (Err s) input asked all some fault = inr (inr (fault, (text, files, input, asked, some)))

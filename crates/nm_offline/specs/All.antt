@@ -1,5 +1,5 @@
 -- The word `all`: the trace files of interfaces, by one event list.
-use Rattle.std.specs.Prelude.{◌≡◌, ◌⊎◌, Bool, ◌||◌, ℕ, nat_eq, if◌then◌else◌, List, [], ◌∷◌, All, is_some, length, position, Option, Some, None, Ok}
+use Rattle.std.specs.Prelude.{◌≡◌, ◌⊎◌, Bool, ◌||◌, ℕ, nat_eq, if◌then◌else◌, List, [], ◌∷◌, All, is_some, length, map, position, string_bytes, Option, Some, None, Ok}
 use Rattle.std.specs.List.{enumerate_from, flat_map}
 use Rattle.std.specs.Str.{bytes_eq}
 use Rattle.nm_base.specs.declared.record.Record.{Record}
@@ -8,13 +8,14 @@ use Rattle.nm_topology.specs.PartValues.{IfaceValue}
 use Rattle.nm_topology.specs.Topology.{topology_of}
 use Rattle.nm_topology.specs.TopologyValue.{TopologyValue}
 use Rattle.nm_sim.specs.Trace.{IsTraceBefore}
+use Rattle.nm_command.specs.declared.words.AllWords.{AllWords}
 use Rattle.nm_command.specs.declared.status.Status.{Status}
 use Rattle.nm_command.specs.declared.status.Status.TheVariants.{Done, NoInterface, File, Memory}
 use Rattle.nm_files.specs.Names.{file_name}
 use Rattle.nm_files.specs.Outputs.{Files, HasMade, HasMadeSome}
 use Rattle.nm_files.specs.TraceFile.{trace_file}
-use Rattle.nm_offline.specs.Input.{InputsSeen, IsInput, IsRefused}
-use Rattle.nm_offline.specs.Output.{FailsOfInput}
+use Rattle.nm_offline.specs.Input.{IsInput, IsRefused}
+use Rattle.nm_offline.specs.Output.{FailsOfInput, FilesSeen}
 use Rattle.nm_offline.specs.Traces.{iface_named}
 
 -- the file of an interface is asked for: its name is one of these, or there are no names
@@ -50,14 +51,29 @@ HasNoIfaces names text status = IsRefused text status
     × ((network : TopologyValue) × (topology_of text ≡ Ok network)
     × (All (λ name. iface_named network.ifaces (Some name) ≡ None → ⊥) names → ⊥)))
 
+-- what `all` is asked for: the input with the topology, the folder, and the names of interfaces
+pub record AllAsked : Type 0 where
+  pub topology : List ℕ
+  pub folder : List ℕ
+  pub names : List (List ℕ)
+
+abbrev pub all_asked : AllWords → AllAsked
+all_asked w = record {
+  topology = w.topology.now;
+  folder = w.folder.now;
+  names = map (λ n. string_bytes n) w.ifaces.now;
+}
+
 -- What each status says. Where a file failed or memory was refused, the files that were made are
 -- the first of those asked for.
-module _ (before after : InputsSeen) (made_before made : Option Files) where
-  abbrev pub MakesAll : List ℕ → List ℕ → List (List ℕ) → Status → Type 0
-  MakesAll topology folder names status =
-      ((status ≡ Done) × ((text : List ℕ) × (files : Files) × IsInput (before.text topology) text
-      × AreAsked folder names text files × HasMade made_before made files))
-      ⊎ (FailsOfInput before after topology (HasNoIfaces names) status × (made ≡ made_before))
+module _ (before after : FilesSeen) where
+  abbrev pub MakesAll : AllAsked → Status → Type 0
+  MakesAll asked status =
+      ((status ≡ Done) × ((text : List ℕ) × (files : Files)
+      × IsInput (before.inputs.text asked.topology) text
+      × AreAsked asked.folder asked.names text files × HasMade before.made after.made files))
+      ⊎ (FailsOfInput before.inputs after.inputs asked.topology (HasNoIfaces asked.names) status
+      × (after.made ≡ before.made))
       ⊎ (((status ≡ File) ⊎ (status ≡ Memory))
-      × ((text : List ℕ) × (files : Files) × IsInput (before.text topology) text
-      × AreAsked folder names text files × HasMadeSome made_before made files))
+      × ((text : List ℕ) × (files : Files) × IsInput (before.inputs.text asked.topology) text
+      × AreAsked asked.folder asked.names text files × HasMadeSome before.made after.made files))

@@ -1,8 +1,9 @@
 -- What a word says, and how the program ends with it.
-use Rattle.std.specs.Prelude.{◌≡◌, ◌⊎◌, ℕ, List}
+use Rattle.std.specs.Prelude.{◌≡◌, ◌⊎◌, ℕ, List, Option}
 use Rattle.nm_base.specs.Sink.{SinkSeen, WroteAll, WrotePrefix}
 use Rattle.nm_command.specs.declared.status.Status.{Status}
 use Rattle.nm_command.specs.declared.status.Status.TheVariants.{File}
+use Rattle.nm_files.specs.Outputs.{Files}
 use Rattle.nm_files.specs.Writing.{WrotePart}
 use Rattle.nm_offline.specs.Input.{CountedInputs, InputTexts, InputsSeen, IsInput, IsUnread, inputs_seen}
 
@@ -23,6 +24,17 @@ abbrev pub exchange : {I S : Type 0} → (texts : I → InputTexts) → (seen : 
     → CountedInputs I → S → Exchange S
 exchange texts seen inputs sink =
     record { inputs = inputs_seen texts inputs; output = output_seen seen sink }
+
+-- what a word that makes files has to do with, before it or after it: the inputs, and the files
+-- that were placed so far, where that is told
+pub record FilesSeen : Type 0 where
+  pub inputs : InputsSeen
+  pub made : Option Files
+
+abbrev pub files_seen : {I F : Type 0} → (texts : I → InputTexts) → (made : F → Option Files)
+    → CountedInputs I → F → FilesSeen
+files_seen texts made inputs outputs =
+    record { inputs = inputs_seen texts inputs; made = made outputs }
 
 -- these octets are said with this status, of the text that the input of a name has
 abbrev pub SaysOfInput : InputsSeen → (name : List ℕ) → (List ℕ → Status → List ℕ → Type 0)

@@ -15,9 +15,9 @@ ghost use Rattle.nm_files.specs.Outputs.{AreWhole, HasMade, HasMadeSome};
 ghost use Rattle.nm_sim.specs.Trace.{IsTraceBefore};
 ghost use Rattle.nm_sim.specs.Tracing.{IsTracing};
 ghost use Rattle.nm_topology.specs.PartValues.{IfaceValue};
-ghost use Rattle.nm_offline.specs.All.{MakesAll, is_asked_for, wanted_files};
+ghost use Rattle.nm_offline.specs.All.{MakesAll, all_asked, is_asked_for, wanted_files};
 ghost use Rattle.nm_offline.specs.Held.{AreHeld, HasOpened, HoldsFile, IsClosedAs};
-ghost use Rattle.nm_offline.specs.Input.{inputs_seen};
+ghost use Rattle.nm_offline.specs.Output.{files_seen};
 ghost use Rattle.nm_offline.specs.Traces.{iface_named};
 
 use crate::closed::push_some;
@@ -269,10 +269,8 @@ fn make_all<I: Inputs, F: Outputs>(
     outputs: &mut F,
     progress: &Progress,
 ) -> Result<(), Status>
-    ensures { MakesAll (inputs_seen I.seen inputs.old) (inputs_seen I.seen inputs.new)
-        (F.made outputs.old) (F.made outputs.new)
-        words.now.topology.now words.now.folder.now
-        (map (λ n. string_bytes n) words.now.ifaces.now) (ended result) }
+    ensures { MakesAll (files_seen I.seen F.made inputs.old outputs.old)
+        (files_seen I.seen F.made inputs.new outputs.new) (all_asked words.now) (ended result) }
 {
     let network = read_topology(alloc, inputs, words.topology)?;
     find_ifaces(&network, words.ifaces)?;
@@ -295,10 +293,8 @@ pub fn write_all_traces<I: Inputs, F: Outputs>(
     outputs: &mut F,
     progress: &Progress,
 ) -> Status
-    ensures { MakesAll (inputs_seen I.seen inputs.old) (inputs_seen I.seen inputs.new)
-        (F.made outputs.old) (F.made outputs.new)
-        words.now.topology.now words.now.folder.now
-        (map (λ n. string_bytes n) words.now.ifaces.now) result }
+    ensures { MakesAll (files_seen I.seen F.made inputs.old outputs.old)
+        (files_seen I.seen F.made inputs.new outputs.new) (all_asked words.now) result }
 {
     Status::of(make_all(alloc, words, inputs, outputs, progress))
 }

@@ -1,15 +1,13 @@
 -- How the program ends, and why.
 use Rattle.std.specs.Prelude.{◌≡◌, Bool, false, Option, Some, None}
-use Rattle.nm_base.specs.Sink.{SinkSeen}
 use Rattle.nm_command.specs.declared.status.Status.{Status}
 use Rattle.nm_command.specs.declared.status.Status.TheVariants.{Done, Usage, File}
 use Rattle.nm_command.specs.Command.{CommandValue, Trace, All, Rounds, Script, Check, Show, Text, Series, Packets, Path, Run, Node}
 use Rattle.nm_program.specs.Node.{EndsNode}
-use Rattle.nm_files.specs.Outputs.{Files}
-use Rattle.nm_offline.specs.Input.{CountedInputs, InputTexts}
-use Rattle.nm_offline.specs.Output.{Exchange, exchange}
+use Rattle.nm_offline.specs.Output.{Exchange}
 use Rattle.nm_offline.specs.Rounds.{EndsRounds}
 use Rattle.nm_program.specs.Run.{EndsRun}
+use Rattle.nm_program.specs.Surroundings.{Surroundings, files_of}
 use Rattle.nm_offline.specs.All.{MakesAll}
 use Rattle.nm_offline.specs.Check.{EndsCheck}
 use Rattle.nm_offline.specs.Packets.{EndsPackets}
@@ -18,18 +16,6 @@ use Rattle.nm_offline.specs.Script.{EndsScript}
 use Rattle.nm_offline.specs.Series.{EndsSeries}
 use Rattle.nm_offline.specs.Shown.{EndsShown, EndsText}
 use Rattle.nm_offline.specs.Traces.{EndsTrace}
-
--- what the program has to do with, before it or after it: the inputs and the output, and the files
--- that were placed so far, where that is told
-pub record Surroundings (S : Type 0) : Type 0 where
-  pub exchange : Exchange S
-  pub made : Option Files
-
-abbrev pub surroundings : {I S F : Type 0} → (texts : I → InputTexts)
-    → (seen : S → SinkSeen) → (made : F → Option Files)
-    → CountedInputs I → S → F → Surroundings S
-surroundings texts seen made inputs sink outputs =
-    record { exchange = exchange texts seen inputs sink; made = made outputs }
 
 -- What each status says of a command. Words that are no command are `Usage`. Only `all`, `run` and
 -- `node` make files.
@@ -43,8 +29,8 @@ module _ {S : Type 0} (before after : Surroundings S) where
   ProgramEnds (Some (Trace form ways topology iface)) status =
       MakesNone (λ old new. EndsTrace old new form ways topology iface status)
   ProgramEnds (Some (All topology folder ifaces)) status =
-      MakesAll before.exchange.inputs after.exchange.inputs before.made after.made
-      topology folder ifaces status
+      MakesAll (files_of before) (files_of after)
+      (record { topology = topology; folder = folder; names = ifaces }) status
       × (after.exchange.output ≡ before.exchange.output)
   ProgramEnds (Some (Rounds topology max)) status =
       MakesNone (λ old new. EndsRounds old new topology max status)
@@ -63,10 +49,17 @@ module _ {S : Type 0} (before after : Surroundings S) where
   ProgramEnds (Some (Path topology node address)) status =
       MakesNone (λ old new. EndsPath old new topology node address status)
   ProgramEnds (Some (Run topology folder workers replicas)) status =
-      EndsRun before.exchange after.exchange before.made after.made topology replicas status
+      EndsRun before after topology replicas status
   ProgramEnds (Some (Node topology folder partition replica addresses)) status =
-      EndsNode before.exchange after.exchange before.made after.made
-      topology folder partition replica addresses status
+      EndsNode before after
+      (record {
+        topology = topology;
+        folder = folder;
+        partition = partition;
+        replica = replica;
+        addresses = addresses;
+      })
+      status
 
 -- the status once the output was handed on, or was not: what was written is no more than held back
 -- then

@@ -1,3 +1,4 @@
+pub mod Ending
 pub mod Node
 pub mod Run
-pub mod Ending
+pub mod Surroundings

@@ -13,11 +13,13 @@ use Rattle.nm_book.specs.Book.{BookValue, state_of}
 use Rattle.nm_peers.specs.Listeners.{AreListeners}
 use Rattle.nm_peers.specs.declared.listener.Listener.{Listener}
 use Rattle.nm_process.specs.Process.{IsDoneReplica}
+use Rattle.nm_command.specs.declared.words.NodeWords.{NodeWords}
 use Rattle.nm_command.specs.declared.status.Status.{Status}
 use Rattle.nm_command.specs.declared.status.Status.TheVariants.{Done, Usage, File, Memory, Stalled}
 use Rattle.nm_offline.specs.Input.{InputsSeen, IsInput, IsRefused}
 use Rattle.nm_offline.specs.Lines.{iface_line}
-use Rattle.nm_offline.specs.Output.{EndsWord, Exchange, FailsOfInputs, SaysOfInputs}
+use Rattle.nm_offline.specs.Output.{EndsWord, FailsOfInputs, FilesSeen, SaysOfInputs}
+use Rattle.nm_program.specs.Surroundings.{Surroundings, files_of}
 use Rattle.nm_files.specs.Names.{file_name}
 use Rattle.nm_files.specs.Outputs.{Files, HasMade}
 use Rattle.nm_files.specs.TraceFile.{trace_file}
@@ -88,30 +90,49 @@ abbrev pub StopsNode : (before after : Option Files) → Status → Type 0
 StopsNode before after status =
     (status ≡ File) ⊎ (status ≡ Memory) ⊎ ((status ≡ Stalled) × (after ≡ before))
 
-module _ (partition replica : ℕ) (made_before made : Option Files) where
-  -- it is said once its files are made
-  abbrev pub SaysServed : (folder text addresses : List ℕ) → Status → List ℕ → Type 0
-  SaysServed folder text addresses status octets = (lines : List ℕ) × (files : Files)
-      × IsNodeDone text addresses folder partition replica lines files
-      × HasMade made_before made files × SaysLines lines status octets
+-- it is said once its files are made
+abbrev pub SaysServed : (partition replica : ℕ) (made_before made : Option Files)
+    (folder text addresses : List ℕ) → Status → List ℕ → Type 0
+SaysServed partition replica made_before made folder text addresses status octets =
+    (lines : List ℕ) × (files : Files)
+    × IsNodeDone text addresses folder partition replica lines files
+    × HasMade made_before made files × SaysLines lines status octets
 
-  -- Why nothing is said of two inputs: no replica was served, and no file was made; or they are a
-  -- network and its listeners, and the replica was served, and has no files, or not all.
-  abbrev pub FailsNode : (before after : InputsSeen) (topology addresses : List ℕ) → Status → Type 0
-  FailsNode before after topology addresses status =
-      (FailsOfInputs before after topology addresses (IsNotServed partition replica) status
-      × (made ≡ made_before))
-      ⊎ ((network : TopologyValue) × (listeners : List Listener)
-      × HasListeners before topology addresses partition replica network listeners
-      × StopsNode made_before made status)
+-- what `node` is asked for: the input with the topology, the folder, which replica, and the input
+-- with the addresses
+pub record NodeAsked : Type 0 where
+  pub topology : List ℕ
+  pub folder : List ℕ
+  pub partition : ℕ
+  pub replica : ℕ
+  pub addresses : List ℕ
+
+abbrev pub node_asked : NodeWords → NodeAsked
+node_asked w = record {
+  topology = w.topology.now;
+  folder = w.folder.now;
+  partition = w.partition;
+  replica = w.replica;
+  addresses = w.addresses.now;
+}
+
+-- Why nothing is said of two inputs: no replica was served, and no file was made; or they are a
+-- network and its listeners, and the replica was served, and has no files, or not all.
+abbrev pub FailsNode : (before after : FilesSeen) → NodeAsked → Status → Type 0
+FailsNode before after asked status =
+    (FailsOfInputs before.inputs after.inputs asked.topology asked.addresses
+    (IsNotServed asked.partition asked.replica) status × (after.made ≡ before.made))
+    ⊎ ((network : TopologyValue) × (listeners : List Listener)
+    × HasListeners before.inputs asked.topology asked.addresses asked.partition asked.replica
+    network listeners
+    × StopsNode before.made after.made status)
 
 -- What each status says. Files are made only once the replica is done, whether it was stalled then
 -- or not; what files there are after a failure is not said, nor where memory was refused.
-module _ {S : Type 0} (before after : Exchange S) (made_before made : Option Files) where
-  abbrev pub EndsNode : (topology folder : List ℕ) (partition replica : ℕ) (addresses : List ℕ)
-      → Status → Type 0
-  EndsNode topology folder partition replica addresses status =
-      EndsWord before after (SaysOfInputs before.inputs topology addresses
-      (SaysServed partition replica made_before made folder))
-      (FailsNode partition replica made_before made before.inputs after.inputs topology addresses)
-      status
+module _ {S : Type 0} (before after : Surroundings S) (asked : NodeAsked) where
+  abbrev pub EndsNode : Status → Type 0
+  EndsNode status =
+      EndsWord before.exchange after.exchange
+      (SaysOfInputs before.exchange.inputs asked.topology asked.addresses
+      (SaysServed asked.partition asked.replica before.made after.made asked.folder))
+      (FailsNode (files_of before) (files_of after) asked) status

@@ -12,9 +12,10 @@ use Rattle.nm_run.specs.Report.{IsNotCertified}
 use Rattle.nm_command.specs.declared.status.Status.{Status}
 use Rattle.nm_command.specs.declared.status.Status.TheVariants.{Done, File, Memory, NotCertified, Stalled}
 use Rattle.nm_files.specs.Outputs.{Files}
-use Rattle.nm_offline.specs.Input.{HasTopology, InputsSeen, IsRefused}
+use Rattle.nm_offline.specs.Input.{HasTopology, IsRefused}
 use Rattle.nm_offline.specs.Lines.{iface_lines}
-use Rattle.nm_offline.specs.Output.{EndsWord, Exchange, FailsOfInput, SaysOfInput}
+use Rattle.nm_offline.specs.Output.{EndsWord, FailsOfInput, FilesSeen, SaysOfInput}
+use Rattle.nm_program.specs.Surroundings.{Surroundings, files_of}
 
 -- Books of all partitions were certified. Each interface has what it has in the trace of the one
 -- event list, over the whole run.
@@ -46,16 +47,18 @@ SaysRun text status octets = (status ≡ Done) × SaysCertified text octets
 
 -- Why nothing is said of an input: there is no network, and no file was made; or it is that of a
 -- network, whose run stopped.
-module _ (before after : InputsSeen) (made_before made : Option Files) where
+module _ (before after : FilesSeen) where
   abbrev pub FailsRun : (topology : List ℕ) → (replicas : ℕ) → Status → Type 0
   FailsRun topology replicas status =
-      (FailsOfInput before after topology IsRefused status × (made ≡ made_before))
-      ⊎ ((network : TopologyValue) × HasTopology before topology network
-      × StopsRun network replicas made_before made status)
+      (FailsOfInput before.inputs after.inputs topology IsRefused status
+      × (after.made ≡ before.made))
+      ⊎ ((network : TopologyValue) × HasTopology before.inputs topology network
+      × StopsRun network replicas before.made after.made status)
 
 -- What each status says. Files are made once the books are certified; what is in them is not said.
-module _ {S : Type 0} (before after : Exchange S) (made_before made : Option Files) where
+module _ {S : Type 0} (before after : Surroundings S) where
   abbrev pub EndsRun : (topology : List ℕ) → (replicas : ℕ) → Status → Type 0
   EndsRun topology replicas status =
-      EndsWord before after (SaysOfInput before.inputs topology SaysRun)
-      (FailsRun before.inputs after.inputs made_before made topology replicas) status
+      EndsWord before.exchange after.exchange
+      (SaysOfInput before.exchange.inputs topology SaysRun)
+      (FailsRun (files_of before) (files_of after) topology replicas) status

@@ -8,8 +8,9 @@ ghost use Rattle.nm_base.specs.declared.limits.TheConstants.{MAX_TIME};
 ghost use Rattle.nm_book.specs.Book.{state_of};
 ghost use Rattle.nm_process.specs.Process.{IsDoneReplica};
 ghost use Rattle.nm_offline.specs.Input.{inputs_seen};
-ghost use Rattle.nm_offline.specs.Output.{SaysOfInputs, exchange};
-ghost use Rattle.nm_program.specs.Node.{EndsNode, FailsNode, SaysServed, StopsNode};
+ghost use Rattle.nm_offline.specs.Output.{SaysOfInputs, files_seen};
+ghost use Rattle.nm_program.specs.Node.{EndsNode, FailsNode, SaysServed, StopsNode, node_asked};
+ghost use Rattle.nm_program.specs.Surroundings.{surroundings};
 ghost use Rattle.nm_program.specs.Node.{own_files, own_line, own_lines};
 ghost use Rattle.nm_command.specs.declared.status.Status.TheVariants.{Done, File, Memory, Stalled};
 ghost use Rattle.nm_files.specs.Outputs.{HasMade};
@@ -192,10 +193,8 @@ fn node_said<I: Inputs, F: Outputs, R: Net + Wait + Clock + Drop + Copy>(
         (SaysServed words.now.partition words.now.replica
         (F.made outputs.old) (F.made outputs.new) words.now.folder.now)
         output.status output.text.items) }
-    ensures fault { IfErr result (λ status. FailsNode words.now.partition words.now.replica
-        (F.made outputs.old) (F.made outputs.new)
-        (inputs_seen I.seen inputs.old) (inputs_seen I.seen inputs.new)
-        words.now.topology.now words.now.addresses.now status) }
+    ensures fault { IfErr result (FailsNode (files_seen I.seen F.made inputs.old outputs.old)
+        (files_seen I.seen F.made inputs.new outputs.new) (node_asked words.now)) }
 {
     let (network, listeners) = read_both(means.alloc, inputs, words)?;
     serve(means, &network, listeners.as_slice(), words, outputs)
@@ -210,11 +209,9 @@ pub(crate) fn say_node<I: Inputs, F: Outputs, O: Sink + Drop, R: Net + Wait + Cl
     outputs: &mut F,
     out: O,
 ) -> (Status, O)
-    ensures { EndsNode (exchange I.seen O.seen inputs.old out)
-        (exchange I.seen O.seen inputs.new result.1)
-        (F.made outputs.old) (F.made outputs.new)
-        words.now.topology.now words.now.folder.now words.now.partition words.now.replica
-        words.now.addresses.now result.0 }
+    ensures { EndsNode (surroundings I.seen O.seen F.made inputs.old out outputs.old)
+        (surroundings I.seen O.seen F.made inputs.new result.1 outputs.new)
+        (node_asked words.now) result.0 }
 {
     end(node_said(means, words, inputs, outputs), out)
 }

@@ -5,7 +5,8 @@ ghost use Rattle.nm_base.specs.Sink.{HasNotFailed, HasTaken};
 ghost use Rattle.nm_command.specs.Command.{command_of};
 ghost use Rattle.nm_command.specs.Status.{line_of};
 ghost use Rattle.nm_command.specs.declared.status.Status.TheVariants.{Done, File};
-ghost use Rattle.nm_program.specs.Ending.{ProgramEnds, status_handed_on, surroundings};
+ghost use Rattle.nm_program.specs.Ending.{ProgramEnds, status_handed_on};
+ghost use Rattle.nm_program.specs.Surroundings.{surroundings};
 
 use crate::means::Means;
 use crate::node::say_node;

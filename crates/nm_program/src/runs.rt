@@ -15,8 +15,9 @@ ghost use Rattle.nm_topology.specs.Topology.{topology_of};
 ghost use Rattle.nm_topology.specs.TopologyValue.{TopologyValue};
 ghost use Rattle.nm_offline.specs.Input.{inputs_seen};
 ghost use Rattle.nm_offline.specs.Lines.{iface_line, iface_lines};
-ghost use Rattle.nm_offline.specs.Output.{SaysOfInput, exchange};
+ghost use Rattle.nm_offline.specs.Output.{SaysOfInput, files_seen};
 ghost use Rattle.nm_program.specs.Run.{EndsRun, FailsRun, SaysCertified, SaysRun, StopsRun};
+ghost use Rattle.nm_program.specs.Surroundings.{surroundings};
 
 use crate::means::Means;
 use nm_base::{IfaceNo, Sink, push_text};
@@ -150,10 +151,9 @@ where
     ensures said { IfOk result (λ output. SaysOfInput (inputs_seen I.seen inputs.old)
         words.now.topology.now
         SaysRun output.status output.text.items) }
-    ensures fault { IfErr result (λ status. FailsRun
-        (inputs_seen I.seen inputs.old) (inputs_seen I.seen inputs.new)
-        (F.made outputs.old) (F.made outputs.new)
-        words.now.topology.now words.now.replicas status) }
+    ensures fault { IfErr result (FailsRun (files_seen I.seen F.made inputs.old outputs.old)
+        (files_seen I.seen F.made inputs.new outputs.new)
+        words.now.topology.now words.now.replicas) }
 {
     let network = read_shared(means.alloc, inputs, words.topology)?;
     run_network(means, &network, words, outputs)
@@ -171,10 +171,9 @@ pub(crate) fn say_run<I: Inputs, F: Outputs, O: Sink + Drop, R: Runtime>(
 where
     F::File: Send,
     requires { (1 ≤ words.now.workers) × (words.now.workers ≤ MAX_WORKERS) }
-    ensures { EndsRun (exchange I.seen O.seen inputs.old out)
-        (exchange I.seen O.seen inputs.new result.1)
-        (F.made outputs.old) (F.made outputs.new) words.now.topology.now
-        words.now.replicas result.0 }
+    ensures { EndsRun (surroundings I.seen O.seen F.made inputs.old out outputs.old)
+        (surroundings I.seen O.seen F.made inputs.new result.1 outputs.new)
+        words.now.topology.now words.now.replicas result.0 }
 {
     end(run_said(means, words, inputs, outputs), out)
 }

@@ -1,5 +1,6 @@
 use Rattle.std.proofs.Common.{subst}
-use Rattle.nm_program.specs.Ending.{ProgramEnds, surroundings}
+use Rattle.nm_program.specs.Ending.{ProgramEnds}
+use Rattle.nm_program.specs.Surroundings.{surroundings}
 use Rattle.nm_program.proofs.program.perform.Goals as goal
 
 pub returns-in-Some-Run : goal.returns-in-Some-Run
