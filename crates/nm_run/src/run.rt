@@ -84,15 +84,15 @@ fn share_all(alloc: Global, plan: &RunPlan<'_>) -> Result<Replicas, Stop> {
     Ok(Replicas { roles, books })
 }
 
-/// A pass of each book.
+/// A pass of the book of each replica.
 fn passes_of<R: Wait>(
     rt: &R,
     alloc: Global,
-    books: &[SharedBook<Plain>],
+    stations: &[Station<'_>],
 ) -> Result<Vec<Pass<Plain>>, AllocError> {
-    let mut passes = Vec::with_capacity(alloc, books.len())?;
-    for book in books {
-        passes.push(book.pass(rt)?)?;
+    let mut passes = Vec::with_capacity(alloc, stations.len())?;
+    for station in stations {
+        passes.push(station.book.pass(rt)?)?;
     }
     Ok(passes)
 }
@@ -103,7 +103,6 @@ struct Opened<'a> {
     alloc: Global,
     plan: &'a RunPlan<'a>,
     /// By partition and replica.
-    books: &'a [SharedBook<Plain>],
     stations: &'a [Station<'a>],
     listeners: &'a [Listener],
 }
@@ -142,7 +141,7 @@ fn holdings_of<'a, F: Outputs, R: Wait>(
     };
     Ok(Holdings {
         pass: station.book.pass(rt)?,
-        passes: passes_of(rt, opened.alloc, opened.books)?,
+        passes: passes_of(rt, opened.alloc, opened.stations)?,
         seats,
         files,
     })
@@ -263,7 +262,6 @@ where
     let opened = Opened {
         alloc,
         plan: &*plan,
-        books,
         stations: stations.as_slice(),
         listeners: listeners.as_slice(),
     };

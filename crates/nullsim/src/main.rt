@@ -57,9 +57,8 @@ struct Ended {
     is_silent: bool,
 }
 
-/// The program over the files and the network of the system, up to its exit status. On a terminal
-/// more is said of a fault.
-fn perform<N: Runtime, E: Sink>(
+/// The program up to its exit status. On a terminal more is said of a fault.
+fn with_hint<N: Runtime, E: Sink>(
     rt: &HostRuntime,
     system: &N,
     words: &[String],
@@ -67,7 +66,7 @@ fn perform<N: Runtime, E: Sink>(
     progress: &Progress,
 ) -> Ended {
     let noted = Noted::new();
-    let status = perform_noted(rt, system, words, errors, progress, &noted);
+    let status = over_system(rt, system, words, errors, progress, &noted);
     if rt.stderr().is_terminal() {
         say_more(status, &noted, errors);
     }
@@ -77,8 +76,8 @@ fn perform<N: Runtime, E: Sink>(
     }
 }
 
-/// As `perform`, and notes what went wrong at the system.
-fn perform_noted<N: Runtime, E: Sink>(
+/// The program over the files and the network of the system, where it is noted what went wrong.
+fn over_system<N: Runtime, E: Sink>(
     rt: &HostRuntime,
     system: &N,
     words: &[String],
@@ -102,8 +101,8 @@ fn perform_noted<N: Runtime, E: Sink>(
     conclude(status, out.flush().is_ok(), errors)
 }
 
-/// As `perform`, while a line on the terminal says how far it is.
-fn perform_watched<N: Runtime>(
+/// The same, while a line on the terminal says how far it is.
+fn with_line<N: Runtime>(
     rt: &HostRuntime,
     system: &N,
     words: &[String],
@@ -114,7 +113,7 @@ fn perform_watched<N: Runtime>(
         system,
         || watch(system, rt.alloc(), &progress, &over, &mut rt.stderr()),
         || {
-            let ended = perform(rt, system, words, said, &progress);
+            let ended = with_hint(rt, system, words, said, &progress);
             over.tell(system);
             ended
         },
@@ -122,8 +121,8 @@ fn perform_watched<N: Runtime>(
     ended
 }
 
-/// As `perform`, while it is counted what each replica does, and told.
-fn perform_told<N: Runtime>(
+/// The same, while it is counted what each replica does, and told.
+fn with_stats<N: Runtime>(
     rt: &HostRuntime,
     system: &N,
     words: &[String],
@@ -147,7 +146,7 @@ fn perform_told<N: Runtime>(
             &mut rt.stderr(),
         ),
         || {
-            let ended = perform(rt, system, words, said, &progress);
+            let ended = with_hint(rt, system, words, said, &progress);
             over.tell(system);
             ended
         },
@@ -155,9 +154,9 @@ fn perform_told<N: Runtime>(
     ended
 }
 
-/// As `perform`. What is said of errors follows at the end, when a line on the terminal is gone; it
-/// does not where nobody reads the output any more.
-fn perform_quietly<N: Runtime>(
+/// The same. What is said of errors follows at the end, when a line on the terminal is gone; it does
+/// not where nobody reads the output any more.
+fn unless_closed<N: Runtime>(
     rt: &HostRuntime,
     system: &N,
     words: &[String],
@@ -165,11 +164,11 @@ fn perform_quietly<N: Runtime>(
     errors: &mut StdSink<Stderr>,
 ) -> Status {
     let ended = if let Some(asked) = told_words(words) {
-        perform_told(rt, system, asked, said)
+        with_stats(rt, system, asked, said)
     } else if rt.stderr().is_terminal() {
-        perform_watched(rt, system, words, said)
+        with_line(rt, system, words, said)
     } else {
-        perform(rt, system, words, said, &Progress::new())
+        with_hint(rt, system, words, said, &Progress::new())
     };
     if !ended.is_silent {
         let _ = write_all(errors, said.octets());
@@ -229,7 +228,7 @@ where
         return say(rt, text);
     }
     match MemSink::new(rt.alloc(), MAX_ERROR_OCTETS) {
-        Ok(mut said) => perform_quietly(rt, system, words.as_slice(), &mut said, &mut errors),
+        Ok(mut said) => unless_closed(rt, system, words.as_slice(), &mut said, &mut errors),
         Err(_) => report(Status::Memory, &mut errors),
     }
 }
