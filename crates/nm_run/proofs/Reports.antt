@@ -1,5 +1,6 @@
 -- The totals of interfaces in certified books.
-use Rattle.std.proofs.Common.{◌≡◌, ◌⊎◌, inl, inr, ℕ, zero, suc, ◌+◌, ◌==◌, ◌<◌, min, ltb, true, if◌then◌else◌, length, List, [], ◌∷◌, map, slice_get, Option, Some, None, refl, sym, ◌∙◌, ap, subst, arith}
+use Rattle.std.proofs.Common.{◌≡◌, ◌⊎◌, inl, inr, ℕ, zero, suc, ◌+◌, ◌==◌, ◌<◌, min, ltb, true, false, if◌then◌else◌, length, List, [], ◌∷◌, map, slice_get, Option, Some, None, refl, sym, ◌∙◌, ap, subst, arith}
+use Rattle.std.proofs.lemmas.Bool.Decides.{nat_tests}
 use Rattle.nm_base.specs.Count.{saturated}
 use Rattle.nm_base.specs.declared.record.Record.{Record}
 use Rattle.nm_model.specs.Before.{IsBefore, trace}
@@ -54,8 +55,14 @@ none_more books n p b none here apart i x low at is = go (below_or_at i n (omega
     go (inl below) = none i x below at is
     go (inr same) = apart (ap (entry p) (sym here ∙ ap (slice_get books) (sym same) ∙ at) ∙ is)
 
+-- a book is not of a partition that is another one
+pub apart_by : (a b : ℕ) → (a == b) ≡ false → a ≡ b → ⊥
+apart_by a b h e =
+    let same : (a == b) ≡ true = grind (arith, nat_tests, e) in
+    let wrong : true ≡ false = sym same ∙ h in cc
+
 -- the book that the model finds
-part_of : ℕ → Option (Book (List ℕ)) → ℕ
+abbrev part_of : ℕ → Option (Book (List ℕ)) → ℕ
 part_of d None = d
 part_of d (Some b) = b.part
 
@@ -65,4 +72,4 @@ book_there [] i m p at is = absurd (let none : None ≡ Some m = at in cc)
 book_there (b ∷ books) zero m p at is = (0, b, omega arith, refl, ap (part_of p) at ∙ is)
 book_there (b ∷ books) (suc i) m p at is =
     let found = book_there books i m p at is in
-    (suc found.0, found.1, let low = found.2.0 in omega (arith, low), found.2.1, found.2.2)
+    (suc found.0, found.1, let low = found.2 in omega (arith, low), found.3, found.4)

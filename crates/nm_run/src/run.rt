@@ -150,8 +150,8 @@ fn holdings_of<'a, F: Outputs, R: Wait>(
 /// A replica that is to run.
 fn side_of<'a, F: Outputs, R: Wait>(
     rt: &R,
-    opened: &Opened<'a>,
-    station: &'a Station<'a>,
+    opened: &Opened<'_>,
+    station: &Station<'_>,
     post: Post,
     seats: OwnSeats<'a>,
     outputs: &mut F,
@@ -168,7 +168,7 @@ fn side_of<'a, F: Outputs, R: Wait>(
         opened.listeners,
     )?;
     Ok(Side {
-        station,
+        role: station.role,
         holdings: holdings_of(rt, opened, station, seats, outputs)?,
         post,
         peers,
@@ -178,7 +178,7 @@ fn side_of<'a, F: Outputs, R: Wait>(
 /// All replicas.
 fn sides_of<'a, F: Outputs, R: Wait>(
     rt: &R,
-    opened: &Opened<'a>,
+    opened: &Opened<'_>,
     seats: OwnSeats<'a>,
     posts: Vec<Post>,
     outputs: &mut F,
@@ -259,10 +259,11 @@ where
     let roles = replicas.roles.as_slice();
     let (stations, posts) = open_stations(rt, alloc, plan.topology, roles, books)?;
     let listeners = listeners_of(alloc, posts.as_slice())?;
+    let stations = stations.as_slice();
     let opened = Opened {
         alloc,
         plan: &*plan,
-        stations: stations.as_slice(),
+        stations,
         listeners: listeners.as_slice(),
     };
     let seats = OwnSeats::all(&board, owners);
@@ -273,7 +274,7 @@ where
         alloc,
         topology: &*plan.topology,
         books,
-        stations: stations.as_slice(),
+        stations,
         board: &board,
         dispatcher: &waker,
         ended: &ended,

@@ -12,7 +12,7 @@ use crate::dispatching::{Dispatcher, dispatch};
 use crate::gates::SideGate;
 use crate::posts::Post;
 use crate::runtime::Runtime;
-use crate::stations::Station;
+use crate::stations::Role;
 use crate::stop::Stop;
 use crate::threads::Threaded;
 use nm_base::{PartNo, Sink};
@@ -40,7 +40,7 @@ const OWN_EVENTS: u64 = 128;
 /// A replica that is to run.
 #[derive(Drop)]
 pub(crate) struct Side<'a, S> {
-    pub station: &'a Station<'a>,
+    pub role: Role,
     pub holdings: Holdings<'a, Plain, S>,
     pub post: Post,
     pub peers: Peers,
@@ -77,7 +77,7 @@ impl<S: Sink> Promise<SideEnd<S>> for TookRecords<S> {
 fn serve<S: Sink, G: Gate, R: Net + Wait + Clock + Drop + Copy>(
     rt: &R,
     threaded: &Threaded<'_, G>,
-    station: &Station<'_>,
+    role: Role,
     peers: (&[PartNo], &[ReplicaName]),
     holdings: &mut Holdings<'_, Plain, S>,
     transport: &mut TcpTransport<R>,
@@ -85,7 +85,10 @@ fn serve<S: Sink, G: Gate, R: Net + Wait + Clock + Drop + Copy>(
     ensures took { result ≡ Ended → TookSome S.seen
         holdings.old.files.files.items holdings.new.files.files.items }
 {
-    let role = station.role;
+    // There is a station for each replica.
+    let Some(station) = threaded.stations.get(role.index) else {
+        return Served::Net;
+    };
     let service = Service {
         topology: threaded.topology,
         partition: role.partition,
@@ -134,7 +137,7 @@ pub(crate) fn run_side<S: Sink, G: Gate, R: Net + Wait + Clock + Drop + Copy>(
         side.entry.holdings.files.files.items result.files.files.items }
 {
     let Side {
-        station,
+        role,
         mut holdings,
         post,
         peers,
@@ -149,7 +152,7 @@ pub(crate) fn run_side<S: Sink, G: Gate, R: Net + Wait + Clock + Drop + Copy>(
         Err(error) => served_of(&error),
         Ok(mut transport) => {
             let peers = (partitions.as_slice(), callers.as_slice());
-            serve(rt, threaded, station, peers, &mut holdings, &mut transport)
+            serve(rt, threaded, role, peers, &mut holdings, &mut transport)
         }
     };
     if served != Served::Ended {
@@ -163,7 +166,7 @@ pub(crate) fn run_side<S: Sink, G: Gate, R: Net + Wait + Clock + Drop + Copy>(
         ..
     } = holdings;
     SideEnd {
-        index: station.role.index,
+        index: role.index,
         served,
         pass,
         passes,
