@@ -6,6 +6,7 @@ ghost use Rattle.nm_files.specs.Files.{AreCounted};
 ghost use Rattle.nm_files.specs.Outputs.{Files};
 ghost use Rattle.nm_run.specs.Report.{AreOfRun, AreInPlace, CertifiesRun, IsInPlace};
 
+use crate::dispatching::Dispatcher;
 use crate::fault::RunFault;
 use crate::run::RunPlan;
 use crate::sides::SideEnd;
@@ -14,7 +15,6 @@ use nm_base::Sink;
 use nm_book::Book;
 use nm_files::TraceFiles;
 use nm_rounds::certify::certify;
-use nm_shared::workers::BookPass;
 use nm_shared::{Pass, Plain, SharedBook};
 use nm_topology::Topology;
 use std::alloc::{AllocError, Global};
@@ -87,8 +87,16 @@ fn gather_sides<S: Sink + Drop>(
     Ok(files)
 }
 
-/// The passes of jobs.
-fn gather_jobs(passes: &mut Passes, jobs: Vec<BookPass<Plain>>) -> Result<(), AllocError> {
+/// The passes of the dispatcher and of its jobs.
+fn gather_jobs(passes: &mut Passes, dispatcher: Dispatcher) -> Result<(), AllocError> {
+    let Dispatcher {
+        watched,
+        passes: jobs,
+        ..
+    } = dispatcher;
+    for (book, watched) in watched.into_iter().enumerate() {
+        passes.add(book, watched.into_pass())?;
+    }
     for job in jobs {
         passes.add(job.book, job.pass)?;
     }
@@ -153,7 +161,7 @@ pub(crate) fn close_run<S: Sink + Drop>(
     plan: &RunPlan<'_>,
     books: Vec<SharedBook<Plain>>,
     ends: Vec<SideEnd<S>>,
-    jobs: Vec<BookPass<Plain>>,
+    dispatcher: Dispatcher,
 ) -> Result<(Vec<Book>, Vec<TraceFiles<S>>), Stop>
     ensures books { IfOk result
         (λ run. AreOfRun (arc_value plan.now.topology.now) plan.now.replicas run.0.items) }
@@ -163,7 +171,7 @@ pub(crate) fn close_run<S: Sink + Drop>(
 {
     let mut passes = Passes::new(alloc, books.len())?;
     let files = gather_sides(alloc, &mut passes, ends)?;
-    gather_jobs(&mut passes, jobs)?;
+    gather_jobs(&mut passes, dispatcher)?;
     let closed = close_books(alloc, books, &mut passes, plan.replicas)?;
     if closed.len() != plan.topology.partitions() as usize * plan.replicas as usize {
         return Err(Stop::Broken);

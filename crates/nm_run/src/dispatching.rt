@@ -5,12 +5,12 @@ ghost use Rattle.std.specs.List.{list_all};
 ghost use Rattle.nm_shared.specs.Board.{IsSeatOf};
 
 use crate::jobs::{Watched, jobs_for};
-use crate::stations::Station;
 use crate::threads::Threaded;
 use mio::{Events, Poll};
 use nm_base::Time;
 use nm_book::Ran;
 use nm_progress::Figure;
+use nm_replica::Lending;
 use nm_shared::workers::BookPass;
 use nm_shared::{Gate, Job, Plain, PoolReport, Seat, pool};
 use nm_transport::limits::PERIOD_MILLISECONDS;
@@ -23,8 +23,8 @@ use std::time::Duration;
 /// What the dispatcher has: what it remembers of each book, where it looks at clocks, where it is
 /// woken, and the passes of the jobs so far.
 #[derive(Drop)]
-pub(crate) struct Dispatcher<'a> {
-    pub watched: Vec<Watched<'a>>,
+pub(crate) struct Dispatcher {
+    pub watched: Vec<Watched>,
     pub seat: Seat,
     pub poll: Poll,
     pub events: Events,
@@ -33,52 +33,39 @@ pub(crate) struct Dispatcher<'a> {
     pub passes: Vec<BookPass<Plain>>,
 }
 
-impl<'a> Dispatcher<'a> {
-    /// The passes of jobs, and those with which it looked at books.
-    pub(crate) fn into_passes(self) -> Result<Vec<BookPass<Plain>>, AllocError> {
-        let Dispatcher {
-            watched,
-            mut passes,
-            ..
-        } = self;
-        for one in watched {
-            passes.push(one.into_pass())?;
-        }
-        Ok(passes)
-    }
-}
-
-/// Notes a job of a replica's book, where that is asked for, and whether the book is lent still.
-fn note_job<G>(threaded: &Threaded<'_, G>, station: &Station<'_>) {
+/// Notes a job of a book, where that is asked for, and whether the book is lent still.
+fn note_job<G>(threaded: &Threaded<'_, G>, watched: &Watched, lending: &Lending) {
     if let Some(figures) = threaded.progress.figures() {
-        let own = figures.of(station.role.partition, station.role.replica);
+        let own = figures.of(watched.partition, watched.replica);
         own.add(Figure::Jobs, 1);
-        own.set(Figure::IsLent, u64::from(station.lending.is_lent()));
+        own.set(Figure::IsLent, u64::from(lending.is_lent()));
     }
 }
 
 /// Notes the answer of a job, and wakes the replica of its book: how many events it was.
 fn note<G>(
     threaded: &Threaded<'_, G>,
-    dispatcher: &mut Dispatcher<'_>,
+    dispatcher: &mut Dispatcher,
     book: usize,
     answer: Ran,
 ) -> Result<u64, AllocError>
     ensures { dispatcher.new.seat ≡ dispatcher.old.seat }
 {
-    let Some(watched) = dispatcher.watched.get_mut(book) else {
-        return Ok(0);
-    };
-    let count = watched.note(answer)?;
-    note_job(threaded, watched.station);
-    watched.station.wake();
-    Ok(count)
+    match (dispatcher.watched.get_mut(book), threaded.own(book)) {
+        (Some(watched), Some(own)) => {
+            let count = watched.note(answer, own.lending)?;
+            note_job(threaded, watched, own.lending);
+            threaded.wake(book);
+            Ok(count)
+        }
+        _ => Ok(0),
+    }
 }
 
 /// Notes the answers of jobs: how many events they were.
 fn note_all<G>(
     threaded: &Threaded<'_, G>,
-    dispatcher: &mut Dispatcher<'_>,
+    dispatcher: &mut Dispatcher,
     jobs: &[Job],
     answers: &[Ran],
 ) -> Result<u64, AllocError>
@@ -96,16 +83,17 @@ fn do_in_turn<G: Gate, R: Wait>(
     rt: &R,
     alloc: Global,
     threaded: &Threaded<'_, G>,
-    dispatcher: &mut Dispatcher<'_>,
+    dispatcher: &mut Dispatcher,
     jobs: &[Job],
 ) -> Result<u64, AllocError>
     ensures { dispatcher.new.seat ≡ dispatcher.old.seat }
 {
     let mut events = 0u64;
     for (number, job) in jobs.iter().enumerate() {
-        if let Some(watched) = dispatcher.watched.get_mut(job.book) {
+        let watched = dispatcher.watched.get_mut(job.book);
+        if let (Some(watched), Some(book)) = (watched, threaded.books.get(job.book)) {
             threaded.gate.enter(number);
-            let answer = watched.run(rt, alloc, job.limit);
+            let answer = watched.run(rt, alloc, book, job.limit);
             threaded.gate.leave(number);
             events = events.saturating_add(note(threaded, dispatcher, job.book, answer)?);
         }
@@ -129,7 +117,7 @@ fn give_to_pool<G: Gate + Sync, R: Threads + Wait + Sync>(
     rt: &R,
     threaded: &Threaded<'_, G>,
     workers: usize,
-    dispatcher: &mut Dispatcher<'_>,
+    dispatcher: &mut Dispatcher,
     jobs: &[Job],
 ) -> Result<u64, AllocError>
     requires workers { (1 ≤ workers) × (workers ≤ 64) }
@@ -149,7 +137,7 @@ fn give_jobs<G: Gate + Sync, R: Threads + Wait + Sync>(
     rt: &R,
     threaded: &Threaded<'_, G>,
     workers: usize,
-    dispatcher: &mut Dispatcher<'_>,
+    dispatcher: &mut Dispatcher,
 ) -> Result<u64, AllocError>
     requires workers { (1 ≤ workers) × (workers ≤ 64) }
     requires seat { IsSeatOf threaded.now.board.now dispatcher.old.seat }
@@ -171,15 +159,14 @@ fn give_jobs<G: Gate + Sync, R: Threads + Wait + Sync>(
 }
 
 /// Notes how far all partitions are, and which is furthest behind.
-fn note_progress<G>(threaded: &Threaded<'_, G>, all: &[Watched<'_>]) {
+fn note_progress<G>(threaded: &Threaded<'_, G>, all: &[Watched]) {
     let (mut time, mut records) = (u64::MAX, 0u64);
     for watched in all {
-        let role = watched.station.role;
-        if role.replica == 0 {
+        if watched.replica == 0 {
             records = records.saturating_add(watched.records);
             if watched.safe < time {
                 time = watched.safe;
-                threaded.progress.note_last(role.partition);
+                threaded.progress.note_last(watched.partition);
             }
         }
     }
@@ -189,7 +176,7 @@ fn note_progress<G>(threaded: &Threaded<'_, G>, all: &[Watched<'_>]) {
 }
 
 /// Waits until it is woken, or the time is over.
-fn listen(dispatcher: &mut Dispatcher<'_>)
+fn listen(dispatcher: &mut Dispatcher)
     ensures { dispatcher.new.seat ≡ dispatcher.old.seat }
 {
     let limit = Duration::from_millis(PERIOD_MILLISECONDS);
@@ -198,7 +185,7 @@ fn listen(dispatcher: &mut Dispatcher<'_>)
 }
 
 /// Whether all books are done.
-fn are_done(watched: &[Watched<'_>]) -> bool
+fn are_done(watched: &[Watched]) -> bool
     ensures { result ≡ list_all (λ w. w.is_done) watched.now }
 {
     watched.iter().all(|watched| watched.is_done)
@@ -214,7 +201,7 @@ pub(crate) fn dispatch<G: Gate + Sync, R: Threads + Wait + Sync>(
     alloc: Global,
     threaded: &Threaded<'_, G>,
     workers: usize,
-    dispatcher: &mut Dispatcher<'_>,
+    dispatcher: &mut Dispatcher,
 ) -> Result<(), AllocError>
     requires workers { (1 ≤ workers) × (workers ≤ 64) }
     requires seat { IsSeatOf threaded.now.board.now dispatcher.old.seat }

@@ -5,15 +5,15 @@ ghost use Rattle.std.specs.Prelude.{length};
 ghost use Rattle.nm_book.specs.declared.running.Ran.TheVariants.{All as AllDone, Limit, Memory};
 ghost use Rattle.nm_shared.specs.Board.{IsSeatOf};
 
-use crate::stations::Station;
-use crate::threads::Threaded;
+use crate::threads::{Own, Threaded};
 use nm_base::{ChanNo, PartNo};
 use nm_book::Ran;
 use nm_book::channels::comes_in;
+use nm_peers::Listener;
+use nm_replica::Lending;
 use nm_replica::acts::{Stand, Standing};
 use nm_shared::board::word_of;
-use nm_shared::workers::BookPass;
-use nm_shared::{ClockBoard, Job, Pass, Plain, Seat};
+use nm_shared::{ClockBoard, Job, Pass, Plain, Seat, SharedBook};
 use nm_topology::Topology;
 use nm_topology::topology::accepted_topologies_are_in_order;
 use std::alloc::{AllocError, Global};
@@ -28,11 +28,13 @@ const MAX_KEPT: u64 = 2 * JOB_EVENTS;
 
 /// What the dispatcher remembers of a book.
 #[derive(Drop)]
-pub(crate) struct Watched<'a> {
-    pub station: &'a Station<'a>,
+pub(crate) struct Watched {
     pass: Pass<Plain>,
     /// The words of the channels that come in.
     words: Vec<usize>,
+    /// 0 or 1.
+    pub replica: u8,
+    pub partition: PartNo,
     /// The safe time when it was looked at last, in nanoseconds.
     pub safe: u64,
     /// How many records it had then.
@@ -83,19 +85,20 @@ fn is_full(standing: Standing) -> bool
     standing.records.saturating_sub(standing.handed) > MAX_KEPT
 }
 
-impl<'a> Watched<'a> {
-    /// The book of a replica, which has had no job.
+impl Watched {
+    /// The book of the replica that listens here, which has had no job.
     pub(crate) fn new(
         alloc: Global,
         topology: &Topology,
+        listener: &Listener,
         replicas: u8,
-        station: &'a Station<'a>,
         pass: Pass<Plain>,
     ) -> Result<Self, AllocError> {
         Ok(Watched {
-            station,
+            words: words_of(alloc, topology, listener.partition, replicas)?,
             pass,
-            words: words_of(alloc, topology, station.role.partition, replicas)?,
+            replica: listener.replica,
+            partition: listener.partition,
             safe: 0,
             records: 0,
             is_stale: true,
@@ -104,11 +107,8 @@ impl<'a> Watched<'a> {
     }
 
     /// Its pass of the book.
-    pub(crate) fn into_pass(self) -> BookPass<Plain> {
-        BookPass {
-            book: self.station.role.index,
-            pass: self.pass,
-        }
+    pub(crate) fn into_pass(self) -> Pass<Plain> {
+        self.pass
     }
 
     /// Whether the book is to have a job: it is lent, and does not keep too many records. A book
@@ -117,6 +117,7 @@ impl<'a> Watched<'a> {
     fn wants<R: Wait>(
         &mut self,
         rt: &R,
+        own: &Own<'_>,
         board: &ClockBoard,
         seat: &mut Seat,
         looks_at_all: bool,
@@ -127,12 +128,12 @@ impl<'a> Watched<'a> {
         if self.is_done {
             return false;
         }
-        let is_lent = self.station.lending.is_lent();
+        let is_lent = own.lending.is_lent();
         let is_due = is_lent || self.is_stale || looks_at_all;
         if !is_due && !has_news(board, seat, self.words.as_slice(), self.safe) {
             return false;
         }
-        let standing = self.station.book.act(rt, &mut self.pass, Stand);
+        let standing = own.book.act(rt, &mut self.pass, Stand);
         self.safe = standing.safe.nanoseconds();
         self.records = standing.records;
         self.is_done = standing.is_done;
@@ -141,8 +142,14 @@ impl<'a> Watched<'a> {
     }
 
     /// Does a job of the book with its own pass.
-    pub(crate) fn run<R: Wait>(&mut self, rt: &R, alloc: Global, limit: u64) -> Ran {
-        self.station.book.run(rt, &mut self.pass, alloc, limit)
+    pub(crate) fn run<R: Wait>(
+        &mut self,
+        rt: &R,
+        alloc: Global,
+        book: &SharedBook<Plain>,
+        limit: u64,
+    ) -> Ran {
+        book.run(rt, &mut self.pass, alloc, limit)
     }
 
     /// Its job was done: how many events it was. A job that left none gives the book back.
@@ -150,14 +157,14 @@ impl<'a> Watched<'a> {
     /// # Errors
     ///
     /// Where memory was refused to the job.
-    pub(crate) fn note(&mut self, answer: Ran) -> Result<u64, AllocError>
+    pub(crate) fn note(&mut self, answer: Ran, lending: &Lending) -> Result<u64, AllocError>
         ensures { MatchResult result (λ n. (answer ≡ AllDone n) ⊎ (answer ≡ Limit n))
             (λ _. (n : ℕ) × (answer ≡ Memory n)) }
     {
         self.is_stale = true;
         match answer {
             Ran::All(count) => {
-                self.station.lending.give_back();
+                lending.give_back();
                 Ok(count)
             }
             Ran::Limit(count) => Ok(count),
@@ -172,7 +179,7 @@ pub(crate) fn jobs_for<G, R: Wait>(
     alloc: Global,
     threaded: &Threaded<'_, G>,
     seat: &mut Seat,
-    watched: &mut Vec<Watched<'_>>,
+    watched: &mut Vec<Watched>,
     looks_at_all: bool,
 ) -> Result<Vec<Job>, AllocError>
     requires { IsSeatOf threaded.now.board.now seat.old }
@@ -181,11 +188,14 @@ pub(crate) fn jobs_for<G, R: Wait>(
         (λ jobs. All (λ j. j.book < length threaded.now.books.now) jobs.items) }
 {
     let mut jobs = Vec::new(alloc);
-    for one in watched.iter_mut() {
-        let book = one.station.role.index;
-        if one.wants(rt, threaded.board, seat, looks_at_all) && book < threaded.books.len() {
+    for number in 0..watched.len() {
+        let wants = match (watched.get_mut(number), threaded.own(number)) {
+            (Some(one), Some(own)) => one.wants(rt, &own, threaded.board, seat, looks_at_all),
+            _ => false,
+        };
+        if wants && number < threaded.books.len() {
             jobs.push(Job {
-                book,
+                book: number,
                 limit: JOB_EVENTS,
             })?;
         }

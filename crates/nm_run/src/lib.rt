@@ -14,7 +14,6 @@ pub mod report;
 pub mod run;
 pub mod runtime;
 mod sides;
-mod stations;
 pub mod stop;
 mod threads;
 

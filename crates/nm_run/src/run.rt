@@ -15,22 +15,21 @@ use crate::endings::check_endings;
 use crate::fault::RunFault;
 use crate::files::{ClosedFile, TraceFolder, close_all, open_files, place_files};
 use crate::jobs::Watched;
-use crate::posts::{Post, woken_poll};
+use crate::posts::{Post, Posts, open_posts, woken_poll};
 use crate::report::{Report, report_of};
 use crate::runtime::Runtime;
-use crate::sides::{Side, SideEnd, run_threads};
-use crate::stations::{Role, Station, open_stations, roles_of};
+use crate::sides::{Role, Side, SideEnd, run_threads};
 use crate::stop::Stop;
 use crate::threads::Threaded;
 use mio::{Events, Waker};
 use nm_base::PartNo;
 use nm_book::{Book, BookFault};
 use nm_files::{Outputs, TraceFiles};
+use nm_frames::ReplicaName;
 use nm_peers::{Listener, peers_of};
 use nm_progress::Progress;
 use nm_replica::seats::Dealt;
-use nm_replica::{Holdings, OwnSeats};
-use nm_shared::workers::BookPass;
+use nm_replica::{Holdings, Lending, OwnSeats};
 use nm_shared::{ClockBoard, Gate, Pass, Plain, Seat, SharedBook};
 use nm_topology::Topology;
 use std::alloc::{AllocError, Global};
@@ -52,47 +51,42 @@ pub struct RunPlan<'a> {
     pub progress: &'a Progress,
 }
 
-/// Shares a new replica.
+/// Shares a new replica of a partition.
 fn share_one(
     alloc: Global,
     topology: &Arc<Topology>,
-    role: &Role,
+    partition: PartNo,
+    replica: u8,
 ) -> Result<SharedBook<Plain>, Stop> {
     let (counts, whole) = Plain::open();
     let topology = Arc::try_clone(topology)?;
-    match SharedBook::new(alloc, topology, role.partition, role.replica, counts, whole) {
+    match SharedBook::new(alloc, topology, partition, replica, counts, whole) {
         Ok(book) => Ok(book),
         Err(BookFault::Refused(_)) => Err(Stop::Broken),
         Err(BookFault::Memory) => Err(Stop::Memory),
     }
 }
 
-/// The replicas of a run, and their books in the same order.
-#[derive(Drop)]
-struct Replicas {
-    roles: Vec<Role>,
-    books: Vec<SharedBook<Plain>>,
-}
-
 /// Shares the replicas of all partitions.
-fn share_all(alloc: Global, plan: &RunPlan<'_>) -> Result<Replicas, Stop> {
-    let roles = roles_of(alloc, plan.topology.partitions(), plan.replicas)?;
+fn share_all(alloc: Global, plan: &RunPlan<'_>) -> Result<Vec<SharedBook<Plain>>, Stop> {
     let mut books = Vec::new(alloc);
-    for role in &roles {
-        books.push(share_one(alloc, plan.topology, role)?)?;
+    for partition in 0..plan.topology.partitions() {
+        for replica in 0..plan.replicas {
+            books.push(share_one(alloc, plan.topology, PartNo::new(partition), replica)?)?;
+        }
     }
-    Ok(Replicas { roles, books })
+    Ok(books)
 }
 
-/// A pass of the book of each replica.
+/// A pass of each book.
 fn passes_of<R: Wait>(
     rt: &R,
     alloc: Global,
-    stations: &[Station<'_>],
+    books: &[SharedBook<Plain>],
 ) -> Result<Vec<Pass<Plain>>, AllocError> {
-    let mut passes = Vec::with_capacity(alloc, stations.len())?;
-    for station in stations {
-        passes.push(station.book.pass(rt)?)?;
+    let mut passes = Vec::with_capacity(alloc, books.len())?;
+    for book in books {
+        passes.push(book.pass(rt)?)?;
     }
     Ok(passes)
 }
@@ -103,24 +97,16 @@ struct Opened<'a> {
     alloc: Global,
     plan: &'a RunPlan<'a>,
     /// By partition and replica.
-    stations: &'a [Station<'a>],
+    books: &'a [SharedBook<Plain>],
     listeners: &'a [Listener],
 }
 
-/// Where all replicas listen.
-fn listeners_of(alloc: Global, posts: &[Post]) -> Result<Vec<Listener>, AllocError> {
-    let mut listeners = Vec::with_capacity(alloc, posts.len())?;
-    for post in posts {
-        listeners.push(post.listener)?;
-    }
-    Ok(listeners)
-}
-
-/// What a replica holds.
+/// What the replica that listens here holds.
 fn holdings_of<'a, F: Outputs, R: Wait>(
     rt: &R,
     opened: &Opened<'_>,
-    station: &Station<'_>,
+    book: &SharedBook<Plain>,
+    listener: &Listener,
     seats: OwnSeats<'a>,
     outputs: &mut F,
 ) -> Result<Holdings<'a, Plain, F::File>, Stop>
@@ -133,25 +119,50 @@ fn holdings_of<'a, F: Outputs, R: Wait>(
         topology: opened.plan.topology,
         folder: opened.plan.folder,
     };
-    let role = station.role;
-    let files = if role.replica == 0 {
-        open_files(opened.alloc, folder, role.partition, outputs)?
+    let files = if listener.replica == 0 {
+        open_files(opened.alloc, folder, listener.partition, outputs)?
     } else {
         TraceFiles::new(opened.alloc)
     };
     Ok(Holdings {
-        pass: station.book.pass(rt)?,
-        passes: passes_of(rt, opened.alloc, opened.stations)?,
+        pass: book.pass(rt)?,
+        passes: passes_of(rt, opened.alloc, opened.books)?,
         seats,
         files,
     })
 }
 
-/// A replica that is to run.
+/// Where the book of the other replica of a partition stands, if it has two, of which this one's
+/// stands at an index.
+fn sister_of(replicas: u8, replica: u8, index: usize) -> Option<usize>
+    ensures two { (first : ℕ) → replicas ≡ 2 → replica < 2 → index ≡ first + replica
+        → first + 1 < 2 ^ 64 → result ≡ Some (first + (1 - replica)) }
+    ensures one { replicas ≡ 1 → result ≡ None }
+{
+    if replicas != 2 {
+        return None;
+    }
+    if replica == 0 {
+        return Some(index.saturating_add(1));
+    }
+    Some(index.saturating_sub(1))
+}
+
+/// Which replica of the run listens here, whose book stands at this index.
+fn role_of(plan: &RunPlan<'_>, index: usize, listener: &Listener) -> Role {
+    Role {
+        index,
+        partition: listener.partition,
+        replica: listener.replica,
+        sister: sister_of(plan.replicas, listener.replica, index),
+    }
+}
+
+/// The replica whose book stands at this index.
 fn side_of<'a, F: Outputs, R: Wait>(
     rt: &R,
     opened: &Opened<'_>,
-    station: &Station<'_>,
+    index: usize,
     post: Post,
     seats: OwnSeats<'a>,
     outputs: &mut F,
@@ -161,15 +172,18 @@ fn side_of<'a, F: Outputs, R: Wait>(
         (λ s. AreCounted F.File.seen (F.made outputs.old) s.holdings.files.files.items) }
     ensures same { F.made outputs.new ≡ F.made outputs.old }
 {
+    let (Some(listener), Some(book)) = (opened.listeners.get(index), opened.books.get(index)) else {
+        return Err(Stop::Broken);
+    };
     let peers = peers_of(
         opened.alloc,
         opened.plan.topology,
-        station.role.partition,
+        listener.partition,
         opened.listeners,
     )?;
     Ok(Side {
-        role: station.role,
-        holdings: holdings_of(rt, opened, station, seats, outputs)?,
+        role: role_of(opened.plan, index, listener),
+        holdings: holdings_of(rt, opened, book, listener, seats, outputs)?,
         post,
         peers,
     })
@@ -191,35 +205,71 @@ fn sides_of<'a, F: Outputs, R: Wait>(
 {
     let mut sides = Vec::new(opened.alloc);
     let mut rest = seats;
-    for (station, post) in opened.stations.iter().zip(posts) {
-        let Dealt { own, others } = rest.deal(
-            opened.alloc,
-            opened.plan.topology,
-            station.role.name(),
-        )?;
+    for (index, post) in posts.into_iter().enumerate() {
+        let Dealt { own, others } = own_and_others(opened, index, rest)?;
         rest = others;
-        sides.push(side_of(rt, opened, station, post, own, outputs)?)?;
+        sides.push(side_of(rt, opened, index, post, own, outputs)?)?;
     }
     Ok(sides)
 }
 
+/// The seats of the replica whose book stands at this index, and the others.
+fn own_and_others<'a>(
+    opened: &Opened<'_>,
+    index: usize,
+    seats: OwnSeats<'a>,
+) -> Result<Dealt<'a>, Stop>
+    ensures { IfOk result (λ d. (board_of d.own ≡ board_of seats.entry)
+        × (board_of d.others ≡ board_of seats.entry)) }
+{
+    let Some(listener) = opened.listeners.get(index) else {
+        return Err(Stop::Broken);
+    };
+    let replica = ReplicaName {
+        partition: listener.partition,
+        replica: listener.replica,
+    };
+    let topology = opened.plan.topology;
+    Ok(seats.deal(opened.alloc, topology, replica)?)
+}
+
+/// Each book is lent to the pool at first. A partition that is alone has no messages to wait for:
+/// its own threads run its books, and write records while they are near the processor.
+fn lendings_for(
+    alloc: Global,
+    topology: &Topology,
+    books: &[SharedBook<Plain>],
+) -> Result<Vec<Lending>, AllocError> {
+    let is_alone = topology.partitions() == 1;
+    let mut lendings = Vec::with_capacity(alloc, books.len())?;
+    for _ in books {
+        let lending = if is_alone {
+            Lending::alone()
+        } else {
+            Lending::new()
+        };
+        lendings.push(lending)?;
+    }
+    Ok(lendings)
+}
+
 /// What the dispatcher remembers of each book at first.
-fn watch_all<'a, R: Wait>(rt: &R, opened: &Opened<'a>) -> Result<Vec<Watched<'a>>, AllocError> {
+fn watch_all<R: Wait>(rt: &R, opened: &Opened<'_>) -> Result<Vec<Watched>, AllocError> {
     let (topology, replicas) = (opened.plan.topology, opened.plan.replicas);
     let mut watched = Vec::new(opened.alloc);
-    for station in opened.stations {
-        let pass = station.book.pass(rt)?;
-        watched.push(Watched::new(opened.alloc, topology, replicas, station, pass)?)?;
+    for (book, listener) in opened.books.iter().zip(opened.listeners) {
+        let pass = book.pass(rt)?;
+        watched.push(Watched::new(opened.alloc, topology, listener, replicas, pass)?)?;
     }
     Ok(watched)
 }
 
 /// A dispatcher at the beginning of a run, and what wakes it.
-fn dispatcher_of<'a, R: Net + Wait>(
+fn dispatcher_of<R: Net + Wait>(
     rt: &R,
-    opened: &Opened<'a>,
+    opened: &Opened<'_>,
     seat: Seat,
-) -> Result<(Dispatcher<'a>, Waker), Stop>
+) -> Result<(Dispatcher, Waker), Stop>
     ensures { IfOk result (λ d. d.0.seat ≡ seat) }
 {
     let (poll, waker) = woken_poll(rt)?;
@@ -239,10 +289,10 @@ fn run_books<'x, F: Outputs, G: Gate + Sync, R>(
     rt: &R,
     alloc: Global,
     plan: &'x RunPlan<'x>,
-    replicas: &'x Replicas,
+    books: &'x [SharedBook<Plain>],
     outputs: &mut F,
     gate: &'x G,
-) -> Result<(Vec<SideEnd<F::File>>, Vec<BookPass<Plain>>), Stop>
+) -> Result<(Vec<SideEnd<F::File>>, Dispatcher), Stop>
 where
     F::File: Send,
     R: Runtime,
@@ -255,36 +305,38 @@ where
     let Some(seat) = seats.pop() else {
         return Err(Stop::Broken);
     };
-    let books = replicas.books.as_slice();
-    let roles = replicas.roles.as_slice();
-    let (stations, posts) = open_stations(rt, alloc, plan.topology, roles, books)?;
-    let listeners = listeners_of(alloc, posts.as_slice())?;
-    let stations = stations.as_slice();
+    let Posts {
+        posts,
+        listeners,
+        wakers,
+    } = open_posts(rt, alloc, plan.topology.partitions(), plan.replicas)?;
     let opened = Opened {
         alloc,
         plan: &*plan,
-        stations,
+        books: &*books,
         listeners: listeners.as_slice(),
     };
     let seats = OwnSeats::all(&board, owners);
     let sides = sides_of(rt, &opened, seats, posts, outputs)?;
     let (dispatcher, waker) = dispatcher_of(rt, &opened, seat)?;
     let (ended, has_failed) = (AtomicUsize::new(0), AtomicBool::new(false));
+    let lendings = lendings_for(alloc, plan.topology, books)?;
     let threaded = Threaded {
         alloc,
         topology: &*plan.topology,
-        books,
-        stations,
+        books: &*books,
         board: &board,
+        lendings: lendings.as_slice(),
+        wakers: wakers.as_slice(),
         dispatcher: &waker,
         ended: &ended,
         has_failed: &has_failed,
         gate: &*gate,
         progress: plan.progress,
     };
-    let (ends, jobs) = run_threads(rt, alloc, &threaded, plan.workers, sides, dispatcher)?;
+    let (ends, dispatcher) = run_threads(rt, alloc, &threaded, plan.workers, sides, dispatcher)?;
     check_endings(ends.as_slice())?;
-    Ok((ends, jobs))
+    Ok((ends, dispatcher))
 }
 
 /// Runs all partitions, and closes their trace files once all books are certified.
@@ -309,9 +361,9 @@ where
         (HasReason (arc_value plan.now.topology.now) plan.now.replicas) }
     ensures same { F.made outputs.new ≡ F.made outputs.old }
 {
-    let replicas = share_all(alloc, plan)?;
-    let (ends, jobs) = run_books(rt, alloc, &*plan, &replicas, outputs, &*gate)?;
-    let (books, files) = close_run(alloc, plan, replicas.books, ends, jobs)?;
+    let shared = share_all(alloc, plan)?;
+    let (ends, dispatcher) = run_books(rt, alloc, &*plan, shared.as_slice(), outputs, &*gate)?;
+    let (books, files) = close_run(alloc, plan, shared, ends, dispatcher)?;
     let report = certified_report(alloc, plan.topology, plan.replicas, books.as_slice())?;
     let folder = TraceFolder {
         topology: plan.topology,

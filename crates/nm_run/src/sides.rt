@@ -12,7 +12,6 @@ use crate::dispatching::{Dispatcher, dispatch};
 use crate::gates::SideGate;
 use crate::posts::Post;
 use crate::runtime::Runtime;
-use crate::stations::Role;
 use crate::stop::Stop;
 use crate::threads::Threaded;
 use nm_base::{PartNo, Sink};
@@ -21,7 +20,6 @@ use nm_frames::ReplicaName;
 use nm_peers::Peers;
 use nm_replica::limits::MAX_IDLE_PERIODS;
 use nm_replica::{Holdings, Served, Service, run_replica};
-use nm_shared::workers::BookPass;
 use nm_shared::{Gate, Pass, Plain};
 use nm_transport::TcpTransport;
 use std::alloc::Global;
@@ -36,6 +34,18 @@ use std::time::Clock;
 /// wake another thread, and the pool does them. The packets of so few are still near the processor
 /// when their records are written.
 const OWN_EVENTS: u64 = 128;
+
+/// Which replica of a run it is.
+#[derive(Clone, Copy)]
+pub(crate) struct Role {
+    /// Where its book stands among those of the run.
+    pub index: usize,
+    pub partition: PartNo,
+    /// 0 or 1.
+    pub replica: u8,
+    /// Where its sister's book stands, if it has one.
+    pub sister: Option<usize>,
+}
 
 /// A replica that is to run.
 #[derive(Drop)]
@@ -85,22 +95,22 @@ fn serve<S: Sink, G: Gate, R: Net + Wait + Clock + Drop + Copy>(
     ensures took { result ≡ Ended → TookSome S.seen
         holdings.old.files.files.items holdings.new.files.files.items }
 {
-    // There is a station for each replica.
-    let Some(station) = threaded.stations.get(role.index) else {
+    // There is a book for each replica.
+    let Some(own) = threaded.own(role.index) else {
         return Served::Net;
     };
     let service = Service {
         topology: threaded.topology,
         partition: role.partition,
         replica: role.replica,
-        book: station.book,
+        book: own.book,
         peers: peers.0,
         callers: peers.1,
         books: threaded.books,
         sister: role.sister,
         idle_limit: MAX_IDLE_PERIODS,
         run_limit: OWN_EVENTS,
-        lending: &station.lending,
+        lending: own.lending,
         progress: Some(threaded.progress),
         notes_progress: false,
         keeps_records: false,
@@ -109,7 +119,7 @@ fn serve<S: Sink, G: Gate, R: Net + Wait + Clock + Drop + Copy>(
         gate: threaded.gate,
         has_failed: threaded.has_failed,
         dispatcher: threaded.dispatcher,
-        lending: &station.lending,
+        lending: own.lending,
     };
     let alloc = threaded.alloc;
     run_replica(rt, alloc, &service, holdings, transport, &gate)
@@ -142,7 +152,8 @@ pub(crate) fn run_side<S: Sink, G: Gate, R: Net + Wait + Clock + Drop + Copy>(
         post,
         peers,
     } = side;
-    let Post { socket, poll, .. } = post;
+    let index = role.index;
+    let Post { socket, poll } = post;
     let Peers {
         partitions,
         addresses,
@@ -166,7 +177,7 @@ pub(crate) fn run_side<S: Sink, G: Gate, R: Net + Wait + Clock + Drop + Copy>(
         ..
     } = holdings;
     SideEnd {
-        index: role.index,
+        index,
         served,
         pass,
         passes,
@@ -176,7 +187,7 @@ pub(crate) fn run_side<S: Sink, G: Gate, R: Net + Wait + Clock + Drop + Copy>(
 
 /// Runs all replicas, each in a thread of its own, and the dispatcher in this one, until all have
 /// ended. The dispatcher gives the books that are lent to it to the pool, and begins when all
-/// replicas have begun. It answers how the replicas ended, and the passes of all jobs.
+/// replicas have begun.
 ///
 /// # Errors
 ///
@@ -188,8 +199,8 @@ pub(crate) fn run_threads<S: Sink + Drop + Send, G: Gate + Sync, R: Runtime>(
     threaded: &Threaded<'_, G>,
     workers: usize,
     sides: Vec<Side<'_, S>>,
-    dispatcher: Dispatcher<'_>,
-) -> Result<(Vec<SideEnd<S>>, Vec<BookPass<Plain>>), Stop>
+    dispatcher: Dispatcher,
+) -> Result<(Vec<SideEnd<S>>, Dispatcher), Stop>
     requires workers { (1 ≤ workers) × (workers ≤ 64) }
     requires seat { IsSeatOf threaded.now.board.now dispatcher.seat }
     ensures counted { (made : Option Files)
@@ -199,7 +210,7 @@ pub(crate) fn run_threads<S: Sink + Drop + Send, G: Gate + Sync, R: Runtime>(
     thread::scope(
         thread::scope_env(),
         rt,
-        move |scope| -> Result<(Vec<SideEnd<S>>, Vec<BookPass<Plain>>), Stop>
+        move |scope| -> Result<(Vec<SideEnd<S>>, Dispatcher), Stop>
             requires workers { (1 ≤ workers) × (workers ≤ 64) }
             requires seat { IsSeatOf threaded.now.board.now dispatcher.seat }
             ensures counted { (made : Option Files)
@@ -231,7 +242,7 @@ pub(crate) fn run_threads<S: Sink + Drop + Send, G: Gate + Sync, R: Runtime>(
             for thread in threads {
                 ends.push(thread.join(rt))?;
             }
-            Ok((ends, dispatcher.into_passes()?))
+            Ok((ends, dispatcher))
         },
     )
 }

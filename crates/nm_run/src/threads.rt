@@ -1,13 +1,22 @@
 //! What the threads of a run share.
 
-use crate::stations::Station;
+ghost use Rattle.std.specs.Prelude.{◌<◌, IfSome, length};
+
 use mio::Waker;
 use nm_progress::Progress;
+use nm_replica::Lending;
 use nm_shared::{ClockBoard, Plain, SharedBook};
 use nm_topology::Topology;
 use std::alloc::Global;
 use std::sync::Arc;
 use std::sync::atomic::{AtomicBool, AtomicUsize, Ordering};
+
+/// The book of a replica, and whose turn it is to run it.
+#[derive(Clone, Copy)]
+pub(crate) struct Own<'a> {
+    pub book: &'a SharedBook<Plain>,
+    pub lending: &'a Lending,
+}
 
 /// What all threads of a run share.
 #[derive(Clone, Copy)]
@@ -17,9 +26,11 @@ pub(crate) struct Threaded<'a, G> {
     pub topology: &'a Arc<Topology>,
     /// The books of all replicas, by partition and replica.
     pub books: &'a [SharedBook<Plain>],
-    /// The replicas, in the same order.
-    pub stations: &'a [Station<'a>],
     pub board: &'a ClockBoard,
+    /// Whose turn it is to run the book at the same place.
+    pub lendings: &'a [Lending],
+    /// Each wakes the replica of the book at its place.
+    pub wakers: &'a [Waker],
     /// Wakes the dispatcher.
     pub dispatcher: &'a Waker,
     /// How many replicas have ended.
@@ -32,10 +43,27 @@ pub(crate) struct Threaded<'a, G> {
 }
 
 impl<'a, G> Threaded<'a, G> {
+    /// The book at this index, if there is one.
+    pub(crate) fn own(&self, book: usize) -> Option<Own<'a>>
+        ensures { IfSome result (λ _. book < length self.now.books.now) }
+    {
+        match (self.books.get(book), self.lendings.get(book)) {
+            (Some(book), Some(lending)) => Some(Own { book, lending }),
+            _ => None,
+        }
+    }
+
+    /// Wakes the replica of a book.
+    pub(crate) fn wake(&self, book: usize) {
+        if let Some(waker) = self.wakers.get(book) {
+            let _ = waker.wake();
+        }
+    }
+
     /// Wakes all replicas.
     pub(crate) fn wake_all(&self) {
-        for station in self.stations {
-            station.wake();
+        for waker in self.wakers {
+            let _ = waker.wake();
         }
     }
 
@@ -53,6 +81,6 @@ impl<'a, G> Threaded<'a, G> {
 
     /// Whether all replicas have ended.
     pub(crate) fn are_over(&self) -> bool {
-        self.ended.load(Ordering::SeqCst) >= self.stations.len()
+        self.ended.load(Ordering::SeqCst) >= self.books.len()
     }
 }

@@ -2,8 +2,8 @@ use Rattle.std.proofs.Common.{◌<◌, All, length}
 use Rattle.nm_shared.specs.Board.{IsSeatOf}
 use Rattle.nm_run.proofs.jobs.jobs_for.Given as goal
 
-abbrev pub invariant-loop-one : goal.invariant-loop-one
-invariant-loop-one g l = record {
+abbrev pub invariant-loop-number : goal.invariant-loop-number
+invariant-loop-number g l = record {
   seat : IsSeatOf l.threaded.board.now l.seat;
   named : All (λ j. j.book < length l.threaded.books.now) l.jobs.items;
 }
