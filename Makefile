@@ -39,7 +39,7 @@ help:
 	@echo 'make gate-times  the gate, with the processor minutes of each crate (docs/CONTRIBUTING.md)'
 	@echo 'make install     puts bin/nullsim, its manual page and its completion for bash below PREFIX (/usr/local); make uninstall removes them'
 	@echo 'make clean       removes what was built'
-	@echo 'All need the Rattle toolchain (rt) on PATH and python3; check-network, check-pcap, compare and demo python3 of 3.11 or later; none needs a network.'
+	@echo 'All need the Rattle toolchain (rt) on PATH and python3; tools that read topologies (tools/network, and most that try the program) python3 of 3.11 or later; none needs a network.'
 
 toolchain:
 	@command -v rt >/dev/null 2>&1 || { echo "nullsim: the Rattle toolchain is missing: put its command rt on PATH" >&2; exit 1; }
@@ -140,6 +140,7 @@ deep: bin/nullsim bin/nm_bench
 
 test: toolchain
 	@tools/words
+	@tools/check-docs --still
 	@rt ci
 
 gate-times: toolchain
