@@ -4,5 +4,5 @@
 pub mod fault;
 pub mod process;
 
-pub use fault::ProcessFault;
+pub use fault::{ProcessCause, ProcessFault};
 pub use process::{Process, ProcessEnd, run_process};

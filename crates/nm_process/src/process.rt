@@ -1,13 +1,13 @@
 //! One replica over TCP, until it is done.
 
-ghost use Rattle.std.specs.Prelude.{◌≡◌, ◌^◌, IfOk};
+ghost use Rattle.std.specs.Prelude.{◌≡◌, ◌^◌, IfOk, IfSome};
 ghost use Rattle.std.specs.Arc.{arc_value};
 ghost use Rattle.nm_replica.specs.Finished.{IsFinished};
 ghost use Rattle.nm_process.specs.Process.{IsDoneReplica};
 ghost use Rattle.nm_shared.specs.Counted.{IsBlankOf};
 ghost use Rattle.nm_shared.specs.Home.{home_at, home_of};
 
-use crate::fault::ProcessFault;
+use crate::fault::{ProcessCause, ProcessFault, fault_of};
 use mio::Poll;
 use mio::net::TcpListener;
 use nm_base::{MemSink, PartNo};
@@ -53,8 +53,9 @@ pub struct Process<'a> {
 pub struct ProcessEnd {
     /// It knows all and did all of its events.
     pub book: Book,
-    /// A peer did not say Bye: it was gone, or did not go on, for the last minute.
-    pub has_stalled: bool,
+    /// What serving it came to: it may have ended otherwise than as done, as where a peer was gone
+    /// for the last minute, or broke the rules.
+    pub served: Served,
 }
 
 /// Listens at the process's own address, and calls its peers.
@@ -71,21 +72,25 @@ fn open_transport<R: Net + Clock + Drop + Copy>(
     TcpTransport::new(*rt, alloc, Poll::new(rt)?, listener, addresses)
 }
 
-/// Serves a replica that is shared with nobody else: whether it was stalled, done or not.
+/// Serves a replica that is shared with nobody else: what that came to, whether it is done or not.
+///
+/// # Errors
+///
+/// Where serving could not begin.
 fn serve<C: Counts, R: Net + Wait + Clock + Drop + Copy>(
     rt: &R,
     alloc: Global,
     process: &Process<'_>,
     book: &SharedBook<C>,
     holdings: &mut Holdings<'_, C, MemSink>,
-) -> Result<bool, ProcessFault> {
+) -> Result<Served, ProcessFault> {
     let peers = peers_of(
         alloc,
         process.topology,
         process.partition,
         process.listeners,
     )?;
-    let mut transport = open_transport(rt, alloc, process, &peers)?;
+    let mut transport = open_transport(rt, alloc, process, &peers).map_err(fault_of)?;
     let lending = Lending::alone();
     let service = Service {
         topology: process.topology,
@@ -104,13 +109,7 @@ fn serve<C: Counts, R: Net + Wait + Clock + Drop + Copy>(
         // Files are made of them once it is done.
         keeps_records: true,
     };
-    match run_replica(rt, alloc, &service, holdings, &mut transport, &OpenGate) {
-        Served::Ended => Ok(false),
-        Served::Stalled { .. } => Ok(true),
-        Served::Net => Err(ProcessFault::Net),
-        Served::File { .. } => Err(ProcessFault::IMPOSSIBLE),
-        Served::Memory => Err(ProcessFault::Memory),
-    }
+    Ok(run_replica(rt, alloc, &service, holdings, &mut transport, &OpenGate))
 }
 
 /// A shared book of a replica, which no other one is.
@@ -131,18 +130,18 @@ fn shared_of<M: Naming + Send + Sync, E: Ledger + Send + Sync>(
     match SharedBook::new(alloc, topology, partition, replica, counts, whole) {
         Ok(book) => Ok(book),
         Err(BookFault::Memory) => Err(ProcessFault::Memory),
-        Err(BookFault::Refused(_)) => Err(ProcessFault::IMPOSSIBLE),
+        Err(BookFault::Refused(_)) => Err(ProcessFault::Refused(ProcessCause::Broken)),
     }
 }
 
-/// Serves a replica with this pass of its book: the pass, and whether it was stalled.
+/// Serves a replica with this pass of its book: the pass, and what serving came to.
 fn serve_with<C: Counts, R: Net + Wait + Clock + Drop + Copy>(
     rt: &R,
     alloc: Global,
     process: &Process<'_>,
     book: &SharedBook<C>,
     pass: Pass<C>,
-) -> Result<(Pass<C>, bool), ProcessFault> {
+) -> Result<(Pass<C>, Served), ProcessFault> {
     let (board, owners, _) = ClockBoard::new(alloc, process.topology)?;
     let (partition, replica) = (process.partition, process.replica);
     let seats = OwnSeats::of_replica(alloc, process.topology, &board, partition, replica, owners)?;
@@ -153,33 +152,40 @@ fn serve_with<C: Counts, R: Net + Wait + Clock + Drop + Copy>(
         // The book keeps its trace: files are made of it once it is done.
         files: TraceFiles::new(alloc),
     };
-    let has_stalled = serve(rt, alloc, process, book, &mut holdings)?;
-    Ok((holdings.pass, has_stalled))
+    let served = serve(rt, alloc, process, book, &mut holdings)?;
+    Ok((holdings.pass, served))
 }
 
-/// The book of a replica that was served with this one pass.
-///
-/// # Errors
-///
-/// `Stalled` where it is not done. Whatever serving came to, this is what is asked of the book.
+/// Why a replica is not done whose serving came to this.
+fn cause_of(served: Served) -> ProcessFault {
+    match served {
+        Served::Ended | Served::Stalled { .. } => ProcessFault::Refused(ProcessCause::Stalled),
+        Served::Net => ProcessFault::Refused(ProcessCause::Net),
+        Served::File { .. } => ProcessFault::Refused(ProcessCause::Broken),
+        Served::Memory => ProcessFault::Memory,
+    }
+}
+
+/// The book of a replica that was served with this one pass, if it is done, whatever serving came
+/// to.
 fn close<M: Naming + Send + Sync, E: Ledger + Send + Sync>(
     alloc: Global,
     shared: SharedBook<Ledgers<M, E>>,
     pass: Pass<Ledgers<M, E>>,
-) -> Result<Book, ProcessFault>
+) -> Result<Option<Book>, ProcessFault>
     requires { (M.parts ≡ 2 ^ 32) × (E.parts ≡ 2 ^ 32) }
-    ensures { IfOk result
-        (λ b. (home_of b ≡ M.home) × IsFinished b × (b.handed ≡ 0)) }
+    ensures { IfOk result (λ closed. IfSome closed
+        (λ b. (home_of b ≡ M.home) × IsFinished b × (b.handed ≡ 0))) }
 {
     let mut passes = Vec::new(alloc);
     passes.push(pass)?;
     let Ok(closed) = shared.close(passes) else {
-        return Err(ProcessFault::IMPOSSIBLE);
+        return Err(ProcessFault::Refused(ProcessCause::Broken));
     };
     if !closed.book.done() || closed.book.handed() > 0 {
-        return Err(ProcessFault::Stalled);
+        return Ok(None);
     }
-    Ok(closed.book)
+    Ok(Some(closed.book))
 }
 
 /// Serves a replica whose book and passes types name: what it came to.
@@ -199,19 +205,22 @@ fn run_named<M: Naming + Send + Sync, E: Ledger + Send + Sync, R: Net + Wait + C
 {
     let shared = shared_of::<M, E>(alloc, process, messages, events)?;
     let pass = shared.pass(rt)?;
-    let (pass, has_stalled) = serve_with(rt, alloc, process, &shared, pass)?;
-    let book = close(alloc, shared, pass)?;
-    Ok(ProcessEnd { book, has_stalled })
+    let (pass, served) = serve_with(rt, alloc, process, &shared, pass)?;
+    match close(alloc, shared, pass)? {
+        Some(book) => Ok(ProcessEnd { book, served }),
+        None => Err(cause_of(served)),
+    }
 }
 
 /// Serves one replica of a partition over TCP until it is done and all its links have ended, or
-/// until nothing moved for so many polls of 50 ms in a row. Its book knows all and did all of its
-/// events, in the one case as in the other. It merges with nobody, and nothing is certified.
+/// until nothing moved for so many polls of 50 ms in a row, or the network or memory fails. Its book
+/// knows all and did all of its events, however serving ended. It merges with nobody, and nothing is
+/// certified.
 ///
 /// # Errors
 ///
-/// `Net` where it cannot listen at its address, a peer broke the rules or told what cannot be.
-/// `Stalled` where nothing moved for so long and the book is not done. `Memory` where memory was
+/// Of a replica that is not done: `Net` where it cannot listen at its address, a peer broke the
+/// rules or told what cannot be; `Stalled` where nothing moved for so long; `Memory` where memory was
 /// refused. The book is let go then.
 pub fn run_process<R: Net + Wait + Clock + Drop + Copy>(
     rt: &R,

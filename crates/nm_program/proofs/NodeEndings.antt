@@ -9,23 +9,25 @@ use Rattle.nm_peers.specs.Listeners.{AreListeners}
 use Rattle.nm_peers.specs.declared.listener.Listener.{Listener}
 use Rattle.nm_process.specs.Process.{IsDoneReplica}
 use Rattle.nm_files.specs.Outputs.{Files, HasMade}
-use Rattle.nm_program.specs.Node.{HasListeners, SaysLines, SaysServed, StopsNode, own_files, own_lines}
+use Rattle.nm_program.specs.Node.{HasListeners, NodeAsked, SaysLines, SaysServed, StopsNode, own_files, own_lines}
 use Rattle.nm_offline.specs.Input.{InputsSeen}
 use Rattle.nm_offline.specs.Output.{SaysOfInputs}
 
 -- what is said of it, of texts that give this network and these listeners
-abbrev pub SaysOfTexts : TopologyValue → ℕ → ℕ → List ℕ → List Listener → Option Files → Option Files → Status → List ℕ → Type 0
-SaysOfTexts t p r folder listeners before after status octets = (text addresses : List ℕ) → topology_of text ≡ Ok t → AreListeners addresses t.partitions p r listeners
-    → SaysServed p r before after folder text addresses status octets
+abbrev pub SaysOfTexts : TopologyValue → NodeAsked → List Listener → Option Files → Option Files → Status → List ℕ → Type 0
+SaysOfTexts t asked listeners before after status octets = (text addresses : List ℕ) → topology_of text ≡ Ok t
+    → AreListeners addresses t.partitions asked.partition asked.replica listeners → SaysServed asked (before, after) text addresses status octets
 
-module _ (t : TopologyValue) (p r : ℕ) (folder : List ℕ) (listeners : List Listener) (before after : Option Files) where
+module _ (t : TopologyValue) (asked : NodeAsked) (listeners : List Listener) (before after : Option Files) where
   -- its files have the trace of its book, and their lines are said, or nothing
-  pub says_served : (seen : TopologyValue) (book : BookValue) (lines : List ℕ) (status : Status) (octets : List ℕ) → seen ≡ t → IsDoneReplica t p r book
-      → HasMade before after (own_files seen p folder (state_of book).records) → lines ≡ own_lines seen p (state_of book).records
-      → SaysLines lines status octets → SaysOfTexts t p r folder listeners before after status octets
+  pub says_served : (seen : TopologyValue) (book : BookValue) (lines : List ℕ) (status : Status) (octets : List ℕ) → seen ≡ t
+      → IsDoneReplica t asked.partition asked.replica book
+      → HasMade before after (own_files seen asked.partition asked.folder (state_of book).records)
+      → lines ≡ own_lines seen asked.partition (state_of book).records
+      → SaysLines lines status octets → SaysOfTexts t asked listeners before after status octets
   says_served seen book lines status octets same done made are says = λ text addresses read mean. (
     lines,
-    own_files t p folder (state_of book).records,
+    own_files t asked.partition asked.folder (state_of book).records,
     record {
       network = t;
       read = read;
@@ -34,19 +36,19 @@ module _ (t : TopologyValue) (p r : ℕ) (folder : List ℕ) (listeners : List L
       book = book;
       done = done;
       made = refl;
-      lines_are = subst (λ z. lines ≡ own_lines z p (state_of book).records) same are;
+      lines_are = subst (λ z. lines ≡ own_lines z asked.partition (state_of book).records) same are;
     },
-    subst (λ z. HasMade before after (own_files z p folder (state_of book).records)) same made,
+    subst (λ z. HasMade before after (own_files z asked.partition asked.folder (state_of book).records)) same made,
     says,
   )
 
-module _ {V E : Type 0} (items : V → List ℕ) (asked : V → Status) (t : TopologyValue) (p r : ℕ) (folder : List ℕ) (listeners : List Listener) (before after : Option Files) where
+module _ {V E : Type 0} (items : V → List ℕ) (status_of : V → Status) (t : TopologyValue) (asked : NodeAsked) (listeners : List Listener) (before after : Option Files) where
   -- the texts are those of two inputs
-  pub says_of_inputs : (inputs : InputsSeen) (one two : List ℕ) (served : Result V E) → HasListeners inputs one two p r t listeners
-      → IfOk served (λ v. SaysOfTexts t p r folder listeners before after (asked v) (items v))
-      → IfOk served (λ v. SaysOfInputs inputs one two (SaysServed p r before after folder) (asked v) (items v))
-  says_of_inputs inputs one two (Ok v) (text, addresses, had, read, mean) says = (text, addresses, had, says text addresses read mean)
-  says_of_inputs inputs one two (Err e) there says = tt
+  pub says_of_inputs : (inputs : InputsSeen) (served : Result V E) → HasListeners inputs asked t listeners
+      → IfOk served (λ v. SaysOfTexts t asked listeners before after (status_of v) (items v))
+      → IfOk served (λ v. SaysOfInputs inputs asked.topology asked.addresses (SaysServed asked (before, after)) (status_of v) (items v))
+  says_of_inputs inputs (Ok v) (text, addresses, had, read, mean) says = (text, addresses, had, says text addresses read mean)
+  says_of_inputs inputs (Err e) there says = tt
 
 -- a book whose files were not all made, since one failed or memory was refused
 pub stops_writing : (before after : Option Files) (status : Status) → (status ≡ File) ⊎ (status ≡ Memory) → StopsNode before after status

@@ -1,5 +1,5 @@
 -- The word `node`: one replica of a partition.
-use Rattle.std.specs.Prelude.{◌≡◌, ◌⊎◌, ℕ, ◌==◌, if◌then◌else◌, List, [], ◌∷◌, Option, Ok}
+use Rattle.std.specs.Prelude.{◌≡◌, ◌⊎◌, ℕ, ◌==◌, if◌then◌else◌, List, [], ◌∷◌, Option, Some, None, Ok}
 use Rattle.std.specs.List.{enumerate_from, flat_map}
 use Rattle.nm_base.specs.declared.record.Record.{Record}
 use Rattle.nm_pcap.specs.declared.form.Form.TheVariants.{Octets}
@@ -13,7 +13,10 @@ use Rattle.nm_book.specs.Book.{BookValue, state_of}
 use Rattle.nm_peers.specs.Listeners.{AreListeners}
 use Rattle.nm_peers.specs.declared.listener.Listener.{Listener}
 use Rattle.nm_process.specs.Process.{IsDoneReplica}
-use Rattle.nm_command.specs.declared.words.NodeWords.{NodeWords}
+use Rattle.nm_replica.specs.declared.served.Served.{Served}
+use Rattle.nm_replica.specs.declared.served.Served.TheVariants as served
+use Rattle.nm_replica.specs.declared.served.Served.TheVariants.{Ended, Net}
+use Rattle.nm_command.specs.declared.arguments.NodeArguments.{NodeArguments}
 use Rattle.nm_command.specs.declared.status.Status.{Status}
 use Rattle.nm_command.specs.declared.status.Status.TheVariants.{Done, Usage, File, Memory, Stalled}
 use Rattle.nm_offline.specs.Input.{InputsSeen, IsInput, IsRefused}
@@ -57,10 +60,20 @@ pub record IsNodeDone (text addresses folder : List ℕ) (partition replica : �
   pub made : files ≡ own_files network partition folder (state_of book).records
   pub lines_are : lines ≡ own_lines network partition (state_of book).records
 
--- the lines are said; or nothing, of a replica that was stalled when it was done
+-- the status of a replica that is done, where serving it ended otherwise than as done: it was
+-- stalled, the network or a file failed, or memory was refused
+abbrev pub late_status : Served → Option Status
+late_status Ended = None
+late_status (served.Stalled polls) = Some Stalled
+late_status Net = Some File
+late_status (served.File iface written) = Some File
+late_status served.Memory = Some Memory
+
+-- The lines are said of a replica that is done, all of whose links have ended, too. Nothing is,
+-- where serving it ended otherwise.
 abbrev pub SaysLines : List ℕ → Status → List ℕ → Type 0
-SaysLines lines status octets =
-    ((status ≡ Done) × (octets ≡ lines)) ⊎ ((status ≡ Stalled) × (octets ≡ []))
+SaysLines lines status octets = ((status ≡ Done) × (octets ≡ lines))
+    ⊎ ((s : Served) × (late_status s ≡ Some status) × (octets ≡ []))
 
 -- the topology is read, and the other text is not that of listeners, this replica's among them
 pub record HasNoAddresses (text addresses : List ℕ) (partition replica : ℕ) : Type 0 where
@@ -69,15 +82,32 @@ pub record HasNoAddresses (text addresses : List ℕ) (partition replica : ℕ) 
   pub none : (listeners : List Listener)
       → AreListeners addresses network.partitions partition replica listeners → ⊥
 
--- this is the topology of the text that the first input has, and these are the listeners of that of
--- the second
-abbrev pub HasListeners : InputsSeen → (topology addresses : List ℕ) → (partition replica : ℕ)
-    → TopologyValue → List Listener → Type 0
-HasListeners inputs topology addresses partition replica network listeners =
-    (one : List ℕ) × (two : List ℕ)
-    × (IsInput (inputs.text topology) one × IsInput (inputs.text addresses) two)
-    × (topology_of one ≡ Ok network)
-    × AreListeners two network.partitions partition replica listeners
+-- what `node` is asked for: the input with the topology, the folder, which replica, and the input
+-- with the addresses
+pub record NodeAsked : Type 0 where
+  pub topology : List ℕ
+  pub folder : List ℕ
+  pub partition : ℕ
+  pub replica : ℕ
+  pub addresses : List ℕ
+
+abbrev pub node_asked : NodeArguments → NodeAsked
+node_asked w = record {
+  topology = w.topology.now;
+  folder = w.folder.now;
+  partition = w.partition;
+  replica = w.replica;
+  addresses = w.addresses.now;
+}
+
+-- this is the topology of the text that the one input has, and these are the listeners of that of
+-- the other
+abbrev pub HasListeners : InputsSeen → NodeAsked → TopologyValue → List Listener → Type 0
+HasListeners inputs asked network listeners =
+    (text : List ℕ) × (addresses : List ℕ)
+    × (IsInput (inputs.text asked.topology) text × IsInput (inputs.text asked.addresses) addresses)
+    × (topology_of text ≡ Ok network)
+    × AreListeners addresses network.partitions asked.partition asked.replica listeners
 
 -- why no replica is served: the topology is refused, or the other text is not that of listeners
 abbrev pub IsNotServed : (partition replica : ℕ) → (text addresses : List ℕ) → Status → Type 0
@@ -90,31 +120,13 @@ abbrev pub StopsNode : (before after : Option Files) → Status → Type 0
 StopsNode before after status =
     (status ≡ File) ⊎ (status ≡ Memory) ⊎ ((status ≡ Stalled) × (after ≡ before))
 
--- it is said once its files are made
-abbrev pub SaysServed : (partition replica : ℕ) (made_before made : Option Files)
-    (folder text addresses : List ℕ) → Status → List ℕ → Type 0
-SaysServed partition replica made_before made folder text addresses status octets =
+-- it is said once its files are made: what was made before, and what is then
+abbrev pub SaysServed : NodeAsked → (made : Option Files × Option Files) → (text addresses : List ℕ)
+    → Status → List ℕ → Type 0
+SaysServed asked made text addresses status octets =
     (lines : List ℕ) × (files : Files)
-    × IsNodeDone text addresses folder partition replica lines files
-    × HasMade made_before made files × SaysLines lines status octets
-
--- what `node` is asked for: the input with the topology, the folder, which replica, and the input
--- with the addresses
-pub record NodeAsked : Type 0 where
-  pub topology : List ℕ
-  pub folder : List ℕ
-  pub partition : ℕ
-  pub replica : ℕ
-  pub addresses : List ℕ
-
-abbrev pub node_asked : NodeWords → NodeAsked
-node_asked w = record {
-  topology = w.topology.now;
-  folder = w.folder.now;
-  partition = w.partition;
-  replica = w.replica;
-  addresses = w.addresses.now;
-}
+    × IsNodeDone text addresses asked.folder asked.partition asked.replica lines files
+    × HasMade made.0 made.1 files × SaysLines lines status octets
 
 -- Why nothing is said of two inputs: no replica was served, and no file was made; or they are a
 -- network and its listeners, and the replica was served, and has no files, or not all.
@@ -123,8 +135,7 @@ FailsNode before after asked status =
     (FailsOfInputs before.inputs after.inputs asked.topology asked.addresses
     (IsNotServed asked.partition asked.replica) status × (after.made ≡ before.made))
     ⊎ ((network : TopologyValue) × (listeners : List Listener)
-    × HasListeners before.inputs asked.topology asked.addresses asked.partition asked.replica
-    network listeners
+    × HasListeners before.inputs asked network listeners
     × StopsNode before.made after.made status)
 
 -- What each status says. Files are made only once the replica is done, whether it was stalled then
@@ -134,5 +145,5 @@ module _ {S : Type 0} (before after : Surroundings S) (asked : NodeAsked) where
   EndsNode status =
       EndsWord before.exchange after.exchange
       (SaysOfInputs before.exchange.inputs asked.topology asked.addresses
-      (SaysServed asked.partition asked.replica before.made after.made asked.folder))
+      (SaysServed asked (before.made, after.made)))
       (FailsNode (files_of before) (files_of after) asked) status

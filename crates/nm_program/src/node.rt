@@ -11,16 +11,16 @@ ghost use Rattle.nm_offline.specs.Input.{inputs_seen};
 ghost use Rattle.nm_offline.specs.Output.{SaysOfInputs, files_seen};
 ghost use Rattle.nm_program.specs.Node.{EndsNode, FailsNode, SaysServed, StopsNode, node_asked};
 ghost use Rattle.nm_program.specs.Surroundings.{surroundings};
-ghost use Rattle.nm_program.specs.Node.{own_files, own_line, own_lines};
+ghost use Rattle.nm_program.specs.Node.{late_status, own_files, own_line, own_lines};
 ghost use Rattle.nm_command.specs.declared.status.Status.TheVariants.{Done, File, Memory, Stalled};
 ghost use Rattle.nm_files.specs.Outputs.{HasMade};
 ghost use Rattle.nm_topology.specs.PartValues.{IfaceValue};
 ghost use Rattle.nm_topology.specs.Topology.{topology_of};
 
 use crate::means::Means;
-use crate::node_inputs::{NodeWords, read_both};
+use crate::node_inputs::{NodeArguments, read_both};
 use crate::trace_files::{OwnFiles, make_files};
-use nm_base::{IfaceNo, PartNo, Record, Sink};
+use nm_base::{PartNo, Record, Sink};
 use nm_book::Book;
 use nm_book::channels::partition_of;
 use nm_book::laws::records_have_times_of_a_file;
@@ -31,10 +31,10 @@ use nm_offline::inputs::Inputs;
 use nm_offline::lines::push_iface_line;
 use nm_offline::output::{Output, end};
 use nm_peers::Listener;
-use nm_process::{Process, ProcessEnd, ProcessFault, run_process};
+use nm_process::{Process, ProcessCause, ProcessEnd, ProcessFault, run_process};
+use nm_replica::Served;
 use nm_replica::limits::MAX_IDLE_PERIODS;
 use nm_topology::Topology;
-use nm_topology::topology::accepted_topologies_are_in_order;
 use std::alloc::{AllocError, Global};
 use std::net::Net;
 use std::sync::{Arc, Wait};
@@ -64,8 +64,7 @@ fn push_own(
         → OnOk result (text.new.items ≡ text.old.items
         ++ own_line topology.now partition (state_of book.now).records (number, iface)) }
 {
-    accepted_topologies_are_in_order(topology); // law: there are few interfaces
-    let iface = IfaceNo::new(number as u32);
+    let iface = topology.iface_number(number);
     if partition_of(topology, iface) != partition {
         return Ok(());
     }
@@ -95,7 +94,7 @@ fn own_text(
 fn write_book<F: Outputs>(
     alloc: Global,
     topology: &Topology,
-    words: &NodeWords<'_>,
+    words: &NodeArguments<'_>,
     book: &Book,
     outputs: &mut F,
 ) -> Result<Output, Status>
@@ -126,7 +125,7 @@ fn end_of<R: Net + Wait + Clock + Drop + Copy>(
     means: &Means<'_, R>,
     topology: &Arc<Topology>,
     listeners: &[Listener],
-    words: &NodeWords<'_>,
+    words: &NodeArguments<'_>,
 ) -> Result<ProcessEnd, Status>
     ensures done { IfOk result (λ end. IsDoneReplica (arc_value topology.now)
         words.now.partition words.now.replica end.book) }
@@ -143,27 +142,38 @@ fn end_of<R: Net + Wait + Clock + Drop + Copy>(
     means.progress.begin(topology.stop());
     match run_process(means.rt, means.alloc, &process) {
         Ok(end) => Ok(end),
-        Err(ProcessFault::Net) => Err(Status::File),
         Err(ProcessFault::Memory) => Err(Status::Memory),
-        Err(ProcessFault::Stalled) => Err(Status::Stalled),
+        Err(ProcessFault::Refused(ProcessCause::Stalled)) => Err(Status::Stalled),
+        Err(ProcessFault::Refused(ProcessCause::Net | ProcessCause::Broken)) => Err(Status::File),
+    }
+}
+
+/// The status of a replica that is done, where serving it ended otherwise than as done.
+fn late_status(served: Served) -> Option<Status>
+    ensures { result ≡ late_status served }
+{
+    match served {
+        Served::Ended => None,
+        Served::Stalled { .. } => Some(Status::Stalled),
+        Served::Net | Served::File { .. } => Some(Status::File),
+        Served::Memory => Some(Status::Memory),
     }
 }
 
 /// Serves a replica until it is done, and makes its trace files: the lines of its interfaces. Where
-/// it was stalled and is done, the files are made too, and nothing is said.
+/// serving it ended otherwise and it is done, the files are made too, and nothing is said.
 fn serve<F: Outputs, R: Net + Wait + Clock + Drop + Copy>(
     means: &Means<'_, R>,
     topology: &Arc<Topology>,
     listeners: &[Listener],
-    words: &NodeWords<'_>,
+    words: &NodeArguments<'_>,
     outputs: &mut F,
 ) -> Result<Output, Status>
     ensures said { IfOk result (λ output. (text : List ℕ) → (addresses : List ℕ)
         → topology_of text ≡ Ok (arc_value topology.now)
         → AreListeners addresses (arc_value topology.now).partitions words.now.partition
         words.now.replica listeners.now
-        → SaysServed words.now.partition words.now.replica
-        (F.made outputs.old) (F.made outputs.new) words.now.folder.now
+        → SaysServed (node_asked words.now) (F.made outputs.old, F.made outputs.new)
         text addresses output.status output.text.items) }
     ensures fault { IfErr result (StopsNode (F.made outputs.old) (F.made outputs.new)) }
 {
@@ -172,26 +182,25 @@ fn serve<F: Outputs, R: Net + Wait + Clock + Drop + Copy>(
     }
     let end = end_of(means, topology, listeners, words)?;
     let output = write_book(means.alloc, topology, words, &end.book, outputs)?;
-    if end.has_stalled {
-        return Ok(Output {
+    match late_status(end.served) {
+        None => Ok(output),
+        Some(status) => Ok(Output {
             text: Vec::new(means.alloc),
-            status: Status::Stalled,
-        });
+            status,
+        }),
     }
-    Ok(output)
 }
 
 /// What is said of one replica of a partition that is served over TCP.
 fn node_said<I: Inputs, F: Outputs, R: Net + Wait + Clock + Drop + Copy>(
     means: &Means<'_, R>,
-    words: &NodeWords<'_>,
+    words: &NodeArguments<'_>,
     inputs: &mut NamedInputs<I>,
     outputs: &mut F,
 ) -> Result<Output, Status>
     ensures said { IfOk result (λ output. SaysOfInputs
         (inputs_seen I.seen inputs.old) words.now.topology.now words.now.addresses.now
-        (SaysServed words.now.partition words.now.replica
-        (F.made outputs.old) (F.made outputs.new) words.now.folder.now)
+        (SaysServed (node_asked words.now) (F.made outputs.old, F.made outputs.new))
         output.status output.text.items) }
     ensures fault { IfErr result (FailsNode (files_seen I.seen F.made inputs.old outputs.old)
         (files_seen I.seen F.made inputs.new outputs.new) (node_asked words.now)) }
@@ -204,7 +213,7 @@ fn node_said<I: Inputs, F: Outputs, R: Net + Wait + Clock + Drop + Copy>(
 /// the lines of its interfaces are said.
 pub(crate) fn say_node<I: Inputs, F: Outputs, O: Sink + Drop, R: Net + Wait + Clock + Drop + Copy>(
     means: &Means<'_, R>,
-    words: &NodeWords<'_>,
+    words: &NodeArguments<'_>,
     inputs: &mut NamedInputs<I>,
     outputs: &mut F,
     out: O,

@@ -3,12 +3,12 @@
 ghost use Rattle.std.specs.Prelude.{◌≡◌, IfErr, IfOk, Ok};
 ghost use Rattle.std.specs.Arc.{arc_value};
 ghost use Rattle.nm_peers.specs.Listeners.{AreListeners};
-ghost use Rattle.nm_program.specs.Node.{HasListeners, IsNotServed};
+ghost use Rattle.nm_program.specs.Node.{HasListeners, IsNotServed, node_asked};
 ghost use Rattle.nm_topology.specs.Topology.{topology_of};
 ghost use Rattle.nm_offline.specs.Input.{inputs_seen};
 ghost use Rattle.nm_offline.specs.Output.{FailsOfInputs};
 
-pub(crate) use nm_command::NodeWords;
+pub(crate) use nm_command::NodeArguments;
 use nm_command::Status;
 use nm_offline::input::NamedInputs;
 use nm_offline::inputs::Inputs;
@@ -23,7 +23,7 @@ fn read_texts(
     alloc: Global,
     topology: &[u8],
     addresses: &[u8],
-    words: &NodeWords<'_>,
+    words: &NodeArguments<'_>,
 ) -> Result<(Arc<Topology>, Vec<Listener>), Status>
     ensures read { IfOk result (λ r. (topology_of topology.now ≡ Ok (arc_value r.0))
         × AreListeners addresses.now (arc_value r.0).partitions
@@ -44,11 +44,10 @@ fn read_texts(
 pub(crate) fn read_both<I: Inputs>(
     alloc: Global,
     inputs: &mut NamedInputs<I>,
-    words: &NodeWords<'_>,
+    words: &NodeArguments<'_>,
 ) -> Result<(Arc<Topology>, Vec<Listener>), Status>
     ensures read { IfOk result (λ r. HasListeners (inputs_seen I.seen inputs.old)
-        words.now.topology.now words.now.addresses.now
-        words.now.partition words.now.replica (arc_value r.0) r.1.items) }
+        (node_asked words.now) (arc_value r.0) r.1.items) }
     ensures fault { IfErr result (λ status. FailsOfInputs
         (inputs_seen I.seen inputs.old) (inputs_seen I.seen inputs.new)
         words.now.topology.now words.now.addresses.now

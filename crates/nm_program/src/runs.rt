@@ -20,19 +20,18 @@ ghost use Rattle.nm_program.specs.Run.{EndsRun, FailsRun, SaysCertified, SaysRun
 ghost use Rattle.nm_program.specs.Surroundings.{surroundings};
 
 use crate::means::Means;
-use nm_base::{IfaceNo, Sink, push_text};
-use nm_command::{RunWords, Status};
+use nm_base::{Sink, push_text};
+use nm_command::{RunArguments, Status};
 use nm_files::Outputs;
 use nm_offline::input::NamedInputs;
 use nm_offline::inputs::Inputs;
 use nm_offline::lines::push_iface_line;
 use nm_offline::output::{Output, end};
 use nm_offline::reading::read_shared;
-use nm_run::{IfaceTotals, Report, RunFault, RunPlan, Runtime, run_all};
+use nm_run::{IfaceTotals, Report, RunCause, RunFault, RunPlan, Runtime, run_all};
 use nm_shared::OpenGate;
 use nm_sim::trace::every_topology_has_a_trace;
 use nm_topology::Topology;
-use nm_topology::topology::accepted_topologies_are_in_order;
 use std::alloc::{AllocError, Global};
 use std::sync::Arc;
 
@@ -51,9 +50,8 @@ fn push_total(
         → OnOk result (text.new.items ≡ text.old.items
         ++ iface_line iface (totals_of number records)) }
 {
-    accepted_topologies_are_in_order(topology); // law: there are few interfaces
     let found = totals[number];
-    let iface = topology.iface(IfaceNo::new(number as u32));
+    let iface = topology.iface(topology.iface_number(number));
     push_iface_line(text, iface, found.records, found.octets)
 }
 
@@ -84,10 +82,10 @@ fn status_of(fault: RunFault) -> Status
         → StopsRun network replicas before after result }
 {
     match fault {
-        RunFault::File { .. } | RunFault::Net => Status::File,
         RunFault::Memory => Status::Memory,
-        RunFault::NotCertified(fault) => Status::NotCertified(fault.number()),
-        RunFault::Stalled { .. } => Status::Stalled,
+        RunFault::Refused(RunCause::File { .. } | RunCause::Net | RunCause::Broken) => Status::File,
+        RunFault::Refused(RunCause::NotCertified(fault)) => Status::NotCertified(fault.number()),
+        RunFault::Refused(RunCause::Stalled { .. }) => Status::Stalled,
     }
 }
 
@@ -109,7 +107,7 @@ fn report_text(
 fn run_network<F: Outputs, R: Runtime>(
     means: &Means<'_, R>,
     network: &Arc<Topology>,
-    words: &RunWords<'_>,
+    words: &RunArguments<'_>,
     outputs: &mut F,
 ) -> Result<Output, Status>
 where
@@ -141,7 +139,7 @@ where
 /// What is said of all partitions at once.
 fn run_said<I: Inputs, F: Outputs, R: Runtime>(
     means: &Means<'_, R>,
-    words: &RunWords<'_>,
+    words: &RunArguments<'_>,
     inputs: &mut NamedInputs<I>,
     outputs: &mut F,
 ) -> Result<Output, Status>
@@ -163,7 +161,7 @@ where
 /// each interface has.
 pub(crate) fn say_run<I: Inputs, F: Outputs, O: Sink + Drop, R: Runtime>(
     means: &Means<'_, R>,
-    words: &RunWords<'_>,
+    words: &RunArguments<'_>,
     inputs: &mut NamedInputs<I>,
     outputs: &mut F,
     out: O,

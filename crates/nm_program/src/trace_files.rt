@@ -12,7 +12,7 @@ ghost use Rattle.nm_pcap.specs.declared.form.Form.TheVariants.{Octets};
 ghost use Rattle.nm_program.specs.Node.{of_own, own_files};
 ghost use Rattle.nm_topology.specs.PartValues.{IfaceValue};
 
-use nm_base::{IfaceNo, PartNo, Record};
+use nm_base::{PartNo, Record};
 use nm_book::channels::partition_of;
 use nm_command::Status;
 use nm_files::Outputs;
@@ -21,7 +21,6 @@ use nm_files::names::name_of;
 use nm_files::placing::place_all;
 use nm_offline::closed::push_some;
 use nm_topology::Topology;
-use nm_topology::topology::accepted_topologies_are_in_order;
 use std::alloc::Global;
 
 /// The trace files of a partition: of which interfaces, where they go, and whose records they have.
@@ -51,8 +50,7 @@ fn make_own<F: Outputs>(
     ensures same { F.made outputs.new ≡ F.made outputs.old }
     ensures fault { IfErr result (λ s. (s ≡ File) ⊎ (s ≡ Memory)) }
 {
-    accepted_topologies_are_in_order(own.topology); // law: there are few interfaces
-    let iface = IfaceNo::new(number as u32);
+    let iface = own.topology.iface_number(number);
     if partition_of(own.topology, iface) != own.partition {
         return Ok(None);
     }

@@ -29,13 +29,13 @@ module _ (folder : List ℕ) (t : TopologyValue) (totals : List IfaceTotals) whe
   }
 
   module _ {C : Type 0} (closed : C → Option (List ℕ × List ℕ)) (made : Option Files) where
-    pub none_closed : (all : List (ClosedFile C)) → all ≡ [] → AreClosed closed made folder t totals 0 all
+    pub none_closed : (all : List (ClosedFile C)) → all ≡ [] → AreClosed closed made (AreFilesOf folder t totals 0) all
     none_closed all none first told = ([], no_file, ap (map (λ c. closed c.file)) none)
 
-    pub one_closed : (n : ℕ) (all now : List (ClosedFile C)) (c : ClosedFile C) (own : IfaceTotals) → slice_get totals n ≡ Some own → now ≡ all ++ c ∷ [] → AreClosed closed made folder t totals n all
+    pub one_closed : (n : ℕ) (all now : List (ClosedFile C)) (c : ClosedFile C) (own : IfaceTotals) → slice_get totals n ≡ Some own → now ≡ all ++ c ∷ [] → AreClosed closed made (AreFilesOf folder t totals n) all
         → ((first : Files) → made ≡ Some first
         → (whole : List ℕ × List ℕ) × (closed c.file ≡ Some whole) × ((x : IfaceValue) → slice_get t.ifaces n ≡ Some x → IsFileOf folder x own whole))
-        → AreClosed closed made folder t totals (n + 1) now
+        → AreClosed closed made (AreFilesOf folder t totals (n + 1)) now
     one_closed n all now c own counts last so_far one first told =
         let was = so_far first told in
         let is = one first told in (
@@ -46,7 +46,7 @@ module _ (folder : List ℕ) (t : TopologyValue) (totals : List IfaceTotals) whe
         )
 
     -- and placed
-    pub all_placed : (after : Option Files) (all : List (ClosedFile C)) → AreClosed closed made folder t totals (length t.ifaces) all
+    pub all_placed : (after : Option Files) (all : List (ClosedFile C)) → AreClosed closed made (AreFilesOf folder t totals (length t.ifaces)) all
         → ((files : Files) → AreWhole made (map (λ c. closed c.file) all) files → HasMade made after files) → HaveFiles made after folder t totals
     all_placed after all are placed first told = let c = are first told in (c.0, c.1, placed c.0 (λ _ _. c.2) first told)
 

@@ -1,28 +1,32 @@
 -- Why a run has no report.
 use Rattle.std.specs.Prelude.{◌≡◌, ◌⊎◌, ℕ}
+use Rattle.nm_base.specs.declared.fault.Fault.{Fault}
+use Rattle.nm_base.specs.declared.fault.Fault.TheVariants.{Memory, Refused}
 use Rattle.nm_topology.specs.TopologyValue.{TopologyValue}
 use Rattle.nm_run.specs.Report.{IsNotCertified}
-use Rattle.nm_run.specs.declared.fault.RunFault.{RunFault}
-use Rattle.nm_run.specs.declared.fault.RunFault.TheVariants.{File, Net, Memory, NotCertified, Stalled}
+use Rattle.nm_run.specs.declared.fault.RunCause.{RunCause}
+use Rattle.nm_run.specs.declared.fault.RunCause.TheVariants as cause
 use Rattle.nm_run.specs.declared.stop.Stop.{Stop}
 use Rattle.nm_run.specs.declared.stop.Stop.TheVariants as stop
 
 -- what a run is told that did not come to its end
-abbrev pub run_fault : Stop → RunFault
-run_fault (stop.File iface written) = File iface written
-run_fault stop.Net = Net
+abbrev pub run_fault : Stop → Fault RunCause
+run_fault (stop.File iface written) = Refused (cause.File iface written)
+run_fault stop.Net = Refused cause.Net
 run_fault stop.Memory = Memory
-run_fault (stop.Stalled polls) = Stalled polls
-run_fault stop.Broken = Net
+run_fault (stop.Stalled polls) = Refused (cause.Stalled polls)
+run_fault stop.Broken = Refused cause.Broken
 
 -- that books are not certified is a fault of the run's own
-abbrev pub HasReason : TopologyValue → ℕ → RunFault → Type 0
-HasReason t replicas (File iface written) = Unit {0}
-HasReason t replicas Net = Unit {0}
+abbrev pub HasReason : TopologyValue → ℕ → Fault RunCause → Type 0
 HasReason t replicas Memory = Unit {0}
-HasReason t replicas (NotCertified fault) = IsNotCertified t replicas fault
-HasReason t replicas (Stalled polls) = Unit {0}
+HasReason t replicas (Refused (cause.File iface written)) = Unit {0}
+HasReason t replicas (Refused cause.Net) = Unit {0}
+HasReason t replicas (Refused (cause.NotCertified fault)) = IsNotCertified t replicas fault
+HasReason t replicas (Refused (cause.Stalled polls)) = Unit {0}
+HasReason t replicas (Refused cause.Broken) = Unit {0}
 
 -- it may be that a trace file did not get its name: those before it have theirs then
-abbrev pub IsOfFiles : RunFault → Type 0
-IsOfFiles fault = ((iface written : ℕ) × (fault ≡ File iface written)) ⊎ (fault ≡ Memory)
+abbrev pub IsOfFiles : Fault RunCause → Type 0
+IsOfFiles fault =
+    ((iface written : ℕ) × (fault ≡ Refused (cause.File iface written))) ⊎ (fault ≡ Memory)

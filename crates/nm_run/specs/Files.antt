@@ -21,12 +21,12 @@ pub record AreFilesOf (folder : List ℕ) (t : TopologyValue) (totals : List Ifa
       → (x : IfaceValue) (own : IfaceTotals) → slice_get t.ifaces i ≡ Some x
       → slice_get totals i ≡ Some own → IsFileOf folder x own file
 
--- they were closed, where it is told which files were placed
+-- such files were closed, where it is told which files were placed
 abbrev pub AreClosed : {C : Type 0} → (C → Option (List ℕ × List ℕ)) → Option Files
-    → (folder : List ℕ) → TopologyValue → List IfaceTotals → ℕ → List (ClosedFile C) → Type 0
-AreClosed closed made folder t totals n all =
+    → (Files → Type 0) → List (ClosedFile C) → Type 0
+AreClosed closed made Are all =
     (first : Files) → made ≡ Some first
-    → (files : Files) × AreFilesOf folder t totals n files
+    → (files : Files) × Are files
     × (map (λ c. closed c.file) all ≡ map (λ file. Some file) files)
 
 -- behind the files that were placed before came one of each interface, where it is told which files

@@ -1,5 +1,7 @@
 -- What a run comes to.
 use Rattle.std.specs.Prelude.{◌≡◌, ◌⊎◌, ℕ, ◌+◌, ◌*◌, ◌<◌, List, length, slice_get, Some, Result, Ok, Err}
+use Rattle.nm_base.specs.declared.fault.Fault.{Fault}
+use Rattle.nm_base.specs.declared.fault.Fault.TheVariants.{Memory, Refused}
 use Rattle.nm_base.specs.declared.record.Record.{Record}
 use Rattle.nm_topology.specs.TopologyValue.{TopologyValue}
 use Rattle.nm_sim.specs.Totals.{totals_of}
@@ -7,8 +9,8 @@ use Rattle.nm_sim.specs.Trace.{IsTraceBefore}
 use Rattle.nm_book.specs.Book.{BookValue}
 use Rattle.nm_rounds.specs.Certify.{AreCertified, Certifies}
 use Rattle.nm_rounds.specs.declared.certify.CertFault.{CertFault}
-use Rattle.nm_run.specs.declared.fault.RunFault.{RunFault}
-use Rattle.nm_run.specs.declared.fault.RunFault.TheVariants.{Memory, NotCertified}
+use Rattle.nm_run.specs.declared.fault.RunCause.{RunCause}
+use Rattle.nm_run.specs.declared.fault.RunCause.TheVariants.{NotCertified}
 use Rattle.nm_run.specs.declared.report.IfaceTotals.{IfaceTotals}
 
 -- the totals of an interface are those of its records in the trace of the one event list, over the
@@ -50,7 +52,8 @@ IsNotCertified t replicas fault =
     (books : List BookValue) × AreOfRun t replicas books × Certifies t books (Err fault)
 
 -- what the certificate says of books, as the fault of a run; or memory was refused
-abbrev pub CertifiesRun : TopologyValue → List BookValue → Result Unit RunFault → Type 0
+abbrev pub CertifiesRun : TopologyValue → List BookValue → Result Unit (Fault RunCause) → Type 0
 CertifiesRun t books (Ok u) = AreCertified t books
 CertifiesRun t books (Err fault) = (fault ≡ Memory)
-    ⊎ ((found : CertFault) × (fault ≡ NotCertified found) × Certifies t books (Err found))
+    ⊎ ((found : CertFault) × (fault ≡ Refused (NotCertified found))
+    × Certifies t books (Err found))

@@ -6,8 +6,7 @@ ghost use Rattle.nm_files.specs.Files.{AreCounted};
 ghost use Rattle.nm_files.specs.Outputs.{Files};
 ghost use Rattle.nm_run.specs.Report.{AreOfRun, AreInPlace, CertifiesRun, IsInPlace};
 
-use crate::dispatching::Dispatcher;
-use crate::fault::RunFault;
+use crate::fault::{RunCause, RunFault};
 use crate::run::RunPlan;
 use crate::sides::SideEnd;
 use crate::stop::Stop;
@@ -15,10 +14,10 @@ use nm_base::Sink;
 use nm_book::Book;
 use nm_files::TraceFiles;
 use nm_rounds::certify::certify;
+use nm_shared::workers::BookPass;
 use nm_shared::{Pass, Plain, SharedBook};
 use nm_topology::Topology;
 use std::alloc::{AllocError, Global};
-use std::mem;
 
 /// The passes of each book.
 #[derive(Drop)]
@@ -51,14 +50,6 @@ impl Passes {
         }
         Ok(())
     }
-
-    /// Those of a book.
-    fn take(&mut self, alloc: Global, book: usize) -> Vec<Pass<Plain>> {
-        match self.lists.get_mut(book) {
-            Some(list) => mem::replace(list, Vec::new(alloc)),
-            None => Vec::new(alloc),
-        }
-    }
 }
 
 /// What replicas held: their passes go to the others, and their trace files are given.
@@ -85,22 +76,6 @@ fn gather_sides<S: Sink + Drop>(
         files.push(own)?;
     }
     Ok(files)
-}
-
-/// The passes of the dispatcher and of its jobs.
-fn gather_jobs(passes: &mut Passes, dispatcher: Dispatcher) -> Result<(), AllocError> {
-    let Dispatcher {
-        watched,
-        passes: jobs,
-        ..
-    } = dispatcher;
-    for (book, watched) in watched.into_iter().enumerate() {
-        passes.add(book, watched.into_pass())?;
-    }
-    for job in jobs {
-        passes.add(job.book, job.pass)?;
-    }
-    Ok(())
 }
 
 /// Whether a book is that of the replica which has this number among so many replicas of each
@@ -140,28 +115,26 @@ fn close_one(
 fn close_books(
     alloc: Global,
     books: Vec<SharedBook<Plain>>,
-    passes: &mut Passes,
+    passes: Passes,
     replicas: u8,
 ) -> Result<Vec<Book>, Stop>
     ensures { IfOk result (λ closed. AreInPlace replicas closed.items) }
 {
     let mut closed = Vec::new(alloc);
-    for book in books {
-        let number = closed.len();
-        let own = passes.take(alloc, number);
-        let one = close_one(book, own, replicas, number)?;
+    for (book, own) in books.into_iter().zip(passes.lists) {
+        let one = close_one(book, own, replicas, closed.len())?;
         closed.push(one)?;
     }
     Ok(closed)
 }
 
-/// The books and the trace files of a run that is over.
+/// The books and the trace files of a run that is over, whose dispatcher had these passes.
 pub(crate) fn close_run<S: Sink + Drop>(
     alloc: Global,
     plan: &RunPlan<'_>,
     books: Vec<SharedBook<Plain>>,
     ends: Vec<SideEnd<S>>,
-    dispatcher: Dispatcher,
+    others: Vec<BookPass<Plain>>,
 ) -> Result<(Vec<Book>, Vec<TraceFiles<S>>), Stop>
     ensures books { IfOk result
         (λ run. AreOfRun (arc_value plan.now.topology.now) plan.now.replicas run.0.items) }
@@ -171,8 +144,10 @@ pub(crate) fn close_run<S: Sink + Drop>(
 {
     let mut passes = Passes::new(alloc, books.len())?;
     let files = gather_sides(alloc, &mut passes, ends)?;
-    gather_jobs(&mut passes, dispatcher)?;
-    let closed = close_books(alloc, books, &mut passes, plan.replicas)?;
+    for other in others {
+        passes.add(other.book, other.pass)?;
+    }
+    let closed = close_books(alloc, books, passes, plan.replicas)?;
     if closed.len() != plan.topology.partitions() as usize * plan.replicas as usize {
         return Err(Stop::Broken);
     }
@@ -199,6 +174,6 @@ pub(crate) fn certify_all(
     }
     match certify(topology, all.as_slice()) {
         Ok(()) => Ok(()),
-        Err(fault) => Err(RunFault::NotCertified(fault)),
+        Err(fault) => Err(RunFault::Refused(RunCause::NotCertified(fault))),
     }
 }

@@ -9,12 +9,12 @@ use crate::threads::Threaded;
 use mio::{Events, Poll};
 use nm_base::Time;
 use nm_book::Ran;
+use nm_frames::ReplicaName;
 use nm_progress::Figure;
-use nm_replica::Lending;
 use nm_shared::workers::BookPass;
 use nm_shared::{Gate, Job, Plain, PoolReport, Seat, pool};
 use nm_transport::limits::PERIOD_MILLISECONDS;
-use std::alloc::{AllocError, Global};
+use std::alloc::AllocError;
 use std::sync::Wait;
 use std::sync::atomic::Ordering;
 use std::thread::Threads;
@@ -23,8 +23,8 @@ use std::time::Duration;
 /// What the dispatcher has: what it remembers of each book, where it looks at clocks, where it is
 /// woken, and the passes of the jobs so far.
 #[derive(Drop)]
-pub(crate) struct Dispatcher {
-    pub watched: Vec<Watched>,
+pub(crate) struct Dispatcher<'a> {
+    pub watched: Vec<Watched<'a>>,
     pub seat: Seat,
     pub poll: Poll,
     pub events: Events,
@@ -33,39 +33,44 @@ pub(crate) struct Dispatcher {
     pub passes: Vec<BookPass<Plain>>,
 }
 
-/// Notes a job of a book, where that is asked for, and whether the book is lent still.
-fn note_job<G>(threaded: &Threaded<'_, G>, watched: &Watched, lending: &Lending) {
-    if let Some(figures) = threaded.progress.figures() {
-        let own = figures.of(watched.partition, watched.replica);
-        own.add(Figure::Jobs, 1);
-        own.set(Figure::IsLent, u64::from(lending.is_lent()));
+impl<'a> Dispatcher<'a> {
+    /// The passes of jobs, and those with which it looked at books.
+    pub(crate) fn into_passes(self) -> Result<Vec<BookPass<Plain>>, AllocError> {
+        let Dispatcher {
+            watched,
+            mut passes,
+            ..
+        } = self;
+        for one in watched {
+            passes.push(one.into_pass())?;
+        }
+        Ok(passes)
     }
 }
 
-/// Notes the answer of a job, and wakes the replica of its book: how many events it was.
+/// Notes the answer of the job of a book, and wakes its replica: how many events it was. Where that
+/// is asked for the job is counted, and whether the book is lent still.
 fn note<G>(
     threaded: &Threaded<'_, G>,
-    dispatcher: &mut Dispatcher,
-    book: usize,
+    watched: &mut Watched<'_>,
     answer: Ran,
-) -> Result<u64, AllocError>
-    ensures { dispatcher.new.seat ≡ dispatcher.old.seat }
-{
-    match (dispatcher.watched.get_mut(book), threaded.own(book)) {
-        (Some(watched), Some(own)) => {
-            let count = watched.note(answer, own.lending)?;
-            note_job(threaded, watched, own.lending);
-            threaded.wake(book);
-            Ok(count)
-        }
-        _ => Ok(0),
+) -> Result<u64, AllocError> {
+    let count = watched.note(answer)?;
+    let station = watched.own.station;
+    if let Some(figures) = threaded.plan.progress.figures() {
+        let ReplicaName { partition, replica } = station.role.name;
+        let own = figures.of(partition, replica);
+        own.add(Figure::Jobs, 1);
+        own.set(Figure::IsLent, u64::from(station.lending.is_lent()));
     }
+    station.wake();
+    Ok(count)
 }
 
 /// Notes the answers of jobs: how many events they were.
 fn note_all<G>(
     threaded: &Threaded<'_, G>,
-    dispatcher: &mut Dispatcher,
+    dispatcher: &mut Dispatcher<'_>,
     jobs: &[Job],
     answers: &[Ran],
 ) -> Result<u64, AllocError>
@@ -73,7 +78,9 @@ fn note_all<G>(
 {
     let mut events = 0u64;
     for (job, answer) in jobs.iter().zip(answers) {
-        events = events.saturating_add(note(threaded, dispatcher, job.book, *answer)?);
+        if let Some(watched) = dispatcher.watched.get_mut(job.book) {
+            events = events.saturating_add(note(threaded, watched, *answer)?);
+        }
     }
     Ok(events)
 }
@@ -81,21 +88,19 @@ fn note_all<G>(
 /// Does jobs one after another, without another thread: how many events they were.
 fn do_in_turn<G: Gate, R: Wait>(
     rt: &R,
-    alloc: Global,
     threaded: &Threaded<'_, G>,
-    dispatcher: &mut Dispatcher,
+    dispatcher: &mut Dispatcher<'_>,
     jobs: &[Job],
 ) -> Result<u64, AllocError>
     ensures { dispatcher.new.seat ≡ dispatcher.old.seat }
 {
     let mut events = 0u64;
     for (number, job) in jobs.iter().enumerate() {
-        let watched = dispatcher.watched.get_mut(job.book);
-        if let (Some(watched), Some(book)) = (watched, threaded.books.get(job.book)) {
+        if let Some(watched) = dispatcher.watched.get_mut(job.book) {
             threaded.gate.enter(number);
-            let answer = watched.run(rt, alloc, book, job.limit);
+            let answer = watched.run(rt, threaded.alloc, job.limit);
             threaded.gate.leave(number);
-            events = events.saturating_add(note(threaded, dispatcher, job.book, answer)?);
+            events = events.saturating_add(note(threaded, watched, answer)?);
         }
     }
     Ok(events)
@@ -116,15 +121,14 @@ fn keep_all(
 fn give_to_pool<G: Gate + Sync, R: Threads + Wait + Sync>(
     rt: &R,
     threaded: &Threaded<'_, G>,
-    workers: usize,
-    dispatcher: &mut Dispatcher,
+    dispatcher: &mut Dispatcher<'_>,
     jobs: &[Job],
 ) -> Result<u64, AllocError>
-    requires workers { (1 ≤ workers) × (workers ≤ 64) }
+    requires workers { (1 ≤ threaded.now.plan.now.workers) × (threaded.now.plan.now.workers ≤ 64) }
     requires named { All (λ j. j.book < length threaded.now.books.now) jobs.now }
     ensures { dispatcher.new.seat ≡ dispatcher.old.seat }
 {
-    let alloc = threaded.alloc;
+    let (alloc, workers) = (threaded.alloc, threaded.plan.workers);
     let report = pool(rt, alloc, threaded.books, jobs, workers, threaded.gate)?;
     let PoolReport { answers, passes } = report;
     keep_all(&mut dispatcher.passes, passes)?;
@@ -136,47 +140,46 @@ fn give_to_pool<G: Gate + Sync, R: Threads + Wait + Sync>(
 fn give_jobs<G: Gate + Sync, R: Threads + Wait + Sync>(
     rt: &R,
     threaded: &Threaded<'_, G>,
-    workers: usize,
-    dispatcher: &mut Dispatcher,
+    dispatcher: &mut Dispatcher<'_>,
 ) -> Result<u64, AllocError>
-    requires workers { (1 ≤ workers) × (workers ≤ 64) }
+    requires workers { (1 ≤ threaded.now.plan.now.workers) × (threaded.now.plan.now.workers ≤ 64) }
     requires seat { IsSeatOf threaded.now.board.now dispatcher.old.seat }
     ensures { IsSeatOf threaded.now.board.now dispatcher.new.seat }
 {
-    let alloc = threaded.alloc;
     let jobs = jobs_for(
         rt,
-        alloc,
         threaded,
         &mut dispatcher.seat,
         &mut dispatcher.watched,
         dispatcher.looks_at_all,
     )?;
-    if workers == 1 || jobs.len() == 1 {
-        return do_in_turn(rt, alloc, threaded, dispatcher, jobs.as_slice());
+    if threaded.plan.workers == 1 || jobs.len() == 1 {
+        return do_in_turn(rt, threaded, dispatcher, jobs.as_slice());
     }
-    give_to_pool(rt, threaded, workers, dispatcher, jobs.as_slice())
+    give_to_pool(rt, threaded, dispatcher, jobs.as_slice())
 }
 
 /// Notes how far all partitions are, and which is furthest behind.
-fn note_progress<G>(threaded: &Threaded<'_, G>, all: &[Watched]) {
+fn note_progress<G>(threaded: &Threaded<'_, G>, all: &[Watched<'_>]) {
     let (mut time, mut records) = (u64::MAX, 0u64);
     for watched in all {
-        if watched.replica == 0 {
+        let name = watched.own.station.role.name;
+        if name.replica == 0 {
             records = records.saturating_add(watched.records);
             if watched.safe < time {
                 time = watched.safe;
-                threaded.progress.note_last(watched.partition);
+                threaded.plan.progress.note_last(name.partition);
             }
         }
     }
     threaded
+        .plan
         .progress
         .note(Time::from_nanoseconds(time), records);
 }
 
 /// Waits until it is woken, or the time is over.
-fn listen(dispatcher: &mut Dispatcher)
+fn listen(dispatcher: &mut Dispatcher<'_>)
     ensures { dispatcher.new.seat ≡ dispatcher.old.seat }
 {
     let limit = Duration::from_millis(PERIOD_MILLISECONDS);
@@ -185,7 +188,7 @@ fn listen(dispatcher: &mut Dispatcher)
 }
 
 /// Whether all books are done.
-fn are_done(watched: &[Watched]) -> bool
+fn are_done(watched: &[Watched<'_>]) -> bool
     ensures { result ≡ list_all (λ w. w.is_done) watched.now }
 {
     watched.iter().all(|watched| watched.is_done)
@@ -198,12 +201,10 @@ fn are_done(watched: &[Watched]) -> bool
 /// Where memory was refused, to a job or to the pool. The replicas are told then.
 pub(crate) fn dispatch<G: Gate + Sync, R: Threads + Wait + Sync>(
     rt: &R,
-    alloc: Global,
     threaded: &Threaded<'_, G>,
-    workers: usize,
-    dispatcher: &mut Dispatcher,
+    dispatcher: &mut Dispatcher<'_>,
 ) -> Result<(), AllocError>
-    requires workers { (1 ≤ workers) × (workers ≤ 64) }
+    requires workers { (1 ≤ threaded.now.plan.now.workers) × (threaded.now.plan.now.workers ≤ 64) }
     requires seat { IsSeatOf threaded.now.board.now dispatcher.old.seat }
 {
     let mut were_done = false;
@@ -211,7 +212,7 @@ pub(crate) fn dispatch<G: Gate + Sync, R: Threads + Wait + Sync>(
         if threaded.are_over() {
             return Ok(());
         }
-        let Ok(events) = give_jobs(rt, threaded, workers, dispatcher) else {
+        let Ok(events) = give_jobs(rt, threaded, dispatcher) else {
             threaded.fail();
             return Err(AllocError);
         };

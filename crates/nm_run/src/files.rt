@@ -5,7 +5,7 @@ ghost use Rattle.std.specs.Prelude.{length, map, slice_get};
 ghost use Rattle.nm_files.specs.Files.{AreCounted, IsCounted};
 ghost use Rattle.nm_files.specs.Outputs.{AreWhole, Files, HasMade};
 ghost use Rattle.nm_run.specs.Faults.{IsOfFiles, run_fault};
-ghost use Rattle.nm_run.specs.Files.{AreClosed, IsFileOf};
+ghost use Rattle.nm_run.specs.Files.{AreClosed, AreFilesOf, IsFileOf};
 ghost use Rattle.nm_topology.specs.PartValues.{IfaceValue};
 
 use crate::report::IfaceTotals;
@@ -16,7 +16,6 @@ use nm_files::names::name_of;
 use nm_files::{OutputFault, Outputs, TraceFiles};
 use nm_pcap::PcapOut;
 use nm_topology::Topology;
-use nm_topology::topology::accepted_topologies_are_in_order;
 use std::alloc::Global;
 
 /// Where the trace files of a network stand.
@@ -67,10 +66,9 @@ pub(crate) fn open_files<F: Outputs>(
         (λ f. AreCounted F.File.seen (F.made outputs.old) f.files.items) }
     ensures same { F.made outputs.new ≡ F.made outputs.old }
 {
-    accepted_topologies_are_in_order(folder.topology); // law: there are few interfaces
     let mut files = TraceFiles::new(alloc);
     for number in 0..folder.topology.ifaces().len() {
-        let iface = IfaceNo::new(number as u32);
+        let iface = folder.topology.iface_number(number);
         open_own(alloc, folder, partition, iface, outputs, &mut files)?;
     }
     Ok(files)
@@ -153,15 +151,14 @@ pub(crate) fn close_all<F: Outputs>(
     requires counted { All (λ own. AreCounted F.File.seen (F.made outputs.old) own.files.items)
         files.items }
     ensures closed { IfOk result (λ closed. AreClosed F.closed (F.made outputs.old)
-        folder.entry.folder.now folder.entry.topology.now totals.now
-        (length folder.entry.topology.now.ifaces) closed.items) }
+        (AreFilesOf folder.entry.folder.now folder.entry.topology.now totals.now
+        (length folder.entry.topology.now.ifaces)) closed.items) }
     ensures same { F.made outputs.new ≡ F.made outputs.old }
 {
-    accepted_topologies_are_in_order(folder.topology); // law: there are few interfaces
     let mut files = files;
     let mut closed = Vec::new(alloc);
     for number in 0..folder.topology.ifaces().len() {
-        let iface = IfaceNo::new(number as u32);
+        let iface = folder.topology.iface_number(number);
         let Some(file) = take_file(folder.topology, replicas, iface, &mut files) else {
             return Err(Stop::Broken);
         };

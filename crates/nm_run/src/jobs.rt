@@ -5,17 +5,16 @@ ghost use Rattle.std.specs.Prelude.{length};
 ghost use Rattle.nm_book.specs.declared.running.Ran.TheVariants.{All as AllDone, Limit, Memory};
 ghost use Rattle.nm_shared.specs.Board.{IsSeatOf};
 
-use crate::threads::{Own, Threaded};
-use nm_base::{ChanNo, PartNo};
+use crate::stations::Own;
+use crate::threads::Threaded;
+use nm_base::PartNo;
 use nm_book::Ran;
 use nm_book::channels::comes_in;
-use nm_peers::Listener;
-use nm_replica::Lending;
 use nm_replica::acts::{Stand, Standing};
 use nm_shared::board::word_of;
-use nm_shared::{ClockBoard, Job, Pass, Plain, Seat, SharedBook};
+use nm_shared::workers::BookPass;
+use nm_shared::{ClockBoard, Job, Pass, Plain, Seat};
 use nm_topology::Topology;
-use nm_topology::topology::accepted_topologies_are_in_order;
 use std::alloc::{AllocError, Global};
 use std::sync::Wait;
 
@@ -26,15 +25,13 @@ const JOB_EVENTS: u64 = 4_096;
 /// many as one job may make, so that one is done while those of the last are written.
 const MAX_KEPT: u64 = 2 * JOB_EVENTS;
 
-/// What the dispatcher remembers of a book.
+/// What the dispatcher remembers of a replica's book.
 #[derive(Drop)]
-pub(crate) struct Watched {
+pub(crate) struct Watched<'a> {
+    pub own: Own<'a>,
     pass: Pass<Plain>,
     /// The words of the channels that come in.
     words: Vec<usize>,
-    /// 0 or 1.
-    pub replica: u8,
-    pub partition: PartNo,
     /// The safe time when it was looked at last, in nanoseconds.
     pub safe: u64,
     /// How many records it had then.
@@ -51,11 +48,9 @@ fn words_of(
     partition: PartNo,
     replicas: u8,
 ) -> Result<Vec<usize>, AllocError> {
-    accepted_topologies_are_in_order(topology); // law: there are few channels
-    let count = topology.receivers().len() as u32;
     let mut words = Vec::new(alloc);
-    for number in 0..count {
-        let channel = ChanNo::new(number);
+    for number in 0..topology.receivers().len() {
+        let channel = topology.channel_number(number);
         if comes_in(topology, partition, channel) {
             for replica in 0..replicas {
                 words.push(word_of(channel, replica))?;
@@ -85,20 +80,20 @@ fn is_full(standing: Standing) -> bool
     standing.records.saturating_sub(standing.handed) > MAX_KEPT
 }
 
-impl Watched {
-    /// The book of the replica that listens here, which has had no job.
+impl<'a> Watched<'a> {
+    /// The book of this replica, which has had no job.
     pub(crate) fn new(
         alloc: Global,
         topology: &Topology,
-        listener: &Listener,
         replicas: u8,
+        own: Own<'a>,
         pass: Pass<Plain>,
     ) -> Result<Self, AllocError> {
+        let partition = own.station.role.name.partition;
         Ok(Watched {
-            words: words_of(alloc, topology, listener.partition, replicas)?,
+            words: words_of(alloc, topology, partition, replicas)?,
+            own,
             pass,
-            replica: listener.replica,
-            partition: listener.partition,
             safe: 0,
             records: 0,
             is_stale: true,
@@ -107,8 +102,11 @@ impl Watched {
     }
 
     /// Its pass of the book.
-    pub(crate) fn into_pass(self) -> Pass<Plain> {
-        self.pass
+    pub(crate) fn into_pass(self) -> BookPass<Plain> {
+        BookPass {
+            book: self.own.station.role.index,
+            pass: self.pass,
+        }
     }
 
     /// Whether the book is to have a job: it is lent, and does not keep too many records. A book
@@ -117,7 +115,6 @@ impl Watched {
     fn wants<R: Wait>(
         &mut self,
         rt: &R,
-        own: &Own<'_>,
         board: &ClockBoard,
         seat: &mut Seat,
         looks_at_all: bool,
@@ -128,12 +125,12 @@ impl Watched {
         if self.is_done {
             return false;
         }
-        let is_lent = own.lending.is_lent();
+        let is_lent = self.own.station.lending.is_lent();
         let is_due = is_lent || self.is_stale || looks_at_all;
         if !is_due && !has_news(board, seat, self.words.as_slice(), self.safe) {
             return false;
         }
-        let standing = own.book.act(rt, &mut self.pass, Stand);
+        let standing = self.own.book.act(rt, &mut self.pass, Stand);
         self.safe = standing.safe.nanoseconds();
         self.records = standing.records;
         self.is_done = standing.is_done;
@@ -142,14 +139,8 @@ impl Watched {
     }
 
     /// Does a job of the book with its own pass.
-    pub(crate) fn run<R: Wait>(
-        &mut self,
-        rt: &R,
-        alloc: Global,
-        book: &SharedBook<Plain>,
-        limit: u64,
-    ) -> Ran {
-        book.run(rt, &mut self.pass, alloc, limit)
+    pub(crate) fn run<R: Wait>(&mut self, rt: &R, alloc: Global, limit: u64) -> Ran {
+        self.own.book.run(rt, &mut self.pass, alloc, limit)
     }
 
     /// Its job was done: how many events it was. A job that left none gives the book back.
@@ -157,14 +148,14 @@ impl Watched {
     /// # Errors
     ///
     /// Where memory was refused to the job.
-    pub(crate) fn note(&mut self, answer: Ran, lending: &Lending) -> Result<u64, AllocError>
+    pub(crate) fn note(&mut self, answer: Ran) -> Result<u64, AllocError>
         ensures { MatchResult result (λ n. (answer ≡ AllDone n) ⊎ (answer ≡ Limit n))
             (λ _. (n : ℕ) × (answer ≡ Memory n)) }
     {
         self.is_stale = true;
         match answer {
             Ran::All(count) => {
-                lending.give_back();
+                self.own.station.lending.give_back();
                 Ok(count)
             }
             Ran::Limit(count) => Ok(count),
@@ -176,10 +167,9 @@ impl Watched {
 /// Jobs for the books that have something to do.
 pub(crate) fn jobs_for<G, R: Wait>(
     rt: &R,
-    alloc: Global,
     threaded: &Threaded<'_, G>,
     seat: &mut Seat,
-    watched: &mut Vec<Watched>,
+    watched: &mut Vec<Watched<'_>>,
     looks_at_all: bool,
 ) -> Result<Vec<Job>, AllocError>
     requires { IsSeatOf threaded.now.board.now seat.old }
@@ -187,13 +177,12 @@ pub(crate) fn jobs_for<G, R: Wait>(
     ensures named { IfOk result
         (λ jobs. All (λ j. j.book < length threaded.now.books.now) jobs.items) }
 {
-    let mut jobs = Vec::new(alloc);
-    for number in 0..watched.len() {
-        let wants = match (watched.get_mut(number), threaded.own(number)) {
-            (Some(one), Some(own)) => one.wants(rt, &own, threaded.board, seat, looks_at_all),
-            _ => false,
+    let mut jobs = Vec::new(threaded.alloc);
+    for number in 0..threaded.books.len() {
+        let Some(one) = watched.get_mut(number) else {
+            break;
         };
-        if wants && number < threaded.books.len() {
+        if one.wants(rt, threaded.board, seat, looks_at_all) {
             jobs.push(Job {
                 book: number,
                 limit: JOB_EVENTS,

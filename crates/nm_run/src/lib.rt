@@ -14,10 +14,11 @@ pub mod report;
 pub mod run;
 pub mod runtime;
 mod sides;
+mod stations;
 pub mod stop;
 mod threads;
 
-pub use fault::RunFault;
+pub use fault::{RunCause, RunFault};
 pub use report::{IfaceTotals, Report};
 pub use run::{RunPlan, run_all};
 pub use runtime::Runtime;

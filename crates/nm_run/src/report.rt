@@ -16,7 +16,6 @@ use nm_forward::NodeState;
 use nm_model::trace::interfaces_have_their_records;
 use nm_sim::network::every_topology_is_a_network;
 use nm_topology::Topology;
-use nm_topology::topology::accepted_topologies_are_in_order;
 use std::alloc::{AllocError, Global};
 
 /// How many records an interface has, and the octets of its trace file, which stop at 2^64 - 1.
@@ -76,10 +75,9 @@ pub(crate) fn report_of(
     requires { AreCertified topology.now books.now }
     ensures { IfOk result (λ report. AreTotals topology.now report.totals.items) }
 {
-    accepted_topologies_are_in_order(topology); // law: there are few interfaces
     let mut totals = Vec::new(alloc);
     for number in 0..topology.ifaces().len() {
-        totals.push(totals_of(topology, books, IfaceNo::new(number as u32)))?;
+        totals.push(totals_of(topology, books, topology.iface_number(number)))?;
     }
     Ok(Report { totals })
 }

@@ -1,12 +1,12 @@
 //! A run of all partitions.
 
-ghost use Rattle.std.specs.Prelude.{◌≡◌, ◌⊎◌, ℕ, ◌+◌, ◌-◌, ◌^◌, ◌<◌, ◌≤◌, All, IfErr, IfOk, None};
-ghost use Rattle.std.specs.Prelude.{Some, length};
+ghost use Rattle.std.specs.Prelude.{◌≡◌, ◌⊎◌, ◌≤◌, All, IfErr, IfOk, length};
 ghost use Rattle.std.specs.Arc.{arc_value};
 ghost use Rattle.nm_files.specs.Files.{AreCounted};
 ghost use Rattle.nm_run.specs.Faults.{HasReason, IsOfFiles};
 ghost use Rattle.nm_replica.specs.Seats.{board_of};
-ghost use Rattle.nm_run.specs.Files.{AreClosed, HaveFiles};
+ghost use Rattle.nm_run.specs.Files.{AreClosed, AreFilesOf, HaveFiles};
+ghost use Rattle.nm_shared.specs.Board.{AreFirstOwners};
 ghost use Rattle.nm_run.specs.Report.{AreOfRun, IsCertifiedRun};
 
 use crate::closing::{certify_all, close_run};
@@ -18,19 +18,20 @@ use crate::jobs::Watched;
 use crate::posts::{Post, Posts, open_posts, woken_poll};
 use crate::report::{Report, report_of};
 use crate::runtime::Runtime;
-use crate::sides::{Role, Side, SideEnd, run_threads};
+use crate::sides::{Side, SideEnd, run_threads};
+use crate::stations::Own;
 use crate::stop::Stop;
 use crate::threads::Threaded;
-use mio::{Events, Waker};
+use mio::{Events, Poll};
 use nm_base::PartNo;
 use nm_book::{Book, BookFault};
 use nm_files::{Outputs, TraceFiles};
-use nm_frames::ReplicaName;
-use nm_peers::{Listener, peers_of};
+use nm_peers::peers_of;
 use nm_progress::Progress;
 use nm_replica::seats::Dealt;
-use nm_replica::{Holdings, Lending, OwnSeats};
-use nm_shared::{ClockBoard, Gate, Pass, Plain, Seat, SharedBook};
+use nm_replica::{Holdings, OwnSeats};
+use nm_shared::workers::BookPass;
+use nm_shared::{ClockBoard, Gate, OwnerSeat, Pass, Plain, Seat, SharedBook};
 use nm_topology::Topology;
 use std::alloc::{AllocError, Global};
 use std::net::Net;
@@ -91,22 +92,11 @@ fn passes_of<R: Wait>(
     Ok(passes)
 }
 
-/// What the replicas of a run begin with.
-#[derive(Clone, Copy)]
-struct Opened<'a> {
-    alloc: Global,
-    plan: &'a RunPlan<'a>,
-    /// By partition and replica.
-    books: &'a [SharedBook<Plain>],
-    listeners: &'a [Listener],
-}
-
-/// What the replica that listens here holds.
-fn holdings_of<'a, F: Outputs, R: Wait>(
+/// What a replica holds.
+fn holdings_of<'a, F: Outputs, G, R: Wait>(
     rt: &R,
-    opened: &Opened<'_>,
-    book: &SharedBook<Plain>,
-    listener: &Listener,
+    threaded: &Threaded<'_, G>,
+    own: Own<'_>,
     seats: OwnSeats<'a>,
     outputs: &mut F,
 ) -> Result<Holdings<'a, Plain, F::File>, Stop>
@@ -116,53 +106,28 @@ fn holdings_of<'a, F: Outputs, R: Wait>(
     ensures same { F.made outputs.new ≡ F.made outputs.old }
 {
     let folder = TraceFolder {
-        topology: opened.plan.topology,
-        folder: opened.plan.folder,
+        topology: threaded.plan.topology,
+        folder: threaded.plan.folder,
     };
-    let files = if listener.replica == 0 {
-        open_files(opened.alloc, folder, listener.partition, outputs)?
+    let name = own.station.role.name;
+    let files = if name.replica == 0 {
+        open_files(threaded.alloc, folder, name.partition, outputs)?
     } else {
-        TraceFiles::new(opened.alloc)
+        TraceFiles::new(threaded.alloc)
     };
     Ok(Holdings {
-        pass: book.pass(rt)?,
-        passes: passes_of(rt, opened.alloc, opened.books)?,
+        pass: own.book.pass(rt)?,
+        passes: passes_of(rt, threaded.alloc, threaded.books)?,
         seats,
         files,
     })
 }
 
-/// Where the book of the other replica of a partition stands, if it has two, of which this one's
-/// stands at an index.
-fn sister_of(replicas: u8, replica: u8, index: usize) -> Option<usize>
-    ensures two { (first : ℕ) → replicas ≡ 2 → replica < 2 → index ≡ first + replica
-        → first + 1 < 2 ^ 64 → result ≡ Some (first + (1 - replica)) }
-    ensures one { replicas ≡ 1 → result ≡ None }
-{
-    if replicas != 2 {
-        return None;
-    }
-    if replica == 0 {
-        return Some(index.saturating_add(1));
-    }
-    Some(index.saturating_sub(1))
-}
-
-/// Which replica of the run listens here, whose book stands at this index.
-fn role_of(plan: &RunPlan<'_>, index: usize, listener: &Listener) -> Role {
-    Role {
-        index,
-        partition: listener.partition,
-        replica: listener.replica,
-        sister: sister_of(plan.replicas, listener.replica, index),
-    }
-}
-
-/// The replica whose book stands at this index.
-fn side_of<'a, F: Outputs, R: Wait>(
+/// A replica that is to run.
+fn side_of<'a, F: Outputs, G, R: Wait>(
     rt: &R,
-    opened: &Opened<'_>,
-    index: usize,
+    threaded: &Threaded<'_, G>,
+    own: Own<'a>,
     post: Post,
     seats: OwnSeats<'a>,
     outputs: &mut F,
@@ -172,119 +137,82 @@ fn side_of<'a, F: Outputs, R: Wait>(
         (λ s. AreCounted F.File.seen (F.made outputs.old) s.holdings.files.files.items) }
     ensures same { F.made outputs.new ≡ F.made outputs.old }
 {
-    let (Some(listener), Some(book)) = (opened.listeners.get(index), opened.books.get(index)) else {
-        return Err(Stop::Broken);
-    };
     let peers = peers_of(
-        opened.alloc,
-        opened.plan.topology,
-        listener.partition,
-        opened.listeners,
+        threaded.alloc,
+        threaded.plan.topology,
+        own.station.role.name.partition,
+        threaded.listeners,
     )?;
     Ok(Side {
-        role: role_of(opened.plan, index, listener),
-        holdings: holdings_of(rt, opened, book, listener, seats, outputs)?,
+        own,
+        holdings: holdings_of(rt, threaded, own, seats, outputs)?,
         post,
         peers,
     })
 }
 
 /// All replicas.
-fn sides_of<'a, F: Outputs, R: Wait>(
+fn sides_of<'a, F: Outputs, G, R: Wait>(
     rt: &R,
-    opened: &Opened<'_>,
-    seats: OwnSeats<'a>,
+    threaded: &Threaded<'a, G>,
+    owners: Vec<OwnerSeat>,
     posts: Vec<Post>,
     outputs: &mut F,
 ) -> Result<Vec<Side<'a, F::File>>, Stop>
+    requires { AreFirstOwners threaded.now.board.now owners.items }
     ensures board { IfOk result
-        (λ sides. All (λ s. board_of s.holdings.seats ≡ board_of seats.entry) sides.items) }
+        (λ sides. All (λ s. board_of s.holdings.seats ≡ threaded.now.board.now) sides.items) }
     ensures counted { IfOk result (λ sides. All (λ s. AreCounted F.File.seen
         (F.made outputs.old) s.holdings.files.files.items) sides.items) }
     ensures same { F.made outputs.new ≡ F.made outputs.old }
 {
-    let mut sides = Vec::new(opened.alloc);
-    let mut rest = seats;
-    for (index, post) in posts.into_iter().enumerate() {
-        let Dealt { own, others } = own_and_others(opened, index, rest)?;
+    let mut sides = Vec::new(threaded.alloc);
+    let mut rest = OwnSeats::all(threaded.board, owners);
+    let replicas = threaded.stations.iter().zip(threaded.books);
+    for (post, (station, book)) in posts.into_iter().zip(replicas) {
+        let name = station.role.name;
+        let Dealt { own: seats, others } = rest.deal(threaded.alloc, threaded.plan.topology, name)?;
         rest = others;
-        sides.push(side_of(rt, opened, index, post, own, outputs)?)?;
+        sides.push(side_of(rt, threaded, Own { station, book }, post, seats, outputs)?)?;
     }
     Ok(sides)
 }
 
-/// The seats of the replica whose book stands at this index, and the others.
-fn own_and_others<'a>(
-    opened: &Opened<'_>,
-    index: usize,
-    seats: OwnSeats<'a>,
-) -> Result<Dealt<'a>, Stop>
-    ensures { IfOk result (λ d. (board_of d.own ≡ board_of seats.entry)
-        × (board_of d.others ≡ board_of seats.entry)) }
-{
-    let Some(listener) = opened.listeners.get(index) else {
-        return Err(Stop::Broken);
-    };
-    let replica = ReplicaName {
-        partition: listener.partition,
-        replica: listener.replica,
-    };
-    let topology = opened.plan.topology;
-    Ok(seats.deal(opened.alloc, topology, replica)?)
-}
-
-/// Each book is lent to the pool at first. A partition that is alone has no messages to wait for:
-/// its own threads run its books, and write records while they are near the processor.
-fn lendings_for(
-    alloc: Global,
-    topology: &Topology,
-    books: &[SharedBook<Plain>],
-) -> Result<Vec<Lending>, AllocError> {
-    let is_alone = topology.partitions() == 1;
-    let mut lendings = Vec::with_capacity(alloc, books.len())?;
-    for _ in books {
-        let lending = if is_alone {
-            Lending::alone()
-        } else {
-            Lending::new()
-        };
-        lendings.push(lending)?;
-    }
-    Ok(lendings)
-}
-
-/// What the dispatcher remembers of each book at first.
-fn watch_all<R: Wait>(rt: &R, opened: &Opened<'_>) -> Result<Vec<Watched>, AllocError> {
-    let (topology, replicas) = (opened.plan.topology, opened.plan.replicas);
-    let mut watched = Vec::new(opened.alloc);
-    for (book, listener) in opened.books.iter().zip(opened.listeners) {
-        let pass = book.pass(rt)?;
-        watched.push(Watched::new(opened.alloc, topology, listener, replicas, pass)?)?;
+/// What the dispatcher remembers of each replica at first.
+fn watch_all<'a, G, R: Wait>(
+    rt: &R,
+    threaded: &Threaded<'a, G>,
+) -> Result<Vec<Watched<'a>>, AllocError> {
+    let (topology, replicas) = (threaded.plan.topology, threaded.plan.replicas);
+    let mut watched = Vec::new(threaded.alloc);
+    for (station, book) in threaded.stations.iter().zip(threaded.books) {
+        let own = Own { station, book };
+        watched.push(Watched::new(threaded.alloc, topology, replicas, own, book.pass(rt)?)?)?;
     }
     Ok(watched)
 }
 
-/// A dispatcher at the beginning of a run, and what wakes it.
-fn dispatcher_of<R: Net + Wait>(
+/// A dispatcher at the beginning of a run, which is woken at this poll.
+fn dispatcher_of<'a, G, R: Wait>(
     rt: &R,
-    opened: &Opened<'_>,
+    threaded: &Threaded<'a, G>,
+    poll: Poll,
     seat: Seat,
-) -> Result<(Dispatcher, Waker), Stop>
-    ensures { IfOk result (λ d. d.0.seat ≡ seat) }
+) -> Result<Dispatcher<'a>, AllocError>
+    ensures { IfOk result (λ d. d.seat ≡ seat) }
 {
-    let (poll, waker) = woken_poll(rt)?;
-    let dispatcher = Dispatcher {
-        watched: watch_all(rt, opened)?,
+    Ok(Dispatcher {
+        watched: watch_all(rt, threaded)?,
         seat,
         poll,
-        events: Events::with_capacity(opened.alloc, 1)?,
+        events: Events::with_capacity(threaded.alloc, 1)?,
         looks_at_all: true,
-        passes: Vec::new(opened.alloc),
-    };
-    Ok((dispatcher, waker))
+        passes: Vec::new(threaded.alloc),
+    })
 }
 
-/// Runs all replicas over their books until all have ended, each as it should.
+/// Runs all replicas over their books until all have ended, each as it should: how they ended, and
+/// the passes that the dispatcher had.
 fn run_books<'x, F: Outputs, G: Gate + Sync, R>(
     rt: &R,
     alloc: Global,
@@ -292,7 +220,7 @@ fn run_books<'x, F: Outputs, G: Gate + Sync, R>(
     books: &'x [SharedBook<Plain>],
     outputs: &mut F,
     gate: &'x G,
-) -> Result<(Vec<SideEnd<F::File>>, Dispatcher), Stop>
+) -> Result<(Vec<SideEnd<F::File>>, Vec<BookPass<Plain>>), Stop>
 where
     F::File: Send,
     R: Runtime,
@@ -303,40 +231,32 @@ where
 {
     let (board, owners, mut seats) = ClockBoard::new(alloc, plan.topology)?;
     let Some(seat) = seats.pop() else {
-        return Err(Stop::Broken);
+        unreachable!()
     };
     let Posts {
+        stations,
         posts,
         listeners,
-        wakers,
     } = open_posts(rt, alloc, plan.topology.partitions(), plan.replicas)?;
-    let opened = Opened {
+    let (poll, waker) = woken_poll(rt)?;
+    let (ended, has_failed) = (AtomicUsize::new(0), AtomicBool::new(false));
+    let threaded = Threaded {
         alloc,
         plan: &*plan,
         books: &*books,
+        stations: stations.as_slice(),
         listeners: listeners.as_slice(),
-    };
-    let seats = OwnSeats::all(&board, owners);
-    let sides = sides_of(rt, &opened, seats, posts, outputs)?;
-    let (dispatcher, waker) = dispatcher_of(rt, &opened, seat)?;
-    let (ended, has_failed) = (AtomicUsize::new(0), AtomicBool::new(false));
-    let lendings = lendings_for(alloc, plan.topology, books)?;
-    let threaded = Threaded {
-        alloc,
-        topology: &*plan.topology,
-        books: &*books,
         board: &board,
-        lendings: lendings.as_slice(),
-        wakers: wakers.as_slice(),
         dispatcher: &waker,
         ended: &ended,
         has_failed: &has_failed,
         gate: &*gate,
-        progress: plan.progress,
     };
-    let (ends, dispatcher) = run_threads(rt, alloc, &threaded, plan.workers, sides, dispatcher)?;
+    let sides = sides_of(rt, &threaded, owners, posts, outputs)?;
+    let dispatcher = dispatcher_of(rt, &threaded, poll, seat)?;
+    let (ends, passes) = run_threads(rt, &threaded, sides, dispatcher)?;
     check_endings(ends.as_slice())?;
-    Ok((ends, dispatcher))
+    Ok((ends, passes))
 }
 
 /// Runs all partitions, and closes their trace files once all books are certified.
@@ -355,15 +275,15 @@ where
     ensures certified { IfOk result (λ run. IsCertifiedRun (arc_value plan.now.topology.now)
         run.0.totals.items) }
     ensures closed { IfOk result (λ run. AreClosed F.closed (F.made outputs.old)
-        plan.now.folder.now (arc_value plan.now.topology.now) run.0.totals.items
-        (length (arc_value plan.now.topology.now).ifaces) run.1.items) }
+        (AreFilesOf plan.now.folder.now (arc_value plan.now.topology.now) run.0.totals.items
+        (length (arc_value plan.now.topology.now).ifaces)) run.1.items) }
     ensures refused { IfErr result
         (HasReason (arc_value plan.now.topology.now) plan.now.replicas) }
     ensures same { F.made outputs.new ≡ F.made outputs.old }
 {
     let shared = share_all(alloc, plan)?;
-    let (ends, dispatcher) = run_books(rt, alloc, &*plan, shared.as_slice(), outputs, &*gate)?;
-    let (books, files) = close_run(alloc, plan, shared, ends, dispatcher)?;
+    let (ends, passes) = run_books(rt, alloc, &*plan, shared.as_slice(), outputs, &*gate)?;
+    let (books, files) = close_run(alloc, plan, shared, ends, passes)?;
     let report = certified_report(alloc, plan.topology, plan.replicas, books.as_slice())?;
     let folder = TraceFolder {
         topology: plan.topology,

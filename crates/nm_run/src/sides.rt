@@ -12,6 +12,7 @@ use crate::dispatching::{Dispatcher, dispatch};
 use crate::gates::SideGate;
 use crate::posts::Post;
 use crate::runtime::Runtime;
+use crate::stations::Own;
 use crate::stop::Stop;
 use crate::threads::Threaded;
 use nm_base::{PartNo, Sink};
@@ -20,9 +21,9 @@ use nm_frames::ReplicaName;
 use nm_peers::Peers;
 use nm_replica::limits::MAX_IDLE_PERIODS;
 use nm_replica::{Holdings, Served, Service, run_replica};
+use nm_shared::workers::BookPass;
 use nm_shared::{Gate, Pass, Plain};
 use nm_transport::TcpTransport;
-use std::alloc::Global;
 use std::io::{self, ErrorKind};
 use std::net::Net;
 use std::snapshot::Snapshot;
@@ -35,22 +36,10 @@ use std::time::Clock;
 /// when their records are written.
 const OWN_EVENTS: u64 = 128;
 
-/// Which replica of a run it is.
-#[derive(Clone, Copy)]
-pub(crate) struct Role {
-    /// Where its book stands among those of the run.
-    pub index: usize,
-    pub partition: PartNo,
-    /// 0 or 1.
-    pub replica: u8,
-    /// Where its sister's book stands, if it has one.
-    pub sister: Option<usize>,
-}
-
 /// A replica that is to run.
 #[derive(Drop)]
 pub(crate) struct Side<'a, S> {
-    pub role: Role,
+    pub own: Own<'a>,
     pub holdings: Holdings<'a, Plain, S>,
     pub post: Post,
     pub peers: Peers,
@@ -87,7 +76,7 @@ impl<S: Sink> Promise<SideEnd<S>> for TookRecords<S> {
 fn serve<S: Sink, G: Gate, R: Net + Wait + Clock + Drop + Copy>(
     rt: &R,
     threaded: &Threaded<'_, G>,
-    role: Role,
+    own: Own<'_>,
     peers: (&[PartNo], &[ReplicaName]),
     holdings: &mut Holdings<'_, Plain, S>,
     transport: &mut TcpTransport<R>,
@@ -95,23 +84,21 @@ fn serve<S: Sink, G: Gate, R: Net + Wait + Clock + Drop + Copy>(
     ensures took { result ≡ Ended → TookSome S.seen
         holdings.old.files.files.items holdings.new.files.files.items }
 {
-    // There is a book for each replica.
-    let Some(own) = threaded.own(role.index) else {
-        return Served::Net;
-    };
+    let Own { station, book } = own;
+    let ReplicaName { partition, replica } = station.role.name;
     let service = Service {
-        topology: threaded.topology,
-        partition: role.partition,
-        replica: role.replica,
-        book: own.book,
+        topology: threaded.plan.topology,
+        partition,
+        replica,
+        book,
         peers: peers.0,
         callers: peers.1,
         books: threaded.books,
-        sister: role.sister,
+        sister: station.role.sister,
         idle_limit: MAX_IDLE_PERIODS,
         run_limit: OWN_EVENTS,
-        lending: own.lending,
-        progress: Some(threaded.progress),
+        lending: &station.lending,
+        progress: Some(threaded.plan.progress),
         notes_progress: false,
         keeps_records: false,
     };
@@ -119,10 +106,9 @@ fn serve<S: Sink, G: Gate, R: Net + Wait + Clock + Drop + Copy>(
         gate: threaded.gate,
         has_failed: threaded.has_failed,
         dispatcher: threaded.dispatcher,
-        lending: own.lending,
+        lending: &station.lending,
     };
-    let alloc = threaded.alloc;
-    run_replica(rt, alloc, &service, holdings, transport, &gate)
+    run_replica(rt, threaded.alloc, &service, holdings, transport, &gate)
 }
 
 /// How serving ends where there is no transport.
@@ -139,7 +125,6 @@ fn served_of(error: &io::Error) -> Served
 /// Runs a replica until it ends. Where it was not done, all others are told to end too.
 pub(crate) fn run_side<S: Sink, G: Gate, R: Net + Wait + Clock + Drop + Copy>(
     rt: &R,
-    alloc: Global,
     threaded: &Threaded<'_, G>,
     side: Side<'_, S>,
 ) -> SideEnd<S>
@@ -147,23 +132,23 @@ pub(crate) fn run_side<S: Sink, G: Gate, R: Net + Wait + Clock + Drop + Copy>(
         side.entry.holdings.files.files.items result.files.files.items }
 {
     let Side {
-        role,
+        own,
         mut holdings,
         post,
         peers,
     } = side;
-    let index = role.index;
+    let index = own.station.role.index;
     let Post { socket, poll } = post;
     let Peers {
         partitions,
         addresses,
         callers,
     } = peers;
-    let served = match TcpTransport::new(*rt, alloc, poll, socket, addresses) {
+    let served = match TcpTransport::new(*rt, threaded.alloc, poll, socket, addresses) {
         Err(error) => served_of(&error),
         Ok(mut transport) => {
             let peers = (partitions.as_slice(), callers.as_slice());
-            serve(rt, threaded, role, peers, &mut holdings, &mut transport)
+            serve(rt, threaded, own, peers, &mut holdings, &mut transport)
         }
     };
     if served != Served::Ended {
@@ -187,7 +172,7 @@ pub(crate) fn run_side<S: Sink, G: Gate, R: Net + Wait + Clock + Drop + Copy>(
 
 /// Runs all replicas, each in a thread of its own, and the dispatcher in this one, until all have
 /// ended. The dispatcher gives the books that are lent to it to the pool, and begins when all
-/// replicas have begun.
+/// replicas have begun. How the replicas ended, and the passes that the dispatcher had.
 ///
 /// # Errors
 ///
@@ -195,13 +180,11 @@ pub(crate) fn run_side<S: Sink, G: Gate, R: Net + Wait + Clock + Drop + Copy>(
 /// have ended. `Memory` where memory was refused.
 pub(crate) fn run_threads<S: Sink + Drop + Send, G: Gate + Sync, R: Runtime>(
     rt: &R,
-    alloc: Global,
     threaded: &Threaded<'_, G>,
-    workers: usize,
     sides: Vec<Side<'_, S>>,
-    dispatcher: Dispatcher,
-) -> Result<(Vec<SideEnd<S>>, Dispatcher), Stop>
-    requires workers { (1 ≤ workers) × (workers ≤ 64) }
+    dispatcher: Dispatcher<'_>,
+) -> Result<(Vec<SideEnd<S>>, Vec<BookPass<Plain>>), Stop>
+    requires workers { (1 ≤ threaded.now.plan.now.workers) × (threaded.now.plan.now.workers ≤ 64) }
     requires seat { IsSeatOf threaded.now.board.now dispatcher.seat }
     ensures counted { (made : Option Files)
         → All (λ s. AreCounted S.seen made s.holdings.files.files.items) sides.entry.items
@@ -210,15 +193,16 @@ pub(crate) fn run_threads<S: Sink + Drop + Send, G: Gate + Sync, R: Runtime>(
     thread::scope(
         thread::scope_env(),
         rt,
-        move |scope| -> Result<(Vec<SideEnd<S>>, Dispatcher), Stop>
-            requires workers { (1 ≤ workers) × (workers ≤ 64) }
+        move |scope| -> Result<(Vec<SideEnd<S>>, Vec<BookPass<Plain>>), Stop>
+            requires workers { (1 ≤ threaded.now.plan.now.workers)
+                × (threaded.now.plan.now.workers ≤ 64) }
             requires seat { IsSeatOf threaded.now.board.now dispatcher.seat }
             ensures counted { (made : Option Files)
                 → All (λ s. AreCounted S.seen made s.holdings.files.files.items) sides.entry.items
                 → IfOk result (λ run. All (StillCounts S.seen made) run.0.items) }
         {
             let mut dispatcher = dispatcher;
-            let mut threads = Vec::new(alloc);
+            let mut threads = Vec::new(threaded.alloc);
             for side in sides {
                 let promise = TookRecords(Snapshot::of(&side.holdings.files));
                 let begun = scope.spawn_with(
@@ -226,7 +210,7 @@ pub(crate) fn run_threads<S: Sink + Drop + Send, G: Gate + Sync, R: Runtime>(
                     move || -> SideEnd<S>
                         ensures { result.served ≡ Ended → TookSome S.seen
                             side.entry.holdings.files.files.items result.files.files.items }
-                    { run_side(rt, alloc, threaded, side) },
+                    { run_side(rt, threaded, side) },
                 );
                 let Ok(thread) = begun else {
                     threaded.fail();
@@ -237,12 +221,12 @@ pub(crate) fn run_threads<S: Sink + Drop + Send, G: Gate + Sync, R: Runtime>(
                     return Err(Stop::Memory);
                 }
             }
-            dispatch(rt, alloc, threaded, workers, &mut dispatcher)?;
-            let mut ends = Vec::new(alloc);
+            dispatch(rt, threaded, &mut dispatcher)?;
+            let mut ends = Vec::new(threaded.alloc);
             for thread in threads {
                 ends.push(thread.join(rt))?;
             }
-            Ok((ends, dispatcher))
+            Ok((ends, dispatcher.into_passes()?))
         },
     )
 }

@@ -30,7 +30,7 @@ loop-number-preserved g c =
     let there : n < length c.args.totals.now = search rules in
     let none : IfaceTotals = record { records = 0; octets = 0 } in
     let own = get_or c.args.totals.now n none in
-    let here : c.new-iface.result ≡ n = search rules in
+    let here : c.iface_number-iface.result ≡ n = search rules in
     record {
       within = omega (arith, low);
       counted = (c.take_file.ensures (made c.args.outputs.now) c.loop-number.invariant.counted).1;

@@ -16,5 +16,5 @@ pub returns-clause-counted : goal.returns-clause-counted
 returns-clause-counted g c =
     let made = g.F.Outputs.made c.args.outputs.now in
     all_counted g.F.File.Sink.seen made c.in_ok-ends.ends.items
-    (subst (λ ends. All (λ s. s ≡ served.Ended) (map (λ e. e.served) ends)) c.as_slice-4.ensures.value c.in_ok-check_endings.ensures)
+    (subst (λ ends. All (λ s. s ≡ served.Ended) (map (λ e. e.served) ends)) c.as_slice-3.ensures.value c.in_ok-check_endings.ensures)
     (c.in_ok-ends.ensures.counted made c.in_ok-sides.ensures.counted)

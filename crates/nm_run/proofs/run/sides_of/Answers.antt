@@ -4,17 +4,18 @@ use Rattle.nm_files.specs.Files.{AreCounted}
 use Rattle.nm_replica.specs.Seats.{board_of}
 use Rattle.nm_run.proofs.run.sides_of.Goals as goal
 
-pub loop-index-preserved : goal.loop-index-preserved
-loop-index-preserved g c =
-    let last : c.push.new.self.items ≡ c.loop-index.sides.items ++ c.in_ok-side_of.field-0 ∷ [] = search rules in
+pub loop-post-preserved : goal.loop-post-preserved
+loop-post-preserved g c =
+    let board = c.args.threaded.now.board.now in
+    let last : c.push.new.self.items ≡ c.loop-post.sides.items ++ c.in_ok-side_of.field-0 ∷ [] = search rules in
     record {
-      rest = c.in_ok-own.ensures.1 ∙ c.loop-index.invariant.rest;
-      board = subst (All (λ s. board_of s.holdings.seats ≡ board_of c.args.seats)) (sym last)
-          (All-push (λ s. board_of s.holdings.seats ≡ board_of c.args.seats) c.loop-index.sides.items c.in_ok-side_of.field-0 c.loop-index.invariant.board
-          (ap board_of c.in_ok-side_of.ensures.seats ∙ c.in_ok-own.ensures.0 ∙ c.loop-index.invariant.rest));
+      rest = c.in_ok-seats.ensures.others ∙ c.loop-post.invariant.rest;
+      board = subst (All (λ s. board_of s.holdings.seats ≡ board)) (sym last)
+          (All-push (λ s. board_of s.holdings.seats ≡ board) c.loop-post.sides.items c.in_ok-side_of.field-0 c.loop-post.invariant.board
+          (ap board_of c.in_ok-side_of.ensures.seats ∙ c.in_ok-seats.ensures.own ∙ c.loop-post.invariant.rest));
       counted = subst (All (λ s. AreCounted g.F.File.Sink.seen (g.F.Outputs.made c.args.outputs.now) s.holdings.files.files.items)) (sym last)
-          (All-push (λ s. AreCounted g.F.File.Sink.seen (g.F.Outputs.made c.args.outputs.now) s.holdings.files.files.items) c.loop-index.sides.items c.in_ok-side_of.field-0
-          c.loop-index.invariant.counted
-          (subst (λ m. AreCounted g.F.File.Sink.seen m c.in_ok-side_of.field-0.holdings.files.files.items) c.loop-index.invariant.same c.in_ok-side_of.ensures.counted));
-      same = c.in_ok-side_of.ensures.same ∙ c.loop-index.invariant.same;
+          (All-push (λ s. AreCounted g.F.File.Sink.seen (g.F.Outputs.made c.args.outputs.now) s.holdings.files.files.items) c.loop-post.sides.items c.in_ok-side_of.field-0
+          c.loop-post.invariant.counted
+          (subst (λ m. AreCounted g.F.File.Sink.seen m c.in_ok-side_of.field-0.holdings.files.files.items) c.loop-post.invariant.same c.in_ok-side_of.ensures.counted));
+      same = c.in_ok-side_of.ensures.same ∙ c.loop-post.invariant.same;
     }
