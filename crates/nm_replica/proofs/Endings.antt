@@ -6,10 +6,10 @@ use Rattle.nm_replica.specs.declared.served.Served.TheVariants.{Ended, Net, Memo
 use Rattle.nm_replica.specs.Served.{EndsEarly, EndsWith}
 
 pub early_ends : (exact : Bool) (own : Home) (keeps : Bool) (limit before after : ℕ) (s : Served) → EndsEarly s
-    → EndsWith exact own keeps limit before after s
-early_ends exact own keeps limit before after s (inl is) = subst (λ x. EndsWith exact own keeps limit before after x) (sym is) tt
-early_ends exact own keeps limit before after s (inr (inl is)) = subst (λ x. EndsWith exact own keeps limit before after x) (sym is) tt
-early_ends exact own keeps limit before after s (inr (inr (iface, written, is))) = subst (λ x. EndsWith exact own keeps limit before after x) (sym is) tt
+    → EndsWith exact own keeps limit (before, after) s
+early_ends exact own keeps limit before after s (inl is) = subst (λ x. EndsWith exact own keeps limit (before, after) x) (sym is) tt
+early_ends exact own keeps limit before after s (inr (inl is)) = subst (λ x. EndsWith exact own keeps limit (before, after) x) (sym is) tt
+early_ends exact own keeps limit before after s (inr (inr (iface, written, is))) = subst (λ x. EndsWith exact own keeps limit (before, after) x) (sym is) tt
 
 -- who ends early is not done
 pub not_ended : {A : Type 0} (s : Served) → s ≡ Ended → EndsEarly s → A

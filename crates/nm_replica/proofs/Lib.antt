@@ -1,6 +1,4 @@
 pub mod Owners
-pub mod Changing
-pub mod Greeting
 pub mod Endings
 pub mod Polls
 pub mod Recordings

@@ -20,14 +20,14 @@ idles_wait idle false false start before after so_far one = omega (arith, so_far
 -- what `ending_of` says is why serving ends
 pub ends_after : (exact : Bool) (own : Home) (keeps : Bool) (limit before after idle polls : ℕ) (is_done : Bool) (served : Served)
     → (is_done ≡ true → WasFinished exact own keeps) → before + idle ≤ after → ending_of is_done idle limit polls ≡ Some served
-    → EndsWith exact own keeps limit before after served
+    → EndsWith exact own keeps limit (before, after) served
 ends_after exact own keeps limit before after idle polls true served finished idles e =
-    let is : Ended ≡ served = cc in subst (EndsWith exact own keeps limit before after) is (finished refl)
+    let is : Ended ≡ served = cc in subst (EndsWith exact own keeps limit (before, after)) is (finished refl)
 ends_after exact own keeps limit before after idle polls false served finished idles e = by_test (nat_le limit idle) refl e
   where
-    by_test : (b : Bool) → nat_le limit idle ≡ b → (if b then Some (Stalled polls) else None) ≡ Some served → EndsWith exact own keeps limit before after served
+    by_test : (b : Bool) → nat_le limit idle ≡ b → (if b then Some (Stalled polls) else None) ≡ Some served → EndsWith exact own keeps limit (before, after) served
     by_test true is f =
         let few : limit ≤ idle = grind (arith, nat_tests) in
         let same : Stalled polls ≡ served = cc in
-        subst (EndsWith exact own keeps limit before after) same (inl (omega (arith, few, idles)))
+        subst (EndsWith exact own keeps limit (before, after)) same (inl (omega (arith, few, idles)))
     by_test false is f = let none : None ≡ Some served = f in absurd cc

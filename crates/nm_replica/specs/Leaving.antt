@@ -2,13 +2,13 @@
 use Rattle.std.specs.Prelude.{◌≡◌, ℕ, Bool, true, false, List, IfSome, IsSomeAnd}
 use Rattle.slab.specs.Slab.{Slab, get}
 use Rattle.nm_engine.specs.Link.{has_greeted}
-use Rattle.nm_replica.specs.Lasting.{lasted_after}
-use Rattle.nm_replica.specs.Links.{are_sure, have_broken, have_ended}
-use Rattle.nm_replica.specs.Stays.{may_leave, quiet_after}
-use Rattle.nm_replica.specs.declared.callers.Caller.{Caller}
+use Rattle.nm_policy.specs.Lasting.{lasted_after}
+use Rattle.nm_policy.specs.Links.{are_sure, have_broken, have_ended}
+use Rattle.nm_policy.specs.Stays.{may_leave, quiet_after}
+use Rattle.nm_policy.specs.declared.callers.Caller.{Caller}
 use Rattle.nm_replica.specs.declared.connection.Connection.{Connection}
-use Rattle.nm_replica.specs.declared.dialing.Dialing.{Dialing}
-use Rattle.nm_replica.specs.declared.staying.Stay.{Stay}
+use Rattle.nm_policy.specs.declared.dialing.Dialing.{Dialing}
+use Rattle.nm_policy.specs.declared.staying.Stay.{Stay}
 
 -- a connection is open whose peer said Hello, or none is
 abbrev pub IsServing : {W : Type 0} → Slab (Connection W) → Bool → Type 0

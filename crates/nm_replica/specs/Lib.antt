@@ -1,13 +1,8 @@
 pub mod Breaks
-pub mod Dialing
-pub mod Ends
 pub mod Finished
-pub mod Lasting
 pub mod Leaving
-pub mod Links
 pub mod Polls
 pub mod Recording
 pub mod Seats
 pub mod Served
-pub mod Stays
 pub mod Strangers

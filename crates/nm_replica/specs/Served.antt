@@ -65,16 +65,20 @@ IsSomeLeft replicas passes =
     ⊎ (replicas ≡ 0) ⊎ (passes < replicas)
 
 -- Why serving ends: the replica was done, and its records were handed out; or no fewer waits ran
--- out than the limit since the transport had had `before`, and it has had `after`, or no more polls
+-- out than the limit between the first of these counts of waits and the second, or no more polls
 -- may be made.
-abbrev pub EndsWith : (exact : Bool) → Home → (keeps_records : Bool) → (limit before after : ℕ)
-    → Served → Type 0
-EndsWith exact own keeps limit before after Ended = WasFinished exact own keeps
-EndsWith exact own keeps limit before after Net = Unit {0}
-EndsWith exact own keeps limit before after Memory = Unit {0}
-EndsWith exact own keeps limit before after (File iface written) = Unit {0}
-EndsWith exact own keeps limit before after (Stalled polls) =
-    (before + limit ≤ after) ⊎ (MAX_POLLS ≤ polls)
+abbrev pub EndsWith : (exact : Bool) → Home → (keeps_records : Bool) → (limit : ℕ)
+    → (waits : ℕ × ℕ) → Served → Type 0
+EndsWith exact own keeps limit waits Ended = WasFinished exact own keeps
+EndsWith exact own keeps limit waits Net = Unit {0}
+EndsWith exact own keeps limit waits Memory = Unit {0}
+EndsWith exact own keeps limit waits (File iface written) = Unit {0}
+EndsWith exact own keeps limit waits (Stalled polls) =
+    (waits.0 + limit ≤ waits.1) ⊎ (MAX_POLLS ≤ polls)
+
+-- how serving ends where it is interrupted: the network failed, or memory was refused
+abbrev pub IsInterrupted : Served → Type 0
+IsInterrupted s = (s ≡ Net) ⊎ (s ≡ Memory)
 
 -- how serving ends where the replica was not seen to be done, and is not stalled
 abbrev pub EndsEarly : Served → Type 0

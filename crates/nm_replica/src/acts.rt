@@ -13,7 +13,6 @@ use nm_base::{ChanNo, Record, Time};
 use nm_book::Book;
 use nm_book::laws::records_have_times_of_a_file;
 use nm_shared::Act;
-use nm_topology::topology::accepted_topologies_are_in_order;
 
 /// How far a book is.
 #[derive(Clone, Copy, Drop)]
@@ -136,11 +135,10 @@ impl Act for HandOutSome {
 
 /// The channel that comes in whose clock is the least: the one that holds the book back.
 fn least_channel(book: &Book) -> Option<ChanNo> {
-    accepted_topologies_are_in_order(book.topology()); // law: there are few channels
-    let count = book.topology().receivers().len() as u32;
+    let topology = book.topology();
     let (mut least, mut found) = (u64::MAX, None);
-    for number in 0..count {
-        let channel = ChanNo::new(number);
+    for number in 0..topology.receivers().len() {
+        let channel = topology.channel_number(number);
         if let Some(know) = book.know(channel) {
             let clock = know.clock().nanoseconds();
             if clock < least {

@@ -1,15 +1,18 @@
 //! One connection of a replica.
 
-ghost use Rattle.std.specs.Prelude.{◌≡◌, ◌↔◌, IfSome, IsTrue, None, Some, true, false};
+ghost use Rattle.std.specs.Prelude.{◌≡◌, ◌↔◌, ◌&&◌, IfSome, IsTrue, None, Some, true, false};
+ghost use Rattle.std.specs.Prelude.{not};
 ghost use Rattle.nm_engine.specs.Link.{greeted_by, has_greeted};
+ghost use Rattle.nm_policy.specs.Lasting.{has_lasted, lasted_after};
 ghost use Rattle.nm_replica.specs.Strangers.{is_stranger};
+ghost use Rattle.nm_replica.specs.declared.limits.TheConstants.{HELLO_PERIODS};
 
 use crate::given_before::GivenBefore;
-use crate::lasting::Lasted;
-use crate::limits::STRANGER_PERIODS;
+use crate::limits::HELLO_PERIODS;
 use crate::moved::CountingWire;
 use nm_engine::{GivenCounts, Link};
 use nm_frames::{ReplicaName, Session};
+use nm_policy::Lasted;
 
 /// A link, and the peer to which it was begun, if it was not accepted.
 #[derive(Drop)]
@@ -154,15 +157,16 @@ impl<W> Connection<W> {
         self.peer.is_none() && !self.link.has_greeted()
     }
 
-    /// One more poll was made, which ran out or not: whether it is a stranger's, and is to be let
-    /// go.
+    /// One more poll was made, which ran out or not: whether its Hello has not come for so long that
+    /// it is to be let go, whoever began it.
     pub(crate) fn is_overdue(&mut self, ran_out: bool) -> bool
-        ensures { result ≡ true → is_stranger self.old.peer self.old.link.session ≡ true }
+        ensures { result ≡ not (has_greeted self.old.link.session)
+            && has_lasted HELLO_PERIODS (lasted_after self.old.waited.periods ran_out) }
     {
-        if !self.is_stranger() {
+        if self.link.has_greeted() {
             return false;
         }
         self.waited.pass_poll(ran_out);
-        self.waited.is_past(STRANGER_PERIODS)
+        self.waited.is_past(HELLO_PERIODS)
     }
 }

@@ -4,15 +4,13 @@ ghost use Rattle.std.specs.Prelude.{◌≡◌, ◌&&◌, IfErr, IfSome, is_some,
 ghost use Rattle.std.specs.List.{list_any};
 ghost use Rattle.slab.specs.Slab.{get};
 ghost use Rattle.nm_replica.specs.Breaks.{Removes, break_at, fault_in};
-ghost use Rattle.nm_replica.specs.Ends.{has_ended};
+ghost use Rattle.nm_policy.specs.Ends.{has_ended};
 ghost use Rattle.nm_replica.specs.Leaving.{IsServing};
-ghost use Rattle.nm_replica.specs.Links.{are_sure, have_broken, have_ended};
-ghost use Rattle.nm_replica.specs.Served.{EndsEarly};
+ghost use Rattle.nm_policy.specs.Links.{are_sure, have_broken, have_ended};
+ghost use Rattle.nm_replica.specs.Served.{IsInterrupted};
 ghost use Rattle.nm_replica.specs.Strangers.{IsFirstStranger};
 
-use crate::callers::Callers;
 use crate::connection::{Connection, Remains};
-use crate::dialing::{Dialing, are_sure, are_wanting, have_ended};
 use crate::given_before::GivenBefore;
 use crate::limits::{MAX_ACCEPTED, MAX_STRANGERS};
 use crate::moved::CountingWire;
@@ -20,6 +18,8 @@ use crate::neighbours::Neighbours;
 use crate::served::{Served, break_served};
 use nm_engine::{Acceptor, Cause, Link, Turn};
 use nm_frames::ReplicaName;
+use nm_policy::dialing::{are_sure, are_wanting, have_ended};
+use nm_policy::{Callers, Dialing};
 use nm_transport::Transport;
 use slab::Slab;
 use std::alloc::{AllocError, Global};
@@ -58,9 +58,11 @@ fn dial<T: Transport>(
     }
     open.reserve(1)?;
     let Some(mut wire) = transport.connect(peer) else {
+        dialing.failed();
         return Ok(());
     };
     if !transport.watch(&mut wire, open.vacant_key()) {
+        dialing.failed();
         return Ok(());
     }
     let Some(session) = dialing.give() else {
@@ -224,33 +226,33 @@ impl<W> Connections<W> {
         }
     }
 
-    /// A poll was made, and ran out or not. Strangers that said no Hello for so many are let go.
+    /// A poll was made, and ran out or not. Connections on which no Hello came for so many periods
+    /// are let go, and calls among them are made again.
+    ///
+    /// # Errors
+    ///
+    /// How serving ends, where it does.
     pub(crate) fn pass_poll<T: Transport<Connection = W>>(
         &mut self,
         transport: &mut T,
         ran_out: bool,
-    )
-        ensures { T.elapsed_periods transport.new ≡ T.elapsed_periods transport.old }
+    ) -> Result<(), Served>
+        ensures idle { T.elapsed_periods transport.new ≡ T.elapsed_periods transport.old }
+        ensures early { IfErr result IsInterrupted }
     {
         for number in 0..self.peers.len() {
             self.peers[number].pass_poll(ran_out);
         }
-        self.drop_overdue(transport, ran_out);
-    }
-
-    /// Lets strangers go that said no Hello for so many polls.
-    fn drop_overdue<T: Transport<Connection = W>>(&mut self, transport: &mut T, ran_out: bool)
-        ensures { T.elapsed_periods transport.new ≡ T.elapsed_periods transport.old }
-    {
         for key in 0..self.open.capacity() {
             let is_overdue = match self.open.get_mut(key) {
                 Some(connection) => connection.is_overdue(ran_out),
                 None => false,
             };
             if is_overdue {
-                let _ = self.remove(transport, key);
+                self.let_go(transport, key, Cause::Fault)?;
             }
         }
+        Ok(())
     }
 
     /// The key of the stranger that came first, where there are so many or more.
@@ -354,7 +356,7 @@ impl<W> Connections<W> {
         turn: Turn,
     ) -> Result<(), Served>
         ensures idle { T.elapsed_periods transport.new ≡ T.elapsed_periods transport.old }
-        ensures early { IfErr result EndsEarly }
+        ensures early { IfErr result IsInterrupted }
     {
         self.meet(transport, key);
         match turn {
@@ -505,7 +507,7 @@ impl<W> Connections<W> {
         cause: Cause,
     ) -> Result<(), Served>
         ensures idle { T.elapsed_periods transport.new ≡ T.elapsed_periods transport.old }
-        ensures early { IfErr result EndsEarly }
+        ensures early { IfErr result IsInterrupted }
         ensures served { fault_in result ≡ break_at (get self.old.open key) cause }
     {
         let Some(remains) = self.remove(transport, key) else {
@@ -526,7 +528,9 @@ impl<W> Connections<W> {
         }
         match (peer, session, name) {
             (Some(peer), Some(session), name) if peer < self.peers.len() => {
-                self.peers[peer].broke(session, name.is_some(), has_written);
+                // Who ends a connection is there, though nothing could be written.
+                let was_there = has_written || matches!(cause, Cause::End);
+                self.peers[peer].broke(session, name.is_some(), was_there);
             }
             (None, _, Some(name)) => self.callers.broke(&name),
             _ => {}

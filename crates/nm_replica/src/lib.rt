@@ -2,14 +2,10 @@
 #![tactic(auto)]
 
 pub mod acts;
-mod callers;
 mod connection;
 mod connections;
-mod dialing;
-mod ends;
 mod figuring;
 mod given_before;
-mod lasting;
 pub mod lending;
 pub mod limits;
 mod moved;
@@ -20,7 +16,6 @@ pub mod seats;
 pub mod served;
 mod serving;
 mod sisters;
-mod staying;
 mod telling;
 
 pub use lending::Lending;

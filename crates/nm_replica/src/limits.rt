@@ -15,26 +15,12 @@ pub const MAX_ACCEPTED: usize = 64;
 /// replica that is to call. The oldest of them is let go when another comes.
 pub const MAX_STRANGERS: usize = 64;
 
-/// After so many periods, five seconds, such a connection is let go.
-pub const STRANGER_PERIODS: u64 = 100;
+/// After so many periods, five seconds, a connection on which no Hello came is let go: that of a
+/// stranger, and a call that nobody answers, as where it is held or dropped on its way.
+pub const HELLO_PERIODS: u64 = 100;
 
 /// The most turns that a link has after one poll.
 pub const MAX_TURNS: usize = 64;
-
-/// After so many periods a connection that broke before the peer's Hello came is begun again.
-pub const REST_PERIODS: u32 = 1;
-
-/// After so many periods, a second, a peer is called anew whose link has ended for sure. It may
-/// have been lost and begun anew.
-pub const RECALL_PERIODS: u32 = 20;
-
-/// For so many periods, two seconds, a replica that is done stays for those whose link's end is not
-/// sure.
-pub const LINGER_PERIODS: u64 = 40;
-
-/// After so many polls in a row that ran out, a fifth of a second, nobody is to call again who
-/// lacks a Bye: such a one calls at once. A replica stays so long where connections broke.
-pub const QUIET_POLLS: u64 = 4;
 
 /// After so many periods, half a second, a replica to which the system refuses connections lets
 /// strangers go.

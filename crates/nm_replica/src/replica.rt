@@ -141,7 +141,7 @@ pub fn run_replica<C: Counts, S: Sink, T: Transport, G: Gate, R: Wait>(
 
     // The ending says the truth about the replica and about the time that passed.
     ensures ends { EndsWith C.exact C.home service.now.keeps_records service.now.idle_limit
-        (T.elapsed_periods transport.old) (T.elapsed_periods transport.new) result }
+        (T.elapsed_periods transport.old, T.elapsed_periods transport.new) result }
 
     // The seats and the passes go back.
     ensures seats { AreKept holdings.old.seats holdings.new.seats }

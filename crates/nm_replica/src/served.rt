@@ -1,7 +1,7 @@
 //! How the serving of a replica ends.
 
 ghost use Rattle.std.specs.Prelude.{◌≡◌, IfSome};
-ghost use Rattle.nm_replica.specs.Served.{EndsEarly, break_served, file_served};
+ghost use Rattle.nm_replica.specs.Served.{EndsEarly, IsInterrupted, break_served, file_served};
 ghost use Rattle.nm_replica.specs.declared.served.Served.TheVariants.{Memory};
 
 use nm_base::IfaceNo;
@@ -36,7 +36,7 @@ impl From<AllocError> for Served {
 /// said Hello costs its own link alone, and is no peer.
 pub(crate) fn break_served(cause: Cause, is_peer: bool) -> Option<Served>
     ensures value { result ≡ break_served cause is_peer }
-    ensures early { IfSome result EndsEarly }
+    ensures early { IfSome result IsInterrupted }
 {
     match cause {
         Cause::End | Cause::Fault => None,

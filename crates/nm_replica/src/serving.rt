@@ -2,27 +2,26 @@
 
 ghost use Rattle.std.specs.Prelude.{◌&&◌, ◌==◌, ◌||◌, ◌≡◌, ◌≤◌, true, length};
 ghost use Rattle.std.specs.Prelude.{IfErr, IfOk, OnOk};
-ghost use Rattle.nm_replica.specs.Lasting.{has_lasted, lasted_after};
+ghost use Rattle.nm_policy.specs.Lasting.{has_lasted, lasted_after};
 ghost use Rattle.nm_replica.specs.Leaving.{LeavesAfter};
 ghost use Rattle.nm_replica.specs.Recording.{Streams};
 ghost use Rattle.nm_replica.specs.Seats.{AreKept};
-ghost use Rattle.nm_replica.specs.Served.{EndsEarly, WasFinished, WasSeen};
+ghost use Rattle.nm_replica.specs.Served.{EndsEarly, IsInterrupted, WasFinished, WasSeen};
 ghost use Rattle.nm_transport.specs.Transport.{elapsed_after};
 
 use crate::acts::{Stand, Standing};
 use crate::connections::Connections;
 use crate::figuring::{note_figures, note_hold, note_loan, note_progress, note_wait};
-use crate::lasting::Lasted;
 use crate::limits::{MAX_TURNS, MERGE_POLLS, SCARCE_PERIODS, SHORT_PERIODS};
 use crate::recording::write_records;
 use crate::replica::{Holdings, Service};
 use crate::served::{Served, file_served};
 use crate::sisters::{all_are_done, merge_sister};
-use crate::staying::Stay;
 use crate::telling::tell_all;
 use nm_base::{Sink, Wire};
 use nm_book::Ran;
 use nm_engine::{GivenCounts, ReadBuffer, Turn};
+use nm_policy::{Lasted, Stay};
 use nm_shared::{Counts, Pass, SharedBook};
 use nm_transport::Transport;
 use nm_transport::limits::MAX_REPORTS;
@@ -192,7 +191,7 @@ fn serve_all<T: Transport, C: Counts, R: Wait>(
     does: Does,
 ) -> Result<Moves, Served>
     ensures idle { T.elapsed_periods transport.new ≡ T.elapsed_periods transport.old }
-    ensures early { IfErr result EndsEarly }
+    ensures early { IfErr result IsInterrupted }
 {
     let mut all = Moves::NONE;
     for key in 0..serving.connections.open.capacity() {
@@ -236,7 +235,7 @@ fn bear_shortage<T: Transport>(
     ran_out: bool,
 ) -> Result<(), Served>
     ensures idle { T.elapsed_periods transport.new ≡ T.elapsed_periods transport.old }
-    ensures early { IfErr result EndsEarly }
+    ensures early { IfErr result IsInterrupted }
     ensures short { IfErr result (λ _. has_lasted SHORT_PERIODS
         (lasted_after serving.old.short.periods ran_out) ≡ true) }
 {
@@ -267,7 +266,7 @@ fn await_transport<T: Transport, C: Counts>(
 ) -> Result<bool, Served>
     ensures idle { IfOk result (λ ran_out. T.elapsed_periods transport.new
         ≡ elapsed_after (T.elapsed_periods transport.old) ran_out) }
-    ensures early { IfErr result EndsEarly }
+    ensures early { IfErr result IsInterrupted }
 {
     serving.connections.dial_all(alloc, transport)?;
     let may_wait = !serving.is_busy;
@@ -275,7 +274,7 @@ fn await_transport<T: Transport, C: Counts>(
     let ran_out = transport.wait(may_wait).has_run_out();
     note_wait(service, false);
     note_reports(transport, &serving.connections, ran_out);
-    serving.connections.pass_poll(transport, ran_out);
+    serving.connections.pass_poll(transport, ran_out)?;
     let neighbours = service.neighbours();
     serving
         .connections
@@ -389,7 +388,7 @@ fn serve_and_act<C: Counts, S, T: Transport, R: Wait>(
 
     // What it answers was seen of the book, and an early ending is no success.
     ensures seen { IfOk result (λ a. WasSeen C.exact C.home a.standing) }
-    ensures early { IfErr result EndsEarly }
+    ensures early { IfErr result IsInterrupted }
 {
     let heard = serve_all(
         rt,

@@ -102,14 +102,7 @@ impl<R: Net + Clock> Transport for TcpTransport<R> {
 
     fn connect(&mut self, peer: usize) -> Option<TcpWire> {
         let address = *self.peers.get(peer)?;
-        let stream = match TcpStream::connect(&self.net, address) {
-            Ok(stream) => stream,
-            Err(error) => {
-                self.is_short = is_shortage(&error);
-                return None;
-            }
-        };
-        self.is_short = false;
+        let stream = TcpStream::connect(&self.net, address).ok()?;
         match stream.local_addr() {
             Ok(own) if meets_itself(own, address) => None,
             _ => Some(TcpWire::new(stream)),

@@ -50,7 +50,7 @@ pub trait Transport {
         ensures fresh { IfSome result (λ w. IsFresh (Self.Connection.seen w)) }
         ensures idle { elapsed_periods self.new ≡ elapsed_periods self.old };
 
-    /// Whether the system refused the connection that was asked for last, or that somebody began,
+    /// Whether the system refused a connection that somebody began, when it was asked for one last,
     /// because it has too little for one more: no peer is to blame.
     fn is_short(&self) -> bool {
         false

@@ -4,8 +4,9 @@ use crate::tests::scripted::{Fails, NEVER, Scripted};
 use crate::tests::sides::{Company, Noting, STAYS, serve, topology_of};
 use crate::tests::talks::{Voice, digest_of, said_by};
 use nm_fixtures::SPLIT;
+use nm_policy::limits::LINGER_PERIODS;
 use nm_replica::Served;
-use nm_replica::limits::{LINGER_PERIODS, MAX_STRANGERS, SHORT_PERIODS, STRANGER_PERIODS};
+use nm_replica::limits::{HELLO_PERIODS, MAX_STRANGERS, SHORT_PERIODS};
 use std::alloc::Global;
 use std::process::Abort;
 use std::sync::Wait;
@@ -225,6 +226,43 @@ fn calls_that_fail_for_good_stall(rt: HostRuntime) {
     }
 }
 
+/// A call that nobody answers is given up after five seconds, and made again a period later.
+#[test]
+fn calls_have_an_end(rt: HostRuntime) {
+    let script = Script {
+        company: Company {
+            is_called: false,
+            by_two: false,
+            idle_limit: 2 * HELLO_PERIODS + HELLO_PERIODS / 2,
+        },
+        voices: &[(9, Voice::Silent)],
+        fails: NEVER,
+        is_silent: false,
+        is_short: false,
+    };
+    let came = came_of(&rt, rt.alloc(), &script);
+    assert!(rt; matches!(came.served, Served::Stalled { .. }));
+    assert!(rt; came.given == 3 && came.most == 1);
+}
+
+/// A call that is held, and then one that is answered: the replica is done.
+#[test]
+fn a_call_that_was_held_is_made_again(rt: HostRuntime) {
+    let script = Script {
+        company: Company {
+            is_called: false,
+            by_two: false,
+            idle_limit: 2 * HELLO_PERIODS,
+        },
+        voices: &[(1, Voice::Silent), (2, Voice::Peer(0))],
+        fails: NEVER,
+        is_silent: false,
+        is_short: false,
+    };
+    let came = came_of(&rt, rt.alloc(), &script);
+    assert!(rt; came.served == Served::Ended && came.given == 3);
+}
+
 /// Rubbish before a Hello costs that connection alone; after a Hello it ends the replica.
 #[test]
 fn rubbish(rt: HostRuntime) {
@@ -265,7 +303,7 @@ fn open_after<R: Wait + Abort>(rt: &R, alloc: Global, idle_limit: u64) -> u64 {
 /// A stranger that says no Hello is let go after its polls, and not before.
 #[test]
 fn a_stranger_is_let_go(rt: HostRuntime) {
-    let limit = STRANGER_PERIODS;
+    let limit = HELLO_PERIODS;
     assert!(rt; open_after(&rt, rt.alloc(), limit.saturating_sub(1)) == 1);
     assert!(rt; open_after(&rt, rt.alloc(), limit.saturating_add(1)) == 0);
 }

@@ -1,9 +1,9 @@
 -- The links of a replica: those of the replicas that call it, and those of the peers that it calls.
 use Rattle.std.specs.Prelude.{Bool, ◌&&◌, List}
 use Rattle.std.specs.List.{list_all, list_any}
-use Rattle.nm_replica.specs.Ends.{has_ended, is_sure}
-use Rattle.nm_replica.specs.declared.callers.Caller.{Caller}
-use Rattle.nm_replica.specs.declared.dialing.Dialing.{Dialing}
+use Rattle.nm_policy.specs.Ends.{has_ended, is_sure}
+use Rattle.nm_policy.specs.declared.callers.Caller.{Caller}
+use Rattle.nm_policy.specs.declared.dialing.Dialing.{Dialing}
 
 -- all of them have ended
 abbrev pub have_ended : List Caller → List Dialing → Bool

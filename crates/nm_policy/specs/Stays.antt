@@ -1,8 +1,8 @@
 -- How long a replica stays whose links have ended.
 use Rattle.std.specs.Prelude.{ℕ, ◌+◌, Bool, true, false, not, ◌&&◌, ◌||◌, nat_le}
 use Rattle.nm_base.specs.Count.{saturated}
-use Rattle.nm_replica.specs.Lasting.{has_lasted}
-use Rattle.nm_replica.specs.declared.limits.TheConstants.{LINGER_PERIODS, QUIET_POLLS}
+use Rattle.nm_policy.specs.Lasting.{has_lasted}
+use Rattle.nm_policy.specs.declared.limits.TheConstants.{LINGER_PERIODS, QUIET_POLLS}
 
 -- how many polls in a row ran out, after one more
 abbrev pub quiet_after : (before : ℕ) → (ran_out : Bool) → ℕ

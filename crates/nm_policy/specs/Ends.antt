@@ -1,10 +1,10 @@
 -- How often links have ended.
 use Rattle.std.specs.Prelude.{ℕ, ◌-◌, Bool, true, false, ◌==◌, ◌&&◌, ◌||◌, if◌then◌else◌}
 use Rattle.nm_frames.specs.declared.replica_name.ReplicaName.{ReplicaName}
-use Rattle.nm_replica.specs.declared.callers.Caller.{Caller}
-use Rattle.nm_replica.specs.declared.ends.Ends.{Ends}
-use Rattle.nm_replica.specs.declared.ends.Ends.TheVariants.{Open, Once, Sure}
-use Rattle.nm_replica.specs.declared.limits.TheConstants.{REST_PERIODS, RECALL_PERIODS}
+use Rattle.nm_policy.specs.declared.callers.Caller.{Caller}
+use Rattle.nm_policy.specs.declared.ends.Ends.{Ends}
+use Rattle.nm_policy.specs.declared.ends.Ends.TheVariants.{Open, Once, Sure}
+use Rattle.nm_policy.specs.declared.limits.TheConstants.{REST_PERIODS, RECALL_PERIODS}
 
 -- one end more: the second is sure
 abbrev pub once_more : Ends → Ends
@@ -39,12 +39,12 @@ rest_of Sure has_greeted = RECALL_PERIODS
 abbrev pub rest_after : (before : ℕ) → (ran_out : Bool) → ℕ
 rest_after before ran_out = if ran_out then before - 1 else before
 
--- How often a link has ended after a connection of it broke. Nobody was there where no Hello came
--- and no octet could be written: a connection that took octets may have been cut before the peer's
--- Hello came.
-abbrev pub after_break : Ends → (has_greeted has_written : Bool) → Ends
-after_break ends has_greeted has_written =
-    if has_greeted || has_written then ends else after_nobody ends
+-- How often a link has ended after a connection of it broke, whose peer said Hello or did not, and
+-- at whose other side somebody was or nobody: a connection that took octets, or was ended from
+-- there, may have been cut before the peer's Hello came.
+abbrev pub after_break : Ends → (has_greeted was_there : Bool) → Ends
+after_break ends has_greeted was_there =
+    if has_greeted || was_there then ends else after_nobody ends
 
 -- a caller whose link has not ended
 abbrev pub new_caller : ReplicaName → Caller

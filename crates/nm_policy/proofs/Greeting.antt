@@ -2,7 +2,7 @@
 use Rattle.std.proofs.Common.{◌≡◌, refl, sym}
 use Rattle.std.proofs.lemmas.Simd.{map-map}
 use Rattle.nm_frames.specs.Session.{SessionValue, broken, new_incoming, new_outgoing}
-use Rattle.nm_replica.specs.Dialing.{IsAtGreeting}
+use Rattle.nm_policy.specs.Dialing.{IsAtGreeting}
 
 pub greets_again : (s t : SessionValue) → t ≡ broken s → IsAtGreeting t
 greets_again s t is = rw is (

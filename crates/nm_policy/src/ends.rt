@@ -1,13 +1,13 @@
 //! How often a link has ended.
 
 ghost use Rattle.std.specs.Prelude.{◌≡◌};
-ghost use Rattle.nm_replica.specs.Ends.{after_nobody, has_ended, is_sure, once_more};
+ghost use Rattle.nm_policy.specs.Ends.{after_nobody, has_ended, is_sure, once_more};
 
 /// How often a link has ended. An end is sure once it was made twice, or once a call after it
 /// found nobody: the Bye that was said last may have been lost with its connection, and then the
 /// peer waits for one that says it again.
 #[derive(Clone, Copy, Debug, PartialEq, Eq)]
-pub(crate) enum Ends {
+pub enum Ends {
     /// Not yet.
     Open,
     /// Once, and the peer may not know.
@@ -18,7 +18,7 @@ pub(crate) enum Ends {
 
 impl Ends {
     /// It has ended once more.
-    pub(crate) fn once_more(self) -> Ends
+    pub fn once_more(self) -> Ends
         ensures { result ≡ once_more self }
     {
         match self {
@@ -28,7 +28,7 @@ impl Ends {
     }
 
     /// The peer was called, and nobody greeted.
-    pub(crate) fn after_nobody(self) -> Ends
+    pub fn after_nobody(self) -> Ends
         ensures { result ≡ after_nobody self }
     {
         match self {
@@ -38,7 +38,7 @@ impl Ends {
     }
 
     /// Whether it has ended.
-    pub(crate) fn has_ended(self) -> bool
+    pub fn has_ended(self) -> bool
         ensures { result ≡ has_ended self }
     {
         match self {
@@ -48,7 +48,7 @@ impl Ends {
     }
 
     /// Whether its end is sure.
-    pub(crate) fn is_sure(self) -> bool
+    pub fn is_sure(self) -> bool
         ensures { result ≡ is_sure self }
     {
         match self {

@@ -1,24 +1,24 @@
 //! How long something has lasted, in periods.
 
 ghost use Rattle.std.specs.Prelude.{◌≡◌};
-ghost use Rattle.nm_replica.specs.Lasting.{has_lasted, lasted_after};
+ghost use Rattle.nm_policy.specs.Lasting.{has_lasted, lasted_after};
 
 /// For how many periods something has lasted.
 #[derive(Clone, Copy, Drop)]
-pub(crate) struct Lasted {
-    periods: u64,
+pub struct Lasted {
+    pub periods: u64,
 }
 
 impl Lasted {
     /// Not yet at all.
-    pub(crate) fn new() -> Self
+    pub fn new() -> Self
         ensures { result.periods ≡ 0 }
     {
         Lasted { periods: 0 }
     }
 
     /// One more poll was made, and ran out or not: whether a period was over then.
-    pub(crate) fn pass_poll(&mut self, ran_out: bool)
+    pub fn pass_poll(&mut self, ran_out: bool)
         ensures { self.new.periods ≡ lasted_after self.old.periods ran_out }
     {
         if ran_out {
@@ -27,7 +27,7 @@ impl Lasted {
     }
 
     /// Whether it has lasted for so many periods.
-    pub(crate) fn is_past(&self, periods: u64) -> bool
+    pub fn is_past(&self, periods: u64) -> bool
         ensures { result ≡ has_lasted periods self.now.periods }
     {
         self.periods >= periods

@@ -2,7 +2,8 @@
 
 ghost use Rattle.std.specs.Prelude.{◌≡◌, ◌&&◌, map, IfOk};
 ghost use Rattle.std.specs.List.{list_all, list_any};
-ghost use Rattle.nm_replica.specs.Ends.{broken_by, ended_by, has_ended, is_named, is_sure, new_caller};
+ghost use Rattle.nm_policy.specs.Ends.{broken_by, ended_by, has_ended, is_named};
+ghost use Rattle.nm_policy.specs.Ends.{is_sure, new_caller};
 
 use crate::ends::Ends;
 use nm_frames::ReplicaName;
@@ -10,17 +11,17 @@ use std::alloc::{AllocError, Global};
 
 /// A replica that is to call, and how often its link has ended.
 #[derive(Clone, Copy, Drop)]
-pub(crate) struct Caller {
-    name: ReplicaName,
-    ends: Ends,
+pub struct Caller {
+    pub name: ReplicaName,
+    pub ends: Ends,
     /// A connection of it broke after its Hello: a Bye may have been lost, too.
-    has_broken: bool,
+    pub has_broken: bool,
 }
 
 /// The replicas that are to call: each is known by its name, whatever connection it comes by.
 #[derive(Drop)]
-pub(crate) struct Callers {
-    all: Vec<Caller>,
+pub struct Callers {
+    pub all: Vec<Caller>,
 }
 
 impl Caller {
@@ -95,7 +96,7 @@ impl Callers {
     /// # Errors
     ///
     /// Where memory was refused.
-    pub(crate) fn new(alloc: Global, names: &[ReplicaName]) -> Result<Self, AllocError>
+    pub fn new(alloc: Global, names: &[ReplicaName]) -> Result<Self, AllocError>
         ensures { IfOk result (λ c. c.all.items ≡ map new_caller names.now) }
     {
         let mut all = Vec::new(alloc);
@@ -107,14 +108,14 @@ impl Callers {
 
     /// The link of the replica with this name has ended. Where no such one is to call nothing is
     /// noted.
-    pub(crate) fn end(&mut self, name: &ReplicaName)
+    pub fn end(&mut self, name: &ReplicaName)
         ensures { self.new.all.items ≡ map (ended_by name.now) self.old.all.items }
     {
         end_of(self.all.as_mut_slice(), name);
     }
 
     /// Whether the link of the replica with this name has ended before.
-    pub(crate) fn has_ended(&self, name: &ReplicaName) -> bool
+    pub fn has_ended(&self, name: &ReplicaName) -> bool
         ensures { result ≡ list_any (λ c. is_named name.now c && has_ended c.ends)
             self.now.all.items }
     {
@@ -125,21 +126,21 @@ impl Callers {
 
     /// A connection of the replica with this name broke. Where no such one is to call nothing is
     /// noted.
-    pub(crate) fn broke(&mut self, name: &ReplicaName)
+    pub fn broke(&mut self, name: &ReplicaName)
         ensures { self.new.all.items ≡ map (broken_by name.now) self.old.all.items }
     {
         break_of(self.all.as_mut_slice(), name);
     }
 
     /// Whether a connection of one of them broke.
-    pub(crate) fn have_broken(&self) -> bool
+    pub fn have_broken(&self) -> bool
         ensures { result ≡ list_any (λ c. c.has_broken) self.now.all.items }
     {
         self.all.iter().any(|caller| caller.has_broken)
     }
 
     /// How many links have not ended.
-    pub(crate) fn open_count(&self) -> usize {
+    pub fn open_count(&self) -> usize {
         let mut count = 0usize;
         for caller in &self.all {
             if !caller.ends.has_ended() {
@@ -150,14 +151,14 @@ impl Callers {
     }
 
     /// Whether the links of all have ended.
-    pub(crate) fn have_ended(&self) -> bool
+    pub fn have_ended(&self) -> bool
         ensures { result ≡ list_all (λ c. has_ended c.ends) self.now.all.items }
     {
         self.all.iter().all(|caller| caller.ends.has_ended())
     }
 
     /// Whether the ends of all links are sure.
-    pub(crate) fn are_sure(&self) -> bool
+    pub fn are_sure(&self) -> bool
         ensures { result ≡ list_all (λ c. is_sure c.ends) self.now.all.items }
     {
         self.all.iter().all(|caller| caller.ends.is_sure())

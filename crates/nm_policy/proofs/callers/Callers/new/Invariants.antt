@@ -1,6 +1,6 @@
 use Rattle.std.proofs.Common.{◌≡◌, map, take}
-use Rattle.nm_replica.specs.Ends.{new_caller}
-use Rattle.nm_replica.proofs.callers.Callers.new.Given as goal
+use Rattle.nm_policy.specs.Ends.{new_caller}
+use Rattle.nm_policy.proofs.callers.Callers.new.Given as goal
 
 abbrev pub invariant-loop-name : goal.invariant-loop-name
 invariant-loop-name l = l.all.items ≡ map new_caller (take l.name-index l.names)

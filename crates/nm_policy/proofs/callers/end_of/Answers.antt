@@ -1,7 +1,7 @@
 use Rattle.std.proofs.Common.{arith}
-use Rattle.nm_replica.specs.Ends.{ended_by}
-use Rattle.nm_replica.proofs.Changing.{one_changed}
-use Rattle.nm_replica.proofs.callers.end_of.Goals as goal
+use Rattle.nm_policy.specs.Ends.{ended_by}
+use Rattle.nm_policy.proofs.Changing.{one_changed}
+use Rattle.nm_policy.proofs.callers.end_of.Goals as goal
 
 pub loop-caller-preserved : goal.loop-caller-preserved
 loop-caller-preserved c =

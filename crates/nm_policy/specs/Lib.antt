@@ -1,0 +1,5 @@
+pub mod Dialing
+pub mod Ends
+pub mod Lasting
+pub mod Links
+pub mod Stays
