@@ -55,7 +55,7 @@ def faults_of_folder(folder, wanted, old=None, is_done=False):
     event list nor the old ones; where all is done, a final name that is missing or old, or a part."""
     faults = []
     for entry in sorted(os.listdir(folder)):
-        name, part = entry.removesuffix(".part").removesuffix(".pcap"), entry.endswith(".pcap.part")
+        name, part = entry.partition(".pcap")[0], ".pcap.part-" in entry
         if name not in wanted or not (part or entry.endswith(".pcap")):
             faults.append(f"{entry} is no file of the program")
         elif part:

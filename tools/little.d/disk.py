@@ -118,7 +118,8 @@ def faults_of_refused(folder, work, refused):
     """Where a name was refused each file is whole: it has its name, or is a part."""
     faults = []
     for name, octets in work.wanted.items():
-        is_placed, is_part = content(folder, f"{name}.pcap") == octets, content(folder, f"{name}.pcap.part") == octets
+        parts = [entry for entry in os.listdir(folder) if entry.startswith(f"{name}.pcap.part-")]
+        is_placed, is_part = content(folder, f"{name}.pcap") == octets, any(content(folder, part) == octets for part in parts)
         if is_placed == is_part or name == refused and is_placed:
             faults.append(f"{name} is {'both' if is_placed else 'neither'} whole under its name and a whole part, where {refused} is refused")
     return faults

@@ -9,6 +9,7 @@ ghost use Rattle.nm_command.specs.Command.{command_of};
 mod help;
 mod hints;
 mod noted;
+mod parts;
 mod stats;
 mod system;
 mod watching;
@@ -90,7 +91,7 @@ fn over_system<N: Runtime, E: Sink>(
         return report(Status::Memory, errors);
     };
     let mut inputs = NamedInputs::new(SystemInputs { runtime: rt, noted });
-    let mut outputs = SystemOutputs { runtime: rt, noted };
+    let mut outputs = SystemOutputs::new(rt, noted);
     let means = Means {
         rt: system,
         alloc: rt.alloc(),
@@ -154,8 +155,8 @@ fn with_stats<N: Runtime>(
     ended
 }
 
-/// The same. What is said of errors follows at the end, when a line on the terminal is gone; it does
-/// not where nobody reads the output any more.
+/// The same. What is said of errors follows at the end, when a line on the terminal is gone; it
+/// does not where nobody reads the output any more.
 fn unless_closed<N: Runtime>(
     rt: &HostRuntime,
     system: &N,

@@ -30,6 +30,12 @@ impl Noted {
         self.file.set(text_of(alloc, name, error).ok());
     }
 
+    /// Notes that a file is not what was written to it.
+    pub fn changed(&self, alloc: Global, name: &str) {
+        let text = format!(in alloc; "{name}: another process changed it while it was written");
+        self.file.set(text.ok());
+    }
+
     /// What was noted of a file.
     pub fn take_file(&self) -> Option<String> {
         self.file.take()

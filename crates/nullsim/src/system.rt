@@ -3,10 +3,10 @@
 ghost use Rattle.std.specs.Prelude.{None};
 
 use crate::noted::Noted;
+use crate::parts::{Letters, PartFile, clean, part_of};
 use nm_base::StdSink;
 use nm_files::{OutputFault, Outputs};
 use nm_program::Inputs;
-use std::alloc::{AllocError, Global};
 use std::fs::File;
 use std::io::{BufWriter, ErrorKind, StdinLock};
 use std::{fs, io};
@@ -38,33 +38,29 @@ impl<'a> Inputs for SystemInputs<'a> {
     }
 }
 
-/// What stands behind the name of a file until it is whole.
-const PART: &str = ".part";
-
 /// How many octets of a file are held back, so that the system is called seldom: with 960 files of
 /// an interface each they take 15 MiB.
 const HELD_BACK_OCTETS: usize = 16_384;
 
-/// The files of the system that are made or replaced: each is written under its name with `.part`
-/// behind it, and renamed once it is whole. What they have is not told.
+/// The files of the system that are made or replaced: each is written as a part, and renamed once it
+/// is whole. What they have is not told.
 #[derive(Drop)]
 pub struct SystemOutputs<'a> {
-    pub runtime: &'a HostRuntime,
-    pub noted: &'a Noted,
+    runtime: &'a HostRuntime,
+    noted: &'a Noted,
+    /// Drawn when the first file is made.
+    letters: Option<Letters>,
 }
 
-/// A file of the system that is closed and does not have its name yet.
+/// A sink over a part.
+type PartSink = StdSink<BufWriter<PartFile>>;
+
+/// A part that is whole and does not have its name yet. It is open until then, and so locked.
 #[derive(Drop)]
 pub struct ClosedFile {
+    sink: PartSink,
     part: String,
     name: String,
-}
-
-/// The name of a file until it is whole.
-fn part_of(alloc: Global, name: &str) -> Result<String, AllocError> {
-    let mut part = String::from_str(alloc, name)?;
-    part.push_str(PART)?;
-    Ok(part)
 }
 
 /// What an error of the system is to the program.
@@ -75,24 +71,74 @@ fn fault_of(error: &io::Error) -> OutputFault {
     }
 }
 
-/// A closed file of this name, whose part is written.
-fn closed_file(alloc: Global, name: &str) -> Result<ClosedFile, AllocError> {
-    Ok(ClosedFile {
-        part: part_of(alloc, name)?,
-        name: String::from_str(alloc, name)?,
-    })
+/// The folder in which a file of this name stands.
+fn folder_of(name: &str) -> &str {
+    match name.rsplit_once('/') {
+        Some((folder, _)) if folder.is_empty() => "/",
+        Some((folder, _)) => folder,
+        None => ".",
+    }
 }
 
 impl<'a> SystemOutputs<'a> {
+    /// No file so far.
+    pub fn new(runtime: &'a HostRuntime, noted: &'a Noted) -> Self {
+        SystemOutputs {
+            runtime,
+            noted,
+            letters: None,
+        }
+    }
+
     /// What an error of the system at a file is, which is noted.
     fn noted(&self, name: &str, error: &io::Error) -> OutputFault {
         self.noted.file(self.runtime.alloc(), name, error);
         fault_of(error)
     }
+
+    /// The letters of its parts. Before the first of them is made, those are removed from its
+    /// folder that killed processes left.
+    fn letters(&mut self, name: &str) -> io::Result<Letters> {
+        if let Some(letters) = self.letters {
+            return Ok(letters);
+        }
+        let letters = Letters::draw(self.runtime)?;
+        clean(self.runtime, folder_of(name));
+        self.letters = Some(letters);
+        Ok(letters)
+    }
+
+    /// The name of the part of a file, and that it is made.
+    fn make(&mut self, name: &str) -> io::Result<PartFile> {
+        let letters = self.letters(name)?;
+        let part = part_of(self.runtime.alloc(), name, &letters)?;
+        PartFile::make(self.runtime, part.as_str())
+    }
+
+    /// A closed file of this name, whose part is written.
+    fn closed(&mut self, name: &str, sink: PartSink) -> io::Result<ClosedFile> {
+        let letters = self.letters(name)?;
+        let alloc = self.runtime.alloc();
+        Ok(ClosedFile {
+            sink,
+            part: part_of(alloc, name, &letters)?,
+            name: String::from_str(alloc, name)?,
+        })
+    }
+
+    /// Renames a part, if the file of its name is still what was written: whether it is.
+    fn rename(&self, file: &ClosedFile) -> io::Result<bool> {
+        let written = file.sink.writer().get_ref();
+        let is_whole = written.is_whole_at(self.runtime, file.part.as_str())?;
+        if is_whole {
+            fs::rename(self.runtime, file.part.as_str(), file.name.as_str())?;
+        }
+        Ok(is_whole)
+    }
 }
 
 impl<'a> Outputs for SystemOutputs<'a> {
-    type File = StdSink<BufWriter<File>>;
+    type File = PartSink;
 
     type Closed = ClosedFile;
 
@@ -100,10 +146,9 @@ impl<'a> Outputs for SystemOutputs<'a> {
 
     ghost closed = { λ _. None };
 
-    fn create(&mut self, name: &str) -> Result<StdSink<BufWriter<File>>, OutputFault> {
-        let part = part_of(self.runtime.alloc(), name).or(Err(OutputFault::Memory))?;
-        let made = fs::create(self.runtime, part.as_str());
-        let file = made.map_err(|error| self.noted(part.as_str(), &error))?;
+    fn create(&mut self, name: &str) -> Result<PartSink, OutputFault> {
+        let made = self.make(name);
+        let file = made.map_err(|error| self.noted(name, &error))?;
         let alloc = self.runtime.alloc();
         match BufWriter::with_capacity(alloc, HELD_BACK_OCTETS, file) {
             Ok(writer) => Ok(StdSink::new(writer)),
@@ -111,20 +156,23 @@ impl<'a> Outputs for SystemOutputs<'a> {
         }
     }
 
-    fn close(
-        &mut self,
-        name: &str,
-        file: StdSink<BufWriter<File>>,
-    ) -> Result<ClosedFile, OutputFault> {
+    fn close(&mut self, name: &str, file: PartSink) -> Result<ClosedFile, OutputFault> {
         let mut file = file;
         if file.flush().is_err() {
             return Err(OutputFault::Failed);
         }
-        closed_file(self.runtime.alloc(), name).or(Err(OutputFault::Memory))
+        let closed = self.closed(name, file);
+        closed.map_err(|error| self.noted(name, &error))
     }
 
     fn place(&mut self, file: ClosedFile) -> Result<(), OutputFault> {
-        let placed = fs::rename(self.runtime, file.part.as_str(), file.name.as_str());
-        placed.map_err(|error| self.noted(file.name.as_str(), &error))
+        match self.rename(&file) {
+            Ok(true) => Ok(()),
+            Ok(false) => {
+                self.noted.changed(self.runtime.alloc(), file.name.as_str());
+                Err(OutputFault::Failed)
+            }
+            Err(error) => Err(self.noted(file.name.as_str(), &error)),
+        }
     }
 }
